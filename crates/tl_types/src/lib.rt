@@ -1,0 +1,11 @@
+//! What the parts of the cache protocol share: permissions, messages, channels and a line's bytes,
+//! in the terms of the SiFive TileLink Specification 1.8.1, TL-C.
+#![tactic(auto)]
+
+mod line;
+mod message;
+mod permission;
+
+pub use line::{LineData, LineSize};
+pub use message::{Body, Channel, Msg};
+pub use permission::{Cap, Change, Grow, Perm};

@@ -1,0 +1,49 @@
+//! Lines of memory: their size and their bytes.
+ghost use Rattle.std.specs.Prelude.{◌≡◌, length};
+ghost use Rattle.tl_types.specs.Line.{bytes_of, size_of, length_of};
+
+/// How many bytes a line has.
+#[derive(Clone, Copy, Debug, PartialEq, Eq)]
+pub enum LineSize {
+    Bytes16,
+    Bytes64,
+}
+
+impl LineSize {
+    /// 16 or 64.
+    pub fn bytes(self) -> u32
+        ensures { result ≡ length_of self }
+    {
+        match self {
+            LineSize::Bytes16 => 16,
+            LineSize::Bytes64 => 64,
+        }
+    }
+}
+
+/// The bytes of a whole line, the one at the lowest address first.
+#[derive(Clone, Copy, Debug, PartialEq, Eq)]
+pub enum LineData {
+    Bytes16([u8; 16]),
+    Bytes64([u8; 64]),
+}
+
+impl LineData {
+    pub fn size(&self) -> LineSize
+        ensures { result ≡ size_of self.now }
+    {
+        match self {
+            LineData::Bytes16(_) => LineSize::Bytes16,
+            LineData::Bytes64(_) => LineSize::Bytes64,
+        }
+    }
+
+    pub fn as_slice(&self) -> &[u8]
+        ensures { result.now ≡ bytes_of self.now }
+    {
+        match self {
+            LineData::Bytes16(bytes) => bytes,
+            LineData::Bytes64(bytes) => bytes,
+        }
+    }
+}

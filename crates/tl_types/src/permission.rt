@@ -1,0 +1,36 @@
+//! Permissions of a copy, and how messages name their changes (TileLink 1.8.1, "Permissions transitions").
+
+/// What a copy of a line allows: Nothing, reading (Branch), or reading and writing (Trunk).
+#[derive(Clone, Copy, Debug, PartialEq, Eq)]
+pub enum Perm {
+    Nothing,
+    Branch,
+    Trunk,
+}
+
+/// Which permissions an Acquire asks for, from what the cache has.
+#[derive(Clone, Copy, Debug, PartialEq, Eq)]
+pub enum Grow {
+    NtoB,
+    NtoT,
+    BtoT,
+}
+
+/// The most that a copy may have after a Probe, or has after a Grant.
+#[derive(Clone, Copy, Debug, PartialEq, Eq)]
+pub enum Cap {
+    ToT,
+    ToB,
+    ToN,
+}
+
+/// What a copy gave up (`TtoB`, `TtoN`, `BtoN`), or that it gave up nothing.
+#[derive(Clone, Copy, Debug, PartialEq, Eq)]
+pub enum Change {
+    TtoB,
+    TtoN,
+    BtoN,
+    TtoT,
+    BtoB,
+    NtoN,
+}
