@@ -5,7 +5,9 @@
 mod line;
 mod message;
 mod permission;
+mod ticks;
 
 pub use line::{LineData, LineSize};
 pub use message::{Body, Channel, Msg};
-pub use permission::{Cap, Change, Grow, Perm};
+pub use permission::{Cap, Change, Grow, Perm, shrink};
+pub use ticks::Ticks;

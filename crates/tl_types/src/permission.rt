@@ -1,4 +1,6 @@
 //! Permissions of a copy, and how messages name their changes (TileLink 1.8.1, "Permissions transitions").
+ghost use Rattle.std.specs.Prelude.{◌≡◌};
+ghost use Rattle.tl_types.specs.Shrink.{shrunk_by};
 
 /// What a copy of a line allows: Nothing, reading (Branch), or reading and writing (Trunk).
 #[derive(Clone, Copy, Debug, PartialEq, Eq)]
@@ -33,4 +35,18 @@ pub enum Change {
     TtoT,
     BtoB,
     NtoN,
+}
+
+/// What a Probe leaves of a copy, and the change that its answer names.
+pub fn shrink(perm: Perm, cap: Cap) -> (Perm, Change)
+    ensures { result ≡ shrunk_by perm cap }
+{
+    match (perm, cap) {
+        (Perm::Trunk, Cap::ToT) => (Perm::Trunk, Change::TtoT),
+        (Perm::Trunk, Cap::ToB) => (Perm::Branch, Change::TtoB),
+        (Perm::Trunk, Cap::ToN) => (Perm::Nothing, Change::TtoN),
+        (Perm::Branch, Cap::ToN) => (Perm::Nothing, Change::BtoN),
+        (Perm::Branch, _) => (Perm::Branch, Change::BtoB),
+        (Perm::Nothing, _) => (Perm::Nothing, Change::NtoN),
+    }
 }
