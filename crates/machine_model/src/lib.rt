@@ -1,0 +1,11 @@
+//! What a machine is made of, what happens to it, and what comes of it.
+#![tactic(auto)]
+
+mod config;
+mod event;
+mod outcome;
+
+pub use config::Config;
+pub use event::Event;
+pub use memory_model::Model;
+pub use outcome::Outcome;
