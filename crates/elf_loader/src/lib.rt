@@ -1,0 +1,10 @@
+//! What a hart finds in main memory at reset, read from an ELF32 file or from bare words.
+#![tactic(auto)]
+
+mod error;
+mod image;
+mod size;
+
+pub use error::LoadError;
+pub use image::Image;
+pub use size::{BASE, MAX_SIZE, PAGE, size_of_kib};
