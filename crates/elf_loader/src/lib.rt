@@ -6,5 +6,5 @@ mod image;
 mod size;
 
 pub use error::LoadError;
-pub use image::Image;
+pub use image::{Image, raw};
 pub use size::{BASE, MAX_SIZE, PAGE, size_of_kib};

@@ -1,0 +1,108 @@
+//! Why the program ends with another status than 0.
+
+use coherent_machine::{ApplyError, NewError, ReplayError};
+use elf_loader::LoadError;
+use std::alloc::AllocError;
+use std::io;
+use thiserror::Error;
+use trace_text::{TextCode, TextError};
+
+/// What went wrong, with the file in which it did. Its text is the program's message.
+#[derive(Debug, Drop, Error)]
+pub enum Fault<'a> {
+    #[error("rvtl: {file}: cannot read")]
+    CannotRead {
+        file: &'a str,
+    },
+    #[error("rvtl: cannot write")]
+    CannotWrite,
+    #[error("rvtl: {file}: image fault {} {error}", .error.number())]
+    Image {
+        file: &'a str,
+        error: LoadError,
+    },
+    #[error("rvtl: {file}: line {}: text fault {} {}", .error.line, .error.code.number(), .error.code)]
+    Text {
+        file: &'a str,
+        error: TextError,
+    },
+    #[error("rvtl: {file}: line {line}: event fault {} {error}", .error.number())]
+    Event {
+        file: &'a str,
+        line: usize,
+        error: ApplyError,
+    },
+    #[error("rvtl: bad configuration")]
+    Configuration,
+    #[error("rvtl: out of memory")]
+    OutOfMemory,
+}
+
+impl Fault<'_> {
+    /// The program's exit status: 1 for files, streams and what they hold, 2 for a configuration
+    /// that no machine has, 4 for want of memory.
+    pub fn status(&self) -> u8 {
+        match self {
+            Fault::CannotRead { .. }
+            | Fault::CannotWrite
+            | Fault::Image { .. }
+            | Fault::Text { .. }
+            | Fault::Event { .. } => 1,
+            Fault::Configuration => 2,
+            Fault::OutOfMemory => 4,
+        }
+    }
+}
+
+impl<'a> Fault<'a> {
+    /// A file could not be opened or read.
+    pub(crate) fn reading(file: &'a str, error: io::Error) -> Fault<'a> {
+        match error.kind() {
+            io::ErrorKind::OutOfMemory => Fault::OutOfMemory,
+            _ => Fault::CannotRead { file },
+        }
+    }
+
+    /// Standard output took no more.
+    pub(crate) fn writing(error: io::Error) -> Fault<'a> {
+        match error.kind() {
+            io::ErrorKind::OutOfMemory => Fault::OutOfMemory,
+            _ => Fault::CannotWrite,
+        }
+    }
+
+    pub(crate) fn text(file: &'a str, error: TextError) -> Fault<'a> {
+        match error.code {
+            TextCode::NoMemory => Fault::OutOfMemory,
+            _ => Fault::Text { file, error },
+        }
+    }
+
+    pub(crate) fn image(file: &'a str, error: LoadError) -> Fault<'a> {
+        match error {
+            LoadError::NoMemory => Fault::OutOfMemory,
+            _ => Fault::Image { file, error },
+        }
+    }
+
+    /// The script's first event stands on line 2.
+    pub(crate) fn replay(script: &'a str, error: ReplayError) -> Fault<'a> {
+        match error {
+            ReplayError::New(NewError::Config) => Fault::Configuration,
+            ReplayError::New(NewError::NoMemory) | ReplayError::Event(_, ApplyError::NoMemory) => {
+                Fault::OutOfMemory
+            }
+            ReplayError::Event(index, error) => Fault::Event {
+                file: script,
+                line: index.saturating_add(2),
+                error,
+            },
+        }
+    }
+}
+
+impl From<AllocError> for Fault<'_> {
+    fn from(_error: AllocError) -> Self {
+        Fault::OutOfMemory
+    }
+}

@@ -1,0 +1,19 @@
+//! The command line of `rvtl`: what its words ask for, and carrying it out over files and streams that
+//! the caller hands in.
+#![tactic(auto)]
+
+mod fault;
+mod files;
+mod replaying;
+mod running;
+mod usage;
+mod wanted;
+
+pub use fault::Fault;
+pub use files::Files;
+pub use running::run_line;
+pub use usage::settings;
+pub use wanted::{Settings, SettingsError};
+
+#[cfg(test)]
+mod tests;

@@ -1,0 +1,51 @@
+//! The whole program, over what the caller hands in.
+
+use crate::fault::Fault;
+use crate::files::Files;
+use crate::replaying::replay_files;
+use crate::usage::settings;
+use crate::wanted::{Settings, SettingsError};
+use std::alloc::Global;
+use std::convert::AsStr;
+use std::io::Write;
+
+/// Does what the words ask for, the first of which is the program's name, and answers the exit status:
+/// 0 done, 1 for files, streams and what they hold, 2 for usage and configuration, 4 out of memory. A
+/// message that standard error does not take is lost.
+pub fn run_line<S: AsStr, F: Files, O: Write, E: Write>(
+    alloc: Global,
+    words: &[S],
+    files: &mut F,
+    out: &mut O,
+    err: &mut E,
+) -> u8 {
+    let fault = match settings(alloc, words) {
+        Ok(Settings::Replay { raw: false, .. }) => Fault::Configuration,
+        Ok(Settings::Replay { image, script, .. }) => {
+            match replay_files(alloc, files, image, script, out, err) {
+                Ok(()) => return 0,
+                Err(fault) => fault,
+            }
+        }
+        Err(SettingsError::Usage(usage)) => return explain(&usage, out, err),
+        Err(SettingsError::NoMemory) => Fault::OutOfMemory,
+    };
+    let _ = writeln!(err, "{fault}");
+    fault.status()
+}
+
+/// Help goes to standard output with status 0, a usage fault to standard error with status 2.
+fn explain<O: Write, E: Write>(usage: &clap::Error, out: &mut O, err: &mut E) -> u8 {
+    if usage.use_stderr() {
+        let _ = write!(err, "{usage}");
+        return 2;
+    }
+    match write!(out, "{usage}").and_then(|()| out.flush()) {
+        Ok(()) => 0,
+        Err(error) => {
+            let fault = Fault::writing(error);
+            let _ = writeln!(err, "{fault}");
+            fault.status()
+        }
+    }
+}
