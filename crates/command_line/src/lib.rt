@@ -6,12 +6,14 @@ mod fault;
 mod files;
 mod replaying;
 mod running;
+mod system;
 mod usage;
 mod wanted;
 
 pub use fault::Fault;
 pub use files::Files;
 pub use running::run_line;
+pub use system::SystemFiles;
 pub use usage::settings;
 pub use wanted::{Settings, SettingsError};
 

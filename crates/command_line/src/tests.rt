@@ -1,1 +1,300 @@
-//! placeholder
+//! The program's texts and statuses, over files and streams in memory.
+
+mod memory;
+mod texts;
+
+use memory::{File, MemoryFiles, Narrow};
+use std::alloc::Global;
+use std::process::Abort;
+use std::test::Fail;
+
+/// What a run of the program gave.
+#[derive(Drop)]
+struct Ran {
+    status: u8,
+    out: Vec<u8>,
+    err: Vec<u8>,
+}
+
+/// `rvtl replay --raw image script` over these two files.
+fn replay(alloc: Global, image: &[u8], script: &[u8]) -> Ran {
+    let files = [File::whole("image", image), File::whole("script", script)];
+    line(
+        alloc,
+        &["rvtl", "replay", "--raw", "image", "script"],
+        &files,
+    )
+}
+
+fn line(alloc: Global, words: &[&str], files: &[File<'_>]) -> Ran {
+    let mut out = Vec::new(alloc);
+    let mut err = Vec::new(alloc);
+    let status = crate::run_line(alloc, words, &mut MemoryFiles { files }, &mut out, &mut err);
+    Ran { status, out, err }
+}
+
+fn image_of(alloc: Global, words: &[u32]) -> Result<Vec<u8>, Fail> {
+    let mut bytes = Vec::new(alloc);
+    for word in words {
+        bytes.extend_from_slice(&word.to_le_bytes())?;
+    }
+    Ok(bytes)
+}
+
+fn replays(
+    rt: &(impl Abort + AllocGlobal),
+    words: &[u32],
+    script: &str,
+    trace: &str,
+    ends: &str,
+) -> Result<(), Fail> {
+    let image = image_of(rt.alloc(), words)?;
+    let ran = replay(rt.alloc(), image.as_slice(), script.as_bytes());
+    assert_eq!(rt; ran.err.as_slice(), ends.as_bytes());
+    assert_eq!(rt; ran.out.as_slice(), trace.as_bytes());
+    assert_eq!(rt; ran.status, 0);
+    Ok(())
+}
+
+#[test]
+fn row_1(rt: HostRuntime) -> Result<(), Fail> {
+    replays(
+        &rt,
+        &texts::EXIT,
+        texts::EXIT_SCRIPT,
+        texts::EXIT_TRACE,
+        "hart 0: exit 5\n",
+    )
+}
+
+#[test]
+fn a_step_of_a_halted_hart_changes_nothing(rt: HostRuntime) -> Result<(), Fail> {
+    let script = "rvtl-script 1 1 4 4 2\nstep 0\nstep 0\nstep 0\n";
+    replays(
+        &rt,
+        &texts::EXIT,
+        script,
+        texts::EXIT_TRACE,
+        "hart 0: exit 5\n",
+    )
+}
+
+#[test]
+fn row_2(rt: HostRuntime) -> Result<(), Fail> {
+    let script = "rvtl-script 1 1 4 4 2\n";
+    replays(
+        &rt,
+        &texts::EXIT,
+        script,
+        texts::NO_EVENTS_TRACE,
+        "hart 0: run\n",
+    )
+}
+
+#[test]
+fn row_18(rt: HostRuntime) -> Result<(), Fail> {
+    replays(
+        &rt,
+        &texts::LOAD,
+        texts::LOAD_SCRIPT,
+        texts::LOAD_TRACE,
+        "hart 0: run\n",
+    )
+}
+
+#[test]
+fn row_27(rt: HostRuntime) -> Result<(), Fail> {
+    replays(
+        &rt,
+        &texts::STORE,
+        texts::STORE_SCRIPT,
+        texts::STORE_TRACE,
+        "hart 0: run\n",
+    )
+}
+
+#[test]
+fn outputs_stand_behind_the_status(rt: HostRuntime) -> Result<(), Fail> {
+    let image = image_of(
+        rt.alloc(),
+        &[0x0010_0893, 0xfff0_0513, 0x0000_0073, 0x0000_0073],
+    )?;
+    let script = "rvtl-script 1 1 4 4 2\nstep 0\nstep 0\nstep 0\nstep 0\n";
+    let ran = replay(rt.alloc(), image.as_slice(), script.as_bytes());
+    assert_eq!(rt;
+        ran.err.as_slice(),
+        b"hart 0: run output 4294967295 4294967295\n".as_slice()
+    );
+    assert_eq!(rt; ran.status, 0);
+    Ok(())
+}
+
+#[test]
+fn stops_are_told(rt: HostRuntime) {
+    let ran = replay(rt.alloc(), &[0; 4], b"rvtl-script 1 1 4 4 2\nstep 0\n");
+    assert_eq!(rt; ran.err.as_slice(), b"hart 0: stop 2\n".as_slice());
+    assert_eq!(rt; ran.status, 0);
+}
+
+/// Each fault has its message and status, and nothing goes to standard output.
+#[test]
+fn row_23_and_the_other_faults(rt: HostRuntime) {
+    let one = b"rvtl-script 1 1 4 4 2\n".as_slice();
+    for (image, script, message, status) in [
+        (
+            [0; 4].as_slice(),
+            b"rvtl-script 1 1 4 4 2\nstep 00\n".as_slice(),
+            "rvtl: script: line 2: text fault 3 Fields\n",
+            1,
+        ),
+        (&[0; 4], b"", "rvtl: script: line 1: text fault 5 End\n", 1),
+        (
+            &[0; 4],
+            b"rvtl-script 1 1 6 4 2\n",
+            "rvtl: script: line 1: text fault 1 Header\n",
+            1,
+        ),
+        (
+            &[0; 4],
+            b"rvtl-script 1 1 4 4 2\nstop 0\n",
+            "rvtl: script: line 2: text fault 2 Word\n",
+            1,
+        ),
+        (&[0; 3], one, "rvtl: image: image fault 1 Short\n", 1),
+        (
+            &[0; 4100],
+            one,
+            "rvtl: image: image fault 8 SegmentOutside\n",
+            1,
+        ),
+        (
+            &[0; 3],
+            b"rvtl-script 1 1 4 4",
+            "rvtl: script: line 1: text fault 5 End\n",
+            1,
+        ),
+        (
+            &[0; 4],
+            b"rvtl-script 1 2 4 4 2\n",
+            "rvtl: bad configuration\n",
+            2,
+        ),
+        (
+            &[0; 4],
+            b"rvtl-script 1 1 4 4 2\nstep 0\nstep 9\n",
+            "rvtl: script: line 3: event fault 1 BadEvent\n",
+            1,
+        ),
+        (
+            &[0; 4],
+            b"rvtl-script 1 1 4 4 2\ndrain 0 0x80000102\n",
+            "rvtl: script: line 2: event fault 1 BadEvent\n",
+            1,
+        ),
+    ] {
+        let ran = replay(rt.alloc(), image, script);
+        assert_eq!(rt; ran.err.as_slice(), message.as_bytes(), "{message}");
+        assert_eq!(rt; ran.status, status, "{message}");
+        assert!(rt; ran.out.is_empty(), "{message}");
+    }
+}
+
+/// The script is judged first, and without `--raw` no file is read.
+#[test]
+fn files_that_are_not_there(rt: HostRuntime) {
+    let script = [File::whole("script", b"rvtl-script 1 1 4 4 2\n")];
+    for (words, message, status) in [
+        (
+            ["rvtl", "replay", "--raw", "image", "gone"].as_slice(),
+            "rvtl: gone: cannot read\n",
+            1,
+        ),
+        (
+            &["rvtl", "replay", "--raw", "image", "script"],
+            "rvtl: image: cannot read\n",
+            1,
+        ),
+        (
+            &["rvtl", "replay", "image", "gone"],
+            "rvtl: bad configuration\n",
+            2,
+        ),
+    ] {
+        let ran = line(rt.alloc(), words, &script);
+        assert_eq!(rt; ran.err.as_slice(), message.as_bytes(), "{message}");
+        assert_eq!(rt; ran.status, status, "{message}");
+        assert!(rt; ran.out.is_empty(), "{message}");
+    }
+}
+
+/// A read that fails in mid-stream is no end of the file.
+#[test]
+fn files_that_break(rt: HostRuntime) {
+    let words = ["rvtl", "replay", "--raw", "image", "script"];
+    let script = File::whole("script", texts::EXIT_SCRIPT.as_bytes());
+    let broken = File::broken("script", texts::EXIT_SCRIPT.as_bytes());
+    let ran = line(rt.alloc(), &words, &[broken, File::whole("image", &[0; 4])]);
+    assert_eq!(rt;
+        ran.err.as_slice(),
+        b"rvtl: script: cannot read\n".as_slice()
+    );
+    assert_eq!(rt; ran.status, 1);
+    let ran = line(
+        rt.alloc(),
+        &words,
+        &[script, File::broken("image", &[0; 4])],
+    );
+    assert_eq!(rt;
+        ran.err.as_slice(),
+        b"rvtl: image: cannot read\n".as_slice()
+    );
+    assert_eq!(rt; ran.status, 1);
+}
+
+/// Standard output that takes no more than so many bytes: they are the text's first, no hart is told of.
+#[test]
+fn streams_that_break(rt: HostRuntime) -> Result<(), Fail> {
+    let image = image_of(rt.alloc(), &texts::LOAD)?;
+    let files = [
+        File::whole("image", image.as_slice()),
+        File::whole("script", texts::LOAD_SCRIPT.as_bytes()),
+    ];
+    let words = ["rvtl", "replay", "--raw", "image", "script"];
+    let text = texts::LOAD_TRACE.as_bytes();
+    for room in 0..text.len() {
+        let mut out = Narrow {
+            taken: Vec::new(rt.alloc()),
+            room,
+        };
+        let mut err = Vec::new(rt.alloc());
+        let status = crate::run_line(
+            rt.alloc(),
+            &words,
+            &mut MemoryFiles { files: &files },
+            &mut out,
+            &mut err,
+        );
+        assert_eq!(rt; status, 1);
+        assert_eq!(rt; err.as_slice(), b"rvtl: cannot write\n".as_slice());
+        assert_eq!(rt; out.taken.len(), room);
+        assert!(rt; text.starts_with(out.taken.as_slice()));
+    }
+    Ok(())
+}
+
+#[test]
+fn usage_and_help(rt: HostRuntime) {
+    for (words, status) in [
+        (["rvtl"].as_slice(), 2),
+        (&["rvtl", "play"], 2),
+        (&["rvtl", "replay", "--raw", "image"], 2),
+        (&["rvtl", "replay", "--row", "image", "script"], 2),
+        (&["rvtl", "--help"], 0),
+        (&["rvtl", "replay", "--help"], 0),
+    ] {
+        let ran = line(rt.alloc(), words, &[]);
+        assert_eq!(rt; ran.status, status, "{words:?}");
+        assert!(rt; ran.out.is_empty() == (status == 2), "{words:?}");
+        assert!(rt; ran.err.is_empty() == (status == 0), "{words:?}");
+    }
+}

@@ -1,0 +1,25 @@
+//! The system's files.
+
+use crate::files::Files;
+use std::rt::Files as System;
+use std::{fs, io};
+
+/// The files of the system that the runtime stands for.
+#[derive(Drop)]
+pub struct SystemFiles<'r, R> {
+    rt: &'r R,
+}
+
+impl<'r, R> SystemFiles<'r, R> {
+    pub fn new(rt: &'r R) -> SystemFiles<'r, R> {
+        SystemFiles { rt }
+    }
+}
+
+impl<R: System> Files for SystemFiles<'_, R> {
+    type Reader = R::File;
+
+    fn open(&mut self, name: &str) -> io::Result<R::File> {
+        fs::open(self.rt, name)
+    }
+}
