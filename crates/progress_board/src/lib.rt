@@ -1,0 +1,12 @@
+//! What the threads of a run share without a lock: numbers that they draw, the bits of the harts that have halted, and
+//! the lengths that they publish. A thread acts on the board as one hart, by that hart's seat.
+#![tactic(auto)]
+
+mod board;
+mod rule;
+mod seat;
+mod view;
+
+pub use board::Board;
+pub use seat::{Seat, SeatSpent};
+pub use view::View;
