@@ -5,6 +5,8 @@
 mod board;
 mod rule;
 mod seat;
+#[cfg(test)]
+mod tests;
 mod view;
 
 pub use board::Board;
