@@ -1,8 +1,8 @@
--- Each step keeps the board's rule, and tells what it is to tell.
+-- Each step keeps the board's rule.
 use Rattle.std.proofs.Common.{◌≡◌, ℕ, zero, suc, ◌+◌, ◌*◌, ◌%◌, ◌^◌, ◌<◌, ◌≤◌, ◌≢◌, max, Bool, true, List, [], ◌∷◌, ◌++◌, length, get_or, set, sym, refl, ap, ◌∙◌, subst, ⊎_elim, arith, length-set, get_or-set_other, get_or-set_same, bit_or, length-append, replicate, IsTrue}
 use Rattle.std.proofs.lemmas.List.{length-replicate}
 use Rattle.std.proofs.lemmas.List.Sums.{sum_by_push}
-use Rattle.std.specs.List.{sum_by}
+use Rattle.std.specs.List.{All, sum_by}
 use Rattle.std.specs.Int.{bit_at}
 use Rattle.std.proofs.lemmas.Nat.Bits.{bit_at_or, bit_at-pow_same, bit_at-pow_other, bit_at-lt, bit_at-zero}
 use mathlib.Core.Logic.{dite}
@@ -10,11 +10,11 @@ use mathlib.Core.Option.{none, some, some-injective, some-ne-none}
 use native.Mathlib.Decide.{ℕ_discrete}
 use lib.ListN.{get_elem?}
 use lib.Seq.{set-get_or}
-use Rattle.atomic_table.specs.Table.{State, Me, step, keeps, Allows, Splits}
+use Rattle.atomic_table.specs.Table.{State, Me, keeps, Allows}
 use Rattle.atomic_table.proofs.Lists.{at_set, set_here}
 use Rattle.progress_board.specs.declared.view.View.{View}
-use Rattle.progress_board.specs.Rule.{times, once_below, flag, IsWithin, seat_view, Fits, Agree, Rules}
-use Rattle.progress_board.specs.Step.{IsStep, with_drawn, with_halt, with_longest, with_bits, with_length, SeesLength, drew, halts, publishes, saw_bits, saw_length, older_view, next_view}
+use Rattle.progress_board.specs.Rule.{counter, halted_bits, length_of, times, once_below, flag, IsWithin, Fits, Agree, Rules}
+use Rattle.progress_board.specs.Step.{IsStep}
 use Rattle.progress_board.proofs.Sums.{below-length, sum_by-set_there, le-sum_by, sum_by-at_most, times-push, once_below-suc, once_below-above, all_below}
 
 abbrev Sat : Type 0
@@ -109,12 +109,13 @@ counted words c id = record {
 counter-below : (words : List ℕ) (views : List View) → Agree words views → get_or words 0 0 ≤ 34359738368
 counter-below words views o = let most = sum_by-at_most many 4294967296 views (λ j v e. (o.seats j v e).few) in omega (arith, o.count, o.room, o.most)
 
-pub draws : (slots id : ℕ) (m : Sat) → length m.0.drawn < 4294967296 → Allows Rules slots id m 0 (λ n. (n + 1) % 2 ^ 64) (drew (step slots 0 1 0 none) m)
+pub draws : (slots id : ℕ) (m : Sat) → length m.0.drawn < 4294967296 → Allows Rules slots id m counter (λ n. (n + 1) % 2 ^ 64)
+    (λ n m'. (m'.0 ≡ record m.0 { drawn = m.0.drawn ++ n ∷ [] }) × IsStep counter n (n + 1) m.0 m'.0)
 draws slots id m few s o _ at small =
     let v : View = m.0 in
     let n : ℕ = get_or s.words 0 0 in
     let c : ℕ = (n + 1) % 2 ^ 64 in
-    let w : View = with_drawn v n in
+    let w : View = record v { drawn = v.drawn ++ n ∷ [] } in
     let ws : List ℕ = set s.words 0 c in
     let fits = o.seats id v at in
     let g = counted s.words c id in
@@ -137,11 +138,7 @@ draws slots id m few s o _ at small =
       keeps,
       tt,
       ok,
-      record {
-        rising = all_below n v.drawn (λ x le. omega (arith, o.once x, once_below-above n x le, le-sum_by (often x) s.views id v at));
-        drawn = refl;
-        step = is_step s.words s.views id 0 (n + 1) v w o at fits.hart (subst (λ (k : ℕ). Agree (set s.words 0 k) (set s.views id w)) next ok);
-      },
+      (refl, is_step s.words s.views id 0 (n + 1) v w o at fits.hart (subst (λ (k : ℕ). Agree (set s.words 0 k) (set s.views id w)) next ok)),
     )
 
 -- hart id's bit is set
@@ -157,13 +154,14 @@ marked words id wide =
       lens = λ h ne. get_or-set_other words 1 (2 + h) c 0 (λ h. omega arith);
     }
 
-pub marks : (slots id k : ℕ) (m : Sat) → k ≡ 2 ^ m.0.hart → Allows Rules slots id m 1 (λ n. bit_or n k) (halts (step slots 1 k 0 none) m)
+pub marks : (slots id k : ℕ) (m : Sat) → k ≡ 2 ^ m.0.hart → Allows Rules slots id m halted_bits (λ n. bit_or n k)
+    (λ n m'. (m'.0 ≡ record m.0 { halted = true }) × IsStep halted_bits n (bit_or n (2 ^ m.0.hart)) m.0 m'.0)
 marks slots id k m is s o _ at small =
     let v : View = m.0 in
     let fits = o.seats id v at in
     let n : ℕ = get_or s.words 1 0 in
     let mask : 2 ^ id ≡ k = ap (λ (x : ℕ). 2 ^ x) (sym fits.hart) ∙ sym is in
-    let w : View = with_halt v in
+    let w : View = record v { halted = true } in
     let c : ℕ = bit_or n (2 ^ id) in
     let ws : List ℕ = set s.words 1 c in
     let wide = o.room in
@@ -185,7 +183,7 @@ marks slots id k m is s o _ at small =
       keeps,
       tt,
       subst (λ (x : ℕ). Agree (set s.words 1 (bit_or n x)) (set s.views id w)) mask ok,
-      record { mark = refl; step = is_step s.words s.views id 1 (bit_or n (2 ^ v.hart)) v w o at fits.hart (subst (λ (x : ℕ). Agree (set s.words 1 (bit_or n x)) (set s.views id w)) (mask ∙ is) ok) },
+      (refl, is_step s.words s.views id 1 (bit_or n (2 ^ v.hart)) v w o at fits.hart (subst (λ (x : ℕ). Agree (set s.words 1 (bit_or n x)) (set s.views id w)) (mask ∙ is) ok)),
     )
 
 -- hart id's length grows
@@ -200,12 +198,13 @@ lengthened words id k wide =
       lens = λ h ne. get_or-set_other words (2 + id) (2 + h) c 0 (λ e. ne (omega arith));
     }
 
-pub lengthens : (slots id word k : ℕ) (m : Sat) → word ≡ 2 + m.0.hart → Allows Rules slots id m word (λ n. max n k) (publishes (step slots word k 0 none) m)
+pub lengthens : (slots id word k : ℕ) (m : Sat) → word ≡ 2 + m.0.hart → Allows Rules slots id m word (λ n. max n k)
+    (λ n m'. (m'.0 ≡ record m.0 { longest = max m.0.longest k }) × IsStep (length_of m.0.hart) n (max n k) m.0 m'.0)
 lengthens slots id word k m is s o _ at small =
     let v : View = m.0 in
     let fits = o.seats id v at in
     let same : 2 + id ≡ word = omega (arith, fits.hart) in
-    let w : View = with_longest v k in
+    let w : View = record v { longest = max v.longest k } in
     let lt = below-length s.views id v at in
     let wide = o.room in
     let n : ℕ = get_or s.words (2 + id) 0 in
@@ -230,7 +229,7 @@ lengthens slots id word k m is s o _ at small =
       keeps,
       tt,
       kept,
-      record { longest = refl; step = subst (λ (i : ℕ). IsStep i (get_or s.words word 0) (max (get_or s.words word 0) k) v w) is (is_step s.words s.views id word (max (get_or s.words word 0) k) v w o at fits.hart kept) },
+      (refl, subst (λ (i : ℕ). IsStep i (get_or s.words word 0) (max (get_or s.words word 0) k) v w) is (is_step s.words s.views id word (max (get_or s.words word 0) k) v w o at fits.hart kept)),
     )
 
 -- a load writes back what it found
@@ -239,24 +238,19 @@ loaded : (words : List ℕ) (views : List View) (i id : ℕ) (v w : View) → Ag
 loaded words views i id v w o at drawn fits = subst (λ (ws : List ℕ). Agree ws (set views id w)) (sym (set-get_or words i 0))
     (moves words words views id v w o at (same_words words id) (draws_none v w (get_or words 0 0) (get_or words 0 0) drawn refl) fits)
 
-pub sees_bits : (slots id : ℕ) (m : Sat) → Allows Rules slots id m 1 (λ n. n) (saw_bits (step slots 1 0 0 none) m)
+pub sees_bits : (slots id : ℕ) (m : Sat) → Allows Rules slots id m halted_bits (λ n. n) (λ n m'. (m'.0 ≡ record m.0 { bits_seen = n }) × IsStep halted_bits n n m.0 m'.0)
 sees_bits slots id m s o _ at small =
     let v : View = m.0 in
     let fits = o.seats id v at in
     let n : ℕ = get_or s.words 1 0 in
-    let w : View = with_bits v n in
+    let w : View = record v { bits_seen = n } in
     let ok = loaded s.words s.views 1 id v w o at refl
     record { hart = fits.hart; halted = fits.halted; longest = fits.longest; bits_seen = λ h. omega arith; lengths_seen = fits.lengths_seen; wide = fits.wide; few = fits.few; newest = fits.newest } in (
       w,
       keeps,
       tt,
       ok,
-      record {
-        kept = fits.bits_seen;
-        own = subst (λ (h : ℕ). bit_at n h ≡ flag v.halted) (sym fits.hart) fits.halted;
-        seen = refl;
-        step = is_step s.words s.views id 1 n v w o at fits.hart ok;
-      },
+      (refl, is_step s.words s.views id 1 n v w o at fits.hart ok),
     )
 
 -- a place of a list at most b, after a write of at most b
@@ -270,23 +264,15 @@ set_under xs words i n le below h = dite (ℕ_discrete h i)
     (λ e. subst (λ (k : ℕ). get_or (set xs i n) k 0 ≤ get_or words (2 + k) 0) (sym e) (set_le xs i n (get_or words (2 + i) 0) le (below i)))
     (λ ne. omega (arith, get_or-set_other xs i h n 0 ne, below h))
 
-sees : (s : State (Unit {0}) View) (o : Rules s) (id hart : ℕ) (v w : View) → get_elem? s.views id ≡ some v → w ≡ with_length v hart (get_or s.words (2 + hart) 0)
-    → Agree (set s.words (2 + hart) (get_or s.words (2 + hart) 0)) (set s.views id w) → SeesLength v hart (get_or s.words (2 + hart) 0) w
-sees s o id hart v w at seen ok = let fits = o.seats id v at in record {
-  kept = fits.lengths_seen hart;
-  own = λ mine. ap (λ (k : ℕ). get_or s.words (2 + k) 0) (mine ∙ fits.hart) ∙ fits.longest;
-  seen = seen;
-  step = is_step s.words s.views id (2 + hart) (get_or s.words (2 + hart) 0) v w o at fits.hart ok;
-}
-
-pub sees_length : (slots id word hart : ℕ) (m : Sat) → word ≡ 2 + hart → Allows Rules slots id m word (λ n. n) (saw_length (step slots word 0 0 none) m)
+pub sees_length : (slots id word hart : ℕ) (m : Sat) → word ≡ length_of hart → Allows Rules slots id m word (λ n. n)
+    (λ n m'. (h : ℕ) → word ≡ length_of h → (m'.0 ≡ record m.0 { lengths_seen = set m.0.lengths_seen h n }) × IsStep (length_of h) n n m.0 m'.0)
 sees_length slots id word hart m is s o _ at small =
     let v : View = m.0 in
     let fits = o.seats id v at in
-    let n : ℕ = get_or s.words (2 + hart) 0 in
-    let found : n ≡ get_or s.words word 0 = ap (λ (i : ℕ). get_or s.words i 0) (sym is) in
-    let w : View = with_length v hart n in
-    let ok : Agree (set s.words (2 + hart) n) (set s.views id w) = loaded s.words s.views (2 + hart) id v w o at refl
+    let n : ℕ = get_or s.words word 0 in
+    let found : n ≡ get_or s.words (2 + hart) 0 = ap (λ (i : ℕ). get_or s.words i 0) is in
+    let w : View = record v { lengths_seen = set v.lengths_seen hart n } in
+    let ok : Agree (set s.words word n) (set s.views id w) = loaded s.words s.views word id v w o at refl
     record {
       hart = fits.hart;
       halted = fits.halted;
@@ -300,6 +286,28 @@ sees_length slots id word hart m is s o _ at small =
       w,
       keeps,
       tt,
-      subst (λ (i : ℕ). Agree (set s.words i (get_or s.words i 0)) (set s.views id w)) (sym is) ok,
-      λ h e. subst (λ (y : ℕ × ℕ). SeesLength v y.0 y.1 w) (λ i. ((let same : hart ≡ h = omega arith in same) i, found i)) (sees s o id hart v w at refl ok),
+      ok,
+      λ h e. (
+        ap (λ (k : ℕ). record v { lengths_seen = set v.lengths_seen k n }) (let same : hart ≡ h = omega arith in same),
+        subst (λ (i : ℕ). IsStep i n n v w) e (is_step s.words s.views id word n v w o at fits.hart ok),
+      ),
     )
+
+-- What a step tells its seat
+module _ (found left : ℕ) (v w : View) where
+  -- all that the seat drew before is below the counter
+  pub drawn-below : IsStep counter found left v w → All (λ x. x < found) v.drawn
+  drawn-below st = all_below found v.drawn
+      (λ x le. omega (arith, st.before.once x, once_below-above (get_or st.words 0 0) x (omega (arith, st.finds)), le-sum_by (often x) st.views v.hart v st.own))
+
+  pub bits-within : IsStep halted_bits found left v w → IsWithin v.bits_seen found
+  bits-within st = subst (IsWithin v.bits_seen) st.finds (st.before.seats v.hart v st.own).bits_seen
+
+  pub bit-own : IsStep halted_bits found left v w → bit_at found v.hart ≡ flag v.halted
+  bit-own st = subst (λ (bits : ℕ). bit_at bits v.hart ≡ flag v.halted) st.finds (st.before.seats v.hart v st.own).halted
+
+  pub length-least : (h : ℕ) → IsStep (length_of h) found left v w → get_or v.lengths_seen h 0 ≤ found
+  length-least h st = omega (arith, (st.before.seats v.hart v st.own).lengths_seen h, st.finds)
+
+  pub length-own : (h : ℕ) → IsStep (length_of h) found left v w → h ≡ v.hart → found ≡ v.longest
+  length-own h st mine = sym st.finds ∙ ap (λ (k : ℕ). get_or st.words (2 + k) 0) mine ∙ (st.before.seats v.hart v st.own).longest

@@ -1,5 +1,4 @@
--- The board's rule: what its words and its seats' views say of each other. It holds between any two steps.
--- Word 0 is the counter, bit h of word 1 is hart h's halted bit, and word 2 + h is hart h's length.
+-- The board's rule: what its words and its seats' views say of each other. It holds between any two steps of any threads.
 use Rattle.std.specs.Prelude.{◌≡◌, ℕ, ◌+◌, ◌<◌, ◌≤◌, ◌^◌, Bool, true, false, List, [], length, replicate, slice_index, ◌==◌, nat_lt, if◌then◌else◌, IsTrue}
 use Rattle.std.specs.List.{sum_by, count_by}
 use Rattle.std.specs.Int.{bit_at}
@@ -7,6 +6,16 @@ use mathlib.Core.Option.{some}
 use lib.ListN.{get_elem?}
 use Rattle.atomic_table.specs.Table.{State}
 use Rattle.progress_board.specs.declared.view.View.{View}
+
+-- The board's words: the counter, the halted bits, of which bit h is hart h's, and the length of each hart
+abbrev pub counter : ℕ
+counter = 0
+
+abbrev pub halted_bits : ℕ
+halted_bits = 1
+
+abbrev pub length_of : ℕ → ℕ
+length_of h = 2 + h
 
 -- how often x stands in the list
 abbrev pub times : ℕ → List ℕ → ℕ
@@ -28,23 +37,23 @@ IsWithin seen bits = (h : ℕ) → bit_at seen h ≤ bit_at bits h
 pub record Fits (words : List ℕ) (seats h : ℕ) (v : View) : Type 0 where
   pub hart : v.hart ≡ h
   -- the bit is set exactly where the seat halted, and the length is the greatest that it published
-  pub halted : bit_at (slice_index words 1) h ≡ flag v.halted
-  pub longest : slice_index words (2 + h) ≡ v.longest
+  pub halted : bit_at (slice_index words halted_bits) h ≡ flag v.halted
+  pub longest : slice_index words (length_of h) ≡ v.longest
   -- what the seat has seen is in the words, or at most the words
-  pub bits_seen : IsWithin v.bits_seen (slice_index words 1)
-  pub lengths_seen : (other : ℕ) → slice_index v.lengths_seen other ≤ slice_index words (2 + other)
+  pub bits_seen : IsWithin v.bits_seen (slice_index words halted_bits)
+  pub lengths_seen : (other : ℕ) → slice_index v.lengths_seen other ≤ slice_index words (length_of other)
   pub wide : 2 + length v.lengths_seen ≡ length words
   pub few : length v.drawn ≤ 2 ^ 32
   pub newest : IsTrue v.newest → seats ≡ h + 1
 
 pub record Agree (words : List ℕ) (views : List View) : Type 0 where
   -- the numbers that all seats drew are those below the counter, each once and none left out
-  pub once : (x : ℕ) → sum_by (λ (v : View). times x v.drawn) views ≡ once_below (slice_index words 0) x
-  pub count : sum_by (λ (v : View). length v.drawn) views ≡ slice_index words 0
+  pub once : (x : ℕ) → sum_by (λ (v : View). times x v.drawn) views ≡ once_below (slice_index words counter) x
+  pub count : sum_by (λ (v : View). length v.drawn) views ≡ slice_index words counter
   pub seats : (h : ℕ) (v : View) → get_elem? views h ≡ some v → Fits words (length views) h v
   -- where a hart has no seat, its bit is not set and it has no length
-  pub vacant_bit : (h : ℕ) → length views ≤ h → bit_at (slice_index words 1) h ≡ 0
-  pub vacant_length : (h : ℕ) → length views ≤ h → slice_index words (2 + h) ≡ 0
+  pub vacant_bit : (h : ℕ) → length views ≤ h → bit_at (slice_index words halted_bits) h ≡ 0
+  pub vacant_length : (h : ℕ) → length views ≤ h → slice_index words (length_of h) ≡ 0
   pub room : 2 + length views ≤ length words
   pub most : length words ≤ 10
 

@@ -29,7 +29,7 @@ pub struct Board {
 }
 
 impl Board {
-    ghost use Rattle.progress_board.specs.Rule.{new_view, flag, IsWithin};
+    ghost use Rattle.progress_board.specs.Rule.{counter, halted_bits, length_of, new_view, flag, IsWithin};
     ghost use Rattle.progress_board.specs.Step.{IsStep};
     ghost use Rattle.progress_board.specs.Seat.{view, harts_of, IsSeatOf};
 
@@ -66,7 +66,7 @@ impl Board {
         ensures seat { IsSeatOf self.now seat.new }
         ensures drawn { IfOk result (λ number. view seat.new ≡ record (view seat.old) { drawn = (view seat.old).drawn ++ number ∷ [] }) }
         ensures rising { IfOk result (λ number. All (λ earlier. earlier < number) (view seat.old).drawn) }
-        ensures step { IfOk result (λ number. IsStep 0 number (number + 1) (view seat.old) (view seat.new)) }
+        ensures step { IfOk result (λ number. IsStep counter number (number + 1) (view seat.old) (view seat.new)) }
         ensures spent { IsErr result ↔ (length (view seat.old).drawn ≡ 2 ^ 32) }
         ensures unchanged { OnErr result (view seat.new ≡ view seat.old) }
     {
@@ -84,7 +84,7 @@ impl Board {
         requires { IsSeatOf self.now seat.old }
         ensures seat { IsSeatOf self.now seat.new }
         ensures mark { view seat.new ≡ record (view seat.old) { halted = true } }
-        ensures step { (bits : ℕ) × IsStep 1 bits (bit_or bits (2 ^ (view seat.old).hart)) (view seat.old) (view seat.new) }
+        ensures step { (bits : ℕ) × IsStep halted_bits bits (bit_or bits (2 ^ (view seat.old).hart)) (view seat.old) (view seat.new) }
     {
         let shared = &self.table.shared;
         shared.fetch_or::<Halt>(&mut seat.place, HALTED, 1 << seat.hart);
@@ -97,7 +97,7 @@ impl Board {
         ensures kept { IsWithin (view seat.old).bits_seen result }
         ensures own { bit_at result (view seat.old).hart ≡ flag (view seat.old).halted }
         ensures seen { view seat.new ≡ record (view seat.old) { bits_seen = result } }
-        ensures step { IsStep 1 result result (view seat.old) (view seat.new) }
+        ensures step { IsStep halted_bits result result (view seat.old) (view seat.new) }
     {
         let shared = &self.table.shared;
         shared.load::<SeeBits>(&mut seat.place, HALTED)
@@ -108,7 +108,7 @@ impl Board {
         requires { IsSeatOf self.now seat.old }
         ensures seat { IsSeatOf self.now seat.new }
         ensures longest { view seat.new ≡ record (view seat.old) { longest = max (view seat.old).longest len } }
-        ensures step { (word : ℕ) × IsStep (2 + (view seat.old).hart) word (max word len) (view seat.old) (view seat.new) }
+        ensures step { (length : ℕ) × IsStep (length_of (view seat.old).hart) length (max length len) (view seat.old) (view seat.new) }
     {
         let word = FIRST_LENGTH + usize::from(seat.hart);
         let shared = &self.table.shared;
@@ -124,7 +124,7 @@ impl Board {
         ensures own { hart ≡ (view seat.old).hart → result ≡ (view seat.old).longest }
         ensures seen { view seat.new ≡ record (view seat.old) { lengths_seen = slice_set (view seat.old).lengths_seen hart result } }
         ensures told { slice_index (view seat.new).lengths_seen hart ≡ result }
-        ensures step { IsStep (2 + hart) result result (view seat.old) (view seat.new) }
+        ensures step { IsStep (length_of hart) result result (view seat.old) (view seat.new) }
     {
         let word = FIRST_LENGTH + usize::from(hart);
         let shared = &self.table.shared;

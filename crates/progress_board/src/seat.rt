@@ -33,5 +33,5 @@ impl Seat {
 }
 
 /// The seat has drawn 2^32 numbers, as many as a seat may.
-#[derive(Debug, Drop)]
+#[derive(Clone, Copy, Debug, PartialEq, Eq)]
 pub struct SeatSpent;
