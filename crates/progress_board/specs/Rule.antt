@@ -1,5 +1,5 @@
 -- The board's rule: what its words and its seats' views say of each other. It holds between any two steps of any threads.
-use Rattle.std.specs.Prelude.{◌≡◌, ℕ, ◌+◌, ◌<◌, ◌≤◌, ◌^◌, Bool, true, false, List, [], length, replicate, slice_index, ◌==◌, nat_lt, if◌then◌else◌, IsTrue}
+use Rattle.std.specs.Prelude.{◌≡◌, ℕ, ◌+◌, ◌≤◌, ◌^◌, Bool, true, false, List, [], length, replicate, slice_index, ◌==◌, nat_lt, if◌then◌else◌, IsTrue}
 use Rattle.std.specs.List.{sum_by, count_by}
 use Rattle.std.specs.Int.{bit_at}
 use mathlib.Core.Option.{some}

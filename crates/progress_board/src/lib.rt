@@ -3,6 +3,7 @@
 #![tactic(auto)]
 
 mod board;
+mod laws;
 mod rule;
 mod seat;
 #[cfg(test)]
@@ -10,5 +11,6 @@ mod tests;
 mod view;
 
 pub use board::Board;
+pub use laws::{each_number_is_drawn_once, no_number_from_the_counter_on_is_drawn};
 pub use seat::{Seat, SeatSpent};
 pub use view::View;
