@@ -1,5 +1,8 @@
 //! What the threads of a run share without a lock: numbers that they draw, the bits of the harts that have halted, and
 //! the lengths that they publish. A thread acts on the board as one hart, by that hart's seat.
+//!
+//! Between any two steps of any threads, `Agree` of specs/Rule.antt holds of the board's words and of what all seats
+//! have done and seen. Each call but `new` and `harts` is one such step: it takes no memory and waits for no thread.
 #![tactic(auto)]
 
 mod board;
