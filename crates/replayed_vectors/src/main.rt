@@ -7,13 +7,17 @@ use std::rt::Files;
 use std::{fs, io};
 
 const CASES: [&str; 14] = [
-    "a-300", "a-301", "a-302", "a-303", "a-304", "a-305", "a-306", "a-307", "a-308", "a-309", "a-310",
-    "a-311", "a-312", "a-313",
+    "a-300", "a-301", "a-302", "a-303", "a-304", "a-305", "a-306", "a-307", "a-308", "a-309",
+    "a-310", "a-311", "a-312", "a-313",
 ];
 
 fn main(rt: HostRuntime) -> io::Result<()> {
     for name in CASES {
-        let verdict = if prints_as_kept(&rt, name)? { "as kept" } else { "differs" };
+        let verdict = if prints_as_kept(&rt, name)? {
+            "as kept"
+        } else {
+            "differs"
+        };
         println!(rt; "{name}: {verdict}")?;
     }
     Ok(())

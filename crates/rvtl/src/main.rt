@@ -23,11 +23,5 @@ fn run(rt: &HostRuntime) -> io::Result<u8> {
     let mut out = BufWriter::new(alloc, rt.stdout())?;
     let mut err = rt.stderr();
     let mut files = SystemFiles::new(rt);
-    Ok(run_line(
-        alloc,
-        words.as_slice(),
-        &mut files,
-        &mut out,
-        &mut err,
-    ))
+    Ok(run_line(alloc, words.as_slice(), &mut files, &mut out, &mut err))
 }
