@@ -136,62 +136,69 @@ fn stops_are_told(rt: HostRuntime) {
     assert_eq!(rt; ran.status, 0);
 }
 
+/// An image, a script, and the message and status that they give.
+const FAULTS: [(&[u8], &[u8], &str, u8); 10] = [
+    (
+        &[0; 4],
+        b"rvtl-script 1 1 4 4 2\nstep 00\n",
+        "rvtl: script: line 2: text fault 3 Fields\n",
+        1,
+    ),
+    (&[0; 4], b"", "rvtl: script: line 1: text fault 5 End\n", 1),
+    (
+        &[0; 4],
+        b"rvtl-script 1 1 6 4 2\n",
+        "rvtl: script: line 1: text fault 1 Header\n",
+        1,
+    ),
+    (
+        &[0; 4],
+        b"rvtl-script 1 1 4 4 2\nstop 0\n",
+        "rvtl: script: line 2: text fault 2 Word\n",
+        1,
+    ),
+    (
+        &[0; 3],
+        b"rvtl-script 1 1 4 4 2\n",
+        "rvtl: image: image fault 1 Short\n",
+        1,
+    ),
+    (
+        &[0; 4100],
+        b"rvtl-script 1 1 4 4 2\n",
+        "rvtl: image: image fault 8 SegmentOutside\n",
+        1,
+    ),
+    (
+        &[0; 3],
+        b"rvtl-script 1 1 4 4",
+        "rvtl: script: line 1: text fault 5 End\n",
+        1,
+    ),
+    (
+        &[0; 4],
+        b"rvtl-script 1 2 4 4 2\n",
+        "rvtl: bad configuration\n",
+        2,
+    ),
+    (
+        &[0; 4],
+        b"rvtl-script 1 1 4 4 2\nstep 0\nstep 9\n",
+        "rvtl: script: line 3: event fault 1 BadEvent\n",
+        1,
+    ),
+    (
+        &[0; 4],
+        b"rvtl-script 1 1 4 4 2\ndrain 0 0x80000102\n",
+        "rvtl: script: line 2: event fault 1 BadEvent\n",
+        1,
+    ),
+];
+
 /// Each fault has its message and status, and nothing goes to standard output.
 #[test]
 fn row_23_and_the_other_faults(rt: HostRuntime) {
-    let one = b"rvtl-script 1 1 4 4 2\n".as_slice();
-    for (image, script, message, status) in [
-        (
-            [0; 4].as_slice(),
-            b"rvtl-script 1 1 4 4 2\nstep 00\n".as_slice(),
-            "rvtl: script: line 2: text fault 3 Fields\n",
-            1,
-        ),
-        (&[0; 4], b"", "rvtl: script: line 1: text fault 5 End\n", 1),
-        (
-            &[0; 4],
-            b"rvtl-script 1 1 6 4 2\n",
-            "rvtl: script: line 1: text fault 1 Header\n",
-            1,
-        ),
-        (
-            &[0; 4],
-            b"rvtl-script 1 1 4 4 2\nstop 0\n",
-            "rvtl: script: line 2: text fault 2 Word\n",
-            1,
-        ),
-        (&[0; 3], one, "rvtl: image: image fault 1 Short\n", 1),
-        (
-            &[0; 4100],
-            one,
-            "rvtl: image: image fault 8 SegmentOutside\n",
-            1,
-        ),
-        (
-            &[0; 3],
-            b"rvtl-script 1 1 4 4",
-            "rvtl: script: line 1: text fault 5 End\n",
-            1,
-        ),
-        (
-            &[0; 4],
-            b"rvtl-script 1 2 4 4 2\n",
-            "rvtl: bad configuration\n",
-            2,
-        ),
-        (
-            &[0; 4],
-            b"rvtl-script 1 1 4 4 2\nstep 0\nstep 9\n",
-            "rvtl: script: line 3: event fault 1 BadEvent\n",
-            1,
-        ),
-        (
-            &[0; 4],
-            b"rvtl-script 1 1 4 4 2\ndrain 0 0x80000102\n",
-            "rvtl: script: line 2: event fault 1 BadEvent\n",
-            1,
-        ),
-    ] {
+    for (image, script, message, status) in FAULTS {
         let ran = replay(rt.alloc(), image, script);
         assert_eq!(rt; ran.err.as_slice(), message.as_bytes(), "{message}");
         assert_eq!(rt; ran.status, status, "{message}");
