@@ -1,0 +1,4 @@
+pub mod ByteMask
+pub mod Entry
+pub mod Groups
+pub mod Layout
