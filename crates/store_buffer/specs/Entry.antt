@@ -2,14 +2,7 @@
 use Rattle.std.specs.Prelude.{ℕ, Bool, false, ◌||◌, ◌==◌, List, [], ◌∷◌, ◌++◌, Option, Some, None, slice_index, if◌then◌else◌}
 use Rattle.store_buffer.specs.ByteMask.{each_place, is_marked, no_marks, united, laid_over}
 use Rattle.store_buffer.specs.declared.entry.Entry.{Entry}
-
--- a store: the aligned word that its bytes lie in, which of the four it writes, the bytes by their places, and its
--- own place in its hart's list
-pub record Store : Type 0 where
-  pub word : ℕ
-  pub mask : List Bool
-  pub value : List ℕ
-  pub op : ℕ
+use Rattle.store_buffer.specs.declared.entry.Store.{Store}
 
 -- before any store
 abbrev pub blank_entry : ℕ → Entry

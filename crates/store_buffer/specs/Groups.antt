@@ -4,8 +4,9 @@
 use Rattle.std.specs.Prelude.{◌≡◌, ℕ, ◌+◌, ◌≤◌, Bool, true, false, ◌&&◌, ◌||◌, not, List, [], ◌∷◌, ◌++◌, length, Option, Some, None, is_some, unwrap_or, nat_lt, if◌then◌else◌}
 use Rattle.std.specs.List.{AllByRecursion as Each}
 use Rattle.store_buffer.specs.ByteMask.{each_place}
-use Rattle.store_buffer.specs.Entry.{Store, byte_at, has_word, entry_of, with_store, without}
+use Rattle.store_buffer.specs.Entry.{byte_at, has_word, entry_of, with_store, without}
 use Rattle.store_buffer.specs.declared.entry.Entry.{Entry}
+use Rattle.store_buffer.specs.declared.entry.Store.{Store}
 
 pub record Groups : Type 0 where
   pub sealed : List (List Entry)  -- oldest first

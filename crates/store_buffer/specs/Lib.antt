@@ -2,3 +2,4 @@ pub mod ByteMask
 pub mod Entry
 pub mod Groups
 pub mod Layout
+pub mod Stores

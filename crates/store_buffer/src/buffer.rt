@@ -1,10 +1,12 @@
 //! The buffer: at most eight entries, in groups.
-ghost use Rattle.std.specs.Prelude.{◌≡◌, ◌↔◌, true, false, Err, OnOk, OnErr};
-ghost use Rattle.store_buffer.specs.Groups.{Groups, no_groups};
+ghost use Rattle.std.specs.Prelude.{◌≡◌, ◌↔◌, ◌<◌, ◌≤◌, ◌+◌, true, false, Err, length, OnOk, OnErr, IfOk, IfSome, IfNone, IsNone, IsTrue, slice_index_or, [], ◌∷◌, ◌++◌, All, sum, take, drop, ◌^◌};
+ghost use Rattle.store_buffer.specs.Entry.{blank_entry, joined, has_word, entry_of, with_store};
+ghost use Rattle.store_buffer.specs.Groups.{Groups, IsLawful, no_groups, groups_of, has_sealed, is_empty, entry_count, has, fits, after_put, after_put_single, after_seal, forwarded, oldest, drainable, after_take};
+ghost use Rattle.store_buffer.specs.Layout.{place_of, overlaid, one_less};
 
-use crate::{ByteMask, Entry};
+use crate::{ByteMask, Entry, Store};
 use arrayvec::ArrayVec;
-use std::alloc::Global;
+use std::alloc::{AllocError, Global};
 use std::marker::Model;
 
 /// How many entries a buffer has.
@@ -17,6 +19,17 @@ pub enum PutError {
     Full = 1,
     /// An entry's list of stores can't grow.
     NoMemory = 2,
+}
+
+impl From<AllocError> for PutError {
+    ghost use Rattle.std.specs.Prelude.{◌≡◌};
+    ghost use Rattle.store_buffer.specs.declared.buffer.PutError.TheVariants.{NoMemory};
+
+    ghost from_gives = { λ _ e. e ≡ NoMemory };
+
+    fn from(_error: AllocError) -> Self {
+        PutError::NoMemory
+    }
 }
 
 /// A hart's stores that wait.
@@ -41,6 +54,13 @@ impl Model for StoreBuffer {
     ghost invariant = { λ b. IsLaidOut b.sealed.items b.entries.items };
 }
 
+/// Where a word has its oldest entry among these.
+fn place_of(entries: &[Entry], word: u32) -> Option<usize>
+    ensures { result ≡ place_of word entries.now }
+{
+    entries.iter().position(|entry| entry.word == word)
+}
+
 impl StoreBuffer {
     /// An empty buffer; it takes no memory.
     pub fn new(alloc: Global) -> Self
@@ -50,6 +70,24 @@ impl StoreBuffer {
             alloc,
             entries: ArrayVec::new_in(alloc),
             sealed: ArrayVec::new(),
+        }
+    }
+
+    /// The open group's entries, in the order of their first stores.
+    pub fn current(&self) -> &[Entry]
+        ensures { result.now ≡ self.now.current }
+    {
+        let start: usize = self.sealed.iter().sum();
+        &self.entries[start..]
+    }
+
+    /// The entries of the oldest group that has any.
+    pub fn oldest(&self) -> &[Entry]
+        ensures { result.now ≡ oldest self.now }
+    {
+        match self.sealed.first() {
+            Some(count) => &self.entries[..*count],
+            None => &self.entries,
         }
     }
 }

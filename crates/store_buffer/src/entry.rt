@@ -1,10 +1,23 @@
-//! What a hart's stores to one word leave.
-ghost use Rattle.std.specs.Prelude.{◌≡◌, OnOk, OnErr};
+//! Stores, and what those of a hart to one word leave.
+ghost use Rattle.std.specs.Prelude.{◌≡◌, IfOk, OnOk, OnErr};
 ghost use Rattle.store_buffer.specs.Entry.{blank_entry, joined};
 
 use crate::{ByteMask, Ops};
 use std::alloc::{AllocError, Global};
 use std::default::MadeWith;
+
+/// A retired store to bytes of one aligned word.
+#[derive(Clone, Copy, Debug, PartialEq, Eq)]
+pub struct Store {
+    /// The word's address, a multiple of 4.
+    pub word: u32,
+    /// The bytes that it writes.
+    pub mask: ByteMask,
+    /// The bytes by their places in the word; only those that are marked count.
+    pub value: [u8; 4],
+    /// The store's place in its hart's list of retired instructions.
+    pub op: u32,
+}
 
 /// The stores to one aligned word that wait together.
 #[derive(Debug, Drop)]
@@ -32,19 +45,23 @@ impl Entry {
         }
     }
 
+    /// The entry that a first store makes.
+    pub(crate) fn of_store(alloc: Global, store: Store) -> Result<Self, AllocError>
+        ensures { IfOk result (λ e. e ≡ joined store (blank_entry store.word)) }
+    {
+        let mut entry = Entry::blank(alloc, store.word);
+        entry.join(store)?;
+        Ok(entry)
+    }
+
     /// Takes in a store to the entry's word.
-    pub(crate) fn join(
-        &mut self,
-        mask: ByteMask,
-        value: [u8; 4],
-        op: u32,
-    ) -> Result<(), AllocError>
-        ensures ok { OnOk result (self.new ≡ joined (record { word = self.old.word; mask = mask; value = value; op = op }) self.old) }
+    pub(crate) fn join(&mut self, store: Store) -> Result<(), AllocError>
+        ensures ok { OnOk result (self.new ≡ joined store self.old) }
         ensures err { OnErr result (self.new ≡ self.old) }
     {
-        self.ops.push(op)?;
-        self.mask = self.mask.union(mask);
-        self.bytes = mask.lay_over(value, self.bytes);
+        self.ops.push(store.op)?;
+        self.mask = self.mask.union(store.mask);
+        self.bytes = store.mask.lay_over(store.value, self.bytes);
         Ok(())
     }
 }

@@ -10,5 +10,5 @@ mod ops;
 
 pub use buffer::{PutError, StoreBuffer};
 pub use byte_mask::ByteMask;
-pub use entry::Entry;
+pub use entry::{Entry, Store};
 pub use ops::Ops;
