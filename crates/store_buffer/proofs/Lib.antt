@@ -1,2 +1,4 @@
 pub mod Places
 pub mod Layouts
+pub mod Overlaid
+pub mod Puts

@@ -1,7 +1,8 @@
 -- Where a word has its entry in a list, and what a change there leaves.
-use Rattle.std.proofs.Common.{◌≡◌, ◌≢◌, ℕ, zero, suc, ◌+◌, ◌-◌, ◌<◌, ◌≤◌, Bool, true, false, cond, ◌||◌, not, List, [], ◌∷◌, ◌++◌, length, get_or, set, take, drop, Option, Some, None, refl, sym, ap, subst, ◌∙◌, arith, rules, ◌⊎◌, inl, inr, add-one}
+use Rattle.std.proofs.Common.{◌≡◌, ◌≢◌, ℕ, zero, suc, ◌+◌, ◌-◌, ◌<◌, ◌≤◌, Bool, true, false, cond, ◌||◌, not, List, [], ◌∷◌, ◌++◌, length, get_or, set, take, drop, Option, Some, None, refl, sym, ap, subst, ◌∙◌, arith, rules, ◌⊎◌, inl, inr, add-one, append_assoc, length-append, length-drop, take-append-drop}
+use Rattle.std.proofs.lemmas.List.{take-set-le, drop-set-add, get_or-drop}
 use Rattle.std.specs.Prelude.{◌==◌, nat_lt, is_some}
-use Rattle.std.specs.List.{remove, position, position_or_len}
+use Rattle.std.specs.List.{Any, remove, position, position_or_len}
 use Rattle.std.proofs.lemmas.Bool.{false≢true, eqb-true, eq-eqb, ne_eqb}
 use Rattle.std.proofs.lemmas.Grind.{common_steps}
 use Rattle.store_buffer.specs.declared.entry.Entry.{Entry}
@@ -187,3 +188,35 @@ IsDistinct-without word (e ∷ es) d = go (e.word == word) (IsDistinct-without w
     go : (b : Bool) → IsDistinct (without word es) → IsDistinct (cond b es (e ∷ without word es))
     go true h = d.1
     go false h = (has_word-without e.word word es d.0, h)
+
+-- ---- a store is taken in behind the front
+
+pub put-joins : (s : Store) (start i : ℕ) (es : List Entry) (d : Entry) → place_of s.word (drop start es) ≡ Some i
+    → set es (start + i) (joined s (get_or es (start + i) d)) ≡ take start es ++ with_store s (drop start es)
+put-joins s start i es d at =
+    let p = is_place s.word i (drop start es) at in
+    let x = joined s (get_or es (start + i) d) in
+    let here : get_or es (start + i) d ≡ entry_of s.word (drop start es) = sym (get_or-drop start es i d) ∙ p.entry d in
+    let low : start ≤ start + i = omega arith in
+    sym (take-append-drop start (set es (start + i) x))
+    ∙ ap (λ front. front ++ drop start (set es (start + i) x)) (take-set-le start es (start + i) x low)
+    ∙ ap (λ rest. take start es ++ rest) (drop-set-add start es i x ∙ ap (λ e. set (drop start es) i (joined s e)) here ∙ p.joins s refl)
+
+pub put-adds : (s : Store) (start : ℕ) (es : List Entry) → has_word s.word (drop start es) ≡ false
+    → es ++ joined s (blank_entry s.word) ∷ [] ≡ take start es ++ with_store s (drop start es)
+put-adds s start es none =
+    let e = joined s (blank_entry s.word) in
+    ap (λ xs. xs ++ e ∷ []) (sym (take-append-drop start es)) ∙ append_assoc (take start es) (drop start es) (e ∷ [])
+    ∙ ap (λ rest. take start es ++ rest) (sym (with_store-new s (drop start es) none))
+
+any_at : (word : ℕ) (es : List Entry) (k : ℕ) (x : Entry) → k < length es → get_or es k x ≡ x → x.word ≡ word → has_word word es ≡ true
+any_at word [] k x h is own = absurd (omega arith)
+any_at word (e ∷ es) zero x h is own = ap (λ b. b || has_word word es) (eq-eqb e.word word (ap (λ (y : Entry). y.word) is ∙ own))
+any_at word (e ∷ es) (suc k) x h is own = go (e.word == word) (any_at word es k x (omega arith) is own)
+  where
+    go : (b : Bool) → has_word word es ≡ true → (b || has_word word es) ≡ true
+    go true found = refl
+    go false found = found
+
+pub any_has : (word : ℕ) (es : List Entry) → Any (λ (e : Entry). e.word ≡ word) es → has_word word es ≡ true
+any_has word es h = any_at word es h.0 h.1 h.2 h.3 h.4

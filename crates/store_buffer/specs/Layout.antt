@@ -1,5 +1,5 @@
 -- How a list of entries, and how many of them each sealed group has, stand for groups.
-use Rattle.std.specs.Prelude.{◌≡◌, ℕ, ◌+◌, ◌-◌, ◌<◌, ◌≤◌, ◌==◌, Bool, ◌&&◌, List, [], ◌∷◌, ◌++◌, Option, None, length, sum, take, drop, position, is_some, unwrap_or, if◌then◌else◌}
+use Rattle.std.specs.Prelude.{◌≡◌, ℕ, ◌+◌, ◌-◌, ◌<◌, ◌≤◌, ◌==◌, nat_lt, Bool, List, [], ◌∷◌, ◌++◌, Option, None, length, sum, take, drop, position, is_some, unwrap_or, if◌then◌else◌}
 use Rattle.std.specs.List.{AllByRecursion as Each}
 use Rattle.store_buffer.specs.ByteMask.{each_place}
 use Rattle.store_buffer.specs.Entry.{byte_at}
@@ -39,4 +39,4 @@ overlaid word entries =
 -- the oldest sealed group, where there is one, has an entry less
 abbrev pub one_less : List ℕ → List ℕ
 one_less [] = []
-one_less (n ∷ ns) = if n == 1 then ns else (n - 1) ∷ ns
+one_less (n ∷ ns) = if nat_lt 1 n then (n - 1) ∷ ns else ns
