@@ -95,7 +95,7 @@ any_has_word-groups_in word (n ∷ ns) es =
 
 -- ---- the newest byte
 
-or_else-assoc : (a b c : Option ℕ) → or_else (or_else a b) c ≡ or_else a (or_else b c)
+pub or_else-assoc : (a b c : Option ℕ) → or_else (or_else a b) c ≡ or_else a (or_else b c)
 or_else-assoc None b c = refl
 or_else-assoc (Some x) b c = refl
 
@@ -117,7 +117,7 @@ newest_byte-none word k (e ∷ g) h = go (e.word == word) h (newest_byte-none wo
     go true p rest = absurd (cc)
     go false p rest = rw (rest p) refl
 
-or_none : (o : Option ℕ) → or_else o None ≡ o
+pub or_none : (o : Option ℕ) → or_else o None ≡ o
 or_none None = refl
 or_none (Some x) = refl
 
@@ -150,7 +150,7 @@ buffered_byte-groups_in word k (n ∷ ns) es d dc =
 
 -- ---- what each call leaves
 
-same_groups : {a c : List (List Entry)} {b d : List Entry} → a ≡ c → b ≡ d → Path Groups (record { sealed = a; current = b }) (record { sealed = c; current = d })
+pub same_groups : {a c : List (List Entry)} {b d : List Entry} → a ≡ c → b ≡ d → Path Groups (record { sealed = a; current = b }) (record { sealed = c; current = d })
 same_groups e f = λ i. record { sealed = e i; current = f i }
 
 -- a list of entries that stands for groups without a word twice
@@ -213,7 +213,7 @@ put_keeps s ns es h room =
 sum-push : (ns : List ℕ) (m : ℕ) → sum (ns ++ m ∷ []) ≡ sum ns + m
 sum-push ns m = sum_by-append (λ x. x) ns (m ∷ []) ∙ ap (λ k. sum ns + k) (let e = sum-cons m [] in omega arith)
 
-kept_some : (g : List Entry) → 0 < length g → kept g ≡ g ∷ []
+pub kept_some : (g : List Entry) → 0 < length g → kept g ≡ g ∷ []
 kept_some [] h = absurd (omega arith)
 kept_some (e ∷ g) h = refl
 

@@ -2,3 +2,4 @@ pub mod Places
 pub mod Layouts
 pub mod Overlaid
 pub mod Puts
+pub mod StoreLaws

@@ -3,7 +3,7 @@ use Rattle.std.specs.Prelude.{◌≡◌, ◌≢◌, ℕ, ◌+◌, ◌<◌, Bool,
 use Rattle.std.specs.List.{list_any}
 use Rattle.store_buffer.specs.ByteMask.{is_marked}
 use Rattle.store_buffer.specs.Entry.{blank_entry, joined, byte_at, has_word, entry_of, with_store, without}
-use Rattle.store_buffer.specs.Groups.{Groups, IsDistinct, is_nil, or_else, fits, has, drainable, oldest, buffered_byte, groups_of, after_put, after_put_single, after_seal, after_take}
+use Rattle.store_buffer.specs.Groups.{Groups, IsDistinct, or_else, oldest, buffered_byte, groups_of, after_put, after_seal, after_take}
 use Rattle.store_buffer.specs.declared.entry.Entry.{Entry}
 use Rattle.store_buffer.specs.declared.entry.Store.{Store}
 
@@ -73,3 +73,59 @@ TakeFilters = (word : ℕ) (stores : List Store)
 
 abbrev pub AlwaysDistinct : Type 0
 AlwaysDistinct = (stores : List Store) → IsDistinct (entries_of stores)
+
+-- ---- a whole buffer
+
+-- the stores that wait, group by group
+pub record Waiting : Type 0 where
+  pub sealed : List (List Store)  -- oldest first
+  pub current : List Store
+
+-- the groups of a buffer with these stores
+abbrev pub entries_in : Waiting → Groups
+entries_in w = record { sealed = map entries_of w.sealed; current = entries_of w.current }
+
+abbrev pub all_stores : List (List Store) → List Store
+all_stores [] = []
+all_stores (g ∷ gs) = g ++ all_stores gs
+
+abbrev pub kept_stores : List Store → List (List Store)
+kept_stores [] = []
+kept_stores (s ∷ ss) = (s ∷ ss) ∷ []
+
+abbrev pub put_behind : Store → Waiting → Waiting
+put_behind s w = record { sealed = w.sealed; current = w.current ++ s ∷ [] }
+
+abbrev pub sealed_up : Waiting → Waiting
+sealed_up w = record { sealed = w.sealed ++ kept_stores w.current; current = [] }
+
+abbrev pub oldest_stores_from : List (List Store) → List Store → List Store
+oldest_stores_from [] current = current
+oldest_stores_from (g ∷ gs) current = g
+
+abbrev pub oldest_stores : Waiting → List Store
+oldest_stores w = oldest_stores_from w.sealed w.current
+
+abbrev pub drained_from : ℕ → List (List Store) → List Store → Waiting
+drained_from word [] current = record { sealed = []; current = filter (is_elsewhere word) current }
+drained_from word (g ∷ gs) current = record { sealed = kept_stores (filter (is_elsewhere word) g) ++ gs; current = current }
+
+abbrev pub drained : ℕ → Waiting → Waiting
+drained word w = drained_from word w.sealed w.current
+
+abbrev pub PutIsBehind : Type 0
+PutIsBehind = (s : Store) (w : Waiting) → after_put s (entries_in w) ≡ entries_in (put_behind s w)
+
+abbrev pub SealIsUp : Type 0
+SealIsUp = (w : Waiting) → after_seal (entries_in w) ≡ entries_in (sealed_up w)
+
+abbrev pub OldestIsFirst : Type 0
+OldestIsFirst = (w : Waiting) → oldest (entries_in w) ≡ entries_of (oldest_stores w)
+
+abbrev pub TakeIsDrained : Type 0
+TakeIsDrained = (word : ℕ) (w : Waiting) → after_take word (entries_in w) ≡ entries_in (drained word w)
+
+-- a load gets each byte from the last store to it in program order
+abbrev pub ForwardIsLast : Type 0
+ForwardIsLast = (word k : ℕ) (w : Waiting) → k < 4
+    → buffered_byte word k (groups_of (entries_in w)) ≡ last_byte word k (all_stores w.sealed ++ w.current)

@@ -6,9 +6,11 @@
 mod buffer;
 mod byte_mask;
 mod entry;
+mod laws;
 mod ops;
 
 pub use buffer::{PutError, StoreBuffer};
 pub use byte_mask::ByteMask;
 pub use entry::{Entry, Store};
+pub use laws::{buffer_of_stores, group_of_stores};
 pub use ops::Ops;
