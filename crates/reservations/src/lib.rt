@@ -5,3 +5,6 @@
 mod reservation;
 
 pub use reservation::Reservation;
+
+#[cfg(test)]
+mod tests;

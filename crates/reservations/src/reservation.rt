@@ -66,6 +66,6 @@ impl Reservation {
     pub fn clear(&mut self)
         ensures { self.new ≡ None }
     {
-        self.word = None;
+        *self = Reservation::none();
     }
 }

@@ -5,11 +5,11 @@ use Rattle.std.specs.List.{AllByRecursion as Each}
 use Rattle.std.proofs.lemmas.List.{take_at, drop_at, drop-drop, take-append-le, drop-append-le, length-take-le, take_rest, drop_all}
 use Rattle.std.proofs.lemmas.Bool.{false≢true, eqb-true, ne_eqb, lt-ltb, ltb-true}
 use Rattle.std.proofs.lemmas.Bool.Decides.{nat_tests}
-use Rattle.std.proofs.lemmas.List.Sums.{sum_by-cons, sum_by-append}
+use Rattle.std.proofs.lemmas.List.Sums.{sum_by-cons, sum_by-append, sum_by-take-le}
 use Rattle.store_buffer.specs.declared.entry.Entry.{Entry}
 use Rattle.store_buffer.specs.declared.entry.Store.{Store}
 use Rattle.store_buffer.specs.Entry.{blank_entry, joined, byte_at, has_word, entry_of, with_store, without}
-use Rattle.store_buffer.specs.Groups.{Groups, fits, IsDistinct, IsLawful, is_nil, kept, or_else, total_count, entry_count, any_has_word, buffered_byte, taken_from, oldest_from, is_empty, after_put, after_put_single, after_seal, after_take}
+use Rattle.store_buffer.specs.Groups.{Groups, groups_of, fits, IsDistinct, IsLawful, is_nil, kept, or_else, total_count, entry_count, any_has_word, buffered_byte, taken_from, oldest_from, is_empty, after_put, after_put_single, after_seal, after_take}
 use Rattle.store_buffer.specs.Layout.{sealed_in, groups_in, IsLaidOut, byte_in, newest_byte, one_less}
 use Rattle.store_buffer.proofs.Places.{has_word-append, without-append, length-without, entry_of-append, with_store-new, with_store-old, put-adds, IsDistinct-with_store, IsDistinct-without}
 
@@ -43,7 +43,7 @@ entry_count-groups_in ns es h = omega (arith, total_count-sealed_in ns es h, len
 
 -- ---- no sealed group is empty
 
-nonempty : (xs : List Entry) → 0 < length xs → is_nil xs ≡ false
+pub nonempty : (xs : List Entry) → 0 < length xs → is_nil xs ≡ false
 nonempty [] h = absurd (omega arith)
 nonempty (x ∷ xs) h = refl
 
@@ -245,10 +245,10 @@ few_groups ns es h more = let few = h.few in omega (arith, length-le-sum ns h.so
 
 -- ---- a store under total store order
 
-put_joins_own : (s : Store) (b : Groups) → has_word s.word b.current ≡ true → after_put_single s b ≡ after_put s b
+pub put_joins_own : (s : Store) (b : Groups) → has_word s.word b.current ≡ true → after_put_single s b ≡ after_put s b
 put_joins_own s b e = rw e refl
 
-put_after_seal : (s : Store) (b : Groups) → has_word s.word b.current ≡ false → after_put_single s b ≡ after_put s (after_seal b)
+pub put_after_seal : (s : Store) (b : Groups) → has_word s.word b.current ≡ false → after_put_single s b ≡ after_put s (after_seal b)
 put_after_seal s b e = rw e refl
 
 no_word : (word : ℕ) (g : List Entry) → length g ≤ 0 → has_word word g ≡ false
@@ -426,3 +426,31 @@ is_empty-groups_in (n ∷ ns) es h =
     let some : 0 < n = h.some.0 in
     let w = h.within in
     ne_eqb (length es) 0 (λ none. absurd (omega (arith, sum-cons n ns)))
+
+-- ---- one group after another
+
+pub length-sealed_in : (ns : List ℕ) (es : List Entry) → length (sealed_in ns es) ≡ length ns
+length-sealed_in [] es = refl
+length-sealed_in (n ∷ ns) es = ap suc (length-sealed_in ns (drop n es))
+
+pub length-groups_of : (ns : List ℕ) (es : List Entry) → length (groups_of (groups_in ns es)) ≡ length ns + 1
+length-groups_of ns es = omega (arith, length-append (sealed_in ns es) (drop (sum ns) es ∷ []), length-sealed_in ns es)
+
+pub group_sealed : (ns : List ℕ) (i : ℕ) (es : List Entry) (current : List Entry) → i < length ns
+    → get_or (sealed_in ns es ++ current ∷ []) i [] ≡ take (get_or ns i 0) (drop (sum (take i ns)) es)
+group_sealed [] i es current h = absurd (omega arith)
+group_sealed (m ∷ ns) zero es current h = refl
+group_sealed (m ∷ ns) (suc i) es current h =
+    group_sealed ns i (drop m es) current (omega arith) ∙ ap (take (get_or ns i 0)) (sym (drop_of_more m (take i ns) es))
+
+pub group_current : (ns : List ℕ) (es : List Entry) (current : List Entry) → get_or (sealed_in ns es ++ current ∷ []) (length ns) [] ≡ current
+group_current [] es current = refl
+group_current (m ∷ ns) es current = group_current ns (drop m es) current
+
+pub sum-take-at : (ns : List ℕ) (i : ℕ) → i < length ns → sum (take i ns) + get_or ns i 0 ≤ sum ns
+sum-take-at [] i h = absurd (omega arith)
+sum-take-at (m ∷ ns) zero h = omega (arith, sum-cons m ns)
+sum-take-at (m ∷ ns) (suc i) h = omega (arith, sum-take-at ns i (omega arith), sum-cons m ns, sum-cons m (take i ns))
+
+pub sum-take-le : (ns : List ℕ) (i : ℕ) → sum (take i ns) ≤ sum ns
+sum-take-le ns i = sum_by-take-le (λ x. x) ns i

@@ -42,7 +42,7 @@ overlaid-bytes word xs e own =
 pub overlaid-other : (word : ℕ) (xs : List Entry) (e : Entry) → e.word ≢ word → overlaid word (xs ++ e ∷ []) ≡ overlaid word xs
 overlaid-other word xs e other =
     let same : (k : ℕ) → newest_byte word k (xs ++ e ∷ []) ≡ newest_byte word k xs =
-        λ k. newest-push word k xs e ∙ ap (λ b. or_else (cond b (byte_at k e) None) (newest_byte word k xs)) (ne_eqb e.word word other) in
+    λ k. newest-push word k xs e ∙ ap (λ b. or_else (cond b (byte_at k e) None) (newest_byte word k xs)) (ne_eqb e.word word other) in
     λ i. (
       each_same (λ k. is_some (newest_byte word k (xs ++ e ∷ []))) (λ k. is_some (newest_byte word k xs)) (λ k. ap is_some (same k)) i,
       each_same (λ k. unwrap_or (newest_byte word k (xs ++ e ∷ [])) 0) (λ k. unwrap_or (newest_byte word k xs) 0) (λ k. ap (λ o. unwrap_or o 0) (same k)) i,
@@ -51,5 +51,5 @@ overlaid-other word xs e other =
 pub overlaid-groups_in : (word : ℕ) (ns : List ℕ) (es : List Entry) → IsLaidOut ns es → overlaid word es ≡ forwarded word (groups_in ns es)
 overlaid-groups_in word ns es h =
     let same : (k : ℕ) → newest_byte word k es ≡ buffered_byte word k (sealed_in ns es ++ (groups_in ns es).current ∷ []) =
-        λ k. sym (buffered_byte-groups_in word k ns es h.distinct h.current_distinct) in
+    λ k. sym (buffered_byte-groups_in word k ns es h.distinct h.current_distinct) in
     λ i. (each_place (λ k. is_some (same k i)), each_place (λ k. unwrap_or (same k i) 0))

@@ -8,10 +8,10 @@ use Rattle.store_buffer.specs.declared.entry.Entry.{Entry}
 use Rattle.store_buffer.specs.declared.entry.Store.{Store}
 use Rattle.store_buffer.specs.ByteMask.{is_marked}
 use Rattle.store_buffer.specs.Entry.{blank_entry, joined, byte_at, has_word, entry_of, with_store, without}
-use Rattle.store_buffer.specs.Groups.{Groups, IsDistinct, or_else, kept, oldest, buffered_byte, after_put, after_seal, after_take}
-use Rattle.store_buffer.specs.Stores.{is_to_word, is_elsewhere, merged, entries_from, entries_of, stored_byte, last_byte, OwnWord, OtherWord, PutAppends, EntryIsFilter, OpsAreFilter, ByteIsLast, HasIsAny, TakeFilters, AlwaysDistinct, Waiting, entries_in, all_stores, kept_stores, oldest_stores_from, drained_from, PutIsBehind, SealIsUp, OldestIsFirst, TakeIsDrained, ForwardIsLast}
+use Rattle.store_buffer.specs.Groups.{Groups, IsDistinct, is_nil, is_empty, has_sealed, any_has_word, has, drainable, or_else, kept, oldest, after_put_single, buffered_byte, after_put, after_seal, after_take}
+use Rattle.store_buffer.specs.Stores.{is_to_word, is_elsewhere, merged, entries_from, entries_of, stored_byte, last_byte, OwnWord, OtherWord, PutAppends, EntryIsFilter, OpsAreFilter, ByteIsLast, HasIsAny, TakeFilters, AlwaysDistinct, Waiting, entries_in, all_stores, kept_stores, oldest_stores_from, drained_from, put_behind, sealed_up, oldest_stores, PutIsBehind, PutSingleIsBehind, SealIsUp, OldestIsFirst, TakeIsDrained, ForwardIsLast, HasIsAnyOfAll, DrainableIsAny, EmptyIsNone, SealedIsSome}
 use Rattle.store_buffer.proofs.Places.{with_store-new, with_store-old, has_word-with_store, IsDistinct-with_store}
-use Rattle.store_buffer.proofs.Layouts.{or_else-assoc, or_none, kept_some, same_groups}
+use Rattle.store_buffer.proofs.Layouts.{or_else-assoc, or_none, nonempty, kept_some, same_groups, put_joins_own, put_after_seal}
 
 -- ---- one store
 
@@ -223,3 +223,52 @@ forward_from word k (g ∷ gs) current h =
 
 pub forward_is_last : ForwardIsLast
 forward_is_last word k w h = forward_from word k w.sealed w.current h
+
+pub put_single_is_behind : PutSingleIsBehind
+put_single_is_behind s w = go (list_any (is_to_word s.word) w.current) (has_is_any s.word w.current)
+  where
+    go : (b : Bool) → has_word s.word (entries_of w.current) ≡ b
+        → after_put_single s (entries_in w) ≡ entries_in (cond b (put_behind s w) (put_behind s (sealed_up w)))
+    go true e = put_joins_own s (entries_in w) e ∙ put_is_behind s w
+    go false e = put_after_seal s (entries_in w) e ∙ ap (after_put s) (seal_is_up w) ∙ put_is_behind s (sealed_up w)
+
+any-append : (word : ℕ) (xs ys : List Store) → list_any (is_to_word word) (xs ++ ys) ≡ (list_any (is_to_word word) xs || list_any (is_to_word word) ys)
+any-append word [] ys = refl
+any-append word (s ∷ xs) ys = go (s.word == word) (any-append word xs ys)
+  where
+    go : (b : Bool) → list_any (is_to_word word) (xs ++ ys) ≡ (list_any (is_to_word word) xs || list_any (is_to_word word) ys)
+        → (b || list_any (is_to_word word) (xs ++ ys)) ≡ ((b || list_any (is_to_word word) xs) || list_any (is_to_word word) ys)
+    go true h = refl
+    go false h = h
+
+any_group_has : (word : ℕ) (gs : List (List Store)) (current : List Store)
+    → any_has_word word (map entries_of gs ++ entries_of current ∷ []) ≡ list_any (is_to_word word) (all_stores gs ++ current)
+any_group_has word [] current = or_false (has_word word (entries_of current)) ∙ has_is_any word current
+  where
+    or_false : (b : Bool) → (b || false) ≡ b
+    or_false true = refl
+    or_false false = refl
+any_group_has word (g ∷ gs) current =
+    ap (λ b. has_word word (entries_of g) || b) (any_group_has word gs current)
+    ∙ ap (λ b. b || list_any (is_to_word word) (all_stores gs ++ current)) (has_is_any word g)
+    ∙ sym (any-append word g (all_stores gs ++ current)) ∙ ap (list_any (is_to_word word)) (sym (append_assoc g (all_stores gs) current))
+
+pub has_is_any_of_all : HasIsAnyOfAll
+has_is_any_of_all word w = any_group_has word w.sealed w.current
+
+pub drainable_is_any : DrainableIsAny
+drainable_is_any word w = ap (has_word word) (oldest_is_first w) ∙ has_is_any word (oldest_stores w)
+
+is_nil-map : (gs : List (List Store)) → is_nil (map entries_of gs) ≡ is_nil gs
+is_nil-map [] = refl
+is_nil-map (g ∷ gs) = refl
+
+is_nil-entries_of : (stores : List Store) → is_nil (entries_of stores) ≡ is_nil stores
+is_nil-entries_of [] = refl
+is_nil-entries_of (s ∷ ss) = nonempty (entries_of (s ∷ ss)) (omega (arith, entries_from-more (joined s (blank_entry s.word) ∷ []) ss))
+
+pub empty_is_none : EmptyIsNone
+empty_is_none w = λ i. is_nil-map w.sealed i && is_nil-entries_of w.current i
+
+pub sealed_is_some : SealedIsSome
+sealed_is_some w = ap not (is_nil-map w.sealed)

@@ -10,7 +10,7 @@ use Rattle.store_buffer.specs.declared.entry.Store.{Store}
 
 pub record Groups : Type 0 where
   pub sealed : List (List Entry)  -- oldest first
-  pub current : List Entry        -- the open group, newer than all of them
+  pub current : List Entry  -- the open group, newer than all of them
 
 abbrev pub no_groups : Groups
 no_groups = record { sealed = []; current = [] }

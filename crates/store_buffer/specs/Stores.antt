@@ -3,7 +3,7 @@ use Rattle.std.specs.Prelude.{◌≡◌, ◌≢◌, ℕ, ◌+◌, ◌<◌, Bool,
 use Rattle.std.specs.List.{list_any}
 use Rattle.store_buffer.specs.ByteMask.{is_marked}
 use Rattle.store_buffer.specs.Entry.{blank_entry, joined, byte_at, has_word, entry_of, with_store, without}
-use Rattle.store_buffer.specs.Groups.{Groups, IsDistinct, or_else, oldest, buffered_byte, groups_of, after_put, after_seal, after_take}
+use Rattle.store_buffer.specs.Groups.{Groups, IsDistinct, is_nil, is_empty, has_sealed, has, drainable, or_else, oldest, buffered_byte, groups_of, after_put, after_put_single, after_seal, after_take}
 use Rattle.store_buffer.specs.declared.entry.Entry.{Entry}
 use Rattle.store_buffer.specs.declared.entry.Store.{Store}
 
@@ -116,6 +116,13 @@ drained word w = drained_from word w.sealed w.current
 abbrev pub PutIsBehind : Type 0
 PutIsBehind = (s : Store) (w : Waiting) → after_put s (entries_in w) ≡ entries_in (put_behind s w)
 
+-- under total store order
+abbrev pub put_single_behind : Store → Waiting → Waiting
+put_single_behind s w = if list_any (is_to_word s.word) w.current then put_behind s w else put_behind s (sealed_up w)
+
+abbrev pub PutSingleIsBehind : Type 0
+PutSingleIsBehind = (s : Store) (w : Waiting) → after_put_single s (entries_in w) ≡ entries_in (put_single_behind s w)
+
 abbrev pub SealIsUp : Type 0
 SealIsUp = (w : Waiting) → after_seal (entries_in w) ≡ entries_in (sealed_up w)
 
@@ -129,3 +136,16 @@ TakeIsDrained = (word : ℕ) (w : Waiting) → after_take word (entries_in w) �
 abbrev pub ForwardIsLast : Type 0
 ForwardIsLast = (word k : ℕ) (w : Waiting) → k < 4
     → buffered_byte word k (groups_of (entries_in w)) ≡ last_byte word k (all_stores w.sealed ++ w.current)
+
+-- what a buffer is asked
+abbrev pub HasIsAnyOfAll : Type 0
+HasIsAnyOfAll = (word : ℕ) (w : Waiting) → has word (entries_in w) ≡ list_any (is_to_word word) (all_stores w.sealed ++ w.current)
+
+abbrev pub DrainableIsAny : Type 0
+DrainableIsAny = (word : ℕ) (w : Waiting) → drainable word (entries_in w) ≡ list_any (is_to_word word) (oldest_stores w)
+
+abbrev pub EmptyIsNone : Type 0
+EmptyIsNone = (w : Waiting) → is_empty (entries_in w) ≡ (is_nil w.sealed && is_nil w.current)
+
+abbrev pub SealedIsSome : Type 0
+SealedIsSome = (w : Waiting) → has_sealed (entries_in w) ≡ not (is_nil w.sealed)

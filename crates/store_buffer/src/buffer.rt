@@ -33,7 +33,7 @@ impl From<AllocError> for PutError {
 }
 
 /// A hart's stores that wait.
-#[derive(Drop)]
+#[derive(Clone, Drop)]
 pub struct StoreBuffer {
     alloc: Global,
     // oldest group first, and a group's entries in the order of their first stores
@@ -148,6 +148,13 @@ impl StoreBuffer {
         }
     }
 
+    /// A buffer of its own with the same groups.
+    pub fn try_copy(&self) -> Result<Self, AllocError>
+        ensures { IfOk result (λ b. b ≡ self.now) }
+    {
+        self.clone()
+    }
+
     /// Whether no store waits.
     pub fn is_empty(&self) -> bool
         ensures { result ≡ is_empty self.now }
@@ -192,6 +199,26 @@ impl StoreBuffer {
         match self.sealed.first() {
             Some(count) => &self.entries[..*count],
             None => &self.entries,
+        }
+    }
+
+    /// How many groups there are, the open one among them.
+    pub fn group_count(&self) -> usize
+        ensures { result ≡ length (groups_of self.now) }
+    {
+        self.sealed.len() + 1
+    }
+
+    /// A group's entries, in the order of their first stores. Group 0 is the oldest.
+    pub fn group(&self, index: usize) -> &[Entry]
+        requires { index < length (groups_of self.now) }
+        ensures { result.now ≡ slice_index_or (groups_of self.now) index [] }
+    {
+        let start = total(&self.sealed[..index]);
+        if index < self.sealed.len() {
+            &self.entries[start..start + self.sealed[index]]
+        } else {
+            &self.entries[start..]
         }
     }
 

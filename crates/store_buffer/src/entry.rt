@@ -20,7 +20,7 @@ pub struct Store {
 }
 
 /// The stores to one aligned word that wait together.
-#[derive(Debug, Drop)]
+#[derive(Clone, Debug, Drop)]
 pub struct Entry {
     /// The word's address, a multiple of 4.
     pub word: u32,

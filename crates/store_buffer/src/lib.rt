@@ -14,3 +14,6 @@ pub use byte_mask::ByteMask;
 pub use entry::{Entry, Store};
 pub use laws::{buffer_of_stores, group_of_stores};
 pub use ops::Ops;
+
+#[cfg(test)]
+mod tests;

@@ -23,11 +23,11 @@ loop-entry-preserved c =
         w.bytes-is ∙ w.lay_over-laid.ensures ∙ ap (laid_over e.mask e.bytes) c.loop-entry.invariant.1 ∙ sym (overlaid-bytes c.args.word (take i es) e w.if-entry-word.true),
       )
       | else-entry-word w ↦ (
-        let other = overlaid-other c.args.word (take i es) e w.if-entry-word.false in (
-          w.mask-is ∙ c.loop-entry.invariant.0 ∙ sym (ap (λ p. p.0) other),
-          w.bytes-is ∙ c.loop-entry.invariant.1 ∙ sym (ap (λ p. p.1) other),
-        )
-      )
+          let other = overlaid-other c.args.word (take i es) e w.if-entry-word.false in (
+            w.mask-is ∙ c.loop-entry.invariant.0 ∙ sym (ap (λ p. p.0) other),
+            w.bytes-is ∙ c.loop-entry.invariant.1 ∙ sym (ap (λ p. p.1) other),
+          )
+          )
     ])
 
 pub returns : goal.returns

@@ -83,13 +83,13 @@ returns-else-is_new-clause-ok c =
     let count = c.len-count.ensures.value in
     elim c.else-is_new.branch [
       | else-is_new-via-then-is_new+else-count-start w ↦ (
-        let none : length b.entries.items ≤ sum b.sealed.items = let same = w.if-count-start.false in omega arith in
-        w.self-is ∙ ap (groups_in b.sealed.items) new ∙ single_first s b.sealed.items b.entries.items c.self.invariant none ∙ ap (after_put_single s) c.self.view_is
-      )
+          let none : length b.entries.items ≤ sum b.sealed.items = let same = w.if-count-start.false in omega arith in
+          w.self-is ∙ ap (groups_in b.sealed.items) new ∙ single_first s b.sealed.items b.entries.items c.self.invariant none ∙ ap (after_put_single s) c.self.view_is
+          )
       | else-is_new-via-else-is_new w ↦ (
-        let same : length (put_list s (sum b.sealed.items) b.entries.items) ≤ length b.entries.items = let old = w.if-is_new.false in omega (arith, c.len.ensures.value, ap length new) in
-        w.self-is ∙ ap (groups_in b.sealed.items) new ∙ single_old s b.sealed.items b.entries.items c.self.invariant same ∙ ap (after_put_single s) c.self.view_is
-      )
+          let same : length (put_list s (sum b.sealed.items) b.entries.items) ≤ length b.entries.items = let old = w.if-is_new.false in omega (arith, c.len.ensures.value, ap length new) in
+          w.self-is ∙ ap (groups_in b.sealed.items) new ∙ single_old s b.sealed.items b.entries.items c.self.invariant same ∙ ap (after_put_single s) c.self.view_is
+          )
     ]
 
 pub returns-else-is_new-clause-full : goal.returns-else-is_new-clause-full
