@@ -1,0 +1,33 @@
+use super::*;
+use tl_types::LineSize;
+
+/// A reservation goes with its line, whose size decides which words it has.
+#[test]
+fn lost_with_its_line(rt: HostRuntime) {
+    for (size, line, word, kept) in [
+        (LineSize::Bytes16, 0x8000_0100, 0x8000_0100, false),
+        (LineSize::Bytes16, 0x8000_0100, 0x8000_010c, false),
+        (LineSize::Bytes16, 0x8000_0100, 0x8000_0110, true),
+        (LineSize::Bytes16, 0x8000_0100, 0x8000_00fc, true),
+        (LineSize::Bytes64, 0x8000_0100, 0x8000_013c, false),
+        (LineSize::Bytes64, 0x8000_0100, 0x8000_0140, true),
+    ] {
+        let mut reservation = Reservation::none();
+        reservation.set(word);
+        reservation.lose_line(line, size);
+        assert_eq!(rt; reservation.valid(word), kept, "{word:x} in {line:x}");
+    }
+}
+
+#[test]
+fn one_word_at_a_time(rt: HostRuntime) {
+    let mut reservation = Reservation::none();
+    assert_eq!(rt; reservation.word(), None);
+    reservation.set(0x8000_0100);
+    reservation.set(0x8000_0200);
+    assert!(rt; !reservation.valid(0x8000_0100));
+    assert!(rt; reservation.valid(0x8000_0200));
+    assert_eq!(rt; reservation.word(), Some(0x8000_0200));
+    reservation.clear();
+    assert!(rt; !reservation.valid(0x8000_0200));
+}

@@ -1,0 +1,5 @@
+pub mod Places
+pub mod Layouts
+pub mod Overlaid
+pub mod Puts
+pub mod StoreLaws

@@ -1,0 +1,5 @@
+pub mod ByteMask
+pub mod Entry
+pub mod Groups
+pub mod Layout
+pub mod Stores
