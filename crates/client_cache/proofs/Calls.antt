@@ -1,0 +1,43 @@
+-- The meaning of a call on each of its ways.
+use Rattle.std.proofs.Common.{◌≡◌, ℕ, Bool, true, false, cond, not, ◌&&◌, nat_le, Option, Some, None, refl, sym, ap, ◌∙◌}
+use Rattle.std.specs.Prelude.{is_some}
+use Rattle.std.specs.FinMap as map
+use Rattle.std.specs.FinSet as fset
+use Rattle.tl_types.specs.declared.permission.Cap.{Cap}
+use Rattle.tl_types.specs.declared.permission.Perm.TheVariants.{Nothing}
+use Rattle.tl_types.specs.declared.permission.Grow.{Grow}
+use Rattle.tl_types.specs.Shrink.{shrunk_by}
+use Rattle.client_cache.specs.declared.held.Held.{Held}
+use Rattle.client_cache.specs.declared.answers.Want.TheVariants.{WaitRelease, WaitGrant, NoTracker, SetFull, Missed}
+use Rattle.client_cache.specs.declared.answers.Evict.TheVariants.{NotHeld, AcquirePending, ReleaseFull, Evicted}
+use Rattle.client_cache.specs.declared.answers.Probed.TheVariants.{Releasing, Answered}
+use Rattle.client_cache.specs.Held.{perm_of, dirty_in, left_by, shrunk_copy}
+use Rattle.client_cache.specs.Cache.{Cache, copy_at, taken, put, wanted, evicted, evicted_copy, probed, probed_copy}
+
+pub wanted_full : (c : Cache) (line : ℕ) (grow : Grow) → fset.contains c.releasing line ≡ false → fset.contains c.acquiring line ≡ false → nat_le 4 (fset.len c.acquiring) ≡ false
+    → copy_at c line ≡ None → nat_le c.shape.ways (fset.len (taken c line)) ≡ true → wanted c line grow ≡ (SetFull, c)
+wanted_full c line grow l a t none full = rw (l, a, t, none, full) refl
+
+pub wanted_missed : (c : Cache) (line : ℕ) (grow : Grow) → fset.contains c.releasing line ≡ false → fset.contains c.acquiring line ≡ false → nat_le 4 (fset.len c.acquiring) ≡ false
+    → (not (is_some (copy_at c line)) && nat_le c.shape.ways (fset.len (taken c line))) ≡ false → wanted c line grow ≡ (Missed grow, record c { acquiring = fset.insert c.acquiring line })
+wanted_missed c line grow l a t room = rw (l, a, t, room) refl
+
+pub evicted_none : (c : Cache) (line : ℕ) → copy_at c line ≡ None → evicted c line ≡ (NotHeld, c)
+evicted_none c line none = rw none refl
+
+pub evicted_pending : (c : Cache) (line : ℕ) (h : Held) → copy_at c line ≡ Some h → fset.contains c.acquiring line ≡ true → evicted c line ≡ (AcquirePending, c)
+evicted_pending c line h is a = rw (is, a) refl
+
+pub evicted_full : (c : Cache) (line : ℕ) (h : Held) → copy_at c line ≡ Some h → fset.contains c.acquiring line ≡ false → nat_le 4 (fset.len c.releasing) ≡ true → evicted c line ≡ (ReleaseFull, c)
+evicted_full c line h is a t = rw (is, a, t) refl
+
+pub evicted_held : (c : Cache) (line : ℕ) (h : Held) → copy_at c line ≡ Some h → fset.contains c.acquiring line ≡ false → nat_le 4 (fset.len c.releasing) ≡ false
+    → evicted c line ≡ (Evicted (left_by h) (dirty_in h), record c { copies = map.remove c.copies line; releasing = fset.insert c.releasing line })
+evicted_held c line h is a t = rw (is, a, t) refl
+
+pub probed_none : (c : Cache) (line : ℕ) (cap : Cap) → fset.contains c.releasing line ≡ false → copy_at c line ≡ None → probed c line cap ≡ (Answered (shrunk_by Nothing cap).1 None, c)
+probed_none c line cap l is = rw (l, is) refl
+
+pub probed_held : (c : Cache) (line : ℕ) (cap : Cap) (h : Held) → fset.contains c.releasing line ≡ false → copy_at c line ≡ Some h
+    → probed c line cap ≡ (Answered (shrunk_by (perm_of (Some h)) cap).1 (dirty_in h), record c { copies = put c.copies line (shrunk_copy cap h) })
+probed_held c line cap h l is = rw (l, is) refl

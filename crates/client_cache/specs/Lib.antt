@@ -1,0 +1,6 @@
+pub mod Array
+pub mod Cache
+pub mod Distinct
+pub mod Held
+pub mod Row
+pub mod Shape
