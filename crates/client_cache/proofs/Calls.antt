@@ -14,14 +14,6 @@ use Rattle.client_cache.specs.declared.answers.Probed.TheVariants.{Releasing, An
 use Rattle.client_cache.specs.Held.{perm_of, dirty_in, left_by, shrunk_copy}
 use Rattle.client_cache.specs.Cache.{Cache, copy_at, taken, put, wanted, evicted, evicted_copy, probed, probed_copy}
 
-pub wanted_full : (c : Cache) (line : ℕ) (grow : Grow) → fset.contains c.releasing line ≡ false → fset.contains c.acquiring line ≡ false → nat_le 4 (fset.len c.acquiring) ≡ false
-    → copy_at c line ≡ None → nat_le c.shape.ways (fset.len (taken c line)) ≡ true → wanted c line grow ≡ (SetFull, c)
-wanted_full c line grow l a t none full = rw (l, a, t, none, full) refl
-
-pub wanted_missed : (c : Cache) (line : ℕ) (grow : Grow) → fset.contains c.releasing line ≡ false → fset.contains c.acquiring line ≡ false → nat_le 4 (fset.len c.acquiring) ≡ false
-    → (not (is_some (copy_at c line)) && nat_le c.shape.ways (fset.len (taken c line))) ≡ false → wanted c line grow ≡ (Missed grow, record c { acquiring = fset.insert c.acquiring line })
-wanted_missed c line grow l a t room = rw (l, a, t, room) refl
-
 pub evicted_none : (c : Cache) (line : ℕ) → copy_at c line ≡ None → evicted c line ≡ (NotHeld, c)
 evicted_none c line none = rw none refl
 

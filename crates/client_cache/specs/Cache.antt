@@ -1,6 +1,6 @@
 -- A private cache as its callers see it, and what each call does to it. Nothing here knows of slots.
 -- TileLink 1.8.1 has the messages; that a Probe waits for a ReleaseAck is this machine's own rule.
-use Rattle.std.specs.Prelude.{ℕ, Bool, not, ◌&&◌, Option, Some, None, true, is_some, if◌then◌else◌, nat_eq, nat_le, refl}
+use Rattle.std.specs.Prelude.{ℕ, Bool, not, ◌&&◌, List, Option, Some, None, true, is_some, if◌then◌else◌, nat_eq, nat_le, refl}
 use Rattle.std.specs.Ordering.{nat_cmp}
 use Rattle.std.specs.FinMap as map
 use Rattle.std.specs.FinMap.{FinMap, get}
@@ -24,6 +24,7 @@ use Rattle.client_cache.specs.declared.answers.Evict.TheVariants.{NotHeld, Acqui
 use Rattle.client_cache.specs.declared.answers.Probed.{Probed}
 use Rattle.client_cache.specs.declared.answers.Probed.TheVariants.{Releasing, Answered}
 use Rattle.client_cache.specs.Shape.{set_of}
+use Rattle.client_cache.specs.Word.{with_word}
 use Rattle.client_cache.specs.Held.{perm_of, bytes_in, dirty_in, left_by, shrunk_copy, granted_copy}
 
 -- the copies by line, the lines of which an Acquire is outstanding, and those of which a Release is unanswered
@@ -53,13 +54,17 @@ put m line (Some h) = map.insert m line h
 abbrev pub taken : Cache → ℕ → FinSet nat_cmp
 taken c line = set.retain (set.union (set.from_list (map.keys c.copies)) c.acquiring) (λ k. nat_eq (set_of c.shape k) (set_of c.shape line))
 
+-- the line isn't held, and each way of its set is taken
+abbrev pub is_set_full : Cache → ℕ → Bool
+is_set_full c line = not (is_some (copy_at c line)) && nat_le c.shape.ways (set.len (taken c line))
+
 -- a miss on a line: what it waits for, or the Acquire
 abbrev pub wanted : Cache → ℕ → Grow → Want × Cache
 wanted c line grow =
     if set.contains c.releasing line then (WaitRelease, c)
     else if set.contains c.acquiring line then (WaitGrant, c)
     else if nat_le 4 (set.len c.acquiring) then (NoTracker, c)
-    else if not (is_some (copy_at c line)) && nat_le c.shape.ways (set.len (taken c line)) then (SetFull, c)
+    else if is_set_full c line then (SetFull, c)
     else (Missed grow, record c { acquiring = set.insert c.acquiring line })
 
 -- a Probe waits for the answer of this cache's own Release of the line
@@ -91,6 +96,14 @@ evicted c line = evicted_copy c line (copy_at c line)
 -- a write of the whole line marks the copy dirty, also where its bytes stay the same
 abbrev pub written : Cache → ℕ → LineData → Cache
 written c line bytes = record c { copies = put c.copies line (Some (Trunk true bytes)) }
+
+-- a write of the marked bytes of a word of a held line, likewise
+abbrev pub word_written_in : Cache → ℕ → ℕ → List Bool → List ℕ → Option Held → Cache
+word_written_in c line word marks bytes None = c
+word_written_in c line word marks bytes (Some h) = written c line (with_word (bytes_in h) word marks bytes)
+
+abbrev pub word_written : Cache → ℕ → ℕ → List Bool → List ℕ → Cache
+word_written c line word marks bytes = word_written_in c line word marks bytes (copy_at c line)
 
 -- a cache is stored as its fields
 abbrev pub cache_code : Coded Shape → Coded Held → Coded Cache

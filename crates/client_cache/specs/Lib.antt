@@ -4,3 +4,4 @@ pub mod Distinct
 pub mod Held
 pub mod Row
 pub mod Shape
+pub mod Word

@@ -1,9 +1,10 @@
 //! The cache, over its array and its trackers.
-ghost use Rattle.std.specs.Prelude.{◌≡◌, ◌<◌, ◌≤◌, ◌+◌, ◌*◌, IfOk, IsTrue, None};
+ghost use Rattle.std.specs.Prelude.{◌≡◌, ◌<◌, ◌≤◌, ◌+◌, ◌*◌, ◌%◌, false, IfOk, IfSome, IfNone, IsTrue, None};
 ghost use Rattle.std.specs.FinSet as set;
 ghost use Rattle.tl_types.specs.declared.permission.Perm.TheVariants as perms;
+ghost use Rattle.tl_types.specs.declared.permission.Grow.{Grow};
 ghost use Rattle.client_cache.specs.Held.{perm_of};
-ghost use Rattle.client_cache.specs.Cache.{copy_at, wanted, written, bytes_of_copy, evicted, probed, granted, answered, opening};
+ghost use Rattle.client_cache.specs.Cache.{copy_at, wanted, written, word_written, bytes_of_copy, evicted, probed, granted, answered, opening};
 
 use crate::answers::{Evict, Probed, Want};
 use crate::array::Array;
@@ -11,6 +12,7 @@ use crate::held::Held;
 use crate::shape::Shape;
 use crate::slot::Place;
 use crate::trackers::Trackers;
+use crate::word::with_word;
 use std::alloc::{AllocError, Global};
 use std::marker::Model;
 use std::sync::ledger::Ledger;
@@ -124,20 +126,68 @@ impl ClientCache {
         );
     }
 
+    /// Writes the marked bytes of an aligned word of a Trunk copy, which is dirty from then on, also
+    /// where none is marked. The word lies in the line.
+    pub fn write_word<L: Ledger>(
+        &mut self,
+        line: u32,
+        word: u32,
+        marks: [bool; 4],
+        bytes: [u8; 4],
+        ticks: &mut Ticks<L>,
+    )
+        requires trunk { perm_of (copy_at self.old line) ≡ perms.Trunk }
+        requires aligned { word % 4 ≡ 0 }
+        ensures meaning { self.new ≡ word_written self.old line word marks bytes }
+        ensures looks { ticks.new ≤ ticks.old + 2 * self.old.shape.ways }
+    {
+        let Some(old) = self.read(line, ticks) else {
+            unreachable!()
+        };
+        self.write(line, with_word(old, word, marks, bytes), ticks);
+    }
+
+    /// What a miss on a line waits for, before its set is looked at.
+    fn waits(&self, line: u32) -> Option<Want>
+        ensures stalls { IfSome result (λ stall. (grow : Grow) → wanted self.now line grow ≡ (stall, self.now)) }
+        ensures released { IfNone result (set.contains self.now.releasing line ≡ false) }
+        ensures granted { IfNone result (set.contains self.now.acquiring line ≡ false) }
+        ensures tracker { IfNone result (set.len self.now.acquiring < 4) }
+    {
+        if self.releasing.contains(line) {
+            return Some(Want::WaitRelease);
+        }
+        if self.acquiring.contains(line) {
+            return Some(Want::WaitGrant);
+        }
+        if self.acquiring.is_full() {
+            return Some(Want::NoTracker);
+        }
+        None
+    }
+
+    /// What `want` would answer; nothing changes.
+    pub fn peek_want<L: Ledger>(&self, line: u32, grow: Grow, ticks: &mut Ticks<L>) -> Want
+        ensures meaning { result ≡ (wanted self.now line grow).0 }
+        ensures looks { ticks.new ≤ ticks.old + 2 * self.now.shape.ways }
+    {
+        if let Some(stall) = self.waits(line) {
+            return stall;
+        }
+        match self.array.room_for(line, ticks) {
+            Some(_) => Want::Missed(grow),
+            None => Want::SetFull,
+        }
+    }
+
     /// A miss on a line, for which an Acquire would ask `grow`. `Missed` takes a tracker, and a slot
     /// that stays the line's until the Grant, also where a Probe takes the copy meanwhile.
     pub fn want<L: Ledger>(&mut self, line: u32, grow: Grow, ticks: &mut Ticks<L>) -> Want
         ensures meaning { (result, self.new) ≡ wanted self.old line grow }
         ensures looks { ticks.new ≤ ticks.old + 2 * self.old.shape.ways }
     {
-        if self.releasing.contains(line) {
-            return Want::WaitRelease;
-        }
-        if self.acquiring.contains(line) {
-            return Want::WaitGrant;
-        }
-        if self.acquiring.is_full() {
-            return Want::NoTracker;
+        if let Some(stall) = self.waits(line) {
+            return stall;
         }
         let Some((way, copy)) = self.array.room_for(line, ticks) else {
             return Want::SetFull;
@@ -221,6 +271,26 @@ impl ClientCache {
         ensures { self.new ≡ answered self.old line }
     {
         self.releasing.remove(line);
+    }
+
+    /// What `evict` would answer; nothing changes.
+    pub fn peek_evict<L: Ledger>(&self, line: u32, ticks: &mut Ticks<L>) -> Evict
+        ensures meaning { result ≡ (evicted self.now line).0 }
+        ensures looks { ticks.new ≤ ticks.old + self.now.shape.ways }
+    {
+        let Some(held) = self.copy(line, ticks) else {
+            return Evict::NotHeld;
+        };
+        if self.is_acquiring(line) {
+            return Evict::AcquirePending;
+        }
+        if self.releasing.is_full() {
+            return Evict::ReleaseFull;
+        }
+        Evict::Evicted {
+            change: held.left(),
+            bytes: held.dirty_bytes(),
+        }
     }
 
     /// Gives a copy up.

@@ -12,6 +12,7 @@ mod held;
 mod shape;
 mod slot;
 mod trackers;
+mod word;
 
 pub use answers::{Evict, Probed, Want};
 pub use cache::ClientCache;
