@@ -43,7 +43,7 @@ impl Held {
     }
 
     /// What the copy gives up when it is evicted.
-    pub fn left(&self) -> Change
+    pub(crate) fn left(&self) -> Change
         ensures { result ≡ left_by self.now }
     {
         shrink(self.perm(), Cap::ToN).1
@@ -64,14 +64,14 @@ impl Held {
     }
 
     /// What a Probe leaves of the copy.
-    pub fn shrunk(&self, cap: Cap) -> Option<Held>
+    pub(crate) fn shrunk(&self, cap: Cap) -> Option<Held>
         ensures { result ≡ shrunk_copy cap self.now }
     {
         Held::clean(shrink(self.perm(), cap).0, self.bytes())
     }
 
     /// The copy that a Grant makes of the one before. Without bytes the copy keeps its own.
-    pub fn granted(cap: Cap, bytes: Option<LineData>, before: Option<Held>) -> Option<Held>
+    pub(crate) fn granted(cap: Cap, bytes: Option<LineData>, before: Option<Held>) -> Option<Held>
         ensures { result ≡ granted_copy cap bytes before }
     {
         match (bytes, before) {

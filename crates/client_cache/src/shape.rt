@@ -14,7 +14,7 @@ pub struct Shape {
 
 impl Shape {
     /// The set that a line belongs to.
-    pub fn set_of(&self, line: u32) -> u32
+    pub(crate) fn set_of(&self, line: u32) -> u32
         requires { 0 < self.now.sets }
         ensures { result ≡ set_of self.now line }
     {
