@@ -11,7 +11,7 @@ use Rattle.client_cache.specs.declared.held.Held.{Held}
 use Rattle.client_cache.specs.declared.answers.Want.TheVariants.{WaitRelease, WaitGrant, NoTracker, SetFull, Missed}
 use Rattle.client_cache.specs.declared.answers.Evict.TheVariants.{NotHeld, AcquirePending, ReleaseFull, Evicted}
 use Rattle.client_cache.specs.declared.answers.Probed.TheVariants.{Releasing, Answered}
-use Rattle.client_cache.specs.Held.{perm_of, dirty_in, left_by, shrunk_copy}
+use Rattle.client_cache.specs.Held.{perm_of, dirty_in, given_up_by, shrunk_copy}
 use Rattle.client_cache.specs.Cache.{Cache, copy_at, taken, put, wanted, evicted, evicted_copy, probed, probed_copy}
 
 pub evicted_none : (c : Cache) (line : ℕ) → copy_at c line ≡ None → evicted c line ≡ (NotHeld, c)
@@ -24,7 +24,7 @@ pub evicted_full : (c : Cache) (line : ℕ) (h : Held) → copy_at c line ≡ So
 evicted_full c line h is a t = rw (is, a, t) refl
 
 pub evicted_held : (c : Cache) (line : ℕ) (h : Held) → copy_at c line ≡ Some h → fset.contains c.acquiring line ≡ false → nat_le 4 (fset.len c.releasing) ≡ false
-    → evicted c line ≡ (Evicted (left_by h) (dirty_in h), record c { copies = map.remove c.copies line; releasing = fset.insert c.releasing line })
+    → evicted c line ≡ (Evicted (given_up_by h) (dirty_in h), record c { copies = map.remove c.copies line; releasing = fset.insert c.releasing line })
 evicted_held c line h is a t = rw (is, a, t) refl
 
 pub probed_none : (c : Cache) (line : ℕ) (cap : Cap) → fset.contains c.releasing line ≡ false → copy_at c line ≡ None → probed c line cap ≡ (Answered (shrunk_by Nothing cap).1 None, c)

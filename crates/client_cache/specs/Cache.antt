@@ -25,7 +25,7 @@ use Rattle.client_cache.specs.declared.answers.Probed.{Probed}
 use Rattle.client_cache.specs.declared.answers.Probed.TheVariants.{Releasing, Answered}
 use Rattle.client_cache.specs.Shape.{set_of}
 use Rattle.client_cache.specs.Word.{with_word}
-use Rattle.client_cache.specs.Held.{perm_of, bytes_in, dirty_in, left_by, shrunk_copy, granted_copy}
+use Rattle.client_cache.specs.Held.{perm_of, bytes_in, dirty_in, given_up_by, shrunk_copy, granted_copy}
 
 -- the copies by line, the lines of which an Acquire is outstanding, and those of which a Release is unanswered
 pub record Cache : Type 0 where
@@ -88,7 +88,7 @@ evicted_copy c line None = (NotHeld, c)
 evicted_copy c line (Some h) =
     if set.contains c.acquiring line then (AcquirePending, c)
     else if nat_le 4 (set.len c.releasing) then (ReleaseFull, c)
-    else (Evicted (left_by h) (dirty_in h), record c { copies = map.remove c.copies line; releasing = set.insert c.releasing line })
+    else (Evicted (given_up_by h) (dirty_in h), record c { copies = map.remove c.copies line; releasing = set.insert c.releasing line })
 
 abbrev pub evicted : Cache → ℕ → Evict × Cache
 evicted c line = evicted_copy c line (copy_at c line)

@@ -28,8 +28,8 @@ dirty_in (Trunk false bytes) = None
 dirty_in (Trunk true bytes) = Some bytes
 
 -- what a copy gives up when it is evicted: TtoN or BtoN
-abbrev pub left_by : Held → Change
-left_by h = (shrunk_by (perm_of (Some h)) ToN).1
+abbrev pub given_up_by : Held → Change
+given_up_by h = (shrunk_by (perm_of (Some h)) ToN).1
 
 -- a copy with this permission that isn't dirty
 abbrev pub clean_copy : Perm → LineData → Option Held

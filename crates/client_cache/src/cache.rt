@@ -288,7 +288,7 @@ impl ClientCache {
             return Evict::ReleaseFull;
         }
         Evict::Evicted {
-            change: held.left(),
+            change: held.given_up(),
             bytes: held.dirty_bytes(),
         }
     }
@@ -320,7 +320,7 @@ impl ClientCache {
         );
         self.releasing.insert(line);
         Evict::Evicted {
-            change: held.left(),
+            change: held.given_up(),
             bytes: held.dirty_bytes(),
         }
     }

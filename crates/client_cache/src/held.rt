@@ -1,6 +1,6 @@
 //! A copy of a line, and what calls make of it.
 ghost use Rattle.std.specs.Prelude.{◌≡◌, None};
-ghost use Rattle.client_cache.specs.Held.{perm_of, bytes_in, dirty_in, left_by, clean_copy, shrunk_copy, perm_granted, granted_copy};
+ghost use Rattle.client_cache.specs.Held.{perm_of, bytes_in, dirty_in, given_up_by, clean_copy, shrunk_copy, perm_granted, granted_copy};
 
 use tl_types::{Cap, Change, LineData, Perm, shrink};
 
@@ -43,8 +43,8 @@ impl Held {
     }
 
     /// What the copy gives up when it is evicted.
-    pub(crate) fn left(&self) -> Change
-        ensures { result ≡ left_by self.now }
+    pub(crate) fn given_up(&self) -> Change
+        ensures { result ≡ given_up_by self.now }
     {
         shrink(self.perm(), Cap::ToN).1
     }

@@ -11,6 +11,8 @@ mod cache;
 mod held;
 mod shape;
 mod slot;
+#[cfg(test)]
+mod tests;
 mod trackers;
 mod word;
 
