@@ -1,18 +1,15 @@
 -- The meaning of a call on each of its ways.
-use Rattle.std.proofs.Common.{◌≡◌, ℕ, Bool, true, false, cond, not, ◌&&◌, nat_le, Option, Some, None, refl, sym, ap, ◌∙◌}
-use Rattle.std.specs.Prelude.{is_some}
+use Rattle.std.proofs.Common.{◌≡◌, ℕ, true, false, nat_le, Some, None, refl}
 use Rattle.std.specs.FinMap as map
 use Rattle.std.specs.FinSet as fset
 use Rattle.tl_types.specs.declared.permission.Cap.{Cap}
 use Rattle.tl_types.specs.declared.permission.Perm.TheVariants.{Nothing}
-use Rattle.tl_types.specs.declared.permission.Grow.{Grow}
 use Rattle.tl_types.specs.Shrink.{shrunk_by}
 use Rattle.client_cache.specs.declared.held.Held.{Held}
-use Rattle.client_cache.specs.declared.answers.Want.TheVariants.{WaitRelease, WaitGrant, NoTracker, SetFull, Missed}
-use Rattle.client_cache.specs.declared.answers.Evict.TheVariants.{NotHeld, AcquirePending, ReleaseFull, Evicted}
-use Rattle.client_cache.specs.declared.answers.Probed.TheVariants.{Releasing, Answered}
-use Rattle.client_cache.specs.Held.{perm_of, dirty_in, given_up_by, shrunk_copy}
-use Rattle.client_cache.specs.Cache.{Cache, copy_at, taken, put, wanted, evicted, evicted_copy, probed, probed_copy}
+use Rattle.client_cache.specs.declared.answers.Evict.TheVariants.{NotHeld, AcquirePending, ReleaseFull}
+use Rattle.client_cache.specs.declared.answers.Probed.TheVariants.{Answered}
+use Rattle.client_cache.specs.Held.{eviction_of, answer_of, shrunk_copy}
+use Rattle.client_cache.specs.Cache.{Cache, copy_at, put, evicted, probed}
 
 pub evicted_none : (c : Cache) (line : ℕ) → copy_at c line ≡ None → evicted c line ≡ (NotHeld, c)
 evicted_none c line none = rw none refl
@@ -24,12 +21,12 @@ pub evicted_full : (c : Cache) (line : ℕ) (h : Held) → copy_at c line ≡ So
 evicted_full c line h is a t = rw (is, a, t) refl
 
 pub evicted_held : (c : Cache) (line : ℕ) (h : Held) → copy_at c line ≡ Some h → fset.contains c.acquiring line ≡ false → nat_le 4 (fset.len c.releasing) ≡ false
-    → evicted c line ≡ (Evicted (given_up_by h) (dirty_in h), record c { copies = map.remove c.copies line; releasing = fset.insert c.releasing line })
+    → evicted c line ≡ (eviction_of h, record c { copies = map.remove c.copies line; releasing = fset.insert c.releasing line })
 evicted_held c line h is a t = rw (is, a, t) refl
 
 pub probed_none : (c : Cache) (line : ℕ) (cap : Cap) → fset.contains c.releasing line ≡ false → copy_at c line ≡ None → probed c line cap ≡ (Answered (shrunk_by Nothing cap).1 None, c)
 probed_none c line cap l is = rw (l, is) refl
 
 pub probed_held : (c : Cache) (line : ℕ) (cap : Cap) (h : Held) → fset.contains c.releasing line ≡ false → copy_at c line ≡ Some h
-    → probed c line cap ≡ (Answered (shrunk_by (perm_of (Some h)) cap).1 (dirty_in h), record c { copies = put c.copies line (shrunk_copy cap h) })
+    → probed c line cap ≡ (answer_of cap h, record c { copies = put c.copies line (shrunk_copy cap h) })
 probed_held c line cap h l is = rw (l, is) refl

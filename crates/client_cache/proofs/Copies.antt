@@ -1,9 +1,8 @@
 -- The map of copies of an array: what it has at a line, and what a write of one slot makes of it.
-use Rattle.std.proofs.Common.{◌≡◌, ◌≢◌, ℕ, zero, suc, ◌+◌, ◌*◌, ◌%◌, ◌-◌, ◌<◌, ◌≤◌, Bool, true, false, cond, not, ◌&&◌, ◌||◌, nat_eq, nat_lt, List, [], ◌∷◌, ◌++◌, length, get_or, set, drop, take, Option, Some, None, refl, sym, ap, subst, ◌∙◌, arith, rules, inl, inr}
-use Rattle.std.specs.Prelude.{slice_get, ◌⊎◌, is_some}
-use Rattle.std.specs.Ordering.{nat_cmp, eq_by_cmp}
+use Rattle.std.proofs.Common.{◌≡◌, ◌≢◌, ℕ, zero, suc, ◌+◌, ◌*◌, ◌<◌, ◌≤◌, Bool, true, false, cond, ◌||◌, nat_eq, nat_lt, List, [], ◌∷◌, length, set, drop, take, Option, Some, None, refl, sym, ap, subst, ◌∙◌, arith, inl, inr}
+use Rattle.std.specs.Prelude.{◌⊎◌, is_some}
+use Rattle.std.specs.Ordering.{nat_cmp}
 use Rattle.std.specs.Cmp.{nat_cmp_total, unsigned_tied}
-use Rattle.std.specs.FinMap as map
 use Rattle.std.specs.FinMap.{FinMap, get, get-insert, get-remove, get-empty, same_map, nat_cmp-IsAntisymmetric}
 use Rattle.std.specs.FinSet as fset
 use Rattle.std.specs.FinSet.{FinSet}
@@ -16,10 +15,10 @@ use Rattle.client_cache.specs.declared.shape.Shape.{Shape}
 use Rattle.client_cache.specs.declared.slot.Place.{Place}
 use Rattle.client_cache.specs.declared.slot.Slot.{Slot}
 use Rattle.client_cache.specs.Shape.{set_of}
-use Rattle.client_cache.specs.Row.{is_used, holds, place_at, IsAt, IsFreeAt, AllUsed, IsClear}
+use Rattle.client_cache.specs.Row.{is_used, holds, place_at, IsClear}
 use Rattle.client_cache.specs.Cache.{put}
 use Rattle.client_cache.specs.Array.{IsRow, IsPlaced, row_of, add_copy, add_row, copies_below, copies_of, copy_in, acquiring_in, place_of}
-use Rattle.client_cache.proofs.Rows.{shown, holds_parts, holds_from, not_held, held_unused, held_shown}
+use Rattle.client_cache.proofs.Rows.{shown, holds_parts, holds_from, not_held, held_unused}
 use Rattle.client_cache.proofs.Writes.{place_at-set, IsRow-set}
 
 -- a map at a line

@@ -1,25 +1,24 @@
 -- How many lines of a set are held or asked for.
-use Rattle.std.proofs.Common.{◌≡◌, ◌≢◌, ℕ, zero, suc, ◌+◌, ◌*◌, ◌%◌, ◌-◌, ◌<◌, ◌≤◌, Bool, true, false, cond, not, ◌&&◌, ◌||◌, nat_eq, nat_lt, nat_le, List, [], ◌∷◌, ◌++◌, length, Option, Some, None, refl, sym, ap, subst, ◌∙◌, arith, rules, inl, inr}
+use Rattle.std.proofs.Common.{◌≡◌, ◌≢◌, ℕ, zero, suc, ◌<◌, ◌≤◌, Bool, true, false, cond, ◌&&◌, ◌||◌, nat_eq, List, [], ◌∷◌, length, Some, refl, sym, ap, ◌∙◌, arith, inl, inr}
 use Rattle.std.specs.Prelude.{slice_get, ◌⊎◌, is_some}
 use Rattle.std.specs.List.{list_any}
-use Rattle.std.specs.Ordering.{nat_cmp, eq_by_cmp}
-use Rattle.std.specs.Cmp.{nat_cmp_total, unsigned_tied}
+use Rattle.std.specs.Ordering.{nat_cmp}
+use Rattle.std.specs.Cmp.{nat_cmp_total}
 use Rattle.std.specs.FinMap as map
 use Rattle.std.specs.FinMap.{FinMap, get, contains_key-keys}
 use Rattle.std.specs.FinSet as fset
-use Rattle.std.specs.FinSet.{FinSet, from_list, contains-from_list, contains-from_list_nat, contains-retain, contains-union, same_set, nat_cmp-IsAntisymmetric}
+use Rattle.std.specs.FinSet.{from_list, contains-from_list, contains-from_list_nat, contains-retain, contains-union, same_set, nat_cmp-IsAntisymmetric}
 use Rattle.std.proofs.lemmas.Bool.{cases_eq}
 use Rattle.client_cache.specs.declared.held.Held.{Held}
 use Rattle.client_cache.specs.declared.shape.Shape.{Shape}
-use Rattle.client_cache.specs.declared.slot.Place.{Place}
 use Rattle.client_cache.specs.declared.slot.Slot.{Slot}
 use Rattle.client_cache.specs.Distinct.{IsDistinct}
 use Rattle.client_cache.specs.Shape.{set_of}
-use Rattle.client_cache.specs.Row.{is_used, holds, place_at, IsFreeAt, AllUsed}
+use Rattle.client_cache.specs.Row.{is_used, place_at, AllUsed}
 use Rattle.client_cache.specs.Cache.{Cache, taken}
 use Rattle.client_cache.specs.Array.{IsRow, IsPlaced, row_of, copies_of, copy_in, acquiring_in, place_of}
 use Rattle.client_cache.proofs.Lines.{len-distinct}
-use Rattle.client_cache.proofs.Copies.{get-copies_of, length-row, not_home}
+use Rattle.client_cache.proofs.Copies.{get-copies_of, not_home}
 
 abbrev pub used_lines : List Slot → List ℕ
 used_lines [] = []

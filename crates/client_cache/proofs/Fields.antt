@@ -1,19 +1,17 @@
 -- The fields of a cache, as its callers see them.
-use Rattle.std.proofs.Common.{◌≡◌, ◌≢◌, ℕ, ◌+◌, ◌*◌, ◌<◌, ◌≤◌, Bool, true, false, cond, not, ◌&&◌, ◌||◌, nat_eq, nat_le, List, length, set, Option, Some, None, refl, sym, ap, subst, ◌∙◌, arith, rules}
+use Rattle.std.proofs.Common.{◌≡◌, ℕ, ◌<◌, Bool, true, false, cond, ◌&&◌, ◌||◌, nat_eq, nat_le, Option, Some, None, refl, sym, ap, ◌∙◌, arith}
 use Rattle.std.specs.Prelude.{is_some}
 use Rattle.std.specs.Ordering.{nat_cmp}
 use Rattle.std.specs.FinSet as fset
 use Rattle.std.specs.FinSet.{FinSet}
 use Rattle.tl_types.specs.declared.permission.Grow.{Grow}
 use Rattle.client_cache.specs.declared.held.Held.{Held}
-use Rattle.client_cache.specs.declared.shape.Shape.{Shape}
 use Rattle.client_cache.specs.declared.slot.Place.{Place}
-use Rattle.client_cache.specs.declared.slot.Slot.{Slot}
 use Rattle.client_cache.specs.declared.array.Array.{Array}
 use Rattle.client_cache.specs.declared.cache.ClientCache.TheInside.{Inside}
 use Rattle.client_cache.specs.declared.answers.Want.TheVariants.{SetFull, Missed}
 use Rattle.client_cache.specs.Shape.{set_of}
-use Rattle.client_cache.specs.Row.{IsAt, IsFreeAt}
+use Rattle.client_cache.specs.Row.{IsAt}
 use Rattle.client_cache.specs.Cache.{Cache, put, copy_at, taken, is_set_full, wanted}
 use Rattle.client_cache.specs.Array.{IsPlaced, IsRoom, IsFull, row_of, copies_of, copy_in, acquiring_in, place_of}
 use Rattle.client_cache.proofs.Copies.{get-copies_of, length-row, IsWrite, after_write, IsPlaced-write, copies_of-write, put-same}

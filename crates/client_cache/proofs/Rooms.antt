@@ -1,10 +1,10 @@
 -- What a search of the array tells, as a place that may be written.
-use Rattle.std.proofs.Common.{◌≡◌, ◌≢◌, ℕ, zero, suc, ◌+◌, ◌*◌, ◌%◌, ◌-◌, ◌<◌, ◌≤◌, Bool, true, false, cond, not, ◌&&◌, ◌||◌, nat_eq, nat_lt, nat_le, List, [], ◌∷◌, ◌++◌, length, set, take, drop, replicate, min, Option, Some, None, refl, sym, ap, subst, ◌∙◌, arith, rules, inl, inr}
-use Rattle.std.specs.Prelude.{slice_get, ◌⊎◌, is_some}
-use Rattle.std.specs.Ordering.{nat_cmp, eq_by_cmp}
+use Rattle.std.proofs.Common.{◌≡◌, ◌≢◌, ℕ, zero, suc, ◌*◌, ◌-◌, ◌<◌, ◌≤◌, Bool, true, false, cond, not, ◌&&◌, ◌||◌, nat_eq, List, length, take, replicate, Option, Some, None, refl, sym, ap, ◌∙◌, arith, inl, inr}
+use Rattle.std.specs.Prelude.{◌⊎◌}
+use Rattle.std.specs.Ordering.{nat_cmp}
 use Rattle.std.specs.Cmp.{nat_cmp_total, unsigned_tied}
 use Rattle.std.specs.FinMap as map
-use Rattle.std.specs.FinMap.{FinMap, get, get-empty}
+use Rattle.std.specs.FinMap.{get-empty}
 use Rattle.std.specs.FinSet as fset
 use Rattle.std.specs.FinSet.{FinSet, contains-insert, contains-remove, contains-empty}
 use Rattle.std.proofs.lemmas.Bool.{cases_eq}
@@ -14,12 +14,10 @@ use Rattle.client_cache.specs.declared.shape.Shape.{Shape}
 use Rattle.client_cache.specs.declared.slot.Place.{Place}
 use Rattle.client_cache.specs.declared.slot.Slot.{Slot}
 use Rattle.client_cache.specs.Shape.{set_of}
-use Rattle.client_cache.specs.Row.{free_slot, is_used, holds, place_at, IsAt, IsFreeAt, AllUsed, IsClear}
-use Rattle.client_cache.specs.Cache.{Cache, put, copy_at, taken}
-use Rattle.client_cache.specs.Array.{IsRow, IsPlaced, IsRoom, IsFull, row_of, copies_of, copy_in, acquiring_in, place_of}
+use Rattle.client_cache.specs.Row.{free_slot, place_at, IsAt, IsFreeAt}
+use Rattle.client_cache.specs.Array.{IsRow, IsPlaced, IsRoom, row_of, copies_of, copy_in, acquiring_in, place_of}
 use Rattle.client_cache.proofs.Writes.{clear_at, clear_free}
-use Rattle.client_cache.proofs.Copies.{get-copies_of, length-row, IsWrite, after_write, IsPlaced-write, copies_of-write, put-same, same_copies, rows_apart}
-use Rattle.client_cache.proofs.Counts.{used_place, len-taken, length-all_used, length-free, used_lines}
+use Rattle.client_cache.proofs.Copies.{get-copies_of, length-row, IsWrite, same_copies, rows_apart}
 
 pub room_found : (shape : Shape) (slots : List Slot) (line way : ℕ) (p : Place) → 0 < shape.sets → length slots ≡ shape.sets * shape.ways
     → IsRow shape (set_of shape line) (row_of shape slots (set_of shape line)) → IsAt line (row_of shape slots (set_of shape line)) way p → IsRoom shape slots line way p.copy

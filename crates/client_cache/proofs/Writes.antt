@@ -1,12 +1,12 @@
 -- What a row has after a write of one slot.
-use Rattle.std.proofs.Common.{◌≡◌, ◌≢◌, ℕ, zero, suc, ◌+◌, ◌*◌, ◌%◌, ◌-◌, ◌<◌, ◌≤◌, Bool, true, false, cond, not, ◌&&◌, ◌||◌, nat_eq, List, [], ◌∷◌, ◌++◌, length, get_or, set, drop, take, Option, Some, None, refl, sym, ap, subst, ◌∙◌, arith, rules, inl, inr}
-use Rattle.std.specs.Prelude.{slice_get, ◌⊎◌}
+use Rattle.std.proofs.Common.{◌≡◌, ◌≢◌, ℕ, zero, suc, ◌<◌, Bool, true, false, cond, nat_eq, List, [], ◌∷◌, length, set, Option, Some, None, refl, sym, ap, ◌∙◌, arith, inl, inr}
+use Rattle.std.specs.Prelude.{slice_get}
 use Rattle.std.proofs.lemmas.Bool.{cases_eq}
 use Rattle.client_cache.specs.declared.shape.Shape.{Shape}
 use Rattle.client_cache.specs.declared.slot.Place.{Place}
 use Rattle.client_cache.specs.declared.slot.Slot.{Slot}
 use Rattle.client_cache.specs.Shape.{set_of}
-use Rattle.client_cache.specs.Row.{is_used, holds, place_at, IsAt, IsFreeAt, AllUsed, IsClear}
+use Rattle.client_cache.specs.Row.{is_used, holds, place_at, IsClear}
 use Rattle.client_cache.specs.Array.{IsRow}
 use Rattle.client_cache.proofs.Rows.{shown, holds_parts, holds_from, not_held, held_unused, held_shown}
 

@@ -20,12 +20,12 @@ use Rattle.client_cache.specs.declared.shape.Shape.{Shape}
 use Rattle.client_cache.specs.declared.answers.Want.{Want}
 use Rattle.client_cache.specs.declared.answers.Want.TheVariants.{WaitRelease, WaitGrant, NoTracker, SetFull, Missed}
 use Rattle.client_cache.specs.declared.answers.Evict.{Evict}
-use Rattle.client_cache.specs.declared.answers.Evict.TheVariants.{NotHeld, AcquirePending, ReleaseFull, Evicted}
+use Rattle.client_cache.specs.declared.answers.Evict.TheVariants.{NotHeld, AcquirePending, ReleaseFull}
 use Rattle.client_cache.specs.declared.answers.Probed.{Probed}
 use Rattle.client_cache.specs.declared.answers.Probed.TheVariants.{Releasing, Answered}
 use Rattle.client_cache.specs.Shape.{set_of}
 use Rattle.client_cache.specs.Word.{with_word}
-use Rattle.client_cache.specs.Held.{perm_of, bytes_in, dirty_in, given_up_by, shrunk_copy, granted_copy}
+use Rattle.client_cache.specs.Held.{bytes_in, eviction_of, answer_of, shrunk_copy, granted_copy}
 
 -- the copies by line, the lines of which an Acquire is outstanding, and those of which a Release is unanswered
 pub record Cache : Type 0 where
@@ -70,7 +70,7 @@ wanted c line grow =
 -- a Probe waits for the answer of this cache's own Release of the line
 abbrev pub probed_copy : Cache → ℕ → Cap → Option Held → Probed × Cache
 probed_copy c line cap None = (Answered (shrunk_by Nothing cap).1 None, c)
-probed_copy c line cap (Some h) = (Answered (shrunk_by (perm_of (Some h)) cap).1 (dirty_in h), record c { copies = put c.copies line (shrunk_copy cap h) })
+probed_copy c line cap (Some h) = (answer_of cap h, record c { copies = put c.copies line (shrunk_copy cap h) })
 
 abbrev pub probed : Cache → ℕ → Cap → Probed × Cache
 probed c line cap = if set.contains c.releasing line then (Releasing, c) else probed_copy c line cap (copy_at c line)
@@ -88,7 +88,7 @@ evicted_copy c line None = (NotHeld, c)
 evicted_copy c line (Some h) =
     if set.contains c.acquiring line then (AcquirePending, c)
     else if nat_le 4 (set.len c.releasing) then (ReleaseFull, c)
-    else (Evicted (given_up_by h) (dirty_in h), record c { copies = map.remove c.copies line; releasing = set.insert c.releasing line })
+    else (eviction_of h, record c { copies = map.remove c.copies line; releasing = set.insert c.releasing line })
 
 abbrev pub evicted : Cache → ℕ → Evict × Cache
 evicted c line = evicted_copy c line (copy_at c line)

@@ -1,13 +1,15 @@
 -- One copy of a line, and what becomes of it (TileLink 1.8.1, "Permissions transitions" and the messages of TL-C).
-use Rattle.std.specs.Prelude.{Bool, true, false, ℕ, ◌%◌, ◌+◌, List, [], ◌∷◌, Option, Some, None, slice_set, if◌then◌else◌}
+use Rattle.std.specs.Prelude.{true, false, Option, Some, None}
 use Rattle.tl_types.specs.declared.line.LineData.{LineData}
-use Rattle.tl_types.specs.declared.line.LineData.TheVariants.{Bytes16, Bytes64}
 use Rattle.tl_types.specs.declared.permission.Perm.{Perm}
 use Rattle.tl_types.specs.declared.permission.Perm.TheVariants.{Nothing, Branch as BranchPerm, Trunk as TrunkPerm}
 use Rattle.tl_types.specs.declared.permission.Cap.{Cap}
 use Rattle.tl_types.specs.declared.permission.Cap.TheVariants.{ToT, ToB, ToN}
-use Rattle.tl_types.specs.declared.permission.Change.{Change}
 use Rattle.tl_types.specs.Shrink.{shrunk_by}
+use Rattle.client_cache.specs.declared.answers.Evict.{Evict}
+use Rattle.client_cache.specs.declared.answers.Evict.TheVariants.{Evicted}
+use Rattle.client_cache.specs.declared.answers.Probed.{Probed}
+use Rattle.client_cache.specs.declared.answers.Probed.TheVariants.{Answered}
 use Rattle.client_cache.specs.declared.held.Held.{Held}
 use Rattle.client_cache.specs.declared.held.Held.TheVariants.{Branch, Trunk}
 
@@ -27,9 +29,13 @@ dirty_in (Branch bytes) = None
 dirty_in (Trunk false bytes) = None
 dirty_in (Trunk true bytes) = Some bytes
 
--- what a copy gives up when it is evicted: TtoN or BtoN
-abbrev pub given_up_by : Held → Change
-given_up_by h = (shrunk_by (perm_of (Some h)) ToN).1
+-- what giving a copy up comes to: a Release of TtoN or BtoN, with the dirty bytes
+abbrev pub eviction_of : Held → Evict
+eviction_of h = Evicted (shrunk_by (perm_of (Some h)) ToN).1 (dirty_in h)
+
+-- what a Probe of a copy comes to: a ProbeAck of the change, with the dirty bytes
+abbrev pub answer_of : Cap → Held → Probed
+answer_of cap h = Answered (shrunk_by (perm_of (Some h)) cap).1 (dirty_in h)
 
 -- a copy with this permission that isn't dirty
 abbrev pub clean_copy : Perm → LineData → Option Held

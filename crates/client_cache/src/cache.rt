@@ -16,7 +16,13 @@ use crate::word::with_word;
 use std::alloc::{AllocError, Global};
 use std::marker::Model;
 use std::sync::ledger::Ledger;
-use tl_types::{Cap, Change, Grow, LineData, LineSize, Perm, Ticks, shrink};
+use tl_types::{Cap, Change, Grow, LineData, LineSize, Perm, Ticks};
+
+/// What a Probe comes to where there is no copy.
+const NO_COPY: Probed = Probed::Answered {
+    change: Change::NtoN,
+    bytes: None,
+};
 
 /// A hart's private cache. A line is named by its first address. After making no call takes memory.
 #[derive(Drop)]
@@ -212,31 +218,21 @@ impl ClientCache {
         if self.releasing.contains(line) {
             return Probed::Releasing;
         }
-        let Some((way, place)) = self.array.find(line, ticks) else {
-            return Probed::Answered {
-                change: Change::NtoN,
-                bytes: None,
-            };
+        let Some((way, before)) = self.array.find(line, ticks) else {
+            return NO_COPY;
         };
-        let Some(held) = place.copy else {
-            return Probed::Answered {
-                change: Change::NtoN,
-                bytes: None,
-            };
+        let Some(held) = before.copy else {
+            return NO_COPY;
         };
-        let (_, change) = shrink(held.perm(), cap);
         self.array.put(
             way,
             Place {
                 line,
                 copy: held.shrunk(cap),
-                acquiring: place.acquiring,
+                acquiring: before.acquiring,
             },
         );
-        Probed::Answered {
-            change,
-            bytes: held.dirty_bytes(),
-        }
+        held.probed(cap)
     }
 
     /// The Grant that answers the line's Acquire, which frees its tracker. Without bytes the copy keeps
@@ -287,10 +283,7 @@ impl ClientCache {
         if self.releasing.is_full() {
             return Evict::ReleaseFull;
         }
-        Evict::Evicted {
-            change: held.given_up(),
-            bytes: held.dirty_bytes(),
-        }
+        held.evicted()
     }
 
     /// Gives a copy up.
@@ -319,9 +312,6 @@ impl ClientCache {
             },
         );
         self.releasing.insert(line);
-        Evict::Evicted {
-            change: held.given_up(),
-            bytes: held.dirty_bytes(),
-        }
+        held.evicted()
     }
 }

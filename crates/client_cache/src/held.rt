@@ -1,8 +1,9 @@
 //! A copy of a line, and what calls make of it.
 ghost use Rattle.std.specs.Prelude.{◌≡◌, None};
-ghost use Rattle.client_cache.specs.Held.{perm_of, bytes_in, dirty_in, given_up_by, clean_copy, shrunk_copy, perm_granted, granted_copy};
+ghost use Rattle.client_cache.specs.Held.{perm_of, bytes_in, dirty_in, eviction_of, answer_of, clean_copy, shrunk_copy, perm_granted, granted_copy};
 
-use tl_types::{Cap, Change, LineData, Perm, shrink};
+use crate::answers::{Evict, Probed};
+use tl_types::{Cap, LineData, Perm, shrink};
 
 /// A copy that a cache has. A Branch is never dirty, and Nothing is no copy.
 #[derive(Clone, Copy, Debug, PartialEq, Eq)]
@@ -42,11 +43,24 @@ impl Held {
         }
     }
 
-    /// What the copy gives up when it is evicted.
-    pub(crate) fn given_up(&self) -> Change
-        ensures { result ≡ given_up_by self.now }
+    /// What giving the copy up comes to.
+    pub(crate) fn evicted(&self) -> Evict
+        ensures { result ≡ eviction_of self.now }
     {
-        shrink(self.perm(), Cap::ToN).1
+        Evict::Evicted {
+            change: shrink(self.perm(), Cap::ToN).1,
+            bytes: self.dirty_bytes(),
+        }
+    }
+
+    /// What a Probe of the copy comes to.
+    pub(crate) fn probed(&self, cap: Cap) -> Probed
+        ensures { result ≡ answer_of cap self.now }
+    {
+        Probed::Answered {
+            change: shrink(self.perm(), cap).1,
+            bytes: self.dirty_bytes(),
+        }
     }
 
     /// A copy that memory agrees with, none for Nothing.

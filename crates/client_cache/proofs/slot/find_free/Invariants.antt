@@ -1,4 +1,4 @@
-use Rattle.std.proofs.Common.{◌≡◌, ◌+◌, ◌≤◌, ◌<◌, ℕ, drop, take}
+use Rattle.std.proofs.Common.{◌+◌, ◌≤◌, drop}
 use Rattle.client_cache.specs.Row.{AllUsed}
 use Rattle.client_cache.proofs.slot.find_free.Given as goal
 

@@ -1,9 +1,8 @@
-use Rattle.std.proofs.Common.{◌≡◌, Some, None, sym, ap, ◌∙◌, false, nat_le}
+use Rattle.std.proofs.Common.{None, sym, ap, ◌∙◌, false, nat_le}
 use Rattle.std.specs.FinSet.{insert, len}
 use Rattle.client_cache.specs.declared.answers.Evict.{Evict}
-use Rattle.client_cache.specs.declared.answers.Evict.TheVariants.{Evicted}
 use Rattle.client_cache.specs.Array.{copy_in}
-use Rattle.client_cache.specs.Held.{given_up_by, dirty_in}
+use Rattle.client_cache.specs.Held.{eviction_of}
 use Rattle.client_cache.specs.Cache.{Cache, put}
 use Rattle.client_cache.proofs.Calls.{evicted_none, evicted_pending, evicted_full, evicted_held}
 use Rattle.client_cache.proofs.Fields.{copy_at-seen, copy_at-found, acquiring-found, rewritten-copy}
@@ -46,8 +45,8 @@ returns-clause-meaning g c =
     let copy = copy_at-found s c.self.invariant c.args.self.now c.self.view_is c.args.line c.in-Some.way c.in-Some.place c.in-Some.ensures.found in
     let mark = acquiring-found s c.self.invariant c.args.self.now c.self.view_is c.args.line c.in-Some.way c.in-Some.place c.in-Some.ensures.found in
     let room = ap (λ (x : Cache). nat_le 4 (len x.releasing)) (sym c.self.view_is) ∙ sym c.is_full.ensures.full ∙ c.if-is_full.false in
-    rw (c.insert.ensures, c.given_up.ensures, c.dirty_bytes.ensures)
-    (ap (pair (Evicted (given_up_by held) (dirty_in held)))
+    rw (c.insert.ensures, c.evicted.ensures)
+    (ap (pair (eviction_of held))
     (done.seen_as (insert s.releasing c.args.line)
     ∙ ap (λ (x : Cache). record x { copies = put x.copies c.args.line None; releasing = insert x.releasing c.args.line }) c.self.view_is)
     ∙ sym (evicted_held c.args.self.now c.args.line held (copy ∙ c.in-Some-copy.is) (mark ∙ c.if-place.false) room))

@@ -1,12 +1,8 @@
-use Rattle.std.proofs.Common.{◌≡◌, Option, Some, None, sym, ap, ◌∙◌, refl}
+use Rattle.std.proofs.Common.{sym, ap, ◌∙◌, refl}
 use Rattle.std.specs.FinSet.{contains}
-use Rattle.tl_types.specs.declared.permission.Perm.{Perm}
-use Rattle.tl_types.specs.declared.permission.Change.{Change}
-use Rattle.tl_types.specs.Shrink.{shrunk_by}
 use Rattle.client_cache.specs.declared.answers.Probed.{Probed}
-use Rattle.client_cache.specs.declared.answers.Probed.TheVariants.{Answered}
 use Rattle.client_cache.specs.Array.{copy_in}
-use Rattle.client_cache.specs.Held.{perm_of, dirty_in, shrunk_copy}
+use Rattle.client_cache.specs.Held.{answer_of}
 use Rattle.client_cache.specs.Cache.{Cache, put}
 use Rattle.client_cache.proofs.Calls.{probed_none, probed_held}
 use Rattle.client_cache.proofs.Fields.{copy_at-seen, copy_at-found, rewritten-copy}
@@ -23,23 +19,22 @@ returns-in_default-clause-meaning g c =
 pub returns-in_default-copy-clause-meaning : goal.returns-in_default-copy-clause-meaning
 returns-in_default-copy-clause-meaning g c =
     let released = ap (λ (x : Cache). contains x.releasing c.args.line) (sym c.self.view_is) ∙ sym c.contains.ensures ∙ c.if-contains.false in
-    sym (probed_none c.args.self.now c.args.line c.args.cap released (copy_at-found c.self.inside c.self.invariant c.args.self.now c.self.view_is c.args.line c.in-Some.way c.in-Some.place c.in-Some.ensures.found ∙ c.in_default-copy.is))
+    sym (probed_none c.args.self.now c.args.line c.args.cap released (copy_at-found c.self.inside c.self.invariant c.args.self.now c.self.view_is c.args.line c.in-Some.way c.in-Some.before c.in-Some.ensures.found ∙ c.in_default-copy.is))
 
 pub invariant_of-self : goal.invariant_of-self
 invariant_of-self g c =
-    let done = rewritten-copy c.self.inside c.self.invariant c.args.line c.in-Some.way c.in-Some.place c.in-Some.ensures.found c.shrunk.result c.in-Some.place.acquiring refl c.put.new.self c.put.ensures.shape c.put.ensures.slots in
+    let done = rewritten-copy c.self.inside c.self.invariant c.args.line c.in-Some.way c.in-Some.before c.in-Some.ensures.found c.shrunk.result c.in-Some.before.acquiring refl c.put.new.self c.put.ensures.shape c.put.ensures.slots in
     done.placed
 
 pub returns-clause-meaning : goal.returns-clause-meaning
 returns-clause-meaning g c =
     let s = c.self.inside in
     let held = c.in-Some-copy.held in
-    let done = rewritten-copy s c.self.invariant c.args.line c.in-Some.way c.in-Some.place c.in-Some.ensures.found c.shrunk.result c.in-Some.place.acquiring refl c.put.new.self c.put.ensures.shape c.put.ensures.slots in
+    let done = rewritten-copy s c.self.invariant c.args.line c.in-Some.way c.in-Some.before c.in-Some.ensures.found c.shrunk.result c.in-Some.before.acquiring refl c.put.new.self c.put.ensures.shape c.put.ensures.slots in
     let released = ap (λ (x : Cache). contains x.releasing c.args.line) (sym c.self.view_is) ∙ sym c.contains.ensures ∙ c.if-contains.false in
-    let copy = copy_at-found s c.self.invariant c.args.self.now c.self.view_is c.args.line c.in-Some.way c.in-Some.place c.in-Some.ensures.found in
-    let change : c.shrink-change.result.1 ≡ (shrunk_by (perm_of (Some held)) c.args.cap).1 = ap (λ (x : Perm × Change). x.1) (c.shrink-change.ensures ∙ ap (λ k. shrunk_by k c.args.cap) c.perm.ensures) in
-    rw (c.dirty_bytes.ensures, change)
-    (ap (pair (Answered (shrunk_by (perm_of (Some held)) c.args.cap).1 (dirty_in held)))
+    let copy = copy_at-found s c.self.invariant c.args.self.now c.self.view_is c.args.line c.in-Some.way c.in-Some.before c.in-Some.ensures.found in
+    rw c.probed.ensures
+    (ap (pair (answer_of c.args.cap held))
     (done.seen_as s.releasing
     ∙ ap (λ (x : Cache). record x { copies = put x.copies c.args.line c.shrunk.result }) c.self.view_is
     ∙ (λ i. record c.args.self.now { copies = put c.args.self.now.copies c.args.line (c.shrunk.ensures i) }))
