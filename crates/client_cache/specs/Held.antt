@@ -47,6 +47,10 @@ clean_copy TrunkPerm bytes = Some (Trunk false bytes)
 abbrev pub shrunk_copy : Cap → Held → Option Held
 shrunk_copy cap h = clean_copy (shrunk_by (perm_of (Some h)) cap).0 (bytes_in h)
 
+abbrev pub shrunk_at : Cap → Option Held → Option Held
+shrunk_at cap None = None
+shrunk_at cap (Some h) = shrunk_copy cap h
+
 abbrev pub perm_granted : Cap → Perm
 perm_granted ToT = TrunkPerm
 perm_granted ToB = BranchPerm

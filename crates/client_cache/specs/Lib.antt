@@ -1,4 +1,5 @@
 pub mod Array
+pub mod AtLine
 pub mod Cache
 pub mod Distinct
 pub mod Held

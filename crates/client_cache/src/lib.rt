@@ -9,6 +9,7 @@ mod answers;
 mod array;
 mod cache;
 mod held;
+mod laws;
 mod shape;
 mod slot;
 #[cfg(test)]
@@ -19,4 +20,5 @@ mod word;
 pub use answers::{Evict, Probed, Want};
 pub use cache::ClientCache;
 pub use held::Held;
+pub use laws::{calls_change_their_line, calls_keep_other_lines};
 pub use shape::Shape;
