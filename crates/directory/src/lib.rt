@@ -1,13 +1,11 @@
-// A library with one function.
+//! What the manager of main memory knows of each line: who has which permission, and where its transaction stands.
 #![tactic(auto)]
 
-ghost use Rattle.std.specs.Prelude.{◌≡◌};
-ghost use Rattle.directory.specs.Echo.{echo_of};
+pub mod answer;
+mod directory;
+mod entry;
+pub mod harts;
 
-// The `ensures` clause is the contract: what `echo` returns is `echo_of` of its argument, a definition
-// in `specs/Echo.antt`, which a caller's clause can cite too.
-pub fn echo(x: usize) -> usize
-    ensures { result ≡ echo_of x }
-{
-    x
-}
+pub use answer::{Acquired, Grant, Known, Sent, Transaction};
+pub use directory::Directory;
+pub use harts::{HartSet, Harts};
