@@ -95,5 +95,4 @@ pub fn shrink_names_both_ends()
     ensures before { (p : Perm) (c : Cap) → held_before (shrunk_by p c).1 ≡ p }
     ensures after { (p : Perm) (c : Cap) → left_by (shrunk_by p c).1 ≡ (shrunk_by p c).0 }
     ensures pruned { (p : Perm) (c : Cap) → c ≢ Cap.ToT → left_by (shrunk_by p c).1 ≢ Perm.Trunk }
-{
-}
+{}

@@ -1,5 +1,9 @@
 //! The table of what a Probe leaves, the channel of each message, and lines of both sizes.
+ghost use Rattle.std.specs.Prelude.{◌≡◌, ◌<◌};
+
 use crate::{Body, Cap, Change, Channel, Grow, LineData, LineSize, Msg, Perm, Ticks, shrink};
+use std::marker::Brand;
+use std::mem::size_of;
 use std::sync::ledger::{Blank, Ledger};
 
 /// TileLink 1.8.1, "Permissions transitions": what is held, the Probe, what is left, the change.
@@ -43,15 +47,41 @@ fn each_message_has_its_channel(rt: HostRuntime) {
         (Body::AcquireBlock(Grow::NtoB), Channel::A),
         (Body::ProbeBlock(Cap::ToN), Channel::B),
         (Body::ProbeAck(Change::NtoN), Channel::C),
-        (Body::ProbeAckData { change: Change::TtoN, bytes }, Channel::C),
+        (
+            Body::ProbeAckData {
+                change: Change::TtoN,
+                bytes,
+            },
+            Channel::C,
+        ),
         (Body::Release(Change::BtoN), Channel::C),
-        (Body::ReleaseData { change: Change::TtoN, bytes }, Channel::C),
+        (
+            Body::ReleaseData {
+                change: Change::TtoN,
+                bytes,
+            },
+            Channel::C,
+        ),
         (Body::Grant(Cap::ToT), Channel::D),
-        (Body::GrantData { cap: Cap::ToB, bytes }, Channel::D),
+        (
+            Body::GrantData {
+                cap: Cap::ToB,
+                bytes,
+            },
+            Channel::D,
+        ),
         (Body::ReleaseAck, Channel::D),
         (Body::GrantAck, Channel::E),
     ] {
-        assert_eq!(rt; Msg { line: 0x8000_0100, body }.channel(), channel, "{body:?}");
+        assert_eq!(rt;
+            Msg {
+                line: 0x8000_0100,
+                body
+            }
+            .channel(),
+            channel,
+            "{body:?}"
+        );
     }
 }
 
@@ -67,11 +97,19 @@ fn lines_have_16_or_64_bytes(rt: HostRuntime) {
     assert_eq!(rt; long.as_slice(), [2; 64].as_slice());
 }
 
-fn count_three<L: Ledger>(blank: Blank)
+/// Counts two looks on any ledger: nothing of it is kept at run time.
+fn two_looks<L: Ledger>(blank: Blank)
     requires name { blank.name ≡ L.name }
-    requires parts { blank.parts ≡ 1 }
-    requires one { L.parts ≡ 1 }
+    requires parts { blank.parts ≡ L.parts }
+    requires some { 0 < L.parts }
 {
     let mut ticks: Ticks<L> = Ticks::new(blank);
     ticks.tick();
+    ticks.tick();
+}
+
+#[test]
+fn looks_are_counted_for_contracts_alone(rt: HostRuntime) {
+    two_looks::<Brand>(Blank::new(1));
+    assert_eq!(rt; size_of::<Ticks<Brand>>(), 0);
 }
