@@ -1,7 +1,7 @@
 -- Facts on the ones of a byte that are computed for each of the 256 bytes.
-use Rattle.std.proofs.Common.{◌≡◌, ◌≢◌, ℕ, zero, suc, ◌+◌, ◌<◌, ◌^◌, Bool, true, false, ◌&&◌,  nat_eq, List, [], ◌∷◌, refl, sym, ap, ◌∙◌, arith, inl, inr, ◌⊎◌, w8}
+use Rattle.std.proofs.Common.{◌≡◌, ◌≢◌, ℕ, zero, suc, ◌<◌, ◌^◌, Bool, true, false, ◌&&◌, nat_eq, [], refl, sym, ap, ◌∙◌, arith, inl, inr, ◌⊎◌}
 use Rattle.std.proofs.lemmas.Bool.{eqb-true, cases_eq}
-use Rattle.directory.specs.Harts.{harts_below, has, members, bits_of}
+use Rattle.directory.specs.Harts.{harts_below, members, bits_of}
 
 abbrev all_below : (ℕ → Bool) → ℕ → Bool
 all_below p zero = true

@@ -1,6 +1,6 @@
 -- What the calls answer, from an entry's masks to its line.
-use Rattle.std.proofs.Common.{◌≡◌, ◌≢◌, ℕ, zero, suc, ◌+◌, ◌<◌, ◌≤◌, Bool, true, false, not, ◌&&◌, ◌||◌, nat_eq, List, [], ◌∷◌, length, map, refl, sym, ap, ◌∙◌, arith, inl, inr, ◌⊎◌, Option, Some, None}
-use Rattle.std.specs.Prelude.{if◌then◌else◌}
+use Rattle.std.proofs.Common.{◌≡◌, ◌≢◌, ℕ, zero, suc, ◌+◌, ◌<◌, ◌≤◌, Bool, true, false, not, ◌&&◌, ◌||◌, nat_eq, List, [], ◌∷◌, map, refl, sym, ap, ◌∙◌, subst, arith, inl, inr, ◌⊎◌, None}
+use Rattle.std.specs.Prelude.{All}
 use Rattle.std.specs.List.{range_with_len, list_any}
 use Rattle.std.proofs.lemmas.Bool.{cases_eq, cases_lt}
 use Rattle.tl_types.specs.declared.permission.Perm.TheVariants.{Nothing}
@@ -8,18 +8,16 @@ use Rattle.tl_types.specs.declared.permission.Grow.{Grow}
 use Rattle.tl_types.specs.declared.permission.Grow.TheVariants.{NtoB, NtoT, BtoT}
 use Rattle.tl_types.specs.declared.permission.Change.{Change}
 use Rattle.directory.specs.declared.answer.Known.{Known}
-use Rattle.directory.specs.declared.answer.Grant.{Grant}
 use Rattle.directory.specs.declared.answer.Transaction.{Transaction}
 use Rattle.directory.specs.declared.answer.Transaction.TheVariants.{Idle, Probing, Granted}
-use Rattle.directory.specs.declared.answer.Acquired.{Acquired}
 use Rattle.directory.specs.declared.answer.Acquired.TheVariants.{Handled, Busy}
-use Rattle.directory.specs.declared.answer.Sent.TheVariants.{Probes, Granting}
+use Rattle.directory.specs.declared.answer.Sent.TheVariants.{Probes}
 use Rattle.directory.specs.declared.entry.Entry.{Entry}
 use Rattle.directory.specs.Harts.{has, harts_below}
 use Rattle.directory.specs.Lines.{Line, known_at, conflicts, probe_cap, is_probed, probed, probing, acquired, acquired_by, acquired_in, acknowledged, is_any_awaited, answered_in, probe_acked}
 use Rattle.directory.specs.Entries.{perm_of, known_of, line_of, IsSound}
 use Rattle.directory.proofs.Entries.{known_at-line_of, length-line_of, line_of-transaction}
-use Rattle.directory.proofs.Sets.{harts_below-same, harts_below-fewer, has-harts_below}
+use Rattle.directory.proofs.Sets.{harts_below-same, harts_below-fewer, harts_below-below, has-harts_below}
 use Rattle.directory.proofs.Sound.{in_the_way, perm_of-none}
 
 conflicts-Nothing : (grow : Grow) (b : Bool) → (b && conflicts grow Nothing) ≡ false
@@ -33,11 +31,18 @@ conflicts-Nothing BtoT false = refl
 is_probed-line_of : (harts : ℕ) (e : Entry) (requester : ℕ) (grow : Grow) (h : ℕ) → h < harts → is_probed (line_of harts e) requester grow h ≡ (not (nat_eq h requester) && conflicts grow (perm_of e h))
 is_probed-line_of harts e requester grow h l = ap (λ (k : Known). not (nat_eq h requester) && conflicts grow k.perm) (known_at-line_of harts e h l)
 
+pub in_the_way-fewer : (harts : ℕ) (e : Entry) (requester : ℕ) (grow : Grow) → IsSound harts e → harts ≤ 8 → in_the_way e requester grow ≡ harts_below harts (λ h. not (nat_eq h requester) && conflicts grow (perm_of e h))
+in_the_way-fewer harts e requester grow sound few = harts_below-fewer harts 8 (λ h. not (nat_eq h requester) && conflicts grow (perm_of e h)) few (λ h u v. ap (λ p. not (nat_eq h requester) && conflicts grow p) (perm_of-none harts e h sound u) ∙ conflicts-Nothing grow (not (nat_eq h requester)))
+
+-- only harts that are there are probed
+pub in_the_way-below : (harts : ℕ) (e : Entry) (requester : ℕ) (grow : Grow) (w : List ℕ) → w ≡ in_the_way e requester grow → IsSound harts e → harts ≤ 8 → All (λ h. h < harts) w
+in_the_way-below harts e requester grow w w_is sound few = subst (λ (hs : List ℕ). All (λ h. h < harts) hs) (sym (w_is ∙ in_the_way-fewer harts e requester grow sound few)) (harts_below-below harts _)
+
 pub probed-line_of : (harts : ℕ) (e : Entry) (requester : ℕ) (grow : Grow) → IsSound harts e → harts ≤ 8 → probed (line_of harts e) requester grow ≡ in_the_way e requester grow
 probed-line_of harts e requester grow sound few =
     ap (λ n. harts_below n (is_probed (line_of harts e) requester grow)) (length-line_of harts e)
     ∙ harts_below-same harts (is_probed (line_of harts e) requester grow) (λ h. not (nat_eq h requester) && conflicts grow (perm_of e h)) (λ h l. is_probed-line_of harts e requester grow h l)
-    ∙ sym (harts_below-fewer harts 8 (λ h. not (nat_eq h requester) && conflicts grow (perm_of e h)) few (λ h u v. ap (λ p. not (nat_eq h requester) && conflicts grow p) (perm_of-none harts e h sound u) ∙ conflicts-Nothing grow (not (nat_eq h requester))))
+    ∙ sym (in_the_way-fewer harts e requester grow sound few)
 
 map_same : (f g : ℕ → Known) (a n : ℕ) → ((h : ℕ) → a ≤ h → h < a + n → f h ≡ g h) → map f (range_with_len a n) ≡ map g (range_with_len a n)
 map_same f g a zero same = refl

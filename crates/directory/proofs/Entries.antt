@@ -1,28 +1,25 @@
 -- What an entry shows of its line, and how one hart's part of it changes.
-use Rattle.std.proofs.Common.{◌≡◌, ◌≢◌, ℕ, zero, suc, ◌+◌, ◌<◌, ◌≤◌, Bool, true, false, cond, not, ◌&&◌, ◌||◌, nat_eq, List, [], ◌∷◌, length, map, get_or, set, refl, sym, ap, ◌∙◌, arith, inl, inr, ◌⊎◌, get_or-set_same, get_or-set_other, Option, Some, None}
-use Rattle.std.specs.Prelude.{if◌then◌else◌, slice_set, replicate}
-use Rattle.std.specs.List.{range_with_len, list_any}
-use Rattle.std.proofs.lemmas.Bool.{cases_eq, cases_lt}
+use Rattle.std.proofs.Common.{◌≡◌, ◌≢◌, ℕ, ◌<◌, ◌≤◌, true, false, not, ◌&&◌, nat_eq, List, [], length, map, get_or, set, refl, sym, ap, ◌∙◌, arith, inl, inr, ◌⊎◌, get_or-set_same, get_or-set_other, None}
+use Rattle.std.specs.Prelude.{if◌then◌else◌, slice_set}
+use Rattle.std.specs.List.{range_with_len}
+use Rattle.std.proofs.lemmas.Bool.{cases_eq}
 use Rattle.std.proofs.lemmas.List.FromFn.{fill_by_all, get_or-map-range_with_len, length-map-range_with_len}
 use Rattle.std.proofs.Math.ListN.{length-set}
 use Rattle.std.proofs.lemmas.List.FromFn.{length-range_with_len}
 use Rattle.std.proofs.lemmas.Simd.{splat_is_map}
 use Rattle.tl_types.specs.declared.permission.Perm.{Perm}
-use Rattle.tl_types.specs.declared.permission.Perm.TheVariants.{Nothing, Branch, Trunk}
 use Rattle.tl_types.specs.declared.permission.Grow.{Grow}
-use Rattle.tl_types.specs.declared.permission.Grow.TheVariants.{NtoB, NtoT, BtoT}
 use Rattle.tl_types.specs.declared.permission.Change.{Change}
 use Rattle.tl_types.specs.Permission.{left_by, named_by, granted_for}
 use Rattle.directory.specs.declared.answer.Known.{Known}
 use Rattle.directory.specs.declared.answer.Transaction.{Transaction}
-use Rattle.directory.specs.declared.answer.Transaction.TheVariants.{Idle, Probing, Granted}
+use Rattle.directory.specs.declared.answer.Transaction.TheVariants.{Idle, Granted}
 use Rattle.directory.specs.declared.entry.Entry.{Entry}
 use Rattle.directory.specs.Harts.{has, harts_below}
-use Rattle.directory.specs.Lines.{Line, unknown, known_at, noted, is_any_awaited, is_probed, probed, conflicts, needs_data, grant_for, probing, acknowledged, granted}
+use Rattle.directory.specs.Lines.{Line, unknown, known_at, noted, acknowledged, granted}
 use Rattle.directory.specs.Directory.{quiet}
-use Rattle.directory.specs.Entries.{is_owner, perm_of, known_of, line_of, other_than, owner_after, IsNoted, OwnerBelow, is_asked_back, TransactionFits, IsSound}
+use Rattle.directory.specs.Entries.{perm_of, known_of, line_of, IsNoted}
 use Rattle.directory.proofs.Masks.{gone, stays}
-use Rattle.directory.proofs.Sets.{harts_below-same, harts_below-fewer, has-harts_below, has-harts_below_out}
 
 -- what is noted of a hart that is there
 pub known_at-line_of : (harts : ℕ) (e : Entry) (h : ℕ) → h < harts → known_at (line_of harts e) h ≡ known_of e h

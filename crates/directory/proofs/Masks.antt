@@ -1,5 +1,5 @@
 -- One hart's bit in an entry's masks, and the owner beside them.
-use Rattle.std.proofs.Common.{◌≡◌, ◌≢◌, ℕ, ◌<◌, ◌≤◌, Bool, true, false, cond, not, ◌&&◌, ◌||◌, nat_eq, List, [], ◌∷◌, refl, sym, ap, ◌∙◌, arith, inl, inr, ◌⊎◌, Option, Some, None}
+use Rattle.std.proofs.Common.{◌≡◌, ◌≢◌, ℕ, ◌<◌, ◌≤◌, Bool, true, false, not, ◌&&◌, ◌||◌, nat_eq, List, [], refl, sym, ap, ◌∙◌, arith, inl, inr, ◌⊎◌, Option, Some, None}
 use Rattle.std.specs.Prelude.{if◌then◌else◌}
 use Rattle.std.proofs.lemmas.Bool.{cases_eq, cases_lt}
 use Rattle.tl_types.specs.declared.permission.Perm.{Perm}
@@ -9,7 +9,7 @@ use Rattle.tl_types.specs.declared.permission.Grow.TheVariants.{NtoB, NtoT, BtoT
 use Rattle.directory.specs.declared.entry.Entry.{Entry}
 use Rattle.directory.specs.Harts.{has, harts_below}
 use Rattle.directory.specs.Lines.{conflicts}
-use Rattle.directory.specs.Entries.{is_owner, perm_of, other_than, owner_after, IsNoted}
+use Rattle.directory.specs.Entries.{is_owner, perm_of, other_than, IsNoted}
 use Rattle.directory.proofs.Sets.{has-harts_below, has-harts_below_out}
 
 -- a set without a hart, and with one
@@ -98,37 +98,37 @@ perms_after e later hart perm h here others = go (cases_eq h hart)
 pub noted_nothing : (e : Entry) (hart : ℕ) → hart < 8 → IsNoted e (record e { sharers = without e.sharers hart; owner = other_than e.owner hart }) hart Nothing
 noted_nothing e hart l = record {
   perms = λ h u. perms_after e (record e { sharers = without e.sharers hart; owner = other_than e.owner hart }) hart Nothing h
-    (rw (is_owner-gone e.owner hart, gone e.sharers hart l) refl)
-    (λ d. rw (is_owner-stays e.owner hart h d, stays e.sharers hart h u d) refl);
+      (rw (is_owner-gone e.owner hart, gone e.sharers hart l) refl)
+      (λ d. rw (is_owner-stays e.owner hart h d, stays e.sharers hart h u d) refl);
   sharers = λ h d absent. none_added e.sharers hart h absent;
   owner = refl;
   awaited = refl;
-  transaction = refl
+  transaction = refl;
 }
 
 pub noted_branch : (e : Entry) (hart : ℕ) → hart < 8 → IsNoted e (record e { sharers = with e.sharers hart; owner = other_than e.owner hart }) hart Branch
 noted_branch e hart l = record {
   perms = λ h u. perms_after e (record e { sharers = with e.sharers hart; owner = other_than e.owner hart }) hart Branch h
-    (rw (is_owner-gone e.owner hart, came e.sharers hart l) refl)
-    (λ d. rw (is_owner-stays e.owner hart h d, was e.sharers hart h u d) refl);
+      (rw (is_owner-gone e.owner hart, came e.sharers hart l) refl)
+      (λ d. rw (is_owner-stays e.owner hart h d, was e.sharers hart h u d) refl);
   sharers = λ h d absent. one_added e.sharers hart h d absent;
   owner = refl;
   awaited = refl;
-  transaction = refl
+  transaction = refl;
 }
 
 pub noted_trunk : (e : Entry) (hart : ℕ) → hart < 8 → other_than e.owner hart ≡ None → IsNoted e (record e { sharers = without e.sharers hart; owner = Some hart }) hart Trunk
 noted_trunk e hart l alone = record {
   perms = λ h u. perms_after e (record e { sharers = without e.sharers hart; owner = Some hart }) hart Trunk h
-    (let same : nat_eq hart hart ≡ true = grind arith in rw same refl)
-    (λ d.
-        let off : nat_eq hart h ≡ false = grind (arith, d) in
-        let none : is_owner e.owner h ≡ false = sym (is_owner-stays e.owner hart h d) ∙ ap (λ o. is_owner o h) alone in
-        rw (off, none, stays e.sharers hart h u d) refl);
+      (let same : nat_eq hart hart ≡ true = grind arith in rw same refl)
+      (λ d.
+      let off : nat_eq hart h ≡ false = grind (arith, d) in
+      let none : is_owner e.owner h ≡ false = sym (is_owner-stays e.owner hart h d) ∙ ap (λ o. is_owner o h) alone in
+      rw (off, none, stays e.sharers hart h u d) refl);
   sharers = λ h d absent. none_added e.sharers hart h absent;
   owner = refl;
   awaited = refl;
-  transaction = refl
+  transaction = refl;
 }
 
 -- whose records are in the way

@@ -1,9 +1,11 @@
 -- Lists of the harts that a test names, and the places of a byte's ones.
-use Rattle.std.proofs.Common.{◌≡◌, ◌≢◌, ℕ, zero, suc, ◌+◌, ◌<◌, ◌≤◌, Bool, true, false, cond, not, ◌&&◌, ◌||◌, nat_eq, List, [], ◌∷◌, refl, sym, ap, ◌∙◌, arith, inl, inr, ◌⊎◌, w8, ◌^◌}
-use Rattle.std.specs.Prelude.{filter}
-use Rattle.std.specs.List.{range_with_len, list_any}
+use Rattle.std.proofs.Common.{◌≡◌, ◌≢◌, ℕ, zero, suc, ◌+◌, ◌<◌, ◌≤◌, Bool, true, false, cond, not, ◌&&◌, ◌||◌, nat_eq, [], ◌∷◌, get_or, zero-add, refl, sym, ap, ◌∙◌, arith, inl, inr, ◌⊎◌, w8, ◌^◌}
+use Rattle.std.specs.Prelude.{filter, All}
+use Rattle.std.proofs.lemmas.List.Elements.{All-filter, All-from_get_or}
+use Rattle.std.proofs.lemmas.List.FromFn.{get_or-range_with_len, length-range_with_len}
+use Rattle.std.specs.List.{range_with_len}
 use Rattle.std.specs.Int.{bit_at, trailing_zeros}
-use Rattle.std.proofs.lemmas.Bool.{cases_eq, cases_lt}
+use Rattle.std.proofs.lemmas.Bool.{cases_eq}
 use Rattle.std.proofs.lemmas.Nat.Bits.{bit_at-trailing_zeros}
 use Rattle.directory.specs.Harts.{harts_below, has, members}
 
@@ -102,6 +104,18 @@ first_from p a (suc n) t l u passes below = go (cases_eq a t) (first_from p (a +
         let here : p a ≡ false = below a (omega arith) in
         let t_is : nat_eq a t ≡ false = grind (arith, d) in
         rw (here, t_is) (rest (omega arith) (omega arith) passes below)
+
+range_below : (n : ℕ) → All (λ h. h < n) (range_with_len 0 n)
+range_below n =
+    All-from_get_or (λ h. h < n) (range_with_len 0 n) 0 (λ i l.
+    let bound : i < n = omega (arith, length-range_with_len 0 n) in
+    let is : get_or (range_with_len 0 n) i 0 ≡ i = get_or-range_with_len 0 n i 0 bound ∙ zero-add i in
+    rw is bound)
+
+-- each of them is one of the n harts
+pub harts_below-below : (n : ℕ) (p : ℕ → Bool) → All (λ h. h < n) (harts_below n p)
+unfolding harts_below
+harts_below-below n p = All-filter p (λ h. h < n) (range_with_len 0 n) (range_below n)
 
 pub has-members : (bits hart : ℕ) → hart < 8 → has (members bits) hart ≡ nat_eq (bit_at bits hart) 1
 unfolding members

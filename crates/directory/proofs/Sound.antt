@@ -1,5 +1,5 @@
 -- What each message keeps of an entry's soundness.
-use Rattle.std.proofs.Common.{◌≡◌, ◌≢◌, ℕ, ◌<◌, ◌≤◌, Bool, true, false, not, ◌&&◌, ◌||◌, nat_eq, List, [], ◌∷◌, refl, sym, ap, ◌∙◌, subst, arith, inl, inr, ◌⊎◌, Option, Some, None}
+use Rattle.std.proofs.Common.{◌≡◌, ◌≢◌, ℕ, ◌<◌, ◌≤◌, Bool, true, false, not, ◌&&◌, ◌||◌, nat_eq, List, [], refl, sym, ap, ◌∙◌, subst, arith, inl, inr, ◌⊎◌, Option, Some, None}
 use Rattle.std.specs.Prelude.{if◌then◌else◌}
 use Rattle.std.proofs.lemmas.Bool.{cases_eq, cases_lt}
 use Rattle.tl_types.specs.declared.permission.Perm.{Perm}
@@ -40,7 +40,7 @@ sound-eight harts e sound few = record {
   sharers = λ h l. sound.sharers h (omega arith);
   awaited = λ h l. sound.awaited h (omega arith);
   owner = own e.owner sound.owner;
-  transaction = fits e.transaction sound.transaction
+  transaction = fits e.transaction sound.transaction;
 }
   where
     own : (owner : Option ℕ) → OwnerBelow harts owner → OwnerBelow 8 owner
@@ -68,7 +68,7 @@ sound-acknowledged harts e later h change w n w_is shrinks l few sound = record 
   sharers = λ i u. n.sharers i (λ e_is. absurd (omega arith)) (sound.sharers i u);
   awaited = λ i u. ap (λ s. has s i) awaited_is ∙ none_added e.awaited h i (sound.awaited i u);
   owner = subst (OwnerBelow harts) (sym owner_is) (owner-below harts e.owner h sound.owner);
-  transaction = subst (λ t. TransactionFits harts t later.owner w) (sym n.transaction) (fits e.transaction sound.transaction)
+  transaction = subst (λ t. TransactionFits harts t later.owner w) (sym n.transaction) (fits e.transaction sound.transaction);
 }
   where
     awaited_is : w ≡ without e.awaited h
@@ -137,7 +137,7 @@ sound-probing harts e requester grow w w_is l few sound = record {
   sharers = sound.sharers;
   awaited = λ h u. ap (λ s. has s h) w_is ∙ out h u (cases_lt h 8);
   owner = sound.owner;
-  transaction = (l, ap (λ s. is_asked_back e.owner s requester) w_is ∙ asked-in_the_way e requester grow (sound-eight harts e sound few).owner)
+  transaction = (l, ap (λ s. is_asked_back e.owner s requester) w_is ∙ asked-in_the_way e requester grow (sound-eight harts e sound few).owner);
 }
   where
     and_false : (b : Bool) → (b && false) ≡ false

@@ -1,11 +1,13 @@
 -- The manager's notes of all lines, named by their place in memory from 0. A message changes the line that it names.
-use Rattle.std.specs.Prelude.{ℕ, ◌<◌, List, Option, slice_set, slice_index_or, length, replicate}
-use Rattle.tl_types.specs.declared.permission.Perm.{Perm}
+use Rattle.std.specs.Prelude.{ℕ, ◌<◌, All, List, Option, slice_set, slice_index_or, replicate}
 use Rattle.tl_types.specs.declared.permission.Grow.{Grow}
 use Rattle.tl_types.specs.declared.permission.Change.{Change}
 use Rattle.directory.specs.declared.answer.Transaction.TheVariants.{Idle}
 use Rattle.directory.specs.declared.answer.Grant.{Grant}
 use Rattle.directory.specs.declared.answer.Acquired.{Acquired}
+use Rattle.directory.specs.declared.answer.Acquired.TheVariants.{Handled, Busy}
+use Rattle.directory.specs.declared.answer.Sent.{Sent}
+use Rattle.directory.specs.declared.answer.Sent.TheVariants.{Probes, Granting}
 use Rattle.directory.specs.Lines as of_line
 use Rattle.directory.specs.Lines.{Line, unknown}
 
@@ -41,3 +43,12 @@ released d line hart = with_line d line (of_line.released (line_at d line) hart)
 
 abbrev pub grant_acked : Notes → ℕ → Notes
 grant_acked d line = with_line d line (of_line.grant_acked (line_at d line))
+
+-- the harts to which messages are to be sent are there
+abbrev pub SendsToHarts : ℕ → Sent → Type 0
+SendsToHarts harts (Probes cap probed) = All (λ hart. hart < harts) probed
+SendsToHarts harts (Granting grant) = grant.hart < harts
+
+abbrev pub AnswersHarts : ℕ → Acquired → Type 0
+AnswersHarts harts (Handled sent) = SendsToHarts harts sent
+AnswersHarts harts Busy = Unit {0}

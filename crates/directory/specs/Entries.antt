@@ -10,7 +10,6 @@ use Rattle.directory.specs.declared.entry.Entry.{Entry}
 use Rattle.directory.specs.declared.entry.Slot.{Slot}
 use Rattle.directory.specs.Harts.{has}
 use Rattle.directory.specs.Lines.{Line}
-use Rattle.directory.specs.Directory.{Notes}
 
 abbrev pub is_owner : Option ℕ → ℕ → Bool
 is_owner None hart = false

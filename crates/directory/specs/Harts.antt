@@ -1,5 +1,5 @@
 -- Sets of harts, as the list of their numbers, rising.
-use Rattle.std.specs.Prelude.{ℕ, ◌+◌, ◌*◌, ◌^◌, Bool, List, [], ◌∷◌, filter, nat_eq}
+use Rattle.std.specs.Prelude.{ℕ, ◌^◌, Bool, List, filter, nat_eq}
 use Rattle.std.specs.List.{range_with_len, list_any, sum_by}
 use Rattle.std.specs.Int.{bit_at}
 

@@ -16,7 +16,6 @@ use Rattle.directory.specs.declared.answer.Transaction.TheVariants.{Idle, Probin
 use Rattle.directory.specs.declared.answer.Grant.{Grant}
 use Rattle.directory.specs.declared.answer.Acquired.{Acquired}
 use Rattle.directory.specs.declared.answer.Acquired.TheVariants.{Handled, Busy}
-use Rattle.directory.specs.declared.answer.Sent.{Sent}
 use Rattle.directory.specs.declared.answer.Sent.TheVariants.{Probes, Granting}
 use Rattle.directory.specs.Harts.{harts_below}
 
@@ -65,7 +64,7 @@ probed l requester grow = harts_below (length l.known) (is_probed l requester gr
 abbrev pub probing : Line → ℕ → Grow → Line
 probing l requester grow = record {
   known = map (λ hart. record (known_at l hart) { awaited = is_probed l requester grow hart }) (range_with_len 0 (length l.known));
-  transaction = Probing requester grow
+  transaction = Probing requester grow;
 }
 
 -- a Grant is without data where the requester asks to write what it reads, and its record still is Branch

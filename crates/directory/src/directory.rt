@@ -1,8 +1,8 @@
 //! The entries of all lines.
-ghost use Rattle.std.specs.Prelude.{◌≡◌, ◌≢◌, ◌+◌, ◌<◌, ◌≤◌, length, IfOk};
+ghost use Rattle.std.specs.Prelude.{◌≡◌, ◌≢◌, ◌+◌, ◌<◌, ◌≤◌, length, IfOk, IfSome};
 ghost use Rattle.tl_types.specs.Permission.{left_by};
 ghost use Rattle.directory.specs.Lines.{known_at};
-ghost use Rattle.directory.specs.Directory.{opening, line_at, acquired, probe_acked, released, grant_acked};
+ghost use Rattle.directory.specs.Directory.{AnswersHarts, opening, line_at, acquired, probe_acked, released, grant_acked};
 
 use crate::answer::{Acquired, Grant, Known, Transaction};
 use crate::entry::{Entry, Slot};
@@ -40,6 +40,20 @@ impl Directory {
         Ok(Directory { harts, slots })
     }
 
+    /// How many harts there are.
+    pub fn harts(&self) -> u8
+        ensures { result ≡ self.now.harts }
+    {
+        self.harts
+    }
+
+    /// How many lines there are.
+    pub fn lines(&self) -> usize
+        ensures { result ≡ length self.now.lines }
+    {
+        self.slots.len()
+    }
+
     /// What is noted of one hart for a line: its record, and whether its ProbeAck is awaited.
     pub fn known<L: Ledger>(&self, line: u32, hart: u8, ticks: &mut Ticks<L>) -> Known
         requires line { line < length self.now.lines }
@@ -70,6 +84,7 @@ impl Directory {
         requires line { line < length self.old.lines }
         requires hart { hart < self.old.harts }
         ensures meaning { (result, self.new) ≡ acquired self.old line hart grow }
+        ensures harts { AnswersHarts self.old.harts result }
         ensures cost { ticks.new ≤ ticks.old + 1 }
     {
         let (answer, entry) = self.slots[line as usize].look(ticks).acquire(hart, grow);
@@ -90,9 +105,12 @@ impl Directory {
         requires hart { hart < self.old.harts }
         requires shrinks { left_by change ≢ Perm.Trunk }
         ensures meaning { (result, self.new) ≡ probe_acked self.old line hart change }
+        ensures harts { IfSome result (λ grant. grant.hart < self.old.harts) }
         ensures cost { ticks.new ≤ ticks.old + 1 }
     {
-        let (grant, entry) = self.slots[line as usize].look(ticks).probe_ack(hart, change);
+        let (grant, entry) = self.slots[line as usize]
+            .look(ticks)
+            .probe_ack(hart, change);
         self.slots[line as usize] = Slot::new(entry);
         grant
     }

@@ -1,9 +1,9 @@
 //! One line's entry: masks of harts, and what each message makes of them.
-ghost use Rattle.std.specs.Prelude.{◌≡◌, ◌≢◌, ◌+◌, ◌<◌, ◌≤◌, ℕ, None, not, ◌&&◌, nat_eq, IsTrue};
+ghost use Rattle.std.specs.Prelude.{◌≡◌, ◌≢◌, ◌+◌, ◌<◌, ◌≤◌, ℕ, None, not, ◌&&◌, nat_eq, IfSome, IsTrue};
 ghost use Rattle.tl_types.specs.Permission.{left_by};
 ghost use Rattle.directory.specs.Harts.{has, harts_below};
 ghost use Rattle.directory.specs.Lines.{known_at, conflicts, probe_cap, needs_data, probed, grant_for, granted, acquired, acquired_by, answered_in, acknowledged, probe_acked, released, grant_acked};
-ghost use Rattle.directory.specs.Directory.{quiet};
+ghost use Rattle.directory.specs.Directory.{AnswersHarts, quiet};
 ghost use Rattle.directory.specs.Entries.{perm_of, known_of, line_of, other_than, IsNoted, OwnerBelow, is_asked_back, IsSound};
 
 use crate::answer::{Acquired, Grant, Known, Sent, Transaction};
@@ -26,13 +26,7 @@ fn other_than(owner: Option<u8>, hart: u8) -> Option<u8>
     ensures { result ≡ other_than owner hart }
 {
     match owner {
-        Some(owner) => {
-            if owner == hart {
-                None
-            } else {
-                Some(owner)
-            }
-        }
+        Some(owner) => { if owner == hart { None } else { Some(owner) } }
         None => None,
     }
 }
@@ -170,6 +164,7 @@ impl Entry {
         requires numbered { requester < 8 }
         requires sound { IsSound 8 self }
         ensures meaning { (harts : ℕ) → requester < harts → harts ≤ 8 → IsSound harts self → (result.0, line_of harts result.1) ≡ acquired_by (line_of harts self) requester grow (probed (line_of harts self) requester grow) }
+        ensures harts { (harts : ℕ) → requester < harts → harts ≤ 8 → IsSound harts self → AnswersHarts harts result.0 }
         ensures sound { (harts : ℕ) → requester < harts → harts ≤ 8 → IsSound harts self → IsSound harts result.1 }
     {
         let probes = self.probes(requester, grow);
@@ -182,7 +177,10 @@ impl Entry {
             transaction: Transaction::Probing(requester, grow),
             ..self
         };
-        (Acquired::Handled(Sent::Probes(probe_cap(grow), probes)), entry)
+        (
+            Acquired::Handled(Sent::Probes(probe_cap(grow), probes)),
+            entry,
+        )
     }
 
     /// An Acquire is taken.
@@ -190,6 +188,7 @@ impl Entry {
         requires numbered { requester < 8 }
         requires sound { IsSound 8 self }
         ensures meaning { (harts : ℕ) → requester < harts → harts ≤ 8 → IsSound harts self → (result.0, line_of harts result.1) ≡ acquired (line_of harts self) requester grow }
+        ensures harts { (harts : ℕ) → requester < harts → harts ≤ 8 → IsSound harts self → AnswersHarts harts result.0 }
         ensures sound { (harts : ℕ) → requester < harts → harts ≤ 8 → IsSound harts self → IsSound harts result.1 }
     {
         match self.transaction {
@@ -217,6 +216,7 @@ impl Entry {
         requires numbered { requester < 8 }
         requires asked { IsTrue (is_asked_back self.owner self.awaited requester) }
         ensures meaning { (harts : ℕ) → requester < harts → harts ≤ 8 → IsSound harts self → (result.0, line_of harts result.1) ≡ answered_in (Transaction.Probing requester grow) (line_of harts self) }
+        ensures harts { (harts : ℕ) → requester < harts → harts ≤ 8 → IsSound harts self → IfSome result.0 (λ grant. grant.hart < harts) }
         ensures sound { (harts : ℕ) → requester < harts → harts ≤ 8 → IsSound harts self → IsSound harts result.1 }
     {
         if self.awaited.is_empty() {
@@ -232,6 +232,7 @@ impl Entry {
         requires shrinks { left_by change ≢ Perm.Trunk }
         requires sound { IsSound 8 self }
         ensures meaning { (harts : ℕ) → hart < harts → harts ≤ 8 → IsSound harts self → (result.0, line_of harts result.1) ≡ probe_acked (line_of harts self) hart change }
+        ensures harts { (harts : ℕ) → hart < harts → harts ≤ 8 → IsSound harts self → IfSome result.0 (λ grant. grant.hart < harts) }
         ensures sound { (harts : ℕ) → hart < harts → harts ≤ 8 → IsSound harts self → IsSound harts result.1 }
     {
         let acknowledged = self.acknowledge(hart, change);

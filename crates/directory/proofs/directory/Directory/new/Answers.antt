@@ -1,7 +1,6 @@
 use Rattle.std.proofs.Common.{◌≡◌, ◌∙◌, ap, sym, subst, List}
 use Rattle.std.specs.Prelude.{replicate, All}
 use Rattle.std.proofs.lemmas.List.Elements.{All-replicate}
-use Rattle.directory.specs.declared.entry.Entry.{Entry}
 use Rattle.directory.specs.declared.entry.Slot.{Slot}
 use Rattle.directory.specs.Entries.{IsSound, line_of}
 use Rattle.directory.proofs.Slots.{notes-opening}
@@ -13,7 +12,7 @@ invariant_of-result c =
     record {
       few = c.requires;
       each = subst (λ (xs : List Slot). All (λ (s : Slot). IsSound c.args.harts s.entry) xs) (sym all)
-        (All-replicate (λ (s : Slot). IsSound c.args.harts s.entry) c.args.lines c.new-2.result (subst (IsSound c.args.harts) (sym c.new-2.ensures) (c.new.ensures.sound c.args.harts)))
+          (All-replicate (λ (s : Slot). IsSound c.args.harts s.entry) c.args.lines c.new-2.result (subst (IsSound c.args.harts) (sym c.new-2.ensures) (c.new.ensures.sound c.args.harts)));
     }
 
 pub returns : goal.returns

@@ -1,6 +1,3 @@
-use Rattle.std.proofs.Common.{◌∙◌, ap, subst}
-use Rattle.tl_types.specs.declared.permission.Perm.{Perm}
-use Rattle.directory.specs.Entries.{IsNoted}
 use Rattle.directory.proofs.Entries.{line_of-acknowledged}
 use Rattle.directory.proofs.Sound.{sound-acknowledged}
 use Rattle.directory.proofs.entry.Entry.acknowledge.Goals as goal

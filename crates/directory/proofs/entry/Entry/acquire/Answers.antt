@@ -8,5 +8,6 @@ returns-in-Idle-clause-meaning c = λ harts l few sound. c.begin.ensures.meaning
 pub returns-in_default : goal.returns-in_default
 returns-in_default c = record {
   meaning = λ harts l few sound. sym (acquired-busy harts c.args.self c.args.requester c.args.grow c.in_default.not-Idle);
-  sound = λ harts l few sound. sound
+  harts = λ harts l few sound. tt;
+  sound = λ harts l few sound. sound;
 }

@@ -14,3 +14,6 @@ returns-clause-meaning c = λ harts l few sound.
     let some : c.args.self.awaited ≢ [] = λ none. (let yes_is = c.is_empty.ensures.1 none in let no_is = c.if-is_empty.false in cc) in
     let any : is_any_awaited (line_of harts c.args.self) ≡ true = some-awaited harts c.args.self sound some in
     rw any refl
+
+pub returns-then-is_empty-clause-harts : goal.returns-then-is_empty-clause-harts
+returns-then-is_empty-clause-harts c = λ harts l few sound. rw (c.grant.ensures.grant harts l) l

@@ -3,6 +3,7 @@ use Rattle.directory.specs.Lines.{acquired_by, probed}
 use Rattle.directory.specs.Entries.{is_asked_back, line_of}
 use Rattle.directory.proofs.Calls.{probed-line_of, begun_by_probes}
 use Rattle.directory.proofs.Sound.{alone, asked-in_the_way, sound-probing}
+use Rattle.directory.proofs.Calls.{in_the_way-below}
 use Rattle.directory.proofs.entry.Entry.begin.Goals as goal
 
 pub grant-entry-requires-clause-alone : goal.grant-entry-requires-clause-alone
@@ -24,3 +25,9 @@ returns-clause-meaning c = λ harts l few sound.
 
 pub returns-clause-sound : goal.returns-clause-sound
 returns-clause-sound c = λ harts l few sound. sound-probing harts c.args.self c.args.requester c.args.grow c.probes-probes.result c.probes-probes.ensures l few sound
+
+pub returns-then-is_empty-clause-harts : goal.returns-then-is_empty-clause-harts
+returns-then-is_empty-clause-harts c = λ harts l few sound. rw (c.grant-entry.ensures.grant harts l) l
+
+pub returns-clause-harts : goal.returns-clause-harts
+returns-clause-harts c = λ harts l few sound. in_the_way-below harts c.args.self c.args.requester c.args.grow c.probes-probes.result c.probes-probes.ensures sound few

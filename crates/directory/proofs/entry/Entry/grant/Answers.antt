@@ -1,9 +1,7 @@
-use Rattle.std.proofs.Common.{◌≡◌, ◌∙◌, ap, sym, refl}
-use Rattle.tl_types.specs.declared.permission.Perm.{Perm}
+use Rattle.std.proofs.Common.{◌≡◌, ◌∙◌, ap, sym}
 use Rattle.tl_types.specs.Permission.{named_by, granted_for}
 use Rattle.directory.specs.declared.answer.Known.{Known}
-use Rattle.directory.specs.Lines.{known_at, needs_data}
-use Rattle.directory.specs.Entries.{IsNoted, line_of, known_of}
+use Rattle.directory.specs.Lines.{needs_data}
 use Rattle.directory.proofs.Entries.{line_of-granted, known_at-line_of}
 use Rattle.directory.proofs.entry.Entry.grant.Goals as goal
 

@@ -1,6 +1,6 @@
-use Rattle.std.proofs.Common.{ap, ◌∙◌, ℕ, List, [], sym, nat_eq, ◌||◌}
+use Rattle.std.proofs.Common.{ap, ◌∙◌, ℕ, List, sym}
 use Rattle.tl_types.specs.declared.permission.Grow.{Grow}
-use Rattle.directory.specs.Harts.{has, harts_below}
+use Rattle.directory.specs.Harts.{has}
 use Rattle.directory.specs.Lines.{conflicts}
 use Rattle.directory.specs.Entries.{perm_of}
 use Rattle.directory.proofs.Masks.{reading, writing, with}

@@ -1,4 +1,3 @@
-use Rattle.std.proofs.Common.{arith, sym}
 use Rattle.directory.proofs.Masks.{noted_nothing, noted_branch, noted_trunk}
 use Rattle.directory.proofs.entry.Entry.note.Goals as goal
 

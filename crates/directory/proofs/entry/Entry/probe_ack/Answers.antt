@@ -18,5 +18,12 @@ returns-in_default c = record {
   meaning = λ harts l few sound.
       sym (not_probing c.acknowledge-acknowledged.result.transaction (line_of harts c.acknowledge-acknowledged.result) c.in_default.not-Probing)
       ∙ sym (acked harts c.args.self c.acknowledge-acknowledged.result c.args.hart c.args.change (c.acknowledge-acknowledged.ensures.line harts l few));
-  sound = λ harts l few sound. c.acknowledge-acknowledged.ensures.sound harts l few sound
+  harts = λ harts l few sound. tt;
+  sound = λ harts l few sound. c.acknowledge-acknowledged.ensures.sound harts l few sound;
 }
+
+pub returns-in-Probing-clause-harts : goal.returns-in-Probing-clause-harts
+returns-in-Probing-clause-harts c = λ harts l few sound.
+    let later_sound = c.acknowledge-acknowledged.ensures.sound harts l few sound in
+    let below = requester-below harts c.acknowledge-acknowledged.result c.in-Probing.requester c.in-Probing.grow later_sound c.in-Probing.is in
+    c.answer.ensures.harts harts below.0 few later_sound

@@ -1,4 +1,4 @@
-use Rattle.std.proofs.Common.{ℕ, List, ◌≡◌, ◌∷◌, arith, sym, ap, ◌∙◌, nat_eq, not, ◌&&◌, w8, ◌<◌, ◌^◌}
+use Rattle.std.proofs.Common.{ℕ, List, ◌∷◌, arith, sym, ap, ◌∙◌, nat_eq, not, ◌&&◌, w8}
 use Rattle.std.specs.Int.{trailing_zeros}
 use Rattle.directory.specs.Harts.{has, harts_below, members}
 use Rattle.directory.proofs.Bytes.{members-none}
