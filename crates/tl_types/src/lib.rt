@@ -9,5 +9,8 @@ mod ticks;
 
 pub use line::{LineData, LineSize};
 pub use message::{Body, Channel, Msg};
-pub use permission::{Cap, Change, Grow, Perm, shrink};
+pub use permission::{Cap, Change, Grow, Perm, shrink, shrink_names_both_ends};
 pub use ticks::Ticks;
+
+#[cfg(test)]
+mod tests;
