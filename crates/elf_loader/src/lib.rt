@@ -2,9 +2,13 @@
 #![tactic(auto)]
 
 mod error;
+mod header;
 mod image;
+mod loader;
+mod segment;
 mod size;
 
 pub use error::LoadError;
-pub use image::Image;
+pub use image::{Image, raw};
+pub use loader::load;
 pub use size::{BASE, MAX_SIZE, PAGE, size_of_kib};

@@ -1,0 +1,4 @@
+pub mod Faults
+pub mod Loaded
+pub mod Placing
+pub mod Table
