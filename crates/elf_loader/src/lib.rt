@@ -12,3 +12,6 @@ pub use error::LoadError;
 pub use image::{Image, raw};
 pub use loader::load;
 pub use size::{BASE, MAX_SIZE, PAGE, size_of_kib};
+
+#[cfg(test)]
+mod tests;
