@@ -1,8 +1,9 @@
 -- Memory's bytes, one segment more at a time.
-use Rattle.std.proofs.Common.{◌≡◌, ℕ, zero, suc, ◌+◌, ◌-◌, ◌<◌, ◌≤◌, ◌⊎◌, min, max, Bool, true, false, cond, ◌||◌, List, [], ◌∷◌, ◌++◌, length, take, get_or, slice_index, find, Option, None, Some, inl, inr, refl, sym, ◌∙◌, ap, arith}
+use Rattle.std.proofs.Common.{◌≡◌, ℕ, zero, suc, ◌+◌, ◌-◌, ◌<◌, ◌≤◌, ◌⊎◌, min, max, Bool, true, false, cond, ◌||◌, List, [], ◌∷◌, ◌++◌, length, take, drop, get_or, slice_index, find, Option, None, Some, inl, inr, refl, sym, ◌∙◌, ap, arith}
 use Rattle.std.proofs.lemmas.Bool.Decides.{leb_tells, nat_tests}
 use Rattle.std.proofs.lemmas.List.Folds.{find-append, list_any_at}
-use Rattle.std.proofs.Math.Seq.{take-suc}
+use Rattle.std.proofs.Math.Seq.{drop-cons, take-suc}
+use Rattle.std.proofs.lemmas.List.{take-append-drop}
 use Rattle.std.specs.List.{list_any}
 use Rattle.std.specs.Option.{option_or}
 use Rattle.elf_loader.specs.Elf.{has_file_byte, lies_outside, share_address, some_overlap}
@@ -10,6 +11,7 @@ use Rattle.elf_loader.specs.Load.{loaded_byte}
 use Rattle.elf_loader.specs.Placed.{byte_after}
 use Rattle.elf_loader.specs.Size.{base}
 use Rattle.elf_loader.specs.declared.segment.ProgramHeader.{ProgramHeader}
+use Rattle.elf_loader.proofs.Overlap.{has_address-from_file, overlap-from_common}
 use Rattle.elf_loader.proofs.Placing.{LiesInside, lies_inside}
 use lib.Dec.{leb, ltb}
 
@@ -28,14 +30,7 @@ none_at {X} p xs i d h none = go (p (get_or xs i d)) refl
 shared : (one other : ProgramHeader) (address : ℕ) → one.p_filesz ≤ one.p_memsz → other.p_filesz ≤ other.p_memsz
     → has_file_byte address one ≡ true → has_file_byte address other ≡ true → share_address one other ≡ true
 shared one other address h k at_one at_other =
-    let low : one.p_vaddr ≤ address = grind (arith, nat_tests) in
-    let high : address < one.p_vaddr + one.p_filesz = grind (arith, nat_tests) in
-    let low' : other.p_vaddr ≤ address = grind (arith, nat_tests) in
-    let high' : address < other.p_vaddr + other.p_filesz = grind (arith, nat_tests) in
-    elim (leb_tells (suc (max one.p_vaddr other.p_vaddr)) (min (one.p_vaddr + one.p_memsz) (other.p_vaddr + other.p_memsz))) [
-      | inl is ↦ is.0
-      | inr is_not ↦ absurd (omega (arith, is_not.1))
-    ]
+    overlap-from_common one other address (has_address-from_file one address h at_one) (has_address-from_file other address k at_other)
 
 module _ (file : List ℕ) (size address : ℕ) where
   -- no segment before the one that has a byte at an address has one there
@@ -81,3 +76,15 @@ byte_after-loaded file memory size k segments i d h inside apart before = go (ha
         → byte_after file memory (get_or segments i d) k ≡ loaded_byte file (take (suc i) segments) (base + k)
     go true e = rw (found, none_before file size (base + k) segments i d h inside apart e, e) refl
     go false e = rw (found, e, or_none (find has (take i segments))) before
+
+-- a segment's byte of the file is what memory has at its address
+pub loaded_byte-segment : (file : List ℕ) (size address : ℕ) (segments : List ProgramHeader) (i : ℕ) (d : ProgramHeader)
+    → i < length segments → list_any (lies_outside (length file) size) segments ≡ false → some_overlap segments ≡ false
+    → has_file_byte address (get_or segments i d) ≡ true
+    → loaded_byte file segments address ≡ slice_index file ((get_or segments i d).p_offset + (address - (get_or segments i d).p_vaddr))
+loaded_byte-segment file size address segments i d h inside apart at =
+    let has = has_file_byte address in
+    let cut : segments ≡ take i segments ++ (get_or segments i d ∷ drop (suc i) segments) =
+    sym (take-append-drop i segments) ∙ ap (λ (xs : List ProgramHeader). take i segments ++ xs) (drop-cons segments i d h) in
+    let found = ap (find has) cut ∙ find-append has (take i segments) (get_or segments i d ∷ drop (suc i) segments) in
+    rw (found, none_before file size address segments i d h inside apart at, at) refl

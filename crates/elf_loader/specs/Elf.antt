@@ -1,6 +1,6 @@
 -- ELF files for 32-bit machines (Tool Interface Standard, Executable and Linking Format
 -- Specification 1.2, book I: "ELF Header", "Program Header").
-use Rattle.std.specs.Prelude.{ℕ, ◌+◌, ◌-◌, ◌*◌, ◌%◌, ◌==◌, nat_lt, nat_le, min, max, Bool, true, false, not, ◌&&◌, ◌||◌, List, [], ◌∷◌, length, slice_index, map, filter}
+use Rattle.std.specs.Prelude.{◌≡◌, ℕ, ◌+◌, ◌-◌, ◌*◌, ◌%◌, ◌==◌, nat_lt, nat_le, min, max, Bool, true, false, not, ◌&&◌, ◌||◌, List, [], ◌∷◌, length, slice_index, map, filter}
 use Rattle.std.specs.List.{list_any, range_with_len}
 use Rattle.elf_loader.specs.Size.{base}
 use Rattle.elf_loader.specs.declared.segment.ProgramHeader.{ProgramHeader}
@@ -57,7 +57,7 @@ is_load header = header.p_type == 1
 abbrev pub segments_of : List ℕ → List ProgramHeader
 segments_of file = filter is_load (program_headers file)
 
--- whether the segment's bytes in memory, and those of them that the file has, include this address
+-- whether this address is one of the segment's, and whether the file has its byte there
 abbrev pub has_address : ℕ → ProgramHeader → Bool
 has_address address segment = nat_le segment.p_vaddr address && nat_lt address (segment.p_vaddr + segment.p_memsz)
 
@@ -76,6 +76,10 @@ lies_outside file_length size segment =
 abbrev pub share_address : ProgramHeader → ProgramHeader → Bool
 share_address one other =
     nat_lt (max one.p_vaddr other.p_vaddr) (min (one.p_vaddr + one.p_memsz) (other.p_vaddr + other.p_memsz))
+
+-- the same by the address
+abbrev pub HasCommonAddress : ProgramHeader → ProgramHeader → Type 0
+HasCommonAddress one other = (address : ℕ) × (has_address address one ≡ true) × (has_address address other ≡ true)
 
 abbrev pub some_overlap : List ProgramHeader → Bool
 some_overlap [] = false
