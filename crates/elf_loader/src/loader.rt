@@ -18,7 +18,7 @@ use std::alloc::{AllocError, Global};
 /// of `LoadError` that the file shows; `NoMemory` only where it shows none.
 pub fn load(alloc: Global, file: &[u8], size: u32) -> Result<Image, LoadError>
     requires { IsMemorySize size }
-    ensures answer { (IsErrOf result LoadError.NoMemory → ⊥) → result ≡ load_answer file.now size }
+    ensures answer { ¬ IsErrOf result LoadError.NoMemory → result ≡ load_answer file.now size }
     ensures no_memory { IsErrOf result LoadError.NoMemory → IsOk (load_answer file.now size) }
 {
     check_header(file)?;
