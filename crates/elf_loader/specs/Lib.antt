@@ -1,4 +1,9 @@
+pub mod Elf
 pub mod Error
+pub mod Header
 pub mod Image
+pub mod Laws
+pub mod Load
+pub mod Placed
 pub mod Raw
 pub mod Size

@@ -1,6 +1,7 @@
 //! Why a file is refused.
 ghost use Rattle.std.specs.Prelude.{◌≡◌};
 ghost use Rattle.elf_loader.specs.Error.{number_of};
+ghost use Rattle.elf_loader.specs.declared.error.LoadError.TheVariants.{NoMemory};
 
 use std::alloc::AllocError;
 use thiserror::Error;
@@ -52,5 +53,13 @@ impl LoadError {
         ensures { result ≡ number_of self }
     {
         self as u8
+    }
+}
+
+impl From<AllocError> for LoadError {
+    ghost from_gives = { λ _ fault. fault ≡ NoMemory };
+
+    fn from(_refused: AllocError) -> LoadError {
+        LoadError::NoMemory
     }
 }

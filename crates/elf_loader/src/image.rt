@@ -114,12 +114,8 @@ pub fn raw(alloc: Global, words: &[u8], size: u32) -> Result<Image, LoadError>
     if words.len() > size as usize {
         return Err(LoadError::SegmentOutside);
     }
-    let mut bytes = Vec::with_capacity(alloc, size as usize).map_err(|_| LoadError::NoMemory)?;
-    bytes
-        .extend_from_slice(words)
-        .map_err(|_| LoadError::NoMemory)?;
-    bytes
-        .resize(size as usize, 0)
-        .map_err(|_| LoadError::NoMemory)?;
+    let mut bytes = Vec::with_capacity(alloc, size as usize)?;
+    bytes.extend_from_slice(words)?;
+    bytes.resize(size as usize, 0)?;
     Ok(Image::new(bytes, BASE))
 }

@@ -2,9 +2,18 @@
 #![tactic(auto)]
 
 mod error;
+mod header;
 mod image;
+mod laws;
+mod loader;
+mod segment;
 mod size;
 
 pub use error::LoadError;
 pub use image::{Image, raw};
+pub use laws::{each_segment_is_loaded, overlap_is_a_common_address};
+pub use loader::load;
 pub use size::{BASE, MAX_SIZE, PAGE, size_of_kib};
+
+#[cfg(test)]
+mod tests;

@@ -1,0 +1,5 @@
+pub mod Faults
+pub mod Loaded
+pub mod Overlap
+pub mod Placing
+pub mod Table
