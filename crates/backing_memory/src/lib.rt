@@ -4,3 +4,6 @@
 mod memory;
 
 pub use memory::Memory;
+
+#[cfg(test)]
+mod tests;

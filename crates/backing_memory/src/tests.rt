@@ -1,0 +1,71 @@
+//! Lines of both sizes, read and written.
+
+use crate::Memory;
+use elf_loader::raw;
+use std::process::Abort;
+use std::test::Fail;
+use tl_types::{LineData, LineSize};
+
+/// The bytes of line `i`, which has to be there.
+fn line_of(rt: &impl Abort, memory: &Memory, i: u32) -> LineData {
+    assert!(rt; i < memory.line_count());
+    memory.line(i)
+}
+
+fn set_short(rt: &impl Abort, memory: &mut Memory, i: u32, bytes: [u8; 16]) {
+    assert!(rt; i < memory.line_count());
+    let LineData::Bytes16(_) = memory.line(i) else {
+        panic!(rt; "a line of 64 bytes")
+    };
+    memory.set_line(i, LineData::Bytes16(bytes));
+}
+
+fn set_long(rt: &impl Abort, memory: &mut Memory, i: u32, bytes: [u8; 64]) {
+    assert!(rt; i < memory.line_count());
+    let LineData::Bytes64(_) = memory.line(i) else {
+        panic!(rt; "a line of 16 bytes")
+    };
+    memory.set_line(i, LineData::Bytes64(bytes));
+}
+
+#[test]
+fn lines_of_16_bytes(rt: HostRuntime) -> Result<(), Fail> {
+    let words: [u8; 20] = [
+        1, 2, 3, 4, 5, 6, 7, 8, 9, 10, 11, 12, 13, 14, 15, 16, 17, 18, 19, 20,
+    ];
+    let image = raw(rt.alloc(), &words, 4096)?;
+    let mut memory = Memory::new(rt.alloc(), &image, LineSize::Bytes16)?;
+    assert_eq!(rt; memory.line_count(), 256);
+    let first = [1, 2, 3, 4, 5, 6, 7, 8, 9, 10, 11, 12, 13, 14, 15, 16];
+    let second = [17, 18, 19, 20, 0, 0, 0, 0, 0, 0, 0, 0, 0, 0, 0, 0];
+    assert_eq!(rt; line_of(&rt, &memory, 0), LineData::Bytes16(first));
+    assert_eq!(rt; line_of(&rt, &memory, 1), LineData::Bytes16(second));
+    assert_eq!(rt; line_of(&rt, &memory, 255), LineData::Bytes16([0; 16]));
+    assert_eq!(rt; line_of(&rt, &memory, 255).size(), LineSize::Bytes16);
+    set_short(&rt, &mut memory, 255, first);
+    assert_eq!(rt; line_of(&rt, &memory, 255), LineData::Bytes16(first));
+    assert_eq!(rt; line_of(&rt, &memory, 254), LineData::Bytes16([0; 16]));
+    assert_eq!(rt; memory.line_count(), 256);
+    Ok(())
+}
+
+#[test]
+fn lines_of_64_bytes(rt: HostRuntime) -> Result<(), Fail> {
+    let mut words = [0u8; 68];
+    words[63] = 0x63;
+    words[64] = 0x64;
+    let image = raw(rt.alloc(), &words, 8192)?;
+    let mut memory = Memory::new(rt.alloc(), &image, LineSize::Bytes64)?;
+    assert_eq!(rt; memory.line_count(), 128);
+    let mut first = [0; 64];
+    first[63] = 0x63;
+    let mut second = [0; 64];
+    second[0] = 0x64;
+    assert_eq!(rt; line_of(&rt, &memory, 0), LineData::Bytes64(first));
+    assert_eq!(rt; line_of(&rt, &memory, 1), LineData::Bytes64(second));
+    assert_eq!(rt; line_of(&rt, &memory, 127).as_slice(), [0; 64].as_slice());
+    set_long(&rt, &mut memory, 0, second);
+    assert_eq!(rt; line_of(&rt, &memory, 0), LineData::Bytes64(second));
+    assert_eq!(rt; line_of(&rt, &memory, 1), LineData::Bytes64(second));
+    Ok(())
+}
