@@ -1,0 +1,5 @@
+pub mod Branches
+pub mod Cases
+pub mod Masks
+pub mod Table
+pub mod Uppers
