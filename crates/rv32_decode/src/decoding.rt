@@ -2,6 +2,7 @@
 ghost use Rattle.std.specs.Prelude.{◌≡◌, ◌==◌, if◌then◌else◌};
 ghost use Rattle.rv32_decode.specs.Decoding.{branch_of, load_of, store_of, immediate_of, shift_of, register_of, amo_of, branch_at, load_at, store_at, immediate_at, shift_at, register_at, jalr_at, fence_at, system_at, atomic_at};
 ghost use Rattle.rv32_decode.specs.Fields.{rd_of, rs1_of, rs2_of, imm_u, annotations_of};
+ghost use Rattle.rv32_decode.specs.Rows.{decoded};
 
 use crate::fields::{
     annotations, branch_offset, fence_sets, funct3, funct5, funct7, immediate_i, immediate_s,
@@ -13,7 +14,9 @@ use crate::instruction::{
 
 /// The instruction that a word is, or `None` where it is none of RV32I (without FENCE.I and the CSR
 /// instructions), M and A.
-pub fn decode(word: u32) -> Option<Instr> {
+pub fn decode(word: u32) -> Option<Instr>
+    ensures { result ≡ decoded word }
+{
     match opcode(word) {
         0x37 => Some(upper(UpperOp::Lui, word)),
         0x17 => Some(upper(UpperOp::Auipc, word)),
