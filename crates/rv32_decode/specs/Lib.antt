@@ -1,5 +1,8 @@
+pub mod Amo
+pub mod Decoding
 pub mod Encoding
 pub mod Fence
 pub mod Fields
+pub mod Numbers
 pub mod Ranges
 pub mod Rows
