@@ -11,7 +11,7 @@ use Rattle.std.proofs.lemmas.List.{nil_from_length, length-append}
 use Rattle.std.specs.Fmt.{digit_glyph}
 use Rattle.std.specs.Int.{w32, to_be_bytes, from_be_bytes}
 use Rattle.text_fields.specs.Fields.{number, hex_byte, hex, word}
-use Rattle.text_fields.specs.Reading.{◌>>=◌, pair_at, seen_at, led_at, after, ended_at, either, guarded, all_at, behind, section_at, is_digit, number_on, number_at, nibble_of, hex_byte_at, hex_at, word_at}
+use Rattle.text_fields.specs.Reading.{◌>>=◌, pair_at, seen_at, led_at, after, ended_at, either, table_at, chain_at, guarded, all_at, behind, section_at, is_digit, number_on, number_at, nibble_of, hex_byte_at, hex_at, word_at}
 
 -- What is read is spelled so, and what is spelled so is read, whatever follows.
 pub record Reads {A : Type 0} (spell : A → List ℕ) (fits : A → Type 0) (at : List ℕ → Option (A × List ℕ)) : Type 0 where
@@ -334,6 +334,40 @@ either_takes None s y e = inr (refl, e)
 pub guarded_takes : {A : Type 0} (b : Bool) (x y : A) → guarded b x ≡ Some y → (b ≡ true) × (x ≡ y)
 guarded_takes true x y e = (refl, same_Some x y e)
 guarded_takes false x y e = absurd cc
+
+-- ---- a table of texts
+
+pub table_takes : {A : Type 0} (s : A → List ℕ) (table : List (List ℕ × A)) → AllByRecursion (λ e. e.0 ≡ s e.1) table → (bytes : List ℕ) (x : A) (rest : List ℕ) → table_at table bytes ≡ Some (x, rest) → bytes ≡ s x ++ rest
+table_takes s [] fits bytes x rest e = absurd cc
+table_takes {A} s (t ∷ ts) fits bytes x rest e =
+    elim (either_takes (after t.0 bytes >>= λ r. Some (t.1, r)) (table_at ts bytes) (x, rest) e) [
+      | inl y ↦
+          let p = bind_some (after t.0 bytes) (λ r. Some (t.1, r)) (x, rest) y in
+          let made : A × List ℕ = (t.1, p.0) in
+          subst (λ (z : A × List ℕ). bytes ≡ s z.0 ++ z.1) (some_is made (x, rest) p.2) (after_takes t.0 bytes p.0 p.1 ∙ ap (λ u. u ++ p.0) fits.0)
+      | inr n ↦ table_takes s ts fits.1 bytes x rest n.1
+    ]
+
+pub table_reads : {A : Type 0} (s : A → List ℕ) (table : List (List ℕ × A)) → AllByRecursion (λ e. e.0 ≡ s e.1) table → ((x : A) (rest : List ℕ) → table_at table (s x ++ rest) ≡ Some (x, rest)) → Reads s (λ x. Unit {0}) (table_at table)
+table_reads s table fits again = record { takes = λ bytes x rest e. (table_takes s table fits bytes x rest e, tt); again = λ x rest h. again x rest }
+
+-- ---- a reader that depends on what was read before it
+
+pub chain_reads : {A B : Type 0} {sa : A → List ℕ} {fa : A → Type 0} {ra : List ℕ → Option (A × List ℕ)} {sb : A → B → List ℕ} {fb : A → B → Type 0} {rb : A → List ℕ → Option (B × List ℕ)}
+    → Reads sa fa ra → ((a : A) → fa a → Reads (sb a) (fb a) (rb a)) → Reads (λ (p : A × B). sa p.0 ++ sb p.0 p.1) (λ p. fa p.0 × fb p.0 p.1) (chain_at ra rb)
+chain_reads {A} {B} {sa} {fa} {ra} {sb} {fb} {rb} a b = record {
+  takes = λ bytes x rest e.
+    let p = bind_some (ra bytes) (λ u. rb u.0 u.1 >>= λ v. Some ((u.0, v.0), v.1)) (x, rest) e in
+    let q = bind_some (rb p.0.0 p.0.1) (λ v. Some ((p.0.0, v.0), v.1)) (x, rest) p.2 in
+    let first = a.takes bytes p.0.0 p.0.1 p.1 in
+    let second = (b p.0.0 first.1).takes p.0.1 q.0.0 q.0.1 q.1 in
+    let made : (A × B) × List ℕ = ((p.0.0, q.0.0), q.0.1) in
+    subst (λ (y : (A × B) × List ℕ). (bytes ≡ (sa y.0.0 ++ sb y.0.0 y.0.1) ++ y.1) × (fa y.0.0 × fb y.0.0 y.0.1)) (some_is made (x, rest) q.2)
+      (first.0 ∙ ap (λ (t : List ℕ). sa p.0.0 ++ t) second.0 ∙ sym (append_assoc (sa p.0.0) (sb p.0.0 q.0.0) q.0.1), (first.1, second.1));
+  again = λ x rest h.
+    let one : ra ((sa x.0 ++ sb x.0 x.1) ++ rest) ≡ Some (x.0, sb x.0 x.1 ++ rest) = ap ra (append_assoc (sa x.0) (sb x.0 x.1) rest) ∙ a.again x.0 (sb x.0 x.1 ++ rest) h.0 in
+    rw (one, (b x.0 h.0).again x.1 rest h.1) refl;
+}
 
 -- ---- items up to the end
 

@@ -8,6 +8,8 @@ mod script_faults;
 mod script_reading;
 mod script_writing;
 mod spellings;
+#[cfg(test)]
+mod tests;
 mod trace_writing;
 
 pub use fault::{TextCode, TextError};
