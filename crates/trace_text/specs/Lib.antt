@@ -1,1 +1,5 @@
 pub mod Faults
+pub mod Words
+pub mod Scripts
+pub mod Reading
+pub mod ScriptReading

@@ -1,11 +1,16 @@
 //! How the words of messages are spelt.
+ghost use Rattle.std.specs.Prelude.{◌≡◌};
+ghost use Rattle.text_fields.specs.Writing.{piece};
+ghost use Rattle.trace_text.specs.Words.{channel as channel_word};
 
 use text_fields::Piece;
 use tl_types::{Body, Cap, Change, Channel, Grow, LineData, Msg};
 use trace_recorder::Direction;
 
 /// The channel's letter, with a space behind it.
-pub(crate) fn letter(channel: Channel) -> Piece<'static> {
+pub(crate) fn letter(channel: Channel) -> Piece<'static>
+    ensures { piece result ≡ channel_word channel }
+{
     match channel {
         Channel::A => Piece::Text(b"A "),
         Channel::B => Piece::Text(b"B "),

@@ -32,7 +32,6 @@ fn row_23(rt: HostRuntime) {
     assert_eq!(rt; script_fault(rt.alloc(), b"rvtl-script 2 4 4 4 2 16\n"), Some(TextError { line: 1, code: TextCode::Header }));
     assert_eq!(rt; script_fault(rt.alloc(), b"rvtl-script 2 5 4 4 2 16\n"), None);
     assert_eq!(rt; script_fault(rt.alloc(), b"rvtl-script 1 5 4 4 2\n"), Some(TextError { line: 1, code: TextCode::Header }));
-    assert_eq!(rt; script_fault(rt.alloc(), b"rvtl-script 1 1 4 4 2\nevict 0 0x80000100\n"), Some(TextError { line: 2, code: TextCode::Word }));
 }
 
 #[test]

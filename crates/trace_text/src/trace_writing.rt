@@ -17,13 +17,13 @@ fn put_head<W: Write>(out: &mut W, image: &Image, harts: u64, line: u32) -> Resu
             Piece::Text(if first { b"rvtl-trace 1\nT " } else { b"rvtl-trace 2\nT " }),
             Piece::Number(harts),
             Piece::Text(b" "),
-            Piece::Number(u64::from(image.size() / 1024)),
+            Piece::Number((image.size() / 1024) as u64),
             Piece::Text(b" "),
             Piece::Word(image.entry()),
         ],
     )?;
     if !first {
-        put_pieces(out, &[Piece::Text(b" "), Piece::Number(u64::from(line))])?;
+        put_pieces(out, &[Piece::Text(b" "), Piece::Number(line as u64)])?;
     }
     put_pieces(out, &[Piece::Text(b"\n")])
 }
@@ -118,9 +118,9 @@ fn put_operation<W: Write>(out: &mut W, operation: OpId) -> Result<()> {
         out,
         &[
             Piece::Text(b"P "),
-            Piece::Number(u64::from(operation.hart)),
+            Piece::Number(operation.hart as u64),
             Piece::Text(b" "),
-            Piece::Number(u64::from(operation.place)),
+            Piece::Number(operation.place as u64),
             Piece::Text(b"\n"),
         ],
     )
@@ -148,7 +148,7 @@ fn put_message<W: Write>(out: &mut W, entry: &Logged) -> Result<()> {
             Piece::Text(b"M "),
             direction(entry.direction),
             letter(message.channel()),
-            Piece::Number(u64::from(entry.hart)),
+            Piece::Number(entry.hart as u64),
             Piece::Text(b" "),
             name(message),
             Piece::Word(message.line),
@@ -182,7 +182,7 @@ fn put_status<W: Write>(out: &mut W, hart: u64, status: Status) -> Result<()> {
                 Piece::Text(b"H "),
                 Piece::Number(hart),
                 Piece::Text(b" stop "),
-                Piece::Number(u64::from(code)),
+                Piece::Number(code as u64),
                 Piece::Text(b"\n"),
             ],
         ),
@@ -192,7 +192,7 @@ fn put_status<W: Write>(out: &mut W, hart: u64, status: Status) -> Result<()> {
                 Piece::Text(b"H "),
                 Piece::Number(hart),
                 Piece::Text(b" exit "),
-                Piece::Number(u64::from(code)),
+                Piece::Number(code as u64),
                 Piece::Text(b"\n"),
             ],
         ),
