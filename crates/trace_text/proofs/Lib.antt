@@ -1,1 +1,2 @@
 mod Scripts
+mod TraceWriting

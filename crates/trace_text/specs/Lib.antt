@@ -1,5 +1,9 @@
 pub mod Faults
 pub mod Words
 pub mod Scripts
+pub mod Traces
 pub mod Reading
 pub mod ScriptReading
+pub mod MessageParts
+pub mod Widths
+pub mod TraceReading

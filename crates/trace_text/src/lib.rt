@@ -3,6 +3,8 @@
 #![tactic(auto)]
 
 mod fault;
+mod head;
+mod message_reading;
 mod script;
 mod script_faults;
 mod script_reading;
