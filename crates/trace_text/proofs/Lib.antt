@@ -1,2 +1,3 @@
 mod Scripts
 mod TraceWriting
+mod TraceHeads

@@ -278,7 +278,7 @@ script_takes bytes s e =
     let first = head_takes bytes p.0.0 p.0.1 p.1 in
     let others = all_takes event_reads (length p.0.1) p.0.1 q.0 q.1 in
     subst (λ (y : Script). IsScript y × (bytes ≡ text y)) (some_is (made_of p.0.0 q.0) s q.2)
-      (record { head = first.1; events = others.1 }, first.0 ∙ ap (λ t. head p.0.0 ++ t) others.0)
+    (record { head = first.1; events = others.1 }, first.0 ∙ ap (λ t. head p.0.0 ++ t) others.0)
 
 script_again : (s : Script) → IsScript s → script_at (text s) ≡ Some s
 unfolding script_at

@@ -7,3 +7,5 @@ pub mod ScriptReading
 pub mod MessageParts
 pub mod Widths
 pub mod TraceReading
+pub mod TraceLines
+pub mod TraceHeads

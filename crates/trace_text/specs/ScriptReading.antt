@@ -44,13 +44,13 @@ most = 1024
 unfoldable pub first_head_at : List ℕ → Option (Head × List ℕ)
 first_head_at bytes =
     seen_at (λ p. record { harts = p.0; kib = p.1.0; sets = p.1.1.0; ways = p.1.1.1; line = 16 })
-      (led_at (codes "rvtl-script 1 ") (pair_at (number_at 32 most) (pair_at (number_at 32 most) (pair_at (number_at 32 most) (number_at 10 most))))) bytes
+    (led_at (codes "rvtl-script 1 ") (pair_at (number_at 32 most) (pair_at (number_at 32 most) (pair_at (number_at 32 most) (number_at 10 most))))) bytes
     >>= λ x. guarded (is_head x.0 && is_first_version x.0.harts x.0.line) x
 
 unfoldable pub second_head_at : List ℕ → Option (Head × List ℕ)
 second_head_at bytes =
     seen_at (λ p. record { harts = p.0; kib = p.1.0; sets = p.1.1.0; ways = p.1.1.1.0; line = p.1.1.1.1 })
-      (led_at (codes "rvtl-script 2 ") (pair_at (number_at 32 most) (pair_at (number_at 32 most) (pair_at (number_at 32 most) (pair_at (number_at 32 most) (number_at 10 most)))))) bytes
+    (led_at (codes "rvtl-script 2 ") (pair_at (number_at 32 most) (pair_at (number_at 32 most) (pair_at (number_at 32 most) (pair_at (number_at 32 most) (number_at 10 most)))))) bytes
     >>= λ x. guarded (is_head x.0 && not (is_first_version x.0.harts x.0.line)) x
 
 unfoldable pub head_at : List ℕ → Option (Head × List ℕ)

@@ -12,10 +12,14 @@ mod script_writing;
 mod spellings;
 #[cfg(test)]
 mod tests;
+mod trace_faults;
+mod trace_lines;
+mod trace_reading;
 mod trace_writing;
 
 pub use fault::{TextCode, TextError};
 pub use script::{Events, Script};
 pub use script_reading::read_script;
 pub use script_writing::write_script;
+pub use trace_reading::read_trace;
 pub use trace_writing::write_trace;

@@ -12,7 +12,7 @@ returns-in_err-put_pieces g c =
     let f = front_is c.args.entry.now _ _ _ _ c.direction.ensures (c.letter.ensures ∙ ap words.channel c.channel.ensures) c.name.ensures c.permissions.ensures in
     let g0 = going_as _ _ _ _ _ (logged_parts c.args.entry.now) (going_starts (g.W.Write.contents c.args.out.now) (logged c.args.entry.now)) in
     stops _ _ _ _ c.from_residual.ensures.0
-      (going_fails _ _ _ _ _ _ g0 (subst (Begins (g.W.Write.contents c.args.out.now) (g.W.Write.contents c.put_pieces.new.out)) f c.in_err-put_pieces.ensures))
+    (going_fails _ _ _ _ _ _ g0 (subst (Begins (g.W.Write.contents c.args.out.now) (g.W.Write.contents c.put_pieces.new.out)) f c.in_err-put_pieces.ensures))
 
 pub returns-in_err-put_data : goal.returns-in_err-put_data
 returns-in_err-put_data g c =

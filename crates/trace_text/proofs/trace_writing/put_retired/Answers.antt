@@ -10,5 +10,5 @@ regrouped n p w l a = simp append_assoc
 pub returns : goal.returns
 returns g c =
     rw (← c.loaded_piece.ensures, ← c.answer_piece.ensures)
-      (subst (λ (t : List ℕ). Writes (g.W.Write.contents c.args.out.now) (g.W.Write.contents c.put_pieces.new.out) t c.put_pieces.result)
-        (regrouped (decimal c.args.hart) (word c.args.entry.now.pc) (word c.args.entry.now.word) (piece c.loaded_piece.result) (piece c.answer_piece.result)) c.put_pieces.ensures)
+    (subst (λ (t : List ℕ). Writes (g.W.Write.contents c.args.out.now) (g.W.Write.contents c.put_pieces.new.out) t c.put_pieces.result)
+    (regrouped (decimal c.args.hart) (word c.args.entry.now.pc) (word c.args.entry.now.word) (piece c.loaded_piece.result) (piece c.answer_piece.result)) c.put_pieces.ensures)
