@@ -27,10 +27,11 @@ appends_then (Some us) (Some vs) (Some ws) x y p q = rw (q, p) (append_assoc us 
 -- one turn of the loop of put
 pub put_more : (old mid new : Option (List ℕ)) (bytes rest others : List ℕ) (n : ℕ) → (front : List ℕ) × (bytes ≡ front ++ rest) × Appends old mid front → Appends mid new (take n rest) → others ≡ drop n rest
     → (front : List ℕ) × (bytes ≡ front ++ others) × Appends old new front
-put_more old mid new bytes rest others n (front, e, before) now is =
-    (front ++ take n rest,
-     e ∙ ap (λ (r : List ℕ). front ++ r) (sym (take-append-drop n rest)) ∙ sym (append_assoc front (take n rest) (drop n rest)) ∙ ap (λ (r : List ℕ). (front ++ take n rest) ++ r) (sym is),
-     appends_then old mid new front (take n rest) before now)
+put_more old mid new bytes rest others n (front, e, before) now is = (
+  front ++ take n rest,
+  e ∙ ap (λ (r : List ℕ). front ++ r) (sym (take-append-drop n rest)) ∙ sym (append_assoc front (take n rest) (drop n rest)) ∙ ap (λ (r : List ℕ). (front ++ take n rest) ++ r) (sym is),
+  appends_then old mid new front (take n rest) before now,
+)
 
 pub begins_first : (a b : Option (List ℕ)) (x y : List ℕ) → Begins a b x → Begins a b (x ++ y)
 begins_first a b x y h = record { front = h.front; rest = h.rest ++ y; parts = ap (λ (t : List ℕ). t ++ y) h.parts ∙ append_assoc h.front h.rest y; sent = h.sent }
@@ -48,8 +49,8 @@ pub begins_item : {X : Type 0} (a b c : Option (List ℕ)) (f : X → List ℕ) 
 begins_item a b c f xs i x d lt is so_far now =
     let more : take (i + 1) xs ≡ take i xs ++ x ∷ [] = take_more xs i d lt ∙ ap (λ y. take i xs ++ y ∷ []) (sym is) in
     let parts : flat_map f xs ≡ (flat_map f (take i xs) ++ f x) ++ flat_map f (drop (i + 1) xs) =
-        ap (flat_map f) (sym (take-append-drop (i + 1) xs)) ∙ flat_map-append f (take (i + 1) xs) (drop (i + 1) xs)
-        ∙ ap (λ t. t ++ flat_map f (drop (i + 1) xs)) (ap (flat_map f) more ∙ flat_map-append f (take i xs) (x ∷ []) ∙ ap (λ t. flat_map f (take i xs) ++ t) (flat_map-cons f x [] ∙ append-nil (f x))) in
+    ap (flat_map f) (sym (take-append-drop (i + 1) xs)) ∙ flat_map-append f (take (i + 1) xs) (drop (i + 1) xs)
+    ∙ ap (λ t. t ++ flat_map f (drop (i + 1) xs)) (ap (flat_map f) more ∙ flat_map-append f (take i xs) (x ∷ []) ∙ ap (λ t. flat_map f (take i xs) ++ t) (flat_map-cons f x [] ∙ append-nil (f x))) in
     subst (Begins a c) (sym parts) (begins_first a c (flat_map f (take i xs) ++ f x) (flat_map f (drop (i + 1) xs)) (begins_then a b c (flat_map f (take i xs)) (f x) so_far now))
 
 -- the same, of an item that is read with a default
@@ -62,8 +63,8 @@ begins_behind a b c p f xs i d lt so_far now =
     let more : take (i + 1) xs ≡ take i xs ++ get_or xs i d ∷ [] = take_more xs i d lt in
     let x = get_or xs i d in
     let parts : flat_map f xs ≡ (flat_map f (take i xs) ++ f x) ++ flat_map f (drop (i + 1) xs) =
-        ap (flat_map f) (sym (take-append-drop (i + 1) xs)) ∙ flat_map-append f (take (i + 1) xs) (drop (i + 1) xs)
-        ∙ ap (λ t. t ++ flat_map f (drop (i + 1) xs)) (ap (flat_map f) more ∙ flat_map-append f (take i xs) (x ∷ []) ∙ ap (λ t. flat_map f (take i xs) ++ t) (flat_map-cons f x [] ∙ append-nil (f x))) in
+    ap (flat_map f) (sym (take-append-drop (i + 1) xs)) ∙ flat_map-append f (take (i + 1) xs) (drop (i + 1) xs)
+    ∙ ap (λ t. t ++ flat_map f (drop (i + 1) xs)) (ap (flat_map f) more ∙ flat_map-append f (take i xs) (x ∷ []) ∙ ap (λ t. flat_map f (take i xs) ++ t) (flat_map-cons f x [] ∙ append-nil (f x))) in
     let whole : p ++ flat_map f xs ≡ ((p ++ flat_map f (take i xs)) ++ f x) ++ flat_map f (drop (i + 1) xs) = ap (λ t. p ++ t) parts ∙ simp append_assoc in
     subst (Begins a c) (sym whole) (begins_first a c ((p ++ flat_map f (take i xs)) ++ f x) (flat_map f (drop (i + 1) xs)) (begins_then a b c (p ++ flat_map f (take i xs)) (f x) so_far now))
 
@@ -101,8 +102,8 @@ going_as a b x y text e h = subst (λ (t : List ℕ). Going a b t text) e h
 pub appends_item : {X : Type 0} (a b c : Option (List ℕ)) (f : X → List ℕ) (xs : List X) (i : ℕ) (d : X) → i < length xs → Appends a b (flat_map f (take i xs)) → Appends b c (f (get_or xs i d)) → Appends a c (flat_map f (take (i + 1) xs))
 appends_item a b c f xs i d lt so_far now =
     let whole : flat_map f (take (i + 1) xs) ≡ flat_map f (take i xs) ++ f (get_or xs i d) =
-        ap (flat_map f) (take_more xs i d lt) ∙ flat_map-append f (take i xs) (get_or xs i d ∷ [])
-        ∙ ap (λ t. flat_map f (take i xs) ++ t) (flat_map-cons f (get_or xs i d) [] ∙ append-nil (f (get_or xs i d))) in
+    ap (flat_map f) (take_more xs i d lt) ∙ flat_map-append f (take i xs) (get_or xs i d ∷ [])
+    ∙ ap (λ t. flat_map f (take i xs) ++ t) (flat_map-cons f (get_or xs i d) [] ∙ append-nil (f (get_or xs i d))) in
     subst (Appends a c) (sym whole) (appends_then a b c (flat_map f (take i xs)) (f (get_or xs i d)) so_far now)
 
 -- ---- items and their numbers
