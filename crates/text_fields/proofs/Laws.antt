@@ -11,7 +11,7 @@ use Rattle.std.proofs.lemmas.List.{nil_from_length, length-append}
 use Rattle.std.specs.Fmt.{digit_glyph}
 use Rattle.std.specs.Int.{w32, to_be_bytes, from_be_bytes}
 use Rattle.text_fields.specs.Fields.{number, hex_byte, hex, word}
-use Rattle.text_fields.specs.Reading.{◌>>=◌, pair_at, seen_at, led_at, after, ended_at, either, guarded, all_at, behind, section_at, is_digit, number_on, number_at, nibble_of, hex_byte_at, hex_at, word_at}
+use Rattle.text_fields.specs.Reading.{◌>>=◌, pair_at, seen_at, led_at, after, ended_at, either, table_at, chain_at, guarded, all_at, behind, section_at, is_digit, number_on, number_at, nibble_of, hex_byte_at, hex_at, word_at}
 
 -- What is read is spelled so, and what is spelled so is read, whatever follows.
 pub record Reads {A : Type 0} (spell : A → List ℕ) (fits : A → Type 0) (at : List ℕ → Option (A × List ℕ)) : Type 0 where
@@ -29,16 +29,16 @@ pub pair_reads : {A B : Type 0} {sa : A → List ℕ} {fa : A → Type 0} {ra : 
     → Reads sa fa ra → Reads sb fb rb → Reads (λ (p : A × B). sa p.0 ++ sb p.1) (λ p. fa p.0 × fb p.1) (pair_at ra rb)
 pair_reads {A} {B} {sa} {fa} {ra} {sb} {fb} {rb} a b = record {
   takes = λ bytes x rest e.
-    let p = bind_some (ra bytes) (λ u. rb u.1 >>= λ v. Some ((u.0, v.0), v.1)) (x, rest) e in
-    let q = bind_some (rb p.0.1) (λ v. Some ((p.0.0, v.0), v.1)) (x, rest) p.2 in
-    let first = a.takes bytes p.0.0 p.0.1 p.1 in
-    let second = b.takes p.0.1 q.0.0 q.0.1 q.1 in
-    let made : (A × B) × List ℕ = ((p.0.0, q.0.0), q.0.1) in
-    subst (λ (y : (A × B) × List ℕ). (bytes ≡ (sa y.0.0 ++ sb y.0.1) ++ y.1) × (fa y.0.0 × fb y.0.1)) (some_is made (x, rest) q.2)
+      let p = bind_some (ra bytes) (λ u. rb u.1 >>= λ v. Some ((u.0, v.0), v.1)) (x, rest) e in
+      let q = bind_some (rb p.0.1) (λ v. Some ((p.0.0, v.0), v.1)) (x, rest) p.2 in
+      let first = a.takes bytes p.0.0 p.0.1 p.1 in
+      let second = b.takes p.0.1 q.0.0 q.0.1 q.1 in
+      let made : (A × B) × List ℕ = ((p.0.0, q.0.0), q.0.1) in
+      subst (λ (y : (A × B) × List ℕ). (bytes ≡ (sa y.0.0 ++ sb y.0.1) ++ y.1) × (fa y.0.0 × fb y.0.1)) (some_is made (x, rest) q.2)
       (first.0 ∙ ap (λ (t : List ℕ). sa p.0.0 ++ t) second.0 ∙ sym (append_assoc (sa p.0.0) (sb q.0.0) q.0.1), (first.1, second.1));
   again = λ x rest h.
-    let one : ra ((sa x.0 ++ sb x.1) ++ rest) ≡ Some (x.0, sb x.1 ++ rest) = ap ra (append_assoc (sa x.0) (sb x.1) rest) ∙ a.again x.0 (sb x.1 ++ rest) h.0 in
-    rw (one, b.again x.1 rest h.1) refl;
+      let one : ra ((sa x.0 ++ sb x.1) ++ rest) ≡ Some (x.0, sb x.1 ++ rest) = ap ra (append_assoc (sa x.0) (sb x.1) rest) ∙ a.again x.0 (sb x.1 ++ rest) h.0 in
+      rw (one, b.again x.1 rest h.1) refl;
 }
 
 -- another view of the value, with a way back
@@ -46,17 +46,17 @@ pub seen_reads : {A B : Type 0} {sa : A → List ℕ} {fa : A → Type 0} {ra : 
     → ((x : A) → fa x → (sa x ≡ sb (to x)) × fb (to x)) → ((y : B) → fb y → (to (from y) ≡ y) × fa (from y)) → Reads sa fa ra → Reads sb fb (seen_at to ra)
 seen_reads {A} {B} {sa} {fa} {ra} sb fb to from forth back a = record {
   takes = λ bytes y rest e.
-    let p = bind_some (ra bytes) (λ u. Some (to u.0, u.1)) (y, rest) e in
-    let first = a.takes bytes p.0.0 p.0.1 p.1 in
-    let made : B × List ℕ = (to p.0.0, p.0.1) in
-    let there = forth p.0.0 first.1 in
-    subst (λ (z : B × List ℕ). (bytes ≡ sb z.0 ++ z.1) × fb z.0) (some_is made (y, rest) p.2)
+      let p = bind_some (ra bytes) (λ u. Some (to u.0, u.1)) (y, rest) e in
+      let first = a.takes bytes p.0.0 p.0.1 p.1 in
+      let made : B × List ℕ = (to p.0.0, p.0.1) in
+      let there = forth p.0.0 first.1 in
+      subst (λ (z : B × List ℕ). (bytes ≡ sb z.0 ++ z.1) × fb z.0) (some_is made (y, rest) p.2)
       (first.0 ∙ ap (λ (t : List ℕ). t ++ p.0.1) there.0, there.1);
   again = λ y rest h.
-    let home = back y h in
-    let same : sb y ≡ sa (from y) = sym ((forth (from y) home.1).0 ∙ ap sb home.0) in
-    let one : ra (sb y ++ rest) ≡ Some (from y, rest) = ap (λ (t : List ℕ). ra (t ++ rest)) same ∙ a.again (from y) rest home.1 in
-    rw (one, home.0) refl;
+      let home = back y h in
+      let same : sb y ≡ sa (from y) = sym ((forth (from y) home.1).0 ∙ ap sb home.0) in
+      let one : ra (sb y ++ rest) ≡ Some (from y, rest) = ap (λ (t : List ℕ). ra (t ++ rest)) same ∙ a.again (from y) rest home.1 in
+      rw (one, home.0) refl;
 }
 
 pub after_takes : (text bytes rest : List ℕ) → after text bytes ≡ Some rest → bytes ≡ text ++ rest
@@ -76,13 +76,13 @@ pub led_reads : {A : Type 0} {sa : A → List ℕ} {fa : A → Type 0} {ra : Lis
     → Reads sa fa ra → Reads (λ x. text ++ sa x) fa (led_at text ra)
 led_reads {A} {sa} {fa} {ra} text a = record {
   takes = λ bytes x rest e.
-    let p = bind_some (after text bytes) ra (x, rest) e in
-    let first = after_takes text bytes p.0 p.1 in
-    let second = a.takes p.0 x rest p.2 in
-    (first ∙ ap (λ (t : List ℕ). text ++ t) second.0 ∙ sym (append_assoc text (sa x) rest), second.1);
+      let p = bind_some (after text bytes) ra (x, rest) e in
+      let first = after_takes text bytes p.0 p.1 in
+      let second = a.takes p.0 x rest p.2 in
+      (first ∙ ap (λ (t : List ℕ). text ++ t) second.0 ∙ sym (append_assoc text (sa x) rest), second.1);
   again = λ x rest h.
-    let one : after text ((text ++ sa x) ++ rest) ≡ Some (sa x ++ rest) = ap (after text) (append_assoc text (sa x) rest) ∙ after_again text (sa x ++ rest) in
-    rw (one) (a.again x rest h);
+      let one : after text ((text ++ sa x) ++ rest) ≡ Some (sa x ++ rest) = ap (after text) (append_assoc text (sa x) rest) ∙ after_again text (sa x ++ rest) in
+      rw (one) (a.again x rest h);
 }
 
 -- ---- tests
@@ -151,13 +151,13 @@ number_at_first end most n tail small pos le =
 number_front : (end most : ℕ) → end < 48 → (n : ℕ) → n < 2 ^ 64 → 0 < n → n ≤ most → (tail : List ℕ) → number_at end most (decimal n ++ tail) ≡ number_on end most tail n
 number_front end most low =
     decimal_by_steps (λ n ds. 0 < n → n ≤ most → (tail : List ℕ) → number_at end most (ds ++ tail) ≡ number_on end most tail n)
-      (λ n small pos le tail. number_at_first end most n tail small pos le)
-      (λ n ds big ih pos le tail.
-        let back : n / 10 * 10 + (48 + n % 10 - 48) ≡ n = omega arith in
-        ap (number_at end most) (append_assoc ds ((48 + n % 10) ∷ []) tail)
-        ∙ ih (omega arith) (omega arith) ((48 + n % 10) ∷ tail)
-        ∙ number_on_step end most (48 + n % 10) tail (n / 10) low (omega arith) (omega arith) (omega arith)
-        ∙ ap (number_on end most tail) back)
+    (λ n small pos le tail. number_at_first end most n tail small pos le)
+    (λ n ds big ih pos le tail.
+    let back : n / 10 * 10 + (48 + n % 10 - 48) ≡ n = omega arith in
+    ap (number_at end most) (append_assoc ds ((48 + n % 10) ∷ []) tail)
+    ∙ ih (omega arith) (omega arith) ((48 + n % 10) ∷ tail)
+    ∙ number_on_step end most (48 + n % 10) tail (n / 10) low (omega arith) (omega arith) (omega arith)
+    ∙ ap (number_on end most tail) back)
 
 zero_is : (end b : ℕ) (bytes rest : List ℕ) → b ≡ 48 → bytes ≡ end ∷ rest → b ∷ bytes ≡ number end 0 ++ rest
 zero_is end b bytes rest same first = rw (same, first, decimal_digit 0 (omega arith)) refl
@@ -284,9 +284,10 @@ hex_takes (suc n) bytes xs rest e =
     let first = hex_byte_takes bytes p.0.0 p.0.1 p.1 in
     let second = hex_takes n p.0.1 q.0.0 q.0.1 q.1 in
     let made : List ℕ × List ℕ = (p.0.0 ∷ q.0.0, q.0.1) in
-    subst (λ (y : List ℕ × List ℕ). (bytes ≡ hex y.0 ++ y.1) × IsHex (suc n) y.0) (some_is made (xs, rest) q.2)
-      (first.0 ∙ ap (λ t. hex_byte p.0.0 ++ t) second.0 ∙ sym (ap (λ t. t ++ q.0.1) (flat_map-cons hex_byte p.0.0 q.0.0) ∙ append_assoc (hex_byte p.0.0) (hex q.0.0) q.0.1),
-       record { len = ap suc second.1.len; small = (first.1, second.1.small) })
+    subst (λ (y : List ℕ × List ℕ). (bytes ≡ hex y.0 ++ y.1) × IsHex (suc n) y.0) (some_is made (xs, rest) q.2) (
+      first.0 ∙ ap (λ t. hex_byte p.0.0 ++ t) second.0 ∙ sym (ap (λ t. t ++ q.0.1) (flat_map-cons hex_byte p.0.0 q.0.0) ∙ append_assoc (hex_byte p.0.0) (hex q.0.0) q.0.1),
+      record { len = ap suc second.1.len; small = (first.1, second.1.small) },
+    )
 
 hex_again : (xs rest : List ℕ) → AllByRecursion (λ b. b < 256) xs → hex_at (length xs) (hex xs ++ rest) ≡ Some (xs, rest)
 unfolding hex_at
@@ -323,7 +324,7 @@ pub word_reads : Reads word (λ n. n < 2 ^ 32) word_at
 unfolding word_at
 word_reads =
     led_reads (codes "0x") (seen_reads (λ n. hex (to_be_bytes w32 n)) (λ n. n < 2 ^ 32) (from_be_bytes w32) (to_be_bytes w32)
-      (λ x h. (ap hex (sym (word_back x h).0), (word_back x h).1)) (λ n lt. word_forth n lt) (hex_reads 4))
+    (λ x h. (ap hex (sym (word_back x h).0), (word_back x h).1)) (λ n lt. word_forth n lt) (hex_reads 4))
 
 -- ---- choices and tests
 
@@ -334,6 +335,40 @@ either_takes None s y e = inr (refl, e)
 pub guarded_takes : {A : Type 0} (b : Bool) (x y : A) → guarded b x ≡ Some y → (b ≡ true) × (x ≡ y)
 guarded_takes true x y e = (refl, same_Some x y e)
 guarded_takes false x y e = absurd cc
+
+-- ---- a table of texts
+
+pub table_takes : {A : Type 0} (s : A → List ℕ) (table : List (List ℕ × A)) → AllByRecursion (λ e. e.0 ≡ s e.1) table → (bytes : List ℕ) (x : A) (rest : List ℕ) → table_at table bytes ≡ Some (x, rest) → bytes ≡ s x ++ rest
+table_takes s [] fits bytes x rest e = absurd cc
+table_takes {A} s (t ∷ ts) fits bytes x rest e =
+    elim (either_takes (after t.0 bytes >>= λ r. Some (t.1, r)) (table_at ts bytes) (x, rest) e) [
+      | inl y ↦
+          let p = bind_some (after t.0 bytes) (λ r. Some (t.1, r)) (x, rest) y in
+          let made : A × List ℕ = (t.1, p.0) in
+          subst (λ (z : A × List ℕ). bytes ≡ s z.0 ++ z.1) (some_is made (x, rest) p.2) (after_takes t.0 bytes p.0 p.1 ∙ ap (λ u. u ++ p.0) fits.0)
+      | inr n ↦ table_takes s ts fits.1 bytes x rest n.1
+    ]
+
+pub table_reads : {A : Type 0} (s : A → List ℕ) (table : List (List ℕ × A)) → AllByRecursion (λ e. e.0 ≡ s e.1) table → ((x : A) (rest : List ℕ) → table_at table (s x ++ rest) ≡ Some (x, rest)) → Reads s (λ x. Unit {0}) (table_at table)
+table_reads s table fits again = record { takes = λ bytes x rest e. (table_takes s table fits bytes x rest e, tt); again = λ x rest h. again x rest }
+
+-- ---- a reader that depends on what was read before it
+
+pub chain_reads : {A B : Type 0} {sa : A → List ℕ} {fa : A → Type 0} {ra : List ℕ → Option (A × List ℕ)} {sb : A → B → List ℕ} {fb : A → B → Type 0} {rb : A → List ℕ → Option (B × List ℕ)}
+    → Reads sa fa ra → ((a : A) → fa a → Reads (sb a) (fb a) (rb a)) → Reads (λ (p : A × B). sa p.0 ++ sb p.0 p.1) (λ p. fa p.0 × fb p.0 p.1) (chain_at ra rb)
+chain_reads {A} {B} {sa} {fa} {ra} {sb} {fb} {rb} a b = record {
+  takes = λ bytes x rest e.
+      let p = bind_some (ra bytes) (λ u. rb u.0 u.1 >>= λ v. Some ((u.0, v.0), v.1)) (x, rest) e in
+      let q = bind_some (rb p.0.0 p.0.1) (λ v. Some ((p.0.0, v.0), v.1)) (x, rest) p.2 in
+      let first = a.takes bytes p.0.0 p.0.1 p.1 in
+      let second = (b p.0.0 first.1).takes p.0.1 q.0.0 q.0.1 q.1 in
+      let made : (A × B) × List ℕ = ((p.0.0, q.0.0), q.0.1) in
+      subst (λ (y : (A × B) × List ℕ). (bytes ≡ (sa y.0.0 ++ sb y.0.0 y.0.1) ++ y.1) × (fa y.0.0 × fb y.0.0 y.0.1)) (some_is made (x, rest) q.2)
+      (first.0 ∙ ap (λ (t : List ℕ). sa p.0.0 ++ t) second.0 ∙ sym (append_assoc (sa p.0.0) (sb p.0.0 q.0.0) q.0.1), (first.1, second.1));
+  again = λ x rest h.
+      let one : ra ((sa x.0 ++ sb x.0 x.1) ++ rest) ≡ Some (x.0, sb x.0 x.1 ++ rest) = ap ra (append_assoc (sa x.0) (sb x.0 x.1) rest) ∙ a.again x.0 (sb x.0 x.1 ++ rest) h.0 in
+      rw (one, (b x.0 h.0).again x.1 rest h.1) refl;
+}
 
 -- ---- items up to the end
 
@@ -351,7 +386,7 @@ all_takes {A} {s} {f} {r} item (suc n) bytes xs e =
           let first = item.takes bytes p.0.0 p.0.1 p.1 in
           let others = all_takes item n p.0.1 q.0 q.1 in
           subst (λ (ys : List A). (bytes ≡ flat_map s ys) × AllByRecursion f ys) (same_Some (p.0.0 ∷ q.0) xs q.2)
-            (first.0 ∙ ap (λ t. s p.0.0 ++ t) others.0 ∙ sym (flat_map-cons s p.0.0 q.0), (first.1, others.1))
+          (first.0 ∙ ap (λ t. s p.0.0 ++ t) others.0 ∙ sym (flat_map-cons s p.0.0 q.0), (first.1, others.1))
     ]
 
 pub all_again : {A : Type 0} {s : A → List ℕ} {f : A → Type 0} {r : List ℕ → Option (A × List ℕ)} → Reads s f r → ((x : A) → 0 < length (s x)) → (n : ℕ) (xs : List A) → AllByRecursion f xs → length (flat_map s xs) ≤ n → all_at r n (flat_map s xs) ≡ Some xs
@@ -387,9 +422,9 @@ section_takes {A} {s} {f} {r} lead item (suc n) bytes xs rest e =
           let first = item.takes on.0 p.0.0 p.0.1 p.1 in
           let others = section_takes lead item n p.0.1 q.0.0 q.0.1 q.1 in
           let whole : bytes ≡ flat_map (λ x. lead ++ s x) (p.0.0 ∷ q.0.0) ++ q.0.1 =
-              led ∙ ap (λ t. lead ++ t) (first.0 ∙ ap (λ t. s p.0.0 ++ t) others.0)
-              ∙ sym (append_assoc lead (s p.0.0) (flat_map (λ x. lead ++ s x) q.0.0 ++ q.0.1)) ∙ sym (append_assoc (lead ++ s p.0.0) (flat_map (λ x. lead ++ s x) q.0.0) q.0.1)
-              ∙ ap (λ t. t ++ q.0.1) (sym (flat_map-cons (λ x. lead ++ s x) p.0.0 q.0.0)) in
+          led ∙ ap (λ t. lead ++ t) (first.0 ∙ ap (λ t. s p.0.0 ++ t) others.0)
+          ∙ sym (append_assoc lead (s p.0.0) (flat_map (λ x. lead ++ s x) q.0.0 ++ q.0.1)) ∙ sym (append_assoc (lead ++ s p.0.0) (flat_map (λ x. lead ++ s x) q.0.0) q.0.1)
+          ∙ ap (λ t. t ++ q.0.1) (sym (flat_map-cons (λ x. lead ++ s x) p.0.0 q.0.0)) in
           subst (λ (y : List A × List ℕ). (bytes ≡ flat_map (λ x. lead ++ s x) y.0 ++ y.1) × AllByRecursion f y.0) (some_is (p.0.0 ∷ q.0.0, q.0.1) (xs, rest) q.2) (whole, (first.1, others.1))
       | inr off ↦ subst (λ (y : List A × List ℕ). (bytes ≡ flat_map (λ x. lead ++ s x) y.0 ++ y.1) × AllByRecursion f y.0) (some_is made (xs, rest) off.1) (refl, tt)
     ]
@@ -403,9 +438,9 @@ section_again {A} {s} {f} {r} lead item some zero (x ∷ xs) rest fits off le =
 section_again {A} {s} {f} {r} lead item some (suc n) (x ∷ xs) rest fits off le =
     let more : List ℕ = flat_map (λ y. lead ++ s y) xs in
     let len : length (flat_map (λ y. lead ++ s y) (x ∷ xs)) ≡ (length lead + length (s x)) + length more =
-        ap length (flat_map-cons (λ y. lead ++ s y) x xs) ∙ length-append (lead ++ s x) more ∙ ap (λ k. k + length more) (length-append lead (s x)) in
+    ap length (flat_map-cons (λ y. lead ++ s y) x xs) ∙ length-append (lead ++ s x) more ∙ ap (λ k. k + length more) (length-append lead (s x)) in
     let parts : flat_map (λ y. lead ++ s y) (x ∷ xs) ++ rest ≡ lead ++ (s x ++ (more ++ rest)) =
-        ap (λ t. t ++ rest) (flat_map-cons (λ y. lead ++ s y) x xs) ∙ append_assoc (lead ++ s x) more rest ∙ append_assoc lead (s x) (more ++ rest) in
+    ap (λ t. t ++ rest) (flat_map-cons (λ y. lead ++ s y) x xs) ∙ append_assoc (lead ++ s x) more rest ∙ append_assoc lead (s x) (more ++ rest) in
     ap (section_at lead r (suc n)) parts ∙ rw (after_again lead (s x ++ (more ++ rest)), item.again x (more ++ rest) fits.0, section_again lead item some n xs rest fits.1 off (omega (arith, len, some))) refl
 
 -- ---- one way of seeing a value
@@ -424,26 +459,26 @@ seen_again a to x rest h = rw (a.again x rest h) refl
 pub ended_reads : {A : Type 0} {s : A → List ℕ} {f : A → Type 0} {r : List ℕ → Option (A × List ℕ)} (end : ℕ) → Reads s f r → Reads (λ x. s x ++ end ∷ []) f (ended_at end r)
 ended_reads {A} {s} {f} {r} end a = record {
   takes = λ bytes x rest e.
-    let p = bind_some (r bytes) (λ w. after (end ∷ []) w.1 >>= λ t. Some (w.0, t)) (x, rest) e in
-    let q = bind_some (after (end ∷ []) p.0.1) (λ t. Some (p.0.0, t)) (x, rest) p.2 in
-    let first = a.takes bytes p.0.0 p.0.1 p.1 in
-    let second = after_takes (end ∷ []) p.0.1 q.0 q.1 in
-    let made : A × List ℕ = (p.0.0, q.0) in
-    subst (λ (y : A × List ℕ). (bytes ≡ (s y.0 ++ end ∷ []) ++ y.1) × f y.0) (some_is made (x, rest) q.2)
+      let p = bind_some (r bytes) (λ w. after (end ∷ []) w.1 >>= λ t. Some (w.0, t)) (x, rest) e in
+      let q = bind_some (after (end ∷ []) p.0.1) (λ t. Some (p.0.0, t)) (x, rest) p.2 in
+      let first = a.takes bytes p.0.0 p.0.1 p.1 in
+      let second = after_takes (end ∷ []) p.0.1 q.0 q.1 in
+      let made : A × List ℕ = (p.0.0, q.0) in
+      subst (λ (y : A × List ℕ). (bytes ≡ (s y.0 ++ end ∷ []) ++ y.1) × f y.0) (some_is made (x, rest) q.2)
       (first.0 ∙ ap (λ t. s p.0.0 ++ t) second ∙ sym (append_assoc (s p.0.0) (end ∷ []) q.0), first.1);
   again = λ x rest h.
-    let one : r ((s x ++ end ∷ []) ++ rest) ≡ Some (x, end ∷ rest) = ap r (append_assoc (s x) (end ∷ []) rest) ∙ a.again x (end ∷ rest) h in
-    rw (one, after_again (end ∷ []) rest) refl;
+      let one : r ((s x ++ end ∷ []) ++ rest) ≡ Some (x, end ∷ rest) = ap r (append_assoc (s x) (end ∷ []) rest) ∙ a.again x (end ∷ rest) h in
+      rw (one, after_again (end ∷ []) rest) refl;
 }
 
 -- a law of a test on what is read
 pub guard_reads : {A : Type 0} {s : A → List ℕ} {f : A → Type 0} {r : List ℕ → Option (A × List ℕ)} (ok : A → Bool) → Reads s f r → Reads s (λ x. f x × (ok x ≡ true)) (λ bytes. r bytes >>= λ x. guarded (ok x.0) x)
 guard_reads {A} {s} {f} {r} ok a = record {
   takes = λ bytes x rest e.
-    let p = bind_some (r bytes) (λ x. guarded (ok x.0) x) (x, rest) e in
-    let g = guarded_takes (ok p.0.0) p.0 (x, rest) p.2 in
-    let first = a.takes bytes p.0.0 p.0.1 p.1 in
-    subst (λ (y : A × List ℕ). (bytes ≡ s y.0 ++ y.1) × (f y.0 × (ok y.0 ≡ true))) g.1 (first.0, (first.1, g.0));
+      let p = bind_some (r bytes) (λ x. guarded (ok x.0) x) (x, rest) e in
+      let g = guarded_takes (ok p.0.0) p.0 (x, rest) p.2 in
+      let first = a.takes bytes p.0.0 p.0.1 p.1 in
+      subst (λ (y : A × List ℕ). (bytes ≡ s y.0 ++ y.1) × (f y.0 × (ok y.0 ≡ true))) g.1 (first.0, (first.1, g.0));
   again = λ x rest h. rw (a.again x rest h.0, h.1) refl;
 }
 

@@ -36,7 +36,11 @@ fn glyph(nibble: u8) -> u8
     requires { nibble < 16 }
     ensures { result ≡ digit_glyph false nibble }
 {
-    if nibble < 10 { b'0' + nibble } else { b'a' + (nibble - 10) }
+    if nibble < 10 {
+        b'0' + nibble
+    } else {
+        b'a' + (nibble - 10)
+    }
 }
 
 fn put_hex_byte<W: Write>(out: &mut W, byte: u8) -> Result<(), Error>

@@ -1,0 +1,3 @@
+mod Scripts
+mod TraceWriting
+mod TraceHeads

@@ -1,1 +1,11 @@
 pub mod Faults
+pub mod Words
+pub mod Scripts
+pub mod Traces
+pub mod Reading
+pub mod ScriptReading
+pub mod MessageParts
+pub mod Widths
+pub mod TraceReading
+pub mod TraceLines
+pub mod TraceHeads

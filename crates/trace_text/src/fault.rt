@@ -2,6 +2,7 @@
 ghost use Rattle.std.specs.Prelude.{◌≡◌};
 ghost use Rattle.trace_text.specs.Faults.{number_of};
 
+use text_fields::after;
 use thiserror::Error;
 
 /// What is wrong with a line. Of the causes that hold, the first of `End`, `Header`, `Word`, `Fields`,
@@ -75,4 +76,9 @@ pub(crate) fn line_at(bytes: &[u8], left: usize) -> (usize, &[u8]) {
 pub(crate) fn whole_line(bytes: &[u8]) -> Option<&[u8]> {
     let end = bytes.iter().position(|byte| *byte == b'\n')?;
     bytes.get(..=end)
+}
+
+/// Whether the first word of a line is this one.
+pub(crate) fn is_word(line: &[u8], word: &[u8]) -> bool {
+    matches!(after(word, line), Some([b' ' | b'\n', ..]))
 }

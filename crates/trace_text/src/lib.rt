@@ -3,15 +3,23 @@
 #![tactic(auto)]
 
 mod fault;
+mod head;
+mod message_reading;
 mod script;
 mod script_faults;
 mod script_reading;
 mod script_writing;
 mod spellings;
+#[cfg(test)]
+mod tests;
+mod trace_faults;
+mod trace_lines;
+mod trace_reading;
 mod trace_writing;
 
 pub use fault::{TextCode, TextError};
 pub use script::{Events, Script};
 pub use script_reading::read_script;
 pub use script_writing::write_script;
+pub use trace_reading::read_trace;
 pub use trace_writing::write_trace;

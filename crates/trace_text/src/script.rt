@@ -1,5 +1,6 @@
 //! Scripts.
 ghost use Rattle.std.specs.Prelude.{◌≡◌};
+ghost use Rattle.trace_text.specs.Scripts.{is_first_version};
 
 use machine_model::Event;
 use std::marker::Model;
@@ -68,18 +69,8 @@ pub(crate) struct Head {
 }
 
 /// Version 1 has lines of 16 bytes and at most 4 harts; whatever is spelt there isn't in version 2.
-pub(crate) fn is_first_version(harts: u64, line: u32) -> bool {
+pub(crate) fn is_first_version(harts: u64, line: u32) -> bool
+    ensures { result ≡ is_first_version harts line }
+{
     line == 16 && harts <= 4
-}
-
-impl Script {
-    pub(crate) fn head(&self) -> Head {
-        Head {
-            harts: self.harts,
-            kib: self.kib,
-            sets: self.sets,
-            ways: self.ways,
-            line: self.line,
-        }
-    }
 }

@@ -1,4 +1,10 @@
 //! Reading a script.
+ghost use Rattle.std.specs.Prelude.{◌≡◌, length, IfOk};
+ghost use Rattle.std.specs.Option.{option_map};
+ghost use Rattle.text_fields.specs.Reading.{all_at};
+ghost use Rattle.trace_text.specs.Scripts.{is_power, is_head, text, IsScript};
+ghost use Rattle.trace_text.specs.ScriptReading as reads;
+ghost use Rattle.trace_text.specs.Reading.{Gives, Answers, IsNoMemory};
 
 use crate::fault::{Stop, TextError};
 use crate::script::{Events, Head, Script, is_first_version};
@@ -8,39 +14,48 @@ use std::alloc::Global;
 use text_fields::{after, number_at, word_at};
 use tl_types::Channel;
 
-fn word_line_at(bytes: &[u8]) -> Option<(u32, &[u8])> {
+#[tactic(auto, unfolding(crate::specs::ScriptReading::word_line_at))]
+fn word_line_at(bytes: &[u8]) -> Option<(u32, &[u8])>
+    ensures { option_map (λ x. (x.0, x.1.now)) result ≡ reads.word_line_at bytes.now }
+{
     let (word, rest) = word_at(bytes)?;
     let rest = after(b"\n", rest)?;
     Some((word, rest))
 }
 
-fn channel_of(byte: u8) -> Option<Channel> {
-    match byte {
-        b'A' => Some(Channel::A),
-        b'B' => Some(Channel::B),
-        b'C' => Some(Channel::C),
-        b'D' => Some(Channel::D),
-        b'E' => Some(Channel::E),
-        _ => None,
+#[tactic(auto, unfolding(crate::specs::ScriptReading::channel_at))]
+pub(crate) fn channel_at(bytes: &[u8]) -> Option<(Channel, &[u8])>
+    ensures { option_map (λ x. (x.0, x.1.now)) result ≡ reads.channel_at bytes.now }
+{
+    if let Some(rest) = after(b"A ", bytes) {
+        return Some((Channel::A, rest));
     }
+    if let Some(rest) = after(b"B ", bytes) {
+        return Some((Channel::B, rest));
+    }
+    if let Some(rest) = after(b"C ", bytes) {
+        return Some((Channel::C, rest));
+    }
+    if let Some(rest) = after(b"D ", bytes) {
+        return Some((Channel::D, rest));
+    }
+    let rest = after(b"E ", bytes)?;
+    Some((Channel::E, rest))
 }
 
-fn channel_at(bytes: &[u8]) -> Option<(Channel, &[u8])> {
-    let [letter, rest @ ..] = bytes else {
-        return None;
-    };
-    let channel = channel_of(*letter)?;
-    let rest = after(b" ", rest)?;
-    Some((channel, rest))
-}
-
-fn step_at(bytes: &[u8]) -> Option<(Event, &[u8])> {
+#[tactic(auto, unfolding(crate::specs::ScriptReading::step_at))]
+fn step_at(bytes: &[u8]) -> Option<(Event, &[u8])>
+    ensures { option_map (λ x. (x.0, x.1.now)) result ≡ reads.step_at bytes.now }
+{
     let rest = after(b"step ", bytes)?;
     let (hart, rest) = number_at(rest, b'\n', 255)?;
     Some((Event::Step { hart: hart as u8 }, rest))
 }
 
-fn drain_at(bytes: &[u8]) -> Option<(Event, &[u8])> {
+#[tactic(auto, unfolding(crate::specs::ScriptReading::drain_at))]
+fn drain_at(bytes: &[u8]) -> Option<(Event, &[u8])>
+    ensures { option_map (λ x. (x.0, x.1.now)) result ≡ reads.drain_at bytes.now }
+{
     let rest = after(b"drain ", bytes)?;
     let (hart, rest) = number_at(rest, b' ', 255)?;
     let (word, rest) = word_line_at(rest)?;
@@ -48,7 +63,21 @@ fn drain_at(bytes: &[u8]) -> Option<(Event, &[u8])> {
     Some((Event::Drain { hart, word }, rest))
 }
 
-fn deliver_at(bytes: &[u8]) -> Option<(Event, &[u8])> {
+#[tactic(auto, unfolding(crate::specs::ScriptReading::evict_at))]
+fn evict_at(bytes: &[u8]) -> Option<(Event, &[u8])>
+    ensures { option_map (λ x. (x.0, x.1.now)) result ≡ reads.evict_at bytes.now }
+{
+    let rest = after(b"evict ", bytes)?;
+    let (hart, rest) = number_at(rest, b' ', 255)?;
+    let (line, rest) = word_line_at(rest)?;
+    let hart = hart as u8;
+    Some((Event::Evict { hart, line }, rest))
+}
+
+#[tactic(auto, unfolding(crate::specs::ScriptReading::deliver_at))]
+fn deliver_at(bytes: &[u8]) -> Option<(Event, &[u8])>
+    ensures { option_map (λ x. (x.0, x.1.now)) result ≡ reads.deliver_at bytes.now }
+{
     let rest = after(b"deliver ", bytes)?;
     let (channel, rest) = channel_at(rest)?;
     let (hart, rest) = number_at(rest, b'\n', 255)?;
@@ -56,28 +85,55 @@ fn deliver_at(bytes: &[u8]) -> Option<(Event, &[u8])> {
     Some((Event::Deliver { channel, hart }, rest))
 }
 
-fn event_at(bytes: &[u8]) -> Option<(Event, &[u8])> {
+#[tactic(auto, unfolding(crate::specs::ScriptReading::local_at))]
+fn local_at(bytes: &[u8]) -> Option<(Event, &[u8])>
+    ensures { option_map (λ x. (x.0, x.1.now)) result ≡ reads.local_at bytes.now }
+{
+    let rest = after(b"local ", bytes)?;
+    let (hart, rest) = number_at(rest, b' ', 255)?;
+    let (count, rest) = number_at(rest, b'\n', u32::MAX)?;
+    let hart = hart as u8;
+    Some((Event::Local { hart, count }, rest))
+}
+
+#[tactic(auto, unfolding(crate::specs::ScriptReading::event_at))]
+fn event_at(bytes: &[u8]) -> Option<(Event, &[u8])>
+    ensures { option_map (λ x. (x.0, x.1.now)) result ≡ reads.event_at bytes.now }
+{
     if let Some(found) = step_at(bytes) {
         return Some(found);
     }
     if let Some(found) = drain_at(bytes) {
         return Some(found);
     }
-    deliver_at(bytes)
+    if let Some(found) = evict_at(bytes) {
+        return Some(found);
+    }
+    if let Some(found) = deliver_at(bytes) {
+        return Some(found);
+    }
+    local_at(bytes)
 }
 
-fn is_power(n: u32) -> bool {
+fn is_power(n: u32) -> bool
+    ensures { result ≡ is_power n }
+{
     n == 1 || n == 2 || n == 4 || n == 8 || n == 16 || n == 32 || n == 64
 }
 
-fn is_head(head: &Head) -> bool {
+fn is_head(head: &Head) -> bool
+    ensures { result ≡ is_head head.now }
+{
     let harts = 1 <= head.harts && head.harts <= 8;
     let kib = 4 <= head.kib && head.kib <= 1024 && head.kib % 4 == 0;
     let ways = 1 <= head.ways && head.ways <= 4;
     harts && kib && is_power(head.sets) && ways && (head.line == 16 || head.line == 64)
 }
 
-fn first_head_at(bytes: &[u8]) -> Option<(Head, &[u8])> {
+#[tactic(auto, unfolding(crate::specs::ScriptReading::first_head_at))]
+fn first_head_at(bytes: &[u8]) -> Option<(Head, &[u8])>
+    ensures { option_map (λ x. (x.0, x.1.now)) result ≡ reads.first_head_at bytes.now }
+{
     let rest = after(b"rvtl-script 1 ", bytes)?;
     let (harts, rest) = number_at(rest, b' ', 1024)?;
     let (kib, rest) = number_at(rest, b' ', 1024)?;
@@ -90,14 +146,17 @@ fn first_head_at(bytes: &[u8]) -> Option<(Head, &[u8])> {
         ways,
         line: 16,
     };
-    if is_head(&head) && is_first_version(u64::from(harts), 16) {
+    if is_head(&head) && is_first_version(head.harts as u64, head.line) {
         Some((head, rest))
     } else {
         None
     }
 }
 
-fn second_head_at(bytes: &[u8]) -> Option<(Head, &[u8])> {
+#[tactic(auto, unfolding(crate::specs::ScriptReading::second_head_at))]
+fn second_head_at(bytes: &[u8]) -> Option<(Head, &[u8])>
+    ensures { option_map (λ x. (x.0, x.1.now)) result ≡ reads.second_head_at bytes.now }
+{
     let rest = after(b"rvtl-script 2 ", bytes)?;
     let (harts, rest) = number_at(rest, b' ', 1024)?;
     let (kib, rest) = number_at(rest, b' ', 1024)?;
@@ -111,39 +170,47 @@ fn second_head_at(bytes: &[u8]) -> Option<(Head, &[u8])> {
         ways,
         line,
     };
-    if is_head(&head) && !is_first_version(u64::from(harts), line) {
+    if is_head(&head) && !is_first_version(head.harts as u64, head.line) {
         Some((head, rest))
     } else {
         None
     }
 }
 
-fn head_at(bytes: &[u8]) -> Option<(Head, &[u8])> {
+#[tactic(auto, unfolding(crate::specs::ScriptReading::head_at))]
+fn head_at(bytes: &[u8]) -> Option<(Head, &[u8])>
+    ensures { option_map (λ x. (x.0, x.1.now)) result ≡ reads.head_at bytes.now }
+{
     if let Some(found) = first_head_at(bytes) {
         return Some(found);
     }
     second_head_at(bytes)
 }
 
-fn events_of(alloc: Global, bytes: &[u8]) -> Result<Vec<Event>, Stop> {
+#[tactic(auto, using(crate::proofs::Scripts::event_shortens))]
+fn events_of(alloc: Global, bytes: &[u8]) -> Result<Vec<Event>, Stop>
+    ensures { Gives (λ v. v.items) result (all_at reads.event_at (length bytes.now) bytes.now) }
+{
     let mut events = Vec::new(alloc);
     let mut rest = bytes;
-    for _ in 0..bytes.len() {
-        if rest.is_empty() {
-            break;
-        }
+    while !rest.is_empty() {
         match event_at(rest) {
-            Some((event, later)) => match events.push(event) {
-                Ok(()) => rest = later,
-                Err(_) => return Err(Stop::Memory { left: rest.len() }),
-            },
+            Some((event, later)) => {
+                match events.push(event) {
+                    Ok(()) => rest = later,
+                    Err(_) => return Err(Stop::Memory { left: rest.len() }),
+                }
+            }
             None => return Err(Stop::Bytes { left: rest.len() }),
         }
     }
     Ok(events)
 }
 
-fn script_of(alloc: Global, bytes: &[u8]) -> Result<Script, Stop> {
+#[tactic(auto, unfolding(crate::specs::ScriptReading::script_at))]
+fn script_of(alloc: Global, bytes: &[u8]) -> Result<Script, Stop>
+    ensures { Gives (λ s. s) result (reads.script_at bytes.now) }
+{
     match head_at(bytes) {
         Some((head, rest)) => {
             let events = events_of(alloc, rest)?;
@@ -160,10 +227,21 @@ fn script_of(alloc: Global, bytes: &[u8]) -> Result<Script, Stop> {
     }
 }
 
-/// The script whose text this is, all of it.
-pub fn read_script(alloc: Global, bytes: &[u8]) -> Result<Script, TextError> {
+fn all(alloc: Global, bytes: &[u8]) -> Result<Script, TextError>
+    ensures { Answers (λ s. s) result (reads.script_at bytes.now) }
+{
     match script_of(alloc, bytes) {
         Ok(script) => Ok(script),
         Err(stop) => Err(script_fault(bytes, stop)),
     }
+}
+
+/// The script whose text this is, all of it. A script may end after any whole line from the first on.
+pub fn read_script(alloc: Global, bytes: &[u8]) -> Result<Script, TextError>
+    // What is read is a script, spelled so.
+    ensures found { IfOk result (λ s. IsScript s × (bytes.now ≡ text s)) }
+    // What a script is spelled is read as that script, unless memory runs out.
+    ensures only { (s : Script) → IsScript s → bytes.now ≡ text s → ¬ IsNoMemory result → result ≡ Ok s }
+{
+    all(alloc, bytes)
 }

@@ -1,18 +1,24 @@
 //! Writing a script.
+ghost use Rattle.std.specs.Prelude.{◌≡◌};
+ghost use Rattle.std.specs.List.{flat_map};
+ghost use Rattle.text_fields.specs.Writing.{Writes};
+ghost use Rattle.trace_text.specs.Scripts.{event as event_text, head as head_text, head_of, text};
 
-use crate::script::{Head, Script, is_first_version};
+use crate::script::{Script, is_first_version};
 use crate::spellings::letter;
 use machine_model::Event;
 use std::io::{Result, Write};
 use text_fields::{Piece, put_pieces};
 
-fn put_event<W: Write>(out: &mut W, event: Event) -> Result<()> {
+fn put_event<W: Write>(out: &mut W, event: Event) -> Result<()>
+    ensures { Writes (W.contents out.old) (W.contents out.new) (event_text event) result }
+{
     match event {
         Event::Step { hart } => put_pieces(
             out,
             &[
                 Piece::Text(b"step "),
-                Piece::Number(u64::from(hart)),
+                Piece::Number(hart as u64),
                 Piece::Text(b"\n"),
             ],
         ),
@@ -20,7 +26,7 @@ fn put_event<W: Write>(out: &mut W, event: Event) -> Result<()> {
             out,
             &[
                 Piece::Text(b"drain "),
-                Piece::Number(u64::from(hart)),
+                Piece::Number(hart as u64),
                 Piece::Text(b" "),
                 Piece::Word(word),
                 Piece::Text(b"\n"),
@@ -30,7 +36,7 @@ fn put_event<W: Write>(out: &mut W, event: Event) -> Result<()> {
             out,
             &[
                 Piece::Text(b"evict "),
-                Piece::Number(u64::from(hart)),
+                Piece::Number(hart as u64),
                 Piece::Text(b" "),
                 Piece::Word(line),
                 Piece::Text(b"\n"),
@@ -41,7 +47,7 @@ fn put_event<W: Write>(out: &mut W, event: Event) -> Result<()> {
             &[
                 Piece::Text(b"deliver "),
                 letter(channel),
-                Piece::Number(u64::from(hart)),
+                Piece::Number(hart as u64),
                 Piece::Text(b"\n"),
             ],
         ),
@@ -49,28 +55,30 @@ fn put_event<W: Write>(out: &mut W, event: Event) -> Result<()> {
             out,
             &[
                 Piece::Text(b"local "),
-                Piece::Number(u64::from(hart)),
+                Piece::Number(hart as u64),
                 Piece::Text(b" "),
-                Piece::Number(u64::from(count)),
+                Piece::Number(count as u64),
                 Piece::Text(b"\n"),
             ],
         ),
     }
 }
 
-fn put_head<W: Write>(out: &mut W, head: Head) -> Result<()> {
-    if is_first_version(u64::from(head.harts), head.line) {
+fn put_head<W: Write>(out: &mut W, script: &Script) -> Result<()>
+    ensures { Writes (W.contents out.old) (W.contents out.new) (head_text (head_of script.now)) result }
+{
+    if is_first_version(script.harts as u64, script.line) {
         put_pieces(
             out,
             &[
                 Piece::Text(b"rvtl-script 1 "),
-                Piece::Number(u64::from(head.harts)),
+                Piece::Number(script.harts as u64),
                 Piece::Text(b" "),
-                Piece::Number(u64::from(head.kib)),
+                Piece::Number(script.kib as u64),
                 Piece::Text(b" "),
-                Piece::Number(u64::from(head.sets)),
+                Piece::Number(script.sets as u64),
                 Piece::Text(b" "),
-                Piece::Number(u64::from(head.ways)),
+                Piece::Number(script.ways as u64),
                 Piece::Text(b"\n"),
             ],
         )
@@ -79,30 +87,35 @@ fn put_head<W: Write>(out: &mut W, head: Head) -> Result<()> {
             out,
             &[
                 Piece::Text(b"rvtl-script 2 "),
-                Piece::Number(u64::from(head.harts)),
+                Piece::Number(script.harts as u64),
                 Piece::Text(b" "),
-                Piece::Number(u64::from(head.kib)),
+                Piece::Number(script.kib as u64),
                 Piece::Text(b" "),
-                Piece::Number(u64::from(head.sets)),
+                Piece::Number(script.sets as u64),
                 Piece::Text(b" "),
-                Piece::Number(u64::from(head.ways)),
+                Piece::Number(script.ways as u64),
                 Piece::Text(b" "),
-                Piece::Number(u64::from(head.line)),
+                Piece::Number(script.line as u64),
                 Piece::Text(b"\n"),
             ],
         )
     }
 }
 
-fn put_events<W: Write>(out: &mut W, events: &[Event]) -> Result<()> {
+fn put_events<W: Write>(out: &mut W, events: &[Event]) -> Result<()>
+    ensures { Writes (W.contents out.old) (W.contents out.new) (flat_map event_text events.now) result }
+{
     for event in events {
         put_event(out, *event)?;
     }
     Ok(())
 }
 
-/// Writes the script's text: its first line, and a line for each event.
-pub fn write_script<W: Write>(script: &Script, out: &mut W) -> Result<()> {
-    put_head(out, script.head())?;
+/// Writes the script's text: its first line, and a line for each event. After the writer's fault a
+/// beginning of the text went out; a write that takes no byte is such a fault.
+pub fn write_script<W: Write>(script: &Script, out: &mut W) -> Result<()>
+    ensures { Writes (W.contents out.old) (W.contents out.new) (text script.now) result }
+{
+    put_head(out, script)?;
     put_events(out, script.events.as_slice())
 }

@@ -1,11 +1,18 @@
 //! How the words of messages are spelt.
+ghost use Rattle.std.specs.Prelude.{◌≡◌};
+ghost use Rattle.text_fields.specs.Writing.{piece};
+ghost use Rattle.std.specs.Option.{option_map};
+ghost use Rattle.trace_text.specs.Words as words;
+ghost use Rattle.trace_text.specs.MessageParts as parts;
 
 use text_fields::Piece;
 use tl_types::{Body, Cap, Change, Channel, Grow, LineData, Msg};
 use trace_recorder::Direction;
 
 /// The channel's letter, with a space behind it.
-pub(crate) fn letter(channel: Channel) -> Piece<'static> {
+pub(crate) fn letter(channel: Channel) -> Piece<'static>
+    ensures { piece result ≡ words.channel channel }
+{
     match channel {
         Channel::A => Piece::Text(b"A "),
         Channel::B => Piece::Text(b"B "),
@@ -16,7 +23,9 @@ pub(crate) fn letter(channel: Channel) -> Piece<'static> {
 }
 
 /// Whether a message was sent or taken, with a space behind it.
-pub(crate) fn direction(direction: Direction) -> Piece<'static> {
+pub(crate) fn direction(direction: Direction) -> Piece<'static>
+    ensures { piece result ≡ words.direction direction }
+{
     match direction {
         Direction::Sent => Piece::Text(b"s "),
         Direction::Taken => Piece::Text(b"t "),
@@ -24,7 +33,9 @@ pub(crate) fn direction(direction: Direction) -> Piece<'static> {
 }
 
 /// The message's name, with a space behind it.
-pub(crate) fn name(message: &Msg) -> Piece<'static> {
+pub(crate) fn name(message: &Msg) -> Piece<'static>
+    ensures { piece result ≡ words.name message.now.body }
+{
     match message.body {
         Body::AcquireBlock(_) => Piece::Text(b"AcquireBlock "),
         Body::ProbeBlock(_) => Piece::Text(b"ProbeBlock "),
@@ -39,7 +50,9 @@ pub(crate) fn name(message: &Msg) -> Piece<'static> {
     }
 }
 
-fn grow_text(grow: Grow) -> Piece<'static> {
+fn grow_text(grow: Grow) -> Piece<'static>
+    ensures { piece result ≡ words.grow grow }
+{
     match grow {
         Grow::NtoB => Piece::Text(b" NtoB"),
         Grow::NtoT => Piece::Text(b" NtoT"),
@@ -47,7 +60,9 @@ fn grow_text(grow: Grow) -> Piece<'static> {
     }
 }
 
-fn cap_text(cap: Cap) -> Piece<'static> {
+fn cap_text(cap: Cap) -> Piece<'static>
+    ensures { piece result ≡ words.cap cap }
+{
     match cap {
         Cap::ToT => Piece::Text(b" toT"),
         Cap::ToB => Piece::Text(b" toB"),
@@ -55,7 +70,9 @@ fn cap_text(cap: Cap) -> Piece<'static> {
     }
 }
 
-fn change_text(change: Change) -> Piece<'static> {
+fn change_text(change: Change) -> Piece<'static>
+    ensures { piece result ≡ words.change change }
+{
     match change {
         Change::TtoB => Piece::Text(b" TtoB"),
         Change::TtoN => Piece::Text(b" TtoN"),
@@ -67,7 +84,9 @@ fn change_text(change: Change) -> Piece<'static> {
 }
 
 /// The permissions that a message names, if it names some, behind a space.
-pub(crate) fn permissions(message: &Msg) -> Piece<'static> {
+pub(crate) fn permissions(message: &Msg) -> Piece<'static>
+    ensures { piece result ≡ parts.permissions message.now.body }
+{
     match message.body {
         Body::AcquireBlock(grow) => grow_text(grow),
         Body::ProbeBlock(cap) | Body::Grant(cap) | Body::GrantData { cap, .. } => cap_text(cap),
@@ -80,7 +99,9 @@ pub(crate) fn permissions(message: &Msg) -> Piece<'static> {
 }
 
 /// The line's bytes, if the message carries them.
-pub(crate) fn data(message: &Msg) -> Option<&LineData> {
+pub(crate) fn data(message: &Msg) -> Option<&LineData>
+    ensures { option_map (λ d. d.now) result ≡ parts.data_of message.now.body }
+{
     match &message.body {
         Body::ProbeAckData { bytes, .. }
         | Body::ReleaseData { bytes, .. }

@@ -1,34 +1,62 @@
 //! Writing a trace.
+ghost use Rattle.std.specs.Prelude.{◌≡◌, ◌≤◌, ◌++◌, ◌/◌, length};
+ghost use Rattle.elf_loader.specs.Size.{base};
+ghost use Rattle.trace_text.specs.Widths.{IsWidth};
+ghost use Rattle.std.specs.List.{flat_map};
+ghost use Rattle.text_fields.specs.Fields.{numbered};
+ghost use Rattle.text_fields.specs.Writing.{Writes, piece};
+ghost use Rattle.trace_text.specs.MessageParts.{data_of, payload_of};
+ghost use Rattle.trace_text.specs.Traces as spelled;
+ghost use Rattle.trace_text.specs.Words as words;
 
+use crate::head::TraceHead;
 use crate::script::is_first_version;
 use crate::spellings::{data, direction, letter, name, permissions};
-use elf_loader::{BASE, Image};
+use elf_loader::BASE;
 use hart::{Retired, Status};
 use std::io::{Result, Write};
 use text_fields::{Piece, put_pieces};
-use tl_types::{LineSize, Msg};
+use tl_types::Msg;
 use trace_recorder::{Logged, OpId, Trace};
 
-fn put_head<W: Write>(out: &mut W, image: &Image, harts: u64, line: u32) -> Result<()> {
-    let first = is_first_version(harts, line);
-    put_pieces(
-        out,
-        &[
-            Piece::Text(if first { b"rvtl-trace 1\nT " } else { b"rvtl-trace 2\nT " }),
-            Piece::Number(harts),
-            Piece::Text(b" "),
-            Piece::Number(u64::from(image.size() / 1024)),
-            Piece::Text(b" "),
-            Piece::Word(image.entry()),
-        ],
-    )?;
-    if !first {
-        put_pieces(out, &[Piece::Text(b" "), Piece::Number(u64::from(line))])?;
+fn put_head<W: Write>(out: &mut W, head: TraceHead) -> Result<()>
+    ensures { Writes (W.contents out.old) (W.contents out.new) (spelled.head head) result }
+{
+    let line = head.line.bytes();
+    if is_first_version(head.harts as u64, line) {
+        put_pieces(
+            out,
+            &[
+                Piece::Text(b"rvtl-trace 1\nT "),
+                Piece::Number(head.harts as u64),
+                Piece::Text(b" "),
+                Piece::Number(head.kib as u64),
+                Piece::Text(b" "),
+                Piece::Word(head.entry),
+                Piece::Text(b"\n"),
+            ],
+        )
+    } else {
+        put_pieces(
+            out,
+            &[
+                Piece::Text(b"rvtl-trace 2\nT "),
+                Piece::Number(head.harts as u64),
+                Piece::Text(b" "),
+                Piece::Number(head.kib as u64),
+                Piece::Text(b" "),
+                Piece::Word(head.entry),
+                Piece::Text(b" "),
+                Piece::Number(line as u64),
+                Piece::Text(b"\n"),
+            ],
+        )
     }
-    put_pieces(out, &[Piece::Text(b"\n")])
 }
 
-fn any_set(bytes: &[u8]) -> bool {
+pub(crate) fn any_set(bytes: &[u8]) -> bool
+    ensures { result ≡ spelled.any_set bytes.now }
+{
     let mut rest = bytes;
     while let [byte, others @ ..] = rest {
         if *byte != 0 {
@@ -39,7 +67,9 @@ fn any_set(bytes: &[u8]) -> bool {
     false
 }
 
-fn put_image_line<W: Write>(out: &mut W, address: u32, bytes: &[u8]) -> Result<()> {
+fn put_image_line<W: Write>(out: &mut W, address: u32, bytes: &[u8]) -> Result<()>
+    ensures { Writes (W.contents out.old) (W.contents out.new) (spelled.image_line address bytes.now) result }
+{
     if any_set(bytes) {
         put_pieces(
             out,
@@ -56,23 +86,34 @@ fn put_image_line<W: Write>(out: &mut W, address: u32, bytes: &[u8]) -> Result<(
     }
 }
 
-fn put_image<W: Write>(out: &mut W, image: &Image, size: LineSize) -> Result<()> {
+fn put_image<W: Write>(out: &mut W, bytes: &[u8], width: u32) -> Result<()>
+    requires fits { length bytes.now ≤ 1048576 }
+    requires width { IsWidth width }
+    ensures { Writes (W.contents out.old) (W.contents out.new) (spelled.image_lines width (length bytes.now / width) base bytes.now) result }
+{
     let mut address = BASE;
-    for line in image.bytes().chunks_exact(size.bytes() as usize) {
+    let mut rest = bytes;
+    while rest.len() >= width as usize {
+        let (line, others) = rest.split_at(width as usize);
         put_image_line(out, address, line)?;
-        address = address.wrapping_add(size.bytes());
+        address += width;
+        rest = others;
     }
     Ok(())
 }
 
-fn loaded_piece(word: Option<u32>) -> Piece<'static> {
+fn loaded_piece(word: Option<u32>) -> Piece<'static>
+    ensures { piece result ≡ words.loaded word }
+{
     match word {
         None => Piece::Text(b"-"),
         Some(value) => Piece::Word(value),
     }
 }
 
-fn answer_piece(sc_ok: Option<bool>) -> Piece<'static> {
+fn answer_piece(sc_ok: Option<bool>) -> Piece<'static>
+    ensures { piece result ≡ words.answer sc_ok }
+{
     match sc_ok {
         None => Piece::Text(b"-"),
         Some(true) => Piece::Text(b"ok"),
@@ -80,7 +121,9 @@ fn answer_piece(sc_ok: Option<bool>) -> Piece<'static> {
     }
 }
 
-fn put_retired<W: Write>(out: &mut W, hart: u64, entry: &Retired) -> Result<()> {
+fn put_retired<W: Write>(out: &mut W, hart: u64, entry: &Retired) -> Result<()>
+    ensures { Writes (W.contents out.old) (W.contents out.new) (spelled.retired_lead hart ++ spelled.retired entry.now) result }
+{
     put_pieces(
         out,
         &[
@@ -99,48 +142,60 @@ fn put_retired<W: Write>(out: &mut W, hart: u64, entry: &Retired) -> Result<()> 
     )
 }
 
-fn put_list<W: Write>(out: &mut W, hart: u64, entries: &[Retired]) -> Result<()> {
+fn put_list<W: Write>(out: &mut W, hart: u64, entries: &[Retired]) -> Result<()>
+    ensures { Writes (W.contents out.old) (W.contents out.new) (spelled.entries hart entries.now) result }
+{
     for entry in entries {
         put_retired(out, hart, entry)?;
     }
     Ok(())
 }
 
-fn put_entries<W: Write>(out: &mut W, trace: &Trace) -> Result<()> {
+fn put_entries<W: Write>(out: &mut W, trace: &Trace) -> Result<()>
+    ensures { Writes (W.contents out.old) (W.contents out.new) (numbered spelled.entries 0 trace.now.history.entries) result }
+{
     for hart in 0..trace.harts() {
         put_list(out, hart as u64, trace.entries(hart))?;
     }
     Ok(())
 }
 
-fn put_operation<W: Write>(out: &mut W, operation: OpId) -> Result<()> {
+fn put_operation<W: Write>(out: &mut W, operation: OpId) -> Result<()>
+    ensures { Writes (W.contents out.old) (W.contents out.new) (spelled.operation operation) result }
+{
     put_pieces(
         out,
         &[
             Piece::Text(b"P "),
-            Piece::Number(u64::from(operation.hart)),
+            Piece::Number(operation.hart as u64),
             Piece::Text(b" "),
-            Piece::Number(u64::from(operation.place)),
+            Piece::Number(operation.place as u64),
             Piece::Text(b"\n"),
         ],
     )
 }
 
-fn put_performed<W: Write>(out: &mut W, performed: &[OpId]) -> Result<()> {
+fn put_performed<W: Write>(out: &mut W, performed: &[OpId]) -> Result<()>
+    ensures { Writes (W.contents out.old) (W.contents out.new) (flat_map spelled.operation performed.now) result }
+{
     for operation in performed {
         put_operation(out, *operation)?;
     }
     Ok(())
 }
 
-fn put_data<W: Write>(out: &mut W, message: &Msg) -> Result<()> {
+fn put_data<W: Write>(out: &mut W, message: &Msg) -> Result<()>
+    ensures { Writes (W.contents out.old) (W.contents out.new) (payload_of (data_of message.now.body)) result }
+{
     match data(message) {
         Some(bytes) => put_pieces(out, &[Piece::Text(b" "), Piece::Hex(bytes.as_slice())]),
         None => Ok(()),
     }
 }
 
-fn put_message<W: Write>(out: &mut W, entry: &Logged) -> Result<()> {
+fn put_message<W: Write>(out: &mut W, entry: &Logged) -> Result<()>
+    ensures { Writes (W.contents out.old) (W.contents out.new) (spelled.logged entry.now) result }
+{
     let message = &entry.message;
     put_pieces(
         out,
@@ -148,7 +203,7 @@ fn put_message<W: Write>(out: &mut W, entry: &Logged) -> Result<()> {
             Piece::Text(b"M "),
             direction(entry.direction),
             letter(message.channel()),
-            Piece::Number(u64::from(entry.hart)),
+            Piece::Number(entry.hart as u64),
             Piece::Text(b" "),
             name(message),
             Piece::Word(message.line),
@@ -159,14 +214,18 @@ fn put_message<W: Write>(out: &mut W, entry: &Logged) -> Result<()> {
     put_pieces(out, &[Piece::Text(b"\n")])
 }
 
-fn put_log<W: Write>(out: &mut W, log: &[Logged]) -> Result<()> {
+fn put_log<W: Write>(out: &mut W, log: &[Logged]) -> Result<()>
+    ensures { Writes (W.contents out.old) (W.contents out.new) (flat_map spelled.logged log.now) result }
+{
     for entry in log {
         put_message(out, entry)?;
     }
     Ok(())
 }
 
-fn put_status<W: Write>(out: &mut W, hart: u64, status: Status) -> Result<()> {
+fn put_status<W: Write>(out: &mut W, hart: u64, status: Status) -> Result<()>
+    ensures { Writes (W.contents out.old) (W.contents out.new) (spelled.status hart status) result }
+{
     match status {
         Status::Running => put_pieces(
             out,
@@ -182,7 +241,7 @@ fn put_status<W: Write>(out: &mut W, hart: u64, status: Status) -> Result<()> {
                 Piece::Text(b"H "),
                 Piece::Number(hart),
                 Piece::Text(b" stop "),
-                Piece::Number(u64::from(code)),
+                Piece::Number(code as u64),
                 Piece::Text(b"\n"),
             ],
         ),
@@ -192,25 +251,37 @@ fn put_status<W: Write>(out: &mut W, hart: u64, status: Status) -> Result<()> {
                 Piece::Text(b"H "),
                 Piece::Number(hart),
                 Piece::Text(b" exit "),
-                Piece::Number(u64::from(code)),
+                Piece::Number(code as u64),
                 Piece::Text(b"\n"),
             ],
         ),
     }
 }
 
-fn put_statuses<W: Write>(out: &mut W, statuses: &[Status]) -> Result<()> {
-    for (hart, status) in statuses.iter().enumerate() {
-        put_status(out, hart as u64, *status)?;
+fn put_statuses<W: Write>(out: &mut W, statuses: &[Status]) -> Result<()>
+    ensures { Writes (W.contents out.old) (W.contents out.new) (numbered spelled.status 0 statuses.now) result }
+{
+    let mut hart: u64 = 0;
+    let mut rest = statuses;
+    while let [status, others @ ..] = rest {
+        put_status(out, hart, *status)?;
+        hart += 1;
+        rest = others;
     }
     Ok(())
 }
 
 /// Writes the trace's text: two header lines, the image's lines that aren't all zero, the retired
-/// instructions by hart, the performed operations, the messages, and each hart's status.
-pub fn write_trace<W: Write>(trace: &Trace, out: &mut W) -> Result<()> {
-    put_head(out, trace.image(), trace.harts() as u64, trace.line_size().bytes())?;
-    put_image(out, trace.image(), trace.line_size())?;
+/// instructions by hart, the performed operations, the messages, and each hart's status. After the
+/// writer's fault a beginning of the text went out; a write that takes no byte is such a fault.
+pub fn write_trace<W: Write>(trace: &Trace, out: &mut W) -> Result<()>
+    ensures { Writes (W.contents out.old) (W.contents out.new) (spelled.text trace.now.history) result }
+{
+    let head = TraceHead::of(trace);
+    put_head(out, head)?;
+    let memory = trace.image().bytes();
+    let width = trace.line_size().bytes();
+    put_image(out, memory, width)?;
     put_entries(out, trace)?;
     put_performed(out, trace.performed())?;
     put_log(out, trace.log())?;

@@ -1,8 +1,9 @@
-use Rattle.std.proofs.Common.{length}
+use Rattle.std.proofs.Common.{◌≡◌, length}
+use Rattle.trace_text.specs.Traces.{any_set}
 use Rattle.trace_text.proofs.trace_writing.any_set.Given as goal
 
 abbrev pub invariant-loop-rest : goal.invariant-loop-rest
-invariant-loop-rest l = Unit {0}
+invariant-loop-rest l = any_set l.rest ≡ any_set l.bytes
 
 abbrev pub decreases-loop-rest : goal.decreases-loop-rest
 decreases-loop-rest l = length l.rest

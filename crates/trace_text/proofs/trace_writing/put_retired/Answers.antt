@@ -1,0 +1,14 @@
+use Rattle.std.proofs.Common.{◌≡◌, ℕ, List, [], ◌∷◌, ◌++◌, subst, append_assoc}
+use Rattle.std.specs.Prelude.{decimal}
+use Rattle.text_fields.specs.Fields.{word}
+use Rattle.text_fields.specs.Writing.{Writes, piece}
+use Rattle.trace_text.proofs.trace_writing.put_retired.Goals as goal
+
+regrouped : (n p w l a : List ℕ) → 82 ∷ 32 ∷ (n ++ (32 ∷ (p ++ (32 ∷ (w ++ (32 ∷ (l ++ (32 ∷ (a ++ (10 ∷ [])))))))))) ≡ (82 ∷ 32 ∷ (n ++ 32 ∷ [])) ++ ((p ++ 32 ∷ []) ++ ((w ++ 32 ∷ []) ++ ((l ++ 32 ∷ []) ++ (a ++ 10 ∷ []))))
+regrouped n p w l a = simp append_assoc
+
+pub returns : goal.returns
+returns g c =
+    rw (← c.loaded_piece.ensures, ← c.answer_piece.ensures)
+    (subst (λ (t : List ℕ). Writes (g.W.Write.contents c.args.out.now) (g.W.Write.contents c.put_pieces.new.out) t c.put_pieces.result)
+    (regrouped (decimal c.args.hart) (word c.args.entry.now.pc) (word c.args.entry.now.word) (piece c.loaded_piece.result) (piece c.answer_piece.result)) c.put_pieces.ensures)

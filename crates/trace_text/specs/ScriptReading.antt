@@ -1,0 +1,60 @@
+-- Reading a script from left to right. The clauses of read_script don't rest on these words: they are what its parts answer.
+use Rattle.std.specs.Prelude.{ℕ, List, [], ◌∷◌, Option, Some, None, length, ◌&&◌, not, codes}
+use Rattle.text_fields.specs.Reading.{◌>>=◌, pair_at, seen_at, led_at, ended_at, table_at, number_at, word_at, either, guarded, all_at}
+use Rattle.machine_model.specs.declared.event.Event.{Event}
+use Rattle.machine_model.specs.declared.event.Event.TheVariants.{Step, Drain, Evict, Deliver, Local}
+use Rattle.tl_types.specs.declared.message.Channel.{Channel}
+use Rattle.tl_types.specs.declared.message.Channel.TheVariants.{A, B, C, D, E}
+use Rattle.trace_text.specs.declared.script.Head.{Head}
+use Rattle.trace_text.specs.declared.script.Script.{Script}
+use Rattle.trace_text.specs.Scripts.{is_head, is_first_version}
+
+abbrev pub channels : List (List ℕ × Channel)
+channels = (codes "A ", A) ∷ (codes "B ", B) ∷ (codes "C ", C) ∷ (codes "D ", D) ∷ (codes "E ", E) ∷ []
+
+unfoldable pub channel_at : List ℕ → Option (Channel × List ℕ)
+channel_at bytes = table_at channels bytes
+
+-- a word that ends the line
+unfoldable pub word_line_at : List ℕ → Option (ℕ × List ℕ)
+word_line_at bytes = ended_at 10 word_at bytes
+
+unfoldable pub step_at : List ℕ → Option (Event × List ℕ)
+step_at bytes = seen_at (λ h. Step h) (led_at (codes "step ") (number_at 10 255)) bytes
+
+unfoldable pub drain_at : List ℕ → Option (Event × List ℕ)
+drain_at bytes = seen_at (λ p. Drain p.0 p.1) (led_at (codes "drain ") (pair_at (number_at 32 255) word_line_at)) bytes
+
+unfoldable pub evict_at : List ℕ → Option (Event × List ℕ)
+evict_at bytes = seen_at (λ p. Evict p.0 p.1) (led_at (codes "evict ") (pair_at (number_at 32 255) word_line_at)) bytes
+
+unfoldable pub deliver_at : List ℕ → Option (Event × List ℕ)
+deliver_at bytes = seen_at (λ p. Deliver p.0 p.1) (led_at (codes "deliver ") (pair_at channel_at (number_at 10 255))) bytes
+
+unfoldable pub local_at : List ℕ → Option (Event × List ℕ)
+local_at bytes = seen_at (λ p. Local p.0 p.1) (led_at (codes "local ") (pair_at (number_at 32 255) (number_at 10 4294967295))) bytes
+
+unfoldable pub event_at : List ℕ → Option (Event × List ℕ)
+event_at bytes = either (step_at bytes) (either (drain_at bytes) (either (evict_at bytes) (either (deliver_at bytes) (local_at bytes))))
+
+-- no number of a header is more
+abbrev pub most : ℕ
+most = 1024
+
+unfoldable pub first_head_at : List ℕ → Option (Head × List ℕ)
+first_head_at bytes =
+    seen_at (λ p. record { harts = p.0; kib = p.1.0; sets = p.1.1.0; ways = p.1.1.1; line = 16 })
+    (led_at (codes "rvtl-script 1 ") (pair_at (number_at 32 most) (pair_at (number_at 32 most) (pair_at (number_at 32 most) (number_at 10 most))))) bytes
+    >>= λ x. guarded (is_head x.0 && is_first_version x.0.harts x.0.line) x
+
+unfoldable pub second_head_at : List ℕ → Option (Head × List ℕ)
+second_head_at bytes =
+    seen_at (λ p. record { harts = p.0; kib = p.1.0; sets = p.1.1.0; ways = p.1.1.1.0; line = p.1.1.1.1 })
+    (led_at (codes "rvtl-script 2 ") (pair_at (number_at 32 most) (pair_at (number_at 32 most) (pair_at (number_at 32 most) (pair_at (number_at 32 most) (number_at 10 most)))))) bytes
+    >>= λ x. guarded (is_head x.0 && not (is_first_version x.0.harts x.0.line)) x
+
+unfoldable pub head_at : List ℕ → Option (Head × List ℕ)
+head_at bytes = either (first_head_at bytes) (second_head_at bytes)
+
+unfoldable pub script_at : List ℕ → Option Script
+script_at bytes = head_at bytes >>= λ h. all_at event_at (length h.1) h.1 >>= λ es. Some (record { harts = h.0.harts; kib = h.0.kib; sets = h.0.sets; ways = h.0.ways; line = h.0.line; events = es })

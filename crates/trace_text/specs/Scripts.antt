@@ -1,0 +1,56 @@
+-- What a script is, and its one spelling.
+use Rattle.std.specs.Prelude.{◌≡◌, ℕ, ◌+◌, ◌%◌, ◌<◌, ◌≤◌, ◌^◌, Bool, true, false, List, [], ◌∷◌, ◌++◌, ◌&&◌, ◌||◌, ◌==◌, nat_le, if◌then◌else◌, codes}
+use Rattle.std.specs.List.{flat_map, AllByRecursion}
+use Rattle.text_fields.specs.Fields.{number, word}
+use Rattle.machine_model.specs.declared.event.Event.{Event}
+use Rattle.machine_model.specs.declared.event.Event.TheVariants.{Step, Drain, Evict, Deliver, Local}
+use Rattle.trace_text.specs.declared.script.Head.{Head}
+use Rattle.trace_text.specs.declared.script.Script.{Script}
+use Rattle.trace_text.specs.Words.{channel}
+
+-- an event's line
+abbrev pub event : Event → List ℕ
+event (Step h) = codes "step " ++ number 10 h
+event (Drain h w) = codes "drain " ++ (number 32 h ++ (word w ++ 10 ∷ []))
+event (Evict h l) = codes "evict " ++ (number 32 h ++ (word l ++ 10 ∷ []))
+event (Deliver c h) = codes "deliver " ++ (channel c ++ number 10 h)
+event (Local h n) = codes "local " ++ (number 32 h ++ number 10 n)
+
+-- The numbers that an event may have in a script. Whether a machine has that hart or line is not for the text to say.
+abbrev pub IsEvent : Event → Type 0
+IsEvent (Step h) = h ≤ 255
+IsEvent (Drain h w) = (h ≤ 255) × (w < 2 ^ 32)
+IsEvent (Evict h l) = (h ≤ 255) × (l < 2 ^ 32)
+IsEvent (Deliver c h) = h ≤ 255
+IsEvent (Local h n) = (h ≤ 255) × (n ≤ 4294967295)
+
+-- Version 1 is exactly lines of 16 bytes with at most 4 harts.
+abbrev pub is_first_version : ℕ → ℕ → Bool
+is_first_version harts line = (line == 16) && nat_le harts 4
+
+-- the first line
+abbrev pub head : Head → List ℕ
+head h =
+    if is_first_version h.harts h.line then codes "rvtl-script 1 " ++ (number 32 h.harts ++ (number 32 h.kib ++ (number 32 h.sets ++ number 10 h.ways)))
+    else codes "rvtl-script 2 " ++ (number 32 h.harts ++ (number 32 h.kib ++ (number 32 h.sets ++ (number 32 h.ways ++ number 10 h.line))))
+
+abbrev pub is_power : ℕ → Bool
+is_power n = n == 1 || n == 2 || n == 4 || n == 8 || n == 16 || n == 32 || n == 64
+
+-- the limits of a machine
+abbrev pub is_head : Head → Bool
+is_head h =
+    nat_le 1 h.harts && nat_le h.harts 8 && (nat_le 4 h.kib && nat_le h.kib 1024 && h.kib % 4 == 0)
+    && is_power h.sets && (nat_le 1 h.ways && nat_le h.ways 4) && (h.line == 16 || h.line == 64)
+
+abbrev pub head_of : Script → Head
+head_of s = record { harts = s.harts; kib = s.kib; sets = s.sets; ways = s.ways; line = s.line }
+
+-- the first line, and a line for each event
+abbrev pub text : Script → List ℕ
+text s = head (head_of s) ++ flat_map event s.events
+
+-- a script within the limits of its text
+pub record IsScript (s : Script) : Type 0 where
+  pub head : is_head (head_of s) ≡ true
+  pub events : AllByRecursion IsEvent s.events

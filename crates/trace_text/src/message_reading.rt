@@ -1,0 +1,218 @@
+//! Reading the words of messages.
+ghost use Rattle.std.specs.Prelude.{◌≡◌};
+ghost use Rattle.std.specs.Option.{option_map};
+ghost use Rattle.trace_text.specs.TraceReading as reads;
+
+use text_fields::{after, hex_into, word_at};
+use tl_types::{Body, Cap, Change, Grow, LineData, LineSize, Msg};
+use trace_recorder::Direction;
+
+/// The name of a message.
+#[derive(Clone, Copy, Debug)]
+pub(crate) enum Name {
+    AcquireBlock,
+    ProbeBlock,
+    ProbeAck,
+    ProbeAckData,
+    Release,
+    ReleaseData,
+    Grant,
+    GrantData,
+    ReleaseAck,
+    GrantAck,
+}
+
+/// Whether a message was sent or taken.
+#[tactic(auto, unfolding(crate::specs::TraceReading::direction_at))]
+pub(crate) fn direction_at(bytes: &[u8]) -> Option<(Direction, &[u8])>
+    ensures { option_map (λ x. (x.0, x.1.now)) result ≡ reads.direction_at bytes.now }
+{
+    if let Some(rest) = after(b"s ", bytes) {
+        return Some((Direction::Sent, rest));
+    }
+    let rest = after(b"t ", bytes)?;
+    Some((Direction::Taken, rest))
+}
+
+/// Which permissions an Acquire asks for.
+#[tactic(auto, unfolding(crate::specs::TraceReading::grow_at))]
+fn grow_at(bytes: &[u8]) -> Option<(Grow, &[u8])>
+    ensures { option_map (λ x. (x.0, x.1.now)) result ≡ reads.grow_at bytes.now }
+{
+    if let Some(rest) = after(b" NtoB", bytes) {
+        return Some((Grow::NtoB, rest));
+    }
+    if let Some(rest) = after(b" NtoT", bytes) {
+        return Some((Grow::NtoT, rest));
+    }
+    let rest = after(b" BtoT", bytes)?;
+    Some((Grow::BtoT, rest))
+}
+
+/// The most that a copy may have.
+#[tactic(auto, unfolding(crate::specs::TraceReading::cap_at))]
+fn cap_at(bytes: &[u8]) -> Option<(Cap, &[u8])>
+    ensures { option_map (λ x. (x.0, x.1.now)) result ≡ reads.cap_at bytes.now }
+{
+    if let Some(rest) = after(b" toT", bytes) {
+        return Some((Cap::ToT, rest));
+    }
+    if let Some(rest) = after(b" toB", bytes) {
+        return Some((Cap::ToB, rest));
+    }
+    let rest = after(b" toN", bytes)?;
+    Some((Cap::ToN, rest))
+}
+
+/// What a copy gave up.
+#[tactic(auto, unfolding(crate::specs::TraceReading::change_at))]
+fn change_at(bytes: &[u8]) -> Option<(Change, &[u8])>
+    ensures { option_map (λ x. (x.0, x.1.now)) result ≡ reads.change_at bytes.now }
+{
+    if let Some(rest) = after(b" TtoB", bytes) {
+        return Some((Change::TtoB, rest));
+    }
+    if let Some(rest) = after(b" TtoN", bytes) {
+        return Some((Change::TtoN, rest));
+    }
+    if let Some(rest) = after(b" BtoN", bytes) {
+        return Some((Change::BtoN, rest));
+    }
+    if let Some(rest) = after(b" TtoT", bytes) {
+        return Some((Change::TtoT, rest));
+    }
+    if let Some(rest) = after(b" BtoB", bytes) {
+        return Some((Change::BtoB, rest));
+    }
+    let rest = after(b" NtoN", bytes)?;
+    Some((Change::NtoN, rest))
+}
+
+/// A message's name.
+#[tactic(auto, unfolding(crate::specs::TraceReading::name_at))]
+fn name_at(bytes: &[u8]) -> Option<(Name, &[u8])>
+    ensures { option_map (λ x. (x.0, x.1.now)) result ≡ reads.name_at bytes.now }
+{
+    if let Some(rest) = after(b"AcquireBlock ", bytes) {
+        return Some((Name::AcquireBlock, rest));
+    }
+    if let Some(rest) = after(b"ProbeBlock ", bytes) {
+        return Some((Name::ProbeBlock, rest));
+    }
+    if let Some(rest) = after(b"ProbeAck ", bytes) {
+        return Some((Name::ProbeAck, rest));
+    }
+    if let Some(rest) = after(b"ProbeAckData ", bytes) {
+        return Some((Name::ProbeAckData, rest));
+    }
+    if let Some(rest) = after(b"Release ", bytes) {
+        return Some((Name::Release, rest));
+    }
+    if let Some(rest) = after(b"ReleaseData ", bytes) {
+        return Some((Name::ReleaseData, rest));
+    }
+    if let Some(rest) = after(b"Grant ", bytes) {
+        return Some((Name::Grant, rest));
+    }
+    if let Some(rest) = after(b"GrantData ", bytes) {
+        return Some((Name::GrantData, rest));
+    }
+    if let Some(rest) = after(b"ReleaseAck ", bytes) {
+        return Some((Name::ReleaseAck, rest));
+    }
+    let rest = after(b"GrantAck ", bytes)?;
+    Some((Name::GrantAck, rest))
+}
+
+/// A line's bytes.
+#[tactic(auto, unfolding(crate::specs::TraceReading::data_at))]
+pub(crate) fn data_at(bytes: &[u8], size: LineSize) -> Option<(LineData, &[u8])>
+    ensures { option_map (λ x. (x.0, x.1.now)) result ≡ reads.data_at size bytes.now }
+{
+    match size {
+        LineSize::Bytes16 => {
+            let mut data = [0; 16];
+            let rest = hex_into(&mut data, bytes)?;
+            Some((LineData::Bytes16(data), rest))
+        }
+        LineSize::Bytes64 => {
+            let mut data = [0; 64];
+            let rest = hex_into(&mut data, bytes)?;
+            Some((LineData::Bytes64(data), rest))
+        }
+    }
+}
+
+#[tactic(auto, unfolding(crate::specs::TraceReading::change_data_at))]
+fn change_data_at(bytes: &[u8], size: LineSize) -> Option<((Change, LineData), &[u8])>
+    ensures { option_map (λ x. (x.0, x.1.now)) result ≡ reads.change_data_at size bytes.now }
+{
+    let (change, rest) = change_at(bytes)?;
+    let rest = after(b" ", rest)?;
+    let (data, rest) = data_at(rest, size)?;
+    Some(((change, data), rest))
+}
+
+#[tactic(auto, unfolding(crate::specs::TraceReading::cap_data_at))]
+fn cap_data_at(bytes: &[u8], size: LineSize) -> Option<((Cap, LineData), &[u8])>
+    ensures { option_map (λ x. (x.0, x.1.now)) result ≡ reads.cap_data_at size bytes.now }
+{
+    let (cap, rest) = cap_at(bytes)?;
+    let rest = after(b" ", rest)?;
+    let (data, rest) = data_at(rest, size)?;
+    Some(((cap, data), rest))
+}
+
+/// What a message of this name says of its line.
+#[tactic(auto, unfolding(crate::specs::TraceReading::carried_at))]
+fn carried_at(bytes: &[u8], size: LineSize, name: Name) -> Option<(Body, &[u8])>
+    ensures { option_map (λ x. (x.0, x.1.now)) result ≡ reads.carried_at size name bytes.now }
+{
+    match name {
+        Name::AcquireBlock => {
+            let (grow, rest) = grow_at(bytes)?;
+            Some((Body::AcquireBlock(grow), rest))
+        }
+        Name::ProbeBlock => {
+            let (cap, rest) = cap_at(bytes)?;
+            Some((Body::ProbeBlock(cap), rest))
+        }
+        Name::ProbeAck => {
+            let (change, rest) = change_at(bytes)?;
+            Some((Body::ProbeAck(change), rest))
+        }
+        Name::ProbeAckData => {
+            let ((change, bytes), rest) = change_data_at(bytes, size)?;
+            Some((Body::ProbeAckData { change, bytes }, rest))
+        }
+        Name::Release => {
+            let (change, rest) = change_at(bytes)?;
+            Some((Body::Release(change), rest))
+        }
+        Name::ReleaseData => {
+            let ((change, bytes), rest) = change_data_at(bytes, size)?;
+            Some((Body::ReleaseData { change, bytes }, rest))
+        }
+        Name::Grant => {
+            let (cap, rest) = cap_at(bytes)?;
+            Some((Body::Grant(cap), rest))
+        }
+        Name::GrantData => {
+            let ((cap, bytes), rest) = cap_data_at(bytes, size)?;
+            Some((Body::GrantData { cap, bytes }, rest))
+        }
+        Name::ReleaseAck => Some((Body::ReleaseAck, bytes)),
+        Name::GrantAck => Some((Body::GrantAck, bytes)),
+    }
+}
+
+/// A message: its name, its line, and what it says of it.
+#[tactic(auto, unfolding(crate::specs::TraceReading::message_at))]
+pub(crate) fn message_at(bytes: &[u8], size: LineSize) -> Option<(Msg, &[u8])>
+    ensures { option_map (λ x. (x.0, x.1.now)) result ≡ reads.message_at size bytes.now }
+{
+    let (name, rest) = name_at(bytes)?;
+    let (line, rest) = word_at(rest)?;
+    let (body, rest) = carried_at(rest, size, name)?;
+    Some((Msg { line, body }, rest))
+}

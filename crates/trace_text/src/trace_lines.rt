@@ -1,0 +1,324 @@
+//! Reading the lines of a trace.
+ghost use Rattle.std.specs.Prelude.{◌≡◌, ◌<◌, length, false, IfSome};
+ghost use Rattle.std.specs.Fmt.{digit_glyph};
+ghost use Rattle.std.specs.Option.{option_map};
+ghost use Rattle.tl_types.specs.Line.{length_of};
+ghost use Rattle.trace_text.specs.TraceHeads.{IsTraceHead};
+ghost use Rattle.trace_text.specs.TraceLines as reads;
+ghost use Rattle.trace_text.specs.TraceReading as words_at;
+
+use crate::head::TraceHead;
+use crate::message_reading::{direction_at, message_at};
+use crate::script::is_first_version;
+use crate::trace_writing::any_set;
+use elf_loader::BASE;
+use hart::{Retired, Status};
+use text_fields::{after, hex_into, number_at, word_at};
+use tl_types::{Channel, LineSize};
+use trace_recorder::{Logged, OpId};
+
+/// Places of a hart's retired instructions are below this, so a hart has at most as many.
+pub(crate) const MAX_ENTRIES: u32 = 1_000_000;
+
+/// Whether a machine can have such a header.
+fn is_trace_head(head: &TraceHead) -> bool
+    ensures { result ≡ reads.is_trace_head head.now }
+{
+    let harts = 1 <= head.harts && head.harts <= 8;
+    let kib = 4 <= head.kib && head.kib <= 1024 && head.kib % 4 == 0;
+    let end = BASE as u64 + head.kib as u64 * 1024;
+    let entry = head.entry % 4 == 0 && BASE <= head.entry && head.entry as u64 + 4 <= end;
+    harts && kib && entry
+}
+
+/// The second line of version 1 behind its first word.
+#[tactic(auto, using(crate::proofs::TraceHeads::trace_head_bounds), unfolding(crate::specs::TraceLines::first_numbers_at))]
+pub(crate) fn first_numbers_at(bytes: &[u8]) -> Option<(TraceHead, &[u8])>
+    ensures value { option_map (λ x. (x.0, x.1.now)) result ≡ reads.first_numbers_at bytes.now }
+    ensures fits { IfSome result (λ x. IsTraceHead x.0) }
+{
+    let (harts, rest) = number_at(bytes, b' ', 1024)?;
+    let (kib, rest) = number_at(rest, b' ', 1024)?;
+    let (entry, rest) = word_at(rest)?;
+    let rest = after(b"\n", rest)?;
+    let head = TraceHead {
+        harts: harts as usize,
+        kib,
+        entry,
+        line: LineSize::Bytes16,
+    };
+    if is_trace_head(&head) && is_first_version(harts as u64, 16) {
+        Some((head, rest))
+    } else {
+        None
+    }
+}
+
+fn size_of(line: u32) -> Option<LineSize>
+    ensures { result ≡ reads.size_of line }
+{
+    match line {
+        16 => Some(LineSize::Bytes16),
+        64 => Some(LineSize::Bytes64),
+        _ => None,
+    }
+}
+
+/// A line's size, which ends the line.
+#[tactic(auto, unfolding(crate::specs::TraceLines::size_at))]
+fn size_at(bytes: &[u8]) -> Option<(LineSize, &[u8])>
+    ensures { option_map (λ x. (x.0, x.1.now)) result ≡ reads.size_at bytes.now }
+{
+    let (width, rest) = number_at(bytes, b'\n', 1024)?;
+    let size = size_of(width)?;
+    Some((size, rest))
+}
+
+/// The second line of version 2 behind its first word.
+#[tactic(auto, using(crate::proofs::TraceHeads::trace_head_bounds), unfolding(crate::specs::TraceLines::second_numbers_at))]
+pub(crate) fn second_numbers_at(bytes: &[u8]) -> Option<(TraceHead, &[u8])>
+    ensures value { option_map (λ x. (x.0, x.1.now)) result ≡ reads.second_numbers_at bytes.now }
+    ensures fits { IfSome result (λ x. IsTraceHead x.0) }
+{
+    let (harts, rest) = number_at(bytes, b' ', 1024)?;
+    let (kib, rest) = number_at(rest, b' ', 1024)?;
+    let (entry, rest) = word_at(rest)?;
+    let rest = after(b" ", rest)?;
+    let (line, rest) = size_at(rest)?;
+    let head = TraceHead {
+        harts: harts as usize,
+        kib,
+        entry,
+        line,
+    };
+    if is_trace_head(&head) && !is_first_version(harts as u64, line.bytes()) {
+        Some((head, rest))
+    } else {
+        None
+    }
+}
+
+/// The first two lines.
+#[tactic(auto, using(crate::proofs::TraceHeads::trace_head_bounds), unfolding(crate::specs::TraceLines::head_at))]
+pub(crate) fn head_at(bytes: &[u8]) -> Option<(TraceHead, &[u8])>
+    ensures value { option_map (λ x. (x.0, x.1.now)) result ≡ reads.head_at bytes.now }
+    ensures fits { IfSome result (λ x. IsTraceHead x.0) }
+{
+    if let Some(rest) = after(b"rvtl-trace 1\nT ", bytes) {
+        return first_numbers_at(rest);
+    }
+    let rest = after(b"rvtl-trace 2\nT ", bytes)?;
+    second_numbers_at(rest)
+}
+
+fn glyph(nibble: u8) -> u8
+    requires { nibble < 16 }
+    ensures { result ≡ digit_glyph false nibble }
+{
+    if nibble < 10 {
+        b'0' + nibble
+    } else {
+        b'a' + (nibble - 10)
+    }
+}
+
+/// What the line of the image at an address begins with.
+fn image_lead(address: u32) -> [u8; 13]
+    ensures { result ≡ reads.image_lead address }
+{
+    let [a, b, c, d] = address.to_be_bytes();
+    [
+        b'I',
+        b' ',
+        b'0',
+        b'x',
+        glyph(a / 16),
+        glyph(a % 16),
+        glyph(b / 16),
+        glyph(b % 16),
+        glyph(c / 16),
+        glyph(c % 16),
+        glyph(d / 16),
+        glyph(d % 16),
+        b' ',
+    ]
+}
+
+/// The bytes of a line of the image, which are not all zero.
+#[tactic(auto, unfolding(crate::specs::TraceLines::image_data_at))]
+fn image_data_into<'a>(line: &mut [u8], bytes: &'a [u8]) -> Option<&'a [u8]>
+    ensures { option_map (λ x. (line.new, x.now)) result ≡ reads.image_data_at (length line.old) bytes.now }
+{
+    let rest = hex_into(line, bytes)?;
+    let rest = after(b"\n", rest)?;
+    if any_set(line) { Some(rest) } else { None }
+}
+
+/// The image's bytes at this address: those of the line that stands here if it is that address's, else
+/// `line` stays as it is.
+#[tactic(auto, unfolding(crate::specs::TraceLines::image_line_at))]
+pub(crate) fn image_line_into<'a>(
+    line: &mut [u8],
+    bytes: &'a [u8],
+    address: u32,
+) -> Option<&'a [u8]>
+    ensures { option_map (λ x. (line.new, x.now)) result ≡ reads.image_line_at line.old address bytes.now }
+{
+    let lead = image_lead(address);
+    match after(&lead, bytes) {
+        Some(rest) => image_data_into(line, rest),
+        None => Some(bytes),
+    }
+}
+
+#[tactic(auto, unfolding(crate::specs::TraceReading::loaded_at))]
+fn loaded_at(bytes: &[u8]) -> Option<(Option<u32>, &[u8])>
+    ensures { option_map (λ x. (x.0, x.1.now)) result ≡ words_at.loaded_at bytes.now }
+{
+    if let Some(rest) = after(b"-", bytes) {
+        return Some((None, rest));
+    }
+    let (word, rest) = word_at(bytes)?;
+    Some((Some(word), rest))
+}
+
+#[tactic(auto, unfolding(crate::specs::TraceReading::answer_at))]
+fn answer_at(bytes: &[u8]) -> Option<(Option<bool>, &[u8])>
+    ensures { option_map (λ x. (x.0, x.1.now)) result ≡ words_at.answer_at bytes.now }
+{
+    if let Some(rest) = after(b"-", bytes) {
+        return Some((None, rest));
+    }
+    if let Some(rest) = after(b"ok", bytes) {
+        return Some((Some(true), rest));
+    }
+    let rest = after(b"fail", bytes)?;
+    Some((Some(false), rest))
+}
+
+/// A retired instruction, behind its hart.
+#[tactic(auto, unfolding(crate::specs::TraceLines::retired_at))]
+pub(crate) fn retired_at(bytes: &[u8]) -> Option<(Retired, &[u8])>
+    ensures { option_map (λ x. (x.0, x.1.now)) result ≡ reads.retired_at bytes.now }
+{
+    let (pc, rest) = word_at(bytes)?;
+    let rest = after(b" ", rest)?;
+    let (word, rest) = word_at(rest)?;
+    let rest = after(b" ", rest)?;
+    let (loaded, rest) = loaded_at(rest)?;
+    let rest = after(b" ", rest)?;
+    let (sc_ok, rest) = answer_at(rest)?;
+    let rest = after(b"\n", rest)?;
+    let entry = Retired {
+        pc,
+        word,
+        loaded,
+        sc_ok,
+    };
+    Some((entry, rest))
+}
+
+/// A performed operation of one of these harts, behind the line's first word.
+#[tactic(auto, unfolding(crate::specs::TraceLines::operation_at))]
+pub(crate) fn operation_at(bytes: &[u8], harts: u8) -> Option<(OpId, &[u8])>
+    requires { 0 < harts }
+    ensures { option_map (λ x. (x.0, x.1.now)) result ≡ reads.operation_at harts bytes.now }
+{
+    let (hart, rest) = number_at(bytes, b' ', harts as u32 - 1)?;
+    let (place, rest) = number_at(rest, b'\n', MAX_ENTRIES - 1)?;
+    let hart = hart as u8;
+    Some((OpId { hart, place }, rest))
+}
+
+/// Whether a line of memory begins at this address.
+pub(crate) fn is_line(line: u32, kib: u32, size: LineSize) -> bool
+    ensures { result ≡ reads.is_line kib (length_of size) line }
+{
+    let width = size.bytes();
+    line % width == 0 && BASE <= line && (line as u64) < BASE as u64 + kib as u64 * 1024
+}
+
+fn letter_of(channel: Channel) -> u8
+    ensures { result ≡ reads.letter_of channel }
+{
+    match channel {
+        Channel::A => b'A',
+        Channel::B => b'B',
+        Channel::C => b'C',
+        Channel::D => b'D',
+        Channel::E => b'E',
+    }
+}
+
+/// One byte and a space.
+#[tactic(auto, unfolding(crate::specs::TraceLines::letter_at))]
+fn letter_at(bytes: &[u8]) -> Option<(u8, &[u8])>
+    ensures { option_map (λ x. (x.0, x.1.now)) result ≡ reads.letter_at bytes.now }
+{
+    let [letter, rest @ ..] = bytes else {
+        return None;
+    };
+    let rest = after(b" ", rest)?;
+    Some((*letter, rest))
+}
+
+/// A message that was sent or taken, behind the line's first word. It stands on its own channel.
+#[tactic(auto, unfolding(crate::specs::TraceLines::logged_at))]
+pub(crate) fn logged_at(
+    bytes: &[u8],
+    harts: u8,
+    kib: u32,
+    size: LineSize,
+) -> Option<(Logged, &[u8])>
+    requires { 0 < harts }
+    ensures { option_map (λ x. (x.0, x.1.now)) result ≡ reads.logged_at harts kib size bytes.now }
+{
+    let (direction, rest) = direction_at(bytes)?;
+    let (letter, rest) = letter_at(rest)?;
+    let (hart, rest) = number_at(rest, b' ', harts as u32 - 1)?;
+    let (message, rest) = message_at(rest, size)?;
+    let rest = after(b"\n", rest)?;
+    let hart = hart as u8;
+    if letter == letter_of(message.channel()) && is_line(message.line, kib, size) {
+        let entry = Logged {
+            direction,
+            hart,
+            message,
+        };
+        Some((entry, rest))
+    } else {
+        None
+    }
+}
+
+#[tactic(auto, unfolding(crate::specs::TraceLines::stop_at))]
+fn stop_at(bytes: &[u8]) -> Option<(Status, &[u8])>
+    ensures { option_map (λ x. (x.0, x.1.now)) result ≡ reads.stop_at bytes.now }
+{
+    let rest = after(b"stop ", bytes)?;
+    let (code, rest) = number_at(rest, b'\n', 8)?;
+    Some((Status::Stopped(code as u8), rest))
+}
+
+#[tactic(auto, unfolding(crate::specs::TraceLines::exit_at))]
+fn exit_at(bytes: &[u8]) -> Option<(Status, &[u8])>
+    ensures { option_map (λ x. (x.0, x.1.now)) result ≡ reads.exit_at bytes.now }
+{
+    let rest = after(b"exit ", bytes)?;
+    let (code, rest) = number_at(rest, b'\n', 255)?;
+    Some((Status::Exited(code as u8), rest))
+}
+
+/// A hart's status, behind its hart.
+#[tactic(auto, unfolding(crate::specs::TraceLines::status_at))]
+pub(crate) fn status_at(bytes: &[u8]) -> Option<(Status, &[u8])>
+    ensures { option_map (λ x. (x.0, x.1.now)) result ≡ reads.status_at bytes.now }
+{
+    if let Some(rest) = after(b"run\n", bytes) {
+        return Some((Status::Running, rest));
+    }
+    if let Some(found) = stop_at(bytes) {
+        return Some(found);
+    }
+    exit_at(bytes)
+}
