@@ -1,0 +1,96 @@
+//! What an instruction does to its hart: the next pc, and the register that it writes.
+
+ghost use Rattle.std.specs.Prelude.{◌≡◌, ◌<◌, ◌≤◌, ◌*◌, ◌^◌};
+ghost use Rattle.rv32_decode.specs.Fields.{extended_by};
+
+use crate::arithmetic::{computed, computed_immediate, is_taken, shifted};
+use crate::registers::Regs;
+use rv32_decode::{Instr, LoadOp, UpperOp};
+
+/// The next pc after an instruction at `pc` that doesn't stop, which writes its register, if it has one.
+/// `value` is what a load, LR or AMO read, before any extension of its sign; for an SC it is 0 where the SC
+/// succeeded and 1 where it failed. Other instructions have none, and it isn't looked at.
+pub fn finish(instr: &Instr, pc: u32, regs: &mut Regs, value: Option<u32>) -> u32 {
+    let following = pc.wrapping_add(4);
+    match *instr {
+        Instr::Upper { op, rd, imm } => {
+            let result = match op {
+                UpperOp::Lui => imm.value(),
+                UpperOp::Auipc => pc.wrapping_add(imm.value()),
+            };
+            regs.set(rd, result);
+            following
+        }
+        Instr::Jal { rd, offset } => {
+            regs.set(rd, following);
+            pc.wrapping_add(offset.value())
+        }
+        Instr::Jalr { rd, rs1, offset } => {
+            let target = regs.get(rs1).wrapping_add(offset.value()) & !1;
+            regs.set(rd, following);
+            target
+        }
+        Instr::Branch {
+            op,
+            rs1,
+            rs2,
+            offset,
+        } => {
+            if is_taken(op, regs.get(rs1), regs.get(rs2)) {
+                pc.wrapping_add(offset.value())
+            } else {
+                following
+            }
+        }
+        Instr::Load { op, rd, .. } => {
+            regs.set(rd, loaded(op, value.unwrap_or(0)));
+            following
+        }
+        Instr::Immediate { op, rd, rs1, imm } => {
+            regs.set(rd, computed_immediate(op, regs.get(rs1), imm.value()));
+            following
+        }
+        Instr::Shift {
+            op,
+            rd,
+            rs1,
+            amount,
+        } => {
+            regs.set(rd, shifted(op, regs.get(rs1), amount.value()));
+            following
+        }
+        Instr::Register { op, rd, rs1, rs2 } => {
+            regs.set(rd, computed(op, regs.get(rs1), regs.get(rs2)));
+            following
+        }
+        Instr::Lr { rd, .. } | Instr::Sc { rd, .. } | Instr::Amo { rd, .. } => {
+            regs.set(rd, value.unwrap_or(0));
+            following
+        }
+        Instr::Store { .. } | Instr::Fence(_) | Instr::FenceTso | Instr::System(_) => following,
+    }
+}
+
+// What a load writes, of the raw value that it read (chapter 2.6).
+fn loaded(op: LoadOp, value: u32) -> u32 {
+    match op {
+        LoadOp::Lb => sign_extended(value & 0xff, 0x80),
+        LoadOp::Lh => sign_extended(value & 0xffff, 0x8000),
+        LoadOp::Lw => value,
+        LoadOp::Lbu => value & 0xff,
+        LoadOp::Lhu => value & 0xffff,
+    }
+}
+
+// A number whose highest bit has the weight `sign`, its sign extended to 32 bits.
+fn sign_extended(number: u32, sign: u32) -> u32
+    requires sign { sign ≤ 2 ^ 30 }
+    requires number { number < 2 * sign }
+    ensures { result ≡ extended_by sign number }
+{
+    if number < sign {
+        number
+    } else {
+        number.wrapping_sub(2 * sign)
+    }
+}

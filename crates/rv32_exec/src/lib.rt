@@ -1,0 +1,15 @@
+//! What an instruction does to a hart: first what it will do to memory, then its next pc and the register
+//! that it writes (RISC-V Unprivileged ISA 20191213, chapters 2, 7 and 8).
+#![tactic(auto)]
+
+mod arithmetic;
+mod finishing;
+mod planning;
+mod plans;
+mod registers;
+pub mod stop;
+
+pub use finishing::finish;
+pub use planning::plan;
+pub use plans::{Plan, Width};
+pub use registers::Regs;
