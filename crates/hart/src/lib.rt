@@ -2,7 +2,9 @@
 #![tactic(auto)]
 
 mod retired;
+mod state;
 mod status;
 
 pub use retired::Retired;
+pub use state::Hart;
 pub use status::Status;

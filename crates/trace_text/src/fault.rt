@@ -1,0 +1,78 @@
+//! Why a text can't be read.
+ghost use Rattle.std.specs.Prelude.{◌≡◌};
+ghost use Rattle.trace_text.specs.Faults.{number_of};
+
+use thiserror::Error;
+
+/// What is wrong with a line. Of the causes that hold, the first of `End`, `Header`, `Word`, `Fields`,
+/// `Order` is answered.
+#[derive(Clone, Copy, Debug, PartialEq, Eq, Error)]
+pub enum TextCode {
+    /// A header line isn't one: the first line of a script, the first two of a trace.
+    #[error("Header")]
+    Header = 1,
+    /// The line's first word is that of no line.
+    #[error("Word")]
+    Word = 2,
+    /// A field is missing, misspelt, out of range or too many; or a line of the image is all zero.
+    #[error("Fields")]
+    Fields = 3,
+    /// The line may not stand here.
+    #[error("Order")]
+    Order = 4,
+    /// The text ends before the line, where one is needed, or within it.
+    #[error("End")]
+    End = 5,
+    /// Memory was refused.
+    #[error("NoMemory")]
+    NoMemory = 6,
+}
+
+impl TextCode {
+    /// 1 to 6, the number by which the fault is printed.
+    pub fn number(self) -> u8
+        ensures { result ≡ number_of self }
+    {
+        self as u8
+    }
+}
+
+/// The first line that can't be read, counted from 1, and what is wrong with it.
+#[derive(Clone, Copy, Debug, PartialEq, Eq)]
+pub struct TextError {
+    pub line: usize,
+    pub code: TextCode,
+}
+
+/// What ended a reader, and how many bytes were left from the line that it then read.
+#[derive(Clone, Copy, Debug)]
+pub(crate) enum Stop {
+    Memory { left: usize },
+    Bytes { left: usize },
+}
+
+impl Stop {
+    pub(crate) fn left(self) -> usize {
+        match self {
+            Stop::Memory { left } | Stop::Bytes { left } => left,
+        }
+    }
+}
+
+/// The number of the line that begins where so many bytes are left, and those bytes.
+pub(crate) fn line_at(bytes: &[u8], left: usize) -> (usize, &[u8]) {
+    let (before, rest) = bytes.split_at(bytes.len().saturating_sub(left));
+    let mut line: usize = 1;
+    for byte in before {
+        if *byte == b'\n' {
+            line = line.saturating_add(1);
+        }
+    }
+    (line, rest)
+}
+
+/// The first line of these bytes with its line feed, where it has one.
+pub(crate) fn whole_line(bytes: &[u8]) -> Option<&[u8]> {
+    let end = bytes.iter().position(|byte| *byte == b'\n')?;
+    bytes.get(..=end)
+}

@@ -1,0 +1,17 @@
+//! Scripts and traces as texts. A text is made of lines, each of words parted by one space and ended by
+//! one line feed. Each value has one spelling.
+#![tactic(auto)]
+
+mod fault;
+mod script;
+mod script_faults;
+mod script_reading;
+mod script_writing;
+mod spellings;
+mod trace_writing;
+
+pub use fault::{TextCode, TextError};
+pub use script::{Events, Script};
+pub use script_reading::read_script;
+pub use script_writing::write_script;
+pub use trace_writing::write_trace;

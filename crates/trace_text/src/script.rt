@@ -1,0 +1,85 @@
+//! Scripts.
+ghost use Rattle.std.specs.Prelude.{◌≡◌};
+
+use machine_model::Event;
+use std::marker::Model;
+
+/// Events in the order in which they happen.
+#[derive(Debug, Drop)]
+pub struct Events {
+    items: Vec<Event>,
+}
+
+impl Model for Events {
+    ghost use Rattle.std.specs.Prelude.{List};
+    ghost use Rattle.machine_model.specs.declared.event.Event.{Event};
+
+    ghost Value = { List Event };
+
+    ghost view = { λ events. events.items.items };
+}
+
+impl Events {
+    /// It takes no memory.
+    pub fn new(items: Vec<Event>) -> Events
+        ensures { result ≡ items.items }
+    {
+        Events { items }
+    }
+
+    pub fn as_slice(&self) -> &[Event]
+        ensures { result.now ≡ self.now }
+    {
+        &self.items
+    }
+
+    /// It takes no memory.
+    pub fn into_vec(self) -> Vec<Event>
+        ensures { result.items ≡ self }
+    {
+        self.items
+    }
+}
+
+/// What a machine is made of, and what happens to it.
+#[derive(Debug, Drop)]
+pub struct Script {
+    /// How many harts: 1 to 8.
+    pub harts: u32,
+    /// Main memory's size in KiB: a multiple of 4 from 4 to 1024.
+    pub kib: u32,
+    /// How many sets each cache has: a power of two from 1 to 64.
+    pub sets: u32,
+    /// How many lines a set holds: 1 to 4.
+    pub ways: u32,
+    /// How many bytes a line has: 16 or 64.
+    pub line: u32,
+    pub events: Events,
+}
+
+/// The numbers of a script's first line.
+#[derive(Clone, Copy, Debug)]
+pub(crate) struct Head {
+    pub harts: u32,
+    pub kib: u32,
+    pub sets: u32,
+    pub ways: u32,
+    pub line: u32,
+}
+
+/// Version 1 has lines of 16 bytes and at most 4 harts; whatever is spelt there isn't in version 2.
+pub(crate) fn is_first_version(harts: u64, line: u32) -> bool {
+    line == 16 && harts <= 4
+}
+
+impl Script {
+    pub(crate) fn head(&self) -> Head {
+        Head {
+            harts: self.harts,
+            kib: self.kib,
+            sets: self.sets,
+            ways: self.ways,
+            line: self.line,
+        }
+    }
+}
