@@ -1,10 +1,16 @@
 //! What an atomic memory operation writes (RISC-V Unprivileged ISA 20191213, chapter 8.4).
 #![tactic(auto)]
 
+ghost use Rattle.std.specs.Prelude.{◌≡◌, int_lt, if◌then◌else◌};
+ghost use Rattle.rv32_decode.specs.Amo.{combined};
+ghost use Rattle.rv32_decode.specs.Numbers.{signed};
+
 use rv32_decode::AmoOp;
 
 /// The word that an AMO writes, of the word that it found and its operand.
-pub fn combine(op: AmoOp, old: u32, operand: u32) -> u32 {
+pub fn combine(op: AmoOp, old: u32, operand: u32) -> u32
+    ensures { result ≡ combined op old operand }
+{
     match op {
         AmoOp::Swap => operand,
         AmoOp::Add => old.wrapping_add(operand),
@@ -18,15 +24,19 @@ pub fn combine(op: AmoOp, old: u32, operand: u32) -> u32 {
     }
 }
 
-fn signed_min(a: u32, b: u32) -> u32 {
-    if b.cast_signed() < a.cast_signed() {
-        b
-    } else {
+fn signed_min(a: u32, b: u32) -> u32
+    ensures { result ≡ (if int_lt (signed a) (signed b) then a else b) }
+{
+    if a.cast_signed() < b.cast_signed() {
         a
+    } else {
+        b
     }
 }
 
-fn signed_max(a: u32, b: u32) -> u32 {
+fn signed_max(a: u32, b: u32) -> u32
+    ensures { result ≡ (if int_lt (signed a) (signed b) then b else a) }
+{
     if a.cast_signed() < b.cast_signed() {
         b
     } else {

@@ -1,5 +1,7 @@
+pub mod Amo
 pub mod Encoding
 pub mod Fence
 pub mod Fields
+pub mod Numbers
 pub mod Ranges
 pub mod Rows

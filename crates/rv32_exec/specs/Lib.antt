@@ -1,2 +1,7 @@
+pub mod Arithmetic
+pub mod Meaning
+pub mod Memory
+pub mod Plans
 pub mod Registers
+pub mod Uses
 pub mod Width

@@ -1,6 +1,9 @@
 //! What an instruction does to its hart: the next pc, and the register that it writes.
 
-ghost use Rattle.std.specs.Prelude.{◌≡◌, ◌<◌, ◌≤◌, ◌*◌, ◌^◌};
+ghost use Rattle.std.specs.Prelude.{◌≡◌, ◌<◌, ◌≤◌, ◌*◌, ◌^◌, unwrap_or};
+ghost use Rattle.rv32_exec.specs.Arithmetic as spec;
+ghost use Rattle.rv32_exec.specs.Meaning.{effect_of};
+ghost use Rattle.rv32_exec.specs.Registers.{after_write};
 ghost use Rattle.rv32_decode.specs.Fields.{extended_by};
 
 use crate::arithmetic::{computed, computed_immediate, is_taken, shifted};
@@ -10,7 +13,11 @@ use rv32_decode::{Instr, LoadOp, UpperOp};
 /// The next pc after an instruction at `pc` that doesn't stop, which writes its register, if it has one.
 /// `value` is what a load, LR or AMO read, before any extension of its sign; for an SC it is 0 where the SC
 /// succeeded and 1 where it failed. Other instructions have none, and it isn't looked at.
-pub fn finish(instr: &Instr, pc: u32, regs: &mut Regs, value: Option<u32>) -> u32 {
+pub fn finish(instr: &Instr, pc: u32, regs: &mut Regs, value: Option<u32>) -> u32
+    ensures next { result ≡ (effect_of instr.now pc regs.old (unwrap_or value 0)).next }
+    ensures registers { regs.new
+        ≡ after_write regs.old (effect_of instr.now pc regs.old (unwrap_or value 0)).written }
+{
     let following = pc.wrapping_add(4);
     match *instr {
         Instr::Upper { op, rd, imm } => {
@@ -72,7 +79,9 @@ pub fn finish(instr: &Instr, pc: u32, regs: &mut Regs, value: Option<u32>) -> u3
 }
 
 // What a load writes, of the raw value that it read (chapter 2.6).
-fn loaded(op: LoadOp, value: u32) -> u32 {
+fn loaded(op: LoadOp, value: u32) -> u32
+    ensures { result ≡ spec.loaded op value }
+{
     match op {
         LoadOp::Lb => sign_extended(value & 0xff, 0x80),
         LoadOp::Lh => sign_extended(value & 0xffff, 0x8000),

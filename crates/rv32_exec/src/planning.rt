@@ -1,5 +1,13 @@
 //! What an instruction will do to memory, or why its hart stops.
 
+ghost use Rattle.std.specs.Prelude.{◌≡◌, ◌%◌, ◌*◌, ◌^◌, ℕ, nat_lt, if◌then◌else◌, Some, None};
+ghost use Rattle.rv32_exec.specs.Arithmetic.{bytes_loaded, bytes_stored};
+ghost use Rattle.rv32_exec.specs.Meaning.{Loads, Stores, access_stop, stop_of_target, meaning};
+ghost use Rattle.rv32_exec.specs.Meaning as spec;
+ghost use Rattle.rv32_exec.specs.Memory.{IsMemorySize};
+ghost use Rattle.rv32_exec.specs.Plans.{width_of, plan_of_access, plan_of, stop_or, planned};
+ghost use Rattle.rv32_exec.specs.Width.{bytes_of};
+
 use crate::arithmetic::is_taken;
 use crate::plans::{Plan, Width};
 use crate::registers::Regs;
@@ -13,7 +21,11 @@ const MEMORY: u32 = 0x8000_0000;
 const CALL_NUMBER: u8 = 17;
 
 /// What an instruction at `pc` will do, where memory has `size` bytes from 0x80000000 on.
-pub fn plan(instr: &Instr, pc: u32, regs: &Regs, size: u32) -> Plan {
+pub fn plan(instr: &Instr, pc: u32, regs: &Regs, size: u32) -> Plan
+    requires { IsMemorySize size }
+    ensures value { result ≡ planned instr.now pc regs.now size }
+    ensures of_meaning { (read : ℕ) → result ≡ plan_of (meaning instr.now pc regs.now size read) }
+{
     match *instr {
         Instr::Upper { .. }
         | Instr::Immediate { .. }
@@ -55,22 +67,24 @@ pub fn plan(instr: &Instr, pc: u32, regs: &Regs, size: u32) -> Plan {
         Instr::System(SystemOp::Ebreak) => Plan::Stop(stop::BREAKPOINT),
         Instr::Lr { rs1, .. } => {
             let addr = regs.get(rs1);
-            plan_atomic(addr, size, Plan::Lr { addr })
+            plan_write(addr, Width::Word, size, Plan::Lr { addr })
         }
         Instr::Sc { rs1, rs2, .. } => {
             let addr = regs.get(rs1);
             let value = regs.get(rs2);
-            plan_atomic(addr, size, Plan::Sc { addr, value })
+            plan_write(addr, Width::Word, size, Plan::Sc { addr, value })
         }
         Instr::Amo { op, rs1, rs2, .. } => {
             let addr = regs.get(rs1);
             let operand = regs.get(rs2);
-            plan_atomic(addr, size, Plan::Amo { addr, op, operand })
+            plan_write(addr, Width::Word, size, Plan::Amo { addr, op, operand })
         }
     }
 }
 
-fn plan_jump(target: u32) -> Plan {
+fn plan_jump(target: u32) -> Plan
+    ensures { result ≡ stop_or (stop_of_target (Some target)) Plan.Local }
+{
     if target % 4 == 0 {
         Plan::Local
     } else {
@@ -78,7 +92,9 @@ fn plan_jump(target: u32) -> Plan {
     }
 }
 
-fn plan_call(number: u32) -> Plan {
+fn plan_call(number: u32) -> Plan
+    ensures { result ≡ stop_or (if nat_lt number 2 then None else Some 8) Plan.Call }
+{
     if number < 2 {
         Plan::Call
     } else {
@@ -86,49 +102,71 @@ fn plan_call(number: u32) -> Plan {
     }
 }
 
-fn plan_load(op: LoadOp, addr: u32, memory_size: u32) -> Plan {
+fn plan_load(op: LoadOp, addr: u32, memory_size: u32) -> Plan
+    requires { IsMemorySize memory_size }
+    ensures { result
+        ≡ stop_or (access_stop 4 5 memory_size addr (bytes_loaded op)) (plan_of_access (Loads addr (bytes_loaded op))) }
+{
     let size = load_width(op);
     if addr % size.bytes() != 0 {
         Plan::Stop(stop::LOAD_MISALIGNED)
-    } else if is_outside(addr, memory_size) {
+    } else if is_outside(addr, size, memory_size) {
         Plan::Stop(stop::LOAD_OUTSIDE)
     } else {
         Plan::Load { addr, size }
     }
 }
 
-fn plan_store(op: StoreOp, addr: u32, register: u32, memory_size: u32) -> Plan {
-    let (size, value) = match op {
-        StoreOp::Sb => (Width::Byte, register & 0xff),
-        StoreOp::Sh => (Width::Half, register & 0xffff),
-        StoreOp::Sw => (Width::Word, register),
-    };
-    if addr % size.bytes() != 0 {
-        Plan::Stop(stop::STORE_MISALIGNED)
-    } else if is_outside(addr, memory_size) {
-        Plan::Stop(stop::STORE_OUTSIDE)
-    } else {
-        Plan::Store { addr, size, value }
+fn plan_store(op: StoreOp, addr: u32, register: u32, memory_size: u32) -> Plan
+    requires { IsMemorySize memory_size }
+    ensures { result
+        ≡ stop_or (access_stop 6 7 memory_size addr (bytes_stored op))
+        (plan_of_access (Stores addr (bytes_stored op) (register % 2 ^ (8 * bytes_stored op)))) }
+{
+    match op {
+        StoreOp::Sb => store(addr, Width::Byte, register & 0xff, memory_size),
+        StoreOp::Sh => store(addr, Width::Half, register & 0xffff, memory_size),
+        StoreOp::Sw => store(addr, Width::Word, register, memory_size),
     }
 }
 
-// An LR, SC or AMO at this address, which stops in place of its plan where its word isn't aligned or not in memory.
-fn plan_atomic(addr: u32, memory_size: u32, plan: Plan) -> Plan {
-    if addr % 4 != 0 {
+fn store(addr: u32, size: Width, value: u32, memory_size: u32) -> Plan
+    requires { IsMemorySize memory_size }
+    ensures { result
+        ≡ stop_or (access_stop 6 7 memory_size addr (bytes_of size)) (Plan.Store addr size value) }
+{
+    plan_write(addr, size, memory_size, Plan::Store { addr, size, value })
+}
+
+// A write of this size at this address, or why it can't be done in place of its plan.
+fn plan_write(addr: u32, size: Width, memory_size: u32, plan: Plan) -> Plan
+    requires { IsMemorySize memory_size }
+    ensures { result ≡ stop_or (access_stop 6 7 memory_size addr (bytes_of size)) plan }
+{
+    if addr % size.bytes() != 0 {
         Plan::Stop(stop::STORE_MISALIGNED)
-    } else if is_outside(addr, memory_size) {
+    } else if is_outside(addr, size, memory_size) {
         Plan::Stop(stop::STORE_OUTSIDE)
     } else {
         plan
     }
 }
 
-// Whether an aligned access begins outside memory, and so is not wholly in it.
-fn is_outside(addr: u32, memory_size: u32) -> bool {
+// Whether a part of an aligned access is outside memory. Memory's size is a multiple of each width, so that
+// the first byte decides.
+fn is_outside(addr: u32, size: Width, memory_size: u32) -> bool
+    requires aligned { addr % bytes_of size ≡ 0 }
+    requires memory { IsMemorySize memory_size }
+    ensures { result ≡ spec.is_outside memory_size addr (bytes_of size) }
+{
+    let _ = size;
     addr.wrapping_sub(MEMORY) >= memory_size
 }
 
-fn load_width(op: LoadOp) -> Width {
+fn load_width(op: LoadOp) -> Width
+    ensures bytes { bytes_of result ≡ bytes_loaded op }
+    ensures width { result ≡ width_of (bytes_loaded op) }
+{
     match op {
         LoadOp::Lb | LoadOp::Lbu => Width::Byte,
         LoadOp::Lh | LoadOp::Lhu => Width::Half,

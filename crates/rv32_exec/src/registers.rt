@@ -1,6 +1,6 @@
 //! A hart's registers (chapter 2.1).
 ghost use Rattle.std.specs.Prelude.{◌≡◌, ◌<◌, List, ℕ, length, slice_index, slice_set};
-ghost use Rattle.rv32_exec.specs.Registers.{with_register, zeros};
+ghost use Rattle.rv32_exec.specs.Registers.{AreRegisters, with_register, zero_registers, reset_registers};
 
 use rv32_decode::Register;
 use std::marker::Model;
@@ -23,12 +23,16 @@ impl Model for Regs {
 
 impl Regs {
     /// All registers 0.
-    pub fn new() -> Regs {
+    pub fn new() -> Regs
+        ensures { result ≡ zero_registers }
+    {
         Regs { values: [0; 32] }
     }
 
     /// As a hart begins: x10 is its number, x11 the number of harts, and the others are 0.
-    pub fn at_reset(hart: u32, harts: u32) -> Regs {
+    pub fn at_reset(hart: u32, harts: u32) -> Regs
+        ensures { result ≡ reset_registers hart harts }
+    {
         let mut values = [0; 32];
         values[10] = hart;
         values[11] = harts;
@@ -37,12 +41,15 @@ impl Regs {
 
     pub fn get(&self, register: Register) -> u32
         ensures value { result ≡ slice_index self.now register }
+        ensures registers { AreRegisters self.now }
     {
         self.values[register.number() as usize]
     }
 
     /// Writes a register; a write to x0 is lost.
-    pub fn set(&mut self, register: Register, value: u32) {
+    pub fn set(&mut self, register: Register, value: u32)
+        ensures { self.new ≡ with_register self.old register value }
+    {
         self.values[register.number() as usize] = value;
         self.values[0] = 0;
     }
