@@ -1,5 +1,12 @@
-//! The memory models that a machine is run under and that an order is judged by.
+//! The memory models that a machine is run under and that an order is judged by, with their laws.
+//! What they mean is said in `specs/`.
 #![tactic(auto)]
+
+mod laws;
+mod operation;
+
+pub use laws::litmus_shapes;
+pub use operation::{Kind, Operation};
 
 /// RVWMO (RISC-V Unprivileged ISA 20191213, chapter 14), or the stronger Ztso (chapter 22).
 #[derive(Clone, Copy, Debug, PartialEq, Eq)]
