@@ -1,1 +1,4 @@
 pub mod Litmus
+pub mod WorkedRows
+pub mod Lists
+pub mod Legality

@@ -1,5 +1,5 @@
 -- Small runs, to be judged: traces of an image of bare words in 4 KiB of memory.
-use Rattle.std.specs.Prelude.{ℕ, ◌≡◌, ◌-◌, ◌*◌, ◌/◌, ◌%◌, ◌^◌, Bool, true, false, List, [], ◌∷◌, ◌++◌, Option, Some, None, length, map, replicate}
+use Rattle.std.specs.Prelude.{ℕ, ◌≡◌, ◌+◌, ◌-◌, ◌*◌, ◌/◌, ◌%◌, ◌^◌, Bool, true, false, List, [], ◌∷◌, ◌++◌, Option, Some, None, length, drop, map, replicate, take}
 use Rattle.elf_loader.specs.Image.{Initial}
 use Rattle.elf_loader.specs.Size.{base}
 use Rattle.hart.specs.declared.retired.Retired.{Retired}
@@ -26,6 +26,10 @@ bytes_of_words (word ∷ rest) = bytes_of_word word ++ bytes_of_words rest
 -- these words from 0x80000000 on, zeros behind them
 abbrev pub image_with : List ℕ → Initial
 image_with words = record { bytes = bytes_of_words words ++ replicate (4096 - 4 * length words) 0; entry = base }
+
+-- and with this word at an address
+abbrev pub with_word : ℕ → ℕ → Initial → Initial
+with_word address word image = record image { bytes = take (address - base) image.bytes ++ bytes_of_word word ++ drop (address - base + 4) image.bytes }
 
 -- ---- entries: instructions that read nothing, loads, and store conditionals
 

@@ -8,3 +8,5 @@ pub mod Traces
 pub mod Verdict
 pub mod Examples
 pub mod Litmus
+pub mod WorkedRows
+pub mod Laws

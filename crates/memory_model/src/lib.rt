@@ -5,7 +5,9 @@
 mod laws;
 mod operation;
 
-pub use laws::litmus_shapes;
+pub use laws::{
+    litmus_shapes, program_order_suffices, unwritten_byte_is_images, worked_rows, ztso_is_stronger,
+};
 pub use operation::{Kind, Operation};
 
 /// RVWMO (RISC-V Unprivileged ISA 20191213, chapter 14), or the stronger Ztso (chapter 22).
