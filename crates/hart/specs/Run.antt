@@ -14,8 +14,12 @@ use Rattle.hart.specs.declared.status.Status.TheVariants.{Running, Stopped, Exit
 -- ---- a step
 
 -- the number that an entry's instruction read: the loaded value, for a store conditional 0 where it succeeded and 1 where it failed (chapter 8.2)
+abbrev pub number_of : Option Bool → Option ℕ → ℕ
+number_of None loaded = unwrap_or loaded 0
+number_of (Some ok) loaded = if ok then 0 else 1
+
 abbrev pub number_read : Retired → ℕ
-number_read entry = elim entry.sc_ok [ Some ok ↦ (if ok then 0 else 1) | None ↦ unwrap_or entry.loaded 0 ]
+number_read entry = number_of entry.sc_ok entry.loaded
 
 -- a hart runs on after an access, but after an environment call of number 0, which ends it with its argument modulo 256
 abbrev pub status_after : Access → Status
@@ -26,8 +30,12 @@ abbrev pub moved : Hart → Effect → Hart
 moved hart effect = record { id = hart.id; pc = effect.next; regs = after_write hart.regs effect.written; status = status_after effect.access }
 
 -- the hart after it retired an entry; a word that is no instruction changes nothing
+abbrev pub after_instr : Hart → Retired → Option Instr → Hart
+after_instr hart entry None = hart
+after_instr hart entry (Some i) = moved hart (effect_of i hart.pc hart.regs (number_read entry))
+
 abbrev pub after : Hart → Retired → Hart
-after hart entry = elim (decoded entry.word) [ Some i ↦ moved hart (effect_of i hart.pc hart.regs (number_read entry)) | None ↦ hart ]
+after hart entry = after_instr hart entry (decoded entry.word)
 
 abbrev pub is_below : ℕ → Option ℕ → Bool
 is_below bound None = false
@@ -74,11 +82,12 @@ are_steps image hart (entry ∷ rest) = is_step image hart entry && are_steps im
 -- ---- how it ends
 
 -- the code that a running hart's next fetch or instruction stops with: 1 fetch outside memory, 2 no instruction, else the instruction's own
+abbrev pub stop_with : ℕ → Hart → Option Instr → Option ℕ
+stop_with size hart None = Some 2
+stop_with size hart (Some i) = stop_of i hart.pc hart.regs size
+
 abbrev pub next_stop : Initial → Hart → Option ℕ
-next_stop image hart =
-    if can_fetch image hart.pc
-    then elim (decoded (word_at image hart.pc)) [ Some i ↦ stop_of i hart.pc hart.regs (length image.bytes) | None ↦ Some 2 ]
-    else Some 1
+next_stop image hart = if can_fetch image hart.pc then stop_with (length image.bytes) hart (decoded (word_at image hart.pc)) else Some 1
 
 abbrev pub is_code : ℕ → Option ℕ → Bool
 is_code code None = false

@@ -2,3 +2,4 @@ pub mod Litmus
 pub mod WorkedRows
 pub mod Lists
 pub mod Legality
+pub mod Named

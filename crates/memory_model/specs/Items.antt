@@ -27,16 +27,19 @@ bits_of (instr.Sc rd rs1 rs2 bits) = bits
 bits_of (instr.Amo op rd rs1 rs2 bits) = bits
 bits_of _ = record { acquire = false; release = false }
 
+abbrev pub succeeded : Option Bool → Bool
+succeeded None = false
+succeeded (Some ok) = ok
+
 -- the operation of an access: of a load, an LR, a store, an AMO and an SC that succeeded; an SC that failed gives none
 abbrev pub operation_of : ℕ → ℕ → Annotations → Retired → Access → Option Operation
 operation_of hart place bits entry (Loads address bytes) = Some (record { hart = hart; place = place; kind = Load; address = address; size = bytes; read = number_read entry; written = 0; aq = bits.acquire; rl = bits.release })
 operation_of hart place bits entry (Stores address bytes value) = Some (record { hart = hart; place = place; kind = Store; address = address; size = bytes; read = 0; written = value; aq = bits.acquire; rl = bits.release })
 operation_of hart place bits entry (Reserves address) = Some (record { hart = hart; place = place; kind = Reserve; address = address; size = 4; read = number_read entry; written = 0; aq = bits.acquire; rl = bits.release })
 operation_of hart place bits entry (Tries address value) =
-    elim entry.sc_ok [
-      | Some ok ↦ (if ok then Some (record { hart = hart; place = place; kind = Conditional; address = address; size = 4; read = 0; written = value; aq = bits.acquire; rl = bits.release }) else None)
-      | None ↦ None
-    ]
+    if succeeded entry.sc_ok
+    then Some (record { hart = hart; place = place; kind = Conditional; address = address; size = 4; read = 0; written = value; aq = bits.acquire; rl = bits.release })
+    else None
 operation_of hart place bits entry (Updates address op operand) = Some (record { hart = hart; place = place; kind = Amo; address = address; size = 4; read = number_read entry; written = combined op (number_read entry) operand; aq = bits.acquire; rl = bits.release })
 operation_of hart place bits entry Private = None
 operation_of hart place bits entry Fences = None
@@ -61,10 +64,6 @@ items_of_harts image harts id [] = []
 items_of_harts image harts id (entries ∷ rest) = items_from 0 (at_reset image id harts) entries ∷ items_of_harts image harts (id + 1) rest
 
 -- ---- which entries give an operation: their word and their SC answer tell it
-
-abbrev pub succeeded : Option Bool → Bool
-succeeded None = false
-succeeded (Some ok) = ok
 
 abbrev pub is_giving : Option Bool → Instr → Bool
 is_giving sc_ok (instr.Load op rd rs1 offset) = true

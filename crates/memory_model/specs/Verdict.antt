@@ -52,9 +52,13 @@ abbrev pub fault_of : ℕ → Operation × Operation → Fault
 fault_of code p = record { code = code; a = name_of p.0; b = name_of p.1 }
 
 -- the least code that a pair breaks, and the first such pair
+abbrev pub fault_or : ℕ → Option (Operation × Operation) → Option Fault → Option Fault
+fault_or code None rest = rest
+fault_or code (Some p) rest = Some (fault_of code p)
+
 abbrev pub first_fault : List Code → List Operation → Option Fault
 first_fault [] order = None
-first_fault (code ∷ rest) order = elim (first_broken code order) [ Some p ↦ Some (fault_of code.number p) | None ↦ first_fault rest order ]
+first_fault (code ∷ rest) order = fault_or code.number (first_broken code order) (first_fault rest order)
 
 -- what is wrong with an order of the trace's operations; nothing where it is legal
 abbrev pub fault_in : Model → History → List OpId → Option Fault

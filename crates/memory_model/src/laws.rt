@@ -1,5 +1,5 @@
 //! Laws of the memory models, each the contract of a function that does nothing.
-ghost use Rattle.memory_model.specs.Laws.{ZtsoIsStronger, ProgramOrderSuffices, UnwrittenByteIsImages};
+ghost use Rattle.memory_model.specs.Laws.{CompletedIsOrder, ZtsoIsStronger, ProgramOrderSuffices, UnwrittenByteIsImages};
 ghost use Rattle.memory_model.specs.Litmus.{Shapes};
 ghost use Rattle.memory_model.specs.WorkedRows.{Rows};
 
@@ -27,4 +27,10 @@ pub fn program_order_suffices()
 /// In a legal order a load returns the image's byte where there is no store to it.
 pub fn unwritten_byte_is_images()
     ensures { UnwrittenByteIsImages }
+{}
+
+/// Where the performed order names operations of the trace, each at most once, the completed order has
+/// every operation of the trace exactly once.
+pub fn completed_is_order()
+    ensures { CompletedIsOrder }
 {}
