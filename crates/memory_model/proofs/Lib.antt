@@ -3,3 +3,4 @@ pub mod WorkedRows
 pub mod Lists
 pub mod Legality
 pub mod Named
+pub mod Forms

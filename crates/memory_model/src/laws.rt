@@ -1,5 +1,5 @@
 //! Laws of the memory models, each the contract of a function that does nothing.
-ghost use Rattle.memory_model.specs.Laws.{CompletedIsOrder, ZtsoIsStronger, ProgramOrderSuffices, UnwrittenByteIsImages};
+ghost use Rattle.memory_model.specs.Laws.{CompletedIsOrder, OrderFormsAgree, SourceFormsAgree, ZtsoIsStronger, ProgramOrderSuffices, UnwrittenByteIsImages};
 ghost use Rattle.memory_model.specs.Litmus.{Shapes};
 ghost use Rattle.memory_model.specs.WorkedRows.{Rows};
 
@@ -33,4 +33,16 @@ pub fn unwritten_byte_is_images()
 /// every operation of the trace exactly once.
 pub fn completed_is_order()
     ensures { CompletedIsOrder }
+{}
+
+/// The test that an order keeps preserved program order says what a reader means by it: where a must
+/// come before b, a stands before b.
+pub fn order_forms_agree()
+    ensures { OrderFormsAgree }
+{}
+
+/// The source of a byte is, of the stores to it other than the load that stand before the load in the
+/// order or precede it in program order, the last in the order.
+pub fn source_forms_agree()
+    ensures { SourceFormsAgree }
 {}
