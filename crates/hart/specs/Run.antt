@@ -105,8 +105,11 @@ status_fits image hart (Exited code) = is_exit code hart.status
 
 -- ---- the run
 
+abbrev pub reset_at : ℕ → ℕ → ℕ → Hart
+reset_at entry id harts = record { id = id; pc = entry; regs = reset_registers id harts; status = Running }
+
 abbrev pub at_reset : Initial → ℕ → ℕ → Hart
-at_reset image id harts = record { id = id; pc = image.entry; regs = reset_registers id harts; status = Running }
+at_reset image id harts = reset_at image.entry id harts
 
 -- a hart's entries and status are those of a run of the image from reset
 abbrev pub is_run : Initial → ℕ → ℕ → List Retired → Status → Bool
