@@ -1,10 +1,14 @@
 //! One hart: what it has retired and where it stands.
 #![tactic(auto)]
 
+mod batch;
+mod laws;
 mod retired;
 mod state;
 mod status;
 
+pub use batch::Batch;
+pub use laws::runs_end_as_their_lists;
 pub use retired::Retired;
 pub use state::Hart;
 pub use status::Status;

@@ -1,4 +1,5 @@
 //! Where a hart stands.
+ghost use Rattle.std.specs.Prelude.{◌≡◌};
 
 use crate::status::Status;
 use rv32_exec::Regs;
@@ -13,9 +14,13 @@ pub struct Hart {
 }
 
 impl Hart {
+    ghost use Rattle.hart.specs.Run.{reset_at};
+
     /// A hart at reset: it runs from the entry, with its number in x10, the number of harts in x11 and
     /// 0 in all other registers.
-    pub fn at_reset(id: u8, entry: u32, harts: u32) -> Hart {
+    pub fn at_reset(id: u8, entry: u32, harts: u32) -> Hart
+        ensures { result ≡ reset_at entry id harts }
+    {
         Hart {
             id,
             pc: entry,

@@ -1,5 +1,15 @@
-//! The memory models that a machine is run under and that an order is judged by.
+//! The memory models that a machine is run under and that an order is judged by, with their laws.
+//! What they mean is said in `specs/`.
 #![tactic(auto)]
+
+mod laws;
+mod operation;
+
+pub use laws::{
+    completed_is_order, litmus_shapes, order_forms_agree, program_order_suffices,
+    source_forms_agree, unwritten_byte_is_images, worked_rows, ztso_is_stronger,
+};
+pub use operation::{Kind, Operation};
 
 /// RVWMO (RISC-V Unprivileged ISA 20191213, chapter 14), or the stronger Ztso (chapter 22).
 #[derive(Clone, Copy, Debug, PartialEq, Eq)]

@@ -1,0 +1,234 @@
+-- Rows of private instructions: the longest one is a row, and how it goes on.
+use Rattle.std.proofs.Common.{◌≡◌, ℕ, zero, suc, ◌+◌, ◌-◌, ◌<◌, ◌≤◌, List, [], ◌∷◌, ◌++◌, Bool, true, false, Option, Some, None, refl, cond, sym, ap, ◌∙◌, subst, not, ◌&&◌, length, arith, append_assoc}
+use Rattle.std.proofs.lemmas.List.{append-nil}
+use Rattle.std.specs.Prelude.{nat_eq, nat_le, is_none, IsTrue, ◌↔◌}
+use Rattle.std.proofs.lemmas.Bool.{false≢true, true≢false, and_parts, and_from, and_left, and_right, eq-eqb, le-leb, leb-true}
+use Rattle.elf_loader.specs.Image.{Initial, HasWord, word_at, end_of}
+use Rattle.elf_loader.specs.Size.{base}
+use Rattle.rv32_decode.specs.Rows.{decoded}
+use Rattle.rv32_decode.specs.declared.instruction.Instr.{Instr}
+use Rattle.rv32_decode.specs.declared.instruction.Instr.TheVariants as instr
+use Rattle.rv32_decode.specs.declared.instruction.SystemOp.TheVariants.{Ecall, Ebreak}
+use Rattle.rv32_exec.specs.Meaning.{Access, Private, Loads, Stores, Reserves, Tries, Updates, Fences, Calls, access_of, effect_of, stop_of}
+use Rattle.rv32_exec.specs.Plans.{plan_of_access, planned, stop_or}
+use Rattle.rv32_exec.specs.declared.plans.Plan.{Plan}
+use Rattle.rv32_exec.specs.declared.plans.Plan.TheVariants as plan
+use Rattle.hart.specs.declared.retired.Retired.{Retired}
+use Rattle.hart.specs.declared.state.Hart.{Hart}
+use Rattle.hart.specs.declared.status.Status.{Status}
+use Rattle.hart.specs.declared.status.Status.TheVariants.{Running, Stopped, Exited}
+use Rattle.hart.specs.Run.{after, after_instr, can_fetch, is_running, moved, reached, status_after}
+use Rattle.hart.specs.Local.{is_done_alone, can_go_alone, next_entry, next_step, private_row, is_private_step, are_private_steps, IsRow, is_private, Row, row_of, with_effect}
+
+goes_alone : (image : Initial) (hart : Hart) → can_go_alone image hart ≡ true → is_private_step hart (next_entry image hart) ≡ true
+goes_alone image hart e =
+    let p = and_parts (is_running hart.status && can_fetch image hart.pc) (is_done_alone hart (decoded (word_at image hart.pc))) e in
+    let q = and_parts (is_running hart.status) (can_fetch image hart.pc) p.0 in
+    and_from _ _ (and_from _ _ (and_from _ _ (and_from _ _ q.0 (eq-eqb hart.pc hart.pc refl)) p.1) refl) refl
+
+row_alone : (image : Initial) (hart : Hart) (n : ℕ) → are_private_steps hart (private_row image hart n) ≡ true
+row_alone image hart zero = refl
+row_alone image hart (suc n) = go (can_go_alone image hart) refl (row_alone image (after hart (next_entry image hart)) n)
+  where
+    go : (b : Bool) → can_go_alone image hart ≡ b → are_private_steps (after hart (next_entry image hart)) (private_row image (after hart (next_entry image hart)) n) ≡ true
+        → are_private_steps hart (cond b (next_entry image hart ∷ private_row image (after hart (next_entry image hart)) n) []) ≡ true
+    go true e ih = and_from _ _ (goes_alone image hart e) ih
+    go false e ih = refl
+
+row_few : (image : Initial) (hart : Hart) (n : ℕ) → length (private_row image hart n) ≤ n
+row_few image hart zero = omega arith
+row_few image hart (suc n) = go (can_go_alone image hart) (row_few image (after hart (next_entry image hart)) n)
+  where
+    go : (b : Bool) → length (private_row image (after hart (next_entry image hart)) n) ≤ n → length (cond b (next_entry image hart ∷ private_row image (after hart (next_entry image hart)) n) []) ≤ suc n
+    go true h = omega arith
+    go false h = omega arith
+
+pub row_of-IsRow : (image : Initial) (hart : Hart) (n : ℕ) → n ≤ 256 → IsRow (row_of image hart n)
+row_of-IsRow image hart n l = let f = row_few image hart n in record { few = omega arith; alone = row_alone image hart n; leads = refl }
+
+-- what the row of a hart is while there is room
+pub private_row-more : (image : Initial) (hart : Hart) (n : ℕ) → 0 < n → private_row image hart n ≡ cond (can_go_alone image hart) (next_entry image hart ∷ private_row image (after hart (next_entry image hart)) (n - 1)) []
+private_row-more image hart zero l = absurd (omega (arith, l))
+private_row-more image hart (suc n) l =
+    ap (λ (m : ℕ). cond (can_go_alone image hart) (next_entry image hart ∷ private_row image (after hart (next_entry image hart)) m) []) (less n)
+  where
+    less : (n : ℕ) → n ≡ suc n - 1
+    less n = omega arith
+
+pub reached-push : (hart : Hart) (xs : List Retired) (entry : Retired) → reached hart (xs ++ entry ∷ []) ≡ after (reached hart xs) entry
+reached-push hart [] entry = refl
+reached-push hart (x ∷ xs) entry = reached-push (after hart x) xs entry
+
+-- ---- one step
+
+-- memory's size is of no matter to a private instruction
+stop_of-private : (i : Instr) (pc : ℕ) (x : List ℕ) (m n : ℕ) → access_of i x ≡ Private → stop_of i pc x m ≡ stop_of i pc x n
+stop_of-private (instr.Upper op rd imm) pc x m n e = refl
+stop_of-private (instr.Jal rd offset) pc x m n e = refl
+stop_of-private (instr.Jalr rd rs1 offset) pc x m n e = refl
+stop_of-private (instr.Branch op rs1 rs2 offset) pc x m n e = refl
+stop_of-private (instr.Load op rd rs1 offset) pc x m n e = cc
+stop_of-private (instr.Store op rs1 rs2 offset) pc x m n e = cc
+stop_of-private (instr.Immediate op rd rs1 imm) pc x m n e = refl
+stop_of-private (instr.Shift op rd rs1 amount) pc x m n e = refl
+stop_of-private (instr.Register op rd rs1 rs2) pc x m n e = refl
+stop_of-private (instr.Fence sets) pc x m n e = refl
+stop_of-private instr.FenceTso pc x m n e = refl
+stop_of-private (instr.System Ecall) pc x m n e = refl
+stop_of-private (instr.System Ebreak) pc x m n e = refl
+stop_of-private (instr.Lr rd rs1 bits) pc x m n e = cc
+stop_of-private (instr.Sc rd rs1 rs2 bits) pc x m n e = cc
+stop_of-private (instr.Amo op rd rs1 rs2 bits) pc x m n e = cc
+
+abbrev pub is_local : Plan → Bool
+is_local plan.Local = true
+is_local (plan.Load address width) = false
+is_local (plan.Store address width value) = false
+is_local (plan.Lr address) = false
+is_local (plan.Sc address value) = false
+is_local (plan.Amo address op operand) = false
+is_local plan.Fence = false
+is_local plan.Call = false
+is_local (plan.Stop code) = false
+
+local_by : (a : Access) (s t : Option ℕ) → (a ≡ Private → s ≡ t) → is_local (stop_or s (plan_of_access a)) ≡ (is_private a && is_none t)
+local_by Private (Some code) t f = ap is_none (f refl)
+local_by Private None t f = ap is_none (f refl)
+local_by (Loads address bytes) (Some code) t f = refl
+local_by (Loads address bytes) None t f = refl
+local_by (Stores address bytes value) (Some code) t f = refl
+local_by (Stores address bytes value) None t f = refl
+local_by (Reserves address) (Some code) t f = refl
+local_by (Reserves address) None t f = refl
+local_by (Tries address value) (Some code) t f = refl
+local_by (Tries address value) None t f = refl
+local_by (Updates address op operand) (Some code) t f = refl
+local_by (Updates address op operand) None t f = refl
+local_by Fences (Some code) t f = refl
+local_by Fences None t f = refl
+local_by (Calls number argument) (Some code) t f = refl
+local_by (Calls number argument) None t f = refl
+
+-- a plan is local exactly where the instruction is done alone
+pub is_local-planned : (i : Instr) (hart : Hart) (size : ℕ) → is_local (planned i hart.pc hart.regs size) ≡ is_done_alone hart (Some i)
+is_local-planned i hart size = local_by (access_of i hart.regs) (stop_of i hart.pc hart.regs size) (stop_of i hart.pc hart.regs 0) (stop_of-private i hart.pc hart.regs size 0)
+
+running_status : (s : Status) → is_running s ≡ true → s ≡ Running
+running_status Running e = refl
+running_status (Stopped code) e = absurd (false≢true e)
+running_status (Exited code) e = absurd (false≢true e)
+
+private_runs_on : (a : Access) → is_private a ≡ true → status_after a ≡ Running
+private_runs_on Private e = refl
+private_runs_on (Loads address bytes) e = absurd (false≢true e)
+private_runs_on (Stores address bytes value) e = absurd (false≢true e)
+private_runs_on (Reserves address) e = absurd (false≢true e)
+private_runs_on (Tries address value) e = absurd (false≢true e)
+private_runs_on (Updates address op operand) e = absurd (false≢true e)
+private_runs_on Fences e = absurd (false≢true e)
+private_runs_on (Calls number argument) e = absurd (false≢true e)
+
+-- behind an instruction that is done alone
+pub after-alone : (image : Initial) (hart : Hart) (i : Instr) → is_running hart.status ≡ true → decoded (word_at image hart.pc) ≡ Some i → is_done_alone hart (Some i) ≡ true → after hart (next_entry image hart) ≡ with_effect hart (effect_of i hart.pc hart.regs 0)
+after-alone image hart i r d e =
+    let p = (and_parts (is_private (access_of i hart.regs)) (is_none (stop_of i hart.pc hart.regs 0)) e).0 in
+    ap (after_instr hart (next_entry image hart)) d ∙ ap (λ (s : Status). record { id = hart.id; pc = (effect_of i hart.pc hart.regs 0).next; regs = (with_effect hart (effect_of i hart.pc hart.regs 0)).regs; status = s }) (private_runs_on (access_of i hart.regs) p ∙ sym (running_status hart.status r))
+
+-- whether a hart can go on alone, by what is tested in turn
+pub alone-halted : (image : Initial) (hart : Hart) → is_running hart.status ≡ false → can_go_alone image hart ≡ false
+alone-halted image hart e = and_left (is_running hart.status && can_fetch image hart.pc) (is_done_alone hart (decoded (word_at image hart.pc))) (and_left (is_running hart.status) (can_fetch image hart.pc) e)
+
+can_fetch-is : (image : Initial) (pc : ℕ) (b : Bool) → (b ≡ true) ↔ HasWord image pc → can_fetch image pc ≡ b
+can_fetch-is image pc true h = let w = h.0 refl in and_from _ _ (le-leb base pc w.0) (le-leb (pc + 4) (end_of image) w.1)
+can_fetch-is image pc false h = go (can_fetch image pc) refl
+  where
+    go : (c : Bool) → can_fetch image pc ≡ c → can_fetch image pc ≡ false
+    go false e = e
+    go true e = let p = and_parts (nat_le base pc) (nat_le (pc + 4) (end_of image)) e in absurd (false≢true (h.1 (leb-true base pc p.0, leb-true (pc + 4) (end_of image) p.1)))
+
+pub alone-outside : (image : Initial) (hart : Hart) (b : Bool) → (b ≡ true) ↔ HasWord image hart.pc → b ≡ false → can_go_alone image hart ≡ false
+alone-outside image hart b h e = and_left (is_running hart.status && can_fetch image hart.pc) (is_done_alone hart (decoded (word_at image hart.pc))) (and_right (is_running hart.status) (can_fetch image hart.pc) (can_fetch-is image hart.pc b h ∙ e))
+
+pub alone-done : (image : Initial) (hart : Hart) (b : Bool) (o : Option Instr) → is_running hart.status ≡ true → (b ≡ true) ↔ HasWord image hart.pc → b ≡ true → decoded (word_at image hart.pc) ≡ o → can_go_alone image hart ≡ is_done_alone hart o
+alone-done image hart b o r h e d =
+    ap (λ (c : Bool). (c && can_fetch image hart.pc) && is_done_alone hart (decoded (word_at image hart.pc))) r ∙ (ap (λ (c : Bool). c && is_done_alone hart (decoded (word_at image hart.pc))) (can_fetch-is image hart.pc b h ∙ e) ∙ ap (is_done_alone hart) d)
+
+abbrev pub pair : Retired → Hart → Retired × Hart
+pair entry hart = (entry, hart)
+
+-- the step is none where the hart can't go on alone
+pub no_step : (image : Initial) (hart : Hart) → can_go_alone image hart ≡ false → None ≡ cond (can_go_alone image hart) (Some (next_step image hart)) None
+no_step image hart e = sym (ap (λ (b : Bool). cond b (Some (next_step image hart)) None) e)
+
+pub one_step : (image : Initial) (hart : Hart) → can_go_alone image hart ≡ true → Some (next_step image hart) ≡ cond (can_go_alone image hart) (Some (next_step image hart)) None
+one_step image hart e = sym (ap (λ (b : Bool). cond b (Some (next_step image hart)) None) e)
+
+-- ---- the longest row, step by step
+
+abbrev row_with : Hart → Hart → List Retired → Row
+row_with first last entries = record { first = first; last = last; entries = entries }
+
+pub record Taken (image : Initial) (hart : Hart) (entry : Retired) (next : Hart) : Type 0 where
+  pub goes : can_go_alone image hart ≡ true
+  pub entry_is : entry ≡ next_entry image hart
+  pub next_is : next ≡ after hart (next_entry image hart)
+
+taken_by : (b : Bool) (e f : Retired) (h n : Hart) → cond b (Some (pair e h)) None ≡ Some (pair f n) → (b ≡ true) × (f ≡ e) × (n ≡ h)
+taken_by true e f h n q = let p : pair e h ≡ pair f n = cc in (refl, sym (ap (λ (v : Retired × Hart). v.0) p), sym (ap (λ (v : Retired × Hart). v.1) p))
+taken_by false e f h n q = cc
+
+pub step_taken : (image : Initial) (hart : Hart) (o : Option (Retired × Hart)) (entry : Retired) (next : Hart)
+    → o ≡ cond (can_go_alone image hart) (Some (next_step image hart)) None
+    → o ≡ Some (pair entry next)
+    → Taken image hart entry next
+step_taken image hart o entry next e f = let t = taken_by (can_go_alone image hart) (next_entry image hart) entry (after hart (next_entry image hart)) next (sym e ∙ f) in record { goes = t.0; entry_is = t.1; next_is = t.2 }
+
+refused_by : (b : Bool) (p : Retired × Hart) → cond b (Some p) None ≡ None → b ≡ false
+refused_by true p q = cc
+refused_by false p q = refl
+
+pub row_goes : (image : Initial) (hart last next : Hart) (entry : Retired) (items new : List Retired) (most room : ℕ)
+    → private_row image hart most ≡ items ++ private_row image last room
+    → 0 < room
+    → Taken image last entry next
+    → new ≡ items ++ entry ∷ []
+    → private_row image hart most ≡ new ++ private_row image next (room - 1)
+row_goes image hart last next entry items new most room row l t n =
+    row
+    ∙ (ap (λ (r : List Retired). items ++ r) (private_row-more image last room l ∙ ap (λ (b : Bool). cond b (next_entry image last ∷ private_row image (after last (next_entry image last)) (room - 1)) []) t.goes)
+    ∙ (sym (append_assoc items (next_entry image last ∷ []) (private_row image (after last (next_entry image last)) (room - 1)))
+    ∙ (ap (λ (r : List Retired). r ++ private_row image (after last (next_entry image last)) (room - 1)) (ap (λ (e : Retired). items ++ e ∷ []) (sym t.entry_is) ∙ sym n)
+    ∙ ap (λ (h : Hart). new ++ private_row image h (room - 1)) (sym t.next_is))))
+
+pub row_leads : (image : Initial) (hart last next : Hart) (entry : Retired) (items new : List Retired) → last ≡ reached hart items → Taken image last entry next → new ≡ items ++ entry ∷ [] → next ≡ reached hart new
+row_leads image hart last next entry items new leads t n =
+    t.next_is ∙ (ap (λ (e : Retired). after last e) (sym t.entry_is) ∙ (ap (λ (h : Hart). after h entry) leads ∙ (sym (reached-push hart items entry) ∙ ap (reached hart) (sym n))))
+
+pub none_without_room : (image : Initial) (hart : Hart) (room : ℕ) → room ≤ 0 → private_row image hart room ≡ []
+none_without_room image hart zero l = refl
+none_without_room image hart (suc n) l = absurd (omega (arith, l))
+
+pub none_refused : (image : Initial) (hart : Hart) (room : ℕ) (o : Option (Retired × Hart)) → 0 < room
+    → o ≡ cond (can_go_alone image hart) (Some (next_step image hart)) None
+    → o ≡ None
+    → private_row image hart room ≡ []
+none_refused image hart room o l e f =
+    private_row-more image hart room l ∙ ap (λ (b : Bool). cond b (next_entry image hart ∷ private_row image (after hart (next_entry image hart)) (room - 1)) []) (refused_by (can_go_alone image hart) (next_step image hart) (sym e ∙ f))
+
+pub row_done : (image : Initial) (hart last : Hart) (items : List Retired) (most room : ℕ)
+    → private_row image hart most ≡ items ++ private_row image last room
+    → last ≡ reached hart items
+    → private_row image last room ≡ []
+    → record { first = hart; last = last; entries = items } ≡ row_of image hart most
+row_done image hart last items most room row leads none =
+    let e : items ≡ private_row image hart most = sym (row ∙ (ap (λ (r : List Retired). items ++ r) none ∙ append-nil items)) in
+    ap (λ (h : Hart). row_with hart h items) leads ∙ ap (λ (es : List Retired). row_with hart (reached hart es) es) e
+
+abbrev pub bare_entry : ℕ → ℕ → Retired
+bare_entry pc word = record { pc = pc; word = word; loaded = None; sc_ok = None }
+
+pub step_of : (image : Initial) (hart : Hart) (word : ℕ) (next : Hart) → word ≡ word_at image hart.pc → next ≡ after hart (next_entry image hart) → Some (pair (bare_entry hart.pc word) next) ≡ Some (next_step image hart)
+step_of image hart word next e f = ap (λ (w : ℕ). Some (pair (bare_entry hart.pc w) next)) e ∙ ap (λ (h : Hart). Some (pair (next_entry image hart) h)) f
+
+pub the_row : (image : Initial) (hart last : Hart) (items : List Retired) (most : ℕ) → most ≤ 256 → record { first = hart; last = last; entries = items } ≡ row_of image hart most → IsRow (record { first = hart; last = last; entries = items })
+the_row image hart last items most few e = subst IsRow (sym e) (row_of-IsRow image hart most few)

@@ -1,0 +1,6 @@
+pub mod Litmus
+pub mod WorkedRows
+pub mod Lists
+pub mod Legality
+pub mod Named
+pub mod Forms

@@ -1,0 +1,12 @@
+pub mod Operations
+pub mod Order
+pub mod Items
+pub mod Dependencies
+pub mod Rules
+pub mod Legal
+pub mod Traces
+pub mod Verdict
+pub mod Examples
+pub mod Litmus
+pub mod WorkedRows
+pub mod Laws

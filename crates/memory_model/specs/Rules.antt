@@ -1,0 +1,147 @@
+-- Preserved program order: the thirteen rules, each a test of two operations a and b of one hart, a before b in program order (RISC-V Unprivileged ISA 20191213, chapter 14.1, "Preserved Program Order").
+-- `items` is the list of their hart. "Returns a value written by" is the source in the order.
+use Rattle.std.specs.Prelude.{ℕ, Bool, true, false, ◌&&◌, ◌||◌, not, ◌==◌, if◌then◌else◌, List, [], ◌∷◌, Option, Some, None, slice_index_or}
+use Rattle.std.specs.List.{list_any}
+use Rattle.rv32_decode.specs.Fence.{Sets}
+use Rattle.rv32_decode.specs.Fields.{bits_of}
+use Rattle.rv32_decode.specs.declared.instruction.Instr.{Instr}
+use Rattle.rv32_decode.specs.declared.instruction.Instr.TheVariants as instr
+use Rattle.memory_model.specs.declared.Model.{Model}
+use Rattle.memory_model.specs.declared.operation.Kind.{Kind}
+use Rattle.memory_model.specs.declared.operation.Operation.{Operation}
+use Rattle.memory_model.specs.Operations.{reads, writes, is_reserve, is_conditional, is_amo, same, precedes, bytes_of, touches, stores_to, overlap, has_acquire, has_release, has_rcsc}
+use Rattle.memory_model.specs.Order.{source, same_source}
+use Rattle.memory_model.specs.Items.{Item}
+use Rattle.memory_model.specs.Dependencies.{between, has_address_dependency, has_data_dependency, has_control_dependency, has_addressed_between}
+
+-- ---- fences (chapter 2.7)
+
+-- R is in a set of a FENCE, and W is
+abbrev pub has_read : ℕ → Bool
+has_read set = bits_of set 1 1 == 1
+
+abbrev pub has_write : ℕ → Bool
+has_write set = bits_of set 0 1 == 1
+
+-- an operation of this kind is in a set; an AMO is in it as a load or as a store
+abbrev pub is_in_set : ℕ → Kind → Bool
+is_in_set set kind = (reads kind && has_read set) || (writes kind && has_write set)
+
+-- an instruction orders an operation of the first kind before one of the second: a FENCE by its two sets; FENCE.TSO loads before all and stores before stores
+abbrev pub fences : Option Instr → Kind → Kind → Bool
+fences (Some (instr.Fence sets)) a b = is_in_set sets.before a && is_in_set sets.after b
+fences (Some instr.FenceTso) a b = reads a || (writes a && writes b)
+fences _ a b = false
+
+-- ---- pairs (chapter 14.1, "Memory Model Primitives"; chapter 8.2)
+
+abbrev pub is_lr_or_sc : Option Instr → Bool
+is_lr_or_sc (Some (instr.Lr rd rs1 bits)) = true
+is_lr_or_sc (Some (instr.Sc rd rs1 rs2 bits)) = true
+is_lr_or_sc _ = false
+
+-- an LR and a later SC of its hart with no LR or SC between, whether it succeeded or not
+abbrev pub paired : List Item → Operation → Operation → Bool
+paired items a b = precedes a b && is_reserve a.kind && is_conditional b.kind && not (list_any (λ (m : Item). is_lr_or_sc m.instr) (between items a b))
+
+-- ---- values
+
+-- an instruction stores to x
+abbrev pub gave_store_to : ℕ → Option Operation → Bool
+gave_store_to x None = false
+gave_store_to x (Some m) = stores_to x m
+
+-- b returns a value written by a
+abbrev pub returns_from : List Operation → Operation → Operation → Bool
+returns_from order b a = list_any (λ x. same_source (source order b x) (Some a)) (bytes_of b)
+
+-- ---- the rules
+
+-- 1: b is a store, and they overlap
+abbrev pub rule_1 : Model → List Item → List Operation → Operation → Operation → Bool
+rule_1 model items order a b = writes b.kind && overlap a b
+
+-- 2: both are loads, x is a byte of both, no store to x lies between them in program order, and they return x from different writes
+abbrev pub rule_2 : Model → List Item → List Operation → Operation → Operation → Bool
+rule_2 model items order a b =
+    reads a.kind && reads b.kind
+    && list_any (λ x. touches x b && not (list_any (λ (m : Item). gave_store_to x m.gave) (between items a b)) && not (same_source (source order a x) (source order b x))) (bytes_of a)
+
+-- 3: a is of an AMO or an SC, and b is a load that returns a value written by a
+abbrev pub rule_3 : Model → List Item → List Operation → Operation → Operation → Bool
+rule_3 model items order a b = (is_amo a.kind || is_conditional a.kind) && reads b.kind && returns_from order b a
+
+-- 4: a FENCE between them orders a before b
+abbrev pub rule_4 : Model → List Item → List Operation → Operation → Operation → Bool
+rule_4 model items order a b = list_any (λ (m : Item). fences m.instr a.kind b.kind) (between items a b)
+
+-- 5: a has an acquire annotation
+abbrev pub rule_5 : Model → List Item → List Operation → Operation → Operation → Bool
+rule_5 model items order a b = has_acquire model a
+
+-- 6: b has a release annotation
+abbrev pub rule_6 : Model → List Item → List Operation → Operation → Operation → Bool
+rule_6 model items order a b = has_release model b
+
+-- 7: both have RCsc annotations
+abbrev pub rule_7 : Model → List Item → List Operation → Operation → Operation → Bool
+rule_7 model items order a b = has_rcsc model a && has_rcsc model b
+
+-- 8: a is paired with b
+abbrev pub rule_8 : Model → List Item → List Operation → Operation → Operation → Bool
+rule_8 model items order a b = paired items a b
+
+-- 9: b has an address dependency on a
+abbrev pub rule_9 : Model → List Item → List Operation → Operation → Operation → Bool
+rule_9 model items order a b = has_address_dependency items a b
+
+-- 10: b has a data dependency on a
+abbrev pub rule_10 : Model → List Item → List Operation → Operation → Operation → Bool
+rule_10 model items order a b = has_data_dependency items a b
+
+-- 11: b is a store with a control dependency on a
+abbrev pub rule_11 : Model → List Item → List Operation → Operation → Operation → Bool
+rule_11 model items order a b = writes b.kind && has_control_dependency items a b
+
+-- m is a store that has an address or a data dependency on a
+abbrev pub is_dependent_store : List Item → Operation → Option Operation → Bool
+is_dependent_store items a None = false
+is_dependent_store items a (Some m) = writes m.kind && (has_address_dependency items a m || has_data_dependency items a m)
+
+abbrev pub returns_from_given : List Operation → Operation → Option Operation → Bool
+returns_from_given order b None = false
+returns_from_given order b (Some m) = returns_from order b m
+
+-- 12: b is a load, a store m between has an address or data dependency on a, and b returns a value written by m
+abbrev pub rule_12 : Model → List Item → List Operation → Operation → Operation → Bool
+rule_12 model items order a b = reads b.kind && list_any (λ (m : Item). is_dependent_store items a m.gave && returns_from_given order b m.gave) (between items a b)
+
+-- 13: b is a store, and an instruction between them has an address dependency on a
+abbrev pub rule_13 : Model → List Item → List Operation → Operation → Operation → Bool
+rule_13 model items order a b = writes b.kind && has_addressed_between items a b
+
+-- ---- all of them
+
+-- a rule with its number
+pub record Rule : Type 0 where
+  pub number : ℕ
+  pub asks : Model → List Item → List Operation → Operation → Operation → Bool
+
+abbrev pub rule : ℕ → (Model → List Item → List Operation → Operation → Operation → Bool) → Rule
+rule number asks = record { number = number; asks = asks }
+
+abbrev pub rules : List Rule
+rules =
+    rule 1 rule_1 ∷ rule 2 rule_2 ∷ rule 3 rule_3 ∷ rule 4 rule_4 ∷ rule 5 rule_5 ∷ rule 6 rule_6 ∷ rule 7 rule_7 ∷ rule 8 rule_8 ∷ rule 9 rule_9 ∷ rule 10 rule_10 ∷ rule 11 rule_11 ∷ rule 12 rule_12 ∷ rule 13 rule_13 ∷ []
+
+-- the list of a hart
+abbrev pub items_of : List (List Item) → ℕ → List Item
+items_of harts hart = slice_index_or harts hart []
+
+-- a precedes b in program order, and this rule holds
+abbrev pub asked_by : Model → List (List Item) → List Operation → Rule → Operation → Operation → Bool
+asked_by model harts order r a b = precedes a b && r.asks model (items_of harts a.hart) order a b
+
+-- a precedes b in preserved program order: in program order, and one of the rules holds
+abbrev pub preserved : Model → List (List Item) → List Operation → Operation → Operation → Bool
+preserved model harts order a b = precedes a b && list_any (λ (r : Rule). r.asks model (items_of harts a.hart) order a b) rules

@@ -1,0 +1,48 @@
+//! Laws of the memory models, each the contract of a function that does nothing.
+ghost use Rattle.memory_model.specs.Laws.{CompletedIsOrder, OrderFormsAgree, SourceFormsAgree, ZtsoIsStronger, ProgramOrderSuffices, UnwrittenByteIsImages};
+ghost use Rattle.memory_model.specs.Litmus.{Shapes};
+ghost use Rattle.memory_model.specs.WorkedRows.{Rows};
+
+/// Small runs, with orders that each rule and each axiom allows and forbids, are judged as the standard
+/// judges them.
+pub fn litmus_shapes()
+    ensures { Shapes }
+{}
+
+/// Whole runs of small programs are runs, and their completed orders are judged as they should be.
+pub fn worked_rows()
+    ensures { Rows }
+{}
+
+/// An order that is legal under Ztso is legal under RVWMO.
+pub fn ztso_is_stronger()
+    ensures { ZtsoIsStronger }
+{}
+
+/// An order that keeps program order breaks none of the thirteen rules.
+pub fn program_order_suffices()
+    ensures { ProgramOrderSuffices }
+{}
+
+/// In a legal order a load returns the image's byte where there is no store to it.
+pub fn unwritten_byte_is_images()
+    ensures { UnwrittenByteIsImages }
+{}
+
+/// Where the performed order names operations of the trace, each at most once, the completed order has
+/// every operation of the trace exactly once.
+pub fn completed_is_order()
+    ensures { CompletedIsOrder }
+{}
+
+/// The test that an order keeps preserved program order says what a reader means by it: where a must
+/// come before b, a stands before b.
+pub fn order_forms_agree()
+    ensures { OrderFormsAgree }
+{}
+
+/// The source of a byte is, of the stores to it other than the load that stand before the load in the
+/// order or precede it in program order, the last in the order.
+pub fn source_forms_agree()
+    ensures { SourceFormsAgree }
+{}
