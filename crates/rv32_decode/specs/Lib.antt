@@ -1,4 +1,5 @@
 pub mod Amo
+pub mod Decoding
 pub mod Encoding
 pub mod Fence
 pub mod Fields

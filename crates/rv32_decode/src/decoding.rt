@@ -1,6 +1,8 @@
 //! From words to instructions.
-ghost use Rattle.std.specs.Prelude.{◌≡◌};
-ghost use Rattle.rv32_decode.specs.Fields.{opcode_of};
+ghost use Rattle.std.specs.Prelude.{◌≡◌, ◌==◌, if◌then◌else◌};
+ghost use Rattle.rv32_decode.specs.Decoding.{branch_of, load_of, store_of, immediate_of, shift_of, register_of, amo_of, branch_at, load_at, store_at, immediate_at, shift_at, register_at, jalr_at, fence_at, system_at, atomic_at};
+ghost use Rattle.rv32_decode.specs.Fields.{rd_of, rs1_of, rs2_of, imm_u, annotations_of};
+ghost use Rattle.rv32_decode.specs.Rows.{decoded};
 
 use crate::fields::{
     annotations, branch_offset, fence_sets, funct3, funct5, funct7, immediate_i, immediate_s,
@@ -12,7 +14,9 @@ use crate::instruction::{
 
 /// The instruction that a word is, or `None` where it is none of RV32I (without FENCE.I and the CSR
 /// instructions), M and A.
-pub fn decode(word: u32) -> Option<Instr> {
+pub fn decode(word: u32) -> Option<Instr>
+    ensures { result ≡ decoded word }
+{
     match opcode(word) {
         0x37 => Some(upper(UpperOp::Lui, word)),
         0x17 => Some(upper(UpperOp::Auipc, word)),
@@ -33,7 +37,9 @@ pub fn decode(word: u32) -> Option<Instr> {
     }
 }
 
-fn upper(op: UpperOp, word: u32) -> Instr {
+fn upper(op: UpperOp, word: u32) -> Instr
+    ensures { result ≡ Instr.Upper op (rd_of word) (imm_u word) }
+{
     Instr::Upper {
         op,
         rd: rd(word),
@@ -41,7 +47,9 @@ fn upper(op: UpperOp, word: u32) -> Instr {
     }
 }
 
-fn jalr(word: u32) -> Option<Instr> {
+fn jalr(word: u32) -> Option<Instr>
+    ensures { result ≡ jalr_at word }
+{
     if funct3(word) != 0 {
         return None;
     }
@@ -52,16 +60,24 @@ fn jalr(word: u32) -> Option<Instr> {
     })
 }
 
-fn branch(word: u32) -> Option<Instr> {
-    let op = match funct3(word) {
-        0 => BranchOp::Beq,
-        1 => BranchOp::Bne,
-        4 => BranchOp::Blt,
-        5 => BranchOp::Bge,
-        6 => BranchOp::Bltu,
-        7 => BranchOp::Bgeu,
-        _ => return None,
-    };
+fn branch_op(funct3: u32) -> Option<BranchOp>
+    ensures { result ≡ branch_of funct3 }
+{
+    match funct3 {
+        0 => Some(BranchOp::Beq),
+        1 => Some(BranchOp::Bne),
+        4 => Some(BranchOp::Blt),
+        5 => Some(BranchOp::Bge),
+        6 => Some(BranchOp::Bltu),
+        7 => Some(BranchOp::Bgeu),
+        _ => None,
+    }
+}
+
+fn branch(word: u32) -> Option<Instr>
+    ensures { result ≡ branch_at word }
+{
+    let op = branch_op(funct3(word))?;
     Some(Instr::Branch {
         op,
         rs1: rs1(word),
@@ -70,15 +86,23 @@ fn branch(word: u32) -> Option<Instr> {
     })
 }
 
-fn load(word: u32) -> Option<Instr> {
-    let op = match funct3(word) {
-        0 => LoadOp::Lb,
-        1 => LoadOp::Lh,
-        2 => LoadOp::Lw,
-        4 => LoadOp::Lbu,
-        5 => LoadOp::Lhu,
-        _ => return None,
-    };
+fn load_op(funct3: u32) -> Option<LoadOp>
+    ensures { result ≡ load_of funct3 }
+{
+    match funct3 {
+        0 => Some(LoadOp::Lb),
+        1 => Some(LoadOp::Lh),
+        2 => Some(LoadOp::Lw),
+        4 => Some(LoadOp::Lbu),
+        5 => Some(LoadOp::Lhu),
+        _ => None,
+    }
+}
+
+fn load(word: u32) -> Option<Instr>
+    ensures { result ≡ load_at word }
+{
+    let op = load_op(funct3(word))?;
     Some(Instr::Load {
         op,
         rd: rd(word),
@@ -87,13 +111,21 @@ fn load(word: u32) -> Option<Instr> {
     })
 }
 
-fn store(word: u32) -> Option<Instr> {
-    let op = match funct3(word) {
-        0 => StoreOp::Sb,
-        1 => StoreOp::Sh,
-        2 => StoreOp::Sw,
-        _ => return None,
-    };
+fn store_op(funct3: u32) -> Option<StoreOp>
+    ensures { result ≡ store_of funct3 }
+{
+    match funct3 {
+        0 => Some(StoreOp::Sb),
+        1 => Some(StoreOp::Sh),
+        2 => Some(StoreOp::Sw),
+        _ => None,
+    }
+}
+
+fn store(word: u32) -> Option<Instr>
+    ensures { result ≡ store_at word }
+{
+    let op = store_op(funct3(word))?;
     Some(Instr::Store {
         op,
         rs1: rs1(word),
@@ -102,31 +134,49 @@ fn store(word: u32) -> Option<Instr> {
     })
 }
 
-fn immediate(word: u32) -> Option<Instr> {
-    let op = match funct3(word) {
-        0 => ImmediateOp::Addi,
-        2 => ImmediateOp::Slti,
-        3 => ImmediateOp::Sltiu,
-        4 => ImmediateOp::Xori,
-        6 => ImmediateOp::Ori,
-        7 => ImmediateOp::Andi,
-        _ => return shift(word),
-    };
-    Some(Instr::Immediate {
-        op,
-        rd: rd(word),
-        rs1: rs1(word),
-        imm: immediate_i(word),
-    })
+fn immediate_op(funct3: u32) -> Option<ImmediateOp>
+    ensures { result ≡ immediate_of funct3 }
+{
+    match funct3 {
+        0 => Some(ImmediateOp::Addi),
+        2 => Some(ImmediateOp::Slti),
+        3 => Some(ImmediateOp::Sltiu),
+        4 => Some(ImmediateOp::Xori),
+        6 => Some(ImmediateOp::Ori),
+        7 => Some(ImmediateOp::Andi),
+        _ => None,
+    }
 }
 
-fn shift(word: u32) -> Option<Instr> {
-    let op = match (funct7(word), funct3(word)) {
-        (0, 1) => ShiftOp::Slli,
-        (0, 5) => ShiftOp::Srli,
-        (0x20, 5) => ShiftOp::Srai,
-        _ => return None,
-    };
+fn immediate(word: u32) -> Option<Instr>
+    ensures { result ≡ immediate_at word }
+{
+    match immediate_op(funct3(word)) {
+        Some(op) => Some(Instr::Immediate {
+            op,
+            rd: rd(word),
+            rs1: rs1(word),
+            imm: immediate_i(word),
+        }),
+        None => shift(word),
+    }
+}
+
+fn shift_op(funct7: u32, funct3: u32) -> Option<ShiftOp>
+    ensures { result ≡ shift_of funct3 funct7 }
+{
+    match (funct7, funct3) {
+        (0, 1) => Some(ShiftOp::Slli),
+        (0, 5) => Some(ShiftOp::Srli),
+        (0x20, 5) => Some(ShiftOp::Srai),
+        _ => None,
+    }
+}
+
+fn shift(word: u32) -> Option<Instr>
+    ensures { result ≡ shift_at word }
+{
+    let op = shift_op(funct7(word), funct3(word))?;
     Some(Instr::Shift {
         op,
         rd: rd(word),
@@ -135,7 +185,9 @@ fn shift(word: u32) -> Option<Instr> {
     })
 }
 
-fn register_op(funct7: u32, funct3: u32) -> Option<RegisterOp> {
+fn register_op(funct7: u32, funct3: u32) -> Option<RegisterOp>
+    ensures { result ≡ register_of funct3 funct7 }
+{
     match (funct7, funct3) {
         (0, 0) => Some(RegisterOp::Add),
         (0x20, 0) => Some(RegisterOp::Sub),
@@ -159,7 +211,9 @@ fn register_op(funct7: u32, funct3: u32) -> Option<RegisterOp> {
     }
 }
 
-fn register(word: u32) -> Option<Instr> {
+fn register(word: u32) -> Option<Instr>
+    ensures { result ≡ register_at word }
+{
     let op = register_op(funct7(word), funct3(word))?;
     Some(Instr::Register {
         op,
@@ -170,7 +224,9 @@ fn register(word: u32) -> Option<Instr> {
 }
 
 // The mode of a FENCE is only looked at where its sets are RW and RW; the registers that it names never are.
-fn fence(word: u32) -> Option<Instr> {
+fn fence(word: u32) -> Option<Instr>
+    ensures { result ≡ fence_at word }
+{
     if funct3(word) != 0 {
         return None;
     }
@@ -181,7 +237,9 @@ fn fence(word: u32) -> Option<Instr> {
     }
 }
 
-fn system(word: u32) -> Option<Instr> {
+fn system(word: u32) -> Option<Instr>
+    ensures { result ≡ system_at word }
+{
     match word {
         0x0000_0073 => Some(Instr::System(SystemOp::Ecall)),
         0x0010_0073 => Some(Instr::System(SystemOp::Ebreak)),
@@ -189,7 +247,9 @@ fn system(word: u32) -> Option<Instr> {
     }
 }
 
-fn atomic(word: u32) -> Option<Instr> {
+fn atomic(word: u32) -> Option<Instr>
+    ensures { result ≡ atomic_at word }
+{
     if funct3(word) != 2 {
         return None;
     }
@@ -214,7 +274,10 @@ fn atomic(word: u32) -> Option<Instr> {
     }
 }
 
-fn load_reserved(word: u32) -> Option<Instr> {
+fn load_reserved(word: u32) -> Option<Instr>
+    ensures { result
+        ≡ (if rs2_of word == 0 then Some (Instr.Lr (rd_of word) (rs1_of word) (annotations_of word)) else None) }
+{
     if rs2(word).number() != 0 {
         return None;
     }
@@ -225,7 +288,9 @@ fn load_reserved(word: u32) -> Option<Instr> {
     })
 }
 
-fn amo_op(funct5: u32) -> Option<AmoOp> {
+fn amo_op(funct5: u32) -> Option<AmoOp>
+    ensures { result ≡ amo_of funct5 }
+{
     match funct5 {
         0x01 => Some(AmoOp::Swap),
         0x00 => Some(AmoOp::Add),

@@ -3,6 +3,7 @@
 #![tactic(auto)]
 
 mod decoding;
+mod display;
 mod encoding;
 mod fence;
 mod fields;
