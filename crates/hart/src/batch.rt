@@ -1,9 +1,15 @@
 //! Rows of instructions that a hart does alone.
-ghost use Rattle.std.specs.Prelude.{◌≡◌};
-ghost use Rattle.hart.specs.Local.{IsRow};
+ghost use Rattle.std.specs.Prelude.{◌≡◌, ◌≤◌, IfOk, Some, None, if◌then◌else◌};
+ghost use Rattle.elf_loader.specs.Size.{IsMemorySize};
+ghost use Rattle.hart.specs.Local.{IsRow, can_go_alone, is_done_alone, next_step, row_of, with_effect};
+ghost use Rattle.rv32_exec.specs.Meaning.{effect_of};
 
 use crate::retired::Retired;
 use crate::state::Hart;
+use elf_loader::Image;
+use rv32_decode::{Instr, decode};
+use rv32_exec::{Plan, finish, plan};
+use std::alloc::{AllocError, Global};
 use std::marker::Model;
 
 /// At most 256 retired instructions, none of which touches memory, fences or calls, with the hart that
@@ -49,4 +55,74 @@ impl Batch {
     {
         &self.entries
     }
+}
+
+/// What a hart does alone from here: the longest row of private instructions that don't stop, but no
+/// more than `max`, which is from 1 to 256. There are none where the hart isn't running.
+pub fn run_local(alloc: Global, image: &Image, hart: &Hart, max: u32) -> Result<Batch, AllocError>
+    requires some { 1 ≤ max }
+    requires few { max ≤ 256 }
+    ensures { IfOk result (λ batch. batch ≡ row_of image.now hart.now max) }
+{
+    let mut entries = Vec::new(alloc);
+    let mut last = *hart;
+    let mut room = max;
+    while room > 0 {
+        let Some((entry, next)) = private_step(image, &last) else {
+            break;
+        };
+        entries.push(entry)?;
+        last = next;
+        room -= 1;
+    }
+    Ok(Batch {
+        first: *hart,
+        last,
+        entries,
+    })
+}
+
+// The hart's next instruction and where the hart stands behind it, where it is private and doesn't stop.
+fn private_step(image: &Image, hart: &Hart) -> Option<(Retired, Hart)>
+    ensures { result ≡ (if can_go_alone image.now hart.now then Some (next_step image.now hart.now) else None) }
+{
+    if !hart.status.is_running() {
+        return None;
+    }
+    if !image.has_word(hart.pc) {
+        return None;
+    }
+    let word = image.word(hart.pc);
+    let Some(instr) = decode(word) else {
+        return None;
+    };
+    if !is_alone(&instr, hart, image.size()) {
+        return None;
+    }
+    let entry = Retired {
+        pc: hart.pc,
+        word,
+        loaded: None,
+        sc_ok: None,
+    };
+    Some((entry, moved_alone(&instr, hart)))
+}
+
+fn is_alone(instr: &Instr, hart: &Hart, size: u32) -> bool
+    requires { IsMemorySize size }
+    ensures { result ≡ is_done_alone hart.now (Some instr.now) }
+{
+    match plan(instr, hart.pc, &hart.regs, size) {
+        Plan::Local => true,
+        _ => false,
+    }
+}
+
+// The hart behind an instruction that reads nothing and leaves it running.
+fn moved_alone(instr: &Instr, hart: &Hart) -> Hart
+    ensures { result ≡ with_effect hart.now (effect_of instr.now hart.now.pc hart.now.regs 0) }
+{
+    let mut next = *hart;
+    next.pc = finish(instr, hart.pc, &mut next.regs, None);
+    next
 }

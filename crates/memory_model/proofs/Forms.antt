@@ -9,7 +9,7 @@ use Rattle.trace_recorder.specs.declared.operation.OpId.{OpId}
 use Rattle.memory_model.specs.declared.Model.{Model}
 use Rattle.memory_model.specs.declared.operation.Operation.{Operation}
 use Rattle.memory_model.specs.Operations.{same, precedes, stores_to}
-use Rattle.memory_model.specs.Order.{Pairwise, IsDistinct, Keeps, before, place_in, in_order, none_must_precede, visible, source, is_visible, last_visible, last_of}
+use Rattle.memory_model.specs.Order.{Pairwise, IsDistinct, Keeps, before, position_in, in_order, none_must_precede, visible, source, is_visible, last_visible, last_of}
 use Rattle.memory_model.specs.Items.{Item}
 use Rattle.memory_model.specs.Rules.{Rule, rules, items_of, preserved}
 use Rattle.memory_model.specs.Traces.{IsOrder, instructions, operations_at}
@@ -33,10 +33,10 @@ same-swap a b e = go (same b a) refl
 
 -- ---- places
 
-place_head : (a x : Operation) (xs : List Operation) → same a x ≡ true → place_in (x ∷ xs) a ≡ 0
+place_head : (a x : Operation) (xs : List Operation) → same a x ≡ true → position_in (x ∷ xs) a ≡ 0
 place_head a x xs e = rw e refl
 
-place_tail : (a x : Operation) (xs : List Operation) → same a x ≡ false → place_in (x ∷ xs) a ≡ 1 + place_in xs a
+place_tail : (a x : Operation) (xs : List Operation) → same a x ≡ false → position_in (x ∷ xs) a ≡ 1 + position_in xs a
 place_tail a x xs e = rw e refl
 
 -- ---- in order, as a fact by recursion
@@ -76,7 +76,7 @@ keeps-from_Ordered must irr (x ∷ xs) d o a b (inr ma) (inl eb) t = absurd (fal
 keeps-from_Ordered must irr (x ∷ xs) d o a b (inr ma) (inr mb) t =
     let fa : same a x ≡ false = same-swap x a (Each-at (λ c. same x c ≡ false) a xs d.0 ma) in
     let fb : same b x ≡ false = same-swap x b (Each-at (λ c. same x c ≡ false) b xs d.0 mb) in
-    let l = ltb-true (place_in xs a) (place_in xs b) (keeps-from_Ordered must irr xs d.1 o.1 a b ma mb t) in
+    let l = ltb-true (position_in xs a) (position_in xs b) (keeps-from_Ordered must irr xs d.1 o.1 a b ma mb t) in
     lt-ltb _ _ (rw (place_tail a x xs fa, place_tail b x xs fb) (omega arith))
 
 Ordered-from_keeps : (must : Operation → Operation → Bool) (xs : List Operation) → IsDistinct xs → KeepsMembers must xs → Ordered must xs
@@ -87,14 +87,14 @@ Ordered-from_keeps must (x ∷ xs) d k = (
   Ordered-from_keeps must xs d.1 (λ a b ma mb t.
       let fa : same a x ≡ false = same-swap x a (Each-at (λ c. same x c ≡ false) a xs d.0 ma) in
       let fb : same b x ≡ false = same-swap x b (Each-at (λ c. same x c ≡ false) b xs d.0 mb) in
-      let l = ltb-true (place_in (x ∷ xs) a) (place_in (x ∷ xs) b) (k a b (inr ma) (inr mb) t) in
+      let l = ltb-true (position_in (x ∷ xs) a) (position_in (x ∷ xs) b) (k a b (inr ma) (inr mb) t) in
       let ea = place_tail a x xs fa in let eb = place_tail b x xs fb in lt-ltb _ _ (omega (arith, l, ea, eb))),
 )
   where
     free : (c : Operation) → Member c xs → (v : Bool) → must c x ≡ v → must c x ≡ false
     free c m false e = e
     free c m true e =
-        let l = ltb-true (place_in (x ∷ xs) c) (place_in (x ∷ xs) x) (k c x (inr m) (inl refl) e) in
+        let l = ltb-true (position_in (x ∷ xs) c) (position_in (x ∷ xs) x) (k c x (inr m) (inl refl) e) in
         let z = place_head x x xs (same-self x) in absurd (omega (arith, l, z))
 
 -- for a test by which nothing must come before itself
@@ -133,15 +133,15 @@ pub visible-behind : (load : Operation) (x : ℕ) (xs ys : List Operation) → E
 visible-behind load x [] ys h = refl
 visible-behind load x (s ∷ xs) ys h = visible_behind_at (same s load) (stores_to x s) s _ _ _ _ h.0 (visible-behind load x xs ys h.1)
 
-place_front : (a : Operation) (xs ys : List Operation) → list_any (λ s. same a s) xs ≡ true → place_in (xs ++ ys) a < length xs
+place_front : (a : Operation) (xs ys : List Operation) → list_any (λ s. same a s) xs ≡ true → position_in (xs ++ ys) a < length xs
 place_front a [] ys e = absurd (false≢true e)
 place_front a (x ∷ xs) ys e = go (same a x) refl (place_front a xs ys)
   where
-    go : (c : Bool) → same a x ≡ c → (list_any (λ s. same a s) xs ≡ true → place_in (xs ++ ys) a < length xs) → place_in ((x ∷ xs) ++ ys) a < length (x ∷ xs)
+    go : (c : Bool) → same a x ≡ c → (list_any (λ s. same a s) xs ≡ true → position_in (xs ++ ys) a < length xs) → position_in ((x ∷ xs) ++ ys) a < length (x ∷ xs)
     go true f ih = rw (place_head a x (xs ++ ys) f) (omega arith)
     go false f ih = let l = ih (rw f at e) in rw (place_tail a x (xs ++ ys) f) (omega arith)
 
-place_back : (a : Operation) (xs ys : List Operation) → Each (λ s. same a s ≡ false) xs → place_in (xs ++ ys) a ≡ length xs + place_in ys a
+place_back : (a : Operation) (xs ys : List Operation) → Each (λ s. same a s ≡ false) xs → position_in (xs ++ ys) a ≡ length xs + position_in ys a
 place_back a [] ys h = omega arith
 place_back a (x ∷ xs) ys h = let e = place_back a xs ys h.1 in rw (place_tail a x (xs ++ ys) h.0) (omega arith)
 
@@ -149,7 +149,7 @@ pub source_at : (xs ys : List Operation) (load : Operation) (x : ℕ) → Each (
     → last_visible (xs ++ load ∷ ys) load x ≡ source (xs ++ load ∷ ys) load x
 source_at xs ys load x dx dy inx iny =
     let order = xs ++ load ∷ ys in
-    let at : place_in order load ≡ length xs = place_back load xs (load ∷ ys) (Each-weaker (λ s. (same load s ≡ false) × (same s load ≡ false)) (λ s. same load s ≡ false) (λ s h. h.0) xs dx) ∙ (ap (λ n. length xs + n) (place_head load load ys (same-self load)) ∙ omega arith) in
+    let at : position_in order load ≡ length xs = place_back load xs (load ∷ ys) (Each-weaker (λ s. (same load s ≡ false) × (same s load ≡ false)) (λ s. same load s ≡ false) (λ s h. h.0) xs dx) ∙ (ap (λ n. length xs + n) (place_head load load ys (same-self load)) ∙ omega arith) in
     let front : filter (is_visible order load x) xs ≡ filter (stores_to x) xs =
     filter_same (is_visible order load x) (stores_to x) xs (Each-weaker (λ s. ((same load s ≡ false) × (same s load ≡ false)) × (list_any (λ t. same s t) xs ≡ true)) (λ s. is_visible order load x s ≡ stores_to x s)
     (λ s h. let l = place_front s xs (load ∷ ys) h.1 in let b : before order s load ≡ true = lt-ltb _ _ (rw at l) in rw (h.0.1, b) (and_true_right (stores_to x s))) xs (Each-both (λ s. (same load s ≡ false) × (same s load ≡ false)) (λ s. list_any (λ t. same s t) xs ≡ true) xs dx inx)) in

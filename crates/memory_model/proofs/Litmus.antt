@@ -9,6 +9,8 @@ overlap = record {
   apart = record { run = refl; whole = refl; legal = refl; no_fault = refl };
   before_store = record { run = refl; whole = refl; illegal = refl; fault = refl };
   forwarded = record { run = refl; whole = refl; legal = refl; no_fault = refl };
+  before_amo = record { run = refl; whole = refl; illegal = refl; fault = refl };
+  before_sc = record { run = refl; whole = refl; illegal = refl; fault = refl };
 }
 
 same_word : SameWord
@@ -50,6 +52,9 @@ acquire = record {
   amo_aq = record { run = refl; whole = refl; illegal = refl; fault = refl };
   amo_rl = record { run = refl; whole = refl; legal = refl; no_fault = refl };
   lr_aq = record { run = refl; whole = refl; illegal = refl; fault = refl };
+  sc_aq = record { run = refl; whole = refl; illegal = refl; fault = refl };
+  lr_plain = record { run = refl; whole = refl; legal = refl; no_fault = refl };
+  lr_ztso = record { run = refl; whole = refl; illegal = refl; fault = refl };
   plain = record { run = refl; whole = refl; legal = refl; no_fault = refl };
   plain_ztso = record { run = refl; whole = refl; illegal = refl; fault = refl };
 }
@@ -60,6 +65,9 @@ release = record {
   amo_aq = record { run = refl; whole = refl; legal = refl; no_fault = refl };
   amo_aq_ztso = record { run = refl; whole = refl; illegal = refl; fault = refl };
   sc_rl = record { run = refl; whole = refl; illegal = refl; fault = refl };
+  lr_rl = record { run = refl; whole = refl; illegal = refl; fault = refl };
+  sc_plain = record { run = refl; whole = refl; legal = refl; no_fault = refl };
+  sc_ztso = record { run = refl; whole = refl; illegal = refl; fault = refl };
 }
 
 both : Both
@@ -87,6 +95,7 @@ address = record {
   through_x0 = record { run = refl; whole = refl; legal = refl; no_fault = refl };
   through_failed_sc = record { run = refl; whole = refl; illegal = refl; fault = refl };
   past_fence = record { run = refl; whole = refl; illegal = refl; fault = refl };
+  through_jalr = record { run = refl; whole = refl; illegal = refl; fault = refl };
 }
 
 stored : Stored
@@ -101,6 +110,7 @@ control = record {
   dependent = record { run = refl; whole = refl; illegal = refl; fault = refl };
   then_load = record { run = refl; whole = refl; legal = refl; no_fault = refl };
   independent = record { run = refl; whole = refl; legal = refl; no_fault = refl };
+  jump = record { run = refl; whole = refl; illegal = refl; fault = refl };
 }
 
 through_store : ThroughStore
@@ -134,6 +144,9 @@ atomicity = record {
   own_store = record { run = refl; whole = refl; legal = refl; no_fault = refl };
   first_word = record { run = refl; whole = refl; illegal = refl; fault = refl };
   second_word = record { run = refl; whole = refl; legal = refl; no_fault = refl };
+  source_behind = record { run = refl; whole = refl; illegal = refl; fault = refl };
+  source_between = record { run = refl; whole = refl; legal = refl; no_fault = refl };
+  foreign_source = record { run = refl; whole = refl; legal = refl; no_fault = refl };
 }
 
 pub shapes : Shapes

@@ -1,6 +1,6 @@
 -- The worked rows compute.
 use Rattle.std.proofs.Common.{refl}
-use Rattle.memory_model.specs.WorkedRows.{Row1, Row2, Row4, Row5, Row6, Row7, Row8, Row9, Row18, Rows}
+use Rattle.memory_model.specs.WorkedRows.{Row1, Row2, Row4, Row5, Row6, Row7, Row8, Row9, Row18, OneByte, Rows}
 
 row_1 : Row1
 row_1 = record {
@@ -8,6 +8,7 @@ row_1 = record {
   other_code = refl;
   still_running = refl;
   past_the_exit = refl;
+  modulo_256 = refl;
   legal = record { run = refl; whole = refl; legal = refl; no_fault = refl };
 }
 
@@ -70,5 +71,8 @@ row_18 = record {
   an_answer = refl;
 }
 
+one_byte : OneByte
+one_byte = record { byte = refl; wide = refl }
+
 pub rows : Rows
-rows = record { row_1 = row_1; row_2 = row_2; row_4 = row_4; row_5 = row_5; row_6 = row_6; row_7 = row_7; row_8 = row_8; row_9 = row_9; row_18 = row_18 }
+rows = record { row_1 = row_1; row_2 = row_2; row_4 = row_4; row_5 = row_5; row_6 = row_6; row_7 = row_7; row_8 = row_8; row_9 = row_9; row_18 = row_18; one_byte = one_byte }

@@ -42,6 +42,24 @@ store_before_load =
     ∷ [])
     []
 
+-- a load and then an AMO of its word, which the load returns
+-- hart 0: lui x12, 0x80000; addi x13, x0, 1; addi x8, x12, 256; lw x14, 0x100(x12) (reads 1); amoadd.w x15, x13, (x8) (reads 0)
+abbrev pub load_before_amo : History
+load_before_amo =
+    trace (image_with (0x80000637 ∷ 0x00100693 ∷ 0x10060413 ∷ 0x10062703 ∷ 0x00d427af ∷ []))
+    ((did 0x80000000 0x80000637 ∷ did 0x80000004 0x00100693 ∷ did 0x80000008 0x10060413 ∷ loaded 0x8000000c 0x10062703 1 ∷ loaded 0x80000010 0x00d427af 0 ∷ [])
+    ∷ [])
+    []
+
+-- a load and then an SC of its word that succeeds, which the load returns
+-- hart 0: lui x12, 0x80000; addi x13, x0, 1; addi x8, x12, 256; lw x14, 0x100(x12) (reads 1); sc.w x15, x13, (x8) (succeeds)
+abbrev pub load_before_sc : History
+load_before_sc =
+    trace (image_with (0x80000637 ∷ 0x00100693 ∷ 0x10060413 ∷ 0x10062703 ∷ 0x18d427af ∷ []))
+    ((did 0x80000000 0x80000637 ∷ did 0x80000004 0x00100693 ∷ did 0x80000008 0x10060413 ∷ loaded 0x8000000c 0x10062703 1 ∷ tried 0x80000010 0x18d427af true ∷ [])
+    ∷ [])
+    []
+
 -- ---- rule 2
 
 -- one hart stores, the other loads twice: the new value and then the old one
@@ -285,6 +303,24 @@ lr_aq_load =
     ∷ [])
     []
 
+-- an SC with aq that succeeds, and a load
+-- hart 0: lui x12, 0x80000; addi x13, x0, 1; addi x8, x12, 256; sc.w.aq x14, x13, (x8) (succeeds); lw x15, 0x200(x12) (reads 0)
+abbrev pub sc_aq_load : History
+sc_aq_load =
+    trace (image_with (0x80000637 ∷ 0x00100693 ∷ 0x10060413 ∷ 0x1cd4272f ∷ 0x20062783 ∷ []))
+    ((did 0x80000000 0x80000637 ∷ did 0x80000004 0x00100693 ∷ did 0x80000008 0x10060413 ∷ tried 0x8000000c 0x1cd4272f true ∷ loaded 0x80000010 0x20062783 0 ∷ [])
+    ∷ [])
+    []
+
+-- an LR without annotations, and a load
+-- hart 0: lui x12, 0x80000; addi x13, x0, 1; addi x8, x12, 256; lr.w x14, (x8) (reads 0); lw x15, 0x200(x12) (reads 0)
+abbrev pub lr_load : History
+lr_load =
+    trace (image_with (0x80000637 ∷ 0x00100693 ∷ 0x10060413 ∷ 0x1004272f ∷ 0x20062783 ∷ []))
+    ((did 0x80000000 0x80000637 ∷ did 0x80000004 0x00100693 ∷ did 0x80000008 0x10060413 ∷ loaded 0x8000000c 0x1004272f 0 ∷ loaded 0x80000010 0x20062783 0 ∷ [])
+    ∷ [])
+    []
+
 -- two loads of different words
 -- hart 0: lui x12, 0x80000; addi x13, x0, 1; lw x14, 0x100(x12) (reads 0); lw x15, 0x200(x12) (reads 0)
 abbrev pub loads_of_two_words : History
@@ -320,6 +356,24 @@ abbrev pub load_sc_rl : History
 load_sc_rl =
     trace (image_with (0x80000637 ∷ 0x00100693 ∷ 0x20060493 ∷ 0x10062783 ∷ 0x1ad4a72f ∷ []))
     ((did 0x80000000 0x80000637 ∷ did 0x80000004 0x00100693 ∷ did 0x80000008 0x20060493 ∷ loaded 0x8000000c 0x10062783 0 ∷ tried 0x80000010 0x1ad4a72f true ∷ [])
+    ∷ [])
+    []
+
+-- a load, and an LR with rl
+-- hart 0: lui x12, 0x80000; addi x13, x0, 1; addi x9, x12, 512; lw x15, 0x100(x12) (reads 0); lr.w.rl x14, (x9) (reads 0)
+abbrev pub load_lr_rl : History
+load_lr_rl =
+    trace (image_with (0x80000637 ∷ 0x00100693 ∷ 0x20060493 ∷ 0x10062783 ∷ 0x1204a72f ∷ []))
+    ((did 0x80000000 0x80000637 ∷ did 0x80000004 0x00100693 ∷ did 0x80000008 0x20060493 ∷ loaded 0x8000000c 0x10062783 0 ∷ loaded 0x80000010 0x1204a72f 0 ∷ [])
+    ∷ [])
+    []
+
+-- a store, and an SC that succeeds
+-- hart 0: lui x12, 0x80000; addi x13, x0, 1; addi x9, x12, 512; sw x13, 0x100(x12); sc.w x14, x13, (x9) (succeeds)
+abbrev pub store_sc : History
+store_sc =
+    trace (image_with (0x80000637 ∷ 0x00100693 ∷ 0x20060493 ∷ 0x10d62023 ∷ 0x18d4a72f ∷ []))
+    ((did 0x80000000 0x80000637 ∷ did 0x80000004 0x00100693 ∷ did 0x80000008 0x20060493 ∷ did 0x8000000c 0x10d62023 ∷ tried 0x80000010 0x18d4a72f true ∷ [])
     ∷ [])
     []
 
@@ -446,6 +500,15 @@ address_past_fence =
     ∷ [])
     []
 
+-- a JALR carries from its source to its destination
+-- hart 0: lui x12, 0x80000; addi x13, x0, 1; lw x14, 0x18(x12) (reads 0x80000010); jalr x15, 0(x14); lw x16, 0x200(x15) (reads 0)
+abbrev pub address_through_jalr : History
+address_through_jalr =
+    trace (image_with (0x80000637 ∷ 0x00100693 ∷ 0x01862703 ∷ 0x000707e7 ∷ 0x2007a803 ∷ 0x00000000 ∷ 0x80000010 ∷ []))
+    ((did 0x80000000 0x80000637 ∷ did 0x80000004 0x00100693 ∷ loaded 0x80000008 0x01862703 0x80000010 ∷ did 0x8000000c 0x000707e7 ∷ loaded 0x80000010 0x2007a803 0 ∷ [])
+    ∷ [])
+    []
+
 -- ---- rule 10
 
 -- a load whose value is stored
@@ -501,6 +564,15 @@ abbrev pub branch_on_another : History
 branch_on_another =
     trace (image_with (0x80000637 ∷ 0x00100693 ∷ 0x10062703 ∷ 0x00068463 ∷ 0x20d62023 ∷ []))
     ((did 0x80000000 0x80000637 ∷ did 0x80000004 0x00100693 ∷ loaded 0x80000008 0x10062703 0 ∷ did 0x8000000c 0x00068463 ∷ did 0x80000010 0x20d62023 ∷ [])
+    ∷ [])
+    []
+
+-- a JALR to a loaded address, and a store
+-- hart 0: lui x12, 0x80000; addi x13, x0, 1; lw x14, 0x18(x12) (reads 0x80000010); jalr x0, 0(x14); sw x13, 0x200(x12)
+abbrev pub jalr_on_load : History
+jalr_on_load =
+    trace (image_with (0x80000637 ∷ 0x00100693 ∷ 0x01862703 ∷ 0x00070067 ∷ 0x20d62023 ∷ 0x00000000 ∷ 0x80000010 ∷ []))
+    ((did 0x80000000 0x80000637 ∷ did 0x80000004 0x00100693 ∷ loaded 0x80000008 0x01862703 0x80000010 ∷ did 0x8000000c 0x00070067 ∷ did 0x80000010 0x20d62023 ∷ [])
     ∷ [])
     []
 
@@ -655,6 +727,26 @@ pair_of_two_words_and_other_store =
     ∷ [])
     []
 
+-- an LR that returns a store of its own hart, and an SC of another word
+-- hart 0: lui x12, 0x80000; addi x13, x0, 1; addi x8, x12, 256; addi x9, x12, 512; sw x13, 0x100(x12); lr.w x15, (x8) (reads 1); sc.w x14, x13, (x9) (succeeds)
+abbrev pub pair_of_own_store : History
+pair_of_own_store =
+    trace (image_with (0x80000637 ∷ 0x00100693 ∷ 0x10060413 ∷ 0x20060493 ∷ 0x10d62023 ∷ 0x100427af ∷ 0x18d4a72f ∷ []))
+    ((did 0x80000000 0x80000637 ∷ did 0x80000004 0x00100693 ∷ did 0x80000008 0x10060413 ∷ did 0x8000000c 0x20060493 ∷ did 0x80000010 0x10d62023 ∷ loaded 0x80000014 0x100427af 1 ∷ tried 0x80000018 0x18d4a72f true ∷ [])
+    ∷ [])
+    []
+
+-- an LR that returns a store of another hart, and its SC
+-- hart 0: bne x10, x0, 24; lui x12, 0x80000; addi x13, x0, 1; addi x8, x12, 256; lr.w x15, (x8) (reads 1); sc.w x14, x13, (x8) (succeeds)
+-- hart 1: bne x10, x0, 24; lui x12, 0x80000; addi x13, x0, 1; sw x13, 0x100(x12)
+abbrev pub pair_of_foreign_store : History
+pair_of_foreign_store =
+    trace (image_with (0x00051c63 ∷ 0x80000637 ∷ 0x00100693 ∷ 0x10060413 ∷ 0x100427af ∷ 0x18d4272f ∷ 0x80000637 ∷ 0x00100693 ∷ 0x10d62023 ∷ []))
+    ((did 0x80000000 0x00051c63 ∷ did 0x80000004 0x80000637 ∷ did 0x80000008 0x00100693 ∷ did 0x8000000c 0x10060413 ∷ loaded 0x80000010 0x100427af 1 ∷ tried 0x80000014 0x18d4272f true ∷ [])
+    ∷ (did 0x80000000 0x00051c63 ∷ did 0x80000018 0x80000637 ∷ did 0x8000001c 0x00100693 ∷ did 0x80000020 0x10d62023 ∷ [])
+    ∷ [])
+    []
+
 -- ---- the verdicts
 
 pub record Overlap : Type 0 where
@@ -663,6 +755,8 @@ pub record Overlap : Type 0 where
   pub apart : Passes Rvwmo stores_apart (op 0 3 ∷ op 0 2 ∷ [])
   pub before_store : Fails Rvwmo load_before_store (op 0 3 ∷ op 0 2 ∷ []) 1 (op 0 2) (op 0 3)
   pub forwarded : Passes Rvwmo store_before_load (op 0 3 ∷ op 0 2 ∷ [])
+  pub before_amo : Fails Rvwmo load_before_amo (op 0 4 ∷ op 0 3 ∷ []) 1 (op 0 3) (op 0 4)
+  pub before_sc : Fails Rvwmo load_before_sc (op 0 4 ∷ op 0 3 ∷ []) 1 (op 0 3) (op 0 4)
 
 pub record SameWord : Type 0 where
   pub new_then_old : Fails Rvwmo two_loads (op 1 4 ∷ op 0 3 ∷ op 1 3 ∷ []) 2 (op 1 3) (op 1 4)
@@ -696,6 +790,9 @@ pub record Acquire : Type 0 where
   pub amo_aq : Fails Rvwmo amo_aq_load (op 0 4 ∷ op 0 3 ∷ []) 5 (op 0 3) (op 0 4)
   pub amo_rl : Passes Rvwmo amo_rl_load (op 0 4 ∷ op 0 3 ∷ [])
   pub lr_aq : Fails Rvwmo lr_aq_load (op 0 4 ∷ op 0 3 ∷ []) 5 (op 0 3) (op 0 4)
+  pub sc_aq : Fails Rvwmo sc_aq_load (op 0 4 ∷ op 0 3 ∷ []) 5 (op 0 3) (op 0 4)
+  pub lr_plain : Passes Rvwmo lr_load (op 0 4 ∷ op 0 3 ∷ [])
+  pub lr_ztso : Fails Ztso lr_load (op 0 4 ∷ op 0 3 ∷ []) 5 (op 0 3) (op 0 4)
   pub plain : Passes Rvwmo loads_of_two_words (op 0 3 ∷ op 0 2 ∷ [])
   pub plain_ztso : Fails Ztso loads_of_two_words (op 0 3 ∷ op 0 2 ∷ []) 5 (op 0 2) (op 0 3)
 
@@ -704,6 +801,9 @@ pub record Release : Type 0 where
   pub amo_aq : Passes Rvwmo store_amo_aq (op 0 4 ∷ op 0 3 ∷ [])
   pub amo_aq_ztso : Fails Ztso store_amo_aq (op 0 4 ∷ op 0 3 ∷ []) 6 (op 0 3) (op 0 4)
   pub sc_rl : Fails Rvwmo load_sc_rl (op 0 4 ∷ op 0 3 ∷ []) 6 (op 0 3) (op 0 4)
+  pub lr_rl : Fails Rvwmo load_lr_rl (op 0 4 ∷ op 0 3 ∷ []) 6 (op 0 3) (op 0 4)
+  pub sc_plain : Passes Rvwmo store_sc (op 0 4 ∷ op 0 3 ∷ [])
+  pub sc_ztso : Fails Ztso store_sc (op 0 4 ∷ op 0 3 ∷ []) 6 (op 0 3) (op 0 4)
 
 pub record Both : Type 0 where
   pub annotated : Fails Rvwmo sc_rl_lr_aq (op 0 5 ∷ op 0 4 ∷ []) 7 (op 0 4) (op 0 5)
@@ -725,6 +825,7 @@ pub record Address : Type 0 where
   pub through_x0 : Passes Rvwmo address_through_x0 (op 0 4 ∷ op 0 2 ∷ [])
   pub through_failed_sc : Fails Rvwmo address_through_failed_sc (op 0 6 ∷ op 0 3 ∷ []) 9 (op 0 3) (op 0 6)
   pub past_fence : Fails Rvwmo address_past_fence (op 0 5 ∷ op 0 2 ∷ []) 9 (op 0 2) (op 0 5)
+  pub through_jalr : Fails Rvwmo address_through_jalr (op 0 4 ∷ op 0 2 ∷ []) 9 (op 0 2) (op 0 4)
 
 pub record Stored : Type 0 where
   pub dependent : Fails Rvwmo data_from_load (op 0 3 ∷ op 0 2 ∷ []) 10 (op 0 2) (op 0 3)
@@ -735,6 +836,7 @@ pub record Control : Type 0 where
   pub dependent : Fails Rvwmo branch_on_load (op 0 4 ∷ op 0 2 ∷ []) 11 (op 0 2) (op 0 4)
   pub then_load : Passes Rvwmo branch_on_load_then_load (op 0 4 ∷ op 0 2 ∷ [])
   pub independent : Passes Rvwmo branch_on_another (op 0 4 ∷ op 0 2 ∷ [])
+  pub jump : Fails Rvwmo jalr_on_load (op 0 4 ∷ op 0 2 ∷ []) 11 (op 0 2) (op 0 4)
 
 pub record ThroughStore : Type 0 where
   pub of_dependent : Fails Rvwmo load_of_dependent_store (op 0 4 ∷ op 0 2 ∷ op 0 3 ∷ []) 12 (op 0 2) (op 0 4)
@@ -760,6 +862,9 @@ pub record Atomicity : Type 0 where
   pub own_store : Passes Rvwmo pair_and_own_store (op 0 3 ∷ op 0 4 ∷ op 0 5 ∷ [])
   pub first_word : Fails Rvwmo pair_of_two_words_and_store (op 0 5 ∷ op 1 3 ∷ op 0 6 ∷ []) 15 (op 0 5) (op 0 6)
   pub second_word : Passes Rvwmo pair_of_two_words_and_other_store (op 0 5 ∷ op 1 3 ∷ op 0 6 ∷ [])
+  pub source_behind : Fails Rvwmo pair_of_own_store (op 0 5 ∷ op 0 6 ∷ op 0 4 ∷ []) 15 (op 0 5) (op 0 6)
+  pub source_between : Passes Rvwmo pair_of_own_store (op 0 5 ∷ op 0 4 ∷ op 0 6 ∷ [])
+  pub foreign_source : Passes Rvwmo pair_of_foreign_store (op 1 3 ∷ op 0 4 ∷ op 0 5 ∷ [])
 
 -- all of them
 pub record Shapes : Type 0 where

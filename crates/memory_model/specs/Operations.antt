@@ -59,7 +59,7 @@ stores_to x a = writes a.kind && touches x a
 abbrev pub overlap : Operation → Operation → Bool
 overlap a b = nat_lt a.address (b.address + b.size) && nat_lt b.address (a.address + a.size)
 
--- the byte at x of a number that lies at an address, little endian (chapter 1.4)
+-- the byte at x of a number that lies at an address, little endian (chapter 2.6)
 abbrev pub byte_at : ℕ → ℕ → ℕ → ℕ
 byte_at address number x = number / 256 ^ (x - address) % 256
 
@@ -70,7 +70,7 @@ read_at a x = byte_at a.address a.read x
 abbrev pub written_at : Operation → ℕ → ℕ
 written_at a x = byte_at a.address a.written x
 
--- it has an acquire annotation: by its bit aq (chapter 8.1), and under Ztso as a load, an LR or an AMO (chapter 22)
+-- it has an acquire annotation: by its bit aq (chapter 8.1), and under Ztso as a load, an LR or an AMO (chapter 23)
 abbrev pub has_acquire : Model → Operation → Bool
 has_acquire Rvwmo a = a.aq
 has_acquire Ztso a = a.aq || reads a.kind

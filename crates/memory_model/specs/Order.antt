@@ -4,13 +4,13 @@ use Rattle.std.specs.List.{list_all, list_any, last_or, position_or_len, AllByRe
 use Rattle.memory_model.specs.declared.operation.Operation.{Operation}
 use Rattle.memory_model.specs.Operations.{reads, same, precedes, stores_to, bytes_of, read_at, written_at}
 
--- the place where a stands
-abbrev pub place_in : List Operation → Operation → ℕ
-place_in order a = position_or_len (same a) order
+-- how many stand before a
+abbrev pub position_in : List Operation → Operation → ℕ
+position_in order a = position_or_len (same a) order
 
 -- a stands before b
 abbrev pub before : List Operation → Operation → Operation → Bool
-before order a b = nat_lt (place_in order a) (place_in order b)
+before order a b = nat_lt (position_in order a) (position_in order b)
 
 -- R holds of each two elements, the earlier one first
 abbrev pub Pairwise : {X : Type 0} → (X → X → Type 0) → List X → Type 0

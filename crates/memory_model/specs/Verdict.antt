@@ -1,5 +1,5 @@
 -- What is wrong with an order that isn't legal: the least code, and the first pair that breaks its rule.
-use Rattle.std.specs.Prelude.{ℕ, Bool, true, false, ◌&&◌, not, ◌==◌, List, [], ◌∷◌, ◌++◌, Option, Some, None, find, map, IsTrue}
+use Rattle.std.specs.Prelude.{ℕ, Bool, true, false, ◌&&◌, not, ◌==◌, List, [], ◌∷◌, ◌++◌, Option, Some, None, find, map, Contains, IsTrue}
 use Rattle.std.specs.List.{flat_map, list_any}
 use Rattle.trace_recorder.specs.History.{History}
 use Rattle.trace_recorder.specs.declared.operation.OpId.{OpId}
@@ -64,6 +64,8 @@ first_fault (code ∷ rest) order = fault_or code.number (first_broken code orde
 abbrev pub fault_in : Model → History → List OpId → Option Fault
 fault_in model t order = let operations = operations_at (instructions t) order in first_fault (codes model (image_of t) (instructions t) operations) operations
 
--- a pair breaks the rule of a code
-abbrev pub Breaks : Model → (ℕ → ℕ) → List (List Item) → List Operation → ℕ → Operation → Operation → Type 0
-Breaks model image harts order number a b = IsTrue (list_any (λ (c : Code). c.number == number && c.broken a b) (codes model image harts order))
+-- two operations of an order break the rule of a code
+pub record Breaks (model : Model) (image : ℕ → ℕ) (harts : List (List Item)) (order : List Operation) (number : ℕ) (a b : Operation) : Type 0 where
+  pub has_a : Contains order a
+  pub has_b : Contains order b
+  pub broken : IsTrue (list_any (λ (c : Code). c.number == number && c.broken a b) (codes model image harts order))

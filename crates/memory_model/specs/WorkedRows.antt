@@ -22,6 +22,7 @@ pub record Row1 : Type 0 where
   pub other_code : are_runs (record exit_5 { statuses = Exited 6 ∷ [] }) ≡ false
   pub still_running : are_runs (record exit_5 { statuses = Running ∷ [] }) ≡ false
   pub past_the_exit : are_runs (record exit_5 { entries = (did 0x80000000 0x00500513 ∷ did 0x80000004 0x00000073 ∷ did 0x80000008 0x00000000 ∷ []) ∷ []; statuses = Running ∷ [] }) ≡ false
+  pub modulo_256 : are_runs (record (trace (image_with (0x10500513 ∷ 0x00000073 ∷ [])) ((did 0x80000000 0x10500513 ∷ did 0x80000004 0x00000073 ∷ []) ∷ []) []) { statuses = Exited 5 ∷ [] }) ≡ true
   pub legal : Passes Rvwmo exit_5 (completed exit_5)
 
 -- ---- row 2: nothing has happened
@@ -139,6 +140,16 @@ pub record Row18 : Type 0 where
   pub no_value : are_runs (record one_load { entries = (did 0x80000000 0x80000637 ∷ did 0x80000004 0x00062703 ∷ []) ∷ [] }) ≡ false
   pub an_answer : are_runs (record one_load { entries = (did 0x80000000 0x80000637 ∷ tried 0x80000004 0x00062703 true ∷ []) ∷ [] }) ≡ false
 
+-- ---- a load of one byte: what it read fits a byte
+
+abbrev pub byte_load : ℕ → History
+byte_load value =
+    trace (image_with (0x80000637 ∷ 0x00064703 ∷ [])) ((did 0x80000000 0x80000637 ∷ loaded 0x80000004 0x00064703 value ∷ []) ∷ []) (op 0 1 ∷ [])
+
+pub record OneByte : Type 0 where
+  pub byte : are_runs (byte_load 0x37) ≡ true
+  pub wide : are_runs (byte_load 0x100) ≡ false
+
 -- all of them
 pub record Rows : Type 0 where
   pub row_1 : Row1
@@ -150,3 +161,4 @@ pub record Rows : Type 0 where
   pub row_8 : Row8
   pub row_9 : Row9
   pub row_18 : Row18
+  pub one_byte : OneByte
