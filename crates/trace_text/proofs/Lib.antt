@@ -1,3 +1,4 @@
 mod Scripts
 mod TraceWriting
 mod TraceHeads
+mod TraceLaws
