@@ -43,3 +43,6 @@ fn signed_max(a: u32, b: u32) -> u32
         a
     }
 }
+
+#[cfg(test)]
+mod tests;

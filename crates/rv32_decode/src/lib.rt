@@ -20,3 +20,6 @@ pub use instruction::{
     SystemOp, UpperOp,
 };
 pub use registers::Register;
+
+#[cfg(test)]
+mod tests;

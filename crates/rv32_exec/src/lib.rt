@@ -13,3 +13,6 @@ pub use finishing::finish;
 pub use planning::plan;
 pub use plans::{Plan, Width};
 pub use registers::Regs;
+
+#[cfg(test)]
+mod tests;

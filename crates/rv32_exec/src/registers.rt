@@ -50,7 +50,8 @@ impl Regs {
     pub fn set(&mut self, register: Register, value: u32)
         ensures { self.new ≡ with_register self.old register value }
     {
-        self.values[register.number() as usize] = value;
+        let place = register.number() as usize;
+        self.values[place] = value;
         self.values[0] = 0;
     }
 }

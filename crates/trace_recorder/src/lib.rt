@@ -8,3 +8,6 @@ mod trace;
 pub use logged::{Direction, Logged};
 pub use operation::OpId;
 pub use trace::Trace;
+
+#[cfg(test)]
+mod tests;

@@ -1,0 +1,44 @@
+//! Worked rows, and printing.
+use super::*;
+use std::test::Fail;
+
+// A word's one spelling.
+fn spelled(word: u32) -> Option<u32> {
+    let instr = decode(word)?;
+    Some(encode(&instr))
+}
+
+#[test]
+fn row_28(rt: HostRuntime) {
+    assert!(rt; decode(0x4000_1013).is_none());
+}
+
+#[test]
+fn row_33(rt: HostRuntime) {
+    assert_eq!(rt; spelled(0x0230_000f), Some(0x0230_000f));
+    assert_eq!(rt; spelled(0x0840_000f), Some(0x0840_000f));
+    assert_eq!(rt; spelled(0x0110_008f), Some(0x0110_000f));
+    assert_eq!(rt; spelled(0x1110_000f), Some(0x0110_000f));
+    assert_eq!(rt; spelled(0x8310_000f), Some(0x0310_000f));
+    assert_eq!(rt; spelled(0x8330_000f), Some(0x8330_000f));
+}
+
+#[test]
+fn instructions_are_printed_as_the_assembler_spells_them(rt: HostRuntime) -> Result<(), Fail> {
+    let words = [
+        (0x0050_0513, "addi a0, zero, 5"),
+        (0x8000_0637, "lui a2, 0x80000"),
+        (0xffc6_2703, "lw a4, -4(a2)"),
+        (0x10d6_00a3, "sb a3, 257(a2)"),
+        (0x0110_000f, "fence w, w"),
+        (0x8330_000f, "fence.tso"),
+        (0x18a5_a62f, "sc.w a2, a0, (a1)"),
+        (0x0000_0073, "ecall"),
+    ];
+    for (word, text) in words {
+        let instr = decode(word).ok_or(text)?;
+        let printed = format!(in rt.alloc(); "{instr}")?;
+        assert_eq!(rt; printed.as_str(), text);
+    }
+    Ok(())
+}

@@ -1,0 +1,34 @@
+//! Compares decoding, execution and AMOs with tables that other implementations wrote, and prints how many
+//! lines of each agree.
+#![tactic(auto)]
+
+mod tables;
+
+use std::rt::Files;
+use std::{fs, io};
+use tables::Table;
+
+/// Prints on how many of the lines below a table's head this code agrees with it.
+fn compare<R: Files + AllocGlobal + Print>(
+    rt: &R,
+    table: Table,
+    path: &str,
+    what: &str,
+) -> io::Result<()> {
+    let text = fs::read_to_string(rt, path)?;
+    let mut lines = 0u32;
+    let mut agreed = 0u32;
+    for line in text.as_str().lines().skip(1) {
+        lines = lines.saturating_add(1);
+        if table.agrees(line) == Some(true) {
+            agreed = agreed.saturating_add(1);
+        }
+    }
+    println!(rt; "{agreed} of {lines} {what}")
+}
+
+fn main(rt: HostRuntime) -> io::Result<()> {
+    compare(&rt, Table::Words, "words.tsv", "words")?;
+    compare(&rt, Table::Instructions, "instructions.tsv", "instructions")?;
+    compare(&rt, Table::AmoResults, "amo_results.tsv", "AMO results")
+}

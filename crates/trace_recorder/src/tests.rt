@@ -1,0 +1,41 @@
+//! Each call of a trace once.
+use super::{Direction, OpId, Trace};
+use elf_loader::{raw, size_of_kib};
+use hart::{Retired, Status};
+use std::test::Fail;
+use tl_types::{Body, LineSize, Msg};
+
+const ENTRY: Retired = Retired {
+    pc: 0x8000_0000,
+    word: 0x0000_0013,
+    loaded: None,
+    sc_ok: None,
+};
+
+#[test]
+fn a_trace_keeps_what_happened(rt: HostRuntime) -> Result<(), Fail> {
+    let size = size_of_kib(4).ok_or("a size")?;
+    let image = raw(rt.alloc(), &[0x13, 0, 0, 0], size)?;
+    let mut trace = Trace::new(rt.alloc(), image, LineSize::Bytes16, 2)?;
+    assert_eq!(rt; trace.harts(), 2);
+    trace.reserve(1, 1, 1, 2)?;
+    trace.retire(1, ENTRY);
+    trace.perform(OpId { hart: 1, place: 0 });
+    let message = Msg {
+        line: 0x8000_0000,
+        body: Body::GrantAck,
+    };
+    trace.send(1, message);
+    trace.take(1, message);
+    trace.halt(1, Status::Stopped(3));
+    assert_eq!(rt; trace.entries(1).len(), 1);
+    assert_eq!(rt; trace.entries(0).len(), 0);
+    assert_eq!(rt; trace.performed().len(), 1);
+    assert_eq!(rt; trace.log().len(), 2);
+    assert_eq!(rt; trace.log()[0].direction, Direction::Sent);
+    assert_eq!(rt; trace.log()[1].direction, Direction::Taken);
+    assert_eq!(rt; trace.statuses().len(), 2);
+    assert_eq!(rt; trace.image().entry(), 0x8000_0000);
+    assert_eq!(rt; trace.line_size(), LineSize::Bytes16);
+    Ok(())
+}
