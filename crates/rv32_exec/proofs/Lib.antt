@@ -1,3 +1,3 @@
-pub mod Reads
-pub mod Stops
-pub mod Writes
+pub mod ReadRegisters
+pub mod StopLaws
+pub mod WrittenRegisters

@@ -1,4 +1,4 @@
-use Rattle.rv32_exec.proofs.Reads.{address, data_read, meaning_read}
+use Rattle.rv32_exec.proofs.ReadRegisters.{address, data_read, meaning_read}
 use Rattle.rv32_exec.proofs.laws.reads_are_as_named.Goals as goal
 
 pub returns-clause-address : goal.returns-clause-address

@@ -1,4 +1,4 @@
-use Rattle.rv32_exec.proofs.Stops.{unchanged_by_stop, decided_first}
+use Rattle.rv32_exec.proofs.StopLaws.{unchanged_by_stop, decided_first}
 use Rattle.rv32_exec.proofs.laws.stops_change_nothing.Goals as goal
 
 pub returns-clause-unchanged : goal.returns-clause-unchanged

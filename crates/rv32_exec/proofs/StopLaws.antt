@@ -10,16 +10,14 @@ unchanged_by_stop word pc size read code x e = ap (λ m. after m pc x) e
 
 -- the meaning of a stop code, if there is one
 abbrev outcome : Option ℕ → Effect → Meaning
-outcome (Some code) effect = Stops code
-outcome None effect = Does effect
+outcome stop effect = elim stop [ Some code ↦ Stops code | None ↦ Does effect ]
 
 same_stop : (stop : Option ℕ) (e f : Effect) (code : ℕ) → outcome stop e ≡ Stops code → outcome stop f ≡ Stops code
 same_stop (Some c) e f code h = h
 same_stop None e f code h = absurd (cc h)
 
 abbrev of_word : Option Instr → ℕ → List ℕ → ℕ → ℕ → Meaning
-of_word (Some i) pc x size read = meaning i pc x size read
-of_word None pc x size read = Stops 2
+of_word o pc x size read = elim o [ Some i ↦ meaning i pc x size read | None ↦ Stops 2 ]
 
 decided : (o : Option Instr) (pc size read other code : ℕ) (x : List ℕ) → of_word o pc x size read ≡ Stops code → of_word o pc x size other ≡ Stops code
 decided (Some i) pc size read other code x h = same_stop (stop_of i pc x size) (effect_of i pc x read) (effect_of i pc x other) code h
