@@ -4,3 +4,4 @@ pub mod Lists
 pub mod Legality
 pub mod Named
 pub mod Forms
+pub mod Told

@@ -54,5 +54,5 @@ pub record IsLegal (model : Model) (image : ℕ → ℕ) (harts : List (List Ite
   pub load_values : IsTrue (keeps_load_values image order)
   pub atomicity : IsTrue (keeps_atomicity harts order)
 
-abbrev pub is_legal : Model → (ℕ → ℕ) → List (List Item) → List Operation → Bool
-is_legal model image harts order = keeps_preserved_order model harts order && keeps_load_values image order && keeps_atomicity harts order
+abbrev pub keeps_all_three : Model → (ℕ → ℕ) → List (List Item) → List Operation → Bool
+keeps_all_three model image harts order = keeps_preserved_order model harts order && keeps_load_values image order && keeps_atomicity harts order

@@ -1,5 +1,5 @@
 //! Laws of the memory models, each the contract of a function that does nothing.
-ghost use Rattle.memory_model.specs.Laws.{CompletedIsOrder, OrderFormsAgree, SourceFormsAgree, ZtsoIsStronger, ProgramOrderSuffices, UnwrittenByteIsImages};
+ghost use Rattle.memory_model.specs.Laws.{CompletedIsOrder, EntriesTellOperations, NamesFindOperations, OrderFormsAgree, SourceFormsAgree, ZtsoIsStronger, ProgramOrderSuffices, UnwrittenByteIsImages};
 ghost use Rattle.memory_model.specs.Litmus.{Shapes};
 ghost use Rattle.memory_model.specs.WorkedRows.{Rows};
 
@@ -24,6 +24,17 @@ pub fn program_order_suffices()
     ensures { ProgramOrderSuffices }
 {}
 
+/// Whether an entry has a memory operation is told by its word and, for an SC, by its answer: where its
+/// hart stands is of no matter.
+pub fn entries_tell_operations()
+    ensures { EntriesTellOperations }
+{}
+
+/// The names of a trace are exactly those by which an operation is found.
+pub fn names_find_operations()
+    ensures { NamesFindOperations }
+{}
+
 /// In a legal order a load returns the image's byte where there is no store to it.
 pub fn unwritten_byte_is_images()
     ensures { UnwrittenByteIsImages }
@@ -41,7 +52,7 @@ pub fn order_forms_agree()
     ensures { OrderFormsAgree }
 {}
 
-/// The source of a byte is, of the stores to it other than the load that stand before the load in the
+/// In an order of the trace the source of a byte is, of the stores to it other than the load that stand before the load in the
 /// order or precede it in program order, the last in the order.
 pub fn source_forms_agree()
     ensures { SourceFormsAgree }
