@@ -1,20 +1,18 @@
 -- The computing forms of "in order" and of the source say what the readers' forms say.
-use Rattle.std.proofs.Common.{◌≡◌, ℕ, zero, suc, ◌+◌, ◌<◌, ◌≤◌, List, [], ◌∷◌, ◌++◌, Bool, true, false, Option, Some, None, refl, cond, sym, ap, ◌∙◌, subst, not, ◌&&◌, ◌||◌, arith, ltb, ◌⊎◌, inl, inr, length}
-use Rattle.std.specs.Prelude.{nat_lt, nat_eq, IsTrue}
-use Rattle.std.specs.List.{AllByRecursion as Each, Contains, filter, list_any, list_all, last_or}
+use Rattle.std.proofs.Common.{◌≡◌, ℕ, ◌+◌, ◌<◌, List, [], ◌∷◌, ◌++◌, Bool, true, false, None, refl, cond, sym, ap, ◌∙◌, subst, not, ◌&&◌, ◌||◌, arith, inl, inr, length}
+use Rattle.std.specs.Prelude.{nat_eq, IsTrue}
+use Rattle.std.specs.List.{AllByRecursion as Each, Contains, filter, list_any, last_or}
 use Rattle.std.proofs.lemmas.Bool.{false≢true, true≢false, ltb-true, lt-ltb, le-ltb, and_from, and_parts, eq-eqb, eqb-true, or_left, or_right, not-true}
 use Rattle.std.proofs.lemmas.List.Elements.{filter-append}
-use Rattle.trace_recorder.specs.History.{History}
-use Rattle.trace_recorder.specs.declared.operation.OpId.{OpId}
 use Rattle.memory_model.specs.declared.Model.{Model}
 use Rattle.memory_model.specs.declared.operation.Operation.{Operation}
 use Rattle.memory_model.specs.Operations.{same, precedes, stores_to}
-use Rattle.memory_model.specs.Order.{Keeps, before, position_in, in_order, none_must_precede, candidates, source, is_visible, last_visible, last_of}
+use Rattle.memory_model.specs.Order.{Keeps, before, position_in, in_order, none_must_precede, candidates, source, is_visible, last_visible}
 use Rattle.memory_model.specs.Items.{Item}
 use Rattle.memory_model.specs.Rules.{Rule, rules, items_of, preserved}
-use Rattle.memory_model.specs.Traces.{IsOrder, instructions, operations_at}
+use Rattle.memory_model.specs.Traces.{instructions, operations_at}
 use Rattle.memory_model.specs.Laws.{OrderFormsAgree, SourceFormsAgree}
-use Rattle.memory_model.proofs.Lists.{Member, Pairwise, Each-weaker, Each-both, Each-at, Each-from, Each-left, Each-right, Member-from_Contains, Contains-from_Member, Split, split_at, filter_same}
+use Rattle.memory_model.proofs.Lists.{Member, Pairwise, Each-weaker, Each-both, Each-at, Each-from, Each-right, Member-from_Contains, Contains-from_Member, split_at, filter_same}
 use Rattle.memory_model.proofs.Named.{EachOnce, Pairwise-from_is_distinct, operations_distinct}
 
 -- ---- names

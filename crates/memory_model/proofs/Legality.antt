@@ -1,20 +1,16 @@
 -- What a stronger test asks, a weaker one asks too; and what a legal order says of a load.
-use Rattle.std.proofs.Common.{◌≡◌, ℕ, List, [], ◌∷◌, Bool, true, false, Option, Some, None, refl, cond, sym, ap, ◌∙◌, not, ◌&&◌, ◌||◌}
-use Rattle.std.specs.List.{AllByRecursion as Each, All, Contains, filter, list_any, list_all}
+use Rattle.std.proofs.Common.{◌≡◌, ℕ, List, [], ◌∷◌, Bool, true, false, refl, cond, ap, ◌∙◌, not, ◌&&◌, ◌||◌}
+use Rattle.std.specs.List.{AllByRecursion as Each, filter, list_any, list_all}
 use Rattle.std.proofs.lemmas.Bool.{false≢true, true≢false, and_parts, and_from, or_left, eqb-true}
 use Rattle.std.proofs.lemmas.List.Elements.{recursion_from_All}
-use Rattle.std.specs.Prelude.{IsTrue, IsFalse, nat_eq}
-use Rattle.trace_recorder.specs.History.{History}
-use Rattle.trace_recorder.specs.declared.operation.OpId.{OpId}
-use Rattle.memory_model.specs.declared.Model.{Model}
+use Rattle.std.specs.Prelude.{IsFalse, nat_eq}
 use Rattle.memory_model.specs.declared.Model.TheVariants.{Rvwmo, Ztso}
 use Rattle.memory_model.specs.declared.operation.Operation.{Operation}
 use Rattle.memory_model.specs.Operations.{same, precedes, reads, bytes_of, read_at, stores_to, is_amo, writes}
 use Rattle.memory_model.specs.Order.{in_order, none_must_precede, candidates, source, last_of, byte_from}
 use Rattle.memory_model.specs.Items.{Item}
 use Rattle.memory_model.specs.Rules.{Rule, rules, preserved, items_of}
-use Rattle.memory_model.specs.Legal.{IsLegal, keeps_preserved_order, keeps_load_values, returns_sources}
-use Rattle.memory_model.specs.Traces.{IsLegalOrder}
+use Rattle.memory_model.specs.Legal.{IsLegal, returns_sources}
 use Rattle.memory_model.specs.Laws.{ZtsoIsStronger, ProgramOrderSuffices, UnwrittenByteIsImages}
 use Rattle.memory_model.proofs.Lists.{Each-at, Each-from_list_all, list_any-weaker, filter_none, Member-from_Contains}
 

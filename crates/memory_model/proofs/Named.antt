@@ -1,23 +1,23 @@
 -- Operations bear the names that they are found by, so an order has no operation twice; the completed order is an order.
-use Rattle.std.proofs.Common.{◌≡◌, ℕ, zero, suc, ◌+◌, ◌<◌, ◌≤◌, List, [], ◌∷◌, ◌++◌, Bool, true, false, Option, Some, None, refl, cond, sym, ap, ◌∙◌, subst, not, ◌&&◌, ◌||◌, ◌⊎◌, inl, inr, arith}
-use Rattle.std.specs.Prelude.{nat_eq, option_and_then, slice_get, IsTrue}
-use Rattle.std.specs.List.{AllByRecursion as Each, filter, filter_map, cons_option, list_any, list_all}
-use Rattle.std.proofs.lemmas.Bool.{false≢true, true≢false, and_parts, and_from, or_left, or_right, or_from, or_parts, and_left, and_right, eq-eqb, eqb-true, ne_eqb, not-true}
+use Rattle.std.proofs.Common.{◌≡◌, ℕ, zero, suc, ◌+◌, ◌≤◌, List, [], ◌∷◌, ◌++◌, Bool, true, false, Option, Some, None, refl, cond, sym, ap, ◌∙◌, subst, not, inl, inr, arith}
+use Rattle.std.specs.Prelude.{nat_eq, option_and_then, slice_get}
+use Rattle.std.specs.List.{AllByRecursion as Each, filter, cons_option, list_any}
+use Rattle.std.proofs.lemmas.Bool.{false≢true, and_parts, and_from, or_left, or_right, or_from, or_parts, and_left, and_right, eq-eqb, eqb-true, ne_eqb, not-true}
 use Rattle.std.proofs.lemmas.List.Folds.{list_any-append}
 use Rattle.elf_loader.specs.Image.{Initial}
 use Rattle.rv32_decode.specs.declared.instruction.Annotations.{Annotations}
 use Rattle.rv32_decode.specs.declared.instruction.Instr.{Instr}
 use Rattle.rv32_decode.specs.Rows.{decoded}
-use Rattle.rv32_exec.specs.Meaning.{Access, Private, Loads, Stores, Reserves, Tries, Updates, Fences, Calls, access_of, effect_of}
+use Rattle.rv32_exec.specs.Meaning.{Access, Private, Loads, Stores, Reserves, Tries, Updates, Fences, Calls, access_of}
 use Rattle.hart.specs.declared.retired.Retired.{Retired}
 use Rattle.hart.specs.declared.state.Hart.{Hart}
-use Rattle.hart.specs.Run.{after, after_instr, moved, at_reset, number_read}
+use Rattle.hart.specs.Run.{after, after_instr, at_reset}
 use Rattle.trace_recorder.specs.History.{History}
 use Rattle.trace_recorder.specs.declared.operation.OpId.{OpId}
 use Rattle.memory_model.specs.declared.operation.Operation.{Operation}
 use Rattle.memory_model.specs.Operations.{same}
-use Rattle.memory_model.specs.Items.{Item, operation_of_access, succeeded, operation_of_entry, annotations_of, item_of, items_from, items_of_harts, has_operation}
-use Rattle.memory_model.specs.Traces.{is_named, is_among, is_distinct, names_from, names_of_harts, names_in, operation_at, operations_at, instructions, completed, IsOrder}
+use Rattle.memory_model.specs.Items.{Item, operation_of_access, succeeded, operation_of_entry, annotations_of, items_from, items_of_harts, has_operation}
+use Rattle.memory_model.specs.Traces.{is_named, is_among, is_distinct, names_from, names_of_harts, names_in, operation_at, operations_at, instructions}
 use Rattle.memory_model.specs.Laws.{CompletedIsOrder}
 use Rattle.memory_model.proofs.Lists.{Member, Pairwise, Each-append, Each-weaker, Each-filter, Each-kept, Each-at, Each-from, Pairwise-append, Pairwise-filter, Each-from_list_all, list_all-from_Each}
 

@@ -1,9 +1,8 @@
 -- Which entries have an operation, and by which names one is found.
-use Rattle.std.proofs.Common.{◌≡◌, ℕ, zero, suc, ◌+◌, ◌≤◌, List, [], ◌∷◌, ◌++◌, Bool, true, false, Option, Some, None, refl, cond, sym, ap, ◌∙◌, ◌&&◌, ◌||◌, arith}
+use Rattle.std.proofs.Common.{◌≡◌, ℕ, zero, suc, ◌+◌, ◌≤◌, List, [], ◌∷◌, Bool, true, false, Option, Some, None, refl, cond, ap, ◌∙◌, ◌||◌, arith}
 use Rattle.std.specs.Prelude.{nat_eq, is_some, slice_get, option_and_then}
 use Rattle.std.specs.Option.{option_map_or}
-use Rattle.std.specs.List.{AllByRecursion as Each, list_any}
-use Rattle.std.proofs.lemmas.Bool.{or_from, and_from, and_left, and_right, eq-eqb, ne_eqb}
+use Rattle.std.proofs.lemmas.Bool.{and_from, and_left, and_right, eq-eqb, ne_eqb}
 use Rattle.std.proofs.lemmas.List.Folds.{list_any-append}
 use Rattle.elf_loader.specs.Image.{Initial}
 use Rattle.rv32_decode.specs.Rows.{decoded}
@@ -14,11 +13,9 @@ use Rattle.rv32_exec.specs.Meaning.{access_of}
 use Rattle.hart.specs.declared.retired.Retired.{Retired}
 use Rattle.hart.specs.declared.state.Hart.{Hart}
 use Rattle.hart.specs.Run.{after, at_reset}
-use Rattle.trace_recorder.specs.History.{History}
 use Rattle.trace_recorder.specs.declared.operation.OpId.{OpId}
-use Rattle.memory_model.specs.declared.operation.Operation.{Operation}
-use Rattle.memory_model.specs.Items.{Item, annotations_of, succeeded, operation_of_access, operation_of_entry, item_of, items_from, items_of_harts, accesses_memory, has_operation}
-use Rattle.memory_model.specs.Traces.{is_named, is_among, names_from, names_of_harts, names_in, operation_at, instructions}
+use Rattle.memory_model.specs.Items.{Item, annotations_of, succeeded, operation_of_access, operation_of_entry, items_from, items_of_harts, accesses_memory, has_operation}
+use Rattle.memory_model.specs.Traces.{is_named, is_among, names_from, names_of_harts}
 use Rattle.memory_model.specs.Laws.{EntriesTellOperations, NamesFindOperations}
 use Rattle.memory_model.proofs.Lists.{Each-weaker}
 use Rattle.memory_model.proofs.Named.{none_among, from_place, from_hart}

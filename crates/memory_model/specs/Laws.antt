@@ -1,5 +1,5 @@
 -- Laws of the definitions: two forms are one, and what follows from them.
-use Rattle.std.specs.Prelude.{ℕ, ◌≡◌, ◌↔◌, Bool, List, IsTrue, IsFalse, Contains, All, is_some}
+use Rattle.std.specs.Prelude.{ℕ, ◌≡◌, ◌↔◌, List, IsTrue, IsFalse, Contains, All, is_some}
 use Rattle.std.specs.List.{list_all}
 use Rattle.hart.specs.declared.retired.Retired.{Retired}
 use Rattle.hart.specs.declared.state.Hart.{Hart}

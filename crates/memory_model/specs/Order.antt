@@ -1,8 +1,8 @@
 -- A global memory order: which operation stands before which, and which store a byte comes from (RISC-V Unprivileged ISA 20191213, chapter 14.1, "Memory Model Axioms", load value axiom).
-use Rattle.std.specs.Prelude.{ℕ, ◌≡◌, Bool, true, false, ◌&&◌, ◌||◌, not, nat_lt, if◌then◌else◌, List, [], ◌∷◌, Option, Some, None, filter, IsTrue, Contains, ◌↔◌}
-use Rattle.std.specs.List.{list_all, list_any, last_or, position_or_len}
+use Rattle.std.specs.Prelude.{ℕ, Bool, true, false, ◌&&◌, ◌||◌, not, nat_lt, if◌then◌else◌, List, [], ◌∷◌, Option, Some, None, filter, IsTrue, Contains}
+use Rattle.std.specs.List.{list_all, last_or, position_or_len}
 use Rattle.memory_model.specs.declared.operation.Operation.{Operation}
-use Rattle.memory_model.specs.Operations.{reads, same, precedes, stores_to, bytes_of, read_at, written_at}
+use Rattle.memory_model.specs.Operations.{same, precedes, stores_to, written_at}
 
 -- how many stand before a
 abbrev pub position_in : List Operation → Operation → ℕ

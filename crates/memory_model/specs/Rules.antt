@@ -1,15 +1,14 @@
 -- Preserved program order: the thirteen rules, each a test of two operations a and b of one hart, a before b in program order (RISC-V Unprivileged ISA 20191213, chapter 14.1, "Preserved Program Order").
 -- `items` is the list of their hart. "Returns a value written by" is the source in the order.
-use Rattle.std.specs.Prelude.{ℕ, Bool, true, false, ◌&&◌, ◌||◌, not, ◌==◌, if◌then◌else◌, List, [], ◌∷◌, Option, Some, None, slice_index_or}
+use Rattle.std.specs.Prelude.{ℕ, Bool, true, false, ◌&&◌, ◌||◌, not, ◌==◌, List, [], ◌∷◌, Option, Some, None, slice_index_or}
 use Rattle.std.specs.List.{list_any}
-use Rattle.rv32_decode.specs.Fence.{Sets}
 use Rattle.rv32_decode.specs.Fields.{bits_of}
 use Rattle.rv32_decode.specs.declared.instruction.Instr.{Instr}
 use Rattle.rv32_decode.specs.declared.instruction.Instr.TheVariants as instr
 use Rattle.memory_model.specs.declared.Model.{Model}
 use Rattle.memory_model.specs.declared.operation.Kind.{Kind}
 use Rattle.memory_model.specs.declared.operation.Operation.{Operation}
-use Rattle.memory_model.specs.Operations.{reads, writes, is_reserve, is_conditional, is_amo, same, precedes, bytes_of, touches, stores_to, overlap, has_acquire, has_release, has_rcsc}
+use Rattle.memory_model.specs.Operations.{reads, writes, is_reserve, is_conditional, is_amo, precedes, bytes_of, touches, stores_to, overlap, has_acquire, has_release, has_rcsc}
 use Rattle.memory_model.specs.Order.{source, same_source}
 use Rattle.memory_model.specs.Items.{Item}
 use Rattle.memory_model.specs.Dependencies.{between, has_address_dependency, has_data_dependency, has_control_dependency, has_dependent_address_between}

@@ -1,5 +1,5 @@
 -- What is said of a whole trace: whether its lists are runs, which operations it has, and its orders.
-use Rattle.std.specs.Prelude.{ℕ, ◌+◌, Bool, true, false, ◌&&◌, not, ◌==◌, if◌then◌else◌, List, [], ◌∷◌, ◌++◌, Option, Some, None, IsTrue, filter, length, option_and_then, slice_get}
+use Rattle.std.specs.Prelude.{ℕ, ◌+◌, Bool, true, false, ◌&&◌, not, ◌==◌, if◌then◌else◌, List, [], ◌∷◌, ◌++◌, Option, IsTrue, filter, length, option_and_then, slice_get}
 use Rattle.std.specs.List.{filter_map, list_all, list_any}
 use Rattle.elf_loader.specs.Image.{Initial, byte_at}
 use Rattle.hart.specs.declared.retired.Retired.{Retired}
