@@ -5,3 +5,4 @@ pub mod Legality
 pub mod Named
 pub mod Forms
 pub mod Told
+pub mod Judged

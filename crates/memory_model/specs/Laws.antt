@@ -13,7 +13,15 @@ use Rattle.memory_model.specs.Order.{Keeps, in_order, last_visible, source}
 use Rattle.memory_model.specs.Items.{Item, has_operation, item_of}
 use Rattle.memory_model.specs.Rules.{preserved}
 use Rattle.memory_model.specs.Legal.{IsLegal, keeps_preserved_order}
-use Rattle.memory_model.specs.Traces.{IsLegalOrder, IsOrder, completed, instructions, is_among, is_distinct, names_in, operation_at, operations_at}
+use Rattle.memory_model.specs.Traces.{IsLegalOrder, IsOrder, completed, has_each_operation_once, judged_legal, instructions, is_among, is_distinct, names_in, operation_at, operations_at}
+
+-- the tests that judge examples are the definitions
+pub record JudgesAsDefined (model : Model) (t : History) (order : List OpId) : Type 0 where
+  pub whole : IsTrue (has_each_operation_once t order) ↔ IsOrder t order
+  pub legal : IsTrue (judged_legal model t order) ↔ IsLegalOrder model t order
+
+abbrev pub ExamplesJudgeAsDefined : Type 0
+ExamplesJudgeAsDefined = (model : Model) (t : History) (order : List OpId) → JudgesAsDefined model t order
 
 -- in an order of the trace's operations, of no two operations the later one must come first exactly where a stands before b wherever a must come before b
 abbrev pub OrderFormsAgree : Type 0

@@ -1,5 +1,5 @@
 //! Laws of the memory models, each the contract of a function that does nothing.
-ghost use Rattle.memory_model.specs.Laws.{CompletedIsOrder, EntriesTellOperations, NamesFindOperations, OrderFormsAgree, SourceFormsAgree, ZtsoIsStronger, ProgramOrderSuffices, UnwrittenByteIsImages};
+ghost use Rattle.memory_model.specs.Laws.{CompletedIsOrder, EntriesTellOperations, ExamplesJudgeAsDefined, NamesFindOperations, OrderFormsAgree, SourceFormsAgree, ZtsoIsStronger, ProgramOrderSuffices, UnwrittenByteIsImages};
 ghost use Rattle.memory_model.specs.Litmus.{Shapes};
 ghost use Rattle.memory_model.specs.WorkedRows.{Rows};
 
@@ -12,6 +12,12 @@ pub fn litmus_shapes()
 /// Whole runs of small programs are runs, and their completed orders are judged as they should be.
 pub fn worked_rows()
     ensures { Rows }
+{}
+
+/// The tests that judge the shapes and the rows say what the definitions of an order and of a legal order
+/// say.
+pub fn examples_judge_as_defined()
+    ensures { ExamplesJudgeAsDefined }
 {}
 
 /// An order that is legal under Ztso is legal under RVWMO.
