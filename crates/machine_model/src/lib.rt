@@ -1,10 +1,12 @@
 //! What a machine is made of, what happens to it, and what comes of it.
 #![tactic(auto)]
 
+mod act;
 mod config;
 mod event;
 mod outcome;
 
+pub use act::{Act, Deed, Plan};
 pub use config::Config;
 pub use event::Event;
 pub use memory_model::Model;
