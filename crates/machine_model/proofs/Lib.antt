@@ -1,1 +1,3 @@
 pub mod Growth
+pub mod Nodes
+pub mod Retiring
