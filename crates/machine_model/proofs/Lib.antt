@@ -1,3 +1,4 @@
 pub mod Growth
 pub mod Nodes
 pub mod Retiring
+pub mod Runs
