@@ -72,6 +72,9 @@ grows_not t = record { performed = begins t.performed; entries = λ h. begins (e
 pub still : (s t : State) → t.trace ≡ s.trace → t.views.config ≡ s.views.config → Follows s t
 still s t e c = record { grows = rw e (grows_not s.trace); stays = record { image = ap (λ (t : History). t.image) e; line = ap (λ (t : History). t.line) e; config = c } }
 
+pub follows_not : (s : State) → Follows s s
+follows_not s = still s s refl refl
+
 pub follows_then : (a b c : State) → Follows a b → Follows b c → Follows a c
 follows_then a b c f g = record {
   grows = record {
