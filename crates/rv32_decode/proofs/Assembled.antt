@@ -1,5 +1,5 @@
 -- The fields of a word that is put together from its fields.
-use Rattle.std.proofs.Common.{◌≡◌, ℕ, ◌+◌, ◌*◌, ◌/◌, ◌%◌, ◌^◌, ◌<◌, arith}
+use Rattle.std.proofs.Common.{◌≡◌, ℕ, ◌+◌, ◌*◌, ◌/◌, ◌%◌, ◌<◌, arith}
 use Rattle.rv32_decode.specs.Encoding.{assembled}
 
 -- the fields of a word, the last being its bits 31 to 20

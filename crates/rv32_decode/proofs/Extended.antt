@@ -1,5 +1,5 @@
 -- A signed number of few bits is what its low bits give when their sign is extended.
-use Rattle.std.proofs.Common.{◌≡◌, ℕ, ◌+◌, ◌-◌, ◌*◌, ◌/◌, ◌%◌, ◌^◌, ◌<◌, ap, ◌∙◌, arith}
+use Rattle.std.proofs.Common.{◌≡◌, ℕ, ◌+◌, ◌*◌, ◌/◌, ◌%◌, ◌^◌, ◌<◌, ap, ◌∙◌, arith}
 use Rattle.std.proofs.lemmas.Bool.Decides.{nat_tests}
 use Rattle.rv32_decode.specs.Encoding.{part, branch_low, branch_high, jump_high}
 use Rattle.rv32_decode.specs.Fields.{extended_by, imm_i, imm_s, imm_b, imm_j}

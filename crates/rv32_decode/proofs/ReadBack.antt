@@ -3,7 +3,7 @@ use Rattle.std.proofs.Common.{◌≡◌, ℕ, ◌+◌, ◌*◌, ◌/◌, ◌%◌
 use Rattle.std.specs.Option.{option_map}
 use Rattle.std.specs.Prelude.{◌==◌}
 use Rattle.rv32_decode.specs.Decoding.{branch_of, load_of, store_of, immediate_of, or_else}
-use Rattle.rv32_decode.specs.Encoding.{assembled, part, branch_low, branch_high, jump_high, branch_funct3, load_funct3, store_funct3, immediate_funct3, encoded}
+use Rattle.rv32_decode.specs.Encoding.{part, branch_low, branch_high, jump_high, branch_funct3, load_funct3, store_funct3, immediate_funct3, encoded}
 use Rattle.rv32_decode.specs.Fields.{rd_of, rs1_of, rs2_of, imm_i, imm_s, imm_b, imm_u, imm_j}
 use Rattle.rv32_decode.specs.Ranges.{IsSigned, IsMultiple}
 use Rattle.rv32_decode.specs.Rows.{decoded}

@@ -1,13 +1,12 @@
 -- The same of the words of LR, SC and the AMOs.
-use Rattle.std.proofs.Common.{◌≡◌, ℕ, ◌+◌, ◌*◌, ◌/◌, ◌%◌, ◌^◌, ◌<◌, Bool, true, false, ◌&&◌, Option, Some, None, cond, refl, ap, ◌∙◌, arith, lit<}
+use Rattle.std.proofs.Common.{◌≡◌, ℕ, ◌+◌, ◌*◌, ◌/◌, ◌%◌, ◌^◌, ◌<◌, Bool, true, false, ◌&&◌, Some, None, cond, refl, ap, ◌∙◌, arith, lit<}
 use Rattle.std.specs.Option.{option_map}
 use Rattle.std.specs.Prelude.{◌==◌}
 use Rattle.rv32_decode.specs.Decoding.{amo_of}
-use Rattle.rv32_decode.specs.Encoding.{assembled, bit, annotation_bits, amo_funct5, encoded}
+use Rattle.rv32_decode.specs.Encoding.{bit, annotation_bits, amo_funct5, encoded}
 use Rattle.rv32_decode.specs.Fields.{rd_of, rs1_of, rs2_of, annotations_of}
 use Rattle.rv32_decode.specs.Rows.{decoded}
 use Rattle.rv32_decode.specs.declared.instruction.Annotations.{Annotations}
-use Rattle.rv32_decode.specs.declared.instruction.Instr.{Instr}
 use Rattle.rv32_decode.specs.declared.instruction.Instr.TheVariants as instr
 use Rattle.rv32_decode.specs.declared.instruction.AmoOp.{AmoOp}
 use Rattle.rv32_decode.specs.declared.instruction.AmoOp.TheVariants.{Swap, Add, Xor, And, Or, Min, Max, Minu, Maxu}

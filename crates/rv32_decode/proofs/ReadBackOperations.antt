@@ -1,13 +1,12 @@
 -- The same of the words that funct7 tells apart, and of a FENCE.
-use Rattle.std.proofs.Common.{◌≡◌, ℕ, ◌+◌, ◌*◌, ◌/◌, ◌%◌, ◌^◌, ◌<◌, Bool, true, false, ◌&&◌, Option, Some, None, cond, refl, ap, ◌∙◌, arith, lit<}
+use Rattle.std.proofs.Common.{◌≡◌, ℕ, ◌+◌, ◌*◌, ◌/◌, ◌%◌, ◌^◌, ◌<◌, ◌&&◌, Some, None, cond, refl, ap, ◌∙◌, arith, lit<}
 use Rattle.std.specs.Option.{option_map}
 use Rattle.std.specs.Prelude.{◌==◌}
 use Rattle.rv32_decode.specs.Decoding.{immediate_of, shift_of, register_of, or_else}
-use Rattle.rv32_decode.specs.Encoding.{assembled, shift_funct3, shift_funct7, register_funct3, register_funct7, encoded}
+use Rattle.rv32_decode.specs.Encoding.{shift_funct3, shift_funct7, register_funct3, register_funct7, encoded}
 use Rattle.rv32_decode.specs.Fence.{Sets}
 use Rattle.rv32_decode.specs.Fields.{rd_of, rs1_of, rs2_of, imm_i, fences_of}
 use Rattle.rv32_decode.specs.Rows.{decoded, is_tso}
-use Rattle.rv32_decode.specs.declared.instruction.Instr.{Instr}
 use Rattle.rv32_decode.specs.declared.instruction.Instr.TheVariants as instr
 use Rattle.rv32_decode.specs.declared.instruction.ShiftOp.{ShiftOp}
 use Rattle.rv32_decode.specs.declared.instruction.ShiftOp.TheVariants.{Slli, Srli, Srai}

@@ -1,9 +1,9 @@
 -- What stops a hart is decided before anything is read, and changes nothing.
-use Rattle.std.proofs.Common.{◌≡◌, ℕ, List, Option, Some, None, refl, ap, ◌∙◌}
+use Rattle.std.proofs.Common.{◌≡◌, ℕ, List, Option, Some, None, ap}
 use Rattle.rv32_decode.specs.Rows.{decoded}
 use Rattle.rv32_decode.specs.declared.instruction.Instr.{Instr}
-use Rattle.rv32_exec.specs.Laws.{after, unchanged, StopChangesNothing, StopIsDecidedFirst}
-use Rattle.rv32_exec.specs.Meaning.{Meaning, Stops, Does, Effect, effect_of, stop_of, meaning, meaning_of_word}
+use Rattle.rv32_exec.specs.Laws.{after, StopChangesNothing, StopIsDecidedFirst}
+use Rattle.rv32_exec.specs.Meaning.{Meaning, Stops, Does, Effect, effect_of, stop_of, meaning}
 
 pub unchanged_by_stop : StopChangesNothing
 unchanged_by_stop word pc size read code x e = ap (λ m. after m pc x) e
