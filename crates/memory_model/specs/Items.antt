@@ -1,18 +1,19 @@
 -- A hart's retired instructions with their memory operations (RISC-V Unprivileged ISA 20191213, chapter 14.1, "Memory Model Primitives").
-use Rattle.std.specs.Prelude.{ℕ, ◌+◌, Bool, true, false, if◌then◌else◌, List, [], ◌∷◌, Option, Some, None}
+use Rattle.std.specs.Prelude.{ℕ, ◌+◌, Bool, true, false, if◌then◌else◌, List, [], ◌∷◌, Option, Some, None, unwrap_or}
 use Rattle.std.specs.Option.{option_map_or}
-use Rattle.rv32_decode.specs.Amo.{combined}
 use Rattle.rv32_decode.specs.Rows.{decoded}
 use Rattle.rv32_decode.specs.declared.instruction.Annotations.{Annotations}
 use Rattle.rv32_decode.specs.declared.instruction.Instr.{Instr}
 use Rattle.rv32_decode.specs.declared.instruction.Instr.TheVariants as instr
-use Rattle.rv32_exec.specs.Meaning.{Access, Private, Loads, Stores, Reserves, Tries, Updates, Fences, Calls, access_of}
+use Rattle.rv32_exec.specs.Meaning.{Access, Private, Loads, Stores, Reserves, Tries, Updates, Fences, Calls, access_of, value_written}
 use Rattle.elf_loader.specs.Image.{Initial}
 use Rattle.hart.specs.declared.retired.Retired.{Retired}
 use Rattle.hart.specs.declared.state.Hart.{Hart}
 use Rattle.hart.specs.Run.{number_read, after, at_reset}
+use Rattle.memory_model.specs.declared.operation.Kind.{Kind}
 use Rattle.memory_model.specs.declared.operation.Kind.TheVariants.{Load, Store, Reserve, Conditional, Amo}
 use Rattle.memory_model.specs.declared.operation.Operation.{Operation}
+use Rattle.memory_model.specs.Operations.{reads}
 
 -- an instruction of a hart's list: its place, what it is, and its memory operation, where it has one
 pub record Item : Type 0 where
@@ -31,16 +32,27 @@ abbrev pub succeeded : Option Bool → Bool
 succeeded None = false
 succeeded (Some ok) = ok
 
+-- what an access reads and writes, as an operation of this kind on so many bytes
+abbrev pub operation_with : ℕ → ℕ → Annotations → Retired → Access → Kind → (address size : ℕ) → Operation
+operation_with hart place bits entry access kind address size = record {
+  hart = hart;
+  place = place;
+  kind = kind;
+  address = address;
+  size = size;
+  read = if reads kind then number_read entry else 0;
+  written = unwrap_or (value_written access (number_read entry)) 0;
+  aq = bits.acquire;
+  rl = bits.release;
+}
+
 -- the operation of an access: of a load, an LR, a store, an AMO and an SC that succeeded; an SC that failed has none
 abbrev pub operation_of_access : ℕ → ℕ → Annotations → Retired → Access → Option Operation
-operation_of_access hart place bits entry (Loads address bytes) = Some (record { hart = hart; place = place; kind = Load; address = address; size = bytes; read = number_read entry; written = 0; aq = bits.acquire; rl = bits.release })
-operation_of_access hart place bits entry (Stores address bytes value) = Some (record { hart = hart; place = place; kind = Store; address = address; size = bytes; read = 0; written = value; aq = bits.acquire; rl = bits.release })
-operation_of_access hart place bits entry (Reserves address) = Some (record { hart = hart; place = place; kind = Reserve; address = address; size = 4; read = number_read entry; written = 0; aq = bits.acquire; rl = bits.release })
-operation_of_access hart place bits entry (Tries address value) =
-    if succeeded entry.sc_ok
-    then Some (record { hart = hart; place = place; kind = Conditional; address = address; size = 4; read = 0; written = value; aq = bits.acquire; rl = bits.release })
-    else None
-operation_of_access hart place bits entry (Updates address op operand) = Some (record { hart = hart; place = place; kind = Amo; address = address; size = 4; read = number_read entry; written = combined op (number_read entry) operand; aq = bits.acquire; rl = bits.release })
+operation_of_access hart place bits entry (Loads address bytes) = Some (operation_with hart place bits entry (Loads address bytes) Load address bytes)
+operation_of_access hart place bits entry (Stores address bytes value) = Some (operation_with hart place bits entry (Stores address bytes value) Store address bytes)
+operation_of_access hart place bits entry (Reserves address) = Some (operation_with hart place bits entry (Reserves address) Reserve address 4)
+operation_of_access hart place bits entry (Tries address value) = if succeeded entry.sc_ok then Some (operation_with hart place bits entry (Tries address value) Conditional address 4) else None
+operation_of_access hart place bits entry (Updates address op operand) = Some (operation_with hart place bits entry (Updates address op operand) Amo address 4)
 operation_of_access hart place bits entry Private = None
 operation_of_access hart place bits entry Fences = None
 operation_of_access hart place bits entry (Calls number argument) = None

@@ -45,10 +45,11 @@ last_of xs = last_or None xs
 abbrev pub source : List Operation → Operation → ℕ → Option Operation
 source order load x = last_of (candidates order load x)
 
--- the reader's form: of the stores to x other than the load that stand before it in the order or precede it in program order, the last in the order
+-- the reader's form: s is a store to x other than the load, and stands before it in the order or precedes it in program order
 abbrev pub is_visible : List Operation → Operation → ℕ → Operation → Bool
 is_visible order load x s = stores_to x s && not (same s load) && (before order s load || precedes s load)
 
+-- of these the last in the order
 abbrev pub last_visible : List Operation → Operation → ℕ → Option Operation
 last_visible order load x = last_of (filter (is_visible order load x) order)
 
