@@ -24,9 +24,9 @@ use Rattle.trace_text.specs.declared.fault.TextError.{TextError}
 use Rattle.trace_text.specs.declared.head.TraceHead.{TraceHead}
 use Rattle.trace_text.specs.TraceHeads.{IsTraceHead}
 use Rattle.trace_text.specs.Traces.{head_of, head, image_lines, image, retired_lead, retired, entries, operation, logged, status, text}
-use Rattle.trace_text.specs.TraceLimits.{IsHart, IsOperation, IsLogged, IsStatus, IsTrace}
+use Rattle.trace_text.specs.TraceLimits.{IsHart, IsOperation, IsLogged, IsStatus, IsTrace, IsReadAs}
 use Rattle.trace_text.specs.TraceLines.{head_at, retired_at}
-use Rattle.trace_text.specs.TraceSections.{image_lines_at, entries_at, performed_at, log_at, status_lead, status_line_at, trace_at, counted, IsReadAs}
+use Rattle.trace_text.specs.TraceSections.{image_lines_at, entries_at, performed_at, log_at, status_lead, status_line_at, trace_at, counted}
 use Rattle.trace_text.proofs.TraceLaws.{op, operation_reads, retired_reads, logged_fields, logged_reads, status_reads}
 use Rattle.trace_text.proofs.HeadLaws.{head_reads}
 use Rattle.trace_text.proofs.ImageLaws.{lines_take, lines_again}
