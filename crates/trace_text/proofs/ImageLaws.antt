@@ -1,12 +1,12 @@
 -- What is read of an image's lines is spelled so, and what is spelled so is read, where other lines follow.
-use Rattle.std.proofs.Common.{◌≡◌, ℕ, zero, suc, ◌+◌, ◌-◌, ◌*◌, ◌/◌, ◌^◌, ◌<◌, ◌≤◌, Bool, true, false, eqb, List, [], ◌∷◌, ◌++◌, length, take, drop, Option, Some, None, refl, sym, ap, subst, ◌∙◌, append_assoc, arith, inl, inr}
+use Rattle.std.proofs.Common.{◌≡◌, ℕ, zero, suc, ◌+◌, ◌*◌, ◌^◌, ◌<◌, ◌≤◌, Bool, true, false, eqb, List, [], ◌∷◌, ◌++◌, length, take, drop, Option, Some, None, refl, sym, ap, subst, ◌∙◌, append_assoc, arith, inl, inr}
 use Rattle.std.proofs.Math.Nat.{zero-mul, suc-mul}
-use Rattle.std.specs.Prelude.{codes, replicate, ◌⊎◌, ◌||◌, not}
+use Rattle.std.specs.Prelude.{codes, replicate, ◌||◌, not}
 use Rattle.std.specs.List.{AllByRecursion}
 use Rattle.std.proofs.lemmas.Bool.{eqb-true}
 use Rattle.std.proofs.lemmas.List.{length-append, length-replicate, length-drop, length-take-le, take_at, drop_at, take-append-drop, nil_from_length}
 use Rattle.text_fields.specs.Fields.{word, hex, IsBytes}
-use Rattle.text_fields.specs.Reading.{◌>>=◌, led_at, ended_at, after, word_at, hex_at, behind, guarded}
+use Rattle.text_fields.specs.Reading.{◌>>=◌, led_at, ended_at, after, word_at}
 use Rattle.text_fields.proofs.Laws.{Reads, bind_some, some_is, led_reads, ended_reads, guard_reads, word_reads, hex_reads, after_takes, after_again, after_not, behind_takes, leads_apart, starts}
 use Rattle.trace_text.specs.Traces.{any_set, image_line, image_lines}
 use Rattle.trace_text.specs.TraceLines.{image_lead, image_data_at, image_line_at}
@@ -137,7 +137,7 @@ lines_take width (suc n) address bytes x rest e =
     let made : List ℕ × List ℕ = (p.0.0 ++ q.0.0, q.0.1) in
     subst (λ (y : List ℕ × List ℕ). AreLines width (suc n) address bytes y.0 y.1) (some_is made (x, rest) q.2) (
       first.0 ∙ ap (λ t. image_line address p.0.0 ++ t) others.0 ∙ sym (append_assoc (image_line address p.0.0) (image_lines width n (address + width) q.0.0) q.0.1)
-      ∙ ap (λ t. t ++ q.0.1) (sym (lines_step width n address p.0.0 q.0.0 first.1.len)),
+          ∙ ap (λ t. t ++ q.0.1) (sym (lines_step width n address p.0.0 q.0.0 first.1.len)),
       record { len = length-append p.0.0 q.0.0 ∙ ap (λ k. k + length q.0.0) first.1.len ∙ ap (λ k. width + k) others.1.len ∙ sym (more_times n width); small = small_append p.0.0 q.0.0 first.1.small others.1.small },
     )
 
@@ -184,4 +184,3 @@ lines_again width (suc n) address x rest fits le some off =
     let one = line_again width address line (later ++ rest) fits_line off_line in
     let more = lines_again width n (address + width) others rest fits_others (omega (arith, product)) some off in
     ap (image_lines_at width (suc n) address) parts ∙ rw (one, more) (ap (λ (l : List ℕ). Some (l, rest)) whole)
-

@@ -1,7 +1,7 @@
 -- What the loop over the image's lines keeps.
-use Rattle.std.proofs.Common.{◌≡◌, ℕ, zero, suc, ◌+◌, ◌-◌, ◌*◌, ◌/◌, ◌%◌, ◌<◌, ◌≤◌, List, [], ◌∷◌, ◌++◌, length, take, drop, Option, Some, None, refl, sym, ap, subst, ◌∙◌, append_assoc, arith, inl, inr}
-use Rattle.std.specs.Prelude.{replicate, ◌⊎◌}
-use Rattle.std.proofs.lemmas.List.{length-append, length-take-le, length-drop, drop-replicate, take-replicate, drop-drop, drop_all, take_all, take_at, drop_at, append-nil}
+use Rattle.std.proofs.Common.{◌≡◌, ℕ, suc, ◌+◌, ◌-◌, ◌/◌, ◌%◌, ◌<◌, ◌≤◌, List, [], ◌++◌, length, take, drop, Option, Some, None, refl, sym, ap, subst, ◌∙◌, append_assoc, arith, inl, inr}
+use Rattle.std.specs.Prelude.{replicate}
+use Rattle.std.proofs.lemmas.List.{length-append, length-take-le, length-drop, drop-replicate, take-replicate, drop_all, take_all, take_at, drop_at, append-nil}
 use Rattle.elf_loader.specs.Size.{base, IsMemorySize}
 use Rattle.text_fields.specs.Reading.{◌>>=◌}
 use Rattle.text_fields.proofs.Loops.{fronted}

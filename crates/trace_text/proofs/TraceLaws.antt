@@ -1,12 +1,11 @@
 -- What is read of a trace's line is spelled so, and what is spelled so is read, whatever follows.
-use Rattle.std.proofs.Common.{◌≡◌, ℕ, zero, suc, ◌+◌, ◌-◌, ◌*◌, ◌%◌, ◌^◌, ◌<◌, ◌≤◌, Bool, ◌&&◌, true, false, eqb, leb, ltb, List, [], ◌∷◌, ◌++◌, length, Option, Some, None, refl, sym, ap, subst, ◌∙◌, append_assoc, arith, inl, inr}
-use Rattle.std.specs.Prelude.{codes, decimal, ◌⊎◌}
+use Rattle.std.proofs.Common.{◌≡◌, ℕ, ◌+◌, ◌-◌, ◌*◌, ◌%◌, ◌^◌, ◌<◌, ◌≤◌, Bool, ◌&&◌, true, false, eqb, leb, ltb, List, [], ◌∷◌, ◌++◌, Option, Some, None, refl, sym, ap, subst, ◌∙◌, arith, inl, inr}
+use Rattle.std.specs.Prelude.{codes}
 use Rattle.std.proofs.lemmas.Bool.{eqb-true, eq-eqb, leb-true, le-leb, ltb-true, lt-ltb}
 use Rattle.elf_loader.specs.Size.{base}
 use Rattle.text_fields.specs.Fields.{number, word, hex, IsBytes}
-use Rattle.text_fields.specs.Reading.{◌>>=◌, pair_at, chain_at, seen_at, led_at, ended_at, table_at, after, number_at, word_at, hex_at, either, guarded}
-use Rattle.text_fields.proofs.Laws.{Reads, bind_some, some_is, pair_reads, chain_reads, seen_reads, seen_takes, seen_again, led_reads, ended_reads, guard_reads, table_reads, number_reads, word_reads, hex_reads, after_takes, either_takes, text_takes, checked_reads, both_true}
-use Rattle.hart.specs.declared.retired.Retired.{Retired}
+use Rattle.text_fields.specs.Reading.{◌>>=◌, seen_at, led_at, table_at, after, number_at, word_at, either}
+use Rattle.text_fields.proofs.Laws.{Reads, bind_some, some_is, pair_reads, chain_reads, seen_reads, seen_takes, seen_again, led_reads, ended_reads, table_reads, number_reads, word_reads, hex_reads, after_takes, either_takes, text_takes, checked_reads, both_true}
 use Rattle.hart.specs.declared.status.Status.{Status}
 use Rattle.hart.specs.declared.status.Status.TheVariants.{Running, Stopped, Exited}
 use Rattle.tl_types.specs.Line.{bytes_of, length_of}
@@ -33,7 +32,7 @@ use Rattle.trace_text.specs.declared.message_reading.Name.{Name}
 use Rattle.trace_text.specs.declared.message_reading.Name.TheVariants as names
 use Rattle.trace_recorder.specs.declared.logged.Logged.{Logged}
 use Rattle.trace_text.specs.declared.head.TraceHead.{TraceHead}
-use Rattle.trace_text.specs.Traces.{retired, operation, outcome}
+use Rattle.trace_text.specs.Traces.{retired, outcome}
 use Rattle.trace_text.specs.TraceLimits.{IsLoaded, IsRetired, IsOperation, IsData, IsBody, IsLogged, IsStatus}
 use Rattle.trace_text.specs.TraceReading.{directions, direction_at, grows, grow_at, caps, cap_at, changes, change_at, answers, answer_at, loaded_at, data_at, all_names, name_at, change_data_at, cap_data_at, carried_at, message_at}
 use Rattle.trace_text.specs.TraceLines.{retired_at, operation_at, stop_at, exit_at, status_at, is_line, letter_of, letter_at, is_logged, logged_at}
@@ -317,12 +316,12 @@ logged_forth h some x f e =
 
 logged_back : (h : TraceHead) → 0 < h.harts → h.kib ≤ 1024 → (l : Logged) → IsLogged h l → (logged_from (fields_of l) ≡ l) × (AreFields h (fields_of l) × (is_logged h.kib h.line (letter_of (channel_of l.message)) l.message ≡ true))
 logged_back h some small l f = (
-    refl,
-    (
-      (tt, (tt, (omega (arith, f.hart), record { line = omega (arith, f.inside); body = f.body }))),
-      rw (eq-eqb (letter_of (channel_of l.message)) (letter_of (channel_of l.message)) refl, f.whole, le-leb _ _ f.from, lt-ltb _ _ f.inside) refl,
-    ),
-  )
+  refl,
+  (
+    (tt, (tt, (omega (arith, f.hart), record { line = omega (arith, f.inside); body = f.body }))),
+    rw (eq-eqb (letter_of (channel_of l.message)) (letter_of (channel_of l.message)) refl, f.whole, le-leb _ _ f.from, lt-ltb _ _ f.inside) refl,
+  ),
+)
 
 pub logged_reads : (h : TraceHead) → 0 < h.harts → h.harts ≤ 8 → h.kib ≤ 1024 → Reads logged_fields (IsLogged h) (logged_at h.harts h.kib h.line)
 unfolding logged_at

@@ -1,13 +1,12 @@
 -- What is read as a trace is spelled so, and what is spelled so is read, whatever follows.
-use Rattle.std.proofs.Common.{◌≡◌, ℕ, zero, suc, ◌+◌, ◌-◌, ◌*◌, ◌/◌, ◌^◌, ◌<◌, ◌≤◌, Bool, true, false, eqb, leb, List, [], ◌∷◌, ◌++◌, length, take, Option, Some, None, Result, Ok, Err, refl, sym, ap, subst, ◌∙◌, append_assoc, arith, inl, inr}
-use Rattle.std.specs.Prelude.{codes, IfOk, ◌⊎◌}
+use Rattle.std.proofs.Common.{◌≡◌, ℕ, suc, ◌+◌, ◌-◌, ◌*◌, ◌/◌, ◌^◌, ◌<◌, ◌≤◌, false, eqb, leb, List, [], ◌∷◌, ◌++◌, length, take, Option, Some, None, Result, Ok, Err, refl, sym, ap, subst, ◌∙◌, append_assoc, arith, inl, inr}
+use Rattle.std.specs.Prelude.{codes, IfOk}
 use Rattle.std.specs.List.{flat_map, AllByRecursion}
 use Rattle.std.proofs.lemmas.Bool.{leb-true, le-leb}
 use Rattle.std.proofs.lemmas.List.{length-append, take_at}
 use Rattle.std.proofs.lemmas.List.Concat.{flat_map-cons}
 use Rattle.std.proofs.lemmas.Option.{some_pair_parts}
 use Rattle.elf_loader.specs.Size.{base}
-use Rattle.elf_loader.specs.Image.{Initial}
 use Rattle.hart.specs.declared.retired.Retired.{Retired}
 use Rattle.hart.specs.declared.status.Status.{Status}
 use Rattle.tl_types.specs.Line.{length_of}
@@ -24,10 +23,10 @@ use Rattle.trace_text.specs.Reading.{Answers, IsNoMemory}
 use Rattle.trace_text.specs.declared.fault.TextError.{TextError}
 use Rattle.trace_text.specs.declared.head.TraceHead.{TraceHead}
 use Rattle.trace_text.specs.TraceHeads.{IsTraceHead}
-use Rattle.trace_text.specs.Traces.{head_of, head, image_lines, image, retired_lead, retired, entries, operation, logged, status, outcome, text}
-use Rattle.trace_text.specs.TraceLimits.{IsRetired, IsHart, IsOperation, IsLogged, IsStatus, IsTrace}
-use Rattle.trace_text.specs.TraceLines.{head_at, retired_at, operation_at, logged_at, status_at}
-use Rattle.trace_text.specs.TraceSections.{image_lines_at, entries_at, performed_at, log_at, status_lead, status_line_at, trace_at, counted, IsReadAs}
+use Rattle.trace_text.specs.Traces.{head_of, head, image_lines, image, retired_lead, retired, entries, operation, logged, status, text}
+use Rattle.trace_text.specs.TraceLimits.{IsHart, IsOperation, IsLogged, IsStatus, IsTrace, IsReadAs}
+use Rattle.trace_text.specs.TraceLines.{head_at, retired_at}
+use Rattle.trace_text.specs.TraceSections.{image_lines_at, entries_at, performed_at, log_at, status_lead, status_line_at, trace_at, counted}
 use Rattle.trace_text.proofs.TraceLaws.{op, operation_reads, retired_reads, logged_fields, logged_reads, status_reads}
 use Rattle.trace_text.proofs.HeadLaws.{head_reads}
 use Rattle.trace_text.proofs.ImageLaws.{lines_take, lines_again}
@@ -235,12 +234,14 @@ trace_again t rest fits =
     let at_p = starts_section 82 80 (32 ∷ []) op t.performed l refl (starts_section 82 77 (32 ∷ []) logged_fields t.log s refl (starts_statuses 82 t.statuses rest some refl)) in
     let at_n = starts_entries 73 0 t.entries p refl (starts_section 73 80 (32 ∷ []) op t.performed l refl (starts_section 73 77 (32 ∷ []) logged_fields t.log s refl (starts_statuses 73 t.statuses rest some refl))) in
     ap trace_at (regroup (head h) (image t.line t.image.bytes) (numbered entries 0 t.entries) (flat_map operation t.performed) (flat_map logged t.log) (numbered status 0 t.statuses) rest)
-    ∙ rw (head_reads.again h (image t.line t.image.bytes ++ n) fits.head,
-          image_again t.line (length t.image.bytes / 1024) t.image.bytes n fits.head.memory.at_most fits.memory at_n,
-          lists_again (length t.statuses) t.entries p fits.lists fits.head.at_most_8 fits.entries at_p,
-          performed_again (length t.statuses) fits.head.some_hart fits.head.at_most_8 t.performed l fits.performed at_l,
-          log_again h fits.head t.log s fits.log (starts_statuses 77 t.statuses rest some refl),
-          statuses_again (length t.statuses) t.statuses rest refl fits.head.at_most_8 fits.statuses) refl
+    ∙ rw (
+      head_reads.again h (image t.line t.image.bytes ++ n) fits.head,
+      image_again t.line (length t.image.bytes / 1024) t.image.bytes n fits.head.memory.at_most fits.memory at_n,
+      lists_again (length t.statuses) t.entries p fits.lists fits.head.at_most_8 fits.entries at_p,
+      performed_again (length t.statuses) fits.head.some_hart fits.head.at_most_8 t.performed l fits.performed at_l,
+      log_again h fits.head t.log s fits.log (starts_statuses 77 t.statuses rest some refl),
+      statuses_again (length t.statuses) t.statuses rest refl fits.head.at_most_8 fits.statuses,
+    ) refl
 
 pub trace_shortens : (bytes : List ℕ) (t : History) (rest : List ℕ) → trace_at bytes ≡ Some (t, rest) → length rest ≤ length bytes
 trace_shortens bytes t rest e = omega (arith, ap length (trace_takes bytes t rest e).0, length-append (text t) rest)

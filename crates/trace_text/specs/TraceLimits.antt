@@ -1,5 +1,5 @@
 -- The values that a trace may have in its text.
-use Rattle.std.specs.Prelude.{◌≡◌, ℕ, ◌+◌, ◌*◌, ◌/◌, ◌%◌, ◌^◌, ◌<◌, ◌≤◌, List, Option, Some, None, length, ◌++◌}
+use Rattle.std.specs.Prelude.{◌≡◌, ℕ, ◌+◌, ◌*◌, ◌/◌, ◌%◌, ◌^◌, ◌<◌, ◌≤◌, List, Option, Some, None, Result, Ok, Err, length, ◌++◌}
 use Rattle.std.specs.List.{AllByRecursion}
 use Rattle.text_fields.specs.Fields.{IsBytes}
 use Rattle.elf_loader.specs.Size.{base}
@@ -15,7 +15,8 @@ use Rattle.tl_types.specs.declared.message.Body.{Body}
 use Rattle.tl_types.specs.declared.message.Body.TheVariants.{AcquireBlock, ProbeBlock, ProbeAck, ProbeAckData, Release, ReleaseData, Grant, GrantData, ReleaseAck, GrantAck}
 use Rattle.trace_recorder.specs.declared.operation.OpId.{OpId}
 use Rattle.trace_recorder.specs.declared.logged.Logged.{Logged}
-use Rattle.trace_recorder.specs.History.{History}
+use Rattle.trace_recorder.specs.History.{History, Recorded}
+use Rattle.trace_text.specs.declared.fault.TextError.{TextError}
 use Rattle.trace_text.specs.declared.head.TraceHead.{TraceHead}
 use Rattle.trace_text.specs.TraceHeads.{IsTraceHead}
 use Rattle.trace_text.specs.Traces.{head_of, text}
@@ -83,3 +84,8 @@ pub record IsTrace (t : History) : Type 0 where
 -- two texts that begin the same bytes are one trace's
 abbrev pub NoTextBeginsAnother : Type 0
 NoTextBeginsAnother = (a b : History) (x y : List ℕ) → IsTrace a → IsTrace b → text a ++ x ≡ text b ++ y → (a ≡ b) × (x ≡ y)
+
+-- this trace is read, and the length of its text counted
+abbrev pub IsReadAs : History → Result (Recorded × ℕ) TextError → Type 0
+IsReadAs t (Ok x) = (x.0.history ≡ t) × (x.1 ≡ length (text t))
+IsReadAs t (Err e) = ⊥

@@ -1,5 +1,5 @@
 -- Reading the sections of a trace from left to right. The clauses of read_trace don't rest on these words: they are what its parts answer.
-use Rattle.std.specs.Prelude.{◌≡◌, ℕ, zero, suc, ◌+◌, ◌-◌, ◌*◌, ◌/◌, List, [], ◌∷◌, ◌++◌, Option, Some, None, Result, Ok, Err, length, codes, nat_le, replicate}
+use Rattle.std.specs.Prelude.{ℕ, zero, suc, ◌+◌, ◌-◌, ◌*◌, ◌/◌, List, [], ◌++◌, Option, Some, None, length, codes, nat_le, replicate}
 use Rattle.text_fields.specs.Fields.{number}
 use Rattle.text_fields.specs.Reading.{◌>>=◌, led_at, guarded, section_at, numbered_at}
 use Rattle.elf_loader.specs.Size.{base}
@@ -8,10 +8,9 @@ use Rattle.hart.specs.declared.status.Status.{Status}
 use Rattle.tl_types.specs.Line.{length_of}
 use Rattle.trace_recorder.specs.declared.operation.OpId.{OpId}
 use Rattle.trace_recorder.specs.declared.logged.Logged.{Logged}
-use Rattle.trace_recorder.specs.History.{History, Recorded}
+use Rattle.trace_recorder.specs.History.{History}
 use Rattle.trace_text.specs.declared.head.TraceHead.{TraceHead}
-use Rattle.trace_text.specs.Traces.{retired_lead, text}
-use Rattle.trace_text.specs.declared.fault.TextError.{TextError}
+use Rattle.trace_text.specs.Traces.{retired_lead}
 use Rattle.trace_text.specs.TraceLines.{head_at, image_line_at, retired_at, operation_at, logged_at, status_at}
 
 -- so many lines of memory of this width, the first at this address
@@ -45,8 +44,3 @@ trace_at bytes =
 abbrev pub counted : List ℕ → Option (History × List ℕ) → Option (History × ℕ)
 counted bytes None = None
 counted bytes (Some y) = Some (y.0, length bytes - length y.1)
-
--- this trace is read, and the length of its text counted
-abbrev pub IsReadAs : History → Result (Recorded × ℕ) TextError → Type 0
-IsReadAs t (Ok x) = (x.0.history ≡ t) × (x.1 ≡ length (text t))
-IsReadAs t (Err e) = ⊥

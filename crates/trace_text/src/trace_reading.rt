@@ -6,7 +6,7 @@ ghost use Rattle.text_fields.specs.Reading.{numbered_at};
 ghost use Rattle.elf_loader.specs.Size.{base, IsMemorySize};
 ghost use Rattle.trace_recorder.specs.History.{History};
 ghost use Rattle.trace_text.specs.Reading.{Gives, Answers, IsNoMemory};
-ghost use Rattle.trace_text.specs.TraceLimits.{IsTrace, NoTextBeginsAnother};
+ghost use Rattle.trace_text.specs.TraceLimits.{IsTrace, IsReadAs, NoTextBeginsAnother};
 ghost use Rattle.trace_text.specs.TraceHeads.{IsTraceHead};
 ghost use Rattle.trace_text.specs.TraceSections as reads;
 ghost use Rattle.trace_text.specs.Traces.{text};
@@ -205,7 +205,7 @@ pub fn read_trace(alloc: Global, bytes: &[u8]) -> Result<(Trace, usize), TextErr
     ensures found { IfOk result (λ x. IsTrace x.0.history × (take x.1 bytes.now ≡ text x.0.history)) }
     ensures count { IfOk result (λ x. x.1 ≡ length (text x.0.history)) }
     // What a trace is spelled is read as that trace, whatever follows it, unless memory runs out.
-    ensures only { (t : History) (more : List ℕ) → IsTrace t → bytes.now ≡ text t ++ more → ¬ IsNoMemory result → reads.IsReadAs t result }
+    ensures only { (t : History) (more : List ℕ) → IsTrace t → bytes.now ≡ text t ++ more → ¬ IsNoMemory result → IsReadAs t result }
 {
     counted(alloc, bytes)
 }

@@ -1,4 +1,4 @@
-use Rattle.std.proofs.Common.{◌≡◌, ◌*◌, sym, ◌∙◌, length}
+use Rattle.std.proofs.Common.{sym, ◌∙◌}
 use Rattle.std.proofs.lemmas.List.{length-map}
 use Rattle.trace_text.proofs.TraceHeads.{memory_is, entry_in}
 use Rattle.trace_text.proofs.WholeTraces.{memory_count, lists_count, statuses_count}
