@@ -2,6 +2,7 @@
 
 use coherent_machine::{ApplyError, NewError, ReplayError};
 use elf_loader::LoadError;
+use rvwmo_order::CheckError;
 use std::alloc::AllocError;
 use std::io;
 use thiserror::Error;
@@ -32,6 +33,15 @@ pub enum Fault<'a> {
         line: usize,
         error: ApplyError,
     },
+    #[error("rvtl: {file}: bytes after the trace")]
+    BytesAfterTrace {
+        file: &'a str,
+    },
+    #[error("rvtl: {file}: check fault {} {error}", .error.number())]
+    Check {
+        file: &'a str,
+        error: CheckError,
+    },
     #[error("rvtl: bad configuration")]
     Configuration,
     #[error("rvtl: out of memory")]
@@ -47,7 +57,9 @@ impl Fault<'_> {
             | Fault::CannotWrite
             | Fault::Image { .. }
             | Fault::Text { .. }
-            | Fault::Event { .. } => 1,
+            | Fault::Event { .. }
+            | Fault::BytesAfterTrace { .. }
+            | Fault::Check { .. } => 1,
             Fault::Configuration => 2,
             Fault::OutOfMemory => 4,
         }
@@ -82,6 +94,13 @@ impl<'a> Fault<'a> {
         match error {
             LoadError::NoMemory => Fault::OutOfMemory,
             _ => Fault::Image { file, error },
+        }
+    }
+
+    pub(crate) fn check(file: &'a str, error: CheckError) -> Fault<'a> {
+        match error {
+            CheckError::NoMemory => Fault::OutOfMemory,
+            _ => Fault::Check { file, error },
         }
     }
 

@@ -2,6 +2,7 @@
 //! the caller hands in.
 #![tactic(auto)]
 
+mod checking;
 mod fault;
 mod files;
 mod replaying;

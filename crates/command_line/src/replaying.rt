@@ -40,7 +40,8 @@ pub(crate) fn replay_files<'a, F: Files, O: Write, E: Write>(
     Ok(())
 }
 
-fn contents<'a, F: Files>(
+/// The bytes of a file.
+pub(crate) fn contents<'a, F: Files>(
     alloc: Global,
     files: &mut F,
     name: &'a str,

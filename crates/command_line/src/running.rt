@@ -1,17 +1,22 @@
 //! The whole program, over what the caller hands in.
 
+use crate::checking::check_file;
 use crate::fault::Fault;
 use crate::files::Files;
 use crate::replaying::replay_files;
 use crate::usage::settings;
 use crate::wanted::{Settings, SettingsError};
+use rvwmo_order::Verdict;
 use std::alloc::Global;
 use std::convert::AsStr;
 use std::io::Write;
 
+/// The status where the order is not legal.
+const NOT_LEGAL: u8 = 3;
+
 /// Does what the words ask for, the first of which is the program's name, and answers the exit status:
-/// 0 done, 1 for files, streams and what they hold, 2 for usage and configuration, 4 out of memory. A
-/// message that standard error does not take is lost.
+/// 0 done or legal, 1 for files, streams and what they hold, 2 for usage and configuration, 3 for an order
+/// that is not legal, 4 out of memory. A message that standard error does not take is lost.
 pub fn run_line<S: AsStr, F: Files, O: Write, E: Write>(
     alloc: Global,
     words: &[S],
@@ -24,6 +29,13 @@ pub fn run_line<S: AsStr, F: Files, O: Write, E: Write>(
         Ok(Settings::Replay { image, script, .. }) => {
             match replay_files(alloc, files, image, script, out, err) {
                 Ok(()) => return 0,
+                Err(fault) => fault,
+            }
+        }
+        Ok(Settings::Check { model, trace }) => {
+            match check_file(alloc, files, trace, model, out) {
+                Ok(Verdict::Legal) => return 0,
+                Ok(Verdict::Fault(_, _, _)) => return NOT_LEGAL,
                 Err(fault) => fault,
             }
         }

@@ -1,6 +1,8 @@
 //! The program's texts and statuses, over files and streams in memory.
 
+mod judging;
 mod memory;
+mod orders;
 mod texts;
 
 use memory::{File, MemoryFiles, Narrow};

@@ -2,6 +2,7 @@
 
 use crate::wanted::{Settings, SettingsError};
 use clap::{Arg, ArgAction, Command};
+use machine_model::Model;
 use std::alloc::{AllocError, Global};
 use std::convert::AsStr;
 
@@ -11,16 +12,34 @@ pub fn settings<'a, S: AsStr>(
     words: &'a [S],
 ) -> Result<Settings<'a>, SettingsError> {
     let matches = command(alloc)?.try_get_matches_from(words)?;
-    // The usage has one subcommand and asks for it and for both of its files, so each is there.
-    let (raw, image, script) = match matches.subcommand() {
-        Some((_, replay)) => (
-            replay.get_flag("raw"),
-            replay.get_str("IMAGE").unwrap_or(""),
-            replay.get_str("SCRIPT").unwrap_or(""),
-        ),
-        None => (false, "", ""),
-    };
-    Ok(Settings::Replay { raw, image, script })
+    // The usage asks for a subcommand and for its files, so each is there.
+    Ok(match matches.subcommand() {
+        Some(("check", check)) => Settings::Check {
+            model: model_of(check.get_str("model").unwrap_or("")),
+            trace: check.get_str("TRACE").unwrap_or(""),
+        },
+        Some((_, replay)) => Settings::Replay {
+            raw: replay.get_flag("raw"),
+            image: replay.get_str("IMAGE").unwrap_or(""),
+            script: replay.get_str("SCRIPT").unwrap_or(""),
+        },
+        None => Settings::Replay {
+            raw: false,
+            image: "",
+            script: "",
+        },
+    })
+}
+
+/// The models by their names, the first of which is meant where none is named.
+const MODELS: [&str; 2] = ["rvwmo", "ztso"];
+
+fn model_of(name: &str) -> Model {
+    if name == MODELS[1] {
+        Model::Ztso
+    } else {
+        Model::Rvwmo
+    }
 }
 
 fn command<'a>(alloc: Global) -> Result<Command<'a>, AllocError> {
@@ -43,8 +62,28 @@ fn command<'a>(alloc: Global) -> Result<Command<'a>, AllocError> {
     Command::new(alloc, "rvtl")
         .about("Runs RISC-V harts with private caches, one event at a time")
         .subcommand_required(true)
-        .subcommand(replay)
+        .subcommand(replay)?
+        .subcommand(check_command(alloc)?)
 }
+
+fn check_command<'a>(alloc: Global) -> Result<Command<'a>, AllocError> {
+    let model = Arg::new(alloc, "model")
+        .long("model")
+        .value_parser(MODELS.as_slice())
+        .default_value(MODELS[0])
+        .help("the memory model that the order has to keep");
+    let trace = Arg::new(alloc, "TRACE")
+        .required(true)
+        .help("a trace, as replay prints it");
+    Command::new(alloc, "check")
+        .about("Judges the order in which a trace's memory operations were performed")
+        .after_help(CHECK_HELP)
+        .arg(model)?
+        .arg(trace)
+}
+
+const CHECK_HELP: &str =
+    "Prints legal, or a fault's code with the two operations that show it (status 3).\nExample: rvtl check examples/legal.trace";
 
 const REPLAY_HELP: &str =
     "The trace goes to standard output, one line a hart to standard error.\nExample: rvtl replay --raw examples/exit.bin examples/exit.script";

@@ -1,6 +1,7 @@
 //! What the words of the command line ask for.
 
 use clap::error::ErrorKind;
+use machine_model::Model;
 use std::alloc::AllocError;
 use thiserror::Error;
 
@@ -13,6 +14,11 @@ pub enum Settings<'a> {
         raw: bool,
         image: &'a str,
         script: &'a str,
+    },
+    /// Judge the order of the trace in this file.
+    Check {
+        model: Model,
+        trace: &'a str,
     },
 }
 

@@ -1,0 +1,62 @@
+//! `rvtl check`: the order of a trace's memory operations is judged, and the verdict printed.
+
+ghost use Rattle.rvwmo_order.specs.Limits.{IsWithinLimits};
+
+use crate::fault::Fault;
+use crate::files::Files;
+use crate::replaying::contents;
+use machine_model::Model;
+use rvwmo_order::{CheckError, Verdict, check_model, completed, is_within_limits};
+use std::alloc::Global;
+use std::io::{self, Write};
+use trace_recorder::Trace;
+use trace_text::read_trace;
+
+/// Reads a trace, judges its completed order under the model, and prints the verdict on `out`.
+pub(crate) fn check_file<'a, F: Files, O: Write>(
+    alloc: Global,
+    files: &mut F,
+    file: &'a str,
+    model: Model,
+    out: &mut O,
+) -> Result<Verdict, Fault<'a>> {
+    let bytes = contents(alloc, files, file)?;
+    let (trace, length) = match read_trace(alloc, bytes.as_slice()) {
+        Ok(read) => read,
+        Err(error) => return Err(Fault::text(file, error)),
+    };
+    if length < bytes.len() {
+        return Err(Fault::BytesAfterTrace { file });
+    }
+    // A text can't spell a trace beyond the limits.
+    if !is_within_limits(&trace) {
+        return Err(Fault::Configuration);
+    }
+    let verdict = match judged(alloc, &trace, model) {
+        Ok(verdict) => verdict,
+        Err(error) => return Err(Fault::check(file, error)),
+    };
+    match print(verdict, out) {
+        Ok(()) => Ok(verdict),
+        Err(error) => Err(Fault::writing(error)),
+    }
+}
+
+fn judged(alloc: Global, trace: &Trace, model: Model) -> Result<Verdict, CheckError>
+    requires { IsWithinLimits trace.now.history }
+{
+    let order = completed(alloc, trace)?;
+    check_model(alloc, trace, order.as_slice(), model)
+}
+
+fn print<O: Write>(verdict: Verdict, out: &mut O) -> io::Result<()> {
+    match verdict {
+        Verdict::Legal => writeln!(out, "legal")?,
+        Verdict::Fault(code, a, b) => {
+            let number = code.number();
+            let (x, i, y, j) = (a.hart, a.place, b.hart, b.place);
+            writeln!(out, "fault {number} {x}:{i} {y}:{j}")?;
+        }
+    }
+    out.flush()
+}

@@ -1,0 +1,167 @@
+//! Worked rows of `rvtl check`, and its faults.
+
+use super::orders::{
+    ADDED, BOTH_RUN, FORWARDED, MESSAGE_PASSING, RESERVED, STORE_BUFFERING, STORES,
+};
+use super::{File, Ran, line, texts};
+use std::alloc::Global;
+use std::process::Abort;
+use std::test::Fail;
+
+const STORES_LOAD: &str = "R 0 0x80000018 0x10062703 0x00000002 -\n";
+
+/// `rvtl check --model MODEL trace` over a trace in pieces.
+fn check(alloc: Global, model: &str, pieces: &[&str]) -> Result<Ran, Fail> {
+    let mut trace = Vec::new(alloc);
+    for piece in pieces {
+        trace.extend_from_slice(piece.as_bytes())?;
+    }
+    let files = [File::whole("trace", trace.as_slice())];
+    let words = ["rvtl", "check", "--model", model, "trace"];
+    Ok(line(alloc, &words, &files))
+}
+
+fn is_legal(rt: &(impl Abort + AllocGlobal), model: &str, pieces: &[&str]) -> Result<(), Fail> {
+    let ran = check(rt.alloc(), model, pieces)?;
+    assert_eq!(rt; ran.err.as_slice(), b"".as_slice());
+    assert_eq!(rt; ran.out.as_slice(), b"legal\n".as_slice());
+    assert_eq!(rt; ran.status, 0);
+    Ok(())
+}
+
+fn breaks(
+    rt: &(impl Abort + AllocGlobal),
+    model: &str,
+    pieces: &[&str],
+    fault: &str,
+) -> Result<(), Fail> {
+    let ran = check(rt.alloc(), model, pieces)?;
+    assert_eq!(rt; ran.err.as_slice(), b"".as_slice());
+    assert_eq!(rt; ran.out.as_slice(), fault.as_bytes());
+    assert_eq!(rt; ran.status, 3);
+    Ok(())
+}
+
+fn refuses(rt: &(impl Abort + AllocGlobal), pieces: &[&str], message: &str) -> Result<(), Fail> {
+    let ran = check(rt.alloc(), "rvwmo", pieces)?;
+    assert_eq!(rt; ran.err.as_slice(), message.as_bytes());
+    assert_eq!(rt; ran.out.as_slice(), b"".as_slice());
+    assert_eq!(rt; ran.status, 1);
+    Ok(())
+}
+
+#[test]
+fn rows_2_and_18(rt: HostRuntime) -> Result<(), Fail> {
+    is_legal(&rt, "rvwmo", &[texts::NO_EVENTS_TRACE])?;
+    is_legal(&rt, "rvwmo", &[texts::EXIT_TRACE])?;
+    is_legal(&rt, "ztso", &[texts::LOAD_TRACE])
+}
+
+#[test]
+fn rows_4_and_49(rt: HostRuntime) -> Result<(), Fail> {
+    is_legal(&rt, "rvwmo", &[STORE_BUFFERING])?;
+    is_legal(&rt, "ztso", &[STORE_BUFFERING])
+}
+
+#[test]
+fn row_5(rt: HostRuntime) -> Result<(), Fail> {
+    is_legal(&rt, "rvwmo", &[MESSAGE_PASSING])?;
+    breaks(&rt, "ztso", &[MESSAGE_PASSING], "fault 6 0:3 0:5\n")
+}
+
+#[test]
+fn rows_7_and_17(rt: HostRuntime) -> Result<(), Fail> {
+    let performed = "P 0 6\nP 0 2\nP 0 5\nH 0 run\n";
+    let exchanged = "P 0 6\nP 0 5\nP 0 2\nH 0 run\n";
+    let older = "R 0 0x80000018 0x10062703 0x00000001 -\n";
+    is_legal(&rt, "rvwmo", &[STORES, STORES_LOAD, performed])?;
+    breaks(
+        &rt,
+        "rvwmo",
+        &[STORES, STORES_LOAD, exchanged],
+        "fault 1 0:2 0:5\n",
+    )?;
+    breaks(
+        &rt,
+        "rvwmo",
+        &[STORES, older, performed],
+        "fault 14 0:6 0:6\n",
+    )
+}
+
+#[test]
+fn row_8(rt: HostRuntime) -> Result<(), Fail> {
+    is_legal(&rt, "rvwmo", &[FORWARDED])
+}
+
+#[test]
+fn rows_9_and_37(rt: HostRuntime) -> Result<(), Fail> {
+    let failed = "R 0 0x80000010 0x18a5a62f - fail\n";
+    let succeeded = "R 0 0x80000010 0x18a5a62f - ok\n";
+    is_legal(&rt, "rvwmo", &[RESERVED, failed, ADDED, BOTH_RUN])?;
+    breaks(
+        &rt,
+        "rvwmo",
+        &[RESERVED, succeeded, ADDED, "P 0 4\n", BOTH_RUN],
+        "fault 15 0:3 0:4\n",
+    )
+}
+
+/// Names that are doubled or name no operation make no order.
+#[test]
+fn row_38(rt: HostRuntime) -> Result<(), Fail> {
+    let message = "rvtl: trace: check fault 1 NotAnOrder\n";
+    for performed in ["P 0 6\nP 0 6\n", "P 0 3\n", "P 0 7\n"] {
+        refuses(&rt, &[STORES, STORES_LOAD, performed, "H 0 run\n"], message)?;
+    }
+    Ok(())
+}
+
+/// A status that the list doesn't end in, a wrong pc, a number that is missing or too many.
+#[test]
+fn rows_17_and_43(rt: HostRuntime) -> Result<(), Fail> {
+    let message = "rvtl: trace: check fault 2 NotARun\n";
+    for last in [
+        "R 0 0x80000018 0x10062703 0x00000002 -\nP 0 6\nP 0 6\nH 0 stop 3\n",
+        "R 0 0x80000018 0x10062703 0x00000002 -\nH 0 exit 0\n",
+        "R 0 0x80000014 0x10062703 0x00000002 -\nH 0 run\n",
+        "R 0 0x80000018 0x10062783 0x00000002 -\nH 0 run\n",
+        "R 0 0x80000018 0x10062703 - -\nH 0 run\n",
+        "R 0 0x80000018 0x10062703 0x00000002 ok\nH 0 run\n",
+    ] {
+        refuses(&rt, &[STORES, last], message)?;
+    }
+    is_legal(&rt, "rvwmo", &[STORES, STORES_LOAD, "H 0 stop 2\n"])
+}
+
+/// The text's own fault comes first, then bytes behind it, then the check.
+#[test]
+fn texts_are_judged_first(rt: HostRuntime) -> Result<(), Fail> {
+    let ended = "P 0 6\nP 0 6\nH 0 run\n";
+    refuses(
+        &rt,
+        &[STORES, STORES_LOAD, ended, "H 0 run\n"],
+        "rvtl: trace: bytes after the trace\n",
+    )?;
+    refuses(
+        &rt,
+        &[STORES, "P 0 06\n"],
+        "rvtl: trace: line 11: text fault 3 Fields\n",
+    )
+}
+
+#[test]
+fn words_of_check(rt: HostRuntime) {
+    let files = [File::whole("trace", STORE_BUFFERING.as_bytes())];
+    for (words, status) in [
+        (["rvtl", "check", "trace"].as_slice(), 0),
+        (&["rvtl", "check", "--model", "tso", "trace"], 2),
+        (&["rvtl", "check"], 2),
+        (&["rvtl", "check", "gone"], 1),
+        (&["rvtl", "check", "--help"], 0),
+    ] {
+        let ran = line(rt.alloc(), words, &files);
+        assert_eq!(rt; ran.status, status, "{words:?}");
+        assert!(rt; ran.err.is_empty() == (status == 0), "{words:?}");
+    }
+}

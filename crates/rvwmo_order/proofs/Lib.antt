@@ -1,0 +1,7 @@
+pub mod Bytes
+pub mod Faults
+pub mod Fetches
+pub mod Harts
+pub mod Judged
+pub mod Seen
+pub mod Verdicts

@@ -1,0 +1,152 @@
+//! Operations and their bytes (chapter 14.1, "Memory Model Primitives").
+ghost use Rattle.std.specs.Prelude.{◌≡◌, ◌+◌, ◌/◌, ◌%◌, ◌^◌};
+ghost use Rattle.memory_model.specs.Operations as spec;
+ghost use Rattle.elf_loader.specs.Image as images;
+
+use elf_loader::{BASE, Image};
+use memory_model::{Kind, Model, Operation};
+
+pub(crate) fn reads(kind: Kind) -> bool
+    ensures { result ≡ spec.reads kind }
+{
+    match kind {
+        Kind::Load | Kind::Reserve | Kind::Amo => true,
+        Kind::Store | Kind::Conditional => false,
+    }
+}
+
+pub(crate) fn writes(kind: Kind) -> bool
+    ensures { result ≡ spec.writes kind }
+{
+    match kind {
+        Kind::Store | Kind::Conditional | Kind::Amo => true,
+        Kind::Load | Kind::Reserve => false,
+    }
+}
+
+pub(crate) fn is_same(a: &Operation, b: &Operation) -> bool
+    ensures { result ≡ spec.same a.now b.now }
+{
+    a.hart == b.hart && a.place == b.place
+}
+
+pub(crate) fn precedes(a: &Operation, b: &Operation) -> bool
+    ensures { result ≡ spec.precedes a.now b.now }
+{
+    a.hart == b.hart && a.place < b.place
+}
+
+/// The address behind the last byte.
+pub(crate) fn end_of(a: &Operation) -> u64
+    ensures { result ≡ a.now.address + a.now.size }
+{
+    u64::from(a.address) + u64::from(a.size)
+}
+
+pub(crate) fn overlap(a: &Operation, b: &Operation) -> bool
+    ensures { result ≡ spec.overlap a.now b.now }
+{
+    u64::from(a.address) < end_of(b) && u64::from(b.address) < end_of(a)
+}
+
+pub(crate) fn touches(x: u64, a: &Operation) -> bool
+    ensures { result ≡ spec.touches x a.now }
+{
+    u64::from(a.address) <= x && x < end_of(a)
+}
+
+pub(crate) fn stores_to(x: u64, a: &Operation) -> bool
+    ensures { result ≡ spec.stores_to x a.now }
+{
+    writes(a.kind) && touches(x, a)
+}
+
+// One byte of a word, the lowest first; 0 behind its last.
+fn byte_of(word: u32, index: u64) -> u32
+    ensures { result ≡ word / 256 ^ index % 256 }
+{
+    match index {
+        0 => word % 256,
+        1 => word / 256 % 256,
+        2 => word / 65_536 % 256,
+        3 => word / 16_777_216,
+        _ => 0,
+    }
+}
+
+pub(crate) fn read_at(a: &Operation, x: u64) -> u32
+    ensures { result ≡ spec.read_at a.now x }
+{
+    byte_of(a.read, x.saturating_sub(u64::from(a.address)))
+}
+
+pub(crate) fn written_at(a: &Operation, x: u64) -> u32
+    ensures { result ≡ spec.written_at a.now x }
+{
+    byte_of(a.written, x.saturating_sub(u64::from(a.address)))
+}
+
+// The image's byte; 0 outside memory.
+pub(crate) fn image_byte(image: &Image, x: u64) -> u32
+    ensures { result ≡ images.byte_at image.now x }
+{
+    let index = x.saturating_sub(u64::from(BASE)) as usize;
+    match image.bytes().get(index) {
+        Some(byte) => u32::from(*byte),
+        None => 0,
+    }
+}
+
+pub(crate) fn has_acquire(model: Model, a: &Operation) -> bool
+    ensures { result ≡ spec.has_acquire model a.now }
+{
+    match model {
+        Model::Rvwmo => a.aq,
+        Model::Ztso => a.aq || reads(a.kind),
+    }
+}
+
+pub(crate) fn has_release(model: Model, a: &Operation) -> bool
+    ensures { result ≡ spec.has_release model a.now }
+{
+    match model {
+        Model::Rvwmo => a.rl,
+        Model::Ztso => a.rl || writes(a.kind),
+    }
+}
+
+pub(crate) fn has_rcsc(model: Model, a: &Operation) -> bool
+    ensures { result ≡ spec.has_rcsc model a.now }
+{
+    match model {
+        Model::Rvwmo => a.aq || a.rl,
+        Model::Ztso => a.aq || a.rl || is_amo(a.kind),
+    }
+}
+
+pub(crate) fn is_amo(kind: Kind) -> bool
+    ensures { result ≡ spec.is_amo kind }
+{
+    match kind {
+        Kind::Amo => true,
+        Kind::Load | Kind::Store | Kind::Reserve | Kind::Conditional => false,
+    }
+}
+
+pub(crate) fn is_reserve(kind: Kind) -> bool
+    ensures { result ≡ spec.is_reserve kind }
+{
+    match kind {
+        Kind::Reserve => true,
+        Kind::Load | Kind::Store | Kind::Conditional | Kind::Amo => false,
+    }
+}
+
+pub(crate) fn is_conditional(kind: Kind) -> bool
+    ensures { result ≡ spec.is_conditional kind }
+{
+    match kind {
+        Kind::Conditional => true,
+        Kind::Load | Kind::Store | Kind::Reserve | Kind::Amo => false,
+    }
+}

@@ -1,0 +1,83 @@
+//! The checker: a trace and an order in, a verdict out.
+ghost use Rattle.std.specs.Prelude.{◌≡◌, ◌↔◌, IfOk, IsErrOf, map};
+ghost use Rattle.memory_model.specs.Traces as traces;
+ghost use Rattle.memory_model.specs.Traces.{IsLegalOrder};
+ghost use Rattle.rvwmo_order.specs.Answers.{IsSound, refusal, refusal_of};
+ghost use Rattle.rvwmo_order.specs.Limits.{IsWithinLimits};
+ghost use Rattle.rvwmo_order.specs.Scans.{judged};
+
+use crate::error::CheckError;
+use crate::items::{Item, items_of};
+use crate::judging::judge;
+use crate::limits::MAX_OPERATIONS;
+use crate::orders::{is_order, names_in, operations_at};
+use crate::runs::are_runs;
+use crate::verdict::Verdict;
+use hart::Hart;
+use memory_model::Model;
+use std::alloc::{AllocError, Global};
+use trace_recorder::{OpId, Trace};
+
+/// Whether an order of the operations of a trace is legal under RVWMO.
+pub fn check(alloc: Global, trace: &Trace, order: &[OpId]) -> Result<Verdict, CheckError>
+    requires { IsWithinLimits trace.now.history }
+    ensures refused { ¬ IsErrOf result CheckError.NoMemory → refusal_of result ≡ refusal trace.now.history order.now }
+    ensures legal { IfOk result (λ v. (v ≡ Verdict.Legal) ↔ IsLegalOrder Model.Rvwmo trace.now.history order.now) }
+    ensures sound { IfOk result (λ v. IsSound Model.Rvwmo trace.now.history order.now v) }
+{
+    check_model(alloc, trace, order, Model::Rvwmo)
+}
+
+/// Whether an order of the operations of a trace is legal under a memory model.
+pub fn check_model(
+    alloc: Global,
+    trace: &Trace,
+    order: &[OpId],
+    model: Model,
+) -> Result<Verdict, CheckError>
+    requires { IsWithinLimits trace.now.history }
+    ensures refused { ¬ IsErrOf result CheckError.NoMemory → refusal_of result ≡ refusal trace.now.history order.now }
+    ensures legal { IfOk result (λ v. (v ≡ Verdict.Legal) ↔ IsLegalOrder model trace.now.history order.now) }
+    ensures sound { IfOk result (λ v. IsSound model trace.now.history order.now v) }
+{
+    if !are_runs(trace) {
+        return Err(CheckError::NotARun);
+    }
+    let names = names_in(alloc, trace)?;
+    if names.len() > MAX_OPERATIONS {
+        return Err(CheckError::TooLong);
+    }
+    if !is_order(&names, order) {
+        return Err(CheckError::NotAnOrder);
+    }
+    Ok(verdict_on(alloc, trace, order, model)?)
+}
+
+// The verdict on an order of the operations.
+fn verdict_on(
+    alloc: Global,
+    trace: &Trace,
+    order: &[OpId],
+    model: Model,
+) -> Result<Verdict, AllocError>
+    requires { IsWithinLimits trace.now.history }
+    ensures { IfOk result (λ v. v ≡ judged model (traces.image_of trace.now.history) (traces.instructions trace.now.history) (traces.operations_at (traces.instructions trace.now.history) order.now)) }
+{
+    let harts = instructions(alloc, trace)?;
+    let operations = operations_at(alloc, &harts, order)?;
+    Ok(judge(model, trace.image(), &harts, &operations))
+}
+
+// Each hart's instructions.
+fn instructions(alloc: Global, trace: &Trace) -> Result<Vec<Vec<Item>>, AllocError>
+    requires { IsWithinLimits trace.now.history }
+    ensures { IfOk result (λ harts. map (λ v. v.items) harts.items ≡ traces.instructions trace.now.history) }
+{
+    let count = trace.harts();
+    let mut harts = Vec::new(alloc);
+    for id in 0..count {
+        let reset = Hart::at_reset(id as u8, trace.image().entry(), count as u32);
+        harts.push(items_of(alloc, &reset, trace.entries(id))?)?;
+    }
+    Ok(harts)
+}

@@ -1,0 +1,224 @@
+//! A hart's retired instructions with the operations that they gave (chapter 14.1, "Memory Model
+//! Primitives").
+ghost use Rattle.std.specs.Prelude.{◌≡◌, ◌≤◌, ◌*◌, ◌%◌, ◌^◌, IfOk, Some, length};
+ghost use Rattle.hart.specs.Run as run;
+ghost use Rattle.rv32_decode.specs.Rows.{decoded};
+ghost use Rattle.rv32_exec.specs.Arithmetic as arithmetic;
+ghost use Rattle.memory_model.specs.Items as spec;
+
+use crate::runs::{after, number_read};
+use amo_unit::combine;
+use hart::{Hart, Retired};
+use memory_model::{Kind, Operation};
+use rv32_decode::{Instr, LoadOp, StoreOp, decode};
+use std::alloc::{AllocError, Global};
+use std::marker::Model;
+
+/// An instruction of a hart's list: its place, what it is, and the operation that it gave.
+#[derive(Drop)]
+pub(crate) struct Item {
+    place: u32,
+    instr: Option<Instr>,
+    gave: Option<Operation>,
+}
+
+impl Model for Item {
+    ghost use Rattle.memory_model.specs.Items as spec;
+
+    ghost Value = { spec.Item };
+
+    ghost view = { λ m. record { place = m.place; instr = m.instr; gave = m.gave } };
+}
+
+impl Item {
+    pub(crate) fn place(&self) -> u32
+        ensures { result ≡ self.now.place }
+    {
+        self.place
+    }
+
+    pub(crate) fn instr(&self) -> Option<Instr>
+        ensures { result ≡ self.now.instr }
+    {
+        self.instr
+    }
+
+    pub(crate) fn gave(&self) -> Option<Operation>
+        ensures { result ≡ self.now.gave }
+    {
+        self.gave
+    }
+
+    /// The item of a retired instruction, its hart standing before it.
+    fn new(place: u32, hart: &Hart, entry: &Retired) -> Item
+        ensures { result ≡ spec.item_of place hart.now entry.now }
+    {
+        let instr = decode(entry.word);
+        let gave = match &instr {
+            Some(instr) => operation_of(place, hart, entry, instr),
+            None => None,
+        };
+        Item { place, instr, gave }
+    }
+}
+
+/// The items of a hart's list of at most 2^32 retired instructions.
+pub(crate) fn items_of(
+    alloc: Global,
+    reset: &Hart,
+    entries: &[Retired],
+) -> Result<Vec<Item>, AllocError>
+    requires { length entries.now ≤ 2 ^ 32 }
+    ensures { IfOk result (λ items. items.items ≡ spec.items_from 0 reset.now entries.now) }
+{
+    let mut hart = *reset;
+    let mut items = Vec::new(alloc);
+    for (place, entry) in entries.iter().enumerate() {
+        items.push(Item::new(place as u32, &hart, entry))?;
+        hart = after(&hart, entry);
+    }
+    Ok(items)
+}
+
+/// Whether an instruction with this SC answer gives an operation.
+pub(crate) fn is_giving(entry: &Retired) -> bool
+    ensures { result ≡ spec.gives_one entry.now }
+{
+    match decode(entry.word) {
+        Some(instr) => match instr {
+            Instr::Load { .. } | Instr::Store { .. } | Instr::Lr { .. } | Instr::Amo { .. } => true,
+            Instr::Sc { .. } => entry.sc_ok.unwrap_or(false),
+            Instr::Upper { .. }
+            | Instr::Jal { .. }
+            | Instr::Jalr { .. }
+            | Instr::Branch { .. }
+            | Instr::Immediate { .. }
+            | Instr::Shift { .. }
+            | Instr::Register { .. }
+            | Instr::Fence(_)
+            | Instr::FenceTso
+            | Instr::System(_) => false,
+        },
+        None => false,
+    }
+}
+
+// The operation that an instruction gave at this place of its hart's list.
+fn operation_of(place: u32, hart: &Hart, entry: &Retired, instr: &Instr) -> Option<Operation>
+    ensures { result ≡ spec.gives place hart.now entry.now (Some instr.now) }
+{
+    let operation = Operation {
+        hart: hart.id,
+        place,
+        kind: Kind::Load,
+        address: 0,
+        size: 4,
+        read: 0,
+        written: 0,
+        aq: false,
+        rl: false,
+    };
+    match *instr {
+        Instr::Load {
+            op,
+            rs1,
+            offset,
+            ..
+        } => Some(Operation {
+            address: hart.regs.get(rs1).wrapping_add(offset.value()),
+            size: bytes_loaded(op),
+            read: number_read(entry),
+            ..operation
+        }),
+        Instr::Store {
+            op,
+            rs1,
+            rs2,
+            offset,
+        } => Some(Operation {
+            kind: Kind::Store,
+            address: hart.regs.get(rs1).wrapping_add(offset.value()),
+            size: bytes_stored(op),
+            written: stored(op, hart.regs.get(rs2)),
+            ..operation
+        }),
+        Instr::Lr { rs1, bits, .. } => Some(Operation {
+            kind: Kind::Reserve,
+            address: hart.regs.get(rs1),
+            read: number_read(entry),
+            aq: bits.acquire,
+            rl: bits.release,
+            ..operation
+        }),
+        Instr::Sc { rs1, rs2, bits, .. } => {
+            if entry.sc_ok.unwrap_or(false) {
+                Some(Operation {
+                    kind: Kind::Conditional,
+                    address: hart.regs.get(rs1),
+                    written: hart.regs.get(rs2),
+                    aq: bits.acquire,
+                    rl: bits.release,
+                    ..operation
+                })
+            } else {
+                None
+            }
+        }
+        Instr::Amo {
+            op,
+            rs1,
+            rs2,
+            bits,
+            ..
+        } => Some(Operation {
+            kind: Kind::Amo,
+            address: hart.regs.get(rs1),
+            read: number_read(entry),
+            written: combine(op, number_read(entry), hart.regs.get(rs2)),
+            aq: bits.acquire,
+            rl: bits.release,
+            ..operation
+        }),
+        Instr::Upper { .. }
+        | Instr::Jal { .. }
+        | Instr::Jalr { .. }
+        | Instr::Branch { .. }
+        | Instr::Immediate { .. }
+        | Instr::Shift { .. }
+        | Instr::Register { .. }
+        | Instr::Fence(_)
+        | Instr::FenceTso
+        | Instr::System(_) => None,
+    }
+}
+
+fn bytes_loaded(op: LoadOp) -> u32
+    ensures { result ≡ arithmetic.bytes_loaded op }
+{
+    match op {
+        LoadOp::Lb | LoadOp::Lbu => 1,
+        LoadOp::Lh | LoadOp::Lhu => 2,
+        LoadOp::Lw => 4,
+    }
+}
+
+fn bytes_stored(op: StoreOp) -> u32
+    ensures { result ≡ arithmetic.bytes_stored op }
+{
+    match op {
+        StoreOp::Sb => 1,
+        StoreOp::Sh => 2,
+        StoreOp::Sw => 4,
+    }
+}
+
+// What a store writes of its register.
+fn stored(op: StoreOp, register: u32) -> u32
+    ensures { result ≡ register % 2 ^ (8 * arithmetic.bytes_stored op) }
+{
+    match op {
+        StoreOp::Sb => register % 0x100,
+        StoreOp::Sh => register % 0x1_0000,
+        StoreOp::Sw => register,
+    }
+}

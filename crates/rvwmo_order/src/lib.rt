@@ -1,0 +1,27 @@
+//! The checker: whether an order of the memory operations of a run is one that RVWMO or Ztso allows
+//! (RISC-V Unprivileged ISA 20191213, chapters 14 and 23).
+#![tactic(auto)]
+
+mod accesses;
+mod checking;
+mod completing;
+mod dependencies;
+mod error;
+mod items;
+mod judging;
+mod limits;
+mod orders;
+mod rules;
+mod runs;
+mod sources;
+mod verdict;
+
+pub use checking::{check, check_model};
+pub use completing::completed;
+pub use error::CheckError;
+pub use limits::{MAX_OPERATIONS, is_within_limits};
+pub use memory_model::Model;
+pub use verdict::{Code, Rule, Verdict};
+
+#[cfg(test)]
+mod tests;

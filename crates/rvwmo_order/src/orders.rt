@@ -1,0 +1,107 @@
+//! The names of a trace's operations, and lists of them.
+ghost use Rattle.std.specs.Prelude.{◌≡◌, ◌≤◌, ◌^◌, ◌&&◌, ◌++◌, IfOk, OnOk, length, map};
+ghost use Rattle.std.specs.List.{list_all};
+ghost use Rattle.memory_model.specs.Traces as spec;
+ghost use Rattle.rvwmo_order.specs.Limits.{IsWithinLimits};
+
+use crate::items::{Item, is_giving};
+use hart::Retired;
+use memory_model::Operation;
+use std::alloc::{AllocError, Global};
+use trace_recorder::{OpId, Trace};
+
+fn is_named(a: OpId, b: OpId) -> bool
+    ensures { result ≡ spec.is_named a b }
+{
+    a.hart == b.hart && a.place == b.place
+}
+
+/// Whether a name is one of the list.
+pub(crate) fn is_among(names: &[OpId], name: OpId) -> bool
+    ensures { result ≡ spec.is_among names.now name }
+{
+    names.iter().any(|other| is_named(name, *other))
+}
+
+/// The names of a trace's operations, by hart and then by place.
+pub(crate) fn names_in(alloc: Global, trace: &Trace) -> Result<Vec<OpId>, AllocError>
+    requires { IsWithinLimits trace.now.history }
+    ensures { IfOk result (λ names. names.items ≡ spec.names_in trace.now.history) }
+{
+    let mut names = Vec::new(alloc);
+    for hart in 0..trace.harts() {
+        push_names(&mut names, hart as u8, trace.entries(hart))?;
+    }
+    Ok(names)
+}
+
+// The names of a hart's operations, behind those that are there.
+fn push_names(names: &mut Vec<OpId>, hart: u8, entries: &[Retired]) -> Result<(), AllocError>
+    requires { length entries.now ≤ 2 ^ 32 }
+    ensures { OnOk result (names.new.items ≡ names.old.items ++ spec.names_from hart 0 entries.now) }
+{
+    for (place, entry) in entries.iter().enumerate() {
+        if is_giving(entry) {
+            names.push(OpId {
+                hart,
+                place: place as u32,
+            })?;
+        }
+    }
+    Ok(())
+}
+
+/// Whether a list has each of these names exactly once, and no other.
+pub(crate) fn is_order(names: &[OpId], order: &[OpId]) -> bool
+    ensures { result
+        ≡ (list_all (spec.is_among names.now) order.now
+        && spec.is_distinct order.now
+        && list_all (spec.is_among order.now) names.now) }
+{
+    are_all_among(names, order) && is_distinct(order) && are_all_among(order, names)
+}
+
+fn are_all_among(names: &[OpId], list: &[OpId]) -> bool
+    ensures { result ≡ list_all (spec.is_among names.now) list.now }
+{
+    list.iter().all(|name| is_among(names, *name))
+}
+
+fn is_distinct(order: &[OpId]) -> bool
+    ensures { result ≡ spec.is_distinct order.now }
+{
+    let mut rest = order;
+    while let [name, tail @ ..] = rest {
+        if is_among(tail, *name) {
+            return false;
+        }
+        rest = tail;
+    }
+    true
+}
+
+/// The operations of an order's names, in its order.
+pub(crate) fn operations_at(
+    alloc: Global,
+    harts: &[Vec<Item>],
+    order: &[OpId],
+) -> Result<Vec<Operation>, AllocError>
+    ensures { IfOk result (λ operations. operations.items ≡ spec.operations_at (map (λ v. v.items) harts.now) order.now) }
+{
+    let mut operations = Vec::new(alloc);
+    for name in order {
+        if let Some(operation) = operation_at(harts, *name) {
+            operations.push(operation)?;
+        }
+    }
+    Ok(operations)
+}
+
+fn operation_at(harts: &[Vec<Item>], name: OpId) -> Option<Operation>
+    ensures { result ≡ spec.operation_at (map (λ v. v.items) harts.now) name }
+{
+    harts
+        .get(usize::from(name.hart))?
+        .get(name.place as usize)?
+        .gave()
+}

@@ -1,0 +1,216 @@
+//! The thirteen rules of preserved program order (chapter 14.1, "Preserved Program Order"), each a test of
+//! two operations of one hart, `a` before `b` in program order. `items` is the list of their hart.
+ghost use Rattle.std.specs.Prelude.{◌≡◌, ◌&&◌, Some};
+ghost use Rattle.std.specs.List.{list_any};
+ghost use Rattle.memory_model.specs.Rules as spec;
+ghost use Rattle.memory_model.specs.Dependencies.{between};
+ghost use Rattle.memory_model.specs.Operations.{bytes_of};
+ghost use Rattle.rvwmo_order.specs.Scans as scans;
+ghost use Rattle.rvwmo_order.specs.Codes.{rule_of};
+
+use crate::accesses::{
+    end_of, has_acquire, has_rcsc, has_release, is_amo, is_conditional, is_reserve, overlap,
+    precedes, reads, stores_to, touches, writes,
+};
+use crate::dependencies::{
+    has_address_dependency, has_addressed_between, has_control_dependency, has_data_dependency,
+    is_between,
+};
+use crate::items::Item;
+use crate::sources::{is_same_source, returns_from, source};
+use crate::verdict::Rule;
+use bitflags::Flags;
+use memory_model::{Kind, Model, Operation};
+use rv32_decode::{FenceSet, Instr};
+
+/// Whether the rule holds of two operations, of which the first precedes the second in program order.
+pub(crate) fn asks(
+    rule: Rule,
+    model: Model,
+    items: &[Item],
+    order: &[Operation],
+    a: &Operation,
+    b: &Operation,
+) -> bool
+    ensures { result ≡ (rule_of rule).asks model items.now order.now a.now b.now }
+{
+    match rule {
+        Rule::OverlappingStore => writes(b.kind) && overlap(a, b),
+        Rule::SameByteLoads => are_same_byte_loads(items, order, a, b),
+        Rule::AtomicSource => {
+            (is_amo(a.kind) || is_conditional(a.kind)) && reads(b.kind) && returns_from(order, b, a)
+        }
+        Rule::Fence => is_fenced(items, a, b),
+        Rule::Acquire => has_acquire(model, a),
+        Rule::Release => has_release(model, b),
+        Rule::Annotations => has_rcsc(model, a) && has_rcsc(model, b),
+        Rule::Pair => are_paired(items, a, b),
+        Rule::Address => has_address_dependency(items, a, b),
+        Rule::Data => has_data_dependency(items, a, b),
+        Rule::Control => writes(b.kind) && has_control_dependency(items, a, b),
+        Rule::DependentStore => returns_from_dependent(items, order, a, b),
+        Rule::DependentAddress => writes(b.kind) && has_addressed_between(items, a, b),
+    }
+}
+
+// Rule 2: both are loads and return a byte of both from different writes, with no store to it between.
+fn are_same_byte_loads(items: &[Item], order: &[Operation], a: &Operation, b: &Operation) -> bool
+    ensures { result ≡ spec.rule_2 Model.Rvwmo items.now order.now a.now b.now }
+{
+    reads(a.kind) && reads(b.kind) && return_differently(items, order, a, b)
+}
+
+fn return_differently(items: &[Item], order: &[Operation], a: &Operation, b: &Operation) -> bool
+    ensures { result ≡ list_any (λ x. scans.returns_differently x items.now order.now a.now b.now) (bytes_of a.now) }
+{
+    (u64::from(a.address)..end_of(a)).any(|x| returns_differently(x, items, order, a, b))
+}
+
+fn returns_differently(
+    x: u64,
+    items: &[Item],
+    order: &[Operation],
+    a: &Operation,
+    b: &Operation,
+) -> bool
+    ensures { result ≡ scans.returns_differently x items.now order.now a.now b.now }
+{
+    touches(x, b)
+        && !has_store_between(items, a, b, x)
+        && !is_same_source(source(order, a, x), source(order, b, x))
+}
+
+// Whether a store to `x` stands between them in program order.
+fn has_store_between(items: &[Item], a: &Operation, b: &Operation, x: u64) -> bool
+    ensures { result ≡ list_any (λ m. spec.gave_store_to x m.gave) (between items.now a.now b.now) }
+{
+    items
+        .iter()
+        .filter(|item| is_between(item, a, b))
+        .any(|item| gave_store_to(x, item.gave()))
+}
+
+fn gave_store_to(x: u64, gave: Option<Operation>) -> bool
+    ensures { result ≡ spec.gave_store_to x gave }
+{
+    match gave {
+        Some(store) => stores_to(x, &store),
+        None => false,
+    }
+}
+
+// Rule 4: a FENCE between them orders them.
+fn is_fenced(items: &[Item], a: &Operation, b: &Operation) -> bool
+    ensures { result ≡ list_any (λ m. spec.fences m.instr a.now.kind b.now.kind) (between items.now a.now b.now) }
+{
+    items
+        .iter()
+        .filter(|item| is_between(item, a, b))
+        .any(|item| fences(item.instr(), a.kind, b.kind))
+}
+
+// A load is in a set by its bit R, which is 2, a store by its bit W, which is 1, an AMO by either.
+fn is_in_set(set: FenceSet, kind: Kind) -> bool
+    ensures { result ≡ spec.is_in_set set.0 kind }
+{
+    (reads(kind) && set.bits() / 2 % 2 == 1) || (writes(kind) && set.bits() % 2 == 1)
+}
+
+// Whether an instruction orders an operation of the first kind before one of the second.
+fn fences(instr: Option<Instr>, a: Kind, b: Kind) -> bool
+    ensures { result ≡ spec.fences instr a b }
+{
+    match instr {
+        Some(instr) => is_fencing(&instr, a, b),
+        None => false,
+    }
+}
+
+fn is_fencing(instr: &Instr, a: Kind, b: Kind) -> bool
+    ensures { result ≡ spec.fences (Some instr.now) a b }
+{
+    match instr {
+        Instr::Fence(sets) => is_in_set(sets.before(), a) && is_in_set(sets.after(), b),
+        Instr::FenceTso => reads(a) || (writes(a) && writes(b)),
+        Instr::Branch { .. }
+        | Instr::Jalr { .. }
+        | Instr::Load { .. }
+        | Instr::Store { .. }
+        | Instr::Lr { .. }
+        | Instr::Sc { .. }
+        | Instr::Amo { .. }
+        | Instr::Upper { .. }
+        | Instr::Jal { .. }
+        | Instr::Immediate { .. }
+        | Instr::Shift { .. }
+        | Instr::Register { .. }
+        | Instr::System(_) => false,
+    }
+}
+
+/// Rule 8: `a` is an LR and `b` the SC that it is paired with.
+pub(crate) fn are_paired(items: &[Item], a: &Operation, b: &Operation) -> bool
+    ensures { result ≡ spec.paired items.now a.now b.now }
+{
+    precedes(a, b)
+        && is_reserve(a.kind)
+        && is_conditional(b.kind)
+        && !has_lr_or_sc_between(items, a, b)
+}
+
+fn has_lr_or_sc_between(items: &[Item], a: &Operation, b: &Operation) -> bool
+    ensures { result ≡ list_any (λ m. spec.is_lr_or_sc m.instr) (between items.now a.now b.now) }
+{
+    items
+        .iter()
+        .filter(|item| is_between(item, a, b))
+        .any(|item| is_lr_or_sc(item.instr()))
+}
+
+fn is_lr_or_sc(instr: Option<Instr>) -> bool
+    ensures { result ≡ spec.is_lr_or_sc instr }
+{
+    matches!(instr, Some(Instr::Lr { .. } | Instr::Sc { .. }))
+}
+
+// Rule 12: a store between them depends on `a`, and the load `b` returns a value that it wrote.
+fn returns_from_dependent(items: &[Item], order: &[Operation], a: &Operation, b: &Operation) -> bool
+    ensures { result ≡ spec.rule_12 Model.Rvwmo items.now order.now a.now b.now }
+{
+    reads(b.kind) && returns_from_between(items, order, a, b)
+}
+
+fn returns_from_between(items: &[Item], order: &[Operation], a: &Operation, b: &Operation) -> bool
+    ensures { result
+        ≡ list_any (λ m. spec.is_dependent_store items.now a.now m.gave && spec.returns_from_given order.now b.now m.gave) (between items.now a.now b.now) }
+{
+    items
+        .iter()
+        .filter(|item| is_between(item, a, b))
+        .any(|item| is_returned(items, order, a, b, item.gave()))
+}
+
+// Whether it is a store whose address or number depends on `a`, and `b` returns a value that it wrote.
+fn is_returned(
+    items: &[Item],
+    order: &[Operation],
+    a: &Operation,
+    b: &Operation,
+    gave: Option<Operation>,
+) -> bool
+    ensures { result
+        ≡ (spec.is_dependent_store items.now a.now gave && spec.returns_from_given order.now b.now gave) }
+{
+    match gave {
+        Some(store) => is_dependent_store(items, a, &store) && returns_from(order, b, &store),
+        None => false,
+    }
+}
+
+// Whether it is a store whose address or number depends on `a`.
+fn is_dependent_store(items: &[Item], a: &Operation, store: &Operation) -> bool
+    ensures { result ≡ spec.is_dependent_store items.now a.now (Some store.now) }
+{
+    writes(store.kind)
+        && (has_address_dependency(items, a, store) || has_data_dependency(items, a, store))
+}

@@ -1,0 +1,248 @@
+//! Whether lists of retired instructions are runs: each hart's own meaning of its instructions, whatever
+//! the other harts do (chapters 2, 7 and 8).
+ghost use Rattle.std.specs.Prelude.{◌≡◌, ◌^◌, ◌&&◌, ℕ, IsTrue, List, Some};
+ghost use Rattle.elf_loader.specs.Image.{HasWord};
+ghost use Rattle.elf_loader.specs.Size.{IsMemorySize};
+ghost use Rattle.hart.specs.Run as spec;
+ghost use Rattle.rv32_decode.specs.Rows.{decoded};
+ghost use Rattle.rv32_exec.specs.Arithmetic as arithmetic;
+ghost use Rattle.rv32_exec.specs.Meaning as meaning;
+ghost use Rattle.memory_model.specs.Traces.{are_runs as spec_are_runs};
+ghost use Rattle.rvwmo_order.specs.Limits.{IsWithinLimits};
+
+use elf_loader::Image;
+use hart::{Hart, Retired, Status};
+use rv32_decode::{Instr, LoadOp, Register, SystemOp, decode};
+use rv32_exec::{Plan, Regs, finish, plan, stop};
+use trace_recorder::Trace;
+
+/// The number and the argument of an ECALL.
+const CALL_NUMBER: u8 = 17;
+
+const CALL_ARGUMENT: u8 = 10;
+
+/// Whether each hart's list and status are those of a run.
+pub(crate) fn are_runs(trace: &Trace) -> bool
+    requires { IsWithinLimits trace.now.history }
+    ensures { result ≡ spec_are_runs trace.now.history }
+{
+    let harts = trace.harts();
+    for id in 0..harts {
+        let reset = Hart::at_reset(id as u8, trace.image().entry(), harts as u32);
+        if !is_run(
+            trace.image(),
+            &reset,
+            trace.entries(id),
+            trace.statuses()[id],
+        ) {
+            return false;
+        }
+    }
+    true
+}
+
+// Whether a hart's entries and status are those of a run from where it stands.
+fn is_run(image: &Image, reset: &Hart, entries: &[Retired], status: Status) -> bool
+    ensures { result
+        ≡ (spec.are_steps image.now reset.now entries.now
+        && spec.status_fits image.now (spec.reached reset.now entries.now) status) }
+{
+    let mut hart = *reset;
+    let mut rest = entries;
+    while let [entry, tail @ ..] = rest {
+        if !is_step(image, &hart, entry) {
+            return false;
+        }
+        hart = after(&hart, entry);
+        rest = tail;
+    }
+    status_fits(image, &hart, status)
+}
+
+// Whether a hart can retire this entry.
+fn is_step(image: &Image, hart: &Hart, entry: &Retired) -> bool
+    ensures { result ≡ spec.is_step image.now hart.now entry.now }
+{
+    hart.status.is_running()
+        && entry.pc == hart.pc
+        && can_fetch(image, hart.pc)
+        && entry.word == image.word(hart.pc)
+        && does(image.size(), hart, entry)
+}
+
+fn can_fetch(image: &Image, pc: u32) -> bool
+    ensures exact { result ≡ spec.can_fetch image.now pc }
+    ensures word { IsTrue result → HasWord image.now pc }
+{
+    image.has_word(pc)
+}
+
+// Whether the entry's instruction doesn't stop, and has the answers that its kind has.
+fn does(size: u32, hart: &Hart, entry: &Retired) -> bool
+    requires { IsMemorySize size }
+    ensures { result ≡ spec.does size hart.now entry.now (decoded entry.now.word) }
+{
+    match decode(entry.word) {
+        Some(instr) => stop_of(size, hart, &instr).is_none() && has_answers(&instr, entry),
+        None => false,
+    }
+}
+
+// The code that the instruction stops with at this hart.
+fn stop_of(size: u32, hart: &Hart, instr: &Instr) -> Option<u8>
+    requires { IsMemorySize size }
+    ensures { result ≡ meaning.stop_of instr.now hart.now.pc hart.now.regs size }
+{
+    match plan(instr, hart.pc, &hart.regs, size) {
+        Plan::Stop(code) => Some(code),
+        Plan::Local
+        | Plan::Load { .. }
+        | Plan::Store { .. }
+        | Plan::Lr { .. }
+        | Plan::Sc { .. }
+        | Plan::Amo { .. }
+        | Plan::Fence
+        | Plan::Call => None,
+    }
+}
+
+// A loaded number is there exactly for a load, an LR and an AMO, and fits it; an SC's answer exactly for
+// an SC.
+fn has_answers(instr: &Instr, entry: &Retired) -> bool
+    ensures { (regs : List ℕ) → result ≡ spec.has_answers (meaning.access_of instr.now regs) entry.now }
+{
+    match *instr {
+        Instr::Load { op, .. } => fits(op, entry.loaded) && entry.sc_ok.is_none(),
+        Instr::Lr { .. } | Instr::Amo { .. } => {
+            fits(LoadOp::Lw, entry.loaded) && entry.sc_ok.is_none()
+        }
+        Instr::Sc { .. } => entry.loaded.is_none() && entry.sc_ok.is_some(),
+        Instr::Store { .. }
+        | Instr::Upper { .. }
+        | Instr::Jal { .. }
+        | Instr::Jalr { .. }
+        | Instr::Branch { .. }
+        | Instr::Immediate { .. }
+        | Instr::Shift { .. }
+        | Instr::Register { .. }
+        | Instr::Fence(_)
+        | Instr::FenceTso
+        | Instr::System(_) => entry.loaded.is_none() && entry.sc_ok.is_none(),
+    }
+}
+
+// Whether a number is there and fits in what the load reads.
+fn fits(op: LoadOp, loaded: Option<u32>) -> bool
+    ensures { result ≡ spec.is_below (256 ^ arithmetic.bytes_loaded op) loaded }
+{
+    match loaded {
+        Some(number) => match op {
+            LoadOp::Lb | LoadOp::Lbu => number < 0x100,
+            LoadOp::Lh | LoadOp::Lhu => number < 0x1_0000,
+            LoadOp::Lw => true,
+        },
+        None => false,
+    }
+}
+
+/// The number that an entry's instruction read; for an SC 0 where it succeeded, else 1.
+pub(crate) fn number_read(entry: &Retired) -> u32
+    ensures { result ≡ spec.number_read entry.now }
+{
+    match entry.sc_ok {
+        Some(true) => 0,
+        Some(false) => 1,
+        None => entry.loaded.unwrap_or(0),
+    }
+}
+
+/// The hart after it retired an entry.
+pub(crate) fn after(hart: &Hart, entry: &Retired) -> Hart
+    ensures { result ≡ spec.after hart.now entry.now }
+{
+    match decode(entry.word) {
+        Some(instr) => moved(hart, entry, &instr),
+        None => *hart,
+    }
+}
+
+fn moved(hart: &Hart, entry: &Retired, instr: &Instr) -> Hart
+    ensures { result ≡ spec.after_instr hart.now entry.now (Some instr.now) }
+{
+    let mut next = *hart;
+    next.status = status_after(instr, &hart.regs);
+    next.pc = finish(instr, hart.pc, &mut next.regs, Some(number_read(entry)));
+    next
+}
+
+// An environment call of number 0 ends its hart.
+fn status_after(instr: &Instr, regs: &Regs) -> Status
+    ensures { result ≡ spec.status_after (meaning.access_of instr.now regs.now) }
+{
+    match *instr {
+        Instr::System(SystemOp::Ecall) => {
+            if regs.get(Register::new(CALL_NUMBER)) == 0 {
+                Status::Exited((regs.get(Register::new(CALL_ARGUMENT)) % 256) as u8)
+            } else {
+                Status::Running
+            }
+        }
+        Instr::System(SystemOp::Ebreak)
+        | Instr::Load { .. }
+        | Instr::Lr { .. }
+        | Instr::Amo { .. }
+        | Instr::Sc { .. }
+        | Instr::Store { .. }
+        | Instr::Upper { .. }
+        | Instr::Jal { .. }
+        | Instr::Jalr { .. }
+        | Instr::Branch { .. }
+        | Instr::Immediate { .. }
+        | Instr::Shift { .. }
+        | Instr::Register { .. }
+        | Instr::Fence(_)
+        | Instr::FenceTso => Status::Running,
+    }
+}
+
+// Whether a hart whose entries lead here may have this status.
+fn status_fits(image: &Image, hart: &Hart, status: Status) -> bool
+    ensures { result ≡ spec.status_fits image.now hart.now status }
+{
+    match status {
+        Status::Running => hart.status.is_running(),
+        Status::Stopped(code) => hart.status.is_running() && is_code(code, next_stop(image, hart)),
+        Status::Exited(code) => is_exit(code, hart.status),
+    }
+}
+
+fn is_code(code: u8, stop: Option<u8>) -> bool
+    ensures { result ≡ spec.is_code code stop }
+{
+    match stop {
+        Some(number) => number == code,
+        None => false,
+    }
+}
+
+fn is_exit(code: u8, status: Status) -> bool
+    ensures { result ≡ spec.is_exit code status }
+{
+    match status {
+        Status::Exited(number) => number == code,
+        Status::Running | Status::Stopped(_) => false,
+    }
+}
+
+// The code that the hart's next fetch or instruction stops with.
+fn next_stop(image: &Image, hart: &Hart) -> Option<u8>
+    ensures { result ≡ spec.next_stop image.now hart.now }
+{
+    if !can_fetch(image, hart.pc) {
+        return Some(stop::FETCH_OUTSIDE);
+    }
+    match decode(image.word(hart.pc)) {
+        Some(instr) => stop_of(image.size(), hart, &instr),
+        None => Some(stop::ILLEGAL),
+    }
+}

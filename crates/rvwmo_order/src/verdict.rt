@@ -1,0 +1,73 @@
+//! What the checker answers.
+ghost use Rattle.std.specs.Prelude.{◌≡◌};
+ghost use Rattle.rvwmo_order.specs.Codes.{number_of};
+
+use trace_recorder::OpId;
+
+/// The thirteen rules of preserved program order (chapter 14.1, "Preserved Program Order"), by which one
+/// operation must come before another of its hart.
+#[derive(Clone, Copy, Debug, PartialEq, Eq)]
+pub enum Rule {
+    OverlappingStore = 1,
+    SameByteLoads = 2,
+    AtomicSource = 3,
+    Fence = 4,
+    Acquire = 5,
+    Release = 6,
+    Annotations = 7,
+    Pair = 8,
+    Address = 9,
+    Data = 10,
+    Control = 11,
+    DependentStore = 12,
+    DependentAddress = 13,
+}
+
+/// All of them, in the order of their numbers.
+pub(crate) const RULES: [Rule; 13] = [
+    Rule::OverlappingStore,
+    Rule::SameByteLoads,
+    Rule::AtomicSource,
+    Rule::Fence,
+    Rule::Acquire,
+    Rule::Release,
+    Rule::Annotations,
+    Rule::Pair,
+    Rule::Address,
+    Rule::Data,
+    Rule::Control,
+    Rule::DependentStore,
+    Rule::DependentAddress,
+];
+
+/// What an order breaks: a rule of preserved program order, the load value axiom or the atomicity axiom
+/// (chapter 14.1, "Memory Model Axioms").
+#[derive(Clone, Copy, Debug, PartialEq, Eq)]
+pub enum Code {
+    Order(Rule),
+    LoadValue,
+    Atomicity,
+}
+
+impl Code {
+    /// A rule has its own number, 1 to 13; 14 is the load value axiom, 15 the atomicity axiom.
+    pub fn number(self) -> u8
+        ensures { result ≡ number_of self }
+    {
+        match self {
+            Code::Order(rule) => rule as u8,
+            Code::LoadValue => 14,
+            Code::Atomicity => 15,
+        }
+    }
+}
+
+/// Whether an order is legal, or else the least code that it breaks and two operations that break it: of
+/// all such pairs the one whose second stands first in the order, and of those the one whose first does.
+#[derive(Clone, Copy, Debug, PartialEq, Eq)]
+pub enum Verdict {
+    Legal,
+    /// The first operation must come before the second and doesn't; or both are the load whose value is
+    /// wrong; or they are an LR and its SC between which another hart's store stands.
+    Fault(Code, OpId, OpId),
+}
