@@ -1,4 +1,5 @@
 pub mod Bytes
+pub mod Counts
 pub mod Faults
 pub mod Fetches
 pub mod Harts

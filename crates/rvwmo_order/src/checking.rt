@@ -9,8 +9,7 @@ ghost use Rattle.rvwmo_order.specs.Scans.{judged};
 use crate::error::CheckError;
 use crate::items::{Item, items_of};
 use crate::judging::judge;
-use crate::limits::MAX_OPERATIONS;
-use crate::orders::{is_order, names_in, operations_at};
+use crate::orders::{has_too_many, is_order, names_in, operations_at};
 use crate::runs::are_runs;
 use crate::verdict::Verdict;
 use hart::Hart;
@@ -43,10 +42,10 @@ pub fn check_model(
     if !are_runs(trace) {
         return Err(CheckError::NotARun);
     }
-    let names = names_in(alloc, trace)?;
-    if names.len() > MAX_OPERATIONS {
+    if has_too_many(trace) {
         return Err(CheckError::TooLong);
     }
+    let names = names_in(alloc, trace)?;
     if !is_order(&names, order) {
         return Err(CheckError::NotAnOrder);
     }

@@ -1,6 +1,6 @@
 //! A hart's retired instructions with the operations that they gave (chapter 14.1, "Memory Model
 //! Primitives").
-ghost use Rattle.std.specs.Prelude.{◌≡◌, ◌≤◌, ◌*◌, ◌%◌, ◌^◌, IfOk, Some, length};
+ghost use Rattle.std.specs.Prelude.{◌≡◌, ◌≤◌, ◌*◌, ◌%◌, ◌^◌, IfOk, Some, false, length};
 ghost use Rattle.hart.specs.Run as run;
 ghost use Rattle.rv32_decode.specs.Rows.{decoded};
 ghost use Rattle.rv32_exec.specs.Arithmetic as arithmetic;
@@ -10,7 +10,7 @@ use crate::runs::{after, number_read};
 use amo_unit::combine;
 use hart::{Hart, Retired};
 use memory_model::{Kind, Operation};
-use rv32_decode::{Instr, LoadOp, StoreOp, decode};
+use rv32_decode::{Annotations, Instr, LoadOp, StoreOp, decode};
 use std::alloc::{AllocError, Global};
 use std::marker::Model;
 
@@ -107,62 +107,43 @@ pub(crate) fn is_giving(entry: &Retired) -> bool
 fn operation_of(place: u32, hart: &Hart, entry: &Retired, instr: &Instr) -> Option<Operation>
     ensures { result ≡ spec.gives place hart.now entry.now (Some instr.now) }
 {
-    let operation = Operation {
-        hart: hart.id,
-        place,
-        kind: Kind::Load,
-        address: 0,
-        size: 4,
-        read: 0,
-        written: 0,
-        aq: false,
-        rl: false,
-    };
     match *instr {
         Instr::Load {
             op,
             rs1,
             offset,
             ..
-        } => Some(Operation {
-            address: hart.regs.get(rs1).wrapping_add(offset.value()),
-            size: bytes_loaded(op),
-            read: number_read(entry),
-            ..operation
-        }),
+        } => {
+            let address = hart.regs.get(rs1).wrapping_add(offset.value());
+            Some(load(place, hart.id, entry, op, address))
+        }
         Instr::Store {
             op,
             rs1,
             rs2,
             offset,
-        } => Some(Operation {
-            kind: Kind::Store,
-            address: hart.regs.get(rs1).wrapping_add(offset.value()),
-            size: bytes_stored(op),
-            written: stored(op, hart.regs.get(rs2)),
-            ..operation
-        }),
-        Instr::Lr { rs1, bits, .. } => Some(Operation {
-            kind: Kind::Reserve,
-            address: hart.regs.get(rs1),
-            read: number_read(entry),
-            aq: bits.acquire,
-            rl: bits.release,
-            ..operation
-        }),
+        } => {
+            let address = hart.regs.get(rs1).wrapping_add(offset.value());
+            Some(store(place, hart.id, op, address, hart.regs.get(rs2)))
+        }
+        Instr::Lr { rs1, bits, .. } => {
+            let read = number_read(entry);
+            Some(atomic(
+                place,
+                hart.id,
+                bits,
+                Kind::Reserve,
+                hart.regs.get(rs1),
+                read,
+                0,
+            ))
+        }
         Instr::Sc { rs1, rs2, bits, .. } => {
-            if entry.sc_ok.unwrap_or(false) {
-                Some(Operation {
-                    kind: Kind::Conditional,
-                    address: hart.regs.get(rs1),
-                    written: hart.regs.get(rs2),
-                    aq: bits.acquire,
-                    rl: bits.release,
-                    ..operation
-                })
-            } else {
-                None
+            if !entry.sc_ok.unwrap_or(false) {
+                return None;
             }
+            let (address, written) = (hart.regs.get(rs1), hart.regs.get(rs2));
+            Some(atomic(place, hart.id, bits, Kind::Conditional, address, 0, written))
         }
         Instr::Amo {
             op,
@@ -170,15 +151,19 @@ fn operation_of(place: u32, hart: &Hart, entry: &Retired, instr: &Instr) -> Opti
             rs2,
             bits,
             ..
-        } => Some(Operation {
-            kind: Kind::Amo,
-            address: hart.regs.get(rs1),
-            read: number_read(entry),
-            written: combine(op, number_read(entry), hart.regs.get(rs2)),
-            aq: bits.acquire,
-            rl: bits.release,
-            ..operation
-        }),
+        } => {
+            let read = number_read(entry);
+            let written = combine(op, read, hart.regs.get(rs2));
+            Some(atomic(
+                place,
+                hart.id,
+                bits,
+                Kind::Amo,
+                hart.regs.get(rs1),
+                read,
+                written,
+            ))
+        }
         Instr::Upper { .. }
         | Instr::Jal { .. }
         | Instr::Jalr { .. }
@@ -189,6 +174,64 @@ fn operation_of(place: u32, hart: &Hart, entry: &Retired, instr: &Instr) -> Opti
         | Instr::Fence(_)
         | Instr::FenceTso
         | Instr::System(_) => None,
+    }
+}
+
+fn load(place: u32, hart: u8, entry: &Retired, op: LoadOp, address: u32) -> Operation
+    ensures { result ≡ record { hart = hart; place = place; kind = Kind.Load; address = address; size = arithmetic.bytes_loaded op; read = run.number_read entry.now; written = 0; aq = false; rl = false } }
+{
+    Operation {
+        hart,
+        place,
+        kind: Kind::Load,
+        address,
+        size: bytes_loaded(op),
+        read: number_read(entry),
+        written: 0,
+        aq: false,
+        rl: false,
+    }
+}
+
+// The register is cut to what is stored.
+fn store(place: u32, hart: u8, op: StoreOp, address: u32, register: u32) -> Operation
+    ensures { result ≡ record { hart = hart; place = place; kind = Kind.Store; address = address; size = arithmetic.bytes_stored op; read = 0; written = register % 2 ^ (8 * arithmetic.bytes_stored op); aq = false; rl = false } }
+{
+    Operation {
+        hart,
+        place,
+        kind: Kind::Store,
+        address,
+        size: bytes_stored(op),
+        read: 0,
+        written: stored(op, register),
+        aq: false,
+        rl: false,
+    }
+}
+
+// An LR, an SC that succeeded or an AMO.
+fn atomic(
+    place: u32,
+    hart: u8,
+    bits: Annotations,
+    kind: Kind,
+    address: u32,
+    read: u32,
+    written: u32,
+) -> Operation
+    ensures { result ≡ record { hart = hart; place = place; kind = kind; address = address; size = 4; read = read; written = written; aq = bits.acquire; rl = bits.release } }
+{
+    Operation {
+        hart,
+        place,
+        kind,
+        address,
+        size: 4,
+        read,
+        written,
+        aq: bits.acquire,
+        rl: bits.release,
     }
 }
 

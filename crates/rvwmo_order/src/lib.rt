@@ -21,6 +21,7 @@ pub use completing::completed;
 pub use error::CheckError;
 pub use limits::{MAX_OPERATIONS, is_within_limits};
 pub use memory_model::Model;
+pub use orders::has_too_many;
 pub use verdict::{Code, Rule, Verdict};
 
 #[cfg(test)]

@@ -1,10 +1,12 @@
 //! The names of a trace's operations, and lists of them.
-ghost use Rattle.std.specs.Prelude.{◌≡◌, ◌≤◌, ◌^◌, ◌&&◌, ◌++◌, IfOk, OnOk, length, map};
+ghost use Rattle.std.specs.Prelude.{◌≡◌, ◌≤◌, ◌^◌, ◌&&◌, ◌++◌, IfOk, OnOk, filter, length, map, nat_lt};
 ghost use Rattle.std.specs.List.{list_all};
+ghost use Rattle.memory_model.specs.Items as items;
 ghost use Rattle.memory_model.specs.Traces as spec;
 ghost use Rattle.rvwmo_order.specs.Limits.{IsWithinLimits};
 
 use crate::items::{Item, is_giving};
+use crate::limits::MAX_OPERATIONS;
 use hart::Retired;
 use memory_model::Operation;
 use std::alloc::{AllocError, Global};
@@ -49,6 +51,34 @@ fn push_names(names: &mut Vec<OpId>, hart: u8, entries: &[Retired]) -> Result<()
         }
     }
     Ok(())
+}
+
+/// Whether a trace has more operations than are judged, 4,096.
+pub fn has_too_many(trace: &Trace) -> bool
+    requires { IsWithinLimits trace.now.history }
+    ensures { result ≡ nat_lt 4096 (length (spec.names_in trace.now.history)) }
+{
+    let mut count = 0;
+    for hart in 0..trace.harts() {
+        count += count_of(trace.entries(hart));
+        if count > MAX_OPERATIONS {
+            return true;
+        }
+    }
+    false
+}
+
+// How many operations a hart's list has.
+fn count_of(entries: &[Retired]) -> usize
+    ensures { result ≡ length (filter items.gives_one entries.now) }
+{
+    let mut count = 0;
+    for entry in entries {
+        if is_giving(entry) {
+            count += 1;
+        }
+    }
+    count
 }
 
 /// Whether a list has each of these names exactly once, and no other.

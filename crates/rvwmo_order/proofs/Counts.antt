@@ -1,0 +1,41 @@
+-- How many operations a trace has, hart by hart.
+use Rattle.std.proofs.Common.{◌≡◌, ◌+◌, ◌<◌, ◌≤◌, ℕ, suc, Bool, true, false, List, [], ◌∷◌, length, drop, get_or, refl, cond, sym, ap, ◌∙◌, count_by, filter, arith}
+use Rattle.std.proofs.lemmas.Bool.{lt-ltb, le-ltb}
+use Rattle.std.proofs.lemmas.List.{at_drop_more, length-append}
+use Rattle.std.proofs.lemmas.List.Sums.{count_by-le-length, length-filter}
+use Rattle.std.proofs.lemmas.List.Elements.{All-get_or}
+use Rattle.std.specs.Prelude.{nat_lt}
+use Rattle.hart.specs.declared.retired.Retired.{Retired}
+use Rattle.trace_recorder.specs.declared.operation.OpId.{OpId}
+use Rattle.trace_recorder.specs.History.{History}
+use Rattle.memory_model.specs.Items.{gives_one}
+use Rattle.memory_model.specs.Traces.{names_from, names_of_harts}
+use Rattle.rvwmo_order.specs.Limits.{IsWithinLimits}
+
+named_as_given : (id place : ℕ) (es : List Retired) → length (names_from id place es) ≡ length (filter gives_one es)
+named_as_given id place [] = refl
+named_as_given id place (entry ∷ rest) = go (gives_one entry) (named_as_given id (place + 1) rest)
+  where
+    go : (b : Bool) → length (names_from id (place + 1) rest) ≡ length (filter gives_one rest)
+        → length (cond b (record { hart = id; place = place } ∷ names_from id (place + 1) rest) (names_from id (place + 1) rest)) ≡ length (cond b (entry ∷ filter gives_one rest) (filter gives_one rest))
+    go true ih = ap suc ih
+    go false ih = ih
+
+-- the operations from a hart on are its own and those of the harts behind it
+pub hart_counted : (id : ℕ) (es : List (List Retired)) → id < length es
+    → length (names_of_harts id (drop id es)) ≡ length (filter gives_one (get_or es id [])) + length (names_of_harts (id + 1) (drop (id + 1) es))
+hart_counted id es h =
+    ap length (at_drop_more (names_of_harts id) es id [] h)
+    ∙ (length-append (names_from id 0 (get_or es id [])) (names_of_harts (id + 1) (drop (id + 1) es))
+    ∙ ap (λ (n : ℕ). n + length (names_of_harts (id + 1) (drop (id + 1) es))) (named_as_given id 0 (get_or es id [])))
+
+pub few_given : (t : History) (id : ℕ) → id < length t.entries → IsWithinLimits t → length (filter gives_one (get_or t.entries id [])) ≤ 1000000
+few_given t id h limits =
+    let a = count_by-le-length gives_one (get_or t.entries id []) in
+    let e = length-filter gives_one (get_or t.entries id []) in
+    let b : length (get_or t.entries id []) ≤ 1000000 = All-get_or (λ es. length es ≤ 1000000) t.entries id [] h limits.places in
+    omega arith
+
+-- more than 4,096 up to a hart are more than 4,096 altogether
+pub too_many : (count more rest all : ℕ) → count + (more + rest) ≡ all → 4096 < count + more → true ≡ nat_lt 4096 all
+too_many count more rest all e l = sym (lt-ltb 4096 all (omega arith))
