@@ -34,6 +34,16 @@ fn instructions_are_printed_as_the_assembler_spells_them(rt: HostRuntime) -> Res
         (0x8330_000f, "fence.tso"),
         (0x18a5_a62f, "sc.w a2, a0, (a1)"),
         (0x0000_0073, "ecall"),
+        (0x0010_0073, "ebreak"),
+        (0x0000_1617, "auipc a2, 0x1"),
+        (0xfc5f_f06f, "jal zero, -60"),
+        (0x0085_00e7, "jalr ra, 8(a0)"),
+        (0x000f_0463, "beq t5, zero, 8"),
+        (0x4054_de13, "srai t3, s1, 5"),
+        (0x41c3_8eb3, "sub t4, t2, t3"),
+        (0x0ff0_000f, "fence iorw, iorw"),
+        (0x1405_a52f, "lr.w.aq a0, (a1)"),
+        (0x06c5_a52f, "amoadd.w.aqrl a0, a2, (a1)"),
     ];
     for (word, text) in words {
         let instr = decode(word).ok_or(text)?;
