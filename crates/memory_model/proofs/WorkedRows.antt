@@ -49,6 +49,7 @@ row_8 : Row8
 row_8 = record {
   order = refl;
   legal = record { run = refl; whole = refl; legal = refl; no_fault = refl };
+  second_byte_wrong = record { run = refl; whole = refl; illegal = refl; fault = refl };
 }
 
 row_9 : Row9

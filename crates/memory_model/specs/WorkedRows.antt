@@ -95,15 +95,16 @@ pub record Row7 : Type 0 where
 
 -- ---- row 8: a load of a word of which one byte waits in the buffer
 
-abbrev pub mixed_bytes : History
-mixed_bytes =
+abbrev pub mixed_bytes : ℕ → History
+mixed_bytes value =
     trace (with_word 0x80000100 0x44332211 (image_with (0x80000637 ∷ 0x05500693 ∷ 0x10d600a3 ∷ 0x10062703 ∷ [])))
-    ((did 0x80000000 0x80000637 ∷ did 0x80000004 0x05500693 ∷ did 0x80000008 0x10d600a3 ∷ loaded 0x8000000c 0x10062703 0x44335511 ∷ []) ∷ [])
+    ((did 0x80000000 0x80000637 ∷ did 0x80000004 0x05500693 ∷ did 0x80000008 0x10d600a3 ∷ loaded 0x8000000c 0x10062703 value ∷ []) ∷ [])
     (op 0 3 ∷ [])
 
 pub record Row8 : Type 0 where
-  pub order : completed mixed_bytes ≡ op 0 3 ∷ op 0 2 ∷ []
-  pub legal : Passes Rvwmo mixed_bytes (completed mixed_bytes)
+  pub order : completed (mixed_bytes 0x44335511) ≡ op 0 3 ∷ op 0 2 ∷ []
+  pub legal : Passes Rvwmo (mixed_bytes 0x44335511) (completed (mixed_bytes 0x44335511))
+  pub second_byte_wrong : Fails Rvwmo (mixed_bytes 0x44332211) (completed (mixed_bytes 0x44332211)) 14 (op 0 3) (op 0 3)
 
 -- ---- rows 9 and 37: an AMO of another hart between an LR and its SC
 
