@@ -144,8 +144,10 @@ impl PlainMachine {
     fn bytes_at<const N: usize>(&self, line: u32) -> [u8; N] {
         let mut bytes = [0; N];
         let start = line.saturating_sub(BASE) as usize;
-        for (byte, kept) in bytes.iter_mut().zip(self.memory.iter().skip(start)) {
-            *byte = *kept;
+        if let Some(rest) = self.memory.get(start..) {
+            for (byte, kept) in bytes.iter_mut().zip(rest) {
+                *byte = *kept;
+            }
         }
         bytes
     }
@@ -156,8 +158,10 @@ impl PlainMachine {
             return;
         };
         let start = line.saturating_sub(BASE) as usize;
-        for (kept, byte) in self.memory.iter_mut().skip(start).zip(data.as_slice()) {
-            *kept = *byte;
+        if let Some(rest) = self.memory.as_mut_slice().get_mut(start..) {
+            for (kept, byte) in rest.iter_mut().zip(data.as_slice()) {
+                *kept = *byte;
+            }
         }
     }
 
