@@ -1,0 +1,19 @@
+//! What every event means, as a plain and slow program over lists, to compare machines with. Each function
+//! is named as the definition of the event meaning that it follows, and shares nothing with the parts that
+//! a machine is built of: only instructions, images, messages and traces are theirs too.
+#![tactic(auto)]
+
+mod buffer;
+mod cache;
+mod changing;
+mod deciding;
+mod deliveries;
+mod events;
+mod notes;
+mod queues;
+mod state;
+mod steps;
+mod words;
+
+pub use events::Refusal;
+pub use state::PlainMachine;

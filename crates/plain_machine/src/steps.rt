@@ -1,0 +1,277 @@
+//! What a hart's next instruction comes to: each check in its order, and then the act.
+
+use crate::deciding::{Act, Deed, Plan, reading, writing};
+use crate::state::Node;
+use crate::words::{
+    covers, laid_over, line_of, marks_of_access, read_from, store_of, word_in, word_of,
+};
+use amo_unit::combine;
+use bitflags::Flags;
+use elf_loader::Image;
+use hart::{Hart, Retired, Status};
+use machine_model::{Model, Outcome};
+use rv32_decode::{AmoOp, FenceSet, Instr, Register, SystemOp, decode};
+use rv32_exec::{Plan as Access, Regs, Width, finish, plan};
+
+/// An instruction that a hart is about to retire.
+#[derive(Clone, Copy, Debug)]
+pub(crate) struct Fetched {
+    word: u32,
+    instr: Instr,
+    /// How many instructions stand before it in the hart's list.
+    place: u32,
+}
+
+fn retires(
+    node: &Node,
+    fetched: &Fetched,
+    loaded: Option<u32>,
+    sc_ok: Option<bool>,
+    deed: Deed,
+) -> Plan {
+    Plan::Changes(Act::Retire {
+        entry: Retired {
+            pc: node.hart.pc,
+            word: fetched.word,
+            loaded,
+            sc_ok,
+        },
+        instr: fetched.instr,
+        deed,
+    })
+}
+
+/// A byte that waits in the buffer wins over the copy's; where all wait there, no copy is needed.
+fn plan_load(node: &Node, fetched: &Fetched, address: u32, size: Width) -> Plan {
+    let word = word_of(address);
+    let (marks, waiting) = node.buffer.forwarded(word);
+    let bytes = if covers(marks, marks_of_access(address % 4, size)) {
+        waiting
+    } else {
+        match reading(&node.cache, line_of(node.cache.size, address)) {
+            Ok(line) => laid_over(marks, waiting, word_in(&line, word)),
+            Err(miss) => return miss,
+        }
+    };
+    let loaded = read_from(bytes, address, size);
+    retires(node, fetched, Some(loaded), None, Deed::Load)
+}
+
+fn plan_store(node: &Node, fetched: &Fetched, address: u32, size: Width, value: u32) -> Plan {
+    if node.buffer.fits(word_of(address)) {
+        let store = store_of(address, size, value, fetched.place);
+        retires(node, fetched, None, None, Deed::Store(store))
+    } else {
+        Plan::Stays(Outcome::BufferFull)
+    }
+}
+
+/// The instruction's bit rl.
+fn has_release(instr: &Instr) -> bool {
+    match instr {
+        Instr::Lr { bits, .. } | Instr::Sc { bits, .. } | Instr::Amo { bits, .. } => bits.release,
+        _ => false,
+    }
+}
+
+/// A release bit waits for all stores, and each access for those to its own word.
+fn waits_for_stores(node: &Node, instr: &Instr, word: u32) -> bool {
+    (has_release(instr) && !node.buffer.is_empty()) || node.buffer.has(word)
+}
+
+/// A write that is performed at once passes no sealed group, and under Ztso no store.
+fn write_waits(model: Model, node: &Node, instr: &Instr, word: u32) -> bool {
+    match model {
+        Model::Rvwmo => waits_for_stores(node, instr, word) || node.buffer.has_sealed(),
+        Model::Ztso => !node.buffer.is_empty(),
+    }
+}
+
+fn plan_reserve(node: &Node, fetched: &Fetched, address: u32) -> Plan {
+    if waits_for_stores(node, &fetched.instr, address) {
+        return Plan::Stays(Outcome::MustDrain);
+    }
+    match writing(&node.cache, line_of(node.cache.size, address)) {
+        Ok(line) => {
+            let old = read_from(word_in(&line, address), address, Width::Word);
+            retires(node, fetched, Some(old), None, Deed::Reserve(address))
+        }
+        Err(miss) => miss,
+    }
+}
+
+/// Without its reservation a store conditional fails at once.
+fn plan_conditional(
+    model: Model,
+    node: &Node,
+    fetched: &Fetched,
+    address: u32,
+    value: u32,
+) -> Plan {
+    if node.reserved != Some(address) {
+        return retires(node, fetched, None, Some(false), Deed::Fail);
+    }
+    if write_waits(model, node, &fetched.instr, address) {
+        return Plan::Stays(Outcome::MustDrain);
+    }
+    let deed = Deed::Conditional {
+        word: address,
+        value,
+    };
+    retires(node, fetched, None, Some(true), deed)
+}
+
+fn plan_amo(
+    model: Model,
+    node: &Node,
+    fetched: &Fetched,
+    address: u32,
+    op: AmoOp,
+    operand: u32,
+) -> Plan {
+    if write_waits(model, node, &fetched.instr, address) {
+        return Plan::Stays(Outcome::MustDrain);
+    }
+    match writing(&node.cache, line_of(node.cache.size, address)) {
+        Ok(line) => {
+            let old = read_from(word_in(&line, address), address, Width::Word);
+            let deed = Deed::Update {
+                word: address,
+                value: combine(op, old, operand),
+            };
+            retires(node, fetched, Some(old), None, deed)
+        }
+        Err(miss) => miss,
+    }
+}
+
+/// Whether a fence orders stores before loads, and whether it orders stores before stores.
+fn orders_after_stores(instr: &Instr) -> (bool, bool) {
+    match instr {
+        Instr::Fence(sets) => {
+            let writes_before = sets.before().contains(FenceSet::W);
+            (
+                writes_before && sets.after().contains(FenceSet::R),
+                writes_before && sets.after().contains(FenceSet::W),
+            )
+        }
+        Instr::FenceTso => (false, true),
+        _ => (false, false),
+    }
+}
+
+/// One that orders stores before loads waits until no store waits; one that orders stores before stores
+/// closes the open group.
+fn plan_fence(node: &Node, fetched: &Fetched) -> Plan {
+    let (before_loads, before_stores) = orders_after_stores(&fetched.instr);
+    if before_loads && !node.buffer.is_empty() {
+        return Plan::Stays(Outcome::MustDrain);
+    }
+    let deed = if before_stores {
+        Deed::Seal
+    } else {
+        Deed::Alone
+    };
+    retires(node, fetched, None, None, deed)
+}
+
+/// The number of an environment call, and its argument.
+fn call_of(regs: &Regs) -> (u32, u32) {
+    (regs.get(Register::new(17)), regs.get(Register::new(10)))
+}
+
+/// 0 ends the hart, 1 puts a number out.
+fn plan_call(node: &Node, fetched: &Fetched) -> Plan {
+    let (number, argument) = call_of(&node.hart.regs);
+    let deed = if number == 0 {
+        Deed::Alone
+    } else {
+        Deed::Output(argument)
+    };
+    retires(node, fetched, None, None, deed)
+}
+
+/// The hart has to run; then come the stops.
+pub(crate) fn plan_step(model: Model, image: &Image, node: &Node) -> Plan {
+    let hart = &node.hart;
+    if !hart.status.is_running() {
+        return Plan::Stays(Outcome::Halted);
+    }
+    if !image.has_word(hart.pc) {
+        return Plan::Changes(Act::Stop(1));
+    }
+    let word = image.word(hart.pc);
+    let Some(instr) = decode(word) else {
+        return Plan::Changes(Act::Stop(2));
+    };
+    let fetched = Fetched {
+        word,
+        instr,
+        place: node.place(),
+    };
+    let access = plan(&instr, hart.pc, &hart.regs, image.size());
+    plan_access(model, node, &fetched, access)
+}
+
+fn plan_access(model: Model, node: &Node, fetched: &Fetched, access: Access) -> Plan {
+    match access {
+        Access::Local => retires(node, fetched, None, None, Deed::Alone),
+        Access::Load { addr, size } => plan_load(node, fetched, addr, size),
+        Access::Store { addr, size, value } => plan_store(node, fetched, addr, size, value),
+        Access::Lr { addr } => plan_reserve(node, fetched, addr),
+        Access::Sc { addr, value } => plan_conditional(model, node, fetched, addr, value),
+        Access::Amo { addr, op, operand } => plan_amo(model, node, fetched, addr, op, operand),
+        Access::Fence => plan_fence(node, fetched),
+        Access::Call => plan_call(node, fetched),
+        Access::Stop(code) => Plan::Changes(Act::Stop(code)),
+    }
+}
+
+/// The number that an entry's instruction read: for a store conditional 0 where it succeeded and 1 where it
+/// failed.
+fn number_read(entry: &Retired) -> Option<u32> {
+    match entry.sc_ok {
+        None => entry.loaded,
+        Some(ok) => Some(u32::from(!ok)),
+    }
+}
+
+/// A hart runs on, but after an environment call of number 0, which ends it with its argument modulo 256.
+fn status_after(instr: &Instr, regs: &Regs) -> Status {
+    match (instr, call_of(regs)) {
+        (Instr::System(SystemOp::Ecall), (0, argument)) => Status::Exited((argument % 256) as u8),
+        _ => Status::Running,
+    }
+}
+
+/// The hart after it retired an entry.
+pub(crate) fn after_instr(hart: &Hart, entry: &Retired, instr: &Instr) -> Hart {
+    let mut regs = hart.regs;
+    let pc = finish(instr, hart.pc, &mut regs, number_read(entry));
+    Hart {
+        id: hart.id,
+        pc,
+        regs,
+        status: status_after(instr, &hart.regs),
+    }
+}
+
+/// The next entry of a running hart and the hart behind it, where it is of a private instruction that
+/// doesn't stop.
+pub(crate) fn next_alone(image: &Image, hart: &Hart) -> Option<(Retired, Hart)> {
+    if !hart.status.is_running() || !image.has_word(hart.pc) {
+        return None;
+    }
+    let word = image.word(hart.pc);
+    let instr = decode(word)?;
+    if plan(&instr, hart.pc, &hart.regs, image.size()) != Access::Local {
+        return None;
+    }
+    let entry = Retired {
+        pc: hart.pc,
+        word,
+        loaded: None,
+        sc_ok: None,
+    };
+    Some((entry, after_instr(hart, &entry, &instr)))
+}
