@@ -4,10 +4,12 @@
 mod act;
 mod config;
 mod event;
+mod laws;
 mod outcome;
 
 pub use act::{Act, Deed, Plan};
 pub use config::Config;
 pub use event::Event;
+pub use laws::one_writer_always;
 pub use memory_model::Model;
 pub use outcome::Outcome;
