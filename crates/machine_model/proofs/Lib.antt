@@ -3,3 +3,16 @@ pub mod Nodes
 pub mod Retiring
 pub mod Runs
 pub mod Batches
+pub mod LineStands
+pub mod LineKept
+pub mod LineViews
+pub mod LinePlaces
+pub mod LineHeads
+pub mod WorldKept
+pub mod WorldManager
+pub mod WorldFits
+pub mod WorldActs
+pub mod WorldDeliveries
+pub mod WorldSteps
+pub mod WorldEvents
+pub mod WorldOpening

@@ -1,4 +1,5 @@
 //! Laws of the event meaning, each the contract of a function that does nothing.
+ghost use Rattle.machine_model.specs.Writers.{OneWriterAlways};
 ghost use Rattle.machine_model.specs.Laws.{ImageAndConfigStay, LocalIsSteps, NothingIsRewritten, RunsAlways};
 
 /// An event only adds to the performed order, to the harts' lists and to the message log.
@@ -21,4 +22,10 @@ pub fn runs_always()
 /// the count of events, which grows by one.
 pub fn local_is_steps()
     ensures { LocalIsSteps }
+{}
+
+/// Where one cache may write a line, no other has a copy of it, whatever events come in whatever
+/// order.
+pub fn one_writer_always()
+    ensures { OneWriterAlways }
 {}

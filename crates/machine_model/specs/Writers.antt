@@ -1,0 +1,13 @@
+-- One writer or many readers of each line, in every state that a list of events leads to.
+use Rattle.std.specs.Prelude.{ℕ, ◌≡◌, ◌≢◌}
+use Rattle.machine_model.specs.Coherent.{perm_at}
+use Rattle.machine_model.specs.Laws.{Always}
+use Rattle.machine_model.specs.Views.{State}
+use Rattle.tl_types.specs.declared.permission.Perm.TheVariants.{Nothing, Trunk}
+
+-- where one cache may write a line, no other has it
+abbrev pub HasOneWriter : State → Type 0
+HasOneWriter s = (a b line : ℕ) → a ≢ b → perm_at s a line ≡ Trunk → perm_at s b line ≡ Nothing
+
+abbrev pub OneWriterAlways : Type 0
+OneWriterAlways = Always (λ config s. HasOneWriter s)
