@@ -1,3 +1,6 @@
 pub mod Growth
 pub mod Nodes
 pub mod Retiring
+pub mod OrderLists
+pub mod OrderRules
+pub mod OrderKept
