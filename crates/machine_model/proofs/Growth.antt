@@ -13,6 +13,7 @@ use Rattle.directory.specs.declared.answer.Grant.{Grant as Granting}
 use Rattle.directory.specs.declared.answer.Sent.{Sent}
 use Rattle.directory.specs.declared.answer.Sent.TheVariants.{Probes, Granting as Grants}
 use Rattle.hart.specs.declared.retired.Retired.{Retired}
+use Rattle.hart.specs.Local.{private_row}
 use Rattle.hart.specs.declared.status.Status.{Status}
 use Rattle.hart.specs.declared.status.Status.TheVariants.{Running, Stopped, Exited}
 use Rattle.machine_model.specs.declared.act.Act.{Act}
@@ -22,12 +23,12 @@ use Rattle.machine_model.specs.declared.act.Deed.TheVariants as deed
 use Rattle.machine_model.specs.declared.act.Plan.{Plan}
 use Rattle.machine_model.specs.declared.act.Plan.TheVariants as plan
 use Rattle.machine_model.specs.declared.event.Event.{Event}
-use Rattle.machine_model.specs.Changing.{acted, does, performs_own, place_at, performs, with_halt, with_entries, retired, stopped, missed, drains, drained, given_up, sent_if_evicted, went_alone}
+use Rattle.machine_model.specs.Changing.{acted, does, performs_own, place_at, performs, with_halt, with_entries, retired, stopped, missed, drained, given_up, sent_if_evicted, went_alone}
 use Rattle.machine_model.specs.Deliveries.{delivered, handled, taken, sent_probes, sent_grant, sent_any, sent_if_handled, sent_if_granted, sent_if_answered, with_memory, with_notes, with_less, on_probe_ack}
 use Rattle.machine_model.specs.Events.{Verdict, verdict_by, verdict, state_by, happens, is_good, is_limited, plan_of, hart_of}
-use Rattle.machine_model.specs.Laws.{Grows, Stays}
+use Rattle.machine_model.specs.Laws.{Grows, KeepsImageAndConfig}
 use Rattle.machine_model.specs.LawfulLog.{IsBeginningOf}
-use Rattle.machine_model.specs.Views.{State, line_size, place_of, node_at, with_node, sent}
+use Rattle.machine_model.specs.Views.{State, line_size, place_of, node_at, with_node, with_trace, sent}
 use Rattle.memory_model.specs.declared.Model.{Model}
 use Rattle.rv32_decode.specs.declared.instruction.Instr.{Instr}
 use Rattle.tl_types.specs.declared.line.LineData.{LineData}
@@ -63,13 +64,16 @@ grown_at (x ∷ l) (suc i) (suc j) more = grown_at l i j more
 
 pub record Follows (old new : State) : Type 0 where
   pub grows : Grows old.trace new.trace
-  pub stays : Stays old new
+  pub stays : KeepsImageAndConfig old new
 
 grows_not : (t : History) → Grows t t
 grows_not t = record { performed = begins t.performed; entries = λ h. begins (entries_of t h); log = begins t.log }
 
 pub still : (s t : State) → t.trace ≡ s.trace → t.views.config ≡ s.views.config → Follows s t
-still s t e c = record { grows = rw e (grows_not s.trace); stays = record { image = ap (λ (t : History). t.image) e; config = c } }
+still s t e c = record { grows = rw e (grows_not s.trace); stays = record { image = ap (λ (t : History). t.image) e; line = ap (λ (t : History). t.line) e; config = c } }
+
+pub follows_not : (s : State) → Follows s s
+follows_not s = still s s refl refl
 
 pub follows_then : (a b c : State) → Follows a b → Follows b c → Follows a c
 follows_then a b c f g = record {
@@ -78,16 +82,16 @@ follows_then a b c f g = record {
     entries = λ h. begins_then _ _ _ (f.grows.entries h) (g.grows.entries h);
     log = begins_then _ _ _ f.grows.log g.grows.log;
   };
-  stays = record { image = g.stays.image ∙ f.stays.image; config = g.stays.config ∙ f.stays.config };
+  stays = record { image = g.stays.image ∙ f.stays.image; line = g.stays.line ∙ f.stays.line; config = g.stays.config ∙ f.stays.config };
 }
 
 -- ---- messages
 
 sent_follows : (h : ℕ) (m : Msg) (s : State) → Follows s (sent h m s)
-sent_follows h m s = record { grows = record { performed = begins _; entries = λ k. begins _; log = begins_with s.trace.log _ }; stays = record { image = refl; config = refl } }
+sent_follows h m s = record { grows = record { performed = begins _; entries = λ k. begins _; log = begins_with s.trace.log _ }; stays = record { image = refl; line = refl; config = refl } }
 
 taken_follows : (h : ℕ) (m : Msg) (s : State) → Follows s (taken h m s)
-taken_follows h m s = record { grows = record { performed = begins _; entries = λ k. begins _; log = begins_with s.trace.log _ }; stays = record { image = refl; config = refl } }
+taken_follows h m s = record { grows = record { performed = begins _; entries = λ k. begins _; log = begins_with s.trace.log _ }; stays = record { image = refl; line = refl; config = refl } }
 
 abbrev probe_of : ℕ → Cap → Msg
 probe_of line cap = record { line = line; body = ProbeBlock cap }
@@ -149,7 +153,7 @@ handled_follows h line GrantAck s = still s _ refl refl
 
 performs_follows : (h : ℕ) (places : List ℕ) (s : State) → Follows s (performs h places s)
 performs_follows h [] s = still s s refl refl
-performs_follows h (place ∷ places) s = follows_then _ _ _ (record { grows = record { performed = begins_with s.trace.performed _; entries = λ k. begins _; log = begins _ }; stays = record { image = refl; config = refl } }) (performs_follows h places _)
+performs_follows h (place ∷ places) s = follows_then _ _ _ (record { grows = record { performed = begins_with s.trace.performed _; entries = λ k. begins _; log = begins _ }; stays = record { image = refl; line = refl; config = refl } }) (performs_follows h places _)
 
 own_follows : (h : ℕ) (s : State) → Follows s (performs_own h s)
 own_follows h s = performs_follows h (place_at s h ∷ []) s
@@ -176,16 +180,25 @@ image-with_halt h Running t = refl
 image-with_halt h (Stopped code) t = refl
 image-with_halt h (Exited code) t = refl
 
+line-with_halt : (h : ℕ) (status : Status) (t : History) → (with_halt h status t).line ≡ t.line
+line-with_halt h Running t = refl
+line-with_halt h (Stopped code) t = refl
+line-with_halt h (Exited code) t = refl
+
 entry_grows : (h : ℕ) (entry : Retired) (t : History) → Grows t (with_entry h entry t)
 entry_grows h entry t = record { performed = begins _; entries = λ k. grown_at t.entries h k (entry ∷ []); log = begins _ }
 
 retired_follows : (h : ℕ) (entry : Retired) (i : Instr) (s : State) → Follows s (retired h entry i s)
-retired_follows h entry i s = record { grows = halt_grows h _ s.trace (with_entry h entry s.trace) (entry_grows h entry s.trace); stays = record { image = image-with_halt h _ _; config = refl } }
+retired_follows h entry i s = record { grows = halt_grows h _ s.trace (with_entry h entry s.trace) (entry_grows h entry s.trace); stays = record { image = image-with_halt h _ _; line = line-with_halt h _ _; config = refl } }
+
+entries_follow : (h : ℕ) (entries : List Retired) (s : State) → Follows s (with_trace (with_entries h entries s.trace) s)
+entries_follow h [] s = still s s refl refl
+entries_follow h (entry ∷ rest) s = follows_then s (with_trace (with_entry h entry s.trace) s) _ (record { grows = entry_grows h entry s.trace; stays = record { image = refl; line = refl; config = refl } }) (entries_follow h rest (with_trace (with_entry h entry s.trace) s))
 
 -- ---- acts
 
 acted_follows : (h : ℕ) (a : Act) (s : State) → Follows s (acted h a s)
-acted_follows h (act.Stop code) s = record { grows = halt_grows h (Stopped code) s.trace s.trace (grows_not s.trace); stays = record { image = refl; config = refl } }
+acted_follows h (act.Stop code) s = record { grows = record { performed = begins _; entries = λ k. begins _; log = begins _ }; stays = record { image = refl; line = refl; config = refl } }
 acted_follows h (act.Retire entry i d) s = follows_then _ _ _ (does_follows _ h d s) (retired_follows h entry i _)
 acted_follows h (act.Miss line grow) s = follows_then _ _ _ (still s _ refl refl) (sent_follows h _ _)
 acted_follows h (act.Drain word) s = follows_then _ _ _ (performs_follows h (entry_of word (oldest (node_at s h).buffer)).ops s) (still _ _ refl refl)
@@ -194,7 +207,10 @@ acted_follows h (act.Evict line) s =
     let less = with_node h (with_less answer.1 line (node_at s h)) s in
     follows_then s less _ (still s _ refl refl) (if_evicted h line answer.0 less)
 acted_follows h (act.Deliver m) s = follows_then _ _ _ (taken_follows h m s) (handled_follows h m.line m.body _)
-acted_follows h (act.Local count) s = record { grows = record { performed = begins _; entries = λ k. grown_at s.trace.entries h k _; log = begins _ }; stays = record { image = refl; config = refl } }
+acted_follows h (act.Local count) s = follows_then s (with_trace (with_entries h row s.trace) s) _ (entries_follow h row s) (still _ _ refl refl)
+  where
+    row : List Retired
+    row = private_row s.trace.image (node_at s h).hart count
 
 -- ---- events
 

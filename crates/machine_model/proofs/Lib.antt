@@ -4,3 +4,4 @@ pub mod Retiring
 pub mod OrderLists
 pub mod OrderRules
 pub mod OrderKept
+pub mod Runs

@@ -162,7 +162,7 @@ by_stop model image n place None e r =
     let c = can_be (can_fetch image n.hart.pc) (stop_with (length image.bytes) n.hart (decoded (word_at image n.hart.pc))) e in
     by_instr model image n (word_at image n.hart.pc) place (decoded (word_at image n.hart.pc)) refl refl r c.0 c.1
 
-by_running : (model : Model) (image : Initial) (n : Node) (place : ℕ) (b : Bool) → is_running n.hart.status ≡ b → IsNext image n (cond b (plan_unless (next_stop image n.hart) (plan_instr model n (word_at image n.hart.pc) place (decoded (word_at image n.hart.pc)))) (Stays outcome.Halted))
+by_running : (model : Model) (image : Initial) (n : Node) (place : ℕ) (b : Bool) → is_running n.hart.status ≡ b → IsNext image n (cond (not b) (Stays outcome.Halted) (plan_unless (next_stop image n.hart) (plan_instr model n (word_at image n.hart.pc) place (decoded (word_at image n.hart.pc)))))
 by_running model image n place true e = by_stop model image n place (next_stop image n.hart) refl e
 by_running model image n place false e = tt
 

@@ -1,5 +1,5 @@
 //! Laws of the event meaning, each the contract of a function that does nothing.
-ghost use Rattle.machine_model.specs.Laws.{NothingIsRewritten, ImageAndConfigStay};
+ghost use Rattle.machine_model.specs.Laws.{ImageAndConfigStay, NothingIsRewritten, RunsAlways};
 
 /// An event only adds to the performed order, to the harts' lists and to the message log.
 pub fn nothing_is_rewritten()
@@ -9,4 +9,10 @@ pub fn nothing_is_rewritten()
 /// No event changes the image or the configuration.
 pub fn image_and_config_stay()
     ensures { ImageAndConfigStay }
+{}
+
+/// Whatever events come in whatever order, each hart's list is a run of the loaded image, with its
+/// status.
+pub fn runs_always()
+    ensures { RunsAlways }
 {}

@@ -10,6 +10,6 @@ mod outcome;
 pub use act::{Act, Deed, Plan};
 pub use config::Config;
 pub use event::Event;
-pub use laws::{image_and_config_stay, nothing_is_rewritten};
+pub use laws::{image_and_config_stay, nothing_is_rewritten, runs_always};
 pub use memory_model::Model;
 pub use outcome::Outcome;
