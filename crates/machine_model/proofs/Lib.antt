@@ -5,3 +5,7 @@ pub mod OrderLists
 pub mod OrderRules
 pub mod OrderKept
 pub mod Runs
+pub mod OrderSplit
+pub mod OrderDeeds
+pub mod OrderTraces
+pub mod OrderSteps

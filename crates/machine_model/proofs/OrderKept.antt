@@ -142,7 +142,7 @@ free_before h items m s (x ∷ g) at here a b c =
     let l = b.0.below a.0.own in
     ((fenced-back (items ++ m ∷ []) s x (omega (arith, l, here)), fenced-more items m x s (omega (arith, at, here)) ∙ fenced-late items x s a.0.plain c.0), free_before h items m s g at here a.1 b.1 c.1)
 
-get_left : (items : List Item) (m : Item) (k : ℕ) → k < length items → slice_get (items ++ m ∷ []) k ≡ slice_get items k
+pub get_left : (items : List Item) (m : Item) (k : ℕ) → k < length items → slice_get (items ++ m ∷ []) k ≡ slice_get items k
 get_left [] m k l = absurd (omega (arith, l))
 get_left (x ∷ items) m zero l = refl
 get_left (x ∷ items) m (suc k) l = get_left items m k (omega (arith, l))
