@@ -9,3 +9,5 @@ pub mod OrderSplit
 pub mod OrderDeeds
 pub mod OrderTraces
 pub mod OrderSteps
+pub mod OrderBuffers
+pub mod OrderMoves

@@ -145,7 +145,7 @@ split_item h items waiting performed m g k = record {
   distinct = subst IsDistinct (sym (ops_same items m g)) k.distinct;
 }
 
-turned : (xs ys : List Operation) → Each (λ a. Each (λ b. same a b ≡ false) ys) xs → Each (λ b. Each (λ a. same b a ≡ false) xs) ys
+pub turned : (xs ys : List Operation) → Each (λ a. Each (λ b. same a b ≡ false) ys) xs → Each (λ b. Each (λ a. same b a ≡ false) xs) ys
 turned [] ys h = Each-always (λ b. Each (λ a. same b a ≡ false) []) (λ b. tt) ys
 turned (x ∷ xs) ys h = Each-both (λ b. same b x ≡ false) (λ b. Each (λ a. same b a ≡ false) xs) ys (Each-weaker (λ b. same x b ≡ false) (λ b. same b x ≡ false) (λ b q. same-swap x b q) ys h.0) (turned xs ys h.1)
 

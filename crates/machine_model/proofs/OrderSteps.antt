@@ -1,8 +1,8 @@
 -- What each deed of a retiring instruction does to what is kept of its hart.
-use Rattle.std.proofs.Common.{◌≡◌, ℕ, zero, suc, ◌+◌, ◌-◌, ◌%◌, ◌<◌, ◌≤◌, List, [], ◌∷◌, ◌++◌, Bool, true, false, Option, Some, None, refl, cond, sym, ap, ◌∙◌, subst, not, ◌&&◌, ◌||◌, append-nil, arith, length, map}
+use Rattle.std.proofs.Common.{◌≡◌, ℕ, zero, suc, ◌+◌, ◌-◌, ◌%◌, ◌<◌, ◌≤◌, List, [], ◌∷◌, ◌++◌, Bool, true, false, Option, Some, None, refl, cond, sym, ap, ◌∙◌, subst, not, ◌&&◌, ◌||◌, append-nil, append_assoc, arith, length, map}
 use Rattle.std.specs.Prelude.{nat_eq, slice_get, option_and_then}
 use Rattle.std.specs.List.{AllByRecursion as Each, filter, list_any}
-use Rattle.std.proofs.lemmas.Bool.{false≢true, true≢false, and_left, and_right, and_parts, or_from, or_parts, eqb-false}
+use Rattle.std.proofs.lemmas.Bool.{false≢true, true≢false, and_left, and_right, and_parts, or_from, or_parts, eqb-false, eqb-true}
 use Rattle.std.proofs.lemmas.List.{map-append}
 use Rattle.hart.specs.declared.retired.Retired.{Retired}
 use Rattle.hart.specs.Run.{number_read}
@@ -185,10 +185,10 @@ passes_write Rvwmo h n items performed instr i word r f at e k =
     go (is_empty n.buffer) refl ((bits_of instr).release) refl s.1 t.0 t.1
   where
     go : (b : Bool) → is_empty n.buffer ≡ b → (c : Bool) → (bits_of instr).release ≡ c → has_sealed n.buffer ≡ false → ((bits_of instr).release && not (is_empty n.buffer)) ≡ false → has word n.buffer ≡ false → Passes Rvwmo items i (joined k.sealed ++ k.current)
-    go true q c g sealed released no = passes_nothing Rvwmo items i (joined k.sealed ++ k.current) (empty_waits n.buffer k.sealed k.current k.buffer_is q)
-    go false q true g sealed released no = absurd (true≢false (sym (rw (g, q) refl) ∙ released))
-    go false q false g sealed released no = record {
-      clear = none_waits h i word (joined k.sealed ++ k.current) f at k.kept.waiting (sym (has_is word n.buffer k.sealed k.current k.buffer_is) ∙ no);
+    go true q c g sealed released free = passes_nothing Rvwmo items i (joined k.sealed ++ k.current) (empty_waits n.buffer k.sealed k.current k.buffer_is q)
+    go false q true g sealed released free = absurd (true≢false (sym (rw (g, q) refl) ∙ released))
+    go false q false g sealed released free = record {
+      clear = none_waits h i word (joined k.sealed ++ k.current) f at k.kept.waiting (sym (has_is word n.buffer k.sealed k.current k.buffer_is) ∙ free);
       unsealed = λ t. subst (λ (gs : List (List Operation)). Each (λ a. late items kind.Store a ≡ false) (joined gs ++ k.current)) (sym (unsealed_is n.buffer k.sealed k.current k.buffer_is sealed)) k.kept.none_late;
       unreleased = Each-always (λ b. has_release Rvwmo i ≡ false) (λ b. r ∙ g) (joined k.sealed ++ k.current);
     }
@@ -262,12 +262,6 @@ keeps_seal model h n items performed m i new gave e k =
 
 -- ---- a store waits
 
-record Puts (model : Model) (h : ℕ) (items : List Item) (sealed : List (List Operation)) (current : List Operation) (buffer : Groups) (performed : List Operation) (s : Operation) : Type 0 where
-  behind : after_put (store_of_operation s) buffer ≡ entries_in (waiting_of sealed (current ++ s ∷ []))
-  kept : Kept model h items sealed current performed
-  split : Split h items (joined sealed ++ current) performed
-  fits : model ≡ Ztso → Each (λ a. word_of a.address ≡ word_of s.address) current
-
 keeps_put : (model : Model) (h : ℕ) (items : List Item) (sealed : List (List Operation)) (current : List Operation) (new_buffer : Groups) (performed : List Operation) (m : Item) (i : Instr) (s : Operation) → IsNew h items m i → NoFence i → m.gave ≡ Some s → IsWaiting h s → IsQuiet (items ++ m ∷ []) s → s.place ≡ length items
     → new_buffer ≡ entries_in (waiting_of sealed (current ++ s ∷ [])) → Kept model h items sealed current performed → Split h items (joined sealed ++ current) performed → (model ≡ Ztso → Each (λ a. word_of a.address ≡ word_of s.address) current) → HartKept model h (items ++ m ∷ []) new_buffer performed
 keeps_put model h items sealed current new_buffer performed m i s new plain gave own quiet here behind kept split fits =
@@ -276,17 +270,18 @@ keeps_put model h items sealed current new_buffer performed m i s new plain gave
       current = current ++ s ∷ [];
       buffer_is = behind;
       kept = store_keeps model h items sealed current performed m s new.place_is (no_fence_of h items m i new plain) own quiet here fits kept;
-      split = subst (λ v. Split h (items ++ m ∷ []) v performed) (Rattle.std.proofs.Common.append_assoc (joined sealed) current (s ∷ [])) (split_store h items (joined sealed ++ current) performed m s gave own.own here (Each-left (IsBelow h (length items)) performed (joined sealed ++ current) kept.places) split);
+      split = subst (λ v. Split h (items ++ m ∷ []) v performed) (append_assoc (joined sealed) current (s ∷ [])) (split_store h items (joined sealed ++ current) performed m s gave own.own here (Each-left (IsBelow h (length items)) performed (joined sealed ++ current) kept.places) split);
     }
 
 -- a group of one word that has a store to this word
 fits_group : (word : ℕ) (g : List Operation) → Each (λ a. Each (λ b. word_of b.address ≡ word_of a.address) g) g → list_any (of_word word) g ≡ true → Each (λ a. word_of a.address ≡ word) g
 fits_group word g one e = go g one e
   where
-    go : (xs : List Operation) → Each (λ a. Each (λ b. word_of b.address ≡ word_of a.address) g) xs → list_any (of_word word) xs ≡ true → Each (λ a. word_of a.address ≡ word) g
     at : (b : Bool) (x : Operation) (xs : List Operation) → of_word word x ≡ b → Each (λ b. word_of b.address ≡ word_of x.address) g → (list_any (of_word word) xs ≡ true → Each (λ a. word_of a.address ≡ word) g) → (b || list_any (of_word word) xs) ≡ true → Each (λ a. word_of a.address ≡ word) g
-    at true x xs f q ih e = Each-weaker (λ b. word_of b.address ≡ word_of x.address) (λ a. word_of a.address ≡ word) (λ b r. r ∙ Rattle.std.proofs.lemmas.Bool.eqb-true (word_of x.address) word f) g q
+    at true x xs f q ih e = Each-weaker (λ b. word_of b.address ≡ word_of x.address) (λ a. word_of a.address ≡ word) (λ b r. r ∙ eqb-true (word_of x.address) word f) g q
     at false x xs f q ih e = ih e
+
+    go : (xs : List Operation) → Each (λ a. Each (λ b. word_of b.address ≡ word_of a.address) g) xs → list_any (of_word word) xs ≡ true → Each (λ a. word_of a.address ≡ word) g
     go [] q e = absurd (false≢true e)
     go (x ∷ xs) q e = at (of_word word x) x xs refl q.0 (go xs q.1) e
 

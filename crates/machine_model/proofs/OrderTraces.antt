@@ -28,7 +28,7 @@ items_at t h = items_from 0 (at_reset t.image h (length t.entries)) (entries_of 
 
 pub length-items_from : (place : ℕ) (hart : Hart) (es : List Retired) → length (items_from place hart es) ≡ length es
 length-items_from place hart [] = refl
-length-items_from place hart (e ∷ es) = ap (λ n. 1 + n) (length-items_from (place + 1) (after hart e) es)
+length-items_from place hart (e ∷ es) = ap suc (length-items_from (place + 1) (after hart e) es)
 
 items_from-push : (place : ℕ) (hart : Hart) (es : List Retired) (e : Retired) → items_from place hart (es ++ e ∷ []) ≡ items_from place hart es ++ item_of (place + length es) (reached hart es) e ∷ []
 items_from-push place hart [] e = ap (λ n. item_of n hart e ∷ []) (omega arith)
