@@ -11,3 +11,4 @@ pub mod OrderTraces
 pub mod OrderSteps
 pub mod OrderBuffers
 pub mod OrderMoves
+pub mod OrderActs
