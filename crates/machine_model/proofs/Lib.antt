@@ -12,3 +12,4 @@ pub mod OrderSteps
 pub mod OrderBuffers
 pub mod OrderMoves
 pub mod OrderActs
+pub mod OrderEvents

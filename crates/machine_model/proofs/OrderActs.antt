@@ -203,9 +203,12 @@ next_leads h hart t entry i l dec k =
       pc = ap (λ (x : Hart). x.pc) step ∙ (same.1 ∙ ap (λ (x : Hart). x.pc) (sym (ap (after_instr hart entry) dec)));
     }
 
-row_kept : (model : Model) (h count : ℕ) (image : Initial) (hart : Hart) (t : History) (buffer : Groups) (performed : List Operation) → t.image ≡ image → h < length t.entries → LeadsTo h hart t → HartKept model h (items_at t h) buffer performed → Grown model h buffer performed t (with_entries h (private_row image hart count) t)
-row_kept model h zero image hart t buffer performed e l leads k = record { image = refl; performed_is = refl; extends = λ j p a f. f; there = λ j d. refl; here = k }
-row_kept model h (suc count) image hart t buffer performed e l leads k = go (can_go_alone image hart) refl
+-- what a row of so many instructions leaves, of any hart and trace
+abbrev RowKept : Model → ℕ → ℕ → Initial → Groups → List Operation → Type 0
+RowKept model h count image buffer performed = (hart : Hart) (t : History) → t.image ≡ image → h < length t.entries → LeadsTo h hart t → HartKept model h (items_at t h) buffer performed → Grown model h buffer performed t (with_entries h (private_row image hart count) t)
+
+row_next : (model : Model) (h count : ℕ) (image : Initial) (buffer : Groups) (performed : List Operation) → RowKept model h count image buffer performed → RowKept model h (suc count) image buffer performed
+row_next model h count image buffer performed ih hart t e l leads k = go (can_go_alone image hart) refl
   where
     longer : IsLonger h (next_entry image hart) t (with_entry h (next_entry image hart) t)
     longer = record { image = refl; entries = refl }
@@ -215,7 +218,7 @@ row_kept model h (suc count) image hart t buffer performed e l leads k = go (can
     grow (Some i) dec alone =
         let one = subst (λ (im : Initial). HartKept model h (items_at t h ++ new_item h (next_entry im hart) t ∷ []) buffer performed) e (one_alone model h hart t buffer performed i l leads (subst (λ (im : Initial). decoded (word_at im hart.pc) ≡ Some i) (sym e) dec) alone k) in
         let l2 : h < length (with_entry h (next_entry image hart) t).entries = subst (λ n. h < n) (sym (length-set t.entries h (entries_of t h ++ next_entry image hart ∷ []))) l in
-        let g = row_kept model h count image (after hart (next_entry image hart)) (with_entry h (next_entry image hart) t) buffer performed e l2 (next_leads h hart t (next_entry image hart) i l dec leads)
+        let g = ih (after hart (next_entry image hart)) (with_entry h (next_entry image hart) t) e l2 (next_leads h hart t (next_entry image hart) i l dec leads)
         (subst (λ is. HartKept model h is buffer performed) (sym (items_here h (next_entry image hart) t (with_entry h (next_entry image hart) t) longer l)) one) in
         record {
           image = g.image;
@@ -229,10 +232,14 @@ row_kept model h (suc count) image hart t buffer performed e l leads k = go (can
     go false f = record { image = refl; performed_is = refl; extends = λ j p a f. f; there = λ j d. refl; here = k }
     go true f = grow (decoded (word_at image hart.pc)) refl (and_parts (is_running hart.status && can_fetch image hart.pc) (is_done_alone hart (decoded (word_at image hart.pc))) f).1
 
+row_kept : (model : Model) (h count : ℕ) (image : Initial) (buffer : Groups) (performed : List Operation) → RowKept model h count image buffer performed
+row_kept model h zero image buffer performed = λ hart t e l leads k. record { image = refl; performed_is = refl; extends = λ j p a f. f; there = λ j d. refl; here = k }
+row_kept model h (suc count) image buffer performed = row_next model h count image buffer performed (row_kept model h count image buffer performed)
+
 pub alone_kept : (h count : ℕ) (s : State) → h < s.views.config.harts → AllStand s → OrderKept s → OrderKept (went_alone h count s)
 alone_kept h count s l a o =
     let hart = (node_at s h).hart in
-    let g = row_kept s.views.config.model h count s.trace.image hart s.trace (node_at s h).buffer (done s.trace) refl (subst (λ x. h < x) (sym a.entries) l) (record { regs = here_regs s h l a; pc = here_pc s h l a }) (o.each h l) in
+    let g = row_kept s.views.config.model h count s.trace.image (node_at s h).buffer (done s.trace) hart s.trace refl (subst (λ x. h < x) (sym a.entries) l) (record { regs = here_regs s h l a; pc = here_pc s h l a }) (o.each h l) in
     let n = record (node_at s h) { hart = reached hart (private_row s.trace.image hart count) } in
     let buffers : (k : ℕ) → (node_at (went_alone h count s) k).buffer ≡ (node_at s k).buffer =
     λ k. ap (λ (x : Node). x.buffer) (node-with_trace (with_node h n s) (went_alone h count s).trace k g.image) ∙ (node_keeps h n s refl).buffers k in

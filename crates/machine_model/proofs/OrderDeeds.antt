@@ -76,7 +76,7 @@ FitsDeed model n f _ e _ = ⊥
 -- the same of a plan
 abbrev pub FitsPlan : Model → Node → Fetched → Access → Plan → Type 0
 FitsPlan model n f a (Stays o) = Unit {0}
-FitsPlan model n f a (Changes (act.Retire e i d)) = FitsDeed model n f a e d
+FitsPlan model n f a (Changes (act.Retire e i d)) = (i ≡ f.instr) × FitsDeed model n f a e d
 FitsPlan model n f a (Changes (act.Miss line grow)) = Unit {0}
 FitsPlan model n f a (Changes _) = ⊥
 
@@ -108,25 +108,25 @@ load_fits model n f address bytes =
     let line = line_of n.cache.shape.size address in
     let go : LineData → Plan = λ held. retires n f (Some (read_from (laid_over waiting.0 waiting.1 (word_in held (word_of address))) address bytes)) None deed.Load in
     by_test (FitsPlan model n f (Loads address bytes)) (covers waiting.0 (marks_of_access (address % 4) bytes)) (retires n f (Some (read_from waiting.1 address bytes)) None deed.Load) (reading go n.cache line)
-    (λ e. (refl, inl (e, refl)))
-    (λ e. reading_fits model n f (Loads address bytes) go n.cache line (copy_at n.cache line) (λ held g. (refl, inr (held, g, refl))))
+    (λ e. (refl, (refl, inl (e, refl))))
+    (λ e. reading_fits model n f (Loads address bytes) go n.cache line (copy_at n.cache line) (λ held g. (refl, (refl, inr (held, g, refl)))))
 
 store_fits : (model : Model) (n : Node) (f : Fetched) (address bytes value : ℕ) → FitsPlan model n f (Stores address bytes value) (plan_store n f address bytes value)
 store_fits model n f address bytes value =
-    by_test (FitsPlan model n f (Stores address bytes value)) (fits (word_of address) n.buffer) (retires n f None None (deed.Store (store_of address bytes value f.place))) (Stays outcome.BufferFull) (λ e. refl) (λ e. tt)
+    by_test (FitsPlan model n f (Stores address bytes value)) (fits (word_of address) n.buffer) (retires n f None None (deed.Store (store_of address bytes value f.place))) (Stays outcome.BufferFull) (λ e. (refl, refl)) (λ e. tt)
 
 reserve_fits : (model : Model) (n : Node) (f : Fetched) (address : ℕ) → FitsPlan model n f (Reserves address) (plan_reserve n f address)
 reserve_fits model n f address =
     let line = line_of n.cache.shape.size address in
     let go : LineData → Plan = λ held. retires n f (Some (read_from (word_in held address) address 4)) None (deed.Reserve address) in
     by_test (FitsPlan model n f (Reserves address)) (waits_for_stores n f.instr address) (Stays outcome.MustDrain) (writing go n.cache line) (λ e. tt)
-    (λ e. writing_fits model n f (Reserves address) go n.cache line (copy_at n.cache line) (λ dirty held g. (refl, e, refl, read_from (word_in held address) address 4, refl, (dirty, held, g, refl))))
+    (λ e. writing_fits model n f (Reserves address) go n.cache line (copy_at n.cache line) (λ dirty held g. (refl, (refl, e, refl, read_from (word_in held address) address 4, refl, (dirty, held, g, refl)))))
 
 conditional_fits : (model : Model) (n : Node) (f : Fetched) (address value : ℕ) → FitsPlan model n f (Tries address value) (plan_conditional model n f address value)
 conditional_fits model n f address value =
     let writes = retires n f None (Some true) (deed.Conditional address value) in
-    by_test (FitsPlan model n f (Tries address value)) (not (is_valid address n.reserved)) (retires n f None (Some false) deed.Fail) (cond (write_waits model n f.instr address) (Stays outcome.MustDrain) writes) (λ e. refl)
-    (λ v. by_test (FitsPlan model n f (Tries address value)) (write_waits model n f.instr address) (Stays outcome.MustDrain) writes (λ e. tt) (λ e. (refl, refl, refl, valid (is_valid address n.reserved) v, e)))
+    by_test (FitsPlan model n f (Tries address value)) (not (is_valid address n.reserved)) (retires n f None (Some false) deed.Fail) (cond (write_waits model n f.instr address) (Stays outcome.MustDrain) writes) (λ e. (refl, refl))
+    (λ v. by_test (FitsPlan model n f (Tries address value)) (write_waits model n f.instr address) (Stays outcome.MustDrain) writes (λ e. tt) (λ e. (refl, (refl, refl, refl, valid (is_valid address n.reserved) v, e))))
   where
     valid : (b : Bool) → not b ≡ false → b ≡ true
     valid true e = refl
@@ -137,7 +137,7 @@ amo_fits model n f address op operand =
     let line = line_of n.cache.shape.size address in
     let go : LineData → Plan = λ held. update n f address op operand (read_from (word_in held address) address 4) in
     by_test (FitsPlan model n f (Updates address op operand)) (write_waits model n f.instr address) (Stays outcome.MustDrain) (writing go n.cache line) (λ e. tt)
-    (λ e. writing_fits model n f (Updates address op operand) go n.cache line (copy_at n.cache line) (λ dirty held g. (refl, e, refl, read_from (word_in held address) address 4, refl, refl, (dirty, held, g, refl))))
+    (λ e. writing_fits model n f (Updates address op operand) go n.cache line (copy_at n.cache line) (λ dirty held g. (refl, (refl, e, refl, read_from (word_in held address) address 4, refl, refl, (dirty, held, g, refl)))))
 
 fence_fits : (model : Model) (n : Node) (f : Fetched) → FitsPlan model n f Fences (plan_fence n f)
 fence_fits model n f =
@@ -145,18 +145,18 @@ fence_fits model n f =
     (λ e. go e (fences (Some f.instr) kind.Store kind.Store) refl)
   where
     go : (fences (Some f.instr) kind.Store kind.Load && not (is_empty n.buffer)) ≡ false → (b : Bool) → fences (Some f.instr) kind.Store kind.Store ≡ b → FitsPlan model n f Fences (retires n f None None (cond b deed.Seal deed.Alone))
-    go e true g = e
-    go e false g = (e, g)
+    go e true g = (refl, e)
+    go e false g = (refl, (e, g))
 
 call_fits : (model : Model) (n : Node) (f : Fetched) (number argument : ℕ) → FitsPlan model n f (Calls number argument) (plan_call n f number argument)
 call_fits model n f number argument = go (nat_eq number 0)
   where
     go : (b : Bool) → FitsPlan model n f (Calls number argument) (retires n f None None (cond b deed.Alone (deed.Output argument)))
-    go true = tt
-    go false = tt
+    go true = (refl, tt)
+    go false = (refl, tt)
 
 pub access_fits : (model : Model) (n : Node) (f : Fetched) (a : Access) → FitsPlan model n f a (plan_access model n f a)
-access_fits model n f Private = tt
+access_fits model n f Private = (refl, tt)
 access_fits model n f (Loads address bytes) = load_fits model n f address bytes
 access_fits model n f (Stores address bytes value) = store_fits model n f address bytes value
 access_fits model n f (Reserves address) = reserve_fits model n f address
