@@ -13,3 +13,4 @@ pub mod OrderBuffers
 pub mod OrderMoves
 pub mod OrderActs
 pub mod OrderEvents
+pub mod OrderWhole

@@ -32,10 +32,10 @@ use Rattle.machine_model.specs.declared.event.Event.{Event}
 use Rattle.machine_model.specs.declared.event.Event.TheVariants as event
 use Rattle.machine_model.specs.declared.outcome.Outcome.{Outcome}
 use Rattle.machine_model.specs.declared.outcome.Outcome.TheVariants as outcome
-use Rattle.machine_model.specs.Changing.{acted, does, place_at}
+use Rattle.machine_model.specs.Changing.{acted, does, place_at, outcome_of}
 use Rattle.machine_model.specs.Deciding.{miss_by, writing_by}
 use Rattle.machine_model.specs.Deliveries.{plan_body, plan_front, unless_busy, unless_releasing, unless_acks_full}
-use Rattle.machine_model.specs.Events.{Verdict, verdict_by, state_by, happens, after_events, is_good, is_limited, plan_of, plan_drain, evict_by, hart_of, outcome_of, counted}
+use Rattle.machine_model.specs.Events.{Verdict, verdict_by, state_by, happens, after_events, is_good, is_limited, plan_of, plan_drain, evict_by, hart_of, counted}
 use Rattle.machine_model.specs.Steps.{Fetched, plan_access, plan_instr, plan_unless, plan_step}
 use Rattle.machine_model.specs.Views.{Node, State, line_of, line_size, place_of, node_at, no_node, opening, opening_node}
 use Rattle.machine_model.proofs.Retiring.{IsNext, step_is_next}

@@ -9,3 +9,4 @@ pub mod Events
 pub mod Coherent
 pub mod LawfulLog
 pub mod Laws
+pub mod OrderLaws

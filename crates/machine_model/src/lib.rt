@@ -5,6 +5,7 @@ mod act;
 mod config;
 mod event;
 mod laws;
+mod order_laws;
 mod outcome;
 
 pub use act::{Act, Deed, Plan};
@@ -12,4 +13,5 @@ pub use config::Config;
 pub use event::Event;
 pub use laws::{image_and_config_stay, nothing_is_rewritten, runs_always};
 pub use memory_model::Model;
+pub use order_laws::{order_always, performed_once_always, preserved_always};
 pub use outcome::Outcome;
