@@ -100,7 +100,7 @@ named_of image harts id (es ∷ rest) (suc h) k a e =
     (named_of image harts (id + 1) rest h k a (subst (λ i. gave_at (items_from 0 (at_reset image i harts) (slice_index_or rest h [])) k ≡ Some a) (omega arith) e)))
 
 resolved_named : (t : History) (n : OpId) → IsResolved t n → is_among (names_in t) n ≡ true
-resolved_named t n r = named_of t.image (length t.entries) 0 t.entries n.hart n.place r.0 (subst (λ i. gave_at (items_from 0 (at_reset t.image i (length t.entries)) (entries_of t n.hart)) n.place ≡ Some r.0) (omega arith) (sym (operation_is t n) ∙ r.1))
+resolved_named t n r = subst (λ i. is_among (names_in t) (named i n.place) ≡ true) (omega arith) (named_of t.image (length t.entries) 0 t.entries n.hart n.place r.0 (subst (λ i. gave_at (items_from 0 (at_reset t.image i (length t.entries)) (entries_of t n.hart)) n.place ≡ Some r.0) (omega arith) (sym (operation_is t n) ∙ r.1)))
 
 same_is : (t : History) (n m : OpId) (a b : Operation) → operation_at (instructions t) n ≡ Some a → operation_at (instructions t) m ≡ Some b → same a b ≡ is_named n m
 same_is t n m a b e f = let p = operation_at-bears t n a e in let q = operation_at-bears t m b f in rw (p.hart_is, p.place_is, q.hart_is, q.place_is) refl
@@ -261,7 +261,7 @@ tail_free s st o order (es ∷ rest) n link e =
     (tail_free s st o order rest (n + 1) (λ j. link (suc j) ∙ ap (entries_of s.trace) (omega arith)) (omega (arith, e))))
 
 pub whole_tail : (s : State) (st : AllStand s) (o : OrderKept s) (order : List Operation) → TailFree s order 0 (operations_at (instructions s.trace) (filter (missing s.trace) (names_in s.trace)))
-whole_tail s st o order = tail_free s st o order s.trace.entries 0 (λ j. ap (entries_of s.trace) (omega arith)) (st.entries ∙ omega arith)
+whole_tail s st o order = tail_free s st o order s.trace.entries 0 (λ j. ap (entries_of s.trace) (omega arith)) (let e = st.entries in omega (arith, e))
 
 pub completed_operations : (t : History) → operations_at (instructions t) (completed t) ≡ done t ++ operations_at (instructions t) (filter (missing t) (names_in t))
 completed_operations t = filter_map-append (operation_at (instructions t)) t.performed (filter (missing t) (names_in t))
