@@ -1,6 +1,9 @@
 pub mod Growth
 pub mod Nodes
 pub mod Retiring
+pub mod OrderLists
+pub mod OrderRules
+pub mod OrderKept
 pub mod Runs
 pub mod Batches
 pub mod LineStands
@@ -16,3 +19,12 @@ pub mod WorldDeliveries
 pub mod WorldSteps
 pub mod WorldEvents
 pub mod WorldOpening
+pub mod OrderSplit
+pub mod OrderDeeds
+pub mod OrderTraces
+pub mod OrderSteps
+pub mod OrderBuffers
+pub mod OrderMoves
+pub mod OrderActs
+pub mod OrderEvents
+pub mod OrderWhole

@@ -10,3 +10,4 @@ pub mod Coherent
 pub mod LawfulLog
 pub mod Laws
 pub mod Writers
+pub mod OrderLaws

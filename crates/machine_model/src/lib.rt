@@ -5,6 +5,7 @@ mod act;
 mod config;
 mod event;
 mod laws;
+mod order_laws;
 mod outcome;
 
 pub use act::{Act, Deed, Plan};
@@ -14,4 +15,5 @@ pub use laws::{
     image_and_config_stay, local_is_steps, nothing_is_rewritten, one_writer_always, runs_always,
 };
 pub use memory_model::Model;
+pub use order_laws::{order_always, performed_once_always, preserved_always};
 pub use outcome::Outcome;
