@@ -29,7 +29,7 @@ use Rattle.machine_model.proofs.OrderSteps.{HartKept, Performs, IsNew, buffer_by
 use Rattle.machine_model.proofs.OrderTraces.{items_at, done, Extends, IsLonger, new_item, items_here, items_there, extends_longer, extends_same, items_same, length-items_from, id-reached, count_same}
 use Rattle.memory_model.specs.declared.Model.{Model}
 use Rattle.memory_model.specs.declared.operation.Operation.{Operation}
-use Rattle.memory_model.specs.Items.{Item, bits_of, gives, operation_of}
+use Rattle.memory_model.specs.Items.{Item, annotations_of, operation_of_entry, operation_of_access}
 use Rattle.rv32_decode.specs.Rows.{decoded}
 use Rattle.rv32_decode.specs.declared.instruction.Instr.{Instr}
 use Rattle.rv32_exec.specs.Meaning.{Access, Private, Loads, Stores, Reserves, Tries, Updates, Fences, Calls, access_of, effect_of, stop_of}
@@ -75,9 +75,9 @@ none_is (Some x) e = absurd (false≢true e)
 -- ---- an instruction retires
 
 -- what a retiring instruction gives, at a place of the list of the hart h with these registers
-gives_there : (h place : ℕ) (r : Hart) (entry : Retired) (i : Instr) (regs : List ℕ) → r.id ≡ h → r.regs ≡ regs → decoded entry.word ≡ Some i → gives place r entry (decoded entry.word) ≡ operation_of h place (bits_of i) entry (access_of i regs)
+gives_there : (h place : ℕ) (r : Hart) (entry : Retired) (i : Instr) (regs : List ℕ) → r.id ≡ h → r.regs ≡ regs → decoded entry.word ≡ Some i → operation_of_entry place r entry (decoded entry.word) ≡ operation_of_access h place (annotations_of i) entry (access_of i regs)
 gives_there h place r entry i regs e f d =
-    ap (gives place r entry) d ∙ (ap (λ k. operation_of k place (bits_of i) entry (access_of i r.regs)) e ∙ ap (λ x. operation_of h place (bits_of i) entry (access_of i x)) f)
+    ap (operation_of_entry place r entry) d ∙ (ap (λ k. operation_of_access k place (annotations_of i) entry (access_of i r.regs)) e ∙ ap (λ x. operation_of_access h place (annotations_of i) entry (access_of i x)) f)
 
 -- the trace after it
 retired_longer : (h : ℕ) (entry : Retired) (status : Status) (old new : History) → new.image ≡ old.image → new.entries ≡ old.entries → IsLonger h entry old (with_halt h status (with_entry h entry new))
@@ -138,12 +138,12 @@ retired_kept h entry i d s l a step dec f fi fp fits o =
         (none_is (stop_of i (node_at s h).hart.pc (node_at s h).hart.regs (length s.trace.image.bytes)) (and_parts (is_none (stop_of i (node_at s h).hart.pc (node_at s h).hart.regs (length s.trace.image.bytes))) _
         (subst (λ q. run.does (length s.trace.image.bytes) (node_at s h).hart entry q ≡ true) dec (step_does s.trace.image (node_at s h).hart entry step))).0))
 
-    gave : (new_item h entry s.trace).gave ≡ operation_of h (length (items_at s.trace h)) (bits_of f.instr) entry (access_of i (node_at s h).hart.regs)
+    gave : (new_item h entry s.trace).operation ≡ operation_of_access h (length (items_at s.trace h)) (annotations_of f.instr) entry (access_of i (node_at s h).hart.regs)
     gave =
         gives_there h (length (entries_of s.trace h)) (reached (at_reset s.trace.image h (length s.trace.entries)) (entries_of s.trace h)) entry i (node_at s h).hart.regs
         (id-reached (at_reset s.trace.image h (length s.trace.entries)) (entries_of s.trace h)) (here_regs s h l a) dec
-        ∙ (ap (λ p. operation_of h p (bits_of i) entry (access_of i (node_at s h).hart.regs)) (sym (length-items_from 0 (at_reset s.trace.image h (length s.trace.entries)) (entries_of s.trace h)))
-        ∙ ap (λ j. operation_of h (length (items_at s.trace h)) (bits_of j) entry (access_of i (node_at s h).hart.regs)) (sym fi))
+        ∙ (ap (λ p. operation_of_access h p (annotations_of i) entry (access_of i (node_at s h).hart.regs)) (sym (length-items_from 0 (at_reset s.trace.image h (length s.trace.entries)) (entries_of s.trace h)))
+        ∙ ap (λ j. operation_of_access h (length (items_at s.trace h)) (annotations_of j) entry (access_of i (node_at s h).hart.regs)) (sym fi))
 
     kept : Performs s.views.config.model h (items_at s.trace h ++ new_item h entry s.trace ∷ []) (buffer_by s.views.config.model d (node_at s h).buffer) (done s.trace) (names_by h (length (items_at s.trace h)) d)
     kept =
@@ -188,7 +188,7 @@ one_alone model h hart t buffer performed i l leads dec alone k =
     let q = private_plain i hart.pc hart.regs (access_of i hart.regs) refl p.0 (none_is _ p.1) in
     let start = at_reset t.image h (length t.entries) in
     keeps_plain model h (items_at t h) buffer performed (new_item h (next_entry t.image hart) t) i (record { place_is = sym (length-items_from 0 start (entries_of t h)); instr_is = dec }) q.0
-    (gives_there h (length (entries_of t h)) (reached start (entries_of t h)) (next_entry t.image hart) i hart.regs (id-reached start (entries_of t h)) leads.regs dec ∙ ap (operation_of h (length (entries_of t h)) (bits_of i) (next_entry t.image hart)) q.1) k
+    (gives_there h (length (entries_of t h)) (reached start (entries_of t h)) (next_entry t.image hart) i hart.regs (id-reached start (entries_of t h)) leads.regs dec ∙ ap (operation_of_access h (length (entries_of t h)) (annotations_of i) (next_entry t.image hart)) q.1) k
 
 next_leads : (h : ℕ) (hart : Hart) (t : History) (entry : Retired) (i : Instr) → h < length t.entries → decoded entry.word ≡ Some i → LeadsTo h hart t → LeadsTo h (after hart entry) (with_entry h entry t)
 next_leads h hart t entry i l dec k =

@@ -12,7 +12,7 @@ use Rattle.memory_model.specs.declared.operation.Operation.{Operation}
 use Rattle.memory_model.specs.Dependencies.{instr_in, uses_at, uses_in}
 use Rattle.memory_model.specs.Items.{Item}
 use Rattle.memory_model.specs.Operations.{precedes, overlap, writes, has_release}
-use Rattle.memory_model.specs.Order.{Pairwise}
+use Rattle.memory_model.proofs.Lists.{Pairwise}
 use Rattle.memory_model.specs.Rules.{fences}
 use Rattle.memory_model.proofs.Forms.{Ordered}
 use Rattle.memory_model.proofs.Lists.{Each-append, Each-left, Each-right, Each-weaker, Each-both, Each-kept, Pairwise-append}

@@ -5,7 +5,8 @@ use Rattle.std.proofs.lemmas.Bool.{false≢true}
 use Rattle.std.proofs.lemmas.List.Elements.{filter-append}
 use Rattle.memory_model.specs.declared.operation.Operation.{Operation}
 use Rattle.memory_model.specs.Operations.{same, precedes, stores_to}
-use Rattle.memory_model.specs.Order.{Pairwise, visible, byte_from}
+use Rattle.memory_model.specs.Order.{candidates, byte_from}
+use Rattle.memory_model.proofs.Lists.{Pairwise}
 use Rattle.memory_model.proofs.Lists.{Each-append, Each-left, Each-right, Each-weaker, Each-both, Each-filter, Each-kept, Pairwise-append, Pairwise-filter, filter_same, filter_none}
 
 pub Each-always : {X : Type 0} (P : X → Type 0) → ((x : X) → P x) → (xs : List X) → Each P xs
@@ -104,7 +105,7 @@ or_right true b e h = absurd (false≢true (sym e))
 or_right false b e h = h
 
 pub visible-append : (load : Operation) (x : ℕ) (xs ys : List Operation) → list_any (λ s. same s load) xs ≡ true
-    → visible load x (xs ++ ys) ≡ visible load x xs ++ filter (λ t. stores_to x t && precedes t load) ys
+    → candidates (xs ++ ys) load x ≡ candidates xs load x ++ filter (λ t. stores_to x t && precedes t load) ys
 visible-append load x [] ys h = absurd (false≢true h)
 visible-append load x (s ∷ xs) ys h =
     visible_at (same s load) (stores_to x s) s _ _ _ _ _ (filter-append (λ t. stores_to x t && precedes t load) xs ys)
