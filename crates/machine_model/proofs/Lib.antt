@@ -1,3 +1,8 @@
+pub mod Growth
+pub mod Nodes
+pub mod Retiring
+pub mod Runs
+pub mod Batches
 pub mod LineStands
 pub mod LineKept
 pub mod LineViews

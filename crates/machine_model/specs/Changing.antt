@@ -15,16 +15,14 @@ use Rattle.machine_model.specs.declared.act.Deed.TheVariants as deed
 use Rattle.machine_model.specs.declared.outcome.Outcome.{Outcome}
 use Rattle.machine_model.specs.declared.outcome.Outcome.TheVariants as outcome
 use Rattle.machine_model.specs.Deliveries.{delivered, with_less}
-use Rattle.machine_model.specs.Views.{Node, State, line_of, node_at, with_node, with_trace, sent}
+use Rattle.machine_model.specs.Views.{State, line_of, node_at, with_node, with_trace, sent}
 use Rattle.machine_model.specs.Words.{bytes_of_word}
 use Rattle.memory_model.specs.declared.Model.{Model}
 use Rattle.memory_model.specs.declared.Model.TheVariants.{Rvwmo, Ztso}
 use Rattle.rv32_decode.specs.declared.instruction.Instr.{Instr}
-use Rattle.rv32_exec.specs.Meaning.{access_of}
-use Rattle.store_buffer.specs.ByteMask.{each_place, marks_of_access}
+use Rattle.store_buffer.specs.ByteMask.{marks_of_access}
 use Rattle.store_buffer.specs.Entry.{entry_of}
 use Rattle.store_buffer.specs.Groups.{Groups, after_put, after_put_single, after_seal, after_take, oldest}
-use Rattle.store_buffer.specs.declared.entry.Entry.{Entry}
 use Rattle.store_buffer.specs.declared.entry.Store.{Store}
 use Rattle.tl_types.specs.declared.line.LineData.{LineData}
 use Rattle.tl_types.specs.declared.message.Body.{Body}
@@ -95,7 +93,7 @@ retired h entry i s =
 abbrev pub stopped : ℕ → ℕ → State → State
 stopped h code s =
     let n = node_at s h in
-    with_trace (with_halt h (Stopped code) s.trace) (with_node h (record n { hart = record n.hart { status = Stopped code } }) s)
+    with_trace (with_status h (Stopped code) s.trace) (with_node h (record n { hart = record n.hart { status = Stopped code } }) s)
 
 -- an Acquire takes a tracker and a slot, and goes out
 abbrev pub missed : ℕ → ℕ → Grow → State → State
@@ -104,11 +102,10 @@ missed h line grow s =
     sent h (record { line = line; body = AcquireBlock grow }) (with_node h (record n { cache = (wanted n.cache line grow).1 }) s)
 
 -- the word's entry leaves the oldest group, its stores are performed in program order, and the copy is written
-abbrev pub drains : ℕ → ℕ → Entry → State → State
-drains h word e s = with_buffer h (after_take word (node_at s h).buffer) (writes_word h word e.mask e.bytes (performs h e.ops s))
-
 abbrev pub drained : ℕ → ℕ → State → State
-drained h word s = drains h word (entry_of word (oldest (node_at s h).buffer)) s
+drained h word s =
+    let e = entry_of word (oldest (node_at s h).buffer) in
+    with_buffer h (after_take word (node_at s h).buffer) (writes_word h word e.mask e.bytes (performs h e.ops s))
 
 abbrev pub release_body : Change → Option LineData → Body
 release_body change None = Release change
@@ -127,7 +124,8 @@ given_up h line s =
 
 -- so many private instructions retire at once
 abbrev pub with_entries : ℕ → List Retired → History → History
-with_entries h entries t = record t { entries = slice_set t.entries h (entries_of t h ++ entries) }
+with_entries h [] t = t
+with_entries h (entry ∷ rest) t = with_entries h rest (with_entry h entry t)
 
 abbrev pub went_alone : ℕ → ℕ → State → State
 went_alone h count s =

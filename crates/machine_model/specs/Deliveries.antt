@@ -1,11 +1,10 @@
--- What the message in front of a queue comes to, and what its delivery changes (TileLink 1.8.1, "TL-C").
+-- What the message in front of a queue comes to, and what its delivery changes (TileLink 1.8.1, "TL-C"). That a Release is answered also while its line is probed, and which Grants go without data, is this machine's own.
 use Rattle.std.specs.Prelude.{ℕ, Bool, true, false, if◌then◌else◌, List, [], ◌∷◌, Option, Some, None, length, nat_le, slice_set}
 use Rattle.backing_memory.specs.Memory.{line_at}
 use Rattle.client_cache.specs.Cache.{Cache, copy_at, probed, granted, answered}
 use Rattle.client_cache.specs.Held.{perm_of}
 use Rattle.client_cache.specs.declared.answers.Probed.{Probed}
 use Rattle.client_cache.specs.declared.answers.Probed.TheVariants.{Releasing, Answered}
-use Rattle.directory.specs.Directory as directory
 use Rattle.directory.specs.Directory.{Notes, acquired, probe_acked, released, grant_acked}
 use Rattle.directory.specs.declared.answer.Acquired.{Acquired}
 use Rattle.directory.specs.declared.answer.Acquired.TheVariants.{Handled, Busy}

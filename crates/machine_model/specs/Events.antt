@@ -1,5 +1,5 @@
 -- The event meaning: which events are good, what each comes to and changes, and what a list of events leads to.
-use Rattle.std.specs.Prelude.{ℕ, ◌≡◌, ◌+◌, ◌%◌, ◌==◌, Bool, true, false, ◌&&◌, ◌||◌, if◌then◌else◌, List, [], ◌∷◌, length, nat_le, nat_lt}
+use Rattle.std.specs.Prelude.{ℕ, ◌+◌, ◌%◌, ◌==◌, Bool, true, not, ◌&&◌, ◌||◌, if◌then◌else◌, List, [], ◌∷◌, length, nat_le, nat_lt}
 use Rattle.client_cache.specs.Cache.{evicted}
 use Rattle.client_cache.specs.declared.answers.Evict.{Evict}
 use Rattle.client_cache.specs.declared.answers.Evict.TheVariants.{NotHeld, AcquirePending, ReleaseFull, Evicted}
@@ -11,7 +11,6 @@ use Rattle.machine_model.specs.declared.act.Act.{Act}
 use Rattle.machine_model.specs.declared.act.Act.TheVariants as act
 use Rattle.machine_model.specs.declared.act.Plan.{Plan}
 use Rattle.machine_model.specs.declared.act.Plan.TheVariants.{Stays, Changes}
-use Rattle.machine_model.specs.declared.config.Config.{Config}
 use Rattle.machine_model.specs.declared.event.Event.{Event}
 use Rattle.machine_model.specs.declared.event.Event.TheVariants as event
 use Rattle.machine_model.specs.declared.outcome.Outcome.{Outcome}
@@ -20,8 +19,8 @@ use Rattle.machine_model.specs.Changing.{place_at, acted, outcome_of}
 use Rattle.machine_model.specs.Deciding.{writing}
 use Rattle.machine_model.specs.Deliveries.{plan_deliver}
 use Rattle.machine_model.specs.Steps.{plan_step}
-use Rattle.machine_model.specs.Views.{Node, State, line_of, line_size, node_at, opening}
-use Rattle.store_buffer.specs.Groups.{Groups, drainable, has}
+use Rattle.machine_model.specs.Views.{Node, State, line_of, line_size, node_at}
+use Rattle.store_buffer.specs.Groups.{drainable, has}
 use Rattle.tl_types.specs.Line.{length_of}
 
 -- ---- which events are good
@@ -52,9 +51,11 @@ is_good s e = nat_lt (hart_of e) (length s.views.nodes) && names_well s e
 
 abbrev pub plan_drain : Node → ℕ → Plan
 plan_drain n word =
-    if has word n.buffer
-    then (if drainable word n.buffer then writing (λ line. Changes (act.Drain word)) n.cache (line_of n.cache.shape.size word) else Stays outcome.NotOldest)
-    else Stays outcome.NoEntry
+    if not (has word n.buffer)
+    then Stays outcome.NoEntry
+    else if not (drainable word n.buffer)
+    then Stays outcome.NotOldest
+    else writing (λ line. Changes (act.Drain word)) n.cache (line_of n.cache.shape.size word)
 
 abbrev pub evict_by : ℕ → Evict → Plan
 evict_by line NotHeld = Stays outcome.NotHeld
@@ -67,9 +68,11 @@ plan_evict n line = evict_by line (evicted n.cache line).0
 
 abbrev pub plan_local : Initial → Node → ℕ → Plan
 plan_local image n count =
-    if is_running n.hart.status
-    then (if length (private_row image n.hart count) == count then Changes (act.Local count) else Stays outcome.NotLocal)
-    else Stays outcome.Halted
+    if not (is_running n.hart.status)
+    then Stays outcome.Halted
+    else if length (private_row image n.hart count) == count
+    then Changes (act.Local count)
+    else Stays outcome.NotLocal
 
 abbrev pub plan_of : State → Event → Plan
 plan_of s (event.Step h) = plan_step s.views.config.model s.trace.image (node_at s h) (place_at s h)
@@ -86,9 +89,15 @@ entries_by (act.Retire entry i d) = 1
 entries_by (act.Local count) = count
 entries_by _ = 0
 
+abbrev pub most_changes : ℕ
+most_changes = 4000000
+
+abbrev pub most_entries : ℕ
+most_entries = 1000000
+
 -- so many events have changed the machine, or the hart's list would pass its length
 abbrev pub is_limited : State → ℕ → Act → Bool
-is_limited s h a = nat_le 4000000 s.views.changes || nat_lt 1000000 (place_at s h + entries_by a)
+is_limited s h a = nat_le most_changes s.views.changes || nat_lt most_entries (place_at s h + entries_by a)
 
 -- ---- the meaning
 
@@ -124,12 +133,3 @@ happens s e = state_by s (verdict s e)
 abbrev pub after_events : State → List Event → State
 after_events s [] = s
 after_events s (e ∷ events) = after_events (happens s e) events
-
--- ---- configurations
-
-abbrev pub is_power_to_64 : ℕ → Bool
-is_power_to_64 n = n == 1 || n == 2 || n == 4 || n == 8 || n == 16 || n == 32 || n == 64
-
--- the limits of a machine
-abbrev pub is_within_limits : Config → Bool
-is_within_limits c = nat_le 1 c.harts && nat_le c.harts 8 && is_power_to_64 c.sets && nat_le 1 c.ways && nat_le c.ways 4 && (c.line == 16 || c.line == 64)

@@ -1,5 +1,5 @@
 -- The lawful log: which message may be sent or taken after which (TileLink 1.8.1, "TL-C", the transfers of Acquire, Probe and Release). The four serialization rules and the rule on Grants without data are this machine's own.
-use Rattle.std.specs.Prelude.{ℕ, ◌≡◌, ◌<◌, Bool, true, false, ◌&&◌, ◌||◌, not, ◌==◌, if◌then◌else◌, List, [], ◌∷◌, ◌++◌, Option, Some, None, IsTrue, filter, length, nat_lt, slice_get}
+use Rattle.std.specs.Prelude.{ℕ, ◌≡◌, Bool, true, false, ◌&&◌, ◌||◌, not, ◌==◌, if◌then◌else◌, List, [], ◌∷◌, ◌++◌, Option, Some, None, IsTrue, filter, length, nat_lt, slice_get}
 use Rattle.std.specs.List.{filter_map}
 use Rattle.tl_types.specs.Message.{channel_of}
 use Rattle.tl_types.specs.declared.message.Body.{Body}
@@ -56,55 +56,49 @@ abbrev pub is_sent : Direction → Bool
 is_sent Sent = true
 is_sent Taken = false
 
+-- the entry is of this line
+abbrev pub is_of_line : ℕ → Logged → Bool
+is_of_line line e = e.message.line == line
+
 -- the entry is of this line, and of this hart's queue
 abbrev pub concerns : ℕ → ℕ → Logged → Bool
-concerns h line e = e.hart == h && e.message.line == line
+concerns h line e = e.hart == h && is_of_line line e
 
-abbrev pub sent_count : (Body → Bool) → ℕ → ℕ → List Logged → ℕ
-sent_count kind h line log = length (filter (λ (e : Logged). is_sent e.direction && concerns h line e && kind e.message.body) log)
+abbrev pub sent_count : (Body → Bool) → (Logged → Bool) → List Logged → ℕ
+sent_count kind who log = length (filter (λ (e : Logged). is_sent e.direction && who e && kind e.message.body) log)
 
-abbrev pub taken_count : (Body → Bool) → ℕ → ℕ → List Logged → ℕ
-taken_count kind h line log = length (filter (λ (e : Logged). not (is_sent e.direction) && concerns h line e && kind e.message.body) log)
+abbrev pub taken_count : (Body → Bool) → (Logged → Bool) → List Logged → ℕ
+taken_count kind who log = length (filter (λ (e : Logged). not (is_sent e.direction) && who e && kind e.message.body) log)
 
--- each question of this kind was answered, and the answer has arrived
-abbrev pub is_settled : (question answer : Body → Bool) → ℕ → ℕ → List Logged → Bool
-is_settled question answer h line log = sent_count question h line log == taken_count answer h line log
+-- each question of this kind was answered, and the answer has arrived; where several harts are asked, the sums agree exactly where each hart's numbers do, since no answer arrives before its question was sent
+abbrev pub is_settled : (question answer : Body → Bool) → (Logged → Bool) → List Logged → Bool
+is_settled question answer who log = sent_count question who log == taken_count answer who log
 
 -- a question of this kind has arrived that wasn't answered yet
-abbrev pub is_owed : (question answer : Body → Bool) → ℕ → ℕ → List Logged → Bool
-is_owed question answer h line log = nat_lt (sent_count answer h line log) (taken_count question h line log)
-
--- the same of the line's questions to all harts
-abbrev pub all_settled : (question answer : Body → Bool) → ℕ → List Logged → Bool
-all_settled question answer line log =
-    length (filter (λ (e : Logged). is_sent e.direction && e.message.line == line && question e.message.body) log)
-    == length (filter (λ (e : Logged). not (is_sent e.direction) && e.message.line == line && answer e.message.body) log)
+abbrev pub is_owed : (question answer : Body → Bool) → (Logged → Bool) → List Logged → Bool
+is_owed question answer who log = nat_lt (sent_count answer who log) (taken_count question who log)
 
 -- ---- the serialization rules, where a message is about to be sent behind this log
 
--- no second Acquire before the first one's Grant is taken
-abbrev pub acquire_once : List Logged → ℕ → ℕ → Bool
-acquire_once log h line = is_settled is_acquire is_grant h line log
+-- acquire-once: no second Acquire before the first one's Grant is taken
+abbrev pub no_acquire_open : ℕ → ℕ → List Logged → Bool
+no_acquire_open h line log = is_settled is_acquire is_grant (concerns h line) log
 
--- no second Probe to a hart before its ProbeAck is taken
-abbrev pub probe_once : List Logged → ℕ → ℕ → Bool
-probe_once log h line = is_settled is_probe is_probe_ack h line log
+-- probe-once: no second Probe to a hart before its ProbeAck is taken
+abbrev pub no_probe_open : ℕ → ℕ → List Logged → Bool
+no_probe_open h line log = is_settled is_probe is_probe_ack (concerns h line) log
 
--- no Probe and no other Grant of the line, to any hart, from a Grant's sending until its GrantAck is taken
-abbrev pub no_grant_open : List Logged → ℕ → Bool
-no_grant_open log line = all_settled is_grant is_grant_ack line log
+-- grant-alone: no Probe and no other Grant of the line, to any hart, from a Grant's sending until its GrantAck is taken
+abbrev pub no_grant_open : ℕ → List Logged → Bool
+no_grant_open line log = is_settled is_grant is_grant_ack (is_of_line line) log
 
--- no Grant while a ProbeAck of the line is outstanding
-abbrev pub grant_alone : List Logged → ℕ → Bool
-grant_alone log line = all_settled is_probe is_probe_ack line log && no_grant_open log line
+-- and no Grant while a ProbeAck of the line is outstanding
+abbrev pub no_hart_probed : ℕ → List Logged → Bool
+no_hart_probed line log = is_settled is_probe is_probe_ack (is_of_line line) log
 
--- no ProbeAck, Acquire or Release from a Release until its ReleaseAck is taken
-abbrev pub no_release_open : List Logged → ℕ → ℕ → Bool
-no_release_open log h line = is_settled is_release is_release_ack h line log
-
--- and no Release while the hart's Acquire is unanswered
-abbrev pub release_alone : List Logged → ℕ → ℕ → Bool
-release_alone log h line = no_release_open log h line && acquire_once log h line
+-- release-alone: no ProbeAck, Acquire or Release from a Release until its ReleaseAck is taken, and no Release while the hart's Acquire is unanswered
+abbrev pub no_release_open : ℕ → ℕ → List Logged → Bool
+no_release_open h line log = is_settled is_release is_release_ack (concerns h line) log
 
 -- ---- the Acquire that a Grant answers
 
@@ -118,7 +112,7 @@ grows_taken h line log = filter_map (λ (e : Logged). if not (is_sent e.directio
 
 -- the k-th Grant answers the k-th Acquire
 abbrev pub asked_by_next : ℕ → ℕ → List Logged → Option Grow
-asked_by_next h line log = slice_get (grows_taken h line log) (sent_count is_grant h line log)
+asked_by_next h line log = slice_get (grows_taken h line log) (sent_count is_grant (concerns h line) log)
 
 abbrev pub is_BtoN : Change → Bool
 is_BtoN BtoN = true
@@ -149,7 +143,7 @@ is_BtoT _ = false
 abbrev pub goes_without_data : ℕ → ℕ → List Logged → Grow → Bool
 goes_without_data h line log grow = is_BtoT grow && not (lost_since_asking h line false log)
 
--- the permission that an Acquire asks for: toB for NtoB, toT for the others
+-- the permission that an Acquire asks for: toB for NtoB, toT for the others; said again here, since the log is judged by itself
 abbrev pub is_for : Grow → Cap → Bool
 is_for NtoB ToB = true
 is_for NtoT ToT = true
@@ -157,24 +151,33 @@ is_for BtoT ToT = true
 is_for _ _ = false
 
 -- a Grant answers an Acquire that has arrived, gives what it asked for, and has data where it needs it
-abbrev pub answers_acquire : Option Grow → ℕ → ℕ → List Logged → Cap → (with_data : Bool) → Bool
-answers_acquire None h line log cap with_data = false
-answers_acquire (Some grow) h line log cap true = is_for grow cap && not (goes_without_data h line log grow)
-answers_acquire (Some grow) h line log cap false = is_for grow cap && goes_without_data h line log grow
+abbrev pub answers_acquire : Option Grow → (with_data : Bool) → Cap → ℕ → ℕ → List Logged → Bool
+answers_acquire None with_data cap h line log = false
+answers_acquire (Some grow) true cap h line log = is_for grow cap && not (goes_without_data h line log grow)
+answers_acquire (Some grow) false cap h line log = is_for grow cap && goes_without_data h line log grow
+
+abbrev pub may_grant : (with_data : Bool) → Cap → ℕ → ℕ → List Logged → Bool
+may_grant with_data cap h line log = answers_acquire (asked_by_next h line log) with_data cap h line log && no_hart_probed line log && no_grant_open line log
+
+abbrev pub may_answer_probe : ℕ → ℕ → List Logged → Bool
+may_answer_probe h line log = is_owed is_probe is_probe_ack (concerns h line) log && no_release_open h line log
+
+abbrev pub may_release : ℕ → ℕ → List Logged → Bool
+may_release h line log = no_release_open h line log && no_acquire_open h line log
 
 -- ---- what may be sent behind this log
 
-abbrev pub may_send : List Logged → ℕ → ℕ → Body → Bool
-may_send log h line (AcquireBlock grow) = acquire_once log h line && no_release_open log h line
-may_send log h line (ProbeBlock cap) = probe_once log h line && no_grant_open log line
-may_send log h line (ProbeAck change) = is_owed is_probe is_probe_ack h line log && no_release_open log h line
-may_send log h line (ProbeAckData change bytes) = is_owed is_probe is_probe_ack h line log && no_release_open log h line
-may_send log h line (Release change) = release_alone log h line
-may_send log h line (ReleaseData change bytes) = release_alone log h line
-may_send log h line (Grant cap) = answers_acquire (asked_by_next h line log) h line log cap false && grant_alone log line
-may_send log h line (GrantData cap bytes) = answers_acquire (asked_by_next h line log) h line log cap true && grant_alone log line
-may_send log h line ReleaseAck = is_owed is_release is_release_ack h line log
-may_send log h line GrantAck = is_owed is_grant is_grant_ack h line log
+abbrev pub may_send : Body → ℕ → ℕ → List Logged → Bool
+may_send (AcquireBlock grow) h line log = no_acquire_open h line log && no_release_open h line log
+may_send (ProbeBlock cap) h line log = no_probe_open h line log && no_grant_open line log
+may_send (ProbeAck change) h line log = may_answer_probe h line log
+may_send (ProbeAckData change bytes) h line log = may_answer_probe h line log
+may_send (Release change) h line log = may_release h line log
+may_send (ReleaseData change bytes) h line log = may_release h line log
+may_send (Grant cap) h line log = may_grant false cap h line log
+may_send (GrantData cap bytes) h line log = may_grant true cap h line log
+may_send ReleaseAck h line log = is_owed is_release is_release_ack (concerns h line) log
+may_send GrantAck h line log = is_owed is_grant is_grant_ack (concerns h line) log
 
 -- ---- queues
 
@@ -202,4 +205,4 @@ pub record IsLawfulLog (log : List Logged) : Type 0 where
   -- at each moment, what came out of a queue is a beginning of what went into it
   pub in_order : (c : Channel) (h : ℕ) (before rest : List Logged) → before ++ rest ≡ log → IsBeginningOf (taken_on c h before) (sent_on c h before)
   -- each message was sent where it may be
-  pub each_sent : (h : ℕ) (m : Msg) (before rest : List Logged) → before ++ (record { direction = Sent; hart = h; message = m }) ∷ rest ≡ log → IsTrue (may_send before h m.line m.body)
+  pub each_sent : (h : ℕ) (m : Msg) (before rest : List Logged) → before ++ (record { direction = Sent; hart = h; message = m }) ∷ rest ≡ log → IsTrue (may_send m.body h m.line before)

@@ -1,3 +1,4 @@
+pub mod Config
 pub mod Views
 pub mod Words
 pub mod Deciding

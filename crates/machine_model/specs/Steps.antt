@@ -1,7 +1,6 @@
 -- What a hart's next instruction comes to: each check in its order, and then the act.
--- The rules of the store buffer are this machine's own: what RVWMO asks of them is chapter 14.1 of the RISC-V Unprivileged ISA 20191213.
-use Rattle.std.specs.Prelude.{ℕ, ◌%◌, Bool, true, false, ◌&&◌, ◌||◌, not, ◌==◌, if◌then◌else◌, List, Option, Some, None}
-use Rattle.client_cache.specs.declared.shape.Shape.{Shape}
+-- RISC-V Unprivileged ISA 20191213: FENCE 2.7, ECALL 2.8, LR and SC 8.2, AMOs 8.4, Ztso 23. The rules of the store buffer are this machine's own: what RVWMO asks of them is chapter 14.1.
+use Rattle.std.specs.Prelude.{ℕ, ◌%◌, Bool, true, false, ◌&&◌, ◌||◌, not, ◌==◌, if◌then◌else◌, Option, Some, None}
 use Rattle.elf_loader.specs.Image.{Initial, word_at}
 use Rattle.hart.specs.Run.{is_running, next_stop}
 use Rattle.machine_model.specs.declared.act.Act.TheVariants as act
@@ -16,7 +15,7 @@ use Rattle.machine_model.specs.Words.{word_of, word_in, read_from, store_of}
 use Rattle.memory_model.specs.declared.Model.{Model}
 use Rattle.memory_model.specs.declared.Model.TheVariants.{Rvwmo, Ztso}
 use Rattle.memory_model.specs.declared.operation.Kind.TheVariants.{Load, Store}
-use Rattle.memory_model.specs.Items.{bits_of}
+use Rattle.memory_model.specs.Items.{annotations_of}
 use Rattle.memory_model.specs.Rules.{fences}
 use Rattle.reservations.specs.Reservation.{is_valid}
 use Rattle.rv32_decode.specs.Amo.{combined}
@@ -25,8 +24,7 @@ use Rattle.rv32_decode.specs.declared.instruction.AmoOp.{AmoOp}
 use Rattle.rv32_decode.specs.declared.instruction.Instr.{Instr}
 use Rattle.rv32_exec.specs.Meaning.{Access, Private, Loads, Stores, Reserves, Tries, Updates, Fences, Calls, access_of}
 use Rattle.store_buffer.specs.ByteMask.{covers, laid_over, marks_of_access}
-use Rattle.store_buffer.specs.Groups.{Groups, fits, forwarded, has, has_sealed, is_empty}
-use Rattle.tl_types.specs.declared.line.LineData.{LineData}
+use Rattle.store_buffer.specs.Groups.{fits, forwarded, has, has_sealed, is_empty}
 
 -- an instruction that a hart is about to retire: its word, and how many instructions stand before it in the hart's list
 pub record Fetched : Type 0 where
@@ -59,7 +57,7 @@ plan_store n f address bytes value =
 
 -- a release bit waits for all of them, and each access for those to its own word
 abbrev pub waits_for_stores : Node → Instr → ℕ → Bool
-waits_for_stores n i word = ((bits_of i).release && not (is_empty n.buffer)) || has word n.buffer
+waits_for_stores n i word = ((annotations_of i).release && not (is_empty n.buffer)) || has word n.buffer
 
 -- a write that is performed at once passes no sealed group, and under Ztso no store
 abbrev pub write_waits : Model → Node → Instr → ℕ → Bool
@@ -92,7 +90,7 @@ plan_amo model n f address op operand =
 
 -- ---- fences
 
--- one that orders stores before loads waits until no store waits; one that orders stores before stores closes the open group
+-- one that orders stores before loads waits until no store waits; one that orders stores before stores closes the open group (of an empty buffer that changes nothing)
 abbrev pub plan_fence : Node → Fetched → Plan
 plan_fence n f =
     if fences (Some f.instr) Store Load && not (is_empty n.buffer)
@@ -116,7 +114,7 @@ plan_access model n f (Updates address op operand) = plan_amo model n f address 
 plan_access model n f Fences = plan_fence n f
 plan_access model n f (Calls number argument) = plan_call n f number argument
 
--- a word that is no instruction stops, so none is left here
+-- next_stop has judged a word that is no instruction already; 2 is its answer
 abbrev pub plan_instr : Model → Node → (word place : ℕ) → Option Instr → Plan
 plan_instr model n word place None = Changes (act.Stop 2)
 plan_instr model n word place (Some i) = plan_access model n (record { word = word; instr = i; place = place }) (access_of i n.hart.regs)
@@ -128,6 +126,6 @@ plan_unless None go = go
 -- the hart has to run; then come the stops
 abbrev pub plan_step : Model → Initial → Node → (place : ℕ) → Plan
 plan_step model image n place =
-    if is_running n.hart.status
-    then plan_unless (next_stop image n.hart) (plan_instr model n (word_at image n.hart.pc) place (decoded (word_at image n.hart.pc)))
-    else Stays outcome.Halted
+    if not (is_running n.hart.status)
+    then Stays outcome.Halted
+    else plan_unless (next_stop image n.hart) (plan_instr model n (word_at image n.hart.pc) place (decoded (word_at image n.hart.pc)))

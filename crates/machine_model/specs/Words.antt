@@ -1,4 +1,4 @@
--- Words of lines, and the bytes of an access in a word (RISC-V Unprivileged ISA 20191213, section 1.4, "Memory": little endian).
+-- Words of lines, and the bytes of an access in a word (RISC-V Unprivileged ISA 20191213, section 2.6; where it leaves the byte order open, this machine is little endian).
 use Rattle.std.specs.Prelude.{ℕ, ◌+◌, ◌-◌, ◌*◌, ◌/◌, ◌%◌, ◌^◌, List, [], ◌∷◌, slice_index}
 use Rattle.store_buffer.specs.ByteMask.{each_place, marks_of_access}
 use Rattle.store_buffer.specs.declared.entry.Store.{Store}

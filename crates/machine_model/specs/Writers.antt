@@ -10,4 +10,4 @@ abbrev pub HasOneWriter : State → Type 0
 HasOneWriter s = (a b line : ℕ) → a ≢ b → perm_at s a line ≡ Trunk → perm_at s b line ≡ Nothing
 
 abbrev pub OneWriterAlways : Type 0
-OneWriterAlways = Always (λ config s. HasOneWriter s)
+OneWriterAlways = Always (λ image config s. HasOneWriter s)

@@ -20,7 +20,8 @@ pub enum Plan {
 pub enum Act {
     /// The hart halts with this code; nothing retires.
     Stop(u8),
-    /// The instruction retires with this entry, and does this beside the hart's pc and registers.
+    /// The instruction retires with this entry, and does this beside the hart's pc, registers and
+    /// status.
     Retire {
         entry: Retired,
         instr: Instr,
@@ -38,7 +39,7 @@ pub enum Act {
     Local(u32),
 }
 
-/// What an instruction that retires does beside its hart's pc and registers.
+/// What an instruction that retires does beside its hart's pc, registers and status.
 #[derive(Clone, Copy, Debug, PartialEq, Eq)]
 pub enum Deed {
     /// Nothing.

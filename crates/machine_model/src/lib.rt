@@ -10,6 +10,8 @@ mod outcome;
 pub use act::{Act, Deed, Plan};
 pub use config::Config;
 pub use event::Event;
-pub use laws::one_writer_always;
+pub use laws::{
+    image_and_config_stay, local_is_steps, nothing_is_rewritten, one_writer_always, runs_always,
+};
 pub use memory_model::Model;
 pub use outcome::Outcome;
