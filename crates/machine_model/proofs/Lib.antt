@@ -16,3 +16,4 @@ pub mod WorldDeliveries
 pub mod WorldSteps
 pub mod WorldEvents
 pub mod WorldOpening
+pub mod WorldSlots
