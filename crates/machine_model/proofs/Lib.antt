@@ -28,3 +28,4 @@ pub mod OrderMoves
 pub mod OrderActs
 pub mod OrderEvents
 pub mod OrderWhole
+pub mod WorldSlots

@@ -291,10 +291,10 @@ module _ (s : State) (last : ℕ → LineData) (i : IsFit s last) (h : ℕ) (in_
       lies : IsLine (line word)
       lies = let p : IsPiece s.trace.image word 4 = piece s.trace.image word 4 on in let high : word + 4 ≤ end_of s.trace.image = p.high in inside word p.low (omega arith)
 
-      go : (t u : Bool) → IsGoodPlan s h (if t then (if u then writing (λ found. Changes (act.Drain word)) n.cache (line word) else Stays outcome.NotOldest) else Stays outcome.NoEntry)
+      go : (t u : Bool) → IsGoodPlan s h (if not t then Stays outcome.NoEntry else if not u then Stays outcome.NotOldest else writing (λ found. Changes (act.Drain word)) n.cache (line word))
       go false u = tt
       go true false = tt
-      go true true = good_writing (line word) (λ found. Changes (act.Drain word)) lies (λ found may. drains_fits s last i h in_h word (entry_of word (oldest n.buffer)) (may_write word may))
+      go true true = good_writing (line word) (λ found. Changes (act.Drain word)) lies (λ found may. drains_fits s last i h in_h word (may_write word may))
 
   good_evict : (l : ℕ) → IsLine l → IsGoodPlan s h (plan_evict n l)
   good_evict l on = go (evicted n.cache l).0 refl
@@ -308,7 +308,7 @@ module _ (s : State) (last : ℕ → LineData) (i : IsFit s last) (h : ℕ) (in_
   good_local : (count : ℕ) → IsGoodPlan s h (plan_local s.trace.image n count)
   good_local count = go (is_running n.hart.status) (length (private_row s.trace.image n.hart count) == count)
     where
-      go : (t u : Bool) → IsGoodPlan s h (if t then (if u then Changes (act.Local count) else Stays outcome.NotLocal) else Stays outcome.Halted)
+      go : (t u : Bool) → IsGoodPlan s h (if not t then Stays outcome.Halted else if u then Changes (act.Local count) else Stays outcome.NotLocal)
       go false u = tt
       go true false = tt
       go true true = (last, went_alone_fits s last i h in_h count)
@@ -373,7 +373,7 @@ module _ (s : State) (last : ℕ → LineData) (i : IsFit s last) (h : ℕ) (in_
 good_event : (s : State) (last : ℕ → LineData) → IsFit s last → (e : Event) → hart_of e < length s.views.nodes → names_well s e ≡ true → IsGoodPlan s (hart_of e) (plan_of s e)
 good_event s last i (event.Step h) in_h well = go (is_running (node_at s h).hart.status) (decoded (word_at s.trace.image (node_at s h).hart.pc))
   where
-    go : (t : Bool) (o : Option Instr) → IsGoodPlan s h (if t then plan_unless (if can_fetch s.trace.image (node_at s h).hart.pc then stop_with (length s.trace.image.bytes) (node_at s h).hart o else Some 1) (plan_instr s.views.config.model (node_at s h) (word_at s.trace.image (node_at s h).hart.pc) (place_at s h) o) else Stays outcome.Halted)
+    go : (t : Bool) (o : Option Instr) → IsGoodPlan s h (if not t then Stays outcome.Halted else plan_unless (if can_fetch s.trace.image (node_at s h).hart.pc then stop_with (length s.trace.image.bytes) (node_at s h).hart o else Some 1) (plan_instr s.views.config.model (node_at s h) (word_at s.trace.image (node_at s h).hart.pc) (place_at s h) o))
     go true o = good_step s last i h in_h s.views.config.model (place_at s h) o (can_fetch s.trace.image (node_at s h).hart.pc)
     go false o = tt
 good_event s last i (event.Drain h word) in_h well = good_drain s last i h in_h word well

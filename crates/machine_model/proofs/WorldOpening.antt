@@ -104,7 +104,7 @@ module _ (image : Initial) (config : Config) where
     requester = λ l r g on e. cc (e, ap (λ y. y.transaction) (entry_quiet l));
   }
 
-  opening_fits : length image.bytes % 4096 ≡ 0 → Fits s
+  pub opening_fits : length image.bytes % 4096 ≡ 0 → Fits s
   opening_fits pages = (
     (λ l. memory.line_at s.views.memory (place_of (line_size s) l)),
     record {

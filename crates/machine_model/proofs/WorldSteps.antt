@@ -19,7 +19,7 @@ use Rattle.hart.specs.declared.retired.Retired.{Retired}
 use Rattle.hart.specs.declared.state.Hart.{Hart}
 use Rattle.hart.specs.declared.status.Status.{Status}
 use Rattle.hart.specs.declared.status.Status.TheVariants.{Running, Stopped, Exited}
-use Rattle.machine_model.specs.Changing.{does, drained, drains, performs, performs_own, place_at, put_behind, retired, stopped, went_alone, with_buffer, with_entries, with_halt, with_reservation, writes_word}
+use Rattle.machine_model.specs.Changing.{does, drained, performs, performs_own, place_at, put_behind, retired, stopped, went_alone, with_buffer, with_entries, with_halt, with_reservation, writes_word}
 use Rattle.machine_model.specs.Deliveries.{is_trunk}
 use Rattle.machine_model.specs.Views.{Node, State, line_of, line_size, node_at, with_node, with_trace}
 use Rattle.machine_model.specs.Words.{bytes_of_word}
@@ -52,6 +52,10 @@ halt_image h Running t = refl
 halt_image h (Stopped code) t = refl
 halt_image h (Exited code) t = refl
 
+entries_image : (h : ℕ) (row : List Retired) (t : History) → (with_entries h row t).image ≡ t.image
+entries_image h [] t = refl
+entries_image h (entry ∷ row) t = entries_image h row (with_entry h entry t)
+
 -- where a hart may write a line, the line lies in memory
 pub trunk_line : (s : State) (last : ℕ → LineData) (h l : ℕ) → IsFit s last → (perm_of (copy_at (node_at s h).cache l) ≡ perm_of None → ⊥) → is_line s.trace.image (line_size s) (length s.views.nodes) l ≡ true
 trunk_line s last h l i some = go (is_line s.trace.image (line_size s) (length s.views.nodes) l) refl
@@ -78,7 +82,7 @@ module _ (s : State) (last : ℕ → LineData) (i : IsFit s last) (h : ℕ) (in_
   retired_fits entry instr = hart_moves (after_instr n.hart entry (Some instr)) (with_halt h (after_instr n.hart entry (Some instr)).status (with_entry h entry s.trace)) (halt_image h (after_instr n.hart entry (Some instr)).status (with_entry h entry s.trace))
 
   pub went_alone_fits : (count : ℕ) → IsFit (went_alone h count s) last
-  went_alone_fits count = hart_moves (reached n.hart (private_row s.trace.image n.hart count)) (with_entries h (private_row s.trace.image n.hart count) s.trace) refl
+  went_alone_fits count = hart_moves (reached n.hart (private_row s.trace.image n.hart count)) (with_entries h (private_row s.trace.image n.hart count) s.trace) (entries_image h (private_row s.trace.image n.hart count) s.trace)
 
   pub buffer_fits : (b : Groups) → IsFit (with_buffer h b s) last
   buffer_fits b = alone (record n { buffer = b }) refl refl (λ word q. i.reserved h word q)
@@ -179,8 +183,10 @@ module _ (s : State) (last : ℕ → LineData) (i : IsFit s last) (h : ℕ) (in_
       let w : Fits (does model h d s) × (length (does model h d s).views.nodes ≡ length s.views.nodes) = does_fits model d may in
       (w.0.0, retired_fits (does model h d s) w.0.0 w.0.1 h (rw w.1 in_h) entry instr)
 
-  pub drains_fits : (word : ℕ) (e : Entry) → MayWrite s h word → Fits (drains h word e s)
-  drains_fits word e may =
+  -- the word's entry leaves the buffer
+  pub drains_fits : (word : ℕ) → MayWrite s h word → Fits (drained h word s)
+  drains_fits word may =
+      let e : Entry = entry_of word (oldest (node_at s h).buffer) in
       let performed : State = performs h e.ops s in
       let in_p : h < length performed.views.nodes = rw (performs_count s h e.ops) in_h in
       let w : Fits (writes_word h word e.mask e.bytes performed) = writes_fits performed last (performs_fits s last h e.ops i) h in_p word e.mask e.bytes (performs_may s h h e.ops word may) in

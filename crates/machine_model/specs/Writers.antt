@@ -1,7 +1,7 @@
--- One writer or many readers of each line, in every state that a list of events leads to.
+-- One writer or many readers of each line, and what waits for the manager and for memory, in every state that a list of events leads to.
 use Rattle.std.specs.Prelude.{ℕ, ◌≡◌, ◌≢◌}
 use Rattle.machine_model.specs.Coherent.{perm_at}
-use Rattle.machine_model.specs.Laws.{Always}
+use Rattle.machine_model.specs.Laws.{Always, GrantsHaveSlots, ReservedIsTrunk}
 use Rattle.machine_model.specs.Views.{State}
 use Rattle.tl_types.specs.declared.permission.Perm.TheVariants.{Nothing, Trunk}
 
@@ -11,3 +11,9 @@ HasOneWriter s = (a b line : ℕ) → a ≢ b → perm_at s a line ≡ Trunk →
 
 abbrev pub OneWriterAlways : Type 0
 OneWriterAlways = Always (λ image config s. HasOneWriter s)
+
+abbrev pub GrantsHaveSlotsAlways : Type 0
+GrantsHaveSlotsAlways = Always (λ image config s. GrantsHaveSlots s)
+
+abbrev pub ReservedIsTrunkAlways : Type 0
+ReservedIsTrunkAlways = Always (λ image config s. ReservedIsTrunk s)
