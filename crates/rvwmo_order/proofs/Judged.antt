@@ -76,10 +76,10 @@ pub record OutOfOrder (must : Operation → Operation → Bool) (xs : List Opera
   pub asked : must a b ≡ true
   pub behind : before xs a b ≡ false
 
-place_tail : (a x : Operation) (xs : List Operation) → same a x ≡ false → position_in (x ∷ xs) a ≡ 1 + position_in xs a
+pub place_tail : (a x : Operation) (xs : List Operation) → same a x ≡ false → position_in (x ∷ xs) a ≡ 1 + position_in xs a
 place_tail a x xs e = rw e refl
 
-place_head : (a x : Operation) (xs : List Operation) → same a x ≡ true → position_in (x ∷ xs) a ≡ 0
+pub place_head : (a x : Operation) (xs : List Operation) → same a x ≡ true → position_in (x ∷ xs) a ≡ 0
 place_head a x xs e = rw e refl
 
 pub out_of_order : (must : Operation → Operation → Bool) (xs : List Operation) (a b : Operation) → IsDistinct xs → first_out_of_order must xs ≡ Some (a, b) → OutOfOrder must xs a b
