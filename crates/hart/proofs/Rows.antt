@@ -62,7 +62,7 @@ reached-push hart (x ∷ xs) entry = reached-push (after hart x) xs entry
 -- ---- one step
 
 -- memory's size is of no matter to a private instruction
-stop_of-private : (i : Instr) (pc : ℕ) (x : List ℕ) (m n : ℕ) → access_of i x ≡ Private → stop_of i pc x m ≡ stop_of i pc x n
+pub stop_of-private : (i : Instr) (pc : ℕ) (x : List ℕ) (m n : ℕ) → access_of i x ≡ Private → stop_of i pc x m ≡ stop_of i pc x n
 stop_of-private (instr.Upper op rd imm) pc x m n e = refl
 stop_of-private (instr.Jal rd offset) pc x m n e = refl
 stop_of-private (instr.Jalr rd rs1 offset) pc x m n e = refl
@@ -113,12 +113,12 @@ local_by (Calls number argument) None t f = refl
 pub is_local-planned : (i : Instr) (hart : Hart) (size : ℕ) → is_local (planned i hart.pc hart.regs size) ≡ is_done_alone hart (Some i)
 is_local-planned i hart size = local_by (access_of i hart.regs) (stop_of i hart.pc hart.regs size) (stop_of i hart.pc hart.regs 0) (stop_of-private i hart.pc hart.regs size 0)
 
-running_status : (s : Status) → is_running s ≡ true → s ≡ Running
+pub running_status : (s : Status) → is_running s ≡ true → s ≡ Running
 running_status Running e = refl
 running_status (Stopped code) e = absurd (false≢true e)
 running_status (Exited code) e = absurd (false≢true e)
 
-private_runs_on : (a : Access) → is_private a ≡ true → status_after a ≡ Running
+pub private_runs_on : (a : Access) → is_private a ≡ true → status_after a ≡ Running
 private_runs_on Private e = refl
 private_runs_on (Loads address bytes) e = absurd (false≢true e)
 private_runs_on (Stores address bytes value) e = absurd (false≢true e)

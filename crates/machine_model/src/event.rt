@@ -13,6 +13,6 @@ pub enum Event {
     Evict { hart: u8, line: u32 },
     /// The first message of the hart's queue of this channel arrives.
     Deliver { channel: Channel, hart: u8 },
-    /// The hart's next `count` instructions, 1 to 256, none of which touches memory, fences or calls.
+    /// The hart's next `count` instructions, 1 to 256, none of which touches memory, fences, calls or stops.
     Local { hart: u8, count: u32 },
 }

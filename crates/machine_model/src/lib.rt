@@ -1,11 +1,15 @@
 //! What a machine is made of, what happens to it, and what comes of it.
 #![tactic(auto)]
 
+mod act;
 mod config;
 mod event;
+mod laws;
 mod outcome;
 
+pub use act::{Act, Deed, Plan};
 pub use config::Config;
 pub use event::Event;
+pub use laws::{image_and_config_stay, local_is_steps, nothing_is_rewritten, runs_always};
 pub use memory_model::Model;
 pub use outcome::Outcome;

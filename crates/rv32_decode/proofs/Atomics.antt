@@ -1,23 +1,15 @@
 -- Words of the opcode AMO.
-use Rattle.std.proofs.Common.{◌≡◌, ◌≢◌, ℕ, zero, suc, ◌+◌, ◌*◌, ◌/◌, ◌%◌, ◌^◌, ◌<◌, ◌≤◌, Bool, true, false, ◌&&◌, cond, Option, Some, None, refl, sym, ap, ◌∙◌, arith, bit_and, lit<}
+use Rattle.std.proofs.Common.{◌≡◌, ℕ, ◌/◌, ◌%◌, ◌&&◌, cond, Some, None, refl, ◌∙◌, arith, bit_and, lit<}
 use Rattle.std.specs.Prelude.{◌==◌, nat_eq}
 use Rattle.std.specs.Option.{option_map}
-use Rattle.std.proofs.lemmas.Bool.{false≢true, eqb-true, eq-eqb, ne_eqb, and_parts, and_from}
-use Rattle.rv32_decode.specs.Fields.{rd_of, rs1_of, rs2_of, imm_i, imm_s, imm_b, imm_u, imm_j, annotations_of, fences_of}
+use Rattle.rv32_decode.specs.Fields.{rd_of, rs1_of, rs2_of, annotations_of}
 use Rattle.rv32_decode.specs.Rows.{Row, Name, rows, is_in, decoded, instr_of, is_tso}
 use Rattle.rv32_decode.specs.Rows as name
-use Rattle.rv32_decode.specs.Decoding.{branch_of, load_of, store_of, immediate_of, shift_of, register_of, amo_of}
-use Rattle.rv32_decode.specs.declared.instruction.Instr.{Instr}
+use Rattle.rv32_decode.specs.Decoding.{amo_of}
 use Rattle.rv32_decode.specs.declared.instruction.Instr.TheVariants as instr
-use Rattle.rv32_decode.specs.declared.instruction.UpperOp.TheVariants as upper
-use Rattle.rv32_decode.specs.declared.instruction.SystemOp.TheVariants as system
-use Rattle.rv32_decode.specs.declared.instruction.ShiftOp.TheVariants as shift
-use Rattle.rv32_decode.specs.declared.instruction.RegisterOp.TheVariants as register
 use Rattle.rv32_decode.specs.declared.instruction.AmoOp.TheVariants as amo
-use Rattle.rv32_decode.specs.declared.instruction.ImmediateOp.TheVariants as immediate
-use Rattle.rv32_decode.proofs.Masks.{mask_opcode, mask_funct3, mask_funct5, mask_funct7, mask_reserved, mask_whole}
-use Rattle.rv32_decode.proofs.Table.{decoded_among, decoded_opcode}
-use Rattle.rv32_decode.proofs.Cases.{by_eight, under, same_test, test_7, test_5, test_reserved, choose, first}
+use Rattle.rv32_decode.proofs.Table.{decoded_among}
+use Rattle.rv32_decode.proofs.Cases.{by_eight, test_5, test_reserved, choose, first}
 
 amos : (w : ℕ) → w % 128 ≡ 0x2f → w / 4096 % 8 ≡ 2
     → option_map (λ (r : Row). instr_of r.name w) (cond (nat_eq (bit_and w 0xf800707f) 0x0800202f) (Some (name.row 0xf800707f 0x0800202f (name.Amo amo.Swap))) (cond (nat_eq (bit_and w 0xf800707f) 0x0000202f) (Some (name.row 0xf800707f 0x0000202f (name.Amo amo.Add))) (cond (nat_eq (bit_and w 0xf800707f) 0x2000202f) (Some (name.row 0xf800707f 0x2000202f (name.Amo amo.Xor))) (cond (nat_eq (bit_and w 0xf800707f) 0x6000202f) (Some (name.row 0xf800707f 0x6000202f (name.Amo amo.And))) (cond (nat_eq (bit_and w 0xf800707f) 0x4000202f) (Some (name.row 0xf800707f 0x4000202f (name.Amo amo.Or))) (cond (nat_eq (bit_and w 0xf800707f) 0x8000202f) (Some (name.row 0xf800707f 0x8000202f (name.Amo amo.Min))) (cond (nat_eq (bit_and w 0xf800707f) 0xa000202f) (Some (name.row 0xf800707f 0xa000202f (name.Amo amo.Max))) (cond (nat_eq (bit_and w 0xf800707f) 0xc000202f) (Some (name.row 0xf800707f 0xc000202f (name.Amo amo.Minu))) (cond (nat_eq (bit_and w 0xf800707f) 0xe000202f) (Some (name.row 0xf800707f 0xe000202f (name.Amo amo.Maxu))) (None)))))))))) ≡ option_map (λ op. instr.Amo op (rd_of w) (rs1_of w) (rs2_of w) (annotations_of w)) (amo_of (w / 134217728 % 32))

@@ -1,26 +1,17 @@
 -- What a word of a given opcode is, by funct3.
-use Rattle.std.proofs.Common.{◌≡◌, ◌≢◌, ℕ, zero, suc, ◌+◌, ◌*◌, ◌/◌, ◌%◌, ◌^◌, ◌<◌, ◌≤◌, Bool, true, false, ◌&&◌, cond, Option, Some, None, refl, sym, ap, ◌∙◌, arith, bit_and, lit<}
-use Rattle.std.specs.Prelude.{◌==◌, nat_eq}
+use Rattle.std.proofs.Common.{◌≡◌, ℕ, ◌/◌, ◌%◌, cond, Some, None, refl, ◌∙◌, arith}
+use Rattle.std.specs.Prelude.{◌==◌}
 use Rattle.std.specs.Option.{option_map}
-use Rattle.std.proofs.lemmas.Bool.{false≢true, eqb-true, eq-eqb, ne_eqb, and_parts, and_from}
-use Rattle.rv32_decode.specs.Fields.{rd_of, rs1_of, rs2_of, imm_i, imm_s, imm_b, imm_u, imm_j, annotations_of, fences_of}
+use Rattle.rv32_decode.specs.Fields.{rd_of, rs1_of, rs2_of, imm_i, imm_s, imm_b, fences_of}
 use Rattle.rv32_decode.specs.Rows.{Row, Name, rows, is_in, decoded, instr_of, is_tso}
 use Rattle.rv32_decode.specs.Rows as name
-use Rattle.rv32_decode.specs.Decoding.{branch_of, load_of, store_of, immediate_of, shift_of, register_of, amo_of}
-use Rattle.rv32_decode.specs.declared.instruction.Instr.{Instr}
+use Rattle.rv32_decode.specs.Decoding.{branch_of, load_of, store_of}
 use Rattle.rv32_decode.specs.declared.instruction.Instr.TheVariants as instr
 use Rattle.rv32_decode.specs.declared.instruction.BranchOp.TheVariants as branch
 use Rattle.rv32_decode.specs.declared.instruction.LoadOp.TheVariants as load
 use Rattle.rv32_decode.specs.declared.instruction.StoreOp.TheVariants as store
-use Rattle.rv32_decode.specs.declared.instruction.UpperOp.TheVariants as upper
-use Rattle.rv32_decode.specs.declared.instruction.SystemOp.TheVariants as system
-use Rattle.rv32_decode.specs.declared.instruction.ShiftOp.TheVariants as shift
-use Rattle.rv32_decode.specs.declared.instruction.RegisterOp.TheVariants as register
-use Rattle.rv32_decode.specs.declared.instruction.AmoOp.TheVariants as amo
-use Rattle.rv32_decode.specs.declared.instruction.ImmediateOp.TheVariants as immediate
-use Rattle.rv32_decode.proofs.Masks.{mask_opcode, mask_funct3, mask_funct5, mask_funct7, mask_reserved, mask_whole}
-use Rattle.rv32_decode.proofs.Table.{decoded_among, decoded_opcode}
-use Rattle.rv32_decode.proofs.Cases.{by_eight, under, same_test, test_7, test_5, test_reserved, choose, first, found}
+use Rattle.rv32_decode.proofs.Table.{decoded_among}
+use Rattle.rv32_decode.proofs.Cases.{by_eight, under, found}
 
 pub decoded_branch : (w : ℕ) → w % 128 ≡ 0x63
     → decoded w ≡ option_map (λ op. instr.Branch op (rs1_of w) (rs2_of w) (imm_b w)) (branch_of (w / 4096 % 8))

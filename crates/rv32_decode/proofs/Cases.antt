@@ -1,21 +1,10 @@
 -- Cases on funct3, and the rows' tests in terms of fields.
-use Rattle.std.proofs.Common.{◌≡◌, ◌≢◌, ℕ, zero, suc, ◌+◌, ◌*◌, ◌/◌, ◌%◌, ◌^◌, ◌<◌, ◌≤◌, Bool, true, false, ◌&&◌, cond, Option, Some, None, refl, sym, ap, ◌∙◌, arith, bit_and, lit<}
+use Rattle.std.proofs.Common.{◌≡◌, ℕ, zero, suc, ◌+◌, ◌*◌, ◌/◌, ◌%◌, ◌<◌, Bool, true, false, ◌&&◌, cond, Option, Some, None, refl, sym, ap, ◌∙◌, arith, bit_and}
 use Rattle.std.specs.Prelude.{◌==◌, nat_eq}
 use Rattle.std.specs.Option.{option_map}
 use Rattle.std.proofs.lemmas.Bool.{false≢true, eqb-true, eq-eqb, ne_eqb, and_parts, and_from}
-use Rattle.rv32_decode.specs.Fields.{rd_of, rs1_of, rs2_of, imm_i, imm_s, imm_b, imm_u, imm_j, annotations_of, fences_of}
-use Rattle.rv32_decode.specs.Rows.{Row, Name, rows, is_in, decoded, instr_of, is_tso}
-use Rattle.rv32_decode.specs.Rows as name
-use Rattle.rv32_decode.specs.Decoding.{branch_of, load_of, store_of, immediate_of, shift_of, register_of, amo_of}
-use Rattle.rv32_decode.specs.declared.instruction.Instr.{Instr}
-use Rattle.rv32_decode.specs.declared.instruction.Instr.TheVariants as instr
-use Rattle.rv32_decode.specs.declared.instruction.UpperOp.TheVariants as upper
-use Rattle.rv32_decode.specs.declared.instruction.SystemOp.TheVariants as system
-use Rattle.rv32_decode.specs.declared.instruction.ShiftOp.TheVariants as shift
-use Rattle.rv32_decode.specs.declared.instruction.RegisterOp.TheVariants as register
-use Rattle.rv32_decode.specs.declared.instruction.AmoOp.TheVariants as amo
-use Rattle.rv32_decode.specs.declared.instruction.ImmediateOp.TheVariants as immediate
-use Rattle.rv32_decode.proofs.Masks.{mask_opcode, mask_funct3, mask_funct5, mask_funct7, mask_reserved, mask_whole}
+use Rattle.rv32_decode.specs.Rows.{Row, instr_of}
+use Rattle.rv32_decode.proofs.Masks.{mask_funct3, mask_funct5, mask_funct7, mask_reserved}
 
 -- a fact for each number below 8
 pub by_eight : (P : ℕ → Type 0) → P 0 → P 1 → P 2 → P 3 → P 4 → P 5 → P 6 → P 7 → (n : ℕ) → n < 8 → P n

@@ -1,5 +1,5 @@
 -- The rows' masks, in terms of fields.
-use Rattle.std.proofs.Common.{◌≡◌, ℕ, ◌+◌, ◌-◌, ◌*◌, ◌/◌, ◌%◌, ◌^◌, ◌<◌, ◌≤◌, refl, sym, ap, ◌∙◌, arith, bit_and}
+use Rattle.std.proofs.Common.{◌≡◌, ℕ, ◌+◌, ◌*◌, ◌/◌, ◌%◌, ◌^◌, ◌<◌, arith, bit_and}
 use Rattle.std.proofs.lemmas.Nat.{and_shr, and_mod, and_mask}
 
 pub mask_opcode : (w : ℕ) → bit_and w 0x7f ≡ w % 128

@@ -1,13 +1,11 @@
 -- The rows that a word can be in once its opcode and funct3 are known.
-use Rattle.std.proofs.Common.{◌≡◌, ℕ, zero, suc, ◌+◌, ◌-◌, ◌*◌, ◌/◌, ◌%◌, ◌^◌, ◌<◌, ◌≤◌, List, [], ◌∷◌, Bool, true, false, ◌&&◌, ◌||◌, cond, Option, Some, None, refl, sym, ap, ◌∙◌, subst, arith, bit_and}
-use Rattle.std.specs.Prelude.{◌==◌, nat_eq}
+use Rattle.std.proofs.Common.{◌≡◌, ℕ, ◌/◌, ◌%◌, List, [], ◌∷◌, Bool, true, false, ◌&&◌, ◌||◌, Option, Some, None, refl, sym, ap, ◌∙◌, arith, bit_and}
+use Rattle.std.specs.Prelude.{◌==◌}
 use Rattle.std.specs.Option.{option_map}
 use Rattle.std.specs.List.{find, filter, list_all}
 use Rattle.std.proofs.lemmas.Nat.{and_shr, and_mod, and_mask}
 use Rattle.std.proofs.lemmas.Bool.{false≢true, eqb-true, eq-eqb, and_parts, and_from}
-use Rattle.rv32_decode.specs.Fields.{opcode_of, funct3_of}
 use Rattle.rv32_decode.specs.Rows.{Row, rows, is_in, row_of, decoded, instr_of}
-use Rattle.rv32_decode.specs.declared.instruction.Instr.{Instr}
 
 -- a row's mask takes the whole opcode, and funct3 whole or not at all
 abbrev is_regular : Row → Bool

@@ -1,5 +1,5 @@
 -- The rows of the instruction table, in the order of the manual's listings (RISC-V Unprivileged ISA 20191213, chapter 24: RV32I without FENCE.I and CSR instructions, RV32M, RV32A).
-use Rattle.std.specs.Prelude.{ℕ, Bool, ◌&&◌, ◌==◌, if◌then◌else◌, List, [], ◌∷◌, Option, Some, None, option_map, bit_and, find}
+use Rattle.std.specs.Prelude.{ℕ, Bool, ◌&&◌, ◌==◌, if◌then◌else◌, List, [], ◌∷◌, Option, option_map, bit_and, find}
 use Rattle.rv32_decode.specs.Fields.{bits_of, rd_of, rs1_of, rs2_of, imm_i, imm_s, imm_b, imm_u, imm_j, annotations_of, fences_of}
 use Rattle.rv32_decode.specs.declared.instruction.Instr.{Instr}
 use Rattle.rv32_decode.specs.declared.instruction.Instr.TheVariants as instr

@@ -1,7 +1,7 @@
 -- A plan, as the meaning's stop or access.
 use Rattle.std.specs.Prelude.{ℕ, ◌==◌, if◌then◌else◌, List, Option, Some, None}
 use Rattle.rv32_decode.specs.declared.instruction.Instr.{Instr}
-use Rattle.rv32_exec.specs.Meaning.{Access, Private, Loads, Stores, Reserves, Tries, Updates, Fences, Calls, Effect, Meaning, Stops, Does, access_of, stop_of}
+use Rattle.rv32_exec.specs.Meaning.{Access, Private, Loads, Stores, Reserves, Tries, Updates, Fences, Calls, Meaning, Stops, Does, access_of, stop_of}
 use Rattle.rv32_exec.specs.declared.plans.Plan.{Plan}
 use Rattle.rv32_exec.specs.declared.plans.Plan.TheVariants as plan
 use Rattle.rv32_exec.specs.declared.plans.Width.{Width}

@@ -3,7 +3,7 @@
 use Rattle.std.specs.Prelude.{ℕ, ◌==◌, if◌then◌else◌, List, [], ◌∷◌, ◌++◌}
 use Rattle.rv32_decode.specs.declared.instruction.Instr.{Instr}
 use Rattle.rv32_decode.specs.declared.instruction.Instr.TheVariants.{Upper, Jal, Jalr, Branch, Load, Store, Immediate, Shift, Register, Fence, FenceTso, System, Lr, Sc, Amo}
-use Rattle.rv32_decode.specs.declared.instruction.SystemOp.TheVariants.{Ecall, Ebreak}
+use Rattle.rv32_decode.specs.declared.instruction.SystemOp.TheVariants.{Ecall}
 
 -- the registers of an access's address, those of the number that it stores, those read otherwise, and those written
 pub record Uses : Type 0 where

@@ -8,31 +8,31 @@ use Rattle.std.specs.Prelude.{nat_lt}
 use Rattle.hart.specs.declared.retired.Retired.{Retired}
 use Rattle.trace_recorder.specs.declared.operation.OpId.{OpId}
 use Rattle.trace_recorder.specs.History.{History}
-use Rattle.memory_model.specs.Items.{gives_one}
+use Rattle.memory_model.specs.Items.{has_operation}
 use Rattle.memory_model.specs.Traces.{names_from, names_of_harts}
 use Rattle.rvwmo_order.specs.Limits.{IsWithinLimits}
 
-named_as_given : (id place : ℕ) (es : List Retired) → length (names_from id place es) ≡ length (filter gives_one es)
+named_as_given : (id place : ℕ) (es : List Retired) → length (names_from id place es) ≡ length (filter has_operation es)
 named_as_given id place [] = refl
-named_as_given id place (entry ∷ rest) = go (gives_one entry) (named_as_given id (place + 1) rest)
+named_as_given id place (entry ∷ rest) = go (has_operation entry) (named_as_given id (place + 1) rest)
   where
-    go : (b : Bool) → length (names_from id (place + 1) rest) ≡ length (filter gives_one rest)
-        → length (cond b (record { hart = id; place = place } ∷ names_from id (place + 1) rest) (names_from id (place + 1) rest)) ≡ length (cond b (entry ∷ filter gives_one rest) (filter gives_one rest))
+    go : (b : Bool) → length (names_from id (place + 1) rest) ≡ length (filter has_operation rest)
+        → length (cond b (record { hart = id; place = place } ∷ names_from id (place + 1) rest) (names_from id (place + 1) rest)) ≡ length (cond b (entry ∷ filter has_operation rest) (filter has_operation rest))
     go true ih = ap suc ih
     go false ih = ih
 
 -- the operations from a hart on are its own and those of the harts behind it
 pub hart_counted : (id : ℕ) (es : List (List Retired)) → id < length es
-    → length (names_of_harts id (drop id es)) ≡ length (filter gives_one (get_or es id [])) + length (names_of_harts (id + 1) (drop (id + 1) es))
+    → length (names_of_harts id (drop id es)) ≡ length (filter has_operation (get_or es id [])) + length (names_of_harts (id + 1) (drop (id + 1) es))
 hart_counted id es h =
     ap length (at_drop_more (names_of_harts id) es id [] h)
     ∙ (length-append (names_from id 0 (get_or es id [])) (names_of_harts (id + 1) (drop (id + 1) es))
     ∙ ap (λ (n : ℕ). n + length (names_of_harts (id + 1) (drop (id + 1) es))) (named_as_given id 0 (get_or es id [])))
 
-pub few_given : (t : History) (id : ℕ) → id < length t.entries → IsWithinLimits t → length (filter gives_one (get_or t.entries id [])) ≤ 1000000
+pub few_given : (t : History) (id : ℕ) → id < length t.entries → IsWithinLimits t → length (filter has_operation (get_or t.entries id [])) ≤ 1000000
 few_given t id h limits =
-    let a = count_by-le-length gives_one (get_or t.entries id []) in
-    let e = length-filter gives_one (get_or t.entries id []) in
+    let a = count_by-le-length has_operation (get_or t.entries id []) in
+    let e = length-filter has_operation (get_or t.entries id []) in
     let b : length (get_or t.entries id []) ≤ 1000000 = All-get_or (λ es. length es ≤ 1000000) t.entries id [] h limits.places in
     omega arith
 

@@ -8,7 +8,8 @@ use Rattle.memory_model.specs.declared.operation.Operation.{Operation}
 use Rattle.memory_model.specs.Items.{Item}
 use Rattle.memory_model.specs.Legal.{is_atomic, returns_sources}
 use Rattle.memory_model.specs.Operations.{same}
-use Rattle.memory_model.specs.Order.{IsDistinct, before}
+use Rattle.memory_model.proofs.Named.{EachOnce}
+use Rattle.memory_model.specs.Order.{before}
 use Rattle.memory_model.specs.Rules.{asked_by, items_of, paired}
 use Rattle.memory_model.specs.Traces.{image_of, instructions, operations_at}
 use Rattle.memory_model.specs.Verdict.{Breaks, Code, codes}
@@ -53,7 +54,7 @@ module _ (model : Model) (image : ℕ → ℕ) (harts : List (List Item)) (order
   pair_named : (a b : Operation) → is_broken_pair harts order a b ≡ true → is_named_by model image harts order 15 a b ≡ true
   pair_named a b e = or_left _ _ e
 
-  rule_found : (rs : List Rule) (r : Rule) (a b : Operation) → IsDistinct order → first_broken_rule model harts order rs ≡ Some (r, a, b) → OutOfOrder (asked_by model harts order (rule_of r)) order a b
+  rule_found : (rs : List Rule) (r : Rule) (a b : Operation) → EachOnce order → first_broken_rule model harts order rs ≡ Some (r, a, b) → OutOfOrder (asked_by model harts order (rule_of r)) order a b
   rule_found [] r a b d e = cc
   rule_found (q ∷ rs) r a b d e = go (first_out_of_order (asked_by model harts order (rule_of q)) order) refl e (rule_found rs r a b d)
     where
@@ -95,7 +96,7 @@ module _ (model : Model) (image : ℕ → ℕ) (harts : List (List Item)) (order
           let t = found (λ r. is_broken_pair harts order r w) order r f in
           (subst (λ (y : Operation). is_broken_pair harts order a y ≡ true) same_w (subst (λ (x : Operation). is_broken_pair harts order x w ≡ true) same_r t.0), subst (λ (x : Operation). Member x order) same_r t.1, inl (sym same_w))
 
-pub sound : (model : Model) (t : History) (names : List OpId) → IsDistinct (operations_at (instructions t) names)
+pub sound : (model : Model) (t : History) (names : List OpId) → EachOnce (operations_at (instructions t) names)
     → IsSound model t names (judged model (image_of t) (instructions t) (operations_at (instructions t) names))
 sound model t names d =
     go (first_broken_rule model (instructions t) (operations_at (instructions t) names) all_rules) refl (wrong_load (image_of t) (operations_at (instructions t) names)) refl (first_broken_pair (instructions t) (operations_at (instructions t) names) (operations_at (instructions t) names)) refl

@@ -11,11 +11,12 @@ use Rattle.memory_model.specs.declared.operation.Operation.{Operation}
 use Rattle.memory_model.specs.Items.{Item}
 use Rattle.memory_model.specs.Legal.{returns_sources}
 use Rattle.memory_model.specs.Operations.{precedes, same}
-use Rattle.memory_model.specs.Order.{IsDistinct, before, position_in}
+use Rattle.memory_model.specs.Order.{before, position_in}
 use Rattle.memory_model.specs.Rules.{asked_by, items_of}
 use Rattle.memory_model.specs.Verdict.{Code, Fault, code_of_atomicity, code_of_rule, code_of_values, codes, fault_of, fault_or, first_broken, first_fault, name_of, pairs_of}
 use Rattle.memory_model.proofs.Forms.{same-self, same-swap}
 use Rattle.memory_model.proofs.Lists.{Each-weaker}
+use Rattle.memory_model.proofs.Named.{EachOnce}
 use Rattle.rvwmo_order.specs.Answers.{fault_told}
 use Rattle.rvwmo_order.specs.Codes.{rule_of}
 use Rattle.rvwmo_order.specs.Scans.{all_rules, first_broken_pair, first_broken_rule, first_out_of_order, found_or, is_broken_pair, judged, ruled_or, verdict_by, wrong_load}
@@ -96,7 +97,7 @@ less_behind m n = grind (arith, nat_tests)
 before_behind : (x a b : Operation) (xs : List Operation) → same x a ≡ false → same x b ≡ false → before (x ∷ xs) a b ≡ before xs a b
 before_behind x a b xs e f = rw (place_tail a x xs (same-swap x a e), place_tail b x xs (same-swap x b f)) (less_behind (position_in xs a) (position_in xs b))
 
-pub inverted : (must : Operation → Operation → Bool) → ((a : Operation) → must a a ≡ false) → (xs : List Operation) → IsDistinct xs → first_pair (is_inverted must xs) xs xs ≡ first_out_of_order must xs
+pub inverted : (must : Operation → Operation → Bool) → ((a : Operation) → must a a ≡ false) → (xs : List Operation) → EachOnce xs → first_pair (is_inverted must xs) xs xs ≡ first_out_of_order must xs
 inverted must irr [] d = refl
 inverted must irr (x ∷ xs) d =
     ap (λ (o : Option Operation). found_or o x (first_pair (is_inverted must (x ∷ xs)) (x ∷ xs) xs))
@@ -122,7 +123,7 @@ wrong_head ok x xs h =
     ap (λ (c : Bool). cond (c && not (ok x)) (Some x) (find (λ a. is_wrong ok a x) xs)) (same-self x)
     ∙ ap (λ (o : Option Operation). cond (not (ok x)) (Some x) o) (found_none (λ a. is_wrong ok a x) xs (Each-weaker (λ a. same x a ≡ false) (λ a. is_wrong ok a x ≡ false) (λ a e. and_left (same a x) (not (ok a)) (same-swap x a e)) xs h))
 
-pub wrong_found : (ok : Operation → Bool) (xs : List Operation) → IsDistinct xs → first_pair (is_wrong ok) xs xs ≡ twice (find (λ a. not (ok a)) xs)
+pub wrong_found : (ok : Operation → Bool) (xs : List Operation) → EachOnce xs → first_pair (is_wrong ok) xs xs ≡ twice (find (λ a. not (ok a)) xs)
 wrong_found ok [] d = refl
 wrong_found ok (x ∷ xs) d =
     ap (λ (o : Option Operation). found_or o x (first_pair (is_wrong ok) (x ∷ xs) xs)) (wrong_head ok x xs d.0)
@@ -158,7 +159,7 @@ abbrev pub told_by : Option (Rule × Operation × Operation) → Option Fault �
 told_by None rest = rest
 told_by (Some f) rest = Some (fault_of (rule_of f.0).number (pair f.1 f.2))
 
-module _ (model : Model) (image : ℕ → ℕ) (harts : List (List Item)) (order : List Operation) (d : IsDistinct order) where
+module _ (model : Model) (image : ℕ → ℕ) (harts : List (List Item)) (order : List Operation) (d : EachOnce order) where
   rule_first : (r : Rule) → first_broken (code_of_rule model harts order (rule_of r)) order ≡ first_out_of_order (asked_by model harts order (rule_of r)) order
   rule_first r = pairs_found (is_inverted (asked_by model harts order (rule_of r)) order) order order ∙ inverted (asked_by model harts order (rule_of r)) (no_rule_of_itself model harts order r) order d
 

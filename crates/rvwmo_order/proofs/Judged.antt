@@ -7,7 +7,8 @@ use Rattle.memory_model.specs.declared.operation.Operation.{Operation}
 use Rattle.memory_model.specs.Items.{Item}
 use Rattle.memory_model.specs.Legal.{IsLegal, is_atomic, keeps_atomicity, keeps_load_values, keeps_preserved_order, returns_sources}
 use Rattle.memory_model.specs.Operations.{precedes, same}
-use Rattle.memory_model.specs.Order.{IsDistinct, before, in_order, none_must_precede, position_in}
+use Rattle.memory_model.proofs.Named.{EachOnce}
+use Rattle.memory_model.specs.Order.{before, in_order, none_must_precede, position_in}
 use Rattle.memory_model.specs.Rules.{asked_by, items_of, paired, preserved}
 use Rattle.memory_model.proofs.Forms.{same-self, same-swap}
 use Rattle.memory_model.proofs.Legality.{in_order-weaker}
@@ -82,7 +83,7 @@ place_tail a x xs e = rw e refl
 pub place_head : (a x : Operation) (xs : List Operation) → same a x ≡ true → position_in (x ∷ xs) a ≡ 0
 place_head a x xs e = rw e refl
 
-pub out_of_order : (must : Operation → Operation → Bool) (xs : List Operation) (a b : Operation) → IsDistinct xs → first_out_of_order must xs ≡ Some (a, b) → OutOfOrder must xs a b
+pub out_of_order : (must : Operation → Operation → Bool) (xs : List Operation) (a b : Operation) → EachOnce xs → first_out_of_order must xs ≡ Some (a, b) → OutOfOrder must xs a b
 out_of_order must [] a b d e = absurd (some_is_not (a, b) (sym e))
 out_of_order must (x ∷ xs) a b d e = go (find (λ c. must c x) xs) refl e (out_of_order must xs a b d.1)
   where

@@ -6,9 +6,8 @@ use Rattle.elf_loader.specs.Image.{Initial, byte_at}
 use Rattle.memory_model.specs.declared.Model.{Model}
 use Rattle.memory_model.specs.declared.operation.Operation.{Operation}
 use Rattle.memory_model.specs.Items.{Item}
-use Rattle.memory_model.specs.Order.{IsDistinct}
-use Rattle.memory_model.specs.Traces.{IsLegalOrder, image_of, instructions, is_among, is_distinct, is_order, names_in, operations_at}
-use Rattle.memory_model.proofs.Named.{Pairwise-from_is_distinct, operations_distinct}
+use Rattle.memory_model.specs.Traces.{IsLegalOrder, image_of, instructions, is_among, is_distinct, has_each_operation_once, names_in, operations_at}
+use Rattle.memory_model.proofs.Named.{EachOnce, Pairwise-from_is_distinct, operations_distinct}
 use Rattle.trace_recorder.specs.History.{History}
 use Rattle.trace_recorder.specs.declared.operation.OpId.{OpId}
 use Rattle.memory_model.specs.Verdict.{fault_in}
@@ -20,7 +19,7 @@ use Rattle.rvwmo_order.proofs.Faults.{sound}
 use Rattle.rvwmo_order.proofs.First.{first_told}
 use Rattle.rvwmo_order.proofs.Judged.{judged-from_legal, legal-from_judged}
 
-distinct_in : (t : History) (order : List OpId) → is_order t order ≡ true → IsDistinct (operations_at (instructions t) order)
+distinct_in : (t : History) (order : List OpId) → has_each_operation_once t order ≡ true → EachOnce (operations_at (instructions t) order)
 distinct_in t order e =
     let s = and_parts (list_all (is_among (names_in t)) order && is_distinct order) (list_all (is_among order) (names_in t)) e in
     operations_distinct t order (Pairwise-from_is_distinct order (and_parts (list_all (is_among (names_in t)) order) (is_distinct order) s.0).1)
@@ -31,10 +30,10 @@ legal_verdict model t order v e = (
   λ l. e ∙ judged-from_legal model (image_of t) (instructions t) (operations_at (instructions t) order) l,
 )
 
-pub sound_verdict : (model : Model) (t : History) (order : List OpId) (v : Verdict) → is_order t order ≡ true → v ≡ judged model (image_of t) (instructions t) (operations_at (instructions t) order) → IsSound model t order v
+pub sound_verdict : (model : Model) (t : History) (order : List OpId) (v : Verdict) → has_each_operation_once t order ≡ true → v ≡ judged model (image_of t) (instructions t) (operations_at (instructions t) order) → IsSound model t order v
 sound_verdict model t order v o e = subst (λ (w : Verdict). IsSound model t order w) (sym e) (sound model t order (distinct_in t order o))
 
-pub first_verdict : (model : Model) (t : History) (order : List OpId) (v : Verdict) → is_order t order ≡ true → v ≡ judged model (image_of t) (instructions t) (operations_at (instructions t) order) → fault_told v ≡ fault_in model t order
+pub first_verdict : (model : Model) (t : History) (order : List OpId) (v : Verdict) → has_each_operation_once t order ≡ true → v ≡ judged model (image_of t) (instructions t) (operations_at (instructions t) order) → fault_told v ≡ fault_in model t order
 first_verdict model t order v o e = ap fault_told e ∙ first_told model (image_of t) (instructions t) (operations_at (instructions t) order) (distinct_in t order o)
 
 -- ---- by what was computed
@@ -42,5 +41,5 @@ first_verdict model t order v o e = ap fault_told e ∙ first_told model (image_
 pub same_judged : (model : Model) (i j : Initial) (hs gs : List (List Item)) (os ps : List Operation) → i ≡ j → hs ≡ gs → os ≡ ps → judged model (byte_at i) hs os ≡ judged model (byte_at j) gs ps
 same_judged model i j hs gs os ps a b c = rw (a, b, c) refl
 
-pub tested_order : (t : History) (order names : List OpId) → names ≡ names_in t → (list_all (is_among names) order && is_distinct order && list_all (is_among order) names) ≡ is_order t order
+pub tested_order : (t : History) (order names : List OpId) → names ≡ names_in t → (list_all (is_among names) order && is_distinct order && list_all (is_among order) names) ≡ has_each_operation_once t order
 tested_order t order names e = rw e refl

@@ -2,7 +2,7 @@
 use Rattle.std.specs.Prelude.{ℕ, ◌≡◌, nat_lt, if◌then◌else◌, List, length, Option, Some, None, Result, Ok, Err, ⊤}
 use Rattle.memory_model.specs.declared.Model.{Model}
 use Rattle.memory_model.specs.declared.operation.Operation.{Operation}
-use Rattle.memory_model.specs.Traces.{are_runs, image_of, instructions, is_order, names_in, operations_at}
+use Rattle.memory_model.specs.Traces.{are_runs, image_of, instructions, has_each_operation_once, names_in, operations_at}
 use Rattle.memory_model.specs.Verdict as verdict
 use Rattle.memory_model.specs.Verdict.{Breaks, name_of}
 use Rattle.trace_recorder.specs.History.{History}
@@ -18,7 +18,7 @@ use Rattle.rvwmo_order.specs.declared.verdict.Verdict.TheVariants.{Legal, Fault}
 abbrev pub refusal : History → List OpId → Option CheckError
 refusal t order =
     if are_runs t
-    then (if nat_lt 4096 (length (names_in t)) then Some TooLong else (if is_order t order then None else Some NotAnOrder))
+    then (if nat_lt 4096 (length (names_in t)) then Some TooLong else (if has_each_operation_once t order then None else Some NotAnOrder))
     else Some NotARun
 
 abbrev pub refusal_of : Result Verdict CheckError → Option CheckError

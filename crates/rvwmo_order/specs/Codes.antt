@@ -10,19 +10,19 @@ use Rattle.rvwmo_order.specs.declared.verdict.Code.TheVariants.{Order, LoadValue
 
 -- a rule of preserved program order with its number
 abbrev pub rule_of : Rule → rules.Rule
-rule_of OverlappingStore = rules.rule 1 rules.rule_1
-rule_of SameByteLoads = rules.rule 2 rules.rule_2
-rule_of AtomicSource = rules.rule 3 rules.rule_3
-rule_of Fence = rules.rule 4 rules.rule_4
-rule_of Acquire = rules.rule 5 rules.rule_5
-rule_of Release = rules.rule 6 rules.rule_6
-rule_of Annotations = rules.rule 7 rules.rule_7
-rule_of Pair = rules.rule 8 rules.rule_8
-rule_of Address = rules.rule 9 rules.rule_9
-rule_of Data = rules.rule 10 rules.rule_10
-rule_of Control = rules.rule 11 rules.rule_11
-rule_of DependentStore = rules.rule 12 rules.rule_12
-rule_of DependentAddress = rules.rule 13 rules.rule_13
+rule_of OverlappingStore = rules.numbered 1 rules.rule_1
+rule_of SameByteLoads = rules.numbered 2 rules.rule_2
+rule_of AtomicSource = rules.numbered 3 rules.rule_3
+rule_of Fence = rules.numbered 4 rules.rule_4
+rule_of Acquire = rules.numbered 5 rules.rule_5
+rule_of Release = rules.numbered 6 rules.rule_6
+rule_of Annotations = rules.numbered 7 rules.rule_7
+rule_of Pair = rules.numbered 8 rules.rule_8
+rule_of Address = rules.numbered 9 rules.rule_9
+rule_of Data = rules.numbered 10 rules.rule_10
+rule_of Control = rules.numbered 11 rules.rule_11
+rule_of DependentStore = rules.numbered 12 rules.rule_12
+rule_of DependentAddress = rules.numbered 13 rules.rule_13
 
 -- 1 to 13 the rules, 14 the load value axiom, 15 the atomicity axiom
 abbrev pub number_of : Code → ℕ

@@ -8,7 +8,7 @@ use Rattle.memory_model.specs.Legal.{is_atomic, returns_sources}
 use Rattle.memory_model.specs.Dependencies.{between}
 use Rattle.memory_model.specs.Operations.{touches}
 use Rattle.memory_model.specs.Order.{same_source, source}
-use Rattle.memory_model.specs.Rules.{asked_by, gave_store_to, items_of, paired}
+use Rattle.memory_model.specs.Rules.{asked_by, has_store_to, items_of, paired}
 use Rattle.memory_model.specs.Verdict.{name_of}
 use Rattle.trace_recorder.specs.declared.operation.OpId.{OpId}
 use Rattle.rvwmo_order.specs.Codes.{rule_of}
@@ -25,7 +25,7 @@ written_to (Some r) = r ∷ []
 
 -- a and b return byte x from different writes, with no store to it between them in program order
 abbrev pub returns_differently : ℕ → List Item → List Operation → Operation → Operation → Bool
-returns_differently x items order a b = touches x b && not (list_any (λ (m : Item). gave_store_to x m.gave) (between items a b)) && not (same_source (source order a x) (source order b x))
+returns_differently x items order a b = touches x b && not (list_any (λ (m : Item). has_store_to x m.operation) (between items a b)) && not (same_source (source order a x) (source order b x))
 
 -- what was found with b, else what is found elsewhere
 abbrev pub found_or : Option Operation → Operation → Option (Operation × Operation) → Option (Operation × Operation)

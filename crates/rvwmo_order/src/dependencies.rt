@@ -259,8 +259,8 @@ pub(crate) fn has_control_dependency(items: &[Item], a: &Operation, b: &Operatio
 }
 
 /// Whether an instruction between them has an address dependency on `a`; an SC that failed may have one.
-pub(crate) fn has_addressed_between(items: &[Item], a: &Operation, b: &Operation) -> bool
-    ensures { result ≡ spec.has_addressed_between items.now a.now b.now }
+pub(crate) fn has_dependent_address_between(items: &[Item], a: &Operation, b: &Operation) -> bool
+    ensures { result ≡ spec.has_dependent_address_between items.now a.now b.now }
 {
     if !precedes(a, b) {
         return false;

@@ -1,4 +1,4 @@
-//! A hart's retired instructions with the operations that they gave (chapter 14.1, "Memory Model
+//! A hart's retired instructions with their memory operations (chapter 14.1, "Memory Model
 //! Primitives").
 ghost use Rattle.std.specs.Prelude.{◌≡◌, ◌≤◌, ◌*◌, ◌%◌, ◌^◌, IfOk, Some, false, length};
 ghost use Rattle.hart.specs.Run as run;
@@ -14,12 +14,12 @@ use rv32_decode::{Annotations, Instr, LoadOp, StoreOp, decode};
 use std::alloc::{AllocError, Global};
 use std::marker::Model;
 
-/// An instruction of a hart's list: its place, what it is, and the operation that it gave.
+/// An instruction of a hart's list: its place, what it is, and its memory operation, where it has one.
 #[derive(Drop)]
 pub(crate) struct Item {
     place: u32,
     instr: Option<Instr>,
-    gave: Option<Operation>,
+    operation: Option<Operation>,
 }
 
 impl Model for Item {
@@ -27,7 +27,7 @@ impl Model for Item {
 
     ghost Value = { spec.Item };
 
-    ghost view = { λ m. record { place = m.place; instr = m.instr; gave = m.gave } };
+    ghost view = { λ m. record { place = m.place; instr = m.instr; operation = m.operation } };
 }
 
 impl Item {
@@ -43,10 +43,10 @@ impl Item {
         self.instr
     }
 
-    pub(crate) fn gave(&self) -> Option<Operation>
-        ensures { result ≡ self.now.gave }
+    pub(crate) fn operation(&self) -> Option<Operation>
+        ensures { result ≡ self.now.operation }
     {
-        self.gave
+        self.operation
     }
 
     /// The item of a retired instruction, its hart standing before it.
@@ -54,11 +54,15 @@ impl Item {
         ensures { result ≡ spec.item_of place hart.now entry.now }
     {
         let instr = decode(entry.word);
-        let gave = match &instr {
+        let operation = match &instr {
             Some(instr) => operation_of(place, hart, entry, instr),
             None => None,
         };
-        Item { place, instr, gave }
+        Item {
+            place,
+            instr,
+            operation,
+        }
     }
 }
 
@@ -80,9 +84,9 @@ pub(crate) fn items_of(
     Ok(items)
 }
 
-/// Whether an instruction with this SC answer gives an operation.
-pub(crate) fn is_giving(entry: &Retired) -> bool
-    ensures { result ≡ spec.gives_one entry.now }
+/// Whether an entry has a memory operation.
+pub(crate) fn has_operation(entry: &Retired) -> bool
+    ensures { result ≡ spec.has_operation entry.now }
 {
     match decode(entry.word) {
         Some(instr) => match instr {
@@ -103,9 +107,9 @@ pub(crate) fn is_giving(entry: &Retired) -> bool
     }
 }
 
-// The operation that an instruction gave at this place of its hart's list.
+// The operation of an instruction at this place of its hart's list.
 fn operation_of(place: u32, hart: &Hart, entry: &Retired, instr: &Instr) -> Option<Operation>
-    ensures { result ≡ spec.gives place hart.now entry.now (Some instr.now) }
+    ensures { result ≡ spec.operation_of_entry place hart.now entry.now (Some instr.now) }
 {
     match *instr {
         Instr::Load {

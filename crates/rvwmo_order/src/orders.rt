@@ -5,7 +5,7 @@ ghost use Rattle.memory_model.specs.Items as items;
 ghost use Rattle.memory_model.specs.Traces as spec;
 ghost use Rattle.rvwmo_order.specs.Limits.{IsWithinLimits};
 
-use crate::items::{Item, is_giving};
+use crate::items::{Item, has_operation};
 use crate::limits::MAX_OPERATIONS;
 use hart::Retired;
 use memory_model::Operation;
@@ -43,7 +43,7 @@ fn push_names(names: &mut Vec<OpId>, hart: u8, entries: &[Retired]) -> Result<()
     ensures { OnOk result (names.new.items ≡ names.old.items ++ spec.names_from hart 0 entries.now) }
 {
     for (place, entry) in entries.iter().enumerate() {
-        if is_giving(entry) {
+        if has_operation(entry) {
             names.push(OpId {
                 hart,
                 place: place as u32,
@@ -70,11 +70,11 @@ pub fn has_too_many(trace: &Trace) -> bool
 
 // How many operations a hart's list has.
 fn count_of(entries: &[Retired]) -> usize
-    ensures { result ≡ length (filter items.gives_one entries.now) }
+    ensures { result ≡ length (filter items.has_operation entries.now) }
 {
     let mut count = 0;
     for entry in entries {
-        if is_giving(entry) {
+        if has_operation(entry) {
             count += 1;
         }
     }
@@ -133,5 +133,5 @@ fn operation_at(harts: &[Vec<Item>], name: OpId) -> Option<Operation>
     harts
         .get(usize::from(name.hart))?
         .get(name.place as usize)?
-        .gave()
+        .operation()
 }

@@ -1,9 +1,11 @@
 //! The thirteen rules of preserved program order (chapter 14.1, "Preserved Program Order"), each a test of
 //! two operations of one hart, `a` before `b` in program order. `items` is the list of their hart.
-ghost use Rattle.std.specs.Prelude.{◌≡◌, ◌&&◌, Some};
+ghost use Rattle.std.specs.Prelude.{◌≡◌, ◌&&◌, ◌||◌, Some};
 ghost use Rattle.std.specs.List.{list_any};
 ghost use Rattle.memory_model.specs.Rules as spec;
+ghost use Rattle.memory_model.specs.Dependencies as dependencies;
 ghost use Rattle.memory_model.specs.Dependencies.{between};
+ghost use Rattle.memory_model.specs.Operations as operations;
 ghost use Rattle.memory_model.specs.Operations.{bytes_of};
 ghost use Rattle.rvwmo_order.specs.Scans as scans;
 ghost use Rattle.rvwmo_order.specs.Codes.{rule_of};
@@ -13,8 +15,8 @@ use crate::accesses::{
     precedes, reads, stores_to, touches, writes,
 };
 use crate::dependencies::{
-    has_address_dependency, has_addressed_between, has_control_dependency, has_data_dependency,
-    is_between,
+    has_address_dependency, has_control_dependency, has_data_dependency,
+    has_dependent_address_between, is_between,
 };
 use crate::items::Item;
 use crate::sources::{is_same_source, returns_from, source};
@@ -49,7 +51,7 @@ pub(crate) fn asks(
         Rule::Data => has_data_dependency(items, a, b),
         Rule::Control => writes(b.kind) && has_control_dependency(items, a, b),
         Rule::DependentStore => returns_from_dependent(items, order, a, b),
-        Rule::DependentAddress => writes(b.kind) && has_addressed_between(items, a, b),
+        Rule::DependentAddress => writes(b.kind) && has_dependent_address_between(items, a, b),
     }
 }
 
@@ -82,18 +84,18 @@ fn returns_differently(
 
 // Whether a store to `x` stands between them in program order.
 fn has_store_between(items: &[Item], a: &Operation, b: &Operation, x: u64) -> bool
-    ensures { result ≡ list_any (λ m. spec.gave_store_to x m.gave) (between items.now a.now b.now) }
+    ensures { result ≡ list_any (λ m. spec.has_store_to x m.operation) (between items.now a.now b.now) }
 {
     items
         .iter()
         .filter(|item| is_between(item, a, b))
-        .any(|item| gave_store_to(x, item.gave()))
+        .any(|item| has_store_to(x, item.operation()))
 }
 
-fn gave_store_to(x: u64, gave: Option<Operation>) -> bool
-    ensures { result ≡ spec.gave_store_to x gave }
+fn has_store_to(x: u64, operation: Option<Operation>) -> bool
+    ensures { result ≡ spec.has_store_to x operation }
 {
-    match gave {
+    match operation {
         Some(store) => stores_to(x, &store),
         None => false,
     }
@@ -182,12 +184,12 @@ fn returns_from_dependent(items: &[Item], order: &[Operation], a: &Operation, b:
 
 fn returns_from_between(items: &[Item], order: &[Operation], a: &Operation, b: &Operation) -> bool
     ensures { result
-        ≡ list_any (λ m. spec.is_dependent_store items.now a.now m.gave && spec.returns_from_given order.now b.now m.gave) (between items.now a.now b.now) }
+        ≡ list_any (λ m. spec.passes_on items.now order.now a.now b.now m.operation) (between items.now a.now b.now) }
 {
     items
         .iter()
         .filter(|item| is_between(item, a, b))
-        .any(|item| is_returned(items, order, a, b, item.gave()))
+        .any(|item| is_returned(items, order, a, b, item.operation()))
 }
 
 // Whether it is a store whose address or number depends on `a`, and `b` returns a value that it wrote.
@@ -196,12 +198,12 @@ fn is_returned(
     order: &[Operation],
     a: &Operation,
     b: &Operation,
-    gave: Option<Operation>,
+    operation: Option<Operation>,
 ) -> bool
     ensures { result
-        ≡ (spec.is_dependent_store items.now a.now gave && spec.returns_from_given order.now b.now gave) }
+        ≡ spec.passes_on items.now order.now a.now b.now operation }
 {
-    match gave {
+    match operation {
         Some(store) => is_dependent_store(items, a, &store) && returns_from(order, b, &store),
         None => false,
     }
@@ -209,7 +211,7 @@ fn is_returned(
 
 // Whether it is a store whose address or number depends on `a`.
 fn is_dependent_store(items: &[Item], a: &Operation, store: &Operation) -> bool
-    ensures { result ≡ spec.is_dependent_store items.now a.now (Some store.now) }
+    ensures { result ≡ (operations.writes store.now.kind && (dependencies.has_address_dependency items.now a.now store.now || dependencies.has_data_dependency items.now a.now store.now)) }
 {
     writes(store.kind)
         && (has_address_dependency(items, a, store) || has_data_dependency(items, a, store))

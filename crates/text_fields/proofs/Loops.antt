@@ -1,7 +1,6 @@
 use Rattle.std.proofs.Common.{◌≡◌, ℕ, zero, suc, ◌+◌, ◌-◌, ◌<◌, ◌≤◌, List, [], ◌∷◌, ◌++◌, length, take, Option, Some, None, refl, sym, ap, ◌∙◌, append_assoc, arith}
 use Rattle.std.proofs.lemmas.List.{append-nil, take_more_set, take_all, length-set}
 use Rattle.std.specs.Prelude.{slice_set}
-use Rattle.text_fields.specs.Reading as reads
 use Rattle.text_fields.specs.Reading.{◌>>=◌, hex_at, hex_byte_at, all_at, after, section_at}
 use Rattle.text_fields.proofs.Laws.{after_takes}
 use Rattle.std.proofs.lemmas.List.{length-append}

@@ -1,14 +1,13 @@
 -- What is read as a script is spelled so, and what is spelled so is read.
-use Rattle.std.proofs.Common.{◌≡◌, ℕ, zero, suc, ◌+◌, ◌-◌, ◌*◌, ◌^◌, ◌%◌, ◌<◌, ◌≤◌, Bool, ◌&&◌, true, false, cond, eqb, leb, List, [], ◌∷◌, ◌++◌, length, Option, Some, None, Result, Ok, Err, refl, sym, ap, subst, ◌∙◌, append_assoc, arith, inl, inr}
-use Rattle.std.specs.Prelude.{codes, ◌⊎◌, ◌||◌, not}
-use Rattle.std.specs.List.{flat_map, AllByRecursion}
+use Rattle.std.proofs.Common.{◌≡◌, ℕ, ◌^◌, ◌%◌, ◌<◌, ◌≤◌, Bool, ◌&&◌, true, false, eqb, leb, List, [], ◌∷◌, ◌++◌, length, Option, Some, None, Result, Ok, Err, refl, sym, ap, subst, ◌∙◌, arith, inl, inr}
+use Rattle.std.specs.Prelude.{codes, ◌||◌, not}
+use Rattle.std.specs.List.{flat_map}
 use Rattle.std.proofs.lemmas.Bool.Decides.{nat_tests}
-use Rattle.std.proofs.lemmas.Bool.{eqb-true, leb-true, le-leb}
+use Rattle.std.proofs.lemmas.Bool.{eqb-true, leb-true}
 use Rattle.std.proofs.lemmas.List.{length-append}
-use Rattle.std.proofs.lemmas.Option.{none-some, same_Some, some_pair_parts}
 use Rattle.text_fields.specs.Fields.{number, word}
-use Rattle.text_fields.specs.Reading.{◌>>=◌, pair_at, seen_at, led_at, after, number_at, word_at, ended_at, table_at, either, guarded, all_at}
-use Rattle.text_fields.proofs.Laws.{Reads, bind_some, some_is, pair_reads, seen_reads, seen_takes, seen_again, led_reads, number_reads, word_reads, ended_reads, table_reads, after_takes, chosen, both_true, either_takes, guarded_takes, all_takes, all_again}
+use Rattle.text_fields.specs.Reading.{◌>>=◌, pair_at, seen_at, led_at, number_at, table_at, either, guarded, all_at}
+use Rattle.text_fields.proofs.Laws.{Reads, bind_some, some_is, pair_reads, seen_takes, seen_again, led_reads, number_reads, word_reads, ended_reads, table_reads, both_true, either_takes, guarded_takes, all_takes, all_again}
 use Rattle.tl_types.specs.declared.message.Channel.{Channel}
 use Rattle.tl_types.specs.declared.message.Channel.TheVariants.{A, B, C, D, E}
 use Rattle.machine_model.specs.declared.event.Event.{Event}

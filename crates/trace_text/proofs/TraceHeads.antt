@@ -1,5 +1,5 @@
 -- What the test of a header shows.
-use Rattle.std.proofs.Common.{◌≡◌, ◌∙◌, ℕ, ◌+◌, ◌-◌, ◌*◌, ◌^◌, refl, ◌%◌, ◌<◌, ◌≤◌, Bool, ◌&&◌, true, eqb, leb, sym, subst, inl, inr, arith}
+use Rattle.std.proofs.Common.{◌≡◌, ◌∙◌, ℕ, ◌+◌, ◌-◌, ◌*◌, ◌^◌, refl, ◌%◌, ◌<◌, ◌≤◌, ◌&&◌, true, eqb, leb, sym, subst, inl, inr, arith}
 use Rattle.std.proofs.lemmas.Bool.{eqb-true, leb-true}
 use Rattle.elf_loader.specs.Size.{base, IsMemoryKib, IsMemorySize}
 use Rattle.text_fields.proofs.Laws.{both_true}

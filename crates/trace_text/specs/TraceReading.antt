@@ -1,22 +1,12 @@
 -- Reading a trace from left to right. The clauses of read_trace don't rest on these words: they are what its parts answer.
-use Rattle.std.specs.Prelude.{◌≡◌, ℕ, zero, suc, ◌+◌, ◌-◌, ◌*◌, ◌/◌, ◌%◌, Bool, true, false, List, [], ◌∷◌, ◌++◌, Option, Some, None, length, codes, nat_le, ◌==◌, ◌&&◌, ◌||◌, not, replicate, if◌then◌else◌}
-use Rattle.std.specs.Option.{option_map}
-use Rattle.text_fields.specs.Fields.{number, word}
-use Rattle.text_fields.specs.Reading.{◌>>=◌, pair_at, chain_at, seen_at, led_at, ended_at, table_at, after, number_at, word_at, hex_at, either, behind, guarded, section_at}
-use Rattle.elf_loader.specs.Size.{base}
-use Rattle.hart.specs.declared.retired.Retired.{Retired}
-use Rattle.hart.specs.declared.status.Status.{Status}
-use Rattle.hart.specs.declared.status.Status.TheVariants.{Running, Stopped, Exited}
-use Rattle.tl_types.specs.Line.{length_of, bytes_of}
-use Rattle.tl_types.specs.Message.{channel_of}
+use Rattle.std.specs.Prelude.{ℕ, Bool, true, false, List, [], ◌∷◌, Option, Some, None, codes}
+use Rattle.text_fields.specs.Reading.{◌>>=◌, pair_at, chain_at, seen_at, led_at, table_at, after, word_at, hex_at, either}
 use Rattle.tl_types.specs.declared.line.LineSize.{LineSize}
 use Rattle.tl_types.specs.declared.line.LineSize.TheVariants as sizes
 use Rattle.tl_types.specs.declared.line.LineData.{LineData}
 use Rattle.tl_types.specs.declared.line.LineData.TheVariants as lines
 use Rattle.tl_types.specs.declared.message.Body.{Body}
 use Rattle.tl_types.specs.declared.message.Body.TheVariants as bodies
-use Rattle.tl_types.specs.declared.message.Channel.{Channel}
-use Rattle.tl_types.specs.declared.message.Channel.TheVariants as channel_names
 use Rattle.tl_types.specs.declared.message.Msg.{Msg}
 use Rattle.tl_types.specs.declared.permission.Cap.{Cap}
 use Rattle.tl_types.specs.declared.permission.Cap.TheVariants.{ToT, ToB, ToN}
@@ -24,17 +14,10 @@ use Rattle.tl_types.specs.declared.permission.Change.{Change}
 use Rattle.tl_types.specs.declared.permission.Change.TheVariants.{TtoB, TtoN, BtoN, TtoT, BtoB, NtoN}
 use Rattle.tl_types.specs.declared.permission.Grow.{Grow}
 use Rattle.tl_types.specs.declared.permission.Grow.TheVariants.{NtoB, NtoT, BtoT}
-use Rattle.trace_recorder.specs.declared.operation.OpId.{OpId}
 use Rattle.trace_recorder.specs.declared.logged.Direction.{Direction}
 use Rattle.trace_recorder.specs.declared.logged.Direction.TheVariants.{Sent, Taken}
-use Rattle.trace_recorder.specs.declared.logged.Logged.{Logged}
-use Rattle.trace_text.specs.declared.head.TraceHead.{TraceHead}
 use Rattle.trace_text.specs.declared.message_reading.Name.{Name}
 use Rattle.trace_text.specs.declared.message_reading.Name.TheVariants as names
-use Rattle.trace_text.specs.Scripts.{is_first_version}
-use Rattle.trace_text.specs.ScriptReading.{channel_at}
-use Rattle.trace_text.specs.Traces.{any_set}
-use Rattle.trace_text.specs.Words as words
 
 -- ---- words
 

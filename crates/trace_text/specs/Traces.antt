@@ -1,5 +1,5 @@
 -- What a trace is, and its one spelling.
-use Rattle.std.specs.Prelude.{◌≡◌, ℕ, zero, suc, ◌+◌, ◌/◌, Bool, true, false, List, [], ◌∷◌, ◌++◌, ◌||◌, ◌==◌, not, if◌then◌else◌, codes, length, take, drop}
+use Rattle.std.specs.Prelude.{ℕ, zero, suc, ◌+◌, ◌/◌, Bool, false, List, [], ◌∷◌, ◌++◌, ◌||◌, ◌==◌, not, if◌then◌else◌, codes, length, take, drop}
 use Rattle.std.specs.List.{flat_map}
 use Rattle.text_fields.specs.Fields.{number, word, hex, numbered}
 use Rattle.elf_loader.specs.Size.{base}

@@ -164,6 +164,10 @@ pub(crate) fn image_line_into<'a>(
 ) -> Option<&'a [u8]>
     ensures { option_map (λ x. (line.new, x.now)) result ≡ reads.image_line_at line.old address bytes.now }
 {
+    // Most lines of memory are zero, so most times no line of the image stands here.
+    let [b'I', ..] = bytes else {
+        return Some(bytes);
+    };
     let lead = image_lead(address);
     match after(&lead, bytes) {
         Some(rest) => image_data_into(line, rest),

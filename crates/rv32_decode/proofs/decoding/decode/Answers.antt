@@ -1,6 +1,5 @@
-use Rattle.std.proofs.Common.{◌≡◌, ℕ, ◌%◌, Option, Some, None, refl, sym, ap, ◌∙◌, arith}
+use Rattle.std.proofs.Common.{◌≡◌, Some, sym, ap, ◌∙◌, arith}
 use Rattle.rv32_decode.specs.Fields.{rd_of, imm_j}
-use Rattle.rv32_decode.specs.declared.instruction.Instr.{Instr}
 use Rattle.rv32_decode.specs.declared.instruction.Instr.TheVariants as instr
 use Rattle.rv32_decode.proofs.Atomics.{decoded_atomic}
 use Rattle.rv32_decode.proofs.Branches.{decoded_branch, decoded_load, decoded_store, decoded_jalr, decoded_fence}

@@ -1,10 +1,10 @@
 use Rattle.std.proofs.Common.{◌≡◌, ◌+◌, ◌≤◌, drop, length}
 use Rattle.std.specs.Prelude.{filter}
-use Rattle.memory_model.specs.Items.{gives_one}
+use Rattle.memory_model.specs.Items.{has_operation}
 use Rattle.rvwmo_order.proofs.orders.count_of.Given as goal
 
 abbrev pub invariant-loop-entry : goal.invariant-loop-entry
 invariant-loop-entry l = record {
-  counted : l.count + length (filter gives_one (drop l.entry-index l.entries)) ≡ length (filter gives_one l.entries);
+  counted : l.count + length (filter has_operation (drop l.entry-index l.entries)) ≡ length (filter has_operation l.entries);
   few : l.count ≤ l.entry-index;
 }

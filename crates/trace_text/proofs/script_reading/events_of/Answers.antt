@@ -1,4 +1,4 @@
-use Rattle.std.proofs.Common.{◌≡◌, ◌<◌, length, eqb, true, false, arith}
+use Rattle.std.proofs.Common.{◌≡◌, length, eqb, true, false, arith}
 use Rattle.std.proofs.lemmas.Bool.{eqb-true, eqb-false}
 use Rattle.text_fields.proofs.Loops.{reading_more, reading_fails, reading_ends}
 use Rattle.trace_text.specs.ScriptReading.{event_at}

@@ -1,4 +1,4 @@
-use Rattle.std.proofs.Common.{◌+◌, ◌<◌, length, sym, arith}
+use Rattle.std.proofs.Common.{◌+◌, sym, arith}
 use Rattle.text_fields.proofs.Written.{stops, going_as, going_more, going_fails, numbered_first}
 use Rattle.trace_text.specs.Traces.{status}
 use Rattle.trace_text.proofs.TraceWriting.{numbered_tail}

@@ -1,0 +1,5 @@
+pub mod Growth
+pub mod Nodes
+pub mod Retiring
+pub mod Runs
+pub mod Batches

@@ -1,0 +1,5 @@
+use Rattle.machine_model.proofs.Runs.{runs_always}
+use Rattle.machine_model.proofs.laws.runs_always.Goals as goal
+
+pub returns : goal.returns
+returns c = runs_always

@@ -1,0 +1,11 @@
+pub mod Config
+pub mod Views
+pub mod Words
+pub mod Deciding
+pub mod Steps
+pub mod Deliveries
+pub mod Changing
+pub mod Events
+pub mod Coherent
+pub mod LawfulLog
+pub mod Laws
