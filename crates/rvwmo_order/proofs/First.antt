@@ -1,5 +1,5 @@
 -- The fault that the scans find is the first one of the least code.
-use Rattle.std.proofs.Common.{◌≡◌, ℕ, ◌+◌, ◌<◌, List, [], ◌∷◌, ◌++◌, Bool, true, false, Option, Some, None, refl, cond, sym, ap, ◌∙◌, subst, not, ◌&&◌, ◌||◌, arith, find, map}
+use Rattle.std.proofs.Common.{◌≡◌, ℕ, ◌+◌, List, [], ◌∷◌, ◌++◌, Bool, true, false, Option, Some, None, refl, cond, sym, ap, ◌∙◌, not, ◌&&◌, arith, find, map}
 use Rattle.std.specs.Prelude.{nat_eq, nat_lt}
 use Rattle.std.specs.List.{AllByRecursion as Each, flat_map}
 use Rattle.std.specs.Option.{option_map, option_or}
@@ -10,10 +10,10 @@ use Rattle.memory_model.specs.declared.Model.{Model}
 use Rattle.memory_model.specs.declared.operation.Operation.{Operation}
 use Rattle.memory_model.specs.Items.{Item}
 use Rattle.memory_model.specs.Legal.{returns_sources}
-use Rattle.memory_model.specs.Operations.{precedes, same}
+use Rattle.memory_model.specs.Operations.{same}
 use Rattle.memory_model.specs.Order.{before, position_in}
 use Rattle.memory_model.specs.Rules.{asked_by, items_of}
-use Rattle.memory_model.specs.Verdict.{Code, Fault, code_of_atomicity, code_of_rule, code_of_values, codes, fault_of, fault_or, first_broken, first_fault, name_of, pairs_of}
+use Rattle.memory_model.specs.Verdict.{Code, Fault, code_of_atomicity, code_of_rule, code_of_values, codes, fault_of, fault_or, first_broken, first_fault}
 use Rattle.memory_model.proofs.Forms.{same-self, same-swap}
 use Rattle.memory_model.proofs.Lists.{Each-weaker}
 use Rattle.memory_model.proofs.Named.{EachOnce}
