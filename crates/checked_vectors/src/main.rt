@@ -1,4 +1,4 @@
-//! Judges kept traces under a memory model, and prints what the program prints of each. What is wanted is
+//! Judges kept traces under a memory model, and prints the status and what the program prints of each. What is wanted is
 //! kept beside it: verdicts that other implementations of the same rules have given.
 #![tactic(auto)]
 
@@ -68,7 +68,6 @@ const CASES: [(&str, &str); 55] = [
 fn main(rt: HostRuntime) -> io::Result<()> {
     let mut out = rt.stdout();
     for (name, model) in CASES {
-        write!(out, "{name}: ")?;
         print_verdict(&rt, name, model, &mut out)?;
     }
     Ok(())
@@ -83,7 +82,11 @@ fn print_verdict<R: Files + AllocGlobal, W: Write>(
     let alloc = rt.alloc();
     let trace = format!(in alloc; "{name}.trace")?;
     let words = ["rvtl", "check", "--model", model, trace.as_str()];
+    let mut said = Vec::new(alloc);
     let mut err = Vec::new(alloc);
-    run_line(alloc, &words, &mut SystemFiles::new(rt), out, &mut err);
+    let mut files = SystemFiles::new(rt);
+    let status = run_line(alloc, &words, &mut files, &mut said, &mut err);
+    write!(out, "{name}: status {status}: ")?;
+    out.write_all(said.as_slice())?;
     out.write_all(err.as_slice())
 }

@@ -1,16 +1,16 @@
 -- The operations of a fault break its code's rule.
-use Rattle.std.proofs.Common.{◌≡◌, ℕ, List, [], ◌∷◌, Bool, true, false, Option, Some, None, refl, sym, ap, ◌∙◌, subst, not, ◌&&◌, ◌||◌, inl, inr, find}
+use Rattle.std.proofs.Common.{◌≡◌, ℕ, List, [], ◌∷◌, Bool, true, Option, Some, None, refl, sym, ap, ◌∙◌, subst, not, ◌&&◌, inl, inr, find}
 use Rattle.std.specs.Prelude.{nat_eq}
 use Rattle.std.specs.List.{list_any}
 use Rattle.std.proofs.lemmas.Bool.{and_from, or_left}
 use Rattle.memory_model.specs.declared.Model.{Model}
 use Rattle.memory_model.specs.declared.operation.Operation.{Operation}
 use Rattle.memory_model.specs.Items.{Item}
-use Rattle.memory_model.specs.Legal.{is_atomic, returns_sources}
+use Rattle.memory_model.specs.Legal.{returns_sources}
 use Rattle.memory_model.specs.Operations.{same}
 use Rattle.memory_model.proofs.Named.{EachOnce}
 use Rattle.memory_model.specs.Order.{before}
-use Rattle.memory_model.specs.Rules.{asked_by, items_of, paired}
+use Rattle.memory_model.specs.Rules.{asked_by}
 use Rattle.memory_model.specs.Traces.{image_of, instructions, operations_at}
 use Rattle.memory_model.specs.Verdict.{Breaks, Code, codes}
 use Rattle.memory_model.proofs.Forms.{same-self}
@@ -20,7 +20,7 @@ use Rattle.trace_recorder.specs.declared.operation.OpId.{OpId}
 use Rattle.rvwmo_order.specs.Answers.{IsSound}
 use Rattle.rvwmo_order.specs.Codes.{number_of, rule_of}
 use Rattle.rvwmo_order.specs.Scans.{all_rules, first_broken_pair, first_broken_rule, first_out_of_order, found_or, is_broken_pair, judged, ruled_or, verdict_by, wrong_load}
-use Rattle.rvwmo_order.specs.declared.verdict.Code.TheVariants.{Order, LoadValue, Atomicity}
+use Rattle.rvwmo_order.specs.declared.verdict.Code.TheVariants.{Order}
 use Rattle.rvwmo_order.specs.declared.verdict.Rule.{Rule}
 use Rattle.rvwmo_order.specs.declared.verdict.Rule.TheVariants.{OverlappingStore, SameByteLoads, AtomicSource, Fence, Acquire, Release, Annotations, Pair, Address, Data, Control, DependentStore, DependentAddress}
 use Rattle.rvwmo_order.proofs.Judged.{OutOfOrder, found, out_of_order, pair, same_value}

@@ -1,23 +1,22 @@
 -- What the scans find is what a legal order hasn't.
-use Rattle.std.proofs.Common.{◌≡◌, ℕ, ◌+◌, ◌<◌, ◌≤◌, List, [], ◌∷◌, Bool, true, false, Option, Some, None, refl, cond, sym, ap, ◌∙◌, subst, not, ◌&&◌, ◌||◌, ◌⊎◌, inl, inr, arith, find}
-use Rattle.std.specs.List.{AllByRecursion as Each, list_any, list_all}
-use Rattle.std.proofs.lemmas.Bool.{false≢true, true≢false, and_parts, and_from, or_left, or_right, or_parts, ltb-false, le-ltb}
+use Rattle.std.proofs.Common.{◌≡◌, ℕ, ◌+◌, List, [], ◌∷◌, Bool, true, false, Option, Some, None, refl, cond, sym, ap, ◌∙◌, subst, not, ◌&&◌, ◌||◌, inl, inr, arith, find}
+use Rattle.std.specs.List.{list_any, list_all}
+use Rattle.std.proofs.lemmas.Bool.{false≢true, and_parts, and_from, ltb-false, le-ltb}
 use Rattle.memory_model.specs.declared.Model.{Model}
 use Rattle.memory_model.specs.declared.operation.Operation.{Operation}
 use Rattle.memory_model.specs.Items.{Item}
-use Rattle.memory_model.specs.Legal.{IsLegal, is_atomic, keeps_atomicity, keeps_load_values, keeps_preserved_order, returns_sources}
+use Rattle.memory_model.specs.Legal.{IsLegal, is_atomic, returns_sources}
 use Rattle.memory_model.specs.Operations.{precedes, same}
 use Rattle.memory_model.proofs.Named.{EachOnce}
 use Rattle.memory_model.specs.Order.{before, in_order, none_must_precede, position_in}
-use Rattle.memory_model.specs.Rules.{asked_by, items_of, paired, preserved}
+use Rattle.memory_model.specs.Rules.{asked_by, items_of, paired}
 use Rattle.memory_model.proofs.Forms.{same-self, same-swap}
 use Rattle.memory_model.proofs.Legality.{in_order-weaker}
 use Rattle.memory_model.proofs.Lists.{Each-at, Member}
 use Rattle.rvwmo_order.specs.Codes.{rule_of}
 use Rattle.rvwmo_order.specs.Scans.{all_rules, first_broken_pair, first_broken_rule, first_out_of_order, found_or, is_broken_pair, judged, ruled_or, verdict_by, wrong_load}
 use Rattle.rvwmo_order.specs.declared.verdict.Rule.{Rule}
-use Rattle.rvwmo_order.specs.declared.verdict.Verdict.{Verdict}
-use Rattle.rvwmo_order.specs.declared.verdict.Verdict.TheVariants.{Legal, Fault}
+use Rattle.rvwmo_order.specs.declared.verdict.Verdict.TheVariants.{Legal}
 
 -- ---- searching
 
@@ -77,10 +76,10 @@ pub record OutOfOrder (must : Operation → Operation → Bool) (xs : List Opera
   pub asked : must a b ≡ true
   pub behind : before xs a b ≡ false
 
-place_tail : (a x : Operation) (xs : List Operation) → same a x ≡ false → position_in (x ∷ xs) a ≡ 1 + position_in xs a
+pub place_tail : (a x : Operation) (xs : List Operation) → same a x ≡ false → position_in (x ∷ xs) a ≡ 1 + position_in xs a
 place_tail a x xs e = rw e refl
 
-place_head : (a x : Operation) (xs : List Operation) → same a x ≡ true → position_in (x ∷ xs) a ≡ 0
+pub place_head : (a x : Operation) (xs : List Operation) → same a x ≡ true → position_in (x ∷ xs) a ≡ 0
 place_head a x xs e = rw e refl
 
 pub out_of_order : (must : Operation → Operation → Bool) (xs : List Operation) (a b : Operation) → EachOnce xs → first_out_of_order must xs ≡ Some (a, b) → OutOfOrder must xs a b

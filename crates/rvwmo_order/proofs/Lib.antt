@@ -2,6 +2,7 @@ pub mod Bytes
 pub mod Counts
 pub mod Faults
 pub mod Fetches
+pub mod First
 pub mod Harts
 pub mod Judged
 pub mod Seen

@@ -1,5 +1,5 @@
 -- The verdict on an order of the trace's operations.
-use Rattle.std.proofs.Common.{◌≡◌, List, true, ◌∙◌, refl, sym, subst, ◌&&◌, ◌↔◌}
+use Rattle.std.proofs.Common.{◌≡◌, List, true, ◌∙◌, refl, sym, ap, subst, ◌&&◌, ◌↔◌}
 use Rattle.std.specs.List.{list_all}
 use Rattle.std.proofs.lemmas.Bool.{and_parts}
 use Rattle.elf_loader.specs.Image.{Initial, byte_at}
@@ -10,11 +10,13 @@ use Rattle.memory_model.specs.Traces.{IsLegalOrder, image_of, instructions, is_a
 use Rattle.memory_model.proofs.Named.{EachOnce, Pairwise-from_is_distinct, operations_distinct}
 use Rattle.trace_recorder.specs.History.{History}
 use Rattle.trace_recorder.specs.declared.operation.OpId.{OpId}
-use Rattle.rvwmo_order.specs.Answers.{IsSound}
+use Rattle.memory_model.specs.Verdict.{fault_in}
+use Rattle.rvwmo_order.specs.Answers.{IsSound, fault_told}
 use Rattle.rvwmo_order.specs.Scans.{judged}
 use Rattle.rvwmo_order.specs.declared.verdict.Verdict.{Verdict}
 use Rattle.rvwmo_order.specs.declared.verdict.Verdict.TheVariants.{Legal}
 use Rattle.rvwmo_order.proofs.Faults.{sound}
+use Rattle.rvwmo_order.proofs.First.{first_told}
 use Rattle.rvwmo_order.proofs.Judged.{judged-from_legal, legal-from_judged}
 
 distinct_in : (t : History) (order : List OpId) → has_each_operation_once t order ≡ true → EachOnce (operations_at (instructions t) order)
@@ -30,6 +32,9 @@ legal_verdict model t order v e = (
 
 pub sound_verdict : (model : Model) (t : History) (order : List OpId) (v : Verdict) → has_each_operation_once t order ≡ true → v ≡ judged model (image_of t) (instructions t) (operations_at (instructions t) order) → IsSound model t order v
 sound_verdict model t order v o e = subst (λ (w : Verdict). IsSound model t order w) (sym e) (sound model t order (distinct_in t order o))
+
+pub first_verdict : (model : Model) (t : History) (order : List OpId) (v : Verdict) → has_each_operation_once t order ≡ true → v ≡ judged model (image_of t) (instructions t) (operations_at (instructions t) order) → fault_told v ≡ fault_in model t order
+first_verdict model t order v o e = ap fault_told e ∙ first_told model (image_of t) (instructions t) (operations_at (instructions t) order) (distinct_in t order o)
 
 -- ---- by what was computed
 

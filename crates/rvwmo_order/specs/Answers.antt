@@ -1,8 +1,9 @@
 -- What the checker says of a trace and an order.
-use Rattle.std.specs.Prelude.{ℕ, ◌≡◌, nat_lt, if◌then◌else◌, List, length, Option, Some, None, Result, Ok, Err, ⊤}
+use Rattle.std.specs.Prelude.{◌≡◌, nat_lt, if◌then◌else◌, List, length, Option, Some, None, Result, Ok, Err, ⊤}
 use Rattle.memory_model.specs.declared.Model.{Model}
 use Rattle.memory_model.specs.declared.operation.Operation.{Operation}
 use Rattle.memory_model.specs.Traces.{are_runs, image_of, instructions, has_each_operation_once, names_in, operations_at}
+use Rattle.memory_model.specs.Verdict as verdict
 use Rattle.memory_model.specs.Verdict.{Breaks, name_of}
 use Rattle.trace_recorder.specs.History.{History}
 use Rattle.trace_recorder.specs.declared.operation.OpId.{OpId}
@@ -36,3 +37,8 @@ pub record IsBroken (model : Model) (t : History) (order : List OpId) (code : Co
 abbrev pub IsSound : Model → History → List OpId → Verdict → Type 0
 IsSound model t order Legal = ⊤
 IsSound model t order (Fault code a b) = IsBroken model t order code a b
+
+-- the fault that a verdict tells
+abbrev pub fault_told : Verdict → Option verdict.Fault
+fault_told Legal = None
+fault_told (Fault code a b) = Some (record { code = number_of code; a = a; b = b })

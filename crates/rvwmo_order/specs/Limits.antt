@@ -1,5 +1,5 @@
 -- What a trace can have.
-use Rattle.std.specs.Prelude.{ℕ, ◌≤◌, length}
+use Rattle.std.specs.Prelude.{◌≤◌, length}
 use Rattle.std.specs.List.{All}
 use Rattle.trace_recorder.specs.History.{History}
 

@@ -1,6 +1,6 @@
 -- What the checker's scans find, as functions on lists. What an order is judged by stands in memory_model.
 use Rattle.std.specs.Prelude.{ℕ, Bool, ◌&&◌, not, List, [], ◌∷◌, Option, Some, None, find}
-use Rattle.std.specs.List.{list_all, list_any}
+use Rattle.std.specs.List.{list_any}
 use Rattle.memory_model.specs.declared.Model.{Model}
 use Rattle.memory_model.specs.declared.operation.Operation.{Operation}
 use Rattle.memory_model.specs.Items.{Item}
@@ -10,7 +10,6 @@ use Rattle.memory_model.specs.Operations.{touches}
 use Rattle.memory_model.specs.Order.{same_source, source}
 use Rattle.memory_model.specs.Rules.{asked_by, has_store_to, items_of, paired}
 use Rattle.memory_model.specs.Verdict.{name_of}
-use Rattle.trace_recorder.specs.declared.operation.OpId.{OpId}
 use Rattle.rvwmo_order.specs.Codes.{rule_of}
 use Rattle.rvwmo_order.specs.declared.verdict.Rule.{Rule}
 use Rattle.rvwmo_order.specs.declared.verdict.Rule.TheVariants.{OverlappingStore, SameByteLoads, AtomicSource, Fence, Acquire, Release, Annotations, Pair, Address, Data, Control, DependentStore, DependentAddress}

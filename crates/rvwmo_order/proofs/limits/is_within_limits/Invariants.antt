@@ -1,4 +1,4 @@
-use Rattle.std.proofs.Common.{◌≡◌, ◌<◌, ◌≤◌, ℕ, length, slice_index_or, []}
+use Rattle.std.proofs.Common.{◌<◌, ◌≤◌, ℕ, length, slice_index_or, []}
 use Rattle.rvwmo_order.proofs.limits.is_within_limits.Given as goal
 
 abbrev pub invariant-loop-hart : goal.invariant-loop-hart

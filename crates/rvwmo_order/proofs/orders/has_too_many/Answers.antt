@@ -1,4 +1,4 @@
-use Rattle.std.proofs.Common.{◌≡◌, ◌<◌, ◌+◌, length, drop, arith, ap, sym, ◌∙◌}
+use Rattle.std.proofs.Common.{◌<◌, ◌+◌, length, drop, arith, ap, ◌∙◌}
 use Rattle.std.specs.Prelude.{filter}
 use Rattle.memory_model.specs.Items.{has_operation}
 use Rattle.memory_model.specs.Traces.{names_of_harts}
