@@ -1,6 +1,7 @@
 //! Plays kept scripts on kept images with the plain machine, and compares the outcome of each event, the
 //! trace and the harts' ends with the kept texts, which other implementations of the same rules have
-//! printed. A line of the file `cases` has a case's name, the kind of its image and its memory model.
+//! printed; those of `two-awaited` are written by hand. A line of the file `cases` has a case's name, the
+//! kind of its image and its memory model.
 #![tactic(auto)]
 
 mod play;
