@@ -1,7 +1,7 @@
 -- What one hart has to do with one line, and which states of it are possible, by the part that the line's transaction gives it.
-use Rattle.std.proofs.Common.{ℕ, Bool, true, false, List, [], ◌∷◌, ◌++◌, ◌≡◌, Option, Some, None, refl, ap, sym, ◌∙◌, rules}
+use Rattle.std.proofs.Common.{Bool, true, false, List, [], ◌∷◌, ◌++◌, ◌≡◌, Option, Some, None, refl, ap, sym, ◌∙◌}
 use Rattle.std.specs.Prelude.{◌||◌, if◌then◌else◌, is_some}
-use Rattle.client_cache.specs.Held.{bytes_in, clean_copy, dirty_in, granted_copy, perm_of, shrunk_at}
+use Rattle.client_cache.specs.Held.{bytes_in, dirty_in, granted_copy, perm_of, shrunk_at}
 use Rattle.client_cache.specs.declared.held.Held.{Held}
 use Rattle.client_cache.specs.declared.held.Held.TheVariants as held
 use Rattle.directory.specs.Lines.{conflicts, needs_data, probe_cap}
@@ -15,7 +15,6 @@ use Rattle.tl_types.specs.declared.message.Body.TheVariants.{AcquireBlock, Probe
 use Rattle.tl_types.specs.declared.permission.Cap.{Cap}
 use Rattle.tl_types.specs.declared.permission.Cap.TheVariants.{ToT, ToB, ToN}
 use Rattle.tl_types.specs.declared.permission.Change.{Change}
-use Rattle.tl_types.specs.declared.permission.Change.TheVariants.{NtoN}
 use Rattle.tl_types.specs.declared.permission.Grow.{Grow}
 use Rattle.tl_types.specs.declared.permission.Grow.TheVariants.{NtoB, NtoT, BtoT}
 use Rattle.tl_types.specs.declared.permission.Perm.{Perm}

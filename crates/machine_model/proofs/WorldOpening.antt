@@ -1,43 +1,38 @@
 -- What holds of a machine's state holds at reset, and it means that each line has one writer or many readers.
-use Rattle.std.proofs.Common.{ℕ, ◌+◌, ◌/◌, ◌%◌, Bool, true, false, List, [], ◌∷◌, ◌≡◌, ◌<◌, ◌≤◌, Option, Some, None, refl, ap, sym, ◌∙◌, subst, length, replicate, rules}
-use Rattle.std.specs.Prelude.{◌≢◌, ◌==◌, if◌then◌else◌, map, IsTrue, slice_index_or}
+use Rattle.std.proofs.Common.{ℕ, ◌/◌, ◌%◌, Bool, true, false, List, [], ◌≡◌, ◌<◌, ◌≤◌, None, refl, ap, sym, ◌∙◌, subst, length, replicate}
+use Rattle.std.specs.Prelude.{map, slice_index_or}
 use Rattle.std.specs.List.{range_with_len}
 use Rattle.std.specs.Ordering.{nat_cmp}
 use Rattle.std.specs.FinMap.{get-empty}
 use Rattle.std.specs.FinSet.{contains-empty}
 use Rattle.std.proofs.lemmas.Bool.{cases_lt}
 use Rattle.std.proofs.lemmas.List.{get_or-replicate, get_or_past, length-map, length-replicate}
-use Rattle.std.proofs.lemmas.List.FromFn.{get_or-map-range_with_len, length-map-range_with_len, length-range_with_len}
+use Rattle.std.proofs.lemmas.List.FromFn.{get_or-map-range_with_len, length-map-range_with_len}
 use mathlib.Core.Logic.{◌⊎◌, inl, inr}
 use native.Mathlib.Omega.{arith}
 use Rattle.backing_memory.specs.Memory as memory
 use Rattle.backing_memory.specs.Memory.{lines_of, pieces_of}
-use Rattle.client_cache.specs.Cache as cache
 use Rattle.client_cache.specs.Cache.{copy_at}
 use Rattle.client_cache.specs.Held.{perm_of}
 use Rattle.directory.specs.Directory.{line_at, quiet}
 use Rattle.directory.specs.Lines.{known_at, unknown}
 use Rattle.directory.specs.declared.answer.Known.{Known}
 use Rattle.directory.specs.declared.answer.Transaction.{Transaction}
-use Rattle.directory.specs.declared.answer.Transaction.TheVariants.{Idle}
-use Rattle.elf_loader.specs.Image.{Initial, IsImage}
+use Rattle.elf_loader.specs.Image.{Initial}
 use Rattle.machine_model.specs.Events.{after_events}
 use Rattle.machine_model.specs.Views.{Node, State, line_size, node_at, opening, opening_node, place_of, size_of_config}
 use Rattle.machine_model.specs.Writers.{HasOneWriter, OneWriterAlways}
 use Rattle.machine_model.specs.declared.config.Config.{Config}
-use Rattle.machine_model.specs.declared.event.Event.{Event}
 use Rattle.machine_model.proofs.LineKept.{IsKept}
-use Rattle.machine_model.proofs.LinePlaces.{count_of}
 use Rattle.machine_model.proofs.LineStands.{Alone, Holds, Side, Stands, noted_none, noted_writer, quiet_side}
 use Rattle.machine_model.proofs.WorldEvents.{after_events_fit}
-use Rattle.machine_model.proofs.WorldFits.{IsFit, kit_at, kit_of}
+use Rattle.machine_model.proofs.WorldFits.{kit_at, kit_of}
 use Rattle.machine_model.proofs.WorldKept.{Kit, IsWell, is_line, side}
 use Rattle.machine_model.proofs.WorldSteps.{Fits}
 use Rattle.tl_types.specs.Line.{length_of}
-use Rattle.tl_types.specs.declared.line.LineData.{LineData}
 use Rattle.tl_types.specs.declared.line.LineSize.{LineSize}
 use Rattle.tl_types.specs.declared.line.LineSize.TheVariants.{Bytes16, Bytes64}
-use Rattle.tl_types.specs.declared.permission.Perm.TheVariants.{Nothing, Trunk}
+use Rattle.tl_types.specs.declared.permission.Perm.TheVariants.{Nothing}
 
 same_everywhere : {A : Type 0} (n : ℕ) (x : A) (j : ℕ) → slice_index_or (replicate n x) j x ≡ x
 same_everywhere n x j = go (cases_lt j n)
