@@ -250,9 +250,6 @@ owes_acked (Some (held.Trunk true bytes)) ToT change = refl
 owes_acked (Some (held.Trunk true bytes)) ToB change = refl
 owes_acked (Some (held.Trunk true bytes)) ToN change = refl
 
-shrunk_reader : (g : Grow) (copy : Option Held) → IsReader (shrunk_at (probe_cap g) copy)
-shrunk_reader g copy = rw (shrunk_perm (probe_cap g) copy) (not_conflicting g _ (shrunk_enough g (perm_of copy)))
-
 reader_clean : (copy : Option Held) → IsReader copy → dirty_of copy ≡ None
 reader_clean None r = refl
 reader_clean (Some (held.Branch bytes)) r = refl
@@ -338,9 +335,6 @@ owes_nothing (LeavesAnswered g from change carried other lowers enough by) e = r
 owes_nothing _ e = refl
 
 -- ---- the acts of one hart
-
-stays : {last : LineData} {part : Part} {x : Side} → Stands last part x → Moves last part x x
-stays s = record { stands = s; noted = refl; owes = refl }
 
 pub miss_moves : {last : LineData} {part : Part} {x : Side} (h : Grow) → Stands last part x → x.releasing ≡ false → x.acquiring ≡ false → IsReader x.copy → Moves last part x (asked x h)
 miss_moves h (Holds part copy by is) e f r = record { stands = Asks part copy h by is r; noted = refl; owes = refl }

@@ -139,10 +139,6 @@ performs_nodes : (s : State) (h : ℕ) (places : List ℕ) → (performs h place
 performs_nodes s h [] = refl
 performs_nodes s h (place ∷ places) = performs_nodes (with_trace (with_performed (record { hart = h; place = place }) s.trace) s) h places
 
-performs_image : (s : State) (h : ℕ) (places : List ℕ) → (performs h places s).trace.image ≡ s.trace.image
-performs_image s h [] = refl
-performs_image s h (place ∷ places) = performs_image (with_trace (with_performed (record { hart = h; place = place }) s.trace) s) h places
-
 performs_may : (s : State) (h k : ℕ) (places : List ℕ) (word : ℕ) → MayWrite s k word → MayWrite (performs h places s) k word
 performs_may s h k [] word may = may
 performs_may s h k (place ∷ places) word may = performs_may (with_trace (with_performed (record { hart = h; place = place }) s.trace) s) h k places word may
@@ -156,9 +152,6 @@ IsAllowed s h (deed.Reserve word) = MayWrite s h word
 IsAllowed s h (deed.Conditional word value) = MayWrite s h word
 IsAllowed s h (deed.Update word value) = MayWrite s h word
 IsAllowed s h _ = Unit {0}
-
-writes_nodes : (s : State) (h word : ℕ) (marks : List Bool) (bytes : List ℕ) → length (writes_word h word marks bytes s).views.nodes ≡ length s.views.nodes
-writes_nodes s h word marks bytes = length-set s.views.nodes h _
 
 module _ (s : State) (last : ℕ → LineData) (i : IsFit s last) (h : ℕ) (in_h : h < length s.views.nodes) where
   pub does_fits : (model : Model) (d : Deed) → IsAllowed s h d → Fits (does model h d s) × (length (does model h d s).views.nodes ≡ length s.views.nodes)
