@@ -1,7 +1,6 @@
 -- Which messages can stand in front of a queue.
-use Rattle.std.proofs.Common.{Bool, true, false, List, [], ◌∷◌, ◌≡◌, Option, Some, None, refl, rules}
-use Rattle.client_cache.specs.Held.{perm_of}
-use Rattle.machine_model.proofs.LineStands.{Side, Part, Stands, IsReader, Holds, Asks, Leaves, Left, HoldsProbed, AsksProbed, LeavesProbed, LeftProbed, HoldsAnswered, AsksAnswered, LeavesAnswered, Waits, Receives, Upgrades, HoldsGranted, AsksGranted, LeavesGranted, LeftGranted}
+use Rattle.std.proofs.Common.{List, [], ◌∷◌, ◌≡◌, Some, None, refl}
+use Rattle.machine_model.proofs.LineStands.{Side, Part, Stands, IsReader, Asks, Leaves, Left, HoldsProbed, AsksProbed, LeavesProbed, LeftProbed, HoldsAnswered, AsksAnswered, LeavesAnswered, Receives, Upgrades, HoldsGranted, AsksGranted, LeavesGranted, LeftGranted}
 use Rattle.tl_types.specs.Message.{channel_of_body}
 use Rattle.tl_types.specs.declared.line.LineData.{LineData}
 use Rattle.tl_types.specs.declared.message.Body.{Body}

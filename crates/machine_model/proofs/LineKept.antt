@@ -1,5 +1,5 @@
 -- What holds of one line at every moment, over the sides of all harts, and that each act keeps it.
-use Rattle.std.proofs.Common.{ℕ, Bool, true, false, List, [], ◌∷◌, ◌≡◌, Option, Some, None, refl, ap, sym, ◌∙◌, subst, rules}
+use Rattle.std.proofs.Common.{ℕ, Bool, true, false, List, ◌≡◌, Option, Some, None, refl, ap, sym, ◌∙◌, subst}
 use Rattle.std.specs.Prelude.{◌≢◌, ◌==◌, if◌then◌else◌}
 use Rattle.std.proofs.lemmas.Bool.Decides.{eqb_tells}
 use Rattle.std.proofs.lemmas.Bool.{eqb-true, eq-eqb}
@@ -9,7 +9,7 @@ use Rattle.directory.specs.declared.answer.Transaction.{Transaction}
 use Rattle.directory.specs.declared.answer.Transaction.TheVariants.{Idle, Probing, Granted}
 use Rattle.directory.specs.Lines.{conflicts}
 use Rattle.machine_model.specs.Deliveries.{is_trunk}
-use Rattle.machine_model.proofs.LineStands.{Side, wrote, probe, given, Part, Alone, Probed, Asking, Taking, Holds, Asks, Leaves, Left, Waits, Stands, Lowers, IsBystander, owes, Moves, Takes, not_conflicting, is_writer, noted_writer, owes_nothing, write_stands, elsewhere, probe_stands, give_stands, rest_stands}
+use Rattle.machine_model.proofs.LineStands.{Side, wrote, probe, given, Part, Alone, Probed, Asking, Taking, Holds, Asks, Leaves, Left, Waits, Stands, Lowers, owes, Moves, Takes, not_conflicting, is_writer, noted_writer, owes_nothing, write_stands, elsewhere, probe_stands, give_stands, rest_stands}
 use Rattle.tl_types.specs.Permission.{granted_for, named_by}
 use Rattle.tl_types.specs.declared.line.LineData.{LineData}
 use Rattle.tl_types.specs.declared.message.Body.{Body}

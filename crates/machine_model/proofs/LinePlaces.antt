@@ -1,5 +1,5 @@
 -- Lines of memory by their address and by their place.
-use Rattle.std.proofs.Common.{ℕ, ◌+◌, ◌-◌, ◌/◌, ◌%◌, Bool, true, false, ◌≡◌, ◌<◌, ◌≤◌, refl, ap, sym, ◌∙◌, length, rules}
+use Rattle.std.proofs.Common.{ℕ, ◌+◌, ◌-◌, ◌/◌, ◌%◌, Bool, true, false, ◌≡◌, ◌<◌, ◌≤◌, refl, length}
 use Rattle.std.specs.Prelude.{◌==◌, ◌&&◌, nat_le}
 use Rattle.std.proofs.lemmas.Bool.{eqb-true, leb-true}
 use native.Mathlib.Omega.{arith}

@@ -1,7 +1,7 @@
 -- What one hart has to do with one line, and which states of it are possible, by the part that the line's transaction gives it.
-use Rattle.std.proofs.Common.{ℕ, Bool, true, false, List, [], ◌∷◌, ◌++◌, ◌≡◌, Option, Some, None, refl, ap, sym, ◌∙◌, rules}
+use Rattle.std.proofs.Common.{Bool, true, false, List, [], ◌∷◌, ◌++◌, ◌≡◌, Option, Some, None, refl, ap, sym, ◌∙◌}
 use Rattle.std.specs.Prelude.{◌||◌, if◌then◌else◌, is_some}
-use Rattle.client_cache.specs.Held.{bytes_in, clean_copy, dirty_in, granted_copy, perm_of, shrunk_at}
+use Rattle.client_cache.specs.Held.{bytes_in, dirty_in, granted_copy, perm_of, shrunk_at}
 use Rattle.client_cache.specs.declared.held.Held.{Held}
 use Rattle.client_cache.specs.declared.held.Held.TheVariants as held
 use Rattle.directory.specs.Lines.{conflicts, needs_data, probe_cap}
@@ -15,7 +15,6 @@ use Rattle.tl_types.specs.declared.message.Body.TheVariants.{AcquireBlock, Probe
 use Rattle.tl_types.specs.declared.permission.Cap.{Cap}
 use Rattle.tl_types.specs.declared.permission.Cap.TheVariants.{ToT, ToB, ToN}
 use Rattle.tl_types.specs.declared.permission.Change.{Change}
-use Rattle.tl_types.specs.declared.permission.Change.TheVariants.{NtoN}
 use Rattle.tl_types.specs.declared.permission.Grow.{Grow}
 use Rattle.tl_types.specs.declared.permission.Grow.TheVariants.{NtoB, NtoT, BtoT}
 use Rattle.tl_types.specs.declared.permission.Perm.{Perm}
@@ -251,9 +250,6 @@ owes_acked (Some (held.Trunk true bytes)) ToT change = refl
 owes_acked (Some (held.Trunk true bytes)) ToB change = refl
 owes_acked (Some (held.Trunk true bytes)) ToN change = refl
 
-shrunk_reader : (g : Grow) (copy : Option Held) → IsReader (shrunk_at (probe_cap g) copy)
-shrunk_reader g copy = rw (shrunk_perm (probe_cap g) copy) (not_conflicting g _ (shrunk_enough g (perm_of copy)))
-
 reader_clean : (copy : Option Held) → IsReader copy → dirty_of copy ≡ None
 reader_clean None r = refl
 reader_clean (Some (held.Branch bytes)) r = refl
@@ -339,9 +335,6 @@ owes_nothing (LeavesAnswered g from change carried other lowers enough by) e = r
 owes_nothing _ e = refl
 
 -- ---- the acts of one hart
-
-stays : {last : LineData} {part : Part} {x : Side} → Stands last part x → Moves last part x x
-stays s = record { stands = s; noted = refl; owes = refl }
 
 pub miss_moves : {last : LineData} {part : Part} {x : Side} (h : Grow) → Stands last part x → x.releasing ≡ false → x.acquiring ≡ false → IsReader x.copy → Moves last part x (asked x h)
 miss_moves h (Holds part copy by is) e f r = record { stands = Asks part copy h by is r; noted = refl; owes = refl }

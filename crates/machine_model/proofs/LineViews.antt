@@ -1,5 +1,5 @@
 -- What a cache, its queues and the manager's note make of one line, and what each act does to that.
-use Rattle.std.proofs.Common.{ℕ, Bool, true, false, List, [], ◌∷◌, ◌++◌, ◌≡◌, Option, Some, None, refl, ap, sym, ◌∙◌, subst, rules}
+use Rattle.std.proofs.Common.{ℕ, Bool, true, false, List, [], ◌∷◌, ◌++◌, ◌≡◌, Option, Some, None, refl, ap, sym, ◌∙◌}
 use Rattle.std.specs.Prelude.{◌≢◌, ◌==◌, if◌then◌else◌, is_some, nat_le}
 use Rattle.std.specs.FinSet as set
 use Rattle.std.specs.FinMap as map
@@ -7,12 +7,11 @@ use Rattle.std.proofs.lemmas.Bool.{eq-eqb}
 use Rattle.client_cache.proofs.AtLines.{wanted_other, probed_other, evicted_other, missed_own, probed_own, evicted_own, put_own, put_other, remove_own, remove_other}
 use Rattle.client_cache.specs.AtLine.{AtLine, at_line, KeepsOthers}
 use Rattle.client_cache.specs.Cache.{Cache, copy_at, wanted, probed, probed_copy, granted, answered, evicted, evicted_copy, is_set_full, written}
-use Rattle.client_cache.specs.Held.{dirty_in, eviction_of, granted_copy, perm_of, shrunk_at}
+use Rattle.client_cache.specs.Held.{eviction_of, granted_copy, perm_of}
 use Rattle.client_cache.specs.declared.answers.Want.{Want}
 use Rattle.client_cache.specs.declared.answers.Want.TheVariants.{WaitRelease, WaitGrant, NoTracker, SetFull, Missed}
 use Rattle.client_cache.specs.declared.answers.Evict.{Evict}
-use Rattle.client_cache.specs.declared.answers.Evict.TheVariants.{NotHeld, AcquirePending, ReleaseFull, Evicted}
-use Rattle.client_cache.specs.declared.answers.Probed.{Probed}
+use Rattle.client_cache.specs.declared.answers.Evict.TheVariants.{AcquirePending, ReleaseFull, Evicted}
 use Rattle.client_cache.specs.declared.answers.Probed.TheVariants.{Releasing, Answered}
 use Rattle.client_cache.specs.declared.held.Held.{Held}
 use Rattle.client_cache.specs.declared.held.Held.TheVariants as held
@@ -22,11 +21,11 @@ use Rattle.machine_model.specs.Deliveries.{probe_ack_body}
 use Rattle.machine_model.proofs.LineKept.{not_eq}
 use Rattle.machine_model.proofs.LineStands.{Side, dirty_of, asked, left, shrunk, installed, rested, wrote}
 use Rattle.tilelink_channels.specs.Queues.{Waiting, behind, popped, pushed, queue_of, with_queue}
-use Rattle.tl_types.specs.Message.{channel_of, channel_of_body}
+use Rattle.tl_types.specs.Message.{channel_of}
 use Rattle.tl_types.specs.Shrink.{shrunk_by}
 use Rattle.tl_types.specs.declared.line.LineData.{LineData}
 use Rattle.tl_types.specs.declared.message.Body.{Body}
-use Rattle.tl_types.specs.declared.message.Body.TheVariants.{AcquireBlock, ProbeBlock, ProbeAck, ProbeAckData, Release, ReleaseData, Grant, GrantData, ReleaseAck, GrantAck}
+use Rattle.tl_types.specs.declared.message.Body.TheVariants.{AcquireBlock, ProbeBlock, GrantAck}
 use Rattle.tl_types.specs.declared.message.Channel.{Channel}
 use Rattle.tl_types.specs.declared.message.Channel.TheVariants.{A, B, C, D, E}
 use Rattle.tl_types.specs.declared.message.Msg.{Msg}
@@ -34,7 +33,6 @@ use Rattle.tl_types.specs.declared.permission.Cap.{Cap}
 use Rattle.tl_types.specs.declared.permission.Cap.TheVariants.{ToN}
 use Rattle.tl_types.specs.declared.permission.Change.{Change}
 use Rattle.tl_types.specs.declared.permission.Grow.{Grow}
-use Rattle.tl_types.specs.declared.permission.Perm.TheVariants.{Nothing}
 
 -- ---- the messages of one line
 

@@ -1,36 +1,32 @@
 -- Each act of a cache keeps what holds of a machine's state.
-use Rattle.std.proofs.Common.{ℕ, Bool, true, false, List, [], ◌∷◌, ◌++◌, ◌≡◌, ◌<◌, Option, Some, None, refl, ap, sym, ◌∙◌, subst, length, rules}
-use Rattle.std.specs.Prelude.{◌≢◌, ◌==◌, if◌then◌else◌, nat_le}
+use Rattle.std.proofs.Common.{ℕ, Bool, true, false, List, [], ◌∷◌, ◌≡◌, ◌<◌, Option, Some, None, refl, ap, sym, ◌∙◌, subst, length}
+use Rattle.std.specs.Prelude.{◌≢◌, if◌then◌else◌, nat_le}
 use Rattle.std.specs.FinSet as set
 use Rattle.std.specs.FinMap as map
-use Rattle.client_cache.specs.AtLine.{AtLine, at_line, KeepsOthers}
-use Rattle.client_cache.specs.Cache.{Cache, copy_at, wanted, probed, probed_copy, granted, answered, evicted, evicted_copy, is_set_full, written, put}
-use Rattle.client_cache.specs.Held.{answer_of, eviction_of, perm_of, shrunk_copy}
-use Rattle.client_cache.proofs.AtLines.{probed_other, evicted_other, put_own, put_other, missed_own, wanted_other}
+use Rattle.client_cache.specs.Cache.{Cache, copy_at, wanted, probed, probed_copy, granted, answered, evicted, evicted_copy, is_set_full}
+use Rattle.client_cache.specs.Held.{eviction_of}
+use Rattle.client_cache.proofs.AtLines.{probed_other, evicted_other}
 use Rattle.client_cache.specs.declared.answers.Want.TheVariants.{WaitRelease, WaitGrant, NoTracker, SetFull, Missed}
 use Rattle.client_cache.specs.declared.answers.Evict.{Evict}
-use Rattle.client_cache.specs.declared.answers.Evict.TheVariants.{NotHeld, AcquirePending, ReleaseFull, Evicted}
-use Rattle.client_cache.specs.declared.answers.Probed.{Probed}
+use Rattle.client_cache.specs.declared.answers.Evict.TheVariants.{AcquirePending, ReleaseFull, Evicted}
 use Rattle.client_cache.specs.declared.answers.Probed.TheVariants.{Releasing, Answered}
 use Rattle.client_cache.specs.declared.held.Held.{Held}
-use Rattle.client_cache.specs.declared.held.Held.TheVariants as held
-use Rattle.directory.specs.Directory.{Notes, line_at}
+use Rattle.directory.specs.Directory.{line_at}
 use Rattle.directory.specs.Lines.{known_at, unknown}
 use Rattle.directory.specs.declared.answer.Known.{Known}
 use Rattle.machine_model.specs.Changing.{given_up, missed, release_body, sent_if_evicted}
-use Rattle.machine_model.specs.Deliveries.{is_trunk, kept_reservation, on_grant, on_probe, on_release_ack, probe_ack_body, sent_if_answered, taken, with_less}
-use Rattle.machine_model.specs.Views.{Node, State, line_of, line_size, node_at, place_of, sent, with_node}
+use Rattle.machine_model.specs.Deliveries.{on_grant, on_probe, on_release_ack, probe_ack_body, sent_if_answered, taken, with_less}
+use Rattle.machine_model.specs.Views.{Node, State, line_size, node_at, place_of, sent, with_node}
 use Rattle.machine_model.proofs.LineHeads.{IsGranting, granting_reader}
-use Rattle.machine_model.proofs.LineKept.{IsKept, part_of}
+use Rattle.machine_model.proofs.LineKept.{part_of}
 use Rattle.machine_model.proofs.LineStands.{Side, IsReader, installed, quiet_side, Stands, Moves, Part, ProbedAt, probe_moves, ReachedAt, reach_moves, miss_moves, evict_moves}
-use Rattle.machine_model.proofs.LineViews.{of_line, front_here, seen, missed_says, missed_here, missed_elsewhere, Leaving, evicted_says, evicted_here, evicted_elsewhere, Answering, probed_says, probed_here, probed_elsewhere, granted_other, granted_here, granted_elsewhere, rested_here, rested_elsewhere}
-use Rattle.machine_model.proofs.WorldFits.{Framed, IsFit, HoldsReserved, fits, framed_again, framed_node, framed_sent, framed_taken, kit_at, kit_changed, kit_of, less_reserved, same_reserved}
-use Rattle.machine_model.proofs.WorldKept.{Kit, KitChanged, IsWell, side, is_line, front_line, acts}
-use Rattle.tilelink_channels.specs.Queues.{Waiting, popped, pushed}
+use Rattle.machine_model.proofs.LineViews.{of_line, front_here, missed_says, missed_here, missed_elsewhere, evicted_says, evicted_here, evicted_elsewhere, probed_says, probed_here, probed_elsewhere, granted_other, granted_here, granted_elsewhere, rested_here, rested_elsewhere}
+use Rattle.machine_model.proofs.WorldFits.{Framed, IsFit, fits, framed_again, framed_node, framed_sent, framed_taken, kit_at, kit_changed, kit_of, less_reserved, same_reserved}
+use Rattle.machine_model.proofs.WorldKept.{IsWell, side, is_line, front_line, acts}
+use Rattle.tilelink_channels.specs.Queues.{popped, pushed}
 use Rattle.tl_types.specs.declared.line.LineData.{LineData}
-use Rattle.tl_types.specs.declared.line.LineSize.{LineSize}
 use Rattle.tl_types.specs.declared.message.Body.{Body}
-use Rattle.tl_types.specs.declared.message.Body.TheVariants.{AcquireBlock, ProbeBlock, Grant, GrantData, ReleaseAck, GrantAck}
+use Rattle.tl_types.specs.declared.message.Body.TheVariants.{AcquireBlock, ProbeBlock, ReleaseAck, GrantAck}
 use Rattle.tl_types.specs.declared.message.Channel.TheVariants.{B, D}
 use Rattle.tl_types.specs.declared.message.Msg.{Msg}
 use Rattle.tl_types.specs.declared.permission.Cap.{Cap}

@@ -1,6 +1,6 @@
 -- Each message that the manager takes keeps what holds of a machine's state.
-use Rattle.std.proofs.Common.{ℕ, zero, suc, ◌+◌, Bool, true, false, List, [], ◌∷◌, ◌++◌, ◌≡◌, ◌<◌, ◌≤◌, Option, Some, None, refl, ap, sym, ◌∙◌, subst, length, rules}
-use Rattle.std.specs.Prelude.{◌≢◌, ◌==◌, ◌&&◌, not, if◌then◌else◌, filter, slice_set, slice_index_or}
+use Rattle.std.proofs.Common.{ℕ, zero, suc, ◌+◌, Bool, true, false, List, [], ◌∷◌, ◌≡◌, ◌<◌, ◌≤◌, Option, Some, None, refl, ap, sym, ◌∙◌, subst, length}
+use Rattle.std.specs.Prelude.{◌≢◌, ◌==◌, ◌&&◌, not, if◌then◌else◌, filter, slice_set}
 use Rattle.std.specs.List.{range_with_len}
 use Rattle.std.proofs.lemmas.List.{get_or-set_same, length-set, set-get_or, set-set, get_or_past}
 use Rattle.std.proofs.lemmas.Bool.{cases_lt}
@@ -12,9 +12,8 @@ use Rattle.directory.specs.Directory as directory
 use Rattle.directory.specs.Directory.{Notes, line_at, quiet, with_line}
 use Rattle.directory.proofs.Sets.{has-harts_below}
 use Rattle.directory.specs.Harts.{harts_below, has}
-use Rattle.directory.specs.Lines.{Line, acknowledged, acquired_by, acquired_in, answered_in, grant_for, granted, is_any_awaited, is_probed, known_at, probe_cap, probed, probing, released, unknown}
-use Rattle.directory.specs.declared.answer.Acquired.{Acquired}
-use Rattle.directory.specs.declared.answer.Acquired.TheVariants.{Handled, Busy}
+use Rattle.directory.specs.Lines.{Line, acknowledged, acquired_by, acquired_in, answered_in, grant_for, granted, is_any_awaited, is_probed, known_at, probe_cap, probed, probing, unknown}
+use Rattle.directory.specs.declared.answer.Acquired.TheVariants.{Handled}
 use Rattle.directory.specs.declared.answer.Grant.{Grant as Granting}
 use Rattle.directory.specs.declared.answer.Known.{Known}
 use Rattle.directory.specs.declared.answer.Sent.{Sent}
@@ -28,8 +27,8 @@ use Rattle.machine_model.proofs.LinePlaces.{place_inside}
 use Rattle.machine_model.proofs.LineStands as stands
 use Rattle.machine_model.proofs.LineStands.{Side, Stands, Takes, TakesAt, take_stands}
 use Rattle.machine_model.proofs.LineViews.{of_line, of_line_same, front_here, behind_front, popped_elsewhere, answered_elsewhere}
-use Rattle.machine_model.proofs.WorldFits.{Framed, IsFit, HoldsReserved, WellAt, framed_sent, framed_taken, kit_at, kit_changed, kit_of}
-use Rattle.machine_model.proofs.WorldKept.{Kit, KitChanged, IsWell, side, is_line, front_line}
+use Rattle.machine_model.proofs.WorldFits.{Framed, IsFit, HoldsReserved, framed_sent, framed_taken, kit_at, kit_changed, kit_of}
+use Rattle.machine_model.proofs.WorldKept.{IsWell, side, is_line, front_line}
 use Rattle.machine_model.proofs.WorldManager.{ends, grants, grants_at_once, nothing_conflicts, own_unprobed, probes, pushed_grant, takes}
 use Rattle.tilelink_channels.specs.Queues.{popped, pushed}
 use Rattle.tl_types.specs.declared.line.LineData.{LineData}

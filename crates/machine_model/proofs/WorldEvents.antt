@@ -1,11 +1,8 @@
 -- Every event keeps what holds of a machine's state, and so every list of events does.
-use Rattle.std.proofs.Common.{ℕ, ◌+◌, ◌-◌, ◌/◌, ◌%◌, Bool, true, false, List, [], ◌∷◌, ◌++◌, ◌≡◌, ◌<◌, ◌≤◌, Option, Some, None, refl, ap, sym, ◌∙◌, subst, length, replicate, rules}
-use Rattle.std.specs.Prelude.{◌≢◌, ◌==◌, ◌&&◌, ◌||◌, not, if◌then◌else◌, map, nat_le, nat_lt, IsTrue, slice_index_or}
-use Rattle.std.specs.List.{range_with_len}
+use Rattle.std.proofs.Common.{ℕ, ◌+◌, ◌-◌, ◌%◌, Bool, true, false, List, [], ◌∷◌, ◌≡◌, ◌<◌, ◌≤◌, Option, Some, None, refl, ap, sym, ◌∙◌, subst, length}
+use Rattle.std.specs.Prelude.{◌==◌, ◌&&◌, ◌||◌, not, if◌then◌else◌, nat_le, nat_lt}
 use Rattle.std.specs.FinSet as set
-use Rattle.std.specs.FinMap as finmap
-use Rattle.std.specs.Ordering.{nat_cmp}
-use Rattle.std.proofs.lemmas.Bool.{eqb-true, eq-eqb, le-leb, leb-true, ltb-true, ltb-false, cases_lt}
+use Rattle.std.proofs.lemmas.Bool.{eqb-true, eq-eqb, le-leb, ltb-true, ltb-false}
 use native.Mathlib.Omega.{arith}
 use Rattle.client_cache.specs.Cache.{Cache, copy_at, evicted, is_set_full, probed, wanted}
 use Rattle.client_cache.specs.Held.{bytes_in, perm_of}
@@ -24,16 +21,15 @@ use Rattle.directory.specs.declared.answer.Acquired.{Acquired}
 use Rattle.directory.specs.declared.answer.Acquired.TheVariants.{Handled, Busy}
 use Rattle.elf_loader.specs.Image.{Initial, end_of, word_at}
 use Rattle.elf_loader.specs.Size.{base}
-use Rattle.hart.specs.Run.{can_fetch, is_running, next_stop, stop_with}
+use Rattle.hart.specs.Run.{can_fetch, is_running, stop_with}
 use Rattle.hart.specs.Local.{private_row}
 use Rattle.machine_model.specs.Changing.{acted, outcome_of, place_at}
 use Rattle.machine_model.specs.Deciding.{miss_by, plan_miss, reading, reading_by, writing, writing_by}
-use Rattle.machine_model.specs.Deliveries.{delivered, is_trunk, plan_body, plan_deliver, plan_front, taken, unless_acks_full, unless_busy, unless_releasing}
-use Rattle.machine_model.specs.Events.{IsBad, IsLimited, Moves, after_events, evict_by, happens, hart_of, is_good, is_limited, is_piece, names_well, plan_drain, plan_evict, plan_local, plan_of, state_by, verdict, verdict_by, counted}
-use Rattle.machine_model.specs.Steps.{Fetched, plan_access, plan_amo, plan_call, plan_conditional, plan_fence, plan_instr, plan_load, plan_reserve, plan_step, plan_store, plan_unless, retires, update, waits_for_stores, write_waits}
+use Rattle.machine_model.specs.Deliveries.{is_trunk, plan_body, plan_deliver, plan_front, taken, unless_busy, unless_releasing}
+use Rattle.machine_model.specs.Events.{IsBad, IsLimited, Moves, after_events, evict_by, happens, hart_of, is_limited, is_piece, names_well, plan_drain, plan_evict, plan_local, plan_of, state_by, verdict_by, counted}
+use Rattle.machine_model.specs.Steps.{Fetched, plan_access, plan_amo, plan_call, plan_conditional, plan_fence, plan_instr, plan_load, plan_reserve, plan_store, plan_unless, retires, update, waits_for_stores, write_waits}
 use Rattle.machine_model.specs.Views.{Node, State, line_of, line_size, node_at, place_of}
 use Rattle.machine_model.specs.Words.{read_from, store_of, word_in, word_of}
-use Rattle.machine_model.specs.declared.act.Act.{Act}
 use Rattle.machine_model.specs.declared.act.Act.TheVariants as act
 use Rattle.machine_model.specs.declared.act.Deed.{Deed}
 use Rattle.machine_model.specs.declared.act.Deed.TheVariants as deed
@@ -50,9 +46,8 @@ use Rattle.machine_model.proofs.WorldActs.{given_up_fits, granted_fits, missed_f
 use Rattle.machine_model.proofs.WorldDeliveries.{acquired_fits, ended_fits, probe_ack_data_fits, probe_ack_fits, release_data_fits, release_fits}
 use Rattle.machine_model.proofs.WorldFits.{Framed, IsFit, framed_taken, kit_at, kit_of}
 use Rattle.machine_model.proofs.WorldKept.{front_line, is_line, side}
-use Rattle.machine_model.proofs.WorldSteps.{Fits, IsAllowed, MayWrite, drains_fits, retires_fits, stopped_fits, trunk_line, went_alone_fits}
+use Rattle.machine_model.proofs.WorldSteps.{Fits, IsAllowed, MayWrite, drains_fits, retires_fits, stopped_fits, went_alone_fits}
 use Rattle.memory_model.specs.declared.Model.{Model}
-use Rattle.memory_model.specs.declared.Model.TheVariants.{Rvwmo, Ztso}
 use Rattle.reservations.specs.Reservation.{is_valid}
 use Rattle.memory_model.specs.Rules.{fences}
 use Rattle.memory_model.specs.declared.operation.Kind.TheVariants.{Load, Store}
@@ -65,11 +60,10 @@ use Rattle.rv32_decode.specs.declared.instruction.LoadOp.{LoadOp}
 use Rattle.rv32_decode.specs.declared.instruction.LoadOp.TheVariants.{Lb, Lh, Lw, Lbu, Lhu}
 use Rattle.rv32_decode.specs.declared.instruction.SystemOp.TheVariants.{Ecall, Ebreak}
 use Rattle.rv32_exec.specs.Arithmetic.{bytes_loaded}
-use Rattle.rv32_exec.specs.Meaning.{Access, Private, Loads, Stores, Reserves, Tries, Updates, Fences, Calls, access_of, access_stop, is_outside, stop_of, stop_of_access}
+use Rattle.rv32_exec.specs.Meaning.{Access, Private, Loads, Stores, Reserves, Tries, Updates, Fences, Calls, access_of, access_stop, stop_of}
 use Rattle.store_buffer.specs.ByteMask.{covers, laid_over, marks_of_access}
-use Rattle.store_buffer.specs.Entry.{entry_of}
-use Rattle.store_buffer.specs.Groups.{drainable, fits, forwarded, has, is_empty, oldest}
-use Rattle.tilelink_channels.specs.Queues.{Waiting, front_of, popped, queue_of, room_of}
+use Rattle.store_buffer.specs.Groups.{drainable, fits, forwarded, has, is_empty}
+use Rattle.tilelink_channels.specs.Queues.{front_of, popped, queue_of, room_of}
 use Rattle.tl_types.specs.Line.{length_of}
 use Rattle.tl_types.specs.Message.{channel_of_body}
 use Rattle.tl_types.specs.declared.line.LineData.{LineData}

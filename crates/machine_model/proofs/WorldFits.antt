@@ -1,23 +1,20 @@
 -- What holds of a machine's state at every moment, and that each delivery, miss, eviction and write keeps it.
-use Rattle.std.proofs.Common.{ℕ, ◌+◌, ◌-◌, ◌%◌, Bool, true, false, List, [], ◌∷◌, ◌++◌, ◌≡◌, ◌<◌, ◌≤◌, Option, Some, None, refl, ap, sym, ◌∙◌, subst, length, rules}
-use Rattle.std.specs.Prelude.{◌≢◌, ◌==◌, ◌&&◌, if◌then◌else◌, slice_set, slice_index_or, nat_le, nat_lt}
-use Rattle.std.specs.FinSet as set
+use Rattle.std.proofs.Common.{ℕ, ◌+◌, ◌-◌, ◌%◌, Bool, true, false, List, ◌≡◌, ◌<◌, ◌≤◌, Option, Some, None, refl, ap, sym, ◌∙◌, subst, length}
+use Rattle.std.specs.Prelude.{◌≢◌, ◌==◌, if◌then◌else◌, slice_index_or}
 use Rattle.std.proofs.lemmas.List.{get_or-set_same, get_or-set_other, length-set}
 use Rattle.std.proofs.lemmas.Bool.Decides.{eqb_tells}
-use Rattle.std.proofs.lemmas.Bool.{leb-true, le-leb, lt-ltb}
+use Rattle.std.proofs.lemmas.Bool.{le-leb, lt-ltb}
 use mathlib.Core.Logic.{◌⊎◌, inl, inr}
 use native.Mathlib.Omega.{arith}
-use Rattle.client_cache.specs.AtLine.{AtLine, at_line, KeepsOthers}
+use Rattle.client_cache.specs.AtLine.{AtLine, KeepsOthers}
 use Rattle.client_cache.specs.Cache.{Cache, copy_at}
 use Rattle.client_cache.specs.Held.{perm_of}
 use Rattle.machine_model.specs.Deliveries.{is_trunk, kept_reservation, taken}
 use Rattle.machine_model.specs.Views.{Node, State, line_of, line_size, node_at, no_node, opening_node, sent, size_of_config, with_node, with_trace}
 use Rattle.machine_model.proofs.WorldKept.{Kit, KitChanged, IsWell}
 use Rattle.machine_model.specs.declared.config.Config.{Config}
-use Rattle.elf_loader.specs.Image.{Initial}
 use Rattle.reservations.specs.Reservation.{lies_in, without_line}
-use Rattle.tilelink_channels.specs.Queues.{Waiting, popped, pushed}
-use Rattle.tl_types.specs.Line.{length_of}
+use Rattle.tilelink_channels.specs.Queues.{popped, pushed}
 use Rattle.tl_types.specs.Message.{channel_of}
 use Rattle.tl_types.specs.declared.line.LineData.{LineData}
 use Rattle.tl_types.specs.declared.line.LineSize.{LineSize}

@@ -1,42 +1,29 @@
 -- What holds of all lines at every moment, over what each hart has of caches and queues, and that each act keeps it.
-use Rattle.std.proofs.Common.{ℕ, zero, suc, ◌+◌, ◌-◌, ◌/◌, ◌%◌, Bool, true, false, List, [], ◌∷◌, ◌++◌, ◌≡◌, ◌<◌, ◌≤◌, Option, Some, None, refl, ap, sym, ◌∙◌, subst, length, rules}
-use Rattle.std.specs.Prelude.{◌≢◌, ◌==◌, ◌&&◌, if◌then◌else◌, is_some, not, slice_set, slice_index_or, map, filter, nat_le}
-use Rattle.std.specs.List.{list_any, range_with_len}
-use Rattle.std.proofs.lemmas.List.{get_or-set_same, get_or-set_other, length-set, get_or_past, set-get_or}
-use Rattle.std.proofs.lemmas.Bool.{eq-eqb, cases_lt}
-use mathlib.Core.Logic.{◌⊎◌, inl, inr}
-use native.Mathlib.Omega.{arith}
+use Rattle.std.proofs.Common.{ℕ, Bool, true, false, List, [], ◌∷◌, ◌≡◌, ◌<◌, refl, ap, sym, ◌∙◌, subst, length}
+use Rattle.std.specs.Prelude.{◌≢◌, slice_set}
+use Rattle.std.proofs.lemmas.List.{get_or-set_same, get_or-set_other, length-set, set-get_or}
 use Rattle.backing_memory.specs.Memory as memory
 use Rattle.client_cache.specs.Cache.{Cache}
 use Rattle.client_cache.specs.Held.{perm_of}
 use Rattle.directory.specs.Directory.{Notes, line_at, quiet, with_line}
-use Rattle.directory.specs.Lines.{Line, acknowledged, conflicts, grant_for, granted, is_any_awaited, is_probed, known_at, noted, probe_cap, probing, released, unknown}
+use Rattle.directory.specs.Lines.{Line, known_at, unknown}
 use Rattle.directory.specs.declared.answer.Known.{Known}
-use Rattle.directory.specs.declared.answer.Transaction.{Transaction}
-use Rattle.directory.specs.declared.answer.Transaction.TheVariants.{Idle, Probing, Granted}
+use Rattle.directory.specs.declared.answer.Transaction.TheVariants.{Probing}
 use Rattle.elf_loader.specs.Image.{Initial}
-use Rattle.machine_model.specs.Deliveries.{grant_body, is_trunk}
+use Rattle.machine_model.specs.Deliveries.{is_trunk}
 use Rattle.machine_model.specs.Events.{is_piece}
 use Rattle.machine_model.specs.Views.{place_of}
 use Rattle.machine_model.proofs.LineKept as kept
 use Rattle.machine_model.proofs.LineKept.{IsKept, Changed, part_of, not_eq, split, stored}
 use Rattle.machine_model.proofs.LinePlaces.{count_of, place_inside, place_own}
-use Rattle.machine_model.proofs.LineStands as stands
-use Rattle.machine_model.proofs.LineStands.{Side, quiet_side, Part, Alone, Asking, Taking, Stands, Moves, Takes, TakesAt, take_stands, EndsAt, end_stands, AsksAt, ask_stands, wrote, probe, given}
-use Rattle.machine_model.proofs.LineViews.{of_line, of_line_same, front_here, behind_front, seen, pushed_elsewhere, popped_elsewhere, answered_elsewhere, written_here, written_elsewhere}
-use Rattle.tilelink_channels.specs.Queues.{Waiting, popped, pushed, queue_of}
+use Rattle.machine_model.proofs.LineStands.{Side, quiet_side, Moves, wrote}
+use Rattle.machine_model.proofs.LineViews.{seen}
+use Rattle.tilelink_channels.specs.Queues.{Waiting}
 use Rattle.tl_types.specs.Line.{length_of}
-use Rattle.tl_types.specs.Permission.{granted_for, left_by, named_by}
 use Rattle.tl_types.specs.declared.line.LineData.{LineData}
 use Rattle.tl_types.specs.declared.line.LineSize.{LineSize}
 use Rattle.tl_types.specs.declared.message.Body.{Body}
-use Rattle.tl_types.specs.declared.message.Body.TheVariants.{AcquireBlock, ProbeBlock, ProbeAck, ProbeAckData, Release, ReleaseData, Grant, GrantData, ReleaseAck, GrantAck}
-use Rattle.tl_types.specs.declared.message.Channel.{Channel}
-use Rattle.tl_types.specs.declared.message.Channel.TheVariants.{A, B, C, D, E}
-use Rattle.tl_types.specs.declared.message.Msg.{Msg}
-use Rattle.tl_types.specs.declared.permission.Change.{Change}
 use Rattle.tl_types.specs.declared.permission.Grow.{Grow}
-use Rattle.tl_types.specs.declared.permission.Perm.TheVariants.{Nothing}
 
 -- what coherence asks of a hart
 pub record Kit : Type 0 where

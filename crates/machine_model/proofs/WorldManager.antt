@@ -1,7 +1,7 @@
 -- What the manager does keeps what holds of all lines.
-use Rattle.std.proofs.Common.{ℕ, zero, suc, ◌+◌, Bool, true, false, List, [], ◌∷◌, ◌++◌, ◌≡◌, ◌<◌, ◌≤◌, Option, Some, None, refl, ap, sym, ◌∙◌, subst, length, rules}
-use Rattle.std.specs.Prelude.{◌≢◌, ◌==◌, ◌&&◌, ◌||◌, if◌then◌else◌, not, slice_set, slice_index_or, map}
-use Rattle.std.specs.List.{list_any, range_with_len}
+use Rattle.std.proofs.Common.{ℕ, zero, suc, Bool, true, false, List, [], ◌∷◌, ◌++◌, ◌≡◌, ◌<◌, ◌≤◌, Option, refl, ap, sym, ◌∙◌, subst, length}
+use Rattle.std.specs.Prelude.{◌≢◌, ◌==◌, ◌&&◌, ◌||◌, if◌then◌else◌, not, slice_set, slice_index_or}
+use Rattle.std.specs.List.{list_any}
 use Rattle.std.proofs.lemmas.List.{get_or-set_same, get_or-set_other, length-set, get_or_past, set-get_or}
 use Rattle.std.proofs.lemmas.List.FromFn.{get_or-map-range_with_len, length-map-range_with_len}
 use Rattle.std.proofs.lemmas.Bool.{eq-eqb, cases_lt}
@@ -12,15 +12,14 @@ use Rattle.directory.specs.Directory.{Notes, with_line}
 use Rattle.directory.specs.Lines.{Line, conflicts, grant_acked, grant_for, granted, is_any_awaited, is_probed, known_at, probe_cap, probing, unknown}
 use Rattle.directory.specs.declared.answer.Grant.{Grant as Granting}
 use Rattle.directory.specs.declared.answer.Known.{Known}
-use Rattle.directory.specs.declared.answer.Transaction.{Transaction}
-use Rattle.directory.specs.declared.answer.Transaction.TheVariants.{Idle, Probing, Granted}
+use Rattle.directory.specs.declared.answer.Transaction.TheVariants.{Idle, Probing}
 use Rattle.elf_loader.specs.Image.{Initial}
 use Rattle.machine_model.specs.Deliveries.{grant_body}
 use Rattle.machine_model.proofs.LineKept as kept
 use Rattle.machine_model.proofs.LineKept.{IsKept, Changed, part_of, not_eq, split, stored}
-use Rattle.machine_model.proofs.LineStands.{Side, Part, Alone, Asking, Taking, Stands, Holds, Asks, Leaves, Left, Takes, EndsAt, end_stands, AsksAt, ask_stands, probe, given}
+use Rattle.machine_model.proofs.LineStands.{Side, Alone, Asking, Stands, Holds, Asks, Leaves, Left, Takes, EndsAt, end_stands, AsksAt, ask_stands, probe}
 use Rattle.machine_model.proofs.LineViews.{of_line, of_line_same, pushed_elsewhere}
-use Rattle.machine_model.proofs.WorldKept.{Kit, KitChanged, side, is_line, place, entry, sides, LineKept, IsWell, step}
+use Rattle.machine_model.proofs.WorldKept.{Kit, KitChanged, side, is_line, place, entry, sides, IsWell, step}
 use Rattle.tilelink_channels.specs.Queues.{Waiting, pushed}
 use Rattle.tl_types.specs.Permission.{granted_for, named_by}
 use Rattle.tl_types.specs.declared.line.LineData.{LineData}

@@ -1,33 +1,29 @@
 -- A Grant on its way finds its cache waiting for it, and a reserved word's line may be written.
-use Rattle.std.proofs.Common.{ℕ, zero, suc, ◌<◌, length, Bool, true, false, List, [], ◌∷◌, ◌≡◌, Option, Some, None, refl, ap, sym, ◌∙◌, subst, rules}
-use Rattle.std.specs.Prelude.{◌==◌, if◌then◌else◌, slice_index_or, Contains, IsTrue}
+use Rattle.std.proofs.Common.{ℕ, zero, suc, ◌<◌, length, Bool, true, false, List, [], ◌∷◌, ◌≡◌, refl, ap, subst}
+use Rattle.std.specs.Prelude.{◌==◌, if◌then◌else◌, slice_index_or, IsTrue}
 use native.Mathlib.Omega.{arith}
-use Rattle.std.specs.FinSet as set
 use Rattle.std.proofs.lemmas.Bool.{eq-eqb}
 use mathlib.Core.Logic.{◌⊎◌, inl, inr}
-use Rattle.client_cache.specs.Cache.{copy_at}
 use Rattle.client_cache.specs.Held.{perm_of}
-use Rattle.directory.specs.Lines.{known_at, unknown}
+use Rattle.directory.specs.Lines.{known_at}
 use Rattle.directory.specs.Directory.{line_at}
-use Rattle.elf_loader.specs.Image.{Initial, IsImage}
 use Rattle.machine_model.specs.Events.{after_events}
 use Rattle.machine_model.specs.LawfulLog.{is_grant}
-use Rattle.machine_model.specs.Laws.{GrantsHaveSlots, HasSlot, ReservedIsTrunk}
+use Rattle.machine_model.specs.Laws.{GrantsHaveSlots, HasSlot}
 use Rattle.machine_model.specs.Views.{State, line_size, node_at, opening, place_of}
 use Rattle.machine_model.specs.Writers.{GrantsHaveSlotsAlways, ReservedIsTrunkAlways}
-use Rattle.machine_model.proofs.LineStands.{Side, Part, Stands, quiet_side, is_writer, Holds, Asks, Leaves, Left, HoldsProbed, AsksProbed, LeavesProbed, LeftProbed, HoldsAnswered, AsksAnswered, LeavesAnswered, Waits, Receives, Upgrades, HoldsGranted, AsksGranted, LeavesGranted, LeftGranted}
+use Rattle.machine_model.proofs.LineStands.{Side, Part, Stands, is_writer, Left, LeftProbed, Receives, Upgrades, LeftGranted}
 use Rattle.machine_model.proofs.LineViews.{of_line}
 use Rattle.machine_model.proofs.WorldEvents.{after_events_fit}
-use Rattle.machine_model.proofs.WorldFits.{IsFit, kit_at, kit_of}
+use Rattle.machine_model.proofs.WorldFits.{kit_at}
 use Rattle.machine_model.proofs.WorldKept.{is_line, side}
 use Rattle.machine_model.proofs.WorldOpening.{opening_fits}
 use Rattle.machine_model.proofs.WorldSteps.{Fits}
 use Rattle.tl_types.specs.declared.line.LineData.{LineData}
 use Rattle.tl_types.specs.declared.message.Body.{Body}
-use Rattle.tl_types.specs.declared.message.Body.TheVariants.{Grant, GrantData, ReleaseAck}
+use Rattle.tl_types.specs.declared.message.Body.TheVariants.{Grant, GrantData}
 use Rattle.tl_types.specs.declared.message.Msg.{Msg}
-use Rattle.tl_types.specs.declared.permission.Cap.{Cap}
-use Rattle.tl_types.specs.declared.permission.Perm.TheVariants.{Branch, Trunk}
+use Rattle.tl_types.specs.declared.permission.Perm.TheVariants.{Branch}
 
 -- a body among those of a queue
 abbrev Member : List Body → Body → Type 0

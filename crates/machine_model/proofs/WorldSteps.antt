@@ -1,18 +1,16 @@
 -- What a hart does alone, and its writes, keep what holds of a machine's state.
-use Rattle.std.proofs.Common.{ℕ, Bool, true, false, List, [], ◌∷◌, ◌++◌, ◌≡◌, ◌<◌, Option, Some, None, refl, ap, sym, ◌∙◌, subst, length, rules}
-use Rattle.std.specs.Prelude.{◌≢◌, ◌==◌, if◌then◌else◌}
+use Rattle.std.proofs.Common.{ℕ, Bool, true, false, List, [], ◌∷◌, ◌++◌, ◌≡◌, ◌<◌, Option, Some, None, refl, ap, sym, ◌∙◌, subst, length}
+use Rattle.std.specs.Prelude.{◌==◌, if◌then◌else◌}
 use Rattle.std.specs.FinSet as set
 use Rattle.std.proofs.lemmas.Bool.{eq-eqb}
 use Rattle.std.proofs.lemmas.List.{length-set}
 use Rattle.client_cache.proofs.AtLines.{put_own, put_other}
-use Rattle.client_cache.specs.AtLine.{AtLine, at_line, KeepsOthers}
-use Rattle.client_cache.specs.Cache.{Cache, copy_at, word_written, word_written_in, written}
+use Rattle.client_cache.specs.AtLine.{KeepsOthers}
+use Rattle.client_cache.specs.Cache.{copy_at, word_written, word_written_in, written}
 use Rattle.client_cache.specs.Held.{bytes_in, perm_of}
 use Rattle.client_cache.specs.Word.{with_word}
 use Rattle.client_cache.specs.declared.held.Held.{Held}
 use Rattle.client_cache.specs.declared.held.Held.TheVariants as held
-use Rattle.directory.specs.Lines.{unknown}
-use Rattle.directory.specs.declared.answer.Known.{Known}
 use Rattle.hart.specs.Local.{private_row}
 use Rattle.hart.specs.Run.{after_instr, reached}
 use Rattle.hart.specs.declared.retired.Retired.{Retired}
@@ -26,10 +24,9 @@ use Rattle.machine_model.specs.Words.{bytes_of_word}
 use Rattle.machine_model.specs.declared.act.Deed.{Deed}
 use Rattle.machine_model.specs.declared.act.Deed.TheVariants as deed
 use Rattle.machine_model.proofs.LineKept.{not_eq}
-use Rattle.machine_model.proofs.LineStands.{quiet_side, wrote}
 use Rattle.machine_model.proofs.LineViews.{written_here, written_elsewhere}
-use Rattle.machine_model.proofs.WorldFits.{Framed, IsFit, HoldsReserved, fits, fits_alone, framed_node, framed_trace, kit_at, kit_changed, kit_of, same_reserved}
-use Rattle.machine_model.proofs.WorldKept.{Kit, IsWell, is_line, side, writes}
+use Rattle.machine_model.proofs.WorldFits.{IsFit, HoldsReserved, fits, fits_alone, framed_node, framed_trace, kit_at, kit_changed, kit_of, same_reserved}
+use Rattle.machine_model.proofs.WorldKept.{is_line, writes}
 use Rattle.memory_model.specs.declared.Model.{Model}
 use Rattle.rv32_decode.specs.declared.instruction.Instr.{Instr}
 use Rattle.store_buffer.specs.ByteMask.{marks_of_access}
@@ -37,7 +34,7 @@ use Rattle.store_buffer.specs.Entry.{entry_of}
 use Rattle.store_buffer.specs.Groups.{Groups, after_seal, after_take, oldest}
 use Rattle.store_buffer.specs.declared.entry.Entry.{Entry}
 use Rattle.tl_types.specs.declared.line.LineData.{LineData}
-use Rattle.trace_recorder.specs.History.{History, with_entry, with_performed, with_status}
+use Rattle.trace_recorder.specs.History.{History, with_entry, with_performed}
 
 -- the hart may write the word
 abbrev pub MayWrite : State → ℕ → ℕ → Type 0
@@ -142,10 +139,6 @@ performs_nodes : (s : State) (h : ℕ) (places : List ℕ) → (performs h place
 performs_nodes s h [] = refl
 performs_nodes s h (place ∷ places) = performs_nodes (with_trace (with_performed (record { hart = h; place = place }) s.trace) s) h places
 
-performs_image : (s : State) (h : ℕ) (places : List ℕ) → (performs h places s).trace.image ≡ s.trace.image
-performs_image s h [] = refl
-performs_image s h (place ∷ places) = performs_image (with_trace (with_performed (record { hart = h; place = place }) s.trace) s) h places
-
 performs_may : (s : State) (h k : ℕ) (places : List ℕ) (word : ℕ) → MayWrite s k word → MayWrite (performs h places s) k word
 performs_may s h k [] word may = may
 performs_may s h k (place ∷ places) word may = performs_may (with_trace (with_performed (record { hart = h; place = place }) s.trace) s) h k places word may
@@ -159,9 +152,6 @@ IsAllowed s h (deed.Reserve word) = MayWrite s h word
 IsAllowed s h (deed.Conditional word value) = MayWrite s h word
 IsAllowed s h (deed.Update word value) = MayWrite s h word
 IsAllowed s h _ = Unit {0}
-
-writes_nodes : (s : State) (h word : ℕ) (marks : List Bool) (bytes : List ℕ) → length (writes_word h word marks bytes s).views.nodes ≡ length s.views.nodes
-writes_nodes s h word marks bytes = length-set s.views.nodes h _
 
 module _ (s : State) (last : ℕ → LineData) (i : IsFit s last) (h : ℕ) (in_h : h < length s.views.nodes) where
   pub does_fits : (model : Model) (d : Deed) → IsAllowed s h d → Fits (does model h d s) × (length (does model h d s).views.nodes ≡ length s.views.nodes)

@@ -12,8 +12,8 @@ pub use act::{Act, Deed, Plan};
 pub use config::Config;
 pub use event::Event;
 pub use laws::{
-    grants_have_slots_always, image_and_config_stay, local_is_steps, nothing_is_rewritten,
-    one_writer_always, reserved_is_trunk_always, runs_always,
+    copies_agree_always, grants_have_slots_always, image_and_config_stay, local_is_steps,
+    nothing_is_rewritten, one_writer_always, reserved_is_trunk_always, runs_always,
 };
 pub use memory_model::Model;
 pub use order_laws::{order_always, performed_once_always, preserved_always};
