@@ -14,3 +14,10 @@ pub mod OrderMoves
 pub mod OrderActs
 pub mod OrderEvents
 pub mod OrderWhole
+pub mod OrderBytes
+pub mod OrderLast
+pub mod OrderValues
+pub mod OrderLoads
+pub mod OrderReads
+pub mod OrderReturns
+pub mod OrderJoint

@@ -81,7 +81,7 @@ acted_kept h (act.Local count) s l st p o = alone_kept h count s l st o
 
 -- ---- plans
 
-abbrev IsFitPlan : State → ℕ → Plan → Type 0
+abbrev pub IsFitPlan : State → ℕ → Plan → Type 0
 IsFitPlan s h (Stays o) = Unit {0}
 IsFitPlan s h (Changes a) = IsFit s h a
 
@@ -179,7 +179,7 @@ local_fit s h count =
     let goes = cond (nat_eq (length (private_row s.trace.image n.hart count)) count) (Changes (act.Local count)) (Stays outcome.NotLocal) in
     either (IsFitPlan s h) (not (is_running n.hart.status)) (Stays outcome.Halted) goes tt (either (IsFitPlan s h) (nat_eq (length (private_row s.trace.image n.hart count)) count) (Changes (act.Local count)) (Stays outcome.NotLocal) tt tt)
 
-plan_fit : (s : State) (e : Event) → IsFitPlan s (hart_of e) (plan_of s e)
+pub plan_fit : (s : State) (e : Event) → IsFitPlan s (hart_of e) (plan_of s e)
 plan_fit s (event.Step h) = step_fit s h
 plan_fit s (event.Drain h word) = drain_fit s h word
 plan_fit s (event.Evict h line) = evict_fit s h line (evicted (node_at s h).cache line).0
@@ -214,7 +214,7 @@ events_kept (e ∷ events) s st k = events_kept events (happens s e) (happens_st
 fresh : (image : Initial) (config : Config) (h : ℕ) → h < config.harts → node_at (opening image config) h ≡ opening_node image config h
 fresh image config h l = get_or-map-range_with_len (opening_node image config) 0 config.harts h h (no_node (opening image config)) l (omega arith)
 
-opening_stand : (image : Initial) (config : Config) → AllStand (opening image config)
+pub opening_stand : (image : Initial) (config : Config) → AllStand (opening image config)
 opening_stand image config = record {
   nodes = length-map-range_with_len (opening_node image config) 0 config.harts;
   entries = length-replicate config.harts [];
@@ -238,7 +238,7 @@ nothing_kept model h = record {
   split = record { waits = refl; named = tt; distinct = tt };
 }
 
-opening_kept : (image : Initial) (config : Config) → OrderKept (opening image config)
+pub opening_kept : (image : Initial) (config : Config) → OrderKept (opening image config)
 opening_kept image config = record { each = λ h l. at h l; resolved = tt; distinct = tt }
   where
     at : (h : ℕ) → h < config.harts → HartKept config.model h (items_at (opening image config).trace h) (node_at (opening image config) h).buffer []

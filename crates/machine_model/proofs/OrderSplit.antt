@@ -85,7 +85,7 @@ named_more h items m xs n = Each-weaker (IsNamed h items) (IsNamed h (items ++ m
 ops_more : (items : List Item) (m : Item) (s : Operation) → m.gave ≡ Some s → ops_of (items ++ m ∷ []) ≡ ops_of items ++ s ∷ []
 ops_more items m s e = filter_map-append (λ (q : Item). q.gave) items (m ∷ []) ∙ ap (λ v. ops_of items ++ v) (rw e refl)
 
-ops_same : (items : List Item) (m : Item) → m.gave ≡ None → ops_of (items ++ m ∷ []) ≡ ops_of items
+pub ops_same : (items : List Item) (m : Item) → m.gave ≡ None → ops_of (items ++ m ∷ []) ≡ ops_of items
 ops_same items m e = filter_map-append (λ (q : Item). q.gave) items (m ∷ []) ∙ (ap (λ v. ops_of items ++ v) (rw e refl) ∙ append-nil (ops_of items))
 
 unlike : (h : ℕ) (items : List Item) (s a : Operation) → s.place ≡ length items → IsNamed h items a → (same a s ≡ false) × (same s a ≡ false)

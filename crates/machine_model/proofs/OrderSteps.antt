@@ -80,7 +80,7 @@ nil_is (x ∷ xs) e = absurd (false≢true e)
 pub has_is : (word : ℕ) (buffer : Groups) (sealed : List (List Operation)) (current : List Operation) → buffer ≡ entries_in (waiting_of sealed current) → has word buffer ≡ list_any (of_word word) (joined sealed ++ current)
 has_is word buffer sealed current e = ap (has word) e ∙ (has_is_any_of_all word (waiting_of sealed current) ∙ (ap (list_any (is_to_word word)) (stores_joined sealed current) ∙ any_stores word (joined sealed ++ current)))
 
-empty_waits : (buffer : Groups) (sealed : List (List Operation)) (current : List Operation) → buffer ≡ entries_in (waiting_of sealed current) → is_empty buffer ≡ true → joined sealed ++ current ≡ []
+pub empty_waits : (buffer : Groups) (sealed : List (List Operation)) (current : List Operation) → buffer ≡ entries_in (waiting_of sealed current) → is_empty buffer ≡ true → joined sealed ++ current ≡ []
 empty_waits buffer sealed current e f =
     let s = and_parts (is_nil sealed) (is_nil current) (sym (ap is_empty e ∙ (empty_is_none (waiting_of sealed current) ∙ (ap (λ b. b && is_nil (stores_of current)) (is_nil-map stores_of sealed) ∙ ap (λ b. is_nil sealed && b) (is_nil-map store_of_operation current)))) ∙ f) in
     ap (λ (gs : List (List Operation)). joined gs ++ current) (nil_is sealed s.0) ∙ nil_is current s.1

@@ -131,7 +131,7 @@ order_always image config events i c =
 
 -- ---- what isn't performed, hart by hart
 
-abbrev missing : History → OpId → Bool
+abbrev pub missing : History → OpId → Bool
 missing t n = not (is_among t.performed n)
 
 among_is : (t : History) (ns : List OpId) (n : OpId) (a : Operation) → operation_at (instructions t) n ≡ Some a → Each (IsResolved t) ns → is_among ns n ≡ list_any (same a) (operations_at (instructions t) ns)
@@ -163,7 +163,7 @@ tail_part t h place hart (x ∷ es) r f =
         ∙ kept_or_not a (absent (done t) a) e ih
 
 -- the waiting stores of a hart
-abbrev waiting_at : {model : Model} {h : ℕ} {items : List Item} {buffer : Groups} {performed : List Operation} → HartKept model h items buffer performed → List Operation
+abbrev pub waiting_at : {model : Model} {h : ℕ} {items : List Item} {buffer : Groups} {performed : List Operation} → HartKept model h items buffer performed → List Operation
 waiting_at k = joined k.sealed ++ k.current
 
 -- ---- in order
@@ -173,7 +173,7 @@ in_lists [] h k hart a e = absurd (none_not a e)
 in_lists (es ∷ rest) zero k hart a e = omega arith
 in_lists (es ∷ rest) (suc h) k hart a e = let l = in_lists rest h k hart a e in omega (arith, l)
 
-done_inside : (t : History) (ns : List OpId) → Each (IsResolved t) ns → Each (λ a. a.hart < length t.entries) (operations_at (instructions t) ns)
+pub done_inside : (t : History) (ns : List OpId) → Each (IsResolved t) ns → Each (λ a. a.hart < length t.entries) (operations_at (instructions t) ns)
 done_inside t [] r = tt
 done_inside t (n ∷ ns) r =
     subst (λ o. Each (λ a. a.hart < length t.entries) (cons_option o (operations_at (instructions t) ns))) (sym r.0.1)
@@ -242,7 +242,7 @@ waiting_free s o order n l rest r =
     }
 
 -- the operations of a hart's list that aren't performed
-part_is : (s : State) (o : OrderKept s) (n : ℕ) (l : n < s.views.config.harts) (es : List Retired) → es ≡ entries_of s.trace n → operations_at (instructions s.trace) (filter (missing s.trace) (names_from n 0 es)) ≡ waiting_at (o.each n l)
+pub part_is : (s : State) (o : OrderKept s) (n : ℕ) (l : n < s.views.config.harts) (es : List Retired) → es ≡ entries_of s.trace n → operations_at (instructions s.trace) (filter (missing s.trace) (names_from n 0 es)) ≡ waiting_at (o.each n l)
 part_is s o n l es e =
     let t = s.trace in
     ap (λ xs. operations_at (instructions t) (filter (missing t) (names_from n 0 xs))) e
