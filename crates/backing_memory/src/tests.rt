@@ -69,3 +69,19 @@ fn lines_of_64_bytes(rt: HostRuntime) -> Result<(), Fail> {
     assert_eq!(rt; line_of(&rt, &memory, 1), LineData::Bytes64(second));
     Ok(())
 }
+
+/// Meant for runs in which one allocation fails: memory that was made takes no more.
+#[test]
+fn memory_is_taken_at_making_alone(rt: HostRuntime) -> Result<(), Fail> {
+    let image = match raw(rt.alloc(), &[1, 0, 0, 0], 4096) {
+        Ok(image) => image,
+        Err(_) => raw(rt.alloc(), &[1, 0, 0, 0], 4096)?,
+    };
+    let mut memory = match Memory::new(rt.alloc(), &image, LineSize::Bytes16) {
+        Ok(memory) => memory,
+        Err(_) => Memory::new(rt.alloc(), &image, LineSize::Bytes16)?,
+    };
+    set_short(&rt, &mut memory, 3, [7; 16]);
+    assert_eq!(rt; line_of(&rt, &memory, 3), LineData::Bytes16([7; 16]));
+    Ok(())
+}

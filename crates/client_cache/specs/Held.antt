@@ -4,7 +4,8 @@ use Rattle.tl_types.specs.declared.line.LineData.{LineData}
 use Rattle.tl_types.specs.declared.permission.Perm.{Perm}
 use Rattle.tl_types.specs.declared.permission.Perm.TheVariants.{Nothing, Branch as BranchPerm, Trunk as TrunkPerm}
 use Rattle.tl_types.specs.declared.permission.Cap.{Cap}
-use Rattle.tl_types.specs.declared.permission.Cap.TheVariants.{ToT, ToB, ToN}
+use Rattle.tl_types.specs.declared.permission.Cap.TheVariants.{ToN}
+use Rattle.tl_types.specs.Permission.{named_by}
 use Rattle.tl_types.specs.Shrink.{shrunk_by}
 use Rattle.client_cache.specs.declared.answers.Evict.{Evict}
 use Rattle.client_cache.specs.declared.answers.Evict.TheVariants.{Evicted}
@@ -51,13 +52,8 @@ abbrev pub shrunk_at : Cap → Option Held → Option Held
 shrunk_at cap None = None
 shrunk_at cap (Some h) = shrunk_copy cap h
 
-abbrev pub perm_granted : Cap → Perm
-perm_granted ToT = TrunkPerm
-perm_granted ToB = BranchPerm
-perm_granted ToN = Nothing
-
 -- what a Grant leaves: the permission that it gives, clean, with its bytes or, without any, the copy's own
 abbrev pub granted_copy : Cap → Option LineData → Option Held → Option Held
-granted_copy cap (Some bytes) before = clean_copy (perm_granted cap) bytes
-granted_copy cap None (Some h) = clean_copy (perm_granted cap) (bytes_in h)
+granted_copy cap (Some bytes) before = clean_copy (named_by cap) bytes
+granted_copy cap None (Some h) = clean_copy (named_by cap) (bytes_in h)
 granted_copy cap None None = None

@@ -1,6 +1,6 @@
 //! A copy of a line, and what calls make of it.
 ghost use Rattle.std.specs.Prelude.{◌≡◌, None};
-ghost use Rattle.client_cache.specs.Held.{perm_of, bytes_in, dirty_in, eviction_of, answer_of, clean_copy, shrunk_copy, perm_granted, granted_copy};
+ghost use Rattle.client_cache.specs.Held.{perm_of, bytes_in, dirty_in, eviction_of, answer_of, clean_copy, shrunk_copy, granted_copy};
 
 use crate::answers::{Evict, Probed};
 use tl_types::{Cap, LineData, Perm, shrink};
@@ -89,20 +89,9 @@ impl Held {
         ensures { result ≡ granted_copy cap bytes before }
     {
         match (bytes, before) {
-            (Some(bytes), _) => Held::clean(granted_perm(cap), bytes),
-            (None, Some(held)) => Held::clean(granted_perm(cap), held.bytes()),
+            (Some(bytes), _) => Held::clean(cap.perm(), bytes),
+            (None, Some(held)) => Held::clean(cap.perm(), held.bytes()),
             (None, None) => None,
         }
-    }
-}
-
-/// The permission that a Grant gives.
-fn granted_perm(cap: Cap) -> Perm
-    ensures { result ≡ perm_granted cap }
-{
-    match cap {
-        Cap::ToT => Perm::Trunk,
-        Cap::ToB => Perm::Branch,
-        Cap::ToN => Perm::Nothing,
     }
 }

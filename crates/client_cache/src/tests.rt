@@ -72,6 +72,16 @@ const EVICTED_ONE: Answer = Answer::Evict(Evict::Evicted {
     bytes: Some(ONE),
 });
 
+/// A copy for writing.
+fn trunk(dirty: bool, bytes: LineData) -> Option<Held> {
+    Some(Held::Trunk { dirty, bytes })
+}
+
+/// The answer to a Probe of a line of which no Release is unanswered.
+fn probed(change: Change, bytes: Option<LineData>) -> Answer {
+    Answer::Probe(Probed::Answered { change, bytes })
+}
+
 /// Plays calls and compares what they answer.
 fn play(rt: &impl Abort, cache: &mut ClientCache, calls: &[(Call, Answer)]) {
     for (call, answer) in calls {
@@ -96,58 +106,111 @@ fn ask_counted<R: Abort, L: Ledger>(
 {
     let mut ticks = Ticks::<L>::new(blank);
     match call {
-        Call::Want(line, grow) => {
-            let ahead = cache.peek_want(line, grow, &mut ticks);
-            let answer = cache.want(line, grow, &mut ticks);
-            assert_eq!(rt; ahead, answer);
-            Answer::Want(answer)
-        }
+        Call::Want(line, grow) => Answer::Want(want(rt, cache, line, grow, &mut ticks)),
+        Call::Evict(line) => Answer::Evict(evict(rt, cache, line, &mut ticks)),
+        Call::Probe(line, cap) => Answer::Probe(cache.on_probe(line, cap, &mut ticks)),
+        Call::Copy(line) => Answer::Copy(copy(rt, cache, line, &mut ticks)),
         Call::Grant(line, cap, bytes) => {
             assert!(rt; cache.is_acquiring(line));
             cache.on_grant(line, cap, bytes, &mut ticks);
             assert!(rt; !cache.is_acquiring(line));
             Answer::Done
         }
-        Call::Store(line, byte) => {
-            let Perm::Trunk = cache.perm(line, &mut ticks) else {
-                panic!(rt; "not Trunk")
-            };
-            assert!(rt; line % 4 == 0);
-            cache.write_word(line, line, [true; 4], [byte, 0, 0, 0], &mut ticks);
-            Answer::Done
-        }
-        Call::StoreBytes(word, marks, bytes) => {
-            let Perm::Trunk = cache.perm(X, &mut ticks) else {
-                panic!(rt; "not Trunk")
-            };
-            assert!(rt; word % 4 == 0);
-            cache.write_word(X, word, marks, bytes, &mut ticks);
-            Answer::Done
-        }
-        Call::Write(line, bytes) => {
-            let Perm::Trunk = cache.perm(line, &mut ticks) else {
-                panic!(rt; "not Trunk")
-            };
-            cache.write(line, bytes, &mut ticks);
-            Answer::Done
-        }
-        Call::Probe(line, cap) => Answer::Probe(cache.on_probe(line, cap, &mut ticks)),
         Call::ReleaseAck(line) => {
             cache.on_release_ack(line);
             assert!(rt; !cache.is_releasing(line));
             Answer::Done
         }
-        Call::Evict(line) => {
-            let ahead = cache.peek_evict(line, &mut ticks);
-            let answer = cache.evict(line, &mut ticks);
-            assert_eq!(rt; ahead, answer);
-            Answer::Evict(answer)
+        Call::Store(line, byte) => {
+            store(
+                rt,
+                cache,
+                line,
+                line,
+                [true; 4],
+                [byte, 0, 0, 0],
+                &mut ticks,
+            );
+            Answer::Done
         }
-        Call::Copy(line) => {
-            let copy = cache.copy(line, &mut ticks);
-            let bytes = cache.read(line, &mut ticks);
-            assert_eq!(rt; bytes, copy.map(|held| held.bytes()));
-            Answer::Copy(copy)
+        Call::StoreBytes(word, marks, bytes) => {
+            store(rt, cache, X, word, marks, bytes, &mut ticks);
+            Answer::Done
+        }
+        Call::Write(line, bytes) => {
+            write(rt, cache, line, bytes, &mut ticks);
+            Answer::Done
         }
     }
+}
+
+/// The answer to a miss, which `peek_want` has to foresee.
+fn want<L: Ledger>(
+    rt: &impl Abort,
+    cache: &mut ClientCache,
+    line: u32,
+    grow: Grow,
+    ticks: &mut Ticks<L>,
+) -> Want {
+    let foreseen = cache.peek_want(line, grow, ticks);
+    let answer = cache.want(line, grow, ticks);
+    assert_eq!(rt; foreseen, answer);
+    answer
+}
+
+/// The answer to an eviction, which `peek_evict` has to foresee.
+fn evict<L: Ledger>(
+    rt: &impl Abort,
+    cache: &mut ClientCache,
+    line: u32,
+    ticks: &mut Ticks<L>,
+) -> Evict {
+    let foreseen = cache.peek_evict(line, ticks);
+    let answer = cache.evict(line, ticks);
+    assert_eq!(rt; foreseen, answer);
+    answer
+}
+
+/// The copy, whose bytes are those that are read.
+fn copy<L: Ledger>(
+    rt: &impl Abort,
+    cache: &ClientCache,
+    line: u32,
+    ticks: &mut Ticks<L>,
+) -> Option<Held> {
+    let copy = cache.copy(line, ticks);
+    let bytes = cache.read(line, ticks);
+    assert_eq!(rt; bytes, copy.map(|held| held.bytes()));
+    copy
+}
+
+/// Stores the marked bytes of an aligned word of a copy that has to be Trunk.
+fn store<L: Ledger>(
+    rt: &impl Abort,
+    cache: &mut ClientCache,
+    line: u32,
+    word: u32,
+    marks: [bool; 4],
+    bytes: [u8; 4],
+    ticks: &mut Ticks<L>,
+) {
+    let Perm::Trunk = cache.perm(line, ticks) else {
+        panic!(rt; "not Trunk")
+    };
+    assert!(rt; word % 4 == 0);
+    cache.write_word(line, word, marks, bytes, ticks);
+}
+
+/// Replaces a line whose copy has to be Trunk.
+fn write<L: Ledger>(
+    rt: &impl Abort,
+    cache: &mut ClientCache,
+    line: u32,
+    bytes: LineData,
+    ticks: &mut Ticks<L>,
+) {
+    let Perm::Trunk = cache.perm(line, ticks) else {
+        panic!(rt; "not Trunk")
+    };
+    cache.write(line, bytes, ticks);
 }

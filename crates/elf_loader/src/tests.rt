@@ -3,9 +3,12 @@
 mod changed;
 mod programs;
 
+ghost use Rattle.elf_loader.specs.Size.{IsMemorySize};
+
 use crate::segment::ProgramHeader;
 use crate::{BASE, Image, LoadError, load, raw, size_of_kib};
 use changed::{CUT, FILE, WITH_00, WITH_FF};
+use programs::Program;
 use std::alloc::{AllocError, Global};
 use std::process::Abort;
 use std::test::Fail;
@@ -68,17 +71,20 @@ fn file_of(alloc: Global, header: &Header, table: &[ProgramHeader]) -> Result<Ve
     Ok(file)
 }
 
-/// The number of the fault in memory of 4 KiB, 0 for an image.
-fn answer(alloc: Global, file: &[u8]) -> u8 {
-    match load(alloc, file, 4096) {
+/// The number of the fault, 0 for an image.
+fn answer(alloc: Global, file: &[u8], size: u32) -> u8
+    requires { IsMemorySize size }
+{
+    match load(alloc, file, size) {
         Ok(_) => 0,
         Err(fault) => fault.number(),
     }
 }
 
+/// The same of a file in memory of 4 KiB.
 fn answer_of(alloc: Global, header: &Header, table: &[ProgramHeader]) -> Result<u8, AllocError> {
     let file = file_of(alloc, header, table)?;
-    Ok(answer(alloc, &file))
+    Ok(answer(alloc, &file, 4096))
 }
 
 /// The sum of the bytes, each times its place from 1, modulo 2^32.
@@ -95,7 +101,7 @@ fn sum_of(image: &Image) -> u32 {
 #[test]
 fn row_15(rt: HostRuntime) -> Result<(), Fail> {
     let alloc = rt.alloc();
-    assert_eq!(rt; answer(alloc, &[0x7f; 51]), 1);
+    assert_eq!(rt; answer(alloc, &[0x7f; 51], 4096), 1);
     let header = Header { e_phnum: 1, ..GOOD };
     assert_eq!(rt;
         answer_of(alloc, &header, &[segment(0, 0x8000_0ff0, 0, 16)])?,
@@ -183,54 +189,63 @@ fn row_40(rt: HostRuntime) -> Result<(), Fail> {
     Ok(())
 }
 
-#[test]
-fn a_file_cut_short(rt: HostRuntime) {
-    let alloc = rt.alloc();
-    let mut length = 0;
-    for (count, want) in CUT {
-        for _ in 0..count {
-            let cut = FILE.get(..length);
+/// Compares the answers to the file cut at each length.
+fn compare_cut(rt: &impl Abort, alloc: Global, file: &[u8], size: u32, wants: &[(usize, u8)])
+    requires { IsMemorySize size }
+{
+    let mut length = 0usize;
+    for (count, want) in wants {
+        for _ in 0..*count {
+            let cut = file.get(..length);
             assert_eq!(rt;
-                cut.map(|cut| answer(alloc, cut)),
-                Some(want),
+                cut.map(|cut| answer(alloc, cut, size)),
+                Some(*want),
                 "at {length}"
             );
             length = length.wrapping_add(1);
         }
     }
-    assert_eq!(rt; length, FILE.len() + 1);
+    assert_eq!(rt; length.checked_sub(1), Some(file.len()));
 }
 
-/// Compares the answers to a file with the byte at each place changed.
-fn compare(rt: &impl Abort, alloc: Global, value: u8, wants: &[(u8, u32)]) {
-    for (place, want) in wants.iter().enumerate() {
-        let mut file = FILE;
-        if let Some(byte) = file.get_mut(place) {
-            *byte = value;
+/// Compares the answers to the file with the byte at each place of header and table changed.
+fn compare_changed(
+    rt: &impl Abort,
+    alloc: Global,
+    file: &[u8],
+    size: u32,
+    value: u8,
+    wants: &[(usize, u8, u32)],
+) -> Result<(), Fail>
+    requires { IsMemorySize size }
+{
+    let mut place = 0usize;
+    for (count, fault, sum) in wants {
+        for _ in 0..*count {
+            let mut changed = file.to_vec(alloc)?;
+            if let Some(byte) = changed.get_mut(place) {
+                *byte = value;
+            }
+            let got = match load(alloc, &changed, size) {
+                Ok(image) => (0, sum_of(&image)),
+                Err(fault) => (fault.number(), 0),
+            };
+            assert_eq!(rt; got, (*fault, *sum), "{value} at {place}");
+            place = place.wrapping_add(1);
         }
-        let got = match load(alloc, &file, 4096) {
-            Ok(image) => (0, sum_of(&image)),
-            Err(fault) => (fault.number(), 0),
-        };
-        assert_eq!(rt; got, *want, "{value} at {place}");
     }
+    Ok(())
 }
 
 #[test]
-fn a_file_with_a_byte_changed(rt: HostRuntime) {
-    compare(&rt, rt.alloc(), 0x00, &WITH_00);
-    compare(&rt, rt.alloc(), 0xff, &WITH_FF);
+fn a_small_file_cut_and_changed(rt: HostRuntime) -> Result<(), Fail> {
+    compare_cut(&rt, rt.alloc(), &FILE, 4096, &CUT);
+    compare_changed(&rt, rt.alloc(), &FILE, 4096, 0x00, &WITH_00)?;
+    compare_changed(&rt, rt.alloc(), &FILE, 4096, 0xff, &WITH_FF)
 }
 
-/// Loads a program whose file has this head and these words, and compares what stands in memory.
-fn compare_program(rt: &impl Abort, alloc: Global, head: &[u8], words: &[u32]) -> Result<(), Fail> {
-    let mut file = head.to_vec(alloc)?;
-    file.resize(4096, 0)?;
-    for word in words {
-        file.extend_from_slice(&word.to_le_bytes())?;
-    }
-    let image = load(alloc, &file, 8192)?;
-    assert_eq!(rt; image.entry(), 0x8000_0000);
+/// Compares what stands in memory with the program's words, and zeros behind them.
+fn compare_words(rt: &impl Abort, image: &Image, words: &[u32]) {
     let mut address = BASE;
     for word in words {
         assert!(rt; image.has_word(address));
@@ -239,20 +254,25 @@ fn compare_program(rt: &impl Abort, alloc: Global, head: &[u8], words: &[u32]) -
     }
     assert!(rt; image.has_word(address));
     assert_eq!(rt; image.word(address), 0);
-    Ok(())
+}
+
+/// Loads a program's file, whole, cut and changed.
+fn compare_program(rt: &impl Abort, alloc: Global, program: &Program) -> Result<(), Fail> {
+    let file = program.file(alloc)?;
+    let image = load(alloc, &file, 8192)?;
+    assert_eq!(rt; image.entry(), 0x8000_0000);
+    compare_words(rt, &image, program.words);
+    compare_cut(rt, alloc, &file, 8192, program.cut);
+    compare_changed(rt, alloc, &file, 8192, 0x00, program.with_00)?;
+    compare_changed(rt, alloc, &file, 8192, 0xff, program.with_ff)
 }
 
 #[test]
 fn programs_of_the_gnu_toolchain(rt: HostRuntime) -> Result<(), Fail> {
-    compare_program(&rt, rt.alloc(), &programs::CAS_HEAD, &programs::CAS_WORDS)?;
-    compare_program(&rt, rt.alloc(), &programs::CRC_HEAD, &programs::CRC_WORDS)?;
-    compare_program(
-        &rt,
-        rt.alloc(),
-        &programs::DIVIDE_HEAD,
-        &programs::DIVIDE_WORDS,
-    )?;
-    compare_program(&rt, rt.alloc(), &programs::SUM_HEAD, &programs::SUM_WORDS)
+    compare_program(&rt, rt.alloc(), &programs::CAS)?;
+    compare_program(&rt, rt.alloc(), &programs::CRC)?;
+    compare_program(&rt, rt.alloc(), &programs::DIVIDE)?;
+    compare_program(&rt, rt.alloc(), &programs::SUM)
 }
 
 #[test]
@@ -286,6 +306,34 @@ fn bare_words(rt: HostRuntime) -> Result<(), Fail> {
         assert_eq!(rt; got, want, "of {length} bytes");
     }
     Ok(())
+}
+
+/// Meant for runs in which one allocation fails: the answer is NoMemory, and the call succeeds when asked again.
+#[test]
+fn a_refused_allocation_is_no_memory(rt: HostRuntime) {
+    let alloc = rt.alloc();
+    let image = match load(alloc, &FILE, 4096) {
+        Ok(image) => image,
+        Err(fault) => {
+            assert_eq!(rt; fault, LoadError::NoMemory);
+            load(alloc, &FILE, 4096).expect(&rt, "a second load")
+        }
+    };
+    assert_eq!(rt; sum_of(&image), 1_202_660);
+    let copy = match image.try_copy(alloc) {
+        Ok(copy) => copy,
+        Err(_) => image.try_copy(alloc).expect(&rt, "a second copy"),
+    };
+    assert_eq!(rt; sum_of(&image), 1_202_660);
+    assert_eq!(rt; copy.bytes(), image.bytes());
+    let words = match raw(alloc, &[1, 0, 0, 0], 4096) {
+        Ok(words) => words,
+        Err(fault) => {
+            assert_eq!(rt; fault, LoadError::NoMemory);
+            raw(alloc, &[1, 0, 0, 0], 4096).expect(&rt, "words again")
+        }
+    };
+    assert_eq!(rt; sum_of(&words), 1);
 }
 
 #[test]

@@ -12,7 +12,7 @@ use Rattle.hart.specs.Local.{is_private, is_done_alone, can_go_alone, next_entry
 use Rattle.hart.specs.Run.{after, after_instr, are_steps, can_fetch, does, has_answers, is_running, is_step, reached, status_after}
 use Rattle.hart.proofs.Rows.{stop_of-private, private_runs_on}
 
-private_is : (a : Access) → is_private a ≡ true → a ≡ Private
+pub private_is : (a : Access) → is_private a ≡ true → a ≡ Private
 private_is Private e = refl
 private_is (Loads address bytes) e = absurd (false≢true e)
 private_is (Stores address bytes value) e = absurd (false≢true e)

@@ -21,3 +21,4 @@ pub mod OrderLoads
 pub mod OrderReads
 pub mod OrderReturns
 pub mod OrderJoint
+pub mod Batches

@@ -15,7 +15,7 @@ use Rattle.machine_model.specs.Words.{word_of, word_in, read_from, store_of}
 use Rattle.memory_model.specs.declared.Model.{Model}
 use Rattle.memory_model.specs.declared.Model.TheVariants.{Rvwmo, Ztso}
 use Rattle.memory_model.specs.declared.operation.Kind.TheVariants.{Load, Store}
-use Rattle.memory_model.specs.Items.{bits_of}
+use Rattle.memory_model.specs.Items.{annotations_of}
 use Rattle.memory_model.specs.Rules.{fences}
 use Rattle.reservations.specs.Reservation.{is_valid}
 use Rattle.rv32_decode.specs.Amo.{combined}
@@ -57,7 +57,7 @@ plan_store n f address bytes value =
 
 -- a release bit waits for all of them, and each access for those to its own word
 abbrev pub waits_for_stores : Node → Instr → ℕ → Bool
-waits_for_stores n i word = ((bits_of i).release && not (is_empty n.buffer)) || has word n.buffer
+waits_for_stores n i word = ((annotations_of i).release && not (is_empty n.buffer)) || has word n.buffer
 
 -- a write that is performed at once passes no sealed group, and under Ztso no store
 abbrev pub write_waits : Model → Node → Instr → ℕ → Bool

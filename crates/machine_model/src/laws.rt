@@ -1,5 +1,5 @@
 //! Laws of the event meaning, each the contract of a function that does nothing.
-ghost use Rattle.machine_model.specs.Laws.{ImageAndConfigStay, NothingIsRewritten, RunsAlways};
+ghost use Rattle.machine_model.specs.Laws.{ImageAndConfigStay, LocalIsSteps, NothingIsRewritten, RunsAlways};
 
 /// An event only adds to the performed order, to the harts' lists and to the message log.
 pub fn nothing_is_rewritten()
@@ -15,4 +15,10 @@ pub fn image_and_config_stay()
 /// status.
 pub fn runs_always()
     ensures { RunsAlways }
+{}
+
+/// A `Local` event that retires is as many single steps of its hart, each of which retires, but for
+/// the count of events, which grows by one.
+pub fn local_is_steps()
+    ensures { LocalIsSteps }
 {}

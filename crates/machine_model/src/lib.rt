@@ -11,7 +11,7 @@ mod outcome;
 pub use act::{Act, Deed, Plan};
 pub use config::Config;
 pub use event::Event;
-pub use laws::{image_and_config_stay, nothing_is_rewritten, runs_always};
+pub use laws::{image_and_config_stay, local_is_steps, nothing_is_rewritten, runs_always};
 pub use memory_model::Model;
 pub use order_laws::{order_always, performed_once_always, preserved_always};
 pub use outcome::Outcome;

@@ -1,21 +1,19 @@
 -- The computing forms of "in order" and of the source say what the readers' forms say.
-use Rattle.std.proofs.Common.{◌≡◌, ℕ, zero, suc, ◌+◌, ◌<◌, ◌≤◌, List, [], ◌∷◌, ◌++◌, Bool, true, false, Option, Some, None, refl, cond, sym, ap, ◌∙◌, subst, not, ◌&&◌, ◌||◌, arith, ltb, ◌⊎◌, inl, inr, length}
-use Rattle.std.specs.Prelude.{nat_lt, nat_eq, IsTrue}
-use Rattle.std.specs.List.{AllByRecursion as Each, Contains, filter, list_any, list_all, last_or}
+use Rattle.std.proofs.Common.{◌≡◌, ℕ, ◌+◌, ◌<◌, List, [], ◌∷◌, ◌++◌, Bool, true, false, None, refl, cond, sym, ap, ◌∙◌, subst, not, ◌&&◌, ◌||◌, arith, inl, inr, length}
+use Rattle.std.specs.Prelude.{nat_eq, IsTrue}
+use Rattle.std.specs.List.{AllByRecursion as Each, Contains, filter, list_any, last_or}
 use Rattle.std.proofs.lemmas.Bool.{false≢true, true≢false, ltb-true, lt-ltb, le-ltb, and_from, and_parts, eq-eqb, eqb-true, or_left, or_right, not-true}
 use Rattle.std.proofs.lemmas.List.Elements.{filter-append}
-use Rattle.trace_recorder.specs.History.{History}
-use Rattle.trace_recorder.specs.declared.operation.OpId.{OpId}
 use Rattle.memory_model.specs.declared.Model.{Model}
 use Rattle.memory_model.specs.declared.operation.Operation.{Operation}
 use Rattle.memory_model.specs.Operations.{same, precedes, stores_to}
-use Rattle.memory_model.specs.Order.{Pairwise, IsDistinct, Keeps, before, position_in, in_order, none_must_precede, visible, source, is_visible, last_visible, last_of}
+use Rattle.memory_model.specs.Order.{Keeps, before, position_in, in_order, none_must_precede, candidates, source, is_visible, last_visible}
 use Rattle.memory_model.specs.Items.{Item}
 use Rattle.memory_model.specs.Rules.{Rule, rules, items_of, preserved}
-use Rattle.memory_model.specs.Traces.{IsOrder, instructions, operations_at}
+use Rattle.memory_model.specs.Traces.{instructions, operations_at}
 use Rattle.memory_model.specs.Laws.{OrderFormsAgree, SourceFormsAgree}
-use Rattle.memory_model.proofs.Lists.{Member, Each-weaker, Each-both, Each-at, Each-from, Each-left, Each-right, Member-from_Contains, Contains-from_Member, Split, split_at, filter_same}
-use Rattle.memory_model.proofs.Named.{Pairwise-from_is_distinct, operations_distinct}
+use Rattle.memory_model.proofs.Lists.{Member, Pairwise, Each-weaker, Each-both, Each-at, Each-from, Each-right, Member-from_Contains, Contains-from_Member, split_at, filter_same}
+use Rattle.memory_model.proofs.Named.{EachOnce, Pairwise-from_is_distinct, operations_distinct}
 
 -- ---- names
 
@@ -65,7 +63,7 @@ Ordered-from_in_order must (x ∷ xs) e = let s = and_parts (none_must_precede m
 KeepsMembers : (Operation → Operation → Bool) → List Operation → Type 0
 KeepsMembers must order = (a b : Operation) → Member a order → Member b order → IsTrue (must a b) → IsTrue (before order a b)
 
-keeps-from_Ordered : (must : Operation → Operation → Bool) → ((a : Operation) → must a a ≡ false) → (xs : List Operation) → IsDistinct xs → Ordered must xs → KeepsMembers must xs
+keeps-from_Ordered : (must : Operation → Operation → Bool) → ((a : Operation) → must a a ≡ false) → (xs : List Operation) → EachOnce xs → Ordered must xs → KeepsMembers must xs
 unfolding KeepsMembers
 keeps-from_Ordered must irr [] d o a b ma mb t = absurd ma
 keeps-from_Ordered must irr (x ∷ xs) d o a b (inl ea) (inl eb) t = absurd (false≢true (sym (irr x) ∙ (ap (λ y. must y x) (sym ea) ∙ (ap (must a) (sym eb) ∙ t))))
@@ -79,7 +77,7 @@ keeps-from_Ordered must irr (x ∷ xs) d o a b (inr ma) (inr mb) t =
     let l = ltb-true (position_in xs a) (position_in xs b) (keeps-from_Ordered must irr xs d.1 o.1 a b ma mb t) in
     lt-ltb _ _ (rw (place_tail a x xs fa, place_tail b x xs fb) (omega arith))
 
-Ordered-from_keeps : (must : Operation → Operation → Bool) (xs : List Operation) → IsDistinct xs → KeepsMembers must xs → Ordered must xs
+Ordered-from_keeps : (must : Operation → Operation → Bool) (xs : List Operation) → EachOnce xs → KeepsMembers must xs → Ordered must xs
 unfolding KeepsMembers
 Ordered-from_keeps must [] d k = tt
 Ordered-from_keeps must (x ∷ xs) d k = (
@@ -98,11 +96,11 @@ Ordered-from_keeps must (x ∷ xs) d k = (
         let z = place_head x x xs (same-self x) in absurd (omega (arith, l, z))
 
 -- for a test by which nothing must come before itself
-pub Keeps-from_in_order : (must : Operation → Operation → Bool) → ((a : Operation) → must a a ≡ false) → (xs : List Operation) → IsDistinct xs → in_order must xs ≡ true → Keeps must xs
+pub Keeps-from_in_order : (must : Operation → Operation → Bool) → ((a : Operation) → must a a ≡ false) → (xs : List Operation) → EachOnce xs → in_order must xs ≡ true → Keeps must xs
 unfolding KeepsMembers
 Keeps-from_in_order must irr xs d e = λ a b ca cb t. keeps-from_Ordered must irr xs d (Ordered-from_in_order must xs e) a b (Member-from_Contains xs a ca) (Member-from_Contains xs b cb) t
 
-pub in_order-from_Keeps : (must : Operation → Operation → Bool) (xs : List Operation) → IsDistinct xs → Keeps must xs → in_order must xs ≡ true
+pub in_order-from_Keeps : (must : Operation → Operation → Bool) (xs : List Operation) → EachOnce xs → Keeps must xs → in_order must xs ≡ true
 unfolding KeepsMembers
 in_order-from_Keeps must xs d k = in_order-from_Ordered must xs (Ordered-from_keeps must xs d (λ a b ma mb t. k a b (Contains-from_Member xs a ma) (Contains-from_Member xs b mb) t))
 
@@ -123,15 +121,15 @@ order_forms_agree model t order o =
 
 -- ---- the source of a byte
 
-visible_behind_at : (b c : Bool) (s : Operation) (fa va f w : List Operation) → b ≡ false → va ≡ f ++ w → cond b fa (cond c (s ∷ va) va) ≡ cond c (s ∷ f) f ++ w
-visible_behind_at true c s fa va f w e h = absurd (true≢false e)
-visible_behind_at false true s fa va f w e h = ap (λ ys. s ∷ ys) h
-visible_behind_at false false s fa va f w e h = h
+candidates_behind_at : (b c : Bool) (s : Operation) (fa va f w : List Operation) → b ≡ false → va ≡ f ++ w → cond b fa (cond c (s ∷ va) va) ≡ cond c (s ∷ f) f ++ w
+candidates_behind_at true c s fa va f w e h = absurd (true≢false e)
+candidates_behind_at false true s fa va f w e h = ap (λ ys. s ∷ ys) h
+candidates_behind_at false false s fa va f w e h = h
 
 -- what a load sees where it stands behind the first part
-pub visible-behind : (load : Operation) (x : ℕ) (xs ys : List Operation) → Each (λ s. same s load ≡ false) xs → visible load x (xs ++ ys) ≡ filter (stores_to x) xs ++ visible load x ys
-visible-behind load x [] ys h = refl
-visible-behind load x (s ∷ xs) ys h = visible_behind_at (same s load) (stores_to x s) s _ _ _ _ h.0 (visible-behind load x xs ys h.1)
+pub candidates-behind : (load : Operation) (x : ℕ) (xs ys : List Operation) → Each (λ s. same s load ≡ false) xs → candidates (xs ++ ys) load x ≡ filter (stores_to x) xs ++ candidates ys load x
+candidates-behind load x [] ys h = refl
+candidates-behind load x (s ∷ xs) ys h = candidates_behind_at (same s load) (stores_to x s) s _ _ _ _ h.0 (candidates-behind load x xs ys h.1)
 
 place_front : (a : Operation) (xs ys : List Operation) → list_any (λ s. same a s) xs ≡ true → position_in (xs ++ ys) a < length xs
 place_front a [] ys e = absurd (false≢true e)
@@ -157,7 +155,7 @@ source_at xs ys load x dx dy inx iny =
     filter_same (is_visible order load x) (λ t. stores_to x t && precedes t load) ys (Each-weaker (λ s. ((same load s ≡ false) × (same s load ≡ false)) × Each (λ t. same s t ≡ false) xs) (λ s. is_visible order load x s ≡ (stores_to x s && precedes s load))
     (λ s h. let l = place_back s xs (load ∷ ys) h.1 in let b : before order s load ≡ false = le-ltb _ _ (rw (at, l) (omega arith)) in rw (h.0.1, b) (and_true_middle (stores_to x s) (precedes s load))) ys (Each-both (λ s. (same load s ≡ false) × (same s load ≡ false)) (λ s. Each (λ t. same s t ≡ false) xs) ys dy iny)) in
     ap (last_or None) (filter-append (is_visible order load x) xs (load ∷ ys) ∙ (ap (λ v. v ++ filter (is_visible order load x) (load ∷ ys)) front
-    ∙ (ap (λ v. filter (stores_to x) xs ++ v) (at_load (same-self load) ∙ back) ∙ sym (visible-behind load x xs (load ∷ ys) (Each-weaker (λ s. (same load s ≡ false) × (same s load ≡ false)) (λ s. same s load ≡ false) (λ s h. h.1) xs dx) ∙ ap (λ v. filter (stores_to x) xs ++ v) (sees_own (same-self load))))))
+    ∙ (ap (λ v. filter (stores_to x) xs ++ v) (at_load (same-self load) ∙ back) ∙ sym (candidates-behind load x xs (load ∷ ys) (Each-weaker (λ s. (same load s ≡ false) × (same s load ≡ false)) (λ s. same s load ≡ false) (λ s h. h.1) xs dx) ∙ ap (λ v. filter (stores_to x) xs ++ v) (sees_own (same-self load))))))
   where
     and_true_right : (a : Bool) → (a && true && true) ≡ a
     and_true_right true = refl
@@ -174,20 +172,20 @@ source_at xs ys load x dx dy inx iny =
     at_load : same load load ≡ true → filter (is_visible (xs ++ load ∷ ys) load x) (load ∷ ys) ≡ filter (is_visible (xs ++ load ∷ ys) load x) ys
     at_load e = ap (λ c. cond c (load ∷ filter (is_visible (xs ++ load ∷ ys) load x) ys) (filter (is_visible (xs ++ load ∷ ys) load x) ys)) (unseen (stores_to x load) (same load load) (before (xs ++ load ∷ ys) load load || precedes load load) e)
 
-    sees_own : same load load ≡ true → visible load x (load ∷ ys) ≡ filter (λ t. stores_to x t && precedes t load) ys
+    sees_own : same load load ≡ true → candidates (load ∷ ys) load x ≡ filter (λ t. stores_to x t && precedes t load) ys
     sees_own e = rw e refl
 
 -- ---- a distinct list, round one of its operations
 
-distinct_front : (xs ys : List Operation) (load : Operation) → IsDistinct (xs ++ load ∷ ys) → Each (λ s. (same load s ≡ false) × (same s load ≡ false)) xs
+distinct_front : (xs ys : List Operation) (load : Operation) → EachOnce (xs ++ load ∷ ys) → Each (λ s. (same load s ≡ false) × (same s load ≡ false)) xs
 distinct_front [] ys load d = tt
 distinct_front (x ∷ xs) ys load d = let e : same x load ≡ false = (Each-right (λ s. same x s ≡ false) xs (load ∷ ys) d.0).0 in ((same-swap x load e, e), distinct_front xs ys load d.1)
 
-distinct_back : (xs ys : List Operation) (load : Operation) → IsDistinct (xs ++ load ∷ ys) → Each (λ s. (same load s ≡ false) × (same s load ≡ false)) ys
+distinct_back : (xs ys : List Operation) (load : Operation) → EachOnce (xs ++ load ∷ ys) → Each (λ s. (same load s ≡ false) × (same s load ≡ false)) ys
 distinct_back [] ys load d = Each-weaker (λ s. same load s ≡ false) (λ s. (same load s ≡ false) × (same s load ≡ false)) (λ s e. (e, same-swap load s e)) ys d.0
 distinct_back (x ∷ xs) ys load d = distinct_back xs ys load d.1
 
-distinct_across : (xs ys : List Operation) (load : Operation) → IsDistinct (xs ++ load ∷ ys) → Each (λ s. Each (λ t. same s t ≡ false) xs) ys
+distinct_across : (xs ys : List Operation) (load : Operation) → EachOnce (xs ++ load ∷ ys) → Each (λ s. Each (λ t. same s t ≡ false) xs) ys
 distinct_across [] ys load d = Each-from (λ s. Unit {0}) ys (λ s m. tt)
 distinct_across (x ∷ xs) ys load d =
     Each-both (λ s. same s x ≡ false) (λ s. Each (λ t. same s t ≡ false) xs) ys (Each-weaker (λ s. same x s ≡ false) (λ s. same s x ≡ false) (λ s e. same-swap x s e) ys (Each-right (λ s. same x s ≡ false) xs (load ∷ ys) d.0).1) (distinct_across xs ys load d.1)
@@ -197,11 +195,14 @@ any_member [] s m = absurd m
 any_member (x ∷ xs) s (inl e) = or_left (same s x) (list_any (λ t. same s t) xs) (subst (λ (y : Operation). same s y ≡ true) e (same-self s))
 any_member (x ∷ xs) s (inr m) = or_right (same s x) (list_any (λ t. same s t) xs) (any_member xs s m)
 
-source_in : (front back : List Operation) (load : Operation) (x : ℕ) → IsDistinct (front ++ load ∷ back) → source (front ++ load ∷ back) load x ≡ last_visible (front ++ load ∷ back) load x
+source_in : (front back : List Operation) (load : Operation) (x : ℕ) → EachOnce (front ++ load ∷ back) → source (front ++ load ∷ back) load x ≡ last_visible (front ++ load ∷ back) load x
 source_in front back load x d =
     sym (source_at front back load x (distinct_front front back load d) (distinct_back front back load d) (Each-from (λ s. list_any (λ t. same s t) front ≡ true) front (any_member front)) (distinct_across front back load d))
 
+source_of_member : (operations : List Operation) (load : Operation) (x : ℕ) → EachOnce operations → Contains operations load → source operations load x ≡ last_visible operations load x
+source_of_member operations load x d there =
+    let s = split_at load operations (Member-from_Contains operations load there) in
+    subst (λ (o : List Operation). source o load x ≡ last_visible o load x) (sym s.joined) (source_in s.front s.back load x (subst EachOnce s.joined d))
+
 pub source_forms_agree : SourceFormsAgree
-source_forms_agree order load x d there =
-    let s = split_at load order (Member-from_Contains order load there) in
-    subst (λ (o : List Operation). source o load x ≡ last_visible o load x) (sym s.joined) (source_in s.front s.back load x (subst IsDistinct s.joined d))
+source_forms_agree t order load x o there = source_of_member (operations_at (instructions t) order) load x (operations_distinct t order (Pairwise-from_is_distinct order o.once)) there

@@ -1,20 +1,16 @@
 -- What a stronger test asks, a weaker one asks too; and what a legal order says of a load.
-use Rattle.std.proofs.Common.{◌≡◌, ℕ, List, [], ◌∷◌, Bool, true, false, Option, Some, None, refl, cond, sym, ap, ◌∙◌, not, ◌&&◌, ◌||◌}
-use Rattle.std.specs.List.{AllByRecursion as Each, All, Contains, filter, list_any, list_all}
+use Rattle.std.proofs.Common.{◌≡◌, ℕ, List, [], ◌∷◌, Bool, true, false, refl, cond, ap, ◌∙◌, not, ◌&&◌, ◌||◌}
+use Rattle.std.specs.List.{AllByRecursion as Each, filter, list_any, list_all}
 use Rattle.std.proofs.lemmas.Bool.{false≢true, true≢false, and_parts, and_from, or_left, eqb-true}
 use Rattle.std.proofs.lemmas.List.Elements.{recursion_from_All}
-use Rattle.std.specs.Prelude.{IsTrue, IsFalse, nat_eq}
-use Rattle.trace_recorder.specs.History.{History}
-use Rattle.trace_recorder.specs.declared.operation.OpId.{OpId}
-use Rattle.memory_model.specs.declared.Model.{Model}
+use Rattle.std.specs.Prelude.{IsFalse, nat_eq}
 use Rattle.memory_model.specs.declared.Model.TheVariants.{Rvwmo, Ztso}
 use Rattle.memory_model.specs.declared.operation.Operation.{Operation}
 use Rattle.memory_model.specs.Operations.{same, precedes, reads, bytes_of, read_at, stores_to, is_amo, writes}
-use Rattle.memory_model.specs.Order.{in_order, none_must_precede, visible, source, last_of, byte_from}
+use Rattle.memory_model.specs.Order.{in_order, none_must_precede, candidates, source, last_of, byte_from}
 use Rattle.memory_model.specs.Items.{Item}
 use Rattle.memory_model.specs.Rules.{Rule, rules, preserved, items_of}
-use Rattle.memory_model.specs.Legal.{IsLegal, keeps_preserved_order, keeps_load_values, returns_sources}
-use Rattle.memory_model.specs.Traces.{IsLegalOrder}
+use Rattle.memory_model.specs.Legal.{IsLegal, returns_sources}
 use Rattle.memory_model.specs.Laws.{ZtsoIsStronger, ProgramOrderSuffices, UnwrittenByteIsImages}
 use Rattle.memory_model.proofs.Lists.{Each-at, Each-from_list_all, list_any-weaker, filter_none, Member-from_Contains}
 
@@ -98,15 +94,15 @@ ztso_is_stronger t order h = legal_under_both _ _ _ h
 and_off : (a b : Bool) → a ≡ false → (a && b) ≡ false
 and_off a b e = ap (λ v. v && b) e
 
-nothing_visible : (load : Operation) (x : ℕ) (order : List Operation) → Each (λ s. stores_to x s ≡ false) order → visible load x order ≡ []
-nothing_visible load x [] h = refl
-nothing_visible load x (s ∷ rest) h = go (same s load) (stores_to x s) h.0 (nothing_visible load x rest h.1) (filter_none (λ t. stores_to x t && precedes t load) rest (free rest h.1))
+no_candidates : (order : List Operation) (load : Operation) (x : ℕ) → Each (λ s. stores_to x s ≡ false) order → candidates order load x ≡ []
+no_candidates [] load x h = refl
+no_candidates (s ∷ rest) load x h = go (same s load) (stores_to x s) h.0 (no_candidates rest load x h.1) (filter_none (λ t. stores_to x t && precedes t load) rest (free rest h.1))
   where
     free : (rest : List Operation) → Each (λ s. stores_to x s ≡ false) rest → Each (λ t. (stores_to x t && precedes t load) ≡ false) rest
     free [] h = tt
     free (t ∷ rest) h = (and_off (stores_to x t) (precedes t load) h.0, free rest h.1)
 
-    go : (b c : Bool) → c ≡ false → visible load x rest ≡ [] → filter (λ t. stores_to x t && precedes t load) rest ≡ [] → cond b (filter (λ t. stores_to x t && precedes t load) rest) (cond c (s ∷ visible load x rest) (visible load x rest)) ≡ []
+    go : (b c : Bool) → c ≡ false → candidates rest load x ≡ [] → filter (λ t. stores_to x t && precedes t load) rest ≡ [] → cond b (filter (λ t. stores_to x t && precedes t load) rest) (cond c (s ∷ candidates rest load x) (candidates rest load x)) ≡ []
     go true c e v f = f
     go false true e v f = absurd (true≢false e)
     go false false e v f = v
@@ -120,5 +116,5 @@ unwritten_byte_is_images model image harts order load x legal there reading byte
     let right : returns_sources image order load ≡ true = Each-at (λ a. returns_sources image order a ≡ true) load order (Each-from_list_all (returns_sources image order) order legal.load_values) (Member-from_Contains order load there) in
     let bytes = Each-from_list_all (λ y. nat_eq (read_at load y) (byte_from image y (source order load y))) (bytes_of load) (read_right (reads load.kind) (list_all (λ y. nat_eq (read_at load y) (byte_from image y (source order load y))) (bytes_of load)) right reading) in
     let here : nat_eq (read_at load x) (byte_from image x (source order load x)) ≡ true = Each-at (λ y. nat_eq (read_at load y) (byte_from image y (source order load y)) ≡ true) x (bytes_of load) bytes (Member-from_Contains (bytes_of load) x byte) in
-    let empty : visible load x order ≡ [] = nothing_visible load x order (recursion_from_All (λ s. IsFalse (stores_to x s)) order none) in
+    let empty : candidates order load x ≡ [] = no_candidates order load x (recursion_from_All (λ s. IsFalse (stores_to x s)) order none) in
     eqb-true _ _ here ∙ ap (λ v. byte_from image x (last_of v)) empty

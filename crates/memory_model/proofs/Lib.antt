@@ -4,3 +4,5 @@ pub mod Lists
 pub mod Legality
 pub mod Named
 pub mod Forms
+pub mod Told
+pub mod Judged

@@ -1,9 +1,13 @@
 -- Laws of lists by recursion: what is true of each element, of each two, and of tests.
-use Rattle.std.proofs.Common.{◌≡◌, ℕ, List, [], ◌∷◌, ◌++◌, Bool, true, false, Option, Some, None, refl, cond, sym, ap, ◌∙◌, subst, not, ◌&&◌, ◌||◌, ◌⊎◌, inl, inr}
-use Rattle.std.specs.List.{AllByRecursion as Each, All, Contains, filter, list_any, list_all, last_or}
-use Rattle.std.proofs.lemmas.Bool.{false≢true, true≢false, and_parts, and_from}
+use Rattle.std.proofs.Common.{◌≡◌, List, [], ◌∷◌, ◌++◌, Bool, true, false, refl, cond, sym, ap, subst, ◌||◌, ◌⊎◌, inl, inr}
+use Rattle.std.specs.List.{AllByRecursion as Each, Contains, filter, list_any, list_all}
+use Rattle.std.proofs.lemmas.Bool.{false≢true, and_parts, and_from}
 use Rattle.std.proofs.lemmas.List.Elements.{All-contains, All-contains_itself, All-from_recursion, recursion_from_All}
-use Rattle.memory_model.specs.Order.{Pairwise}
+
+-- R holds of each two elements, the earlier one first
+abbrev pub Pairwise : {X : Type 0} → (X → X → Type 0) → List X → Type 0
+Pairwise R [] = Unit {0}
+Pairwise R (a ∷ rest) = Each (R a) rest × Pairwise R rest
 
 -- x is an element, by recursion
 abbrev pub Member : {X : Type 0} → X → List X → Type 0

@@ -1,26 +1,25 @@
 -- Operations bear the names that they are found by, so an order has no operation twice; the completed order is an order.
-use Rattle.std.proofs.Common.{◌≡◌, ℕ, zero, suc, ◌+◌, ◌<◌, ◌≤◌, List, [], ◌∷◌, ◌++◌, Bool, true, false, Option, Some, None, refl, cond, sym, ap, ◌∙◌, subst, not, ◌&&◌, ◌||◌, ◌⊎◌, inl, inr, arith}
-use Rattle.std.specs.Prelude.{nat_eq, option_and_then, slice_get, IsTrue}
-use Rattle.std.specs.List.{AllByRecursion as Each, filter, filter_map, cons_option, list_any, list_all}
-use Rattle.std.proofs.lemmas.Bool.{false≢true, true≢false, and_parts, and_from, or_left, or_right, or_from, or_parts, and_left, and_right, eq-eqb, eqb-true, ne_eqb, not-true}
+use Rattle.std.proofs.Common.{◌≡◌, ℕ, zero, suc, ◌+◌, ◌≤◌, List, [], ◌∷◌, ◌++◌, Bool, true, false, Option, Some, None, refl, cond, sym, ap, ◌∙◌, subst, not, inl, inr, arith}
+use Rattle.std.specs.Prelude.{nat_eq, option_and_then, slice_get}
+use Rattle.std.specs.List.{AllByRecursion as Each, filter, cons_option, list_any}
+use Rattle.std.proofs.lemmas.Bool.{false≢true, and_parts, and_from, or_left, or_right, or_from, or_parts, and_left, and_right, eq-eqb, eqb-true, ne_eqb, not-true}
 use Rattle.std.proofs.lemmas.List.Folds.{list_any-append}
 use Rattle.elf_loader.specs.Image.{Initial}
 use Rattle.rv32_decode.specs.declared.instruction.Annotations.{Annotations}
 use Rattle.rv32_decode.specs.declared.instruction.Instr.{Instr}
 use Rattle.rv32_decode.specs.Rows.{decoded}
-use Rattle.rv32_exec.specs.Meaning.{Access, Private, Loads, Stores, Reserves, Tries, Updates, Fences, Calls, access_of, effect_of}
+use Rattle.rv32_exec.specs.Meaning.{Access, Private, Loads, Stores, Reserves, Tries, Updates, Fences, Calls, access_of}
 use Rattle.hart.specs.declared.retired.Retired.{Retired}
 use Rattle.hart.specs.declared.state.Hart.{Hart}
-use Rattle.hart.specs.Run.{after, after_instr, moved, at_reset, number_read}
+use Rattle.hart.specs.Run.{after, after_instr, at_reset}
 use Rattle.trace_recorder.specs.History.{History}
 use Rattle.trace_recorder.specs.declared.operation.OpId.{OpId}
 use Rattle.memory_model.specs.declared.operation.Operation.{Operation}
 use Rattle.memory_model.specs.Operations.{same}
-use Rattle.memory_model.specs.Order.{Pairwise, IsDistinct}
-use Rattle.memory_model.specs.Items.{Item, operation_of, succeeded, gives, bits_of, item_of, items_from, items_of_harts, gives_one}
-use Rattle.memory_model.specs.Traces.{is_named, is_among, is_distinct, names_from, names_of_harts, names_in, operation_at, operations_at, instructions, completed, IsOrder}
+use Rattle.memory_model.specs.Items.{Item, operation_of_access, succeeded, operation_of_entry, annotations_of, items_from, items_of_harts, has_operation}
+use Rattle.memory_model.specs.Traces.{is_named, is_among, is_distinct, names_from, names_of_harts, names_in, operation_at, operations_at, instructions}
 use Rattle.memory_model.specs.Laws.{CompletedIsOrder}
-use Rattle.memory_model.proofs.Lists.{Member, Each-append, Each-weaker, Each-filter, Each-kept, Each-at, Each-from, Pairwise-append, Pairwise-filter, Each-from_list_all, list_all-from_Each}
+use Rattle.memory_model.proofs.Lists.{Member, Pairwise, Each-append, Each-weaker, Each-filter, Each-kept, Each-at, Each-from, Pairwise-append, Pairwise-filter, Each-from_list_all, list_all-from_Each}
 
 -- ---- an operation bears the name that it is found by
 
@@ -41,7 +40,7 @@ tried_bears : (hart place : ℕ) (ok : Bool) (r a : Operation) → r.hart ≡ ha
 tried_bears hart place true r a h p e = bears_by hart place r a h p e
 tried_bears hart place false r a h p e = absurd (none_is_not a e)
 
-operation_bears : (hart place : ℕ) (bits : Annotations) (entry : Retired) (access : Access) (a : Operation) → operation_of hart place bits entry access ≡ Some a → Bears hart place a
+operation_bears : (hart place : ℕ) (bits : Annotations) (entry : Retired) (access : Access) (a : Operation) → operation_of_access hart place bits entry access ≡ Some a → Bears hart place a
 operation_bears hart place bits entry (Loads address bytes) a e = bears_by hart place _ a refl refl e
 operation_bears hart place bits entry (Stores address bytes value) a e = bears_by hart place _ a refl refl e
 operation_bears hart place bits entry (Reserves address) a e = bears_by hart place _ a refl refl e
@@ -51,9 +50,9 @@ operation_bears hart place bits entry Private a e = absurd (none_is_not a e)
 operation_bears hart place bits entry Fences a e = absurd (none_is_not a e)
 operation_bears hart place bits entry (Calls number argument) a e = absurd (none_is_not a e)
 
-given_bears : (place : ℕ) (hart : Hart) (entry : Retired) (i : Option Instr) (a : Operation) → gives place hart entry i ≡ Some a → Bears hart.id place a
+given_bears : (place : ℕ) (hart : Hart) (entry : Retired) (i : Option Instr) (a : Operation) → operation_of_entry place hart entry i ≡ Some a → Bears hart.id place a
 given_bears place hart entry None a e = absurd (none_is_not a e)
-given_bears place hart entry (Some i) a e = operation_bears hart.id place (bits_of i) entry (access_of i hart.regs) a e
+given_bears place hart entry (Some i) a e = operation_bears hart.id place (annotations_of i) entry (access_of i hart.regs) a e
 
 id-after_instr : (hart : Hart) (entry : Retired) (o : Option Instr) → (after_instr hart entry o).id ≡ hart.id
 id-after_instr hart entry None = refl
@@ -63,7 +62,7 @@ pub id-after : (hart : Hart) (entry : Retired) → (after hart entry).id ≡ har
 id-after hart entry = id-after_instr hart entry (decoded entry.word)
 
 gave_at : Option Item → Option Operation
-gave_at o = option_and_then (λ (m : Item). m.gave) o
+gave_at o = option_and_then (λ (m : Item). m.operation) o
 
 item_bears : (place : ℕ) (hart : Hart) (entries : List Retired) (k : ℕ) (a : Operation) → gave_at (slice_get (items_from place hart entries) k) ≡ Some a → Bears hart.id (place + k) a
 unfolding gave_at
@@ -118,6 +117,9 @@ is_distinct-from_Pairwise (x ∷ xs) h = and_from _ _ (ap (λ b. not b) (none_am
 
 -- ---- an order has no operation twice
 
+abbrev pub EachOnce : List Operation → Type 0
+EachOnce order = Pairwise (λ a b. same a b ≡ false) order
+
 other_operations : (t : History) (name : OpId) (a : Operation) (rest : List OpId) → operation_at (instructions t) name ≡ Some a → Each (λ n. is_named name n ≡ false) rest → Each (λ b. same a b ≡ false) (operations_at (instructions t) rest)
 other_operations t name a [] e h = tt
 other_operations t name a (n ∷ rest) e h = go (operation_at (instructions t) n) refl (other_operations t name a rest e h.1)
@@ -126,19 +128,19 @@ other_operations t name a (n ∷ rest) e h = go (operation_at (instructions t) n
     go None f ih = ih
     go (Some b) f ih = let p = operation_at-bears t name a e in let q = operation_at-bears t n b f in (rw (p.hart_is, p.place_is, q.hart_is, q.place_is) h.0, ih)
 
-pub operations_distinct : (t : History) (order : List OpId) → Pairwise Apart order → IsDistinct (operations_at (instructions t) order)
+pub operations_distinct : (t : History) (order : List OpId) → Pairwise Apart order → EachOnce (operations_at (instructions t) order)
 operations_distinct t [] h = tt
 operations_distinct t (name ∷ rest) h = go (operation_at (instructions t) name) refl (operations_distinct t rest h.1)
   where
-    go : (o : Option Operation) → operation_at (instructions t) name ≡ o → IsDistinct (operations_at (instructions t) rest) → IsDistinct (cons_option o (operations_at (instructions t) rest))
+    go : (o : Option Operation) → operation_at (instructions t) name ≡ o → EachOnce (operations_at (instructions t) rest) → EachOnce (cons_option o (operations_at (instructions t) rest))
     go None f ih = ih
     go (Some a) f ih = (other_operations t name a rest f h.0, ih)
 
 -- ---- the names of a trace's operations are distinct
 
-from_place : (hart place : ℕ) (entries : List Retired) → Each (λ n. (n.hart ≡ hart) × (place ≤ n.place)) (names_from hart place entries)
+pub from_place : (hart place : ℕ) (entries : List Retired) → Each (λ n. (n.hart ≡ hart) × (place ≤ n.place)) (names_from hart place entries)
 from_place hart place [] = tt
-from_place hart place (entry ∷ rest) = go (gives_one entry) (Each-weaker (λ n. (n.hart ≡ hart) × (place + 1 ≤ n.place)) (λ n. (n.hart ≡ hart) × (place ≤ n.place)) (λ n h. let l = h.1 in (h.0, omega arith)) (names_from hart (place + 1) rest) (from_place hart (place + 1) rest))
+from_place hart place (entry ∷ rest) = go (has_operation entry) (Each-weaker (λ n. (n.hart ≡ hart) × (place + 1 ≤ n.place)) (λ n. (n.hart ≡ hart) × (place ≤ n.place)) (λ n h. let l = h.1 in (h.0, omega arith)) (names_from hart (place + 1) rest) (from_place hart (place + 1) rest))
   where
     go : (b : Bool) → Each (λ n. (n.hart ≡ hart) × (place ≤ n.place)) (names_from hart (place + 1) rest) → Each (λ n. (n.hart ≡ hart) × (place ≤ n.place)) (cond b (record { hart = hart; place = place } ∷ names_from hart (place + 1) rest) (names_from hart (place + 1) rest))
     go true h = ((refl, omega arith), h)
@@ -149,13 +151,13 @@ later_apart hart place n l = and_right (nat_eq hart n.hart) (nat_eq place n.plac
 
 names_from-apart : (hart place : ℕ) (entries : List Retired) → Pairwise Apart (names_from hart place entries)
 names_from-apart hart place [] = tt
-names_from-apart hart place (entry ∷ rest) = go (gives_one entry) (names_from-apart hart (place + 1) rest)
+names_from-apart hart place (entry ∷ rest) = go (has_operation entry) (names_from-apart hart (place + 1) rest)
   where
     go : (b : Bool) → Pairwise Apart (names_from hart (place + 1) rest) → Pairwise Apart (cond b (record { hart = hart; place = place } ∷ names_from hart (place + 1) rest) (names_from hart (place + 1) rest))
     go true h = (Each-weaker (λ n. (n.hart ≡ hart) × (place + 1 ≤ n.place)) (Apart (record { hart = hart; place = place })) (λ n h. later_apart hart place n h.1) (names_from hart (place + 1) rest) (from_place hart (place + 1) rest), h)
     go false h = h
 
-from_hart : (id : ℕ) (lists : List (List Retired)) → Each (λ n. id ≤ n.hart) (names_of_harts id lists)
+pub from_hart : (id : ℕ) (lists : List (List Retired)) → Each (λ n. id ≤ n.hart) (names_of_harts id lists)
 from_hart id [] = tt
 from_hart id (entries ∷ rest) =
     Each-append (λ n. id ≤ n.hart) (names_from id 0 entries) (names_of_harts (id + 1) rest) (Each-weaker (λ n. (n.hart ≡ id) × (0 ≤ n.place)) (λ n. id ≤ n.hart) (λ n h. let e = h.0 in omega arith) (names_from id 0 entries) (from_place id 0 entries))

@@ -21,7 +21,7 @@ abbrev pub instr_in : Option Item → Option Instr
 instr_in None = None
 instr_in (Some m) = m.instr
 
--- those of the instruction that gave an operation
+-- those of the instruction of an operation
 abbrev pub uses_at : List Item → Operation → Uses
 uses_at items a = uses_in (instr_in (slice_get items a.place))
 
@@ -86,5 +86,5 @@ any_addresses held [] = false
 any_addresses held (m ∷ rest) = holds held (uses_in m.instr).address || any_addresses (held_after held (uses_in m.instr)) rest
 
 -- an instruction between them has an address dependency on a
-abbrev pub has_addressed_between : List Item → Operation → Operation → Bool
-has_addressed_between items a b = precedes a b && any_addresses (held_first (uses_at items a)) (between items a b)
+abbrev pub has_dependent_address_between : List Item → Operation → Operation → Bool
+has_dependent_address_between items a b = precedes a b && any_addresses (held_first (uses_at items a)) (between items a b)

@@ -1,16 +1,15 @@
 -- Small runs, to be judged: traces of an image of bare words in 4 KiB of memory.
-use Rattle.std.specs.Prelude.{ℕ, ◌≡◌, ◌+◌, ◌-◌, ◌*◌, ◌/◌, ◌%◌, ◌^◌, Bool, true, false, List, [], ◌∷◌, ◌++◌, Option, Some, None, length, drop, map, replicate, take}
+use Rattle.std.specs.Prelude.{ℕ, ◌≡◌, ◌+◌, ◌-◌, ◌*◌, ◌/◌, ◌%◌, ◌^◌, Bool, true, false, List, [], ◌∷◌, ◌++◌, Some, None, length, drop, map, replicate, take}
 use Rattle.elf_loader.specs.Image.{Initial}
 use Rattle.elf_loader.specs.Size.{base}
 use Rattle.hart.specs.declared.retired.Retired.{Retired}
 use Rattle.hart.specs.declared.status.Status.{Status}
 use Rattle.hart.specs.declared.status.Status.TheVariants.{Running}
-use Rattle.tl_types.specs.declared.line.LineSize.{LineSize}
 use Rattle.tl_types.specs.declared.line.LineSize.TheVariants.{Bytes16}
 use Rattle.trace_recorder.specs.History.{History}
 use Rattle.trace_recorder.specs.declared.operation.OpId.{OpId}
 use Rattle.memory_model.specs.declared.Model.{Model}
-use Rattle.memory_model.specs.Traces.{are_runs, is_order, is_legal_order}
+use Rattle.memory_model.specs.Traces.{are_runs, has_each_operation_once, judged_legal}
 use Rattle.memory_model.specs.Verdict.{fault_in}
 
 -- ---- images
@@ -52,13 +51,13 @@ trace image entries performed = record { image = image; line = Bytes16; entries 
 -- the order is legal: the lists are runs, it has each operation once, and no code has a fault
 pub record Passes (model : Model) (t : History) (order : List OpId) : Type 0 where
   pub run : are_runs t ≡ true
-  pub whole : is_order t order ≡ true
-  pub legal : is_legal_order model t order ≡ true
+  pub whole : has_each_operation_once t order ≡ true
+  pub legal : judged_legal model t order ≡ true
   pub no_fault : fault_in model t order ≡ None
 
 -- it isn't: the fault has this code and this pair
 pub record Fails (model : Model) (t : History) (order : List OpId) (code : ℕ) (a b : OpId) : Type 0 where
   pub run : are_runs t ≡ true
-  pub whole : is_order t order ≡ true
-  pub illegal : is_legal_order model t order ≡ false
+  pub whole : has_each_operation_once t order ≡ true
+  pub illegal : judged_legal model t order ≡ false
   pub fault : fault_in model t order ≡ Some (record { code = code; a = a; b = b })

@@ -1,4 +1,4 @@
--- A hart's retired instructions with the memory operations that they gave (RISC-V Unprivileged ISA 20191213, chapter 14.1, "Memory Model Primitives").
+-- A hart's retired instructions with their memory operations (RISC-V Unprivileged ISA 20191213, chapter 14.1, "Memory Model Primitives").
 use Rattle.std.specs.Prelude.{ℕ, ◌+◌, Bool, true, false, if◌then◌else◌, List, [], ◌∷◌, Option, Some, None}
 use Rattle.std.specs.Option.{option_map_or}
 use Rattle.rv32_decode.specs.Amo.{combined}
@@ -14,44 +14,44 @@ use Rattle.hart.specs.Run.{number_read, after, at_reset}
 use Rattle.memory_model.specs.declared.operation.Kind.TheVariants.{Load, Store, Reserve, Conditional, Amo}
 use Rattle.memory_model.specs.declared.operation.Operation.{Operation}
 
--- an instruction of a hart's list: its place, what it is, and the operation that it gave
+-- an instruction of a hart's list: its place, what it is, and its memory operation, where it has one
 pub record Item : Type 0 where
   pub place : ℕ
   pub instr : Option Instr
-  pub gave : Option Operation
+  pub operation : Option Operation
 
 -- the bits aq and rl; only LR, SC and AMOs have them (chapter 8.1)
-abbrev pub bits_of : Instr → Annotations
-bits_of (instr.Lr rd rs1 bits) = bits
-bits_of (instr.Sc rd rs1 rs2 bits) = bits
-bits_of (instr.Amo op rd rs1 rs2 bits) = bits
-bits_of _ = record { acquire = false; release = false }
+abbrev pub annotations_of : Instr → Annotations
+annotations_of (instr.Lr rd rs1 bits) = bits
+annotations_of (instr.Sc rd rs1 rs2 bits) = bits
+annotations_of (instr.Amo op rd rs1 rs2 bits) = bits
+annotations_of _ = record { acquire = false; release = false }
 
 abbrev pub succeeded : Option Bool → Bool
 succeeded None = false
 succeeded (Some ok) = ok
 
--- the operation of an access: of a load, an LR, a store, an AMO and an SC that succeeded; an SC that failed gives none
-abbrev pub operation_of : ℕ → ℕ → Annotations → Retired → Access → Option Operation
-operation_of hart place bits entry (Loads address bytes) = Some (record { hart = hart; place = place; kind = Load; address = address; size = bytes; read = number_read entry; written = 0; aq = bits.acquire; rl = bits.release })
-operation_of hart place bits entry (Stores address bytes value) = Some (record { hart = hart; place = place; kind = Store; address = address; size = bytes; read = 0; written = value; aq = bits.acquire; rl = bits.release })
-operation_of hart place bits entry (Reserves address) = Some (record { hart = hart; place = place; kind = Reserve; address = address; size = 4; read = number_read entry; written = 0; aq = bits.acquire; rl = bits.release })
-operation_of hart place bits entry (Tries address value) =
+-- the operation of an access: of a load, an LR, a store, an AMO and an SC that succeeded; an SC that failed has none
+abbrev pub operation_of_access : ℕ → ℕ → Annotations → Retired → Access → Option Operation
+operation_of_access hart place bits entry (Loads address bytes) = Some (record { hart = hart; place = place; kind = Load; address = address; size = bytes; read = number_read entry; written = 0; aq = bits.acquire; rl = bits.release })
+operation_of_access hart place bits entry (Stores address bytes value) = Some (record { hart = hart; place = place; kind = Store; address = address; size = bytes; read = 0; written = value; aq = bits.acquire; rl = bits.release })
+operation_of_access hart place bits entry (Reserves address) = Some (record { hart = hart; place = place; kind = Reserve; address = address; size = 4; read = number_read entry; written = 0; aq = bits.acquire; rl = bits.release })
+operation_of_access hart place bits entry (Tries address value) =
     if succeeded entry.sc_ok
     then Some (record { hart = hart; place = place; kind = Conditional; address = address; size = 4; read = 0; written = value; aq = bits.acquire; rl = bits.release })
     else None
-operation_of hart place bits entry (Updates address op operand) = Some (record { hart = hart; place = place; kind = Amo; address = address; size = 4; read = number_read entry; written = combined op (number_read entry) operand; aq = bits.acquire; rl = bits.release })
-operation_of hart place bits entry Private = None
-operation_of hart place bits entry Fences = None
-operation_of hart place bits entry (Calls number argument) = None
+operation_of_access hart place bits entry (Updates address op operand) = Some (record { hart = hart; place = place; kind = Amo; address = address; size = 4; read = number_read entry; written = combined op (number_read entry) operand; aq = bits.acquire; rl = bits.release })
+operation_of_access hart place bits entry Private = None
+operation_of_access hart place bits entry Fences = None
+operation_of_access hart place bits entry (Calls number argument) = None
 
--- what an instruction gives at this place of a hart's list, its hart standing here
-abbrev pub gives : ℕ → Hart → Retired → Option Instr → Option Operation
-gives place hart entry None = None
-gives place hart entry (Some i) = operation_of hart.id place (bits_of i) entry (access_of i hart.regs)
+-- the operation of the entry at this place of a hart's list, its hart standing here
+abbrev pub operation_of_entry : ℕ → Hart → Retired → Option Instr → Option Operation
+operation_of_entry place hart entry None = None
+operation_of_entry place hart entry (Some i) = operation_of_access hart.id place (annotations_of i) entry (access_of i hart.regs)
 
 abbrev pub item_of : ℕ → Hart → Retired → Item
-item_of place hart entry = record { place = place; instr = decoded entry.word; gave = gives place hart entry (decoded entry.word) }
+item_of place hart entry = record { place = place; instr = decoded entry.word; operation = operation_of_entry place hart entry (decoded entry.word) }
 
 -- the items of a hart's list from a place on, its hart standing here
 abbrev pub items_from : ℕ → Hart → List Retired → List Item
@@ -63,15 +63,16 @@ abbrev pub items_of_harts : Initial → ℕ → ℕ → List (List Retired) → 
 items_of_harts image harts id [] = []
 items_of_harts image harts id (entries ∷ rest) = items_from 0 (at_reset image id harts) entries ∷ items_of_harts image harts (id + 1) rest
 
--- ---- which entries give an operation: their word and their SC answer tell it
+-- ---- which entries have an operation, told by their word and their SC answer alone
 
-abbrev pub is_giving : Option Bool → Instr → Bool
-is_giving sc_ok (instr.Load op rd rs1 offset) = true
-is_giving sc_ok (instr.Store op rs1 rs2 offset) = true
-is_giving sc_ok (instr.Lr rd rs1 bits) = true
-is_giving sc_ok (instr.Sc rd rs1 rs2 bits) = succeeded sc_ok
-is_giving sc_ok (instr.Amo op rd rs1 rs2 bits) = true
-is_giving sc_ok _ = false
+-- loads, stores, LRs and AMOs access memory, and SCs that succeeded
+abbrev pub accesses_memory : Option Bool → Instr → Bool
+accesses_memory sc_ok (instr.Load op rd rs1 offset) = true
+accesses_memory sc_ok (instr.Store op rs1 rs2 offset) = true
+accesses_memory sc_ok (instr.Lr rd rs1 bits) = true
+accesses_memory sc_ok (instr.Sc rd rs1 rs2 bits) = succeeded sc_ok
+accesses_memory sc_ok (instr.Amo op rd rs1 rs2 bits) = true
+accesses_memory sc_ok _ = false
 
-abbrev pub gives_one : Retired → Bool
-gives_one entry = option_map_or (is_giving entry.sc_ok) (decoded entry.word) false
+abbrev pub has_operation : Retired → Bool
+has_operation entry = option_map_or (accesses_memory entry.sc_ok) (decoded entry.word) false

@@ -1,5 +1,5 @@
 -- Legal orders: the three parts of RVWMO that judge a finished run: preserved program order, the load value axiom and the atomicity axiom (RISC-V Unprivileged ISA 20191213, chapter 14.1, "Memory Model Axioms").
-use Rattle.std.specs.Prelude.{ℕ, Bool, true, false, ◌&&◌, ◌||◌, not, ◌==◌, if◌then◌else◌, List, [], ◌∷◌, Option, Some, None, IsTrue}
+use Rattle.std.specs.Prelude.{ℕ, Bool, ◌&&◌, ◌||◌, not, ◌==◌, if◌then◌else◌, List, [], ◌∷◌, Option, Some, None, IsTrue}
 use Rattle.std.specs.List.{list_any, list_all}
 use Rattle.memory_model.specs.declared.Model.{Model}
 use Rattle.memory_model.specs.declared.operation.Operation.{Operation}
@@ -54,5 +54,5 @@ pub record IsLegal (model : Model) (image : ℕ → ℕ) (harts : List (List Ite
   pub load_values : IsTrue (keeps_load_values image order)
   pub atomicity : IsTrue (keeps_atomicity harts order)
 
-abbrev pub is_legal : Model → (ℕ → ℕ) → List (List Item) → List Operation → Bool
-is_legal model image harts order = keeps_preserved_order model harts order && keeps_load_values image order && keeps_atomicity harts order
+abbrev pub keeps_all_three : Model → (ℕ → ℕ) → List (List Item) → List Operation → Bool
+keeps_all_three model image harts order = keeps_preserved_order model harts order && keeps_load_values image order && keeps_atomicity harts order

@@ -1,5 +1,5 @@
 -- Litmus shapes: small runs, each with orders that a rule of preserved program order or an axiom allows and forbids. A wrong variant of a rule changes a verdict below.
-use Rattle.std.specs.Prelude.{List, [], ◌∷◌, true, false}
+use Rattle.std.specs.Prelude.{[], ◌∷◌, true, false}
 use Rattle.trace_recorder.specs.History.{History}
 use Rattle.memory_model.specs.declared.Model.TheVariants.{Rvwmo, Ztso}
 use Rattle.memory_model.specs.Examples.{image_with, did, loaded, tried, op, trace, Passes, Fails}

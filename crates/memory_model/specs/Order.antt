@@ -1,8 +1,8 @@
 -- A global memory order: which operation stands before which, and which store a byte comes from (RISC-V Unprivileged ISA 20191213, chapter 14.1, "Memory Model Axioms", load value axiom).
-use Rattle.std.specs.Prelude.{ℕ, ◌≡◌, Bool, true, false, ◌&&◌, ◌||◌, not, nat_lt, if◌then◌else◌, List, [], ◌∷◌, Option, Some, None, filter, IsTrue, Contains, ◌↔◌}
-use Rattle.std.specs.List.{list_all, list_any, last_or, position_or_len, AllByRecursion}
+use Rattle.std.specs.Prelude.{ℕ, Bool, true, false, ◌&&◌, ◌||◌, not, nat_lt, if◌then◌else◌, List, [], ◌∷◌, Option, Some, None, filter, IsTrue, Contains}
+use Rattle.std.specs.List.{list_all, last_or, position_or_len}
 use Rattle.memory_model.specs.declared.operation.Operation.{Operation}
-use Rattle.memory_model.specs.Operations.{reads, same, precedes, stores_to, bytes_of, read_at, written_at}
+use Rattle.memory_model.specs.Operations.{same, precedes, stores_to, written_at}
 
 -- how many stand before a
 abbrev pub position_in : List Operation → Operation → ℕ
@@ -11,15 +11,6 @@ position_in order a = position_or_len (same a) order
 -- a stands before b
 abbrev pub before : List Operation → Operation → Operation → Bool
 before order a b = nat_lt (position_in order a) (position_in order b)
-
--- R holds of each two elements, the earlier one first
-abbrev pub Pairwise : {X : Type 0} → (X → X → Type 0) → List X → Type 0
-Pairwise R [] = Unit {0}
-Pairwise R (a ∷ rest) = AllByRecursion (R a) rest × Pairwise R rest
-
--- no operation stands in it twice
-abbrev pub IsDistinct : List Operation → Type 0
-IsDistinct order = Pairwise (λ a b. same a b ≡ false) order
 
 -- ---- in order, for a test of which operation must come before which
 
@@ -38,13 +29,13 @@ Keeps must order = (a b : Operation) → Contains order a → Contains order b �
 
 -- ---- the source of a byte of a load
 
--- the stores to x that the load may return, in the order: all that stand before it, and behind it those that precede it in program order
-abbrev pub visible : Operation → ℕ → List Operation → List Operation
-visible load x [] = []
-visible load x (s ∷ rest) =
+-- the stores to x of which the load returns the last, in the order: all that stand before it, and behind it those that precede it in program order
+abbrev pub candidates : List Operation → Operation → ℕ → List Operation
+candidates [] load x = []
+candidates (s ∷ rest) load x =
     if same s load
     then filter (λ t. stores_to x t && precedes t load) rest
-    else (if stores_to x s then (s ∷ visible load x rest) else visible load x rest)
+    else (if stores_to x s then (s ∷ candidates rest load x) else candidates rest load x)
 
 -- the last of a list
 abbrev pub last_of : List Operation → Option Operation
@@ -52,7 +43,7 @@ last_of xs = last_or None xs
 
 -- the store that byte x of the load comes from: the last of those; none where it is the image's byte
 abbrev pub source : List Operation → Operation → ℕ → Option Operation
-source order load x = last_of (visible load x order)
+source order load x = last_of (candidates order load x)
 
 -- the reader's form: of the stores to x other than the load that stand before it in the order or precede it in program order, the last in the order
 abbrev pub is_visible : List Operation → Operation → ℕ → Operation → Bool

@@ -1,18 +1,17 @@
 -- Preserved program order: the thirteen rules, each a test of two operations a and b of one hart, a before b in program order (RISC-V Unprivileged ISA 20191213, chapter 14.1, "Preserved Program Order").
 -- `items` is the list of their hart. "Returns a value written by" is the source in the order.
-use Rattle.std.specs.Prelude.{ℕ, Bool, true, false, ◌&&◌, ◌||◌, not, ◌==◌, if◌then◌else◌, List, [], ◌∷◌, Option, Some, None, slice_index_or}
+use Rattle.std.specs.Prelude.{ℕ, Bool, true, false, ◌&&◌, ◌||◌, not, ◌==◌, List, [], ◌∷◌, Option, Some, None, slice_index_or}
 use Rattle.std.specs.List.{list_any}
-use Rattle.rv32_decode.specs.Fence.{Sets}
 use Rattle.rv32_decode.specs.Fields.{bits_of}
 use Rattle.rv32_decode.specs.declared.instruction.Instr.{Instr}
 use Rattle.rv32_decode.specs.declared.instruction.Instr.TheVariants as instr
 use Rattle.memory_model.specs.declared.Model.{Model}
 use Rattle.memory_model.specs.declared.operation.Kind.{Kind}
 use Rattle.memory_model.specs.declared.operation.Operation.{Operation}
-use Rattle.memory_model.specs.Operations.{reads, writes, is_reserve, is_conditional, is_amo, same, precedes, bytes_of, touches, stores_to, overlap, has_acquire, has_release, has_rcsc}
+use Rattle.memory_model.specs.Operations.{reads, writes, is_reserve, is_conditional, is_amo, precedes, bytes_of, touches, stores_to, overlap, has_acquire, has_release, has_rcsc}
 use Rattle.memory_model.specs.Order.{source, same_source}
 use Rattle.memory_model.specs.Items.{Item}
-use Rattle.memory_model.specs.Dependencies.{between, has_address_dependency, has_data_dependency, has_control_dependency, has_addressed_between}
+use Rattle.memory_model.specs.Dependencies.{between, has_address_dependency, has_data_dependency, has_control_dependency, has_dependent_address_between}
 
 -- ---- fences (chapter 2.7)
 
@@ -46,10 +45,10 @@ paired items a b = precedes a b && is_reserve a.kind && is_conditional b.kind &&
 
 -- ---- values
 
--- an instruction stores to x
-abbrev pub gave_store_to : ℕ → Option Operation → Bool
-gave_store_to x None = false
-gave_store_to x (Some m) = stores_to x m
+-- the operation of an instruction, where it has one, stores to x
+abbrev pub has_store_to : ℕ → Option Operation → Bool
+has_store_to x None = false
+has_store_to x (Some m) = stores_to x m
 
 -- b returns a value written by a
 abbrev pub returns_from : List Operation → Operation → Operation → Bool
@@ -65,7 +64,7 @@ rule_1 model items order a b = writes b.kind && overlap a b
 abbrev pub rule_2 : Model → List Item → List Operation → Operation → Operation → Bool
 rule_2 model items order a b =
     reads a.kind && reads b.kind
-    && list_any (λ x. touches x b && not (list_any (λ (m : Item). gave_store_to x m.gave) (between items a b)) && not (same_source (source order a x) (source order b x))) (bytes_of a)
+    && list_any (λ x. touches x b && not (list_any (λ (m : Item). has_store_to x m.operation) (between items a b)) && not (same_source (source order a x) (source order b x))) (bytes_of a)
 
 -- 3: a is of an AMO or an SC, and b is a load that returns a value written by a
 abbrev pub rule_3 : Model → List Item → List Operation → Operation → Operation → Bool
@@ -103,22 +102,18 @@ rule_10 model items order a b = has_data_dependency items a b
 abbrev pub rule_11 : Model → List Item → List Operation → Operation → Operation → Bool
 rule_11 model items order a b = writes b.kind && has_control_dependency items a b
 
--- m is a store that has an address or a data dependency on a
-abbrev pub is_dependent_store : List Item → Operation → Option Operation → Bool
-is_dependent_store items a None = false
-is_dependent_store items a (Some m) = writes m.kind && (has_address_dependency items a m || has_data_dependency items a m)
-
-abbrev pub returns_from_given : List Operation → Operation → Option Operation → Bool
-returns_from_given order b None = false
-returns_from_given order b (Some m) = returns_from order b m
+-- the operation of an instruction is a store m that has an address or a data dependency on a, and b returns a value written by m
+abbrev pub passes_on : List Item → List Operation → Operation → Operation → Option Operation → Bool
+passes_on items order a b None = false
+passes_on items order a b (Some m) = writes m.kind && (has_address_dependency items a m || has_data_dependency items a m) && returns_from order b m
 
 -- 12: b is a load, a store m between has an address or data dependency on a, and b returns a value written by m
 abbrev pub rule_12 : Model → List Item → List Operation → Operation → Operation → Bool
-rule_12 model items order a b = reads b.kind && list_any (λ (m : Item). is_dependent_store items a m.gave && returns_from_given order b m.gave) (between items a b)
+rule_12 model items order a b = reads b.kind && list_any (λ (m : Item). passes_on items order a b m.operation) (between items a b)
 
 -- 13: b is a store, and an instruction between them has an address dependency on a
 abbrev pub rule_13 : Model → List Item → List Operation → Operation → Operation → Bool
-rule_13 model items order a b = writes b.kind && has_addressed_between items a b
+rule_13 model items order a b = writes b.kind && has_dependent_address_between items a b
 
 -- ---- all of them
 
@@ -127,12 +122,12 @@ pub record Rule : Type 0 where
   pub number : ℕ
   pub asks : Model → List Item → List Operation → Operation → Operation → Bool
 
-abbrev pub rule : ℕ → (Model → List Item → List Operation → Operation → Operation → Bool) → Rule
-rule number asks = record { number = number; asks = asks }
+abbrev pub numbered : ℕ → (Model → List Item → List Operation → Operation → Operation → Bool) → Rule
+numbered number asks = record { number = number; asks = asks }
 
 abbrev pub rules : List Rule
 rules =
-    rule 1 rule_1 ∷ rule 2 rule_2 ∷ rule 3 rule_3 ∷ rule 4 rule_4 ∷ rule 5 rule_5 ∷ rule 6 rule_6 ∷ rule 7 rule_7 ∷ rule 8 rule_8 ∷ rule 9 rule_9 ∷ rule 10 rule_10 ∷ rule 11 rule_11 ∷ rule 12 rule_12 ∷ rule 13 rule_13 ∷ []
+    numbered 1 rule_1 ∷ numbered 2 rule_2 ∷ numbered 3 rule_3 ∷ numbered 4 rule_4 ∷ numbered 5 rule_5 ∷ numbered 6 rule_6 ∷ numbered 7 rule_7 ∷ numbered 8 rule_8 ∷ numbered 9 rule_9 ∷ numbered 10 rule_10 ∷ numbered 11 rule_11 ∷ numbered 12 rule_12 ∷ numbered 13 rule_13 ∷ []
 
 -- the list of a hart
 abbrev pub items_of : List (List Item) → ℕ → List Item

@@ -1,5 +1,5 @@
 -- What is said of a whole trace: whether its lists are runs, which operations it has, and its orders.
-use Rattle.std.specs.Prelude.{ℕ, ◌+◌, Bool, true, false, ◌&&◌, not, ◌==◌, if◌then◌else◌, List, [], ◌∷◌, ◌++◌, Option, Some, None, IsTrue, filter, length, option_and_then, slice_get}
+use Rattle.std.specs.Prelude.{ℕ, ◌+◌, Bool, true, false, ◌&&◌, not, ◌==◌, if◌then◌else◌, List, [], ◌∷◌, ◌++◌, Option, IsTrue, filter, length, option_and_then, slice_get}
 use Rattle.std.specs.List.{filter_map, list_all, list_any}
 use Rattle.elf_loader.specs.Image.{Initial, byte_at}
 use Rattle.hart.specs.declared.retired.Retired.{Retired}
@@ -10,8 +10,8 @@ use Rattle.trace_recorder.specs.declared.operation.OpId.{OpId}
 use Rattle.memory_model.specs.declared.Model.{Model}
 use Rattle.memory_model.specs.declared.operation.Operation.{Operation}
 use Rattle.memory_model.specs.Order.{last_write}
-use Rattle.memory_model.specs.Items.{Item, gives_one, items_of_harts}
-use Rattle.memory_model.specs.Legal.{IsLegal, is_legal}
+use Rattle.memory_model.specs.Items.{Item, has_operation, items_of_harts}
+use Rattle.memory_model.specs.Legal.{IsLegal, keeps_all_three}
 
 -- ---- runs
 
@@ -40,7 +40,7 @@ is_among names name = list_any (is_named name) names
 abbrev pub names_from : ℕ → ℕ → List Retired → List OpId
 names_from hart place [] = []
 names_from hart place (entry ∷ rest) =
-    if gives_one entry
+    if has_operation entry
     then (record { hart = hart; place = place } ∷ names_from hart (place + 1) rest)
     else names_from hart (place + 1) rest
 
@@ -54,7 +54,7 @@ names_in t = names_of_harts 0 t.entries
 
 -- the operation of a name
 abbrev pub operation_at : List (List Item) → OpId → Option Operation
-operation_at harts name = option_and_then (λ (m : Item). m.gave) (option_and_then (λ (items : List Item). slice_get items name.place) (slice_get harts name.hart))
+operation_at harts name = option_and_then (λ (m : Item). m.operation) (option_and_then (λ (items : List Item). slice_get items name.place) (slice_get harts name.hart))
 
 abbrev pub operations_at : List (List Item) → List OpId → List Operation
 operations_at harts names = filter_map (operation_at harts) names
@@ -72,8 +72,8 @@ pub record IsOrder (t : History) (order : List OpId) : Type 0 where
   pub once : IsTrue (is_distinct order)
   pub every : IsTrue (list_all (is_among order) (names_in t))
 
-abbrev pub is_order : History → List OpId → Bool
-is_order t order = list_all (is_among (names_in t)) order && is_distinct order && list_all (is_among order) (names_in t)
+abbrev pub has_each_operation_once : History → List OpId → Bool
+has_each_operation_once t order = list_all (is_among (names_in t)) order && is_distinct order && list_all (is_among order) (names_in t)
 
 -- the performed order, then each operation that isn't in it, by hart and then by place
 abbrev pub completed : History → List OpId
@@ -87,8 +87,8 @@ image_of t = byte_at t.image
 abbrev pub IsLegalOrder : Model → History → List OpId → Type 0
 IsLegalOrder model t order = IsLegal model (image_of t) (instructions t) (operations_at (instructions t) order)
 
-abbrev pub is_legal_order : Model → History → List OpId → Bool
-is_legal_order model t order = is_legal model (image_of t) (instructions t) (operations_at (instructions t) order)
+abbrev pub judged_legal : Model → History → List OpId → Bool
+judged_legal model t order = keeps_all_three model (image_of t) (instructions t) (operations_at (instructions t) order)
 
 -- the byte at x that the last performed store to it wrote, the image's where there is none
 abbrev pub last_performed : History → ℕ → ℕ

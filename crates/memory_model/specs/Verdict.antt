@@ -1,5 +1,5 @@
 -- What is wrong with an order that isn't legal: the least code, and the first pair that breaks its rule.
-use Rattle.std.specs.Prelude.{ℕ, Bool, true, false, ◌&&◌, not, ◌==◌, List, [], ◌∷◌, ◌++◌, Option, Some, None, find, map, Contains, IsTrue}
+use Rattle.std.specs.Prelude.{ℕ, Bool, ◌&&◌, not, ◌==◌, List, [], ◌∷◌, ◌++◌, Option, Some, None, find, map, Contains, IsTrue}
 use Rattle.std.specs.List.{flat_map, list_any}
 use Rattle.trace_recorder.specs.History.{History}
 use Rattle.trace_recorder.specs.declared.operation.OpId.{OpId}

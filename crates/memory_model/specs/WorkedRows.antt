@@ -1,12 +1,11 @@
 -- Whole runs of small programs: which lists and statuses are runs, what the completed order is, and how it is judged. x is the word at 0x80000100, y that at 0x80000200.
-use Rattle.std.specs.Prelude.{ℕ, ◌≡◌, Bool, true, false, List, [], ◌∷◌, None}
+use Rattle.std.specs.Prelude.{ℕ, ◌≡◌, Bool, true, false, List, [], ◌∷◌}
 use Rattle.elf_loader.specs.Image.{Initial}
-use Rattle.hart.specs.declared.retired.Retired.{Retired}
 use Rattle.hart.specs.declared.status.Status.TheVariants.{Running, Stopped, Exited}
 use Rattle.trace_recorder.specs.History.{History}
 use Rattle.trace_recorder.specs.declared.operation.OpId.{OpId}
 use Rattle.memory_model.specs.declared.Model.TheVariants.{Rvwmo, Ztso}
-use Rattle.memory_model.specs.Traces.{are_runs, completed, is_order}
+use Rattle.memory_model.specs.Traces.{are_runs, completed, has_each_operation_once}
 use Rattle.memory_model.specs.Examples.{image_with, with_word, did, loaded, tried, op, trace, Passes, Fails}
 
 -- ---- row 1: a program that exits with 5
@@ -131,10 +130,10 @@ one_load =
 pub record Row18 : Type 0 where
   pub legal : Passes Rvwmo one_load (completed one_load)
   pub unperformed : Passes Rvwmo (record one_load { performed = [] }) (op 0 1 ∷ [])
-  pub twice : is_order one_load (op 0 1 ∷ op 0 1 ∷ []) ≡ false
+  pub twice : has_each_operation_once one_load (op 0 1 ∷ op 0 1 ∷ []) ≡ false
   pub no_operation : completed (record one_load { performed = op 0 0 ∷ [] }) ≡ op 0 0 ∷ op 0 1 ∷ []
-  pub no_order : is_order one_load (op 0 0 ∷ op 0 1 ∷ []) ≡ false
-  pub missing : is_order one_load [] ≡ false
+  pub no_order : has_each_operation_once one_load (op 0 0 ∷ op 0 1 ∷ []) ≡ false
+  pub missing : has_each_operation_once one_load [] ≡ false
   pub stops_with_2 : are_runs (record one_load { statuses = Stopped 2 ∷ [] }) ≡ true
   pub not_with_3 : are_runs (record one_load { statuses = Stopped 3 ∷ [] }) ≡ false
   pub no_value : are_runs (record one_load { entries = (did 0x80000000 0x80000637 ∷ did 0x80000004 0x00062703 ∷ []) ∷ [] }) ≡ false

@@ -1,5 +1,5 @@
 //! Laws of the memory models, each the contract of a function that does nothing.
-ghost use Rattle.memory_model.specs.Laws.{CompletedIsOrder, OrderFormsAgree, SourceFormsAgree, ZtsoIsStronger, ProgramOrderSuffices, UnwrittenByteIsImages};
+ghost use Rattle.memory_model.specs.Laws.{CompletedIsOrder, EntriesTellOperations, ExamplesJudgeAsDefined, NamesFindOperations, OrderFormsAgree, SourceFormsAgree, ZtsoIsStronger, ProgramOrderSuffices, UnwrittenByteIsImages};
 ghost use Rattle.memory_model.specs.Litmus.{Shapes};
 ghost use Rattle.memory_model.specs.WorkedRows.{Rows};
 
@@ -14,6 +14,12 @@ pub fn worked_rows()
     ensures { Rows }
 {}
 
+/// The tests that judge the shapes and the rows say what the definitions of an order and of a legal order
+/// say.
+pub fn examples_judge_as_defined()
+    ensures { ExamplesJudgeAsDefined }
+{}
+
 /// An order that is legal under Ztso is legal under RVWMO.
 pub fn ztso_is_stronger()
     ensures { ZtsoIsStronger }
@@ -22,6 +28,17 @@ pub fn ztso_is_stronger()
 /// An order that keeps program order breaks none of the thirteen rules.
 pub fn program_order_suffices()
     ensures { ProgramOrderSuffices }
+{}
+
+/// Whether an entry has a memory operation is told by its word and, for an SC, by its answer: where its
+/// hart stands is of no matter.
+pub fn entries_tell_operations()
+    ensures { EntriesTellOperations }
+{}
+
+/// The names of a trace are exactly those by which an operation is found.
+pub fn names_find_operations()
+    ensures { NamesFindOperations }
 {}
 
 /// In a legal order a load returns the image's byte where there is no store to it.
@@ -41,7 +58,7 @@ pub fn order_forms_agree()
     ensures { OrderFormsAgree }
 {}
 
-/// The source of a byte is, of the stores to it other than the load that stand before the load in the
+/// In an order of the trace the source of a byte is, of the stores to it other than the load that stand before the load in the
 /// order or precede it in program order, the last in the order.
 pub fn source_forms_agree()
     ensures { SourceFormsAgree }

@@ -6,8 +6,9 @@ mod laws;
 mod operation;
 
 pub use laws::{
-    completed_is_order, litmus_shapes, order_forms_agree, program_order_suffices,
-    source_forms_agree, unwritten_byte_is_images, worked_rows, ztso_is_stronger,
+    completed_is_order, entries_tell_operations, examples_judge_as_defined, litmus_shapes,
+    names_find_operations, order_forms_agree, program_order_suffices, source_forms_agree,
+    unwritten_byte_is_images, worked_rows, ztso_is_stronger,
 };
 pub use operation::{Kind, Operation};
 

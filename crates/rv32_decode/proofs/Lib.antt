@@ -1,8 +1,14 @@
+pub mod Apart
+pub mod Assembled
 pub mod Atomics
 pub mod Branches
 pub mod Cases
+pub mod Extended
 pub mod Masks
 pub mod Operations
 pub mod Others
+pub mod ReadBack
+pub mod ReadBackAtomics
+pub mod ReadBackOperations
 pub mod Table
 pub mod Uppers

@@ -1,4 +1,4 @@
--- Signed numbers as integers (RISC-V Unprivileged ISA 20191213, chapter 1.4 and 2.1: two's complement).
+-- Signed numbers as integers (RISC-V Unprivileged ISA 20191213, chapters 1.3 and 2.1: two's complement).
 use Rattle.std.specs.Prelude.{ℕ, ◌-◌, ◌/◌, ◌%◌, ◌^◌, nat_lt, if◌then◌else◌, ℤ, pos, negsuc, ◌-ℤ◌}
 
 -- the integer that a register's number stands for, read as signed

@@ -194,6 +194,7 @@ impl fmt::Display for AmoOp {
 }
 
 impl fmt::Display for Instr {
+    #[rattlefmt::skip]
     fn fmt<W: fmt::Write>(&self, f: &mut fmt::Formatter<W>) -> fmt::Result {
         match *self {
             Instr::Upper { op, rd, imm } => {
@@ -202,31 +203,11 @@ impl fmt::Display for Instr {
             }
             Instr::Jal { rd, offset } => write!(f, "jal {rd}, {offset}"),
             Instr::Jalr { rd, rs1, offset } => write!(f, "jalr {rd}, {offset}({rs1})"),
-            Instr::Branch {
-                op,
-                rs1,
-                rs2,
-                offset,
-            } => write!(f, "{op} {rs1}, {rs2}, {offset}"),
-            Instr::Load {
-                op,
-                rd,
-                rs1,
-                offset,
-            } => write!(f, "{op} {rd}, {offset}({rs1})"),
-            Instr::Store {
-                op,
-                rs1,
-                rs2,
-                offset,
-            } => write!(f, "{op} {rs2}, {offset}({rs1})"),
+            Instr::Branch { op, rs1, rs2, offset } => write!(f, "{op} {rs1}, {rs2}, {offset}"),
+            Instr::Load { op, rd, rs1, offset } => write!(f, "{op} {rd}, {offset}({rs1})"),
+            Instr::Store { op, rs1, rs2, offset } => write!(f, "{op} {rs2}, {offset}({rs1})"),
             Instr::Immediate { op, rd, rs1, imm } => write!(f, "{op} {rd}, {rs1}, {imm}"),
-            Instr::Shift {
-                op,
-                rd,
-                rs1,
-                amount,
-            } => {
+            Instr::Shift { op, rd, rs1, amount } => {
                 let amount = amount.value();
                 write!(f, "{op} {rd}, {rs1}, {amount}")
             }
@@ -240,13 +221,7 @@ impl fmt::Display for Instr {
             Instr::System(op) => write!(f, "{op}"),
             Instr::Lr { rd, rs1, bits } => write!(f, "lr.w{bits} {rd}, ({rs1})"),
             Instr::Sc { rd, rs1, rs2, bits } => write!(f, "sc.w{bits} {rd}, {rs2}, ({rs1})"),
-            Instr::Amo {
-                op,
-                rd,
-                rs1,
-                rs2,
-                bits,
-            } => write!(f, "{op}{bits} {rd}, {rs2}, ({rs1})"),
+            Instr::Amo { op, rd, rs1, rs2, bits } => write!(f, "{op}{bits} {rd}, {rs2}, ({rs1})"),
         }
     }
 }

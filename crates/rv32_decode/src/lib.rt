@@ -9,6 +9,7 @@ mod fence;
 mod fields;
 mod immediates;
 mod instruction;
+mod laws;
 mod registers;
 
 pub use decoding::decode;
@@ -19,6 +20,7 @@ pub use instruction::{
     AmoOp, Annotations, BranchOp, ImmediateOp, Instr, LoadOp, RegisterOp, ShiftOp, StoreOp,
     SystemOp, UpperOp,
 };
+pub use laws::rows_are_apart;
 pub use registers::Register;
 
 #[cfg(test)]

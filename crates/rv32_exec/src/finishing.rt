@@ -13,69 +13,44 @@ use rv32_decode::{Instr, LoadOp, UpperOp};
 /// The next pc after an instruction at `pc` that doesn't stop, which writes its register, if it has one.
 /// `value` is what a load, LR or AMO read, before any extension of its sign; for an SC it is 0 where the SC
 /// succeeded and 1 where it failed. Other instructions have none, and it isn't looked at.
+#[rattlefmt::skip]
 pub fn finish(instr: &Instr, pc: u32, regs: &mut Regs, value: Option<u32>) -> u32
     ensures next { result ≡ (effect_of instr.now pc regs.old (unwrap_or value 0)).next }
     ensures registers { regs.new
         ≡ after_write regs.old (effect_of instr.now pc regs.old (unwrap_or value 0)).written }
 {
     let following = pc.wrapping_add(4);
-    match *instr {
-        Instr::Upper { op, rd, imm } => {
-            let result = match op {
-                UpperOp::Lui => imm.value(),
-                UpperOp::Auipc => pc.wrapping_add(imm.value()),
-            };
-            regs.set(rd, result);
-            following
-        }
+    let (rd, result) = match *instr {
+        Instr::Upper { op: UpperOp::Lui, rd, imm } => (rd, imm.value()),
+        Instr::Upper { op: UpperOp::Auipc, rd, imm } => (rd, pc.wrapping_add(imm.value())),
         Instr::Jal { rd, offset } => {
             regs.set(rd, following);
-            pc.wrapping_add(offset.value())
+            return pc.wrapping_add(offset.value());
         }
         Instr::Jalr { rd, rs1, offset } => {
             let target = regs.get(rs1).wrapping_add(offset.value()) & !1;
             regs.set(rd, following);
-            target
+            return target;
         }
-        Instr::Branch {
-            op,
-            rs1,
-            rs2,
-            offset,
-        } => {
-            if is_taken(op, regs.get(rs1), regs.get(rs2)) {
-                pc.wrapping_add(offset.value())
-            } else {
-                following
-            }
+        Instr::Branch { op, rs1, rs2, offset } => {
+            let is_taken = is_taken(op, regs.get(rs1), regs.get(rs2));
+            return if is_taken { pc.wrapping_add(offset.value()) } else { following };
         }
-        Instr::Load { op, rd, .. } => {
-            regs.set(rd, loaded(op, value.unwrap_or(0)));
-            following
-        }
+        Instr::Load { op, rd, .. } => (rd, loaded(op, value.unwrap_or(0))),
         Instr::Immediate { op, rd, rs1, imm } => {
-            regs.set(rd, computed_immediate(op, regs.get(rs1), imm.value()));
-            following
+            (rd, computed_immediate(op, regs.get(rs1), imm.value()))
         }
-        Instr::Shift {
-            op,
-            rd,
-            rs1,
-            amount,
-        } => {
-            regs.set(rd, shifted(op, regs.get(rs1), amount.value()));
-            following
-        }
-        Instr::Register { op, rd, rs1, rs2 } => {
-            regs.set(rd, computed(op, regs.get(rs1), regs.get(rs2)));
-            following
-        }
+        Instr::Shift { op, rd, rs1, amount } => (rd, shifted(op, regs.get(rs1), amount.value())),
+        Instr::Register { op, rd, rs1, rs2 } => (rd, computed(op, regs.get(rs1), regs.get(rs2))),
         Instr::Lr { rd, .. } | Instr::Sc { rd, .. } | Instr::Amo { rd, .. } => {
-            regs.set(rd, value.unwrap_or(0));
-            following
+            (rd, value.unwrap_or(0))
         }
-        Instr::Store { .. } | Instr::Fence(_) | Instr::FenceTso | Instr::System(_) => following,
-    }
+        Instr::Store { .. } | Instr::Fence(_) | Instr::FenceTso | Instr::System(_) => {
+            return following;
+        }
+    };
+    regs.set(rd, result);
+    following
 }
 
 // What a load writes, of the raw value that it read (chapter 2.6).

@@ -4,12 +4,14 @@
 
 mod arithmetic;
 mod finishing;
+mod laws;
 mod planning;
 mod plans;
 mod registers;
 pub mod stop;
 
 pub use finishing::finish;
+pub use laws::{reads_are_as_named, stops_change_nothing, writes_are_as_named};
 pub use planning::plan;
 pub use plans::{Plan, Width};
 pub use registers::Regs;

@@ -21,6 +21,7 @@ const MEMORY: u32 = 0x8000_0000;
 const CALL_NUMBER: u8 = 17;
 
 /// What an instruction at `pc` will do, where memory has `size` bytes from 0x80000000 on.
+#[rattlefmt::skip]
 pub fn plan(instr: &Instr, pc: u32, regs: &Regs, size: u32) -> Plan
     requires { IsMemorySize size }
     ensures value { result ≡ planned instr.now pc regs.now size }
@@ -32,35 +33,19 @@ pub fn plan(instr: &Instr, pc: u32, regs: &Regs, size: u32) -> Plan
         | Instr::Shift { .. }
         | Instr::Register { .. } => Plan::Local,
         Instr::Jal { offset, .. } => plan_jump(pc.wrapping_add(offset.value())),
-        Instr::Jalr { rs1, offset, .. } => {
-            plan_jump(regs.get(rs1).wrapping_add(offset.value()) & !1)
-        }
-        Instr::Branch {
-            op,
-            rs1,
-            rs2,
-            offset,
-        } => {
+        Instr::Jalr { rs1, offset, .. } => plan_jump(regs.get(rs1).wrapping_add(offset.value()) & !1),
+        Instr::Branch { op, rs1, rs2, offset } => {
             if is_taken(op, regs.get(rs1), regs.get(rs2)) {
                 plan_jump(pc.wrapping_add(offset.value()))
             } else {
                 Plan::Local
             }
         }
-        Instr::Load {
-            op,
-            rs1,
-            offset,
-            ..
-        } => plan_load(op, regs.get(rs1).wrapping_add(offset.value()), size),
-        Instr::Store {
-            op,
-            rs1,
-            rs2,
-            offset,
-        } => {
-            let addr = regs.get(rs1).wrapping_add(offset.value());
-            plan_store(op, addr, regs.get(rs2), size)
+        Instr::Load { op, rs1, offset, .. } => {
+            plan_load(op, regs.get(rs1).wrapping_add(offset.value()), size)
+        }
+        Instr::Store { op, rs1, rs2, offset } => {
+            plan_store(op, regs.get(rs1).wrapping_add(offset.value()), regs.get(rs2), size)
         }
         Instr::Fence(_) | Instr::FenceTso => Plan::Fence,
         Instr::System(SystemOp::Ecall) => plan_call(regs.get(Register::new(CALL_NUMBER))),
@@ -70,13 +55,11 @@ pub fn plan(instr: &Instr, pc: u32, regs: &Regs, size: u32) -> Plan
             plan_write(addr, Width::Word, size, Plan::Lr { addr })
         }
         Instr::Sc { rs1, rs2, .. } => {
-            let addr = regs.get(rs1);
-            let value = regs.get(rs2);
+            let (addr, value) = (regs.get(rs1), regs.get(rs2));
             plan_write(addr, Width::Word, size, Plan::Sc { addr, value })
         }
         Instr::Amo { op, rs1, rs2, .. } => {
-            let addr = regs.get(rs1);
-            let operand = regs.get(rs2);
+            let (addr, operand) = (regs.get(rs1), regs.get(rs2));
             plan_write(addr, Width::Word, size, Plan::Amo { addr, op, operand })
         }
     }

@@ -1,5 +1,5 @@
 -- Entries as groups, and what a change of the list leaves of them.
-use Rattle.std.proofs.Common.{◌≡◌, ◌≢◌, ℕ, zero, suc, ◌+◌, ◌-◌, ◌<◌, ◌≤◌, Bool, true, false, cond, ◌||◌, not, ltb, List, [], ◌∷◌, ◌++◌, length, get_or, set, take, drop, Option, Some, None, refl, sym, ap, subst, ◌∙◌, arith, rules, length-take, length-drop, length-append, take-append-drop, append-nil}
+use Rattle.std.proofs.Common.{◌≡◌, ◌≢◌, ℕ, zero, suc, ◌+◌, ◌-◌, ◌<◌, ◌≤◌, Bool, true, false, cond, ◌||◌, ltb, List, [], ◌∷◌, ◌++◌, length, get_or, take, drop, Option, Some, None, refl, sym, ap, subst, ◌∙◌, arith, length-drop, length-append, take-append-drop, append-nil}
 use Rattle.std.specs.Prelude.{◌==◌, sum}
 use Rattle.std.specs.List.{AllByRecursion as Each}
 use Rattle.std.proofs.lemmas.List.{take_at, drop_at, drop-drop, take-append-le, drop-append-le, length-take-le, take_rest, drop_all}
@@ -9,7 +9,7 @@ use Rattle.std.proofs.lemmas.List.Sums.{sum_by-cons, sum_by-append, sum_by-take-
 use Rattle.store_buffer.specs.declared.entry.Entry.{Entry}
 use Rattle.store_buffer.specs.declared.entry.Store.{Store}
 use Rattle.store_buffer.specs.Entry.{blank_entry, joined, byte_at, has_word, entry_of, with_store, without}
-use Rattle.store_buffer.specs.Groups.{Groups, groups_of, fits, IsDistinct, IsLawful, is_nil, kept, or_else, total_count, entry_count, any_has_word, buffered_byte, taken_from, oldest_from, is_empty, after_put, after_put_single, after_seal, after_take}
+use Rattle.store_buffer.specs.Groups.{Groups, groups_of, fits, IsDistinct, IsLawful, is_nil, kept, or_else, total_count, entry_count, any_has_word, buffered_byte, oldest_from, is_empty, after_put, after_put_single, after_seal, after_take}
 use Rattle.store_buffer.specs.Layout.{sealed_in, groups_in, IsLaidOut, byte_in, newest_byte, one_less}
 use Rattle.store_buffer.proofs.Places.{has_word-append, without-append, length-without, entry_of-append, with_store-new, with_store-old, put-adds, IsDistinct-with_store, IsDistinct-without}
 
@@ -352,7 +352,7 @@ take_groups word (n ∷ ns) es h e = go (without word (take n es)) refl
         ((λ i. take_at (x ∷ g) (drop n es) (n - 1) size i ∷ sealed_in ns (rest i)) ∙ ap (λ xs. kept xs ++ sealed_in ns (drop n es)) (sym is))
         (drop_of_more (n - 1) ns ((x ∷ g) ++ drop n es) ∙ ap (drop (sum ns)) rest ∙ sym (drop_of_more n ns es))
 
-Each-append : {X : Type 0} (P : X → Type 0) (xs ys : List X) → Each P xs → Each P ys → Each P (xs ++ ys)
+pub Each-append : {X : Type 0} (P : X → Type 0) (xs ys : List X) → Each P xs → Each P ys → Each P (xs ++ ys)
 Each-append P [] ys h k = k
 Each-append P (x ∷ xs) ys h k = (h.0, Each-append P xs ys h.1 k)
 

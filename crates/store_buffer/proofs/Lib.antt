@@ -3,3 +3,4 @@ pub mod Layouts
 pub mod Overlaid
 pub mod Puts
 pub mod StoreLaws
+pub mod SingleGroups

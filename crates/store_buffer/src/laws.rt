@@ -1,4 +1,5 @@
 //! Laws of the definitions: a group, and so a buffer, is a function of its stores in program order.
+ghost use Rattle.store_buffer.specs.Single.{NewIsSingle, PutSingleStaysSingle, SealStaysSingle, TakeStaysSingle};
 ghost use Rattle.store_buffer.specs.Stores.{OwnWord, OtherWord, PutAppends, EntryIsFilter, OpsAreFilter, ByteIsLast, HasIsAny, TakeFilters, AlwaysDistinct, PutIsBehind, PutSingleIsBehind, SealIsUp, OldestIsFirst, TakeIsDrained, ForwardIsLast, HasIsAnyOfAll, DrainableIsAny, EmptyIsNone, SealedIsSome};
 
 /// A group as the list of its stores: an entry is what those to its word leave.
@@ -26,4 +27,12 @@ pub fn buffer_of_stores()
     ensures drainable { DrainableIsAny }
     ensures is_empty { EmptyIsNone }
     ensures has_sealed { SealedIsSome }
+{}
+
+/// A buffer that is filled by `put_single` alone has one entry a group.
+pub fn single_groups_stay()
+    ensures new { NewIsSingle }
+    ensures put_single { PutSingleStaysSingle }
+    ensures seal { SealStaysSingle }
+    ensures take { TakeStaysSingle }
 {}

@@ -198,6 +198,7 @@ fn masks_and_ops(rt: HostRuntime) -> Result<(), Fail> {
     assert_eq!(rt; ops.into_vec().as_slice(), [3, 7].as_slice());
     group_of_stores();
     buffer_of_stores();
+    single_groups_stay();
     Ok(())
 }
 

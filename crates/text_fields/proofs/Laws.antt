@@ -10,7 +10,7 @@ use Rattle.std.proofs.lemmas.Option.{none-some, same_Some, some_pair_parts, cond
 use Rattle.std.proofs.lemmas.List.{nil_from_length, length-append}
 use Rattle.std.specs.Fmt.{digit_glyph}
 use Rattle.std.specs.Int.{w32, to_be_bytes, from_be_bytes}
-use Rattle.text_fields.specs.Fields.{number, hex_byte, hex, word}
+use Rattle.text_fields.specs.Fields.{number, hex_byte, hex, word, IsBytes}
 use Rattle.text_fields.specs.Reading.{◌>>=◌, pair_at, seen_at, led_at, after, ended_at, either, table_at, chain_at, guarded, all_at, behind, section_at, is_digit, number_on, number_at, nibble_of, hex_byte_at, hex_at, word_at}
 
 -- What is read is spelled so, and what is spelled so is read, whatever follows.
@@ -266,25 +266,18 @@ hex_byte_reads = record { takes = hex_byte_takes; again = hex_byte_again }
 
 -- ---- as many bytes
 
-Below : List ℕ → Type 0
-Below bytes = AllByRecursion (λ b. b < 256) bytes
-
-pub record IsHex (n : ℕ) (bytes : List ℕ) : Type 0 where
-  pub len : length bytes ≡ n
-  pub small : AllByRecursion (λ b. b < 256) bytes
-
-hex_takes : (n : ℕ) (bytes xs rest : List ℕ) → hex_at n bytes ≡ Some (xs, rest) → (bytes ≡ hex xs ++ rest) × IsHex n xs
+hex_takes : (n : ℕ) (bytes xs rest : List ℕ) → hex_at n bytes ≡ Some (xs, rest) → (bytes ≡ hex xs ++ rest) × IsBytes n xs
 unfolding hex_at
 hex_takes zero bytes xs rest e =
     let made : List ℕ × List ℕ = ([], bytes) in
-    subst (λ (y : List ℕ × List ℕ). (bytes ≡ hex y.0 ++ y.1) × IsHex 0 y.0) (some_is made (xs, rest) e) (refl, record { len = refl; small = tt })
+    subst (λ (y : List ℕ × List ℕ). (bytes ≡ hex y.0 ++ y.1) × IsBytes 0 y.0) (some_is made (xs, rest) e) (refl, record { len = refl; small = tt })
 hex_takes (suc n) bytes xs rest e =
     let p = bind_some (hex_byte_at bytes) (λ b. hex_at n b.1 >>= λ bs. Some (b.0 ∷ bs.0, bs.1)) (xs, rest) e in
     let q = bind_some (hex_at n p.0.1) (λ bs. Some (p.0.0 ∷ bs.0, bs.1)) (xs, rest) p.2 in
     let first = hex_byte_takes bytes p.0.0 p.0.1 p.1 in
     let second = hex_takes n p.0.1 q.0.0 q.0.1 q.1 in
     let made : List ℕ × List ℕ = (p.0.0 ∷ q.0.0, q.0.1) in
-    subst (λ (y : List ℕ × List ℕ). (bytes ≡ hex y.0 ++ y.1) × IsHex (suc n) y.0) (some_is made (xs, rest) q.2) (
+    subst (λ (y : List ℕ × List ℕ). (bytes ≡ hex y.0 ++ y.1) × IsBytes (suc n) y.0) (some_is made (xs, rest) q.2) (
       first.0 ∙ ap (λ t. hex_byte p.0.0 ++ t) second.0 ∙ sym (ap (λ t. t ++ q.0.1) (flat_map-cons hex_byte p.0.0 q.0.0) ∙ append_assoc (hex_byte p.0.0) (hex q.0.0) q.0.1),
       record { len = ap suc second.1.len; small = (first.1, second.1.small) },
     )
@@ -296,7 +289,7 @@ hex_again (x ∷ xs) rest small =
     let regrouped : hex (x ∷ xs) ++ rest ≡ hex_byte x ++ (hex xs ++ rest) = ap (λ t. t ++ rest) (flat_map-cons hex_byte x xs) ∙ append_assoc (hex_byte x) (hex xs) rest in
     ap (hex_at (suc (length xs))) regrouped ∙ rw (hex_byte_again x (hex xs ++ rest) small.0, hex_again xs rest small.1) refl
 
-pub hex_reads : (n : ℕ) → Reads hex (IsHex n) (hex_at n)
+pub hex_reads : (n : ℕ) → Reads hex (IsBytes n) (hex_at n)
 hex_reads n = record { takes = hex_takes n; again = λ xs rest h. ap (λ k. hex_at k (hex xs ++ rest)) (sym h.len) ∙ hex_again xs rest h.small }
 
 -- ---- words
@@ -308,7 +301,7 @@ each_below a b c d h (suc (suc zero)) = h.1.1.0
 each_below a b c d h (suc (suc (suc zero))) = h.1.1.1.0
 each_below a b c d h (suc (suc (suc (suc i)))) = omega arith
 
-word_back : (bytes : List ℕ) → IsHex 4 bytes → (to_be_bytes w32 (from_be_bytes w32 bytes) ≡ bytes) × (from_be_bytes w32 bytes < 2 ^ 32)
+word_back : (bytes : List ℕ) → IsBytes 4 bytes → (to_be_bytes w32 (from_be_bytes w32 bytes) ≡ bytes) × (from_be_bytes w32 bytes < 2 ^ 32)
 word_back (a ∷ b ∷ c ∷ d ∷ []) h =
     (be_bytes_4 (a ∷ b ∷ c ∷ d ∷ []) _ refl (each_below a b c d h.small) refl, omega (arith, h.small.0, h.small.1.0, h.small.1.1.0, h.small.1.1.1.0))
 word_back [] h = absurd (omega (arith, h.len))
@@ -317,7 +310,7 @@ word_back (a ∷ b ∷ []) h = absurd (omega (arith, h.len))
 word_back (a ∷ b ∷ c ∷ []) h = absurd (omega (arith, h.len))
 word_back (a ∷ b ∷ c ∷ d ∷ e ∷ es) h = absurd (omega (arith, h.len))
 
-word_forth : (n : ℕ) → n < 2 ^ 32 → (from_be_bytes w32 (to_be_bytes w32 n) ≡ n) × IsHex 4 (to_be_bytes w32 n)
+word_forth : (n : ℕ) → n < 2 ^ 32 → (from_be_bytes w32 (to_be_bytes w32 n) ≡ n) × IsBytes 4 (to_be_bytes w32 n)
 word_forth n lt = (from_be_bytes-to_be_bytes_4 n lt, record { len = refl; small = (omega arith, (omega arith, (omega arith, (omega arith, tt)))) })
 
 pub word_reads : Reads word (λ n. n < 2 ^ 32) word_at
@@ -494,3 +487,50 @@ after_not c p (x ∷ xs) e = rw e refl
 pub starts_section : {A : Type 0} (c d : ℕ) (p : List ℕ) (s : A → List ℕ) (xs : List A) (rest : List ℕ) → eqb d c ≡ false → starts c rest ≡ false → starts c (flat_map (λ x. (d ∷ p) ++ s x) xs ++ rest) ≡ false
 starts_section c d p s [] rest e f = f
 starts_section c d p s (x ∷ xs) rest e f = ap (λ t. starts c (t ++ rest)) (flat_map-cons (λ x. (d ∷ p) ++ s x) x xs) ∙ e
+
+-- ---- other forms of a law
+
+-- the same values, said in another way
+pub refit : {A : Type 0} {s : A → List ℕ} {f g : A → Type 0} {r : List ℕ → Option (A × List ℕ)} → Reads s f r → ((x : A) → f x → g x) → ((x : A) → g x → f x) → Reads s g r
+refit a to fro = record {
+  takes = λ bytes x rest e. let t = a.takes bytes x rest e in (t.0, to x t.1);
+  again = λ x rest h. a.again x rest (fro x h);
+}
+
+-- a test on what is read, which is then seen in another way
+pub checked_reads : {A B : Type 0} {sa : A → List ℕ} {fa : A → Type 0} {ra : List ℕ → Option (A × List ℕ)} (ok : A → Bool) (sb : B → List ℕ) (fb : B → Type 0) (to : A → B) (from : B → A)
+    → ((x : A) → fa x → ok x ≡ true → (sa x ≡ sb (to x)) × fb (to x)) → ((y : B) → fb y → (to (from y) ≡ y) × (fa (from y) × (ok (from y) ≡ true))) → Reads sa fa ra → Reads sb fb (λ bytes. ra bytes >>= λ x. guarded (ok x.0) (to x.0, x.1))
+checked_reads {A} {B} {sa} {fa} {ra} ok sb fb to from forth back a = record {
+  takes = λ bytes y rest e.
+      let p = bind_some (ra bytes) (λ x. guarded (ok x.0) (to x.0, x.1)) (y, rest) e in
+      let made : B × List ℕ = (to p.0.0, p.0.1) in
+      let g = guarded_takes (ok p.0.0) made (y, rest) p.2 in
+      let first = a.takes bytes p.0.0 p.0.1 p.1 in
+      let there = forth p.0.0 first.1 g.0 in
+      subst (λ (z : B × List ℕ). (bytes ≡ sb z.0 ++ z.1) × fb z.0) g.1 (first.0 ∙ ap (λ (t : List ℕ). t ++ p.0.1) there.0, there.1);
+  again = λ y rest h.
+      let home = back y h in
+      let same : sb y ≡ sa (from y) = sym ((forth (from y) home.1.0 home.1.1).0 ∙ ap sb home.0) in
+      let one : ra (sb y ++ rest) ≡ Some (from y, rest) = ap (λ (t : List ℕ). ra (t ++ rest)) same ∙ a.again (from y) rest home.1.0 in
+      rw (one, home.1.1, home.0) refl;
+}
+
+abbrev pub just : {A : Type 0} → A → List ℕ → Option (A × List ℕ)
+just v r = Some (v, r)
+
+-- a text that stands for one value
+pub text_takes : {A : Type 0} (lead : List ℕ) (v : A) (s : A → List ℕ) (f : A → Type 0) → s v ≡ lead → f v → (bytes : List ℕ) (x : A) (rest : List ℕ) → (after lead bytes >>= just v) ≡ Some (x, rest) → (bytes ≡ s x ++ rest) × f x
+text_takes {A} lead v s f same fits bytes x rest e =
+    let p = bind_some (after lead bytes) (just v) (x, rest) e in
+    let made : A × List ℕ = (v, p.0) in
+    subst (λ (z : A × List ℕ). (bytes ≡ s z.0 ++ z.1) × f z.0) (some_is made (x, rest) p.2) (after_takes lead bytes p.0 p.1 ∙ ap (λ t. t ++ p.0) (sym same), fits)
+
+-- one value's text isn't the beginning of another's
+pub leads_apart : {A : Type 0} {s : A → List ℕ} {f : A → Type 0} {r : List ℕ → Option (A × List ℕ)} → Reads s f r → (x y : A) (t : List ℕ) → f x → f y → (x ≡ y → ⊥) → after (s x) (s y ++ t) ≡ None
+leads_apart {A} {s} {f} {r} law x y t fx fy apart = go (after (s x) (s y ++ t)) refl
+  where
+    go : (o : Option (List ℕ)) → after (s x) (s y ++ t) ≡ o → o ≡ None
+    go None e = refl
+    go (Some later) e =
+        let same : s y ++ t ≡ s x ++ later = after_takes (s x) (s y ++ t) later e in
+        absurd (apart (some_pair_parts x y later t (sym (law.again x later fx) ∙ ap r (sym same) ∙ law.again y t fy)).0)

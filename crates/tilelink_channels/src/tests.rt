@@ -145,3 +145,29 @@ fn long_use_keeps_the_order(rt: HostRuntime) -> Result<(), Fail> {
     assert_eq!(rt; queues.len(Channel::D), 0);
     Ok(())
 }
+
+/// Meant for runs in which one allocation fails: queues that were made take no more memory.
+#[test]
+fn memory_is_taken_at_making_alone(rt: HostRuntime) {
+    let mut queues = match Queues::new(rt.alloc()) {
+        Ok(queues) => queues,
+        Err(_) => Queues::new(rt.alloc()).expect(&rt, "queues asked for again"),
+    };
+    for body in [
+        Body::AcquireBlock(Grow::NtoB),
+        Body::ProbeBlock(Cap::ToN),
+        Body::Release(Change::BtoN),
+        Body::ReleaseAck,
+        Body::GrantAck,
+    ] {
+        let channel = (Msg { line: X, body }).channel();
+        for _ in 0..room(channel) {
+            send(&rt, &mut queues, X, body);
+        }
+        assert!(rt; !queues.has_room(channel));
+        for _ in 0..room(channel) {
+            taken(&rt, &mut queues, X, body);
+        }
+        assert_eq!(rt; queues.len(channel), 0);
+    }
+}

@@ -40,48 +40,48 @@ fn grants_name_what_was_asked_for(rt: HostRuntime) {
     assert_eq!(rt; Cap::ToN.perm(), Perm::Nothing);
 }
 
+const BYTES: LineData = LineData::Bytes16([7; 16]);
+
+/// TileLink 1.8.1, "Channels of TL-C": a message of each kind, and the channel that it goes on.
+const CHANNELS: [(Body, Channel); 10] = [
+    (Body::AcquireBlock(Grow::NtoB), Channel::A),
+    (Body::ProbeBlock(Cap::ToN), Channel::B),
+    (Body::ProbeAck(Change::NtoN), Channel::C),
+    (
+        Body::ProbeAckData {
+            change: Change::TtoN,
+            bytes: BYTES,
+        },
+        Channel::C,
+    ),
+    (Body::Release(Change::BtoN), Channel::C),
+    (
+        Body::ReleaseData {
+            change: Change::TtoN,
+            bytes: BYTES,
+        },
+        Channel::C,
+    ),
+    (Body::Grant(Cap::ToT), Channel::D),
+    (
+        Body::GrantData {
+            cap: Cap::ToB,
+            bytes: BYTES,
+        },
+        Channel::D,
+    ),
+    (Body::ReleaseAck, Channel::D),
+    (Body::GrantAck, Channel::E),
+];
+
 #[test]
 fn each_message_has_its_channel(rt: HostRuntime) {
-    let bytes = LineData::Bytes16([7; 16]);
-    for (body, channel) in [
-        (Body::AcquireBlock(Grow::NtoB), Channel::A),
-        (Body::ProbeBlock(Cap::ToN), Channel::B),
-        (Body::ProbeAck(Change::NtoN), Channel::C),
-        (
-            Body::ProbeAckData {
-                change: Change::TtoN,
-                bytes,
-            },
-            Channel::C,
-        ),
-        (Body::Release(Change::BtoN), Channel::C),
-        (
-            Body::ReleaseData {
-                change: Change::TtoN,
-                bytes,
-            },
-            Channel::C,
-        ),
-        (Body::Grant(Cap::ToT), Channel::D),
-        (
-            Body::GrantData {
-                cap: Cap::ToB,
-                bytes,
-            },
-            Channel::D,
-        ),
-        (Body::ReleaseAck, Channel::D),
-        (Body::GrantAck, Channel::E),
-    ] {
-        assert_eq!(rt;
-            Msg {
-                line: 0x8000_0100,
-                body
-            }
-            .channel(),
-            channel,
-            "{body:?}"
-        );
+    for (body, channel) in CHANNELS {
+        let message = Msg {
+            line: 0x8000_0100,
+            body,
+        };
+        assert_eq!(rt; message.channel(), channel, "{body:?}");
     }
 }
 

@@ -1,5 +1,5 @@
 -- Lists of lists with their room: what changes where one of them is reserved for or pushed to.
-use Rattle.std.proofs.Common.{◌≡◌, [], ◌∷◌, ◌++◌, ℕ, ◌-◌, ◌<◌, List, length, slice_set, slice_index, slice_index_or, map, refl, ap, sym, ◌∙◌, arith, Vec, Global, vec_len, vec_capacity}
+use Rattle.std.proofs.Common.{◌≡◌, [], ◌∷◌, ◌++◌, ℕ, ◌-◌, ◌<◌, List, length, slice_set, slice_index, slice_index_or, map, ap, sym, ◌∙◌, arith, Vec, Global, vec_len, vec_capacity}
 use Rattle.std.proofs.lemmas.List.{map-set, length-map, get_or-map}
 use Rattle.std.proofs.lemmas.Grind.{common_steps}
 use Rattle.std.proofs.Math.Seq.{map-set_same}

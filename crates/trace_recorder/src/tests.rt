@@ -1,5 +1,5 @@
-//! Each call of a trace once.
-use super::{Direction, OpId, Trace};
+//! Each call of a trace at least once.
+use super::{Direction, Logged, OpId, Trace};
 use elf_loader::{raw, size_of_kib};
 use hart::{Retired, Status};
 use std::test::Fail;
@@ -12,6 +12,11 @@ const ENTRY: Retired = Retired {
     sc_ok: None,
 };
 
+const ACK: Msg = Msg {
+    line: 0x8000_0000,
+    body: Body::GrantAck,
+};
+
 #[test]
 fn a_trace_keeps_what_happened(rt: HostRuntime) -> Result<(), Fail> {
     let size = size_of_kib(4).ok_or("a size")?;
@@ -21,12 +26,8 @@ fn a_trace_keeps_what_happened(rt: HostRuntime) -> Result<(), Fail> {
     trace.reserve(1, 1, 1, 2)?;
     trace.retire(1, ENTRY);
     trace.perform(OpId { hart: 1, place: 0 });
-    let message = Msg {
-        line: 0x8000_0000,
-        body: Body::GrantAck,
-    };
-    trace.send(1, message);
-    trace.take(1, message);
+    trace.send(1, ACK);
+    trace.take(1, ACK);
     trace.halt(1, Status::Stopped(3));
     assert_eq!(rt; trace.entries(1).len(), 1);
     assert_eq!(rt; trace.entries(0).len(), 0);
@@ -37,5 +38,30 @@ fn a_trace_keeps_what_happened(rt: HostRuntime) -> Result<(), Fail> {
     assert_eq!(rt; trace.statuses().len(), 2);
     assert_eq!(rt; trace.image().entry(), 0x8000_0000);
     assert_eq!(rt; trace.line_size(), LineSize::Bytes16);
+    Ok(())
+}
+
+#[test]
+fn a_trace_is_made_of_lists(rt: HostRuntime) -> Result<(), Fail> {
+    let alloc = rt.alloc();
+    let size = size_of_kib(4).ok_or("a size")?;
+    let image = raw(alloc, &[0x13, 0, 0, 0], size)?;
+    let mut entries = Vec::new(alloc);
+    entries.push(vec![in alloc; ENTRY; 3]?)?;
+    let statuses = vec![in alloc; Status::Exited(7); 1]?;
+    let performed = vec![in alloc; OpId { hart: 0, place: 2 }; 1]?;
+    let sent = Logged {
+        direction: Direction::Sent,
+        hart: 0,
+        message: ACK,
+    };
+    let log = vec![in alloc; sent; 1]?;
+    let trace = Trace::from_parts(image, LineSize::Bytes64, entries, statuses, performed, log);
+    assert_eq!(rt; trace.harts(), 1);
+    assert_eq!(rt; trace.entries(0).len(), 3);
+    assert_eq!(rt; trace.statuses()[0], Status::Exited(7));
+    assert_eq!(rt; trace.performed()[0].place, 2);
+    assert_eq!(rt; trace.log()[0].hart, 0);
+    assert_eq!(rt; trace.line_size(), LineSize::Bytes64);
     Ok(())
 }

@@ -2,3 +2,8 @@ mod Scripts
 mod TraceWriting
 mod TraceHeads
 mod TraceLaws
+mod HeadLaws
+mod ImageLaws
+mod WholeTraces
+mod TraceLoops
+mod ImageLoops

@@ -1,12 +1,18 @@
 -- What is read of a trace's line is spelled so, and what is spelled so is read, whatever follows.
-use Rattle.std.proofs.Common.{◌≡◌, ℕ, zero, suc, ◌+◌, ◌-◌, ◌^◌, ◌<◌, ◌≤◌, Bool, ◌&&◌, true, false, List, [], ◌∷◌, ◌++◌, length, Option, Some, None, refl, sym, ap, subst, ◌∙◌, append_assoc, arith, inl, inr}
+use Rattle.std.proofs.Common.{◌≡◌, ℕ, zero, suc, ◌+◌, ◌-◌, ◌*◌, ◌%◌, ◌^◌, ◌<◌, ◌≤◌, Bool, ◌&&◌, true, false, eqb, leb, ltb, List, [], ◌∷◌, ◌++◌, length, Option, Some, None, refl, sym, ap, subst, ◌∙◌, append_assoc, arith, inl, inr}
 use Rattle.std.specs.Prelude.{codes, decimal, ◌⊎◌}
-use Rattle.std.proofs.lemmas.List.{length-append, append-nil}
-use Rattle.text_fields.specs.Fields.{number, word, hex}
+use Rattle.std.proofs.lemmas.Bool.{eqb-true, eq-eqb, leb-true, le-leb, ltb-true, lt-ltb}
+use Rattle.elf_loader.specs.Size.{base}
+use Rattle.text_fields.specs.Fields.{number, word, hex, IsBytes}
 use Rattle.text_fields.specs.Reading.{◌>>=◌, pair_at, chain_at, seen_at, led_at, ended_at, table_at, after, number_at, word_at, hex_at, either, guarded}
-use Rattle.text_fields.proofs.Laws.{Reads, IsHex, bind_some, some_is, pair_reads, chain_reads, seen_reads, seen_takes, seen_again, led_reads, ended_reads, guard_reads, table_reads, number_reads, word_reads, hex_reads, after_takes, either_takes}
+use Rattle.text_fields.proofs.Laws.{Reads, bind_some, some_is, pair_reads, chain_reads, seen_reads, seen_takes, seen_again, led_reads, ended_reads, guard_reads, table_reads, number_reads, word_reads, hex_reads, after_takes, either_takes, text_takes, checked_reads, both_true}
 use Rattle.hart.specs.declared.retired.Retired.{Retired}
-use Rattle.tl_types.specs.Line.{bytes_of}
+use Rattle.hart.specs.declared.status.Status.{Status}
+use Rattle.hart.specs.declared.status.Status.TheVariants.{Running, Stopped, Exited}
+use Rattle.tl_types.specs.Line.{bytes_of, length_of}
+use Rattle.tl_types.specs.Message.{channel_of}
+use Rattle.tl_types.specs.declared.message.Channel.{Channel}
+use Rattle.tl_types.specs.declared.message.Channel.TheVariants as channels
 use Rattle.tl_types.specs.declared.line.LineSize.{LineSize}
 use Rattle.tl_types.specs.declared.line.LineSize.TheVariants as sizes
 use Rattle.tl_types.specs.declared.line.LineData.{LineData}
@@ -25,9 +31,12 @@ use Rattle.trace_recorder.specs.declared.logged.Direction.{Direction}
 use Rattle.trace_recorder.specs.declared.logged.Direction.TheVariants.{Sent, Taken}
 use Rattle.trace_text.specs.declared.message_reading.Name.{Name}
 use Rattle.trace_text.specs.declared.message_reading.Name.TheVariants as names
-use Rattle.trace_text.specs.Traces.{retired, operation}
+use Rattle.trace_recorder.specs.declared.logged.Logged.{Logged}
+use Rattle.trace_text.specs.declared.head.TraceHead.{TraceHead}
+use Rattle.trace_text.specs.Traces.{retired, operation, outcome}
+use Rattle.trace_text.specs.TraceLimits.{IsLoaded, IsRetired, IsOperation, IsData, IsBody, IsLogged, IsStatus}
 use Rattle.trace_text.specs.TraceReading.{directions, direction_at, grows, grow_at, caps, cap_at, changes, change_at, answers, answer_at, loaded_at, data_at, all_names, name_at, change_data_at, cap_data_at, carried_at, message_at}
-use Rattle.trace_text.specs.TraceLines.{retired_at, operation_at}
+use Rattle.trace_text.specs.TraceLines.{retired_at, operation_at, stop_at, exit_at, status_at, is_line, letter_of, letter_at, is_logged, logged_at}
 use Rattle.trace_text.specs.Words as words
 
 -- ---- words by tables
@@ -81,10 +90,6 @@ answer_reads = table_reads words.answer answers (refl, (refl, (refl, tt))) answe
 
 -- ---- retired instructions and operations
 
-abbrev pub IsLoaded : Option ℕ → Type 0
-IsLoaded None = Unit {0}
-IsLoaded (Some n) = n < 2 ^ 32
-
 loaded_takes : (bytes : List ℕ) (x : Option ℕ) (rest : List ℕ) → loaded_at bytes ≡ Some (x, rest) → (bytes ≡ words.loaded x ++ rest) × IsLoaded x
 unfolding loaded_at
 loaded_takes bytes x rest e =
@@ -104,11 +109,6 @@ loaded_again (Some n) rest h = seen_again word_reads (λ n. Some n) n rest h
 pub loaded_reads : Reads words.loaded IsLoaded loaded_at
 loaded_reads = record { takes = loaded_takes; again = loaded_again }
 
-pub record IsRetired (r : Retired) : Type 0 where
-  pub pc : r.pc < 2 ^ 32
-  pub word : r.word < 2 ^ 32
-  pub loaded : IsLoaded r.loaded
-
 pub retired_reads : Reads retired IsRetired retired_at
 unfolding retired_at
 retired_reads =
@@ -119,31 +119,22 @@ retired_reads =
 abbrev pub op : OpId → List ℕ
 op o = number 32 o.hart ++ number 10 o.place
 
-abbrev pub IsOp : ℕ → OpId → Type 0
-IsOp harts o = (o.hart ≤ harts - 1) × (o.place ≤ 999999)
-
-pub operation_reads : (harts : ℕ) → harts ≤ 8 → Reads op (IsOp harts) (operation_at harts)
+pub operation_reads : (harts : ℕ) → 0 < harts → harts ≤ 8 → Reads op (IsOperation harts) (operation_at harts)
 unfolding operation_at
-operation_reads harts le =
-    seen_reads op (IsOp harts) (λ p. record { hart = p.0; place = p.1 }) (λ o. (o.hart, o.place)) (λ x h. (refl, h)) (λ y h. (refl, h))
+operation_reads harts some le =
+    seen_reads op (IsOperation harts) (λ p. record { hart = p.0; place = p.1 }) (λ o. (o.hart, o.place)) (λ x h. (refl, (omega (arith, h.0), omega (arith, h.1)))) (λ y h. (refl, (omega (arith, h.0), omega (arith, h.1))))
     (pair_reads (number_reads 32 (harts - 1) (omega arith) (omega arith)) (number_reads 10 999999 (omega arith) (omega arith)))
 
 -- ---- data and messages
 
-abbrev pub IsData : LineSize → LineData → Type 0
-IsData sizes.Bytes16 (lines.Bytes16 d) = IsHex 16 d
-IsData sizes.Bytes16 (lines.Bytes64 d) = ⊥
-IsData sizes.Bytes64 (lines.Bytes16 d) = ⊥
-IsData sizes.Bytes64 (lines.Bytes64 d) = IsHex 64 d
-
 abbrev pub digits_of : LineData → List ℕ
 digits_of d = hex (bytes_of d)
 
-back16 : (y : LineData) → IsData sizes.Bytes16 y → (lines.Bytes16 (bytes_of y) ≡ y) × IsHex 16 (bytes_of y)
+back16 : (y : LineData) → IsData sizes.Bytes16 y → (lines.Bytes16 (bytes_of y) ≡ y) × IsBytes 16 (bytes_of y)
 back16 (lines.Bytes16 d) h = (refl, h)
 back16 (lines.Bytes64 d) h = absurd h
 
-back64 : (y : LineData) → IsData sizes.Bytes64 y → (lines.Bytes64 (bytes_of y) ≡ y) × IsHex 64 (bytes_of y)
+back64 : (y : LineData) → IsData sizes.Bytes64 y → (lines.Bytes64 (bytes_of y) ≡ y) × IsBytes 64 (bytes_of y)
 back64 (lines.Bytes16 d) h = absurd h
 back64 (lines.Bytes64 d) h = (refl, h)
 
@@ -206,19 +197,6 @@ name_is (bodies.GrantData c d) = refl
 name_is bodies.ReleaseAck = refl
 name_is bodies.GrantAck = refl
 
--- the data that a message carries is a whole line's
-abbrev pub IsBody : LineSize → Body → Type 0
-IsBody size (bodies.AcquireBlock g) = Unit {0}
-IsBody size (bodies.ProbeBlock c) = Unit {0}
-IsBody size (bodies.ProbeAck c) = Unit {0}
-IsBody size (bodies.ProbeAckData c d) = IsData size d
-IsBody size (bodies.Release c) = Unit {0}
-IsBody size (bodies.ReleaseData c d) = IsData size d
-IsBody size (bodies.Grant c) = Unit {0}
-IsBody size (bodies.GrantData c d) = IsData size d
-IsBody size bodies.ReleaseAck = Unit {0}
-IsBody size bodies.GrantAck = Unit {0}
-
 change_data_reads : (size : LineSize) → Reads (λ (p : Change × LineData). words.change p.0 ++ words.payload p.1) (λ p. Unit {0} × IsData size p.1) (change_data_at size)
 unfolding change_data_at
 change_data_reads size = pair_reads change_reads (led_reads (32 ∷ []) (data_reads size))
@@ -277,3 +255,113 @@ message_reads size =
     (λ x h. (ap (λ t. t ++ (word x.1.0 ++ words.carried x.1.1)) (ap name_word (sym h.1.1.0) ∙ name_is x.1.1), record { line = h.1.0; body = h.1.1.1 }))
     (λ m h. (refl, (tt, (h.line, (refl, h.body)))))
     (chain_reads name_reads (λ n u. pair_reads word_reads (carried_reads size n)))
+
+-- ---- a message that was sent or taken
+
+letter_takes : (bytes : List ℕ) (x : ℕ) (rest : List ℕ) → letter_at bytes ≡ Some (x, rest) → (bytes ≡ (x ∷ 32 ∷ []) ++ rest) × Unit {0}
+unfolding letter_at
+letter_takes [] x rest e = absurd cc
+letter_takes (c ∷ bytes) x rest e =
+    let p = bind_some (after (32 ∷ []) bytes) (λ r. Some (c, r)) (x, rest) e in
+    let made : ℕ × List ℕ = (c, p.0) in
+    subst (λ (z : ℕ × List ℕ). (c ∷ bytes ≡ (z.0 ∷ 32 ∷ []) ++ z.1) × Unit {0}) (some_is made (x, rest) p.2) (ap (λ t. c ∷ t) (after_takes (32 ∷ []) bytes p.0 p.1), tt)
+
+letter_again : (x : ℕ) (rest : List ℕ) → letter_at ((x ∷ 32 ∷ []) ++ rest) ≡ Some (x, rest)
+unfolding letter_at
+letter_again x rest = refl
+
+letter_reads : Reads (λ c. c ∷ 32 ∷ []) (λ c. Unit {0}) letter_at
+letter_reads = record { takes = letter_takes; again = λ x rest h. letter_again x rest }
+
+letter_is : (c : Channel) → letter_of c ∷ 32 ∷ [] ≡ words.channel c
+letter_is channels.A = refl
+letter_is channels.B = refl
+letter_is channels.C = refl
+letter_is channels.D = refl
+letter_is channels.E = refl
+
+abbrev pub logged_fields : Logged → List ℕ
+logged_fields l = words.direction l.direction ++ (words.channel (channel_of l.message) ++ (number 32 l.hart ++ (words.message l.message ++ 10 ∷ [])))
+
+-- the fields of a message's line as they stand there
+abbrev Fields : Type 0
+Fields = Direction × (ℕ × (ℕ × Msg))
+
+abbrev logged_from : Fields → Logged
+logged_from x = record { direction = x.0; hart = x.1.1.0; message = x.1.1.1 }
+
+abbrev fields_of : Logged → Fields
+fields_of l = (l.direction, (letter_of (channel_of l.message), (l.hart, l.message)))
+
+abbrev AreFields : TraceHead → Fields → Type 0
+AreFields h x = Unit {0} × (Unit {0} × ((x.1.1.0 ≤ h.harts - 1) × IsMsg h.line x.1.1.1))
+
+logged_forth : (h : TraceHead) → 0 < h.harts → (x : Fields) → AreFields h x → is_logged h.kib h.line x.1.0 x.1.1.1 ≡ true
+    → (words.direction x.0 ++ ((x.1.0 ∷ 32 ∷ []) ++ (number 32 x.1.1.0 ++ (words.message x.1.1.1 ++ 10 ∷ []))) ≡ logged_fields (logged_from x)) × IsLogged h (logged_from x)
+logged_forth h some x f e =
+    let m : Msg = x.1.1.1 in
+    let width : ℕ = length_of h.line in
+    let a = both_true (eqb x.1.0 (letter_of (channel_of m))) (is_line h.kib width m.line) e in
+    let b = both_true (eqb (m.line % width) 0 && leb base m.line) (ltb m.line (base + h.kib * 1024)) a.1 in
+    let c = both_true (eqb (m.line % width) 0) (leb base m.line) b.0 in
+    let letter : x.1.0 ∷ 32 ∷ [] ≡ words.channel (channel_of m) = ap (λ l. l ∷ 32 ∷ []) (eqb-true _ _ a.0) ∙ letter_is (channel_of m) in (
+      ap (λ t. words.direction x.0 ++ (t ++ (number 32 x.1.1.0 ++ (words.message m ++ 10 ∷ [])))) letter,
+      record {
+        hart = omega (arith, f.1.1.0);
+        whole = eqb-true _ _ c.0;
+        from = leb-true _ _ c.1;
+        inside = ltb-true _ _ b.1;
+        body = f.1.1.1.body;
+      },
+    )
+
+logged_back : (h : TraceHead) → 0 < h.harts → h.kib ≤ 1024 → (l : Logged) → IsLogged h l → (logged_from (fields_of l) ≡ l) × (AreFields h (fields_of l) × (is_logged h.kib h.line (letter_of (channel_of l.message)) l.message ≡ true))
+logged_back h some small l f = (
+    refl,
+    (
+      (tt, (tt, (omega (arith, f.hart), record { line = omega (arith, f.inside); body = f.body }))),
+      rw (eq-eqb (letter_of (channel_of l.message)) (letter_of (channel_of l.message)) refl, f.whole, le-leb _ _ f.from, lt-ltb _ _ f.inside) refl,
+    ),
+  )
+
+pub logged_reads : (h : TraceHead) → 0 < h.harts → h.harts ≤ 8 → h.kib ≤ 1024 → Reads logged_fields (IsLogged h) (logged_at h.harts h.kib h.line)
+unfolding logged_at
+logged_reads h some le small =
+    checked_reads (λ x. is_logged h.kib h.line x.1.0 x.1.1.1) logged_fields (IsLogged h) logged_from fields_of (logged_forth h some) (logged_back h some small)
+    (pair_reads direction_reads (pair_reads letter_reads (pair_reads (number_reads 32 (h.harts - 1) (omega arith) (omega arith)) (ended_reads 10 (message_reads h.line)))))
+
+-- ---- statuses
+
+stop_law : Reads (λ c. codes "stop " ++ number 10 c) (λ c. c ≤ 8) (led_at (codes "stop ") (number_at 10 8))
+stop_law = led_reads (codes "stop ") (number_reads 10 8 (omega arith) (omega arith))
+
+exit_law : Reads (λ c. codes "exit " ++ number 10 c) (λ c. c ≤ 255) (led_at (codes "exit ") (number_at 10 255))
+exit_law = led_reads (codes "exit ") (number_reads 10 255 (omega arith) (omega arith))
+
+status_takes : (bytes : List ℕ) (x : Status) (rest : List ℕ) → status_at bytes ≡ Some (x, rest) → (bytes ≡ outcome x ++ rest) × IsStatus x
+unfolding status_at stop_at exit_at
+status_takes bytes x rest e =
+    elim (either_takes (after (codes "run\n") bytes >>= λ r. Some (Running, r)) (either (stop_at bytes) (exit_at bytes)) (x, rest) e) [
+      | inl y ↦ text_takes (codes "run\n") Running outcome IsStatus refl tt bytes x rest y
+      | inr n ↦ elim (either_takes (stop_at bytes) (exit_at bytes) (x, rest) n.1) [
+        | inl y ↦ seen_takes stop_law (λ c. Stopped c) outcome IsStatus (λ x h. (refl, h)) bytes x rest y
+        | inr n ↦ seen_takes exit_law (λ c. Exited c) outcome IsStatus (λ x h. (refl, h)) bytes x rest n.1
+      ]
+    ]
+
+stop_again : (c : ℕ) (rest : List ℕ) → c ≤ 8 → stop_at (outcome (Stopped c) ++ rest) ≡ Some (Stopped c, rest)
+unfolding stop_at
+stop_again c rest h = seen_again stop_law (λ c. Stopped c) c rest h
+
+exit_again : (c : ℕ) (rest : List ℕ) → c ≤ 255 → (stop_at (outcome (Exited c) ++ rest) ≡ None) × (exit_at (outcome (Exited c) ++ rest) ≡ Some (Exited c, rest))
+unfolding stop_at exit_at
+exit_again c rest h = (refl, seen_again exit_law (λ c. Exited c) c rest h)
+
+status_again : (x : Status) (rest : List ℕ) → IsStatus x → status_at (outcome x ++ rest) ≡ Some (x, rest)
+unfolding status_at
+status_again Running rest h = refl
+status_again (Stopped c) rest h = rw (stop_again c rest h) refl
+status_again (Exited c) rest h = let e = exit_again c rest h in rw (e.0, e.1) refl
+
+pub status_reads : Reads outcome IsStatus status_at
+status_reads = record { takes = status_takes; again = status_again }

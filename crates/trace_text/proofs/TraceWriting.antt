@@ -23,7 +23,7 @@ width_is Bytes64 = inr refl
 pub width_of : (width : ℕ) (size : LineSize) → width ≡ length_of size → IsWidth width
 width_of width size e = subst IsWidth (sym e) (width_is size)
 
-one_line_more : (width n : ℕ) → IsWidth width → width ≤ n → n / width ≡ suc ((n - width) / width)
+pub one_line_more : (width n : ℕ) → IsWidth width → width ≤ n → n / width ≡ suc ((n - width) / width)
 one_line_more width n (inl e) le = let le16 : 16 ≤ n = omega arith in subst (λ w. n / w ≡ suc ((n - w) / w)) (sym e) (omega arith)
 one_line_more width n (inr e) le = let le64 : 64 ≤ n = omega arith in subst (λ w. n / w ≡ suc ((n - w) / w)) (sym e) (omega arith)
 

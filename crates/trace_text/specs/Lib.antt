@@ -9,3 +9,5 @@ pub mod Widths
 pub mod TraceReading
 pub mod TraceLines
 pub mod TraceHeads
+pub mod TraceLimits
+pub mod TraceSections

@@ -21,5 +21,5 @@ pub use fault::{TextCode, TextError};
 pub use script::{Events, Script};
 pub use script_reading::read_script;
 pub use script_writing::write_script;
-pub use trace_reading::read_trace;
+pub use trace_reading::{no_text_begins_another, read_trace};
 pub use trace_writing::write_trace;

@@ -1,6 +1,7 @@
 //! Writing a script.
-ghost use Rattle.std.specs.Prelude.{◌≡◌};
+ghost use Rattle.std.specs.Prelude.{◌≡◌, ◌∷◌, ◌++◌, []};
 ghost use Rattle.std.specs.List.{flat_map};
+ghost use Rattle.text_fields.specs.Fields.{number, word};
 ghost use Rattle.text_fields.specs.Writing.{Writes};
 ghost use Rattle.trace_text.specs.Scripts.{event as event_text, head as head_text, head_of, text};
 
@@ -9,6 +10,22 @@ use crate::spellings::letter;
 use machine_model::Event;
 use std::io::{Result, Write};
 use text_fields::{Piece, put_pieces};
+
+/// A hart and an address behind the line's first word.
+fn put_place<W: Write>(out: &mut W, first: &[u8], hart: u8, address: u32) -> Result<()>
+    ensures { Writes (W.contents out.old) (W.contents out.new) (first.now ++ (number 32 hart ++ (word address ++ 10 ∷ []))) result }
+{
+    put_pieces(
+        out,
+        &[
+            Piece::Text(first),
+            Piece::Number(hart as u64),
+            Piece::Text(b" "),
+            Piece::Word(address),
+            Piece::Text(b"\n"),
+        ],
+    )
+}
 
 fn put_event<W: Write>(out: &mut W, event: Event) -> Result<()>
     ensures { Writes (W.contents out.old) (W.contents out.new) (event_text event) result }
@@ -22,26 +39,8 @@ fn put_event<W: Write>(out: &mut W, event: Event) -> Result<()>
                 Piece::Text(b"\n"),
             ],
         ),
-        Event::Drain { hart, word } => put_pieces(
-            out,
-            &[
-                Piece::Text(b"drain "),
-                Piece::Number(hart as u64),
-                Piece::Text(b" "),
-                Piece::Word(word),
-                Piece::Text(b"\n"),
-            ],
-        ),
-        Event::Evict { hart, line } => put_pieces(
-            out,
-            &[
-                Piece::Text(b"evict "),
-                Piece::Number(hart as u64),
-                Piece::Text(b" "),
-                Piece::Word(line),
-                Piece::Text(b"\n"),
-            ],
-        ),
+        Event::Drain { hart, word } => put_place(out, b"drain ", hart, word),
+        Event::Evict { hart, line } => put_place(out, b"evict ", hart, line),
         Event::Deliver { channel, hart } => put_pieces(
             out,
             &[

@@ -88,10 +88,7 @@ fn probes(rt: HostRuntime) -> Result<(), Fail> {
             &rt,
             &mut cache,
             &[
-                (
-                    Call::Probe(X, cap),
-                    Answer::Probe(Probed::Answered { change, bytes }),
-                ),
+                (Call::Probe(X, cap), probed(change, bytes)),
                 (Call::Copy(X), Answer::Copy(left)),
             ],
         );
@@ -104,48 +101,16 @@ fn probes(rt: HostRuntime) -> Result<(), Fail> {
 fn grants(rt: HostRuntime) -> Result<(), Fail> {
     for (from, cap, bytes, left) in [
         (Start::Nothing, Cap::ToB, Some(TWO), Some(Held::Branch(TWO))),
-        (
-            Start::Nothing,
-            Cap::ToT,
-            Some(TWO),
-            Some(Held::Trunk {
-                dirty: false,
-                bytes: TWO,
-            }),
-        ),
+        (Start::Nothing, Cap::ToT, Some(TWO), trunk(false, TWO)),
         (Start::Nothing, Cap::ToT, None, None),
         (Start::Branch, Cap::ToB, Some(TWO), Some(Held::Branch(TWO))),
-        (
-            Start::Branch,
-            Cap::ToT,
-            Some(TWO),
-            Some(Held::Trunk {
-                dirty: false,
-                bytes: TWO,
-            }),
-        ),
+        (Start::Branch, Cap::ToT, Some(TWO), trunk(false, TWO)),
         (Start::Branch, Cap::ToT, None, CLEAN),
         (Start::Clean, Cap::ToB, Some(TWO), Some(Held::Branch(TWO))),
-        (
-            Start::Clean,
-            Cap::ToT,
-            Some(TWO),
-            Some(Held::Trunk {
-                dirty: false,
-                bytes: TWO,
-            }),
-        ),
+        (Start::Clean, Cap::ToT, Some(TWO), trunk(false, TWO)),
         (Start::Clean, Cap::ToT, None, CLEAN),
         (Start::Dirty, Cap::ToB, Some(TWO), Some(Held::Branch(TWO))),
-        (
-            Start::Dirty,
-            Cap::ToT,
-            Some(TWO),
-            Some(Held::Trunk {
-                dirty: false,
-                bytes: TWO,
-            }),
-        ),
+        (Start::Dirty, Cap::ToT, Some(TWO), trunk(false, TWO)),
         (Start::Dirty, Cap::ToT, None, CLEAN_ONE),
     ] {
         let mut cache = make_start(&rt, rt.alloc(), from)?;
@@ -205,13 +170,7 @@ fn release_acks(rt: HostRuntime) -> Result<(), Fail> {
         (Start::Nothing, None),
         (Start::Branch, BRANCH),
         (Start::Clean, CLEAN),
-        (
-            Start::Dirty,
-            Some(Held::Trunk {
-                dirty: true,
-                bytes: ONE,
-            }),
-        ),
+        (Start::Dirty, trunk(true, ONE)),
     ] {
         let mut cache = make_start(&rt, rt.alloc(), from)?;
         play(

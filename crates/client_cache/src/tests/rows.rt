@@ -65,13 +65,7 @@ fn row_12_and_row_48(rt: HostRuntime) -> Result<(), Fail> {
             (Call::Want(X, Grow::BtoT), UPGRADES),
             (Call::Grant(X, Cap::ToT, None), Answer::Done),
             (Call::Store(X, 1), Answer::Done),
-            (
-                Call::Probe(X, Cap::ToN),
-                Answer::Probe(Probed::Answered {
-                    change: Change::TtoN,
-                    bytes: Some(ONE),
-                }),
-            ),
+            (Call::Probe(X, Cap::ToN), probed(Change::TtoN, Some(ONE))),
             (Call::Copy(X), Answer::Copy(None)),
         ],
     );
@@ -83,23 +77,11 @@ fn row_12_and_row_48(rt: HostRuntime) -> Result<(), Fail> {
             (Call::Want(X, Grow::NtoB), MISSED_B),
             (Call::Grant(X, Cap::ToB, Some(ZERO)), Answer::Done),
             (Call::Want(X, Grow::BtoT), UPGRADES),
-            (
-                Call::Probe(X, Cap::ToN),
-                Answer::Probe(Probed::Answered {
-                    change: Change::BtoN,
-                    bytes: None,
-                }),
-            ),
+            (Call::Probe(X, Cap::ToN), probed(Change::BtoN, None)),
             (Call::Want(X, Grow::NtoT), Answer::Want(Want::WaitGrant)),
             (Call::Grant(X, Cap::ToT, Some(ONE)), Answer::Done),
             (Call::Store(X, 1), Answer::Done),
-            (
-                Call::Copy(X),
-                Answer::Copy(Some(Held::Trunk {
-                    dirty: true,
-                    bytes: ONE,
-                })),
-            ),
+            (Call::Copy(X), Answer::Copy(trunk(true, ONE))),
         ],
     );
     Ok(())

@@ -50,32 +50,14 @@ fn a_slot_waits_for_its_grant(rt: HostRuntime) -> Result<(), Fail> {
             (Call::Want(X, Grow::BtoT), UPGRADES),
             (Call::Want(Y, Grow::NtoB), MISSED_B),
             (Call::Grant(Y, Cap::ToB, Some(ZERO)), Answer::Done),
-            (
-                Call::Probe(X, Cap::ToN),
-                Answer::Probe(Probed::Answered {
-                    change: Change::BtoN,
-                    bytes: None,
-                }),
-            ),
+            (Call::Probe(X, Cap::ToN), probed(Change::BtoN, None)),
             (
                 Call::Want(0x8000_0300, Grow::NtoB),
                 Answer::Want(Want::SetFull),
             ),
             (Call::Grant(X, Cap::ToT, Some(ONE)), Answer::Done),
-            (
-                Call::Copy(X),
-                Answer::Copy(Some(Held::Trunk {
-                    dirty: false,
-                    bytes: ONE,
-                })),
-            ),
-            (
-                Call::Probe(X, Cap::ToN),
-                Answer::Probe(Probed::Answered {
-                    change: Change::TtoN,
-                    bytes: None,
-                }),
-            ),
+            (Call::Copy(X), Answer::Copy(trunk(false, ONE))),
+            (Call::Probe(X, Cap::ToN), probed(Change::TtoN, None)),
             (Call::Want(0x8000_0300, Grow::NtoB), MISSED_B),
         ],
     );
@@ -138,41 +120,17 @@ fn stores(rt: HostRuntime) -> Result<(), Fail> {
                 Call::StoreBytes(X, [false, true, false, false], [0xaa, 0x55, 0xaa, 0xaa]),
                 Answer::Done,
             ),
-            (
-                Call::Copy(X),
-                Answer::Copy(Some(Held::Trunk {
-                    dirty: true,
-                    bytes: byte,
-                })),
-            ),
+            (Call::Copy(X), Answer::Copy(trunk(true, byte))),
             (
                 Call::StoreBytes(X + 12, [true; 4], [6, 7, 8, 9]),
                 Answer::Done,
             ),
-            (
-                Call::Copy(X),
-                Answer::Copy(Some(Held::Trunk {
-                    dirty: true,
-                    bytes: last,
-                })),
-            ),
+            (Call::Copy(X), Answer::Copy(trunk(true, last))),
             (Call::Want(X, Grow::BtoT), UPGRADES),
             (Call::Grant(X, Cap::ToT, None), Answer::Done),
-            (
-                Call::Copy(X),
-                Answer::Copy(Some(Held::Trunk {
-                    dirty: false,
-                    bytes: last,
-                })),
-            ),
+            (Call::Copy(X), Answer::Copy(trunk(false, last))),
             (Call::Write(X, last), Answer::Done),
-            (
-                Call::Copy(X),
-                Answer::Copy(Some(Held::Trunk {
-                    dirty: true,
-                    bytes: last,
-                })),
-            ),
+            (Call::Copy(X), Answer::Copy(trunk(true, last))),
         ],
     );
     let held = Held::Trunk {
@@ -183,4 +141,30 @@ fn stores(rt: HostRuntime) -> Result<(), Fail> {
     assert_eq!(rt; held.dirty_bytes(), Some(last));
     assert_eq!(rt; Held::Branch(last).dirty_bytes(), None);
     Ok(())
+}
+
+/// Meant for runs in which one allocation fails: a cache that was made takes no more memory.
+#[test]
+fn memory_is_taken_at_making_alone(rt: HostRuntime) {
+    let mut cache = match ClientCache::new(rt.alloc(), 4, 2, LineSize::Bytes16) {
+        Ok(cache) => cache,
+        Err(_) => ClientCache::new(rt.alloc(), 4, 2, LineSize::Bytes16).expect(
+            &rt,
+            "a cache asked for again",
+        ),
+    };
+    play(
+        &rt,
+        &mut cache,
+        &[
+            (Call::Want(X, Grow::NtoT), MISSED_T),
+            (Call::Grant(X, Cap::ToT, Some(ZERO)), Answer::Done),
+            (Call::Store(X, 1), Answer::Done),
+            (Call::Copy(X), Answer::Copy(trunk(true, ONE))),
+            (Call::Write(X, TWO), Answer::Done),
+            (Call::Probe(X, Cap::ToB), probed(Change::TtoB, Some(TWO))),
+            (Call::Evict(X), EVICTED_BRANCH),
+            (Call::ReleaseAck(X), Answer::Done),
+        ],
+    );
 }

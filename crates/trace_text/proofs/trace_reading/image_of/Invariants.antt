@@ -1,8 +1,9 @@
-use Rattle.std.proofs.Common.{◌≡◌, ◌+◌, ◌-◌, ◌%◌, ◌≤◌, length}
+use Rattle.std.proofs.Common.{◌-◌}
+use Rattle.trace_text.proofs.ImageLoops.{Memory}
 use Rattle.trace_text.proofs.trace_reading.image_of.Given as goal
 
 abbrev pub invariant-loop-start : goal.invariant-loop-start
-invariant-loop-start l = (l.start ≤ l.size) × (l.start % l.width ≡ 0) × (length l.image.items ≡ l.size)
+invariant-loop-start l = Memory l.width l.size l.start l.image.items l.rest l.bytes
 
 abbrev pub decreases-loop-start : goal.decreases-loop-start
 decreases-loop-start l = l.size - l.start

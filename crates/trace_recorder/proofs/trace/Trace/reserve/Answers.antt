@@ -1,4 +1,4 @@
-use Rattle.std.proofs.Common.{refl, length, ◌≡◌, ◌<◌, arith}
+use Rattle.std.proofs.Common.{refl, length, ◌<◌, arith}
 use Rattle.std.proofs.lemmas.Grind.{common_steps}
 use Rattle.std.proofs.lemmas.List.{length-map}
 use Rattle.trace_recorder.proofs.Lists.{items-reserved, room-reserved}

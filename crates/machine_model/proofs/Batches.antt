@@ -1,0 +1,220 @@
+-- A Local event that retires is as many single steps.
+use Rattle.std.proofs.Common.{◌≡◌, ℕ, zero, suc, ◌+◌, ◌<◌, ◌≤◌, List, [], ◌∷◌, ◌++◌, Bool, true, false, Option, Some, None, refl, cond, sym, ap, ◌∙◌, subst, not, ◌&&◌, ◌||◌, length, slice_index_or, slice_set, arith}
+use Rattle.std.specs.Prelude.{nat_eq, nat_lt, nat_le, is_none}
+use Rattle.std.proofs.lemmas.Bool.{false≢true, and_parts, and_from, eqb-true, ltb-true, ltb-false, lt-ltb, leb-true}
+use Rattle.std.proofs.lemmas.List.{set-set, set-get_or, get_or-set_same, length-set, length-append}
+use Rattle.elf_loader.specs.Image.{Initial, word_at}
+use Rattle.hart.specs.declared.retired.Retired.{Retired}
+use Rattle.hart.specs.declared.state.Hart.{Hart}
+use Rattle.hart.specs.declared.status.Status.{Status}
+use Rattle.hart.specs.declared.status.Status.TheVariants.{Running, Stopped, Exited}
+use Rattle.hart.specs.Local.{can_go_alone, is_done_alone, is_private, next_entry, private_row}
+use Rattle.hart.specs.Run.{after, after_instr, can_fetch, is_running, next_stop, reached, stop_with}
+use Rattle.hart.proofs.Alone.{Alone, alone, after-running, private_is}
+use Rattle.hart.proofs.Rows.{stop_of-private}
+use Rattle.machine_model.specs.declared.act.Act.TheVariants as act
+use Rattle.machine_model.specs.declared.act.Deed.TheVariants as deed
+use Rattle.machine_model.specs.declared.act.Plan.{Plan}
+use Rattle.machine_model.specs.declared.act.Plan.TheVariants.{Stays, Changes}
+use Rattle.machine_model.specs.declared.event.Event.TheVariants as event
+use Rattle.machine_model.specs.declared.outcome.Outcome.{Outcome}
+use Rattle.machine_model.specs.declared.outcome.Outcome.TheVariants as outcome
+use Rattle.machine_model.specs.Changing.{acted, with_entries, outcome_by, outcome_of, place_at, retired, went_alone, with_halt}
+use Rattle.machine_model.specs.Events.{Verdict, counted, is_good, is_limited, most_changes, most_entries, plan_local, plan_of, verdict, verdict_by}
+use Rattle.machine_model.specs.Laws.{IsSteps, LocalIsSteps, StepsRetire, with_changes}
+use Rattle.machine_model.specs.Steps.{Fetched, plan_access, plan_instr, plan_step, plan_unless}
+use Rattle.machine_model.specs.Views.{Node, State, no_node, node_at, with_node, with_trace}
+use Rattle.machine_model.proofs.Nodes.{node_same}
+use Rattle.memory_model.specs.declared.Model.{Model}
+use Rattle.rv32_decode.specs.Rows.{decoded}
+use Rattle.rv32_decode.specs.declared.instruction.Instr.{Instr}
+use Rattle.rv32_exec.specs.Meaning.{Access, Private, access_of, stop_of}
+use Rattle.trace_recorder.specs.History.{entries_of, with_entry}
+
+-- ---- one step of a private instruction
+
+-- the instruction that the hart goes on with
+found : (hart : Hart) (o : Option Instr) → is_done_alone hart o ≡ true → (i : Instr) × (o ≡ Some i) × (access_of i hart.regs ≡ Private) × (is_none (stop_of i hart.pc hart.regs 0) ≡ true)
+found hart None e = absurd (false≢true e)
+found hart (Some i) e = let p = and_parts (is_private (access_of i hart.regs)) (is_none (stop_of i hart.pc hart.regs 0)) e in (i, refl, private_is (access_of i hart.regs) p.0, p.1)
+
+none_of : (o : Option ℕ) → is_none o ≡ true → o ≡ None
+none_of None e = refl
+none_of (Some x) e = absurd (false≢true e)
+
+no_stop : (image : Initial) (hart : Hart) (i : Instr) → can_fetch image hart.pc ≡ true → decoded (word_at image hart.pc) ≡ Some i → access_of i hart.regs ≡ Private → is_none (stop_of i hart.pc hart.regs 0) ≡ true → next_stop image hart ≡ None
+no_stop image hart i c d p s =
+    ap (λ (b : Bool). cond b (stop_with (length image.bytes) hart (decoded (word_at image hart.pc))) (Some 1)) c
+    ∙ (ap (stop_with (length image.bytes) hart) d ∙ (stop_of-private i hart.pc hart.regs (length image.bytes) 0 p ∙ none_of (stop_of i hart.pc hart.regs 0) s))
+
+step_alone : (model : Model) (image : Initial) (n : Node) (place : ℕ) (i : Instr) → is_running n.hart.status ≡ true → next_stop image n.hart ≡ None → decoded (word_at image n.hart.pc) ≡ Some i → access_of i n.hart.regs ≡ Private → plan_step model image n place ≡ Changes (act.Retire (next_entry image n.hart) i deed.Alone)
+step_alone model image n place i r s d p =
+    ap (λ (b : Bool). cond (not b) (Stays outcome.Halted) (plan_unless (next_stop image n.hart) (plan_instr model n (word_at image n.hart.pc) place (decoded (word_at image n.hart.pc))))) r
+    ∙ (ap (λ (o : Option ℕ). plan_unless o (plan_instr model n (word_at image n.hart.pc) place (decoded (word_at image n.hart.pc)))) s
+    ∙ (ap (plan_instr model n (word_at image n.hart.pc) place) d
+    ∙ ap (plan_access model n (record { word = word_at image n.hart.pc; instr = i; place = place })) p))
+
+-- the state behind such a step
+abbrev stepped : ℕ → Instr → State → State
+stepped h i s = counted (retired h (next_entry s.trace.image (node_at s h).hart) i s)
+
+running_is : (status : Status) → is_running status ≡ true → status ≡ Running
+running_is Running e = refl
+running_is (Stopped code) e = absurd (false≢true e)
+running_is (Exited code) e = absurd (false≢true e)
+
+not_limited : (changes place : ℕ) → changes < most_changes → place + 1 ≤ most_entries → (nat_le most_changes changes || nat_lt most_entries (place + 1)) ≡ false
+not_limited changes place c p = go (nat_le most_changes changes) refl (nat_lt most_entries (place + 1)) refl
+  where
+    go : (a : Bool) → nat_le most_changes changes ≡ a → (b : Bool) → nat_lt most_entries (place + 1) ≡ b → (a || b) ≡ false
+    go true e b f = let x = leb-true most_changes changes e in absurd (omega arith)
+    go false e true f = let x = ltb-true most_entries (place + 1) f in absurd (omega arith)
+    go false e false f = refl
+
+-- the verdict on the step
+step_verdict : (s : State) (h : ℕ) (i : Instr) → h < length s.views.nodes → can_go_alone s.trace.image (node_at s h).hart ≡ true → decoded (word_at s.trace.image (node_at s h).hart.pc) ≡ Some i → access_of i (node_at s h).hart.regs ≡ Private → is_none (stop_of i (node_at s h).hart.pc (node_at s h).hart.regs 0) ≡ true
+    → s.views.changes < most_changes → place_at s h + 1 ≤ most_entries → verdict s (event.Step h) ≡ Verdict.Moves outcome.Retired (stepped h i s)
+step_verdict s h i l g d p n c m =
+    let hart = (node_at s h).hart in
+    let image = s.trace.image in
+    let a = alone image hart g in
+    let entry = next_entry image hart in
+    let plan : plan_of s (event.Step h) ≡ Changes (act.Retire entry i deed.Alone) = step_alone s.views.config.model image (node_at s h) (place_at s h) i a.running (no_stop image hart i a.fetched d p n) d p in
+    let good : is_good s (event.Step h) ≡ true = and_from _ _ (lt-ltb h (length s.views.nodes) l) refl in
+    let on : (after_instr hart entry (Some i)).status ≡ Running = ap (λ (o : Option Instr). (after_instr hart entry o).status) (sym d) ∙ running_is (after hart entry).status (after-running image hart g) in
+    ap (λ (b : Bool). cond b (verdict_by s h (plan_of s (event.Step h))) Verdict.IsBad) good
+    ∙ (ap (verdict_by s h) plan
+    ∙ (ap (λ (b : Bool). cond b Verdict.IsLimited (Verdict.Moves (outcome_by (after_instr hart entry (Some i)).status) (stepped h i s))) (not_limited s.views.changes (place_at s h) c m)
+    ∙ ap (λ (x : Status). Verdict.Moves (outcome_by x) (stepped h i s)) on))
+
+-- ---- many steps
+
+row_head : (b : Bool) (entry : Retired) (rest : List Retired) (n : ℕ) → length (cond b (entry ∷ rest) []) ≡ suc n → (b ≡ true) × (length rest ≡ n)
+row_head true entry rest n e = (refl, omega arith)
+row_head false entry rest n e = absurd cc
+
+-- a hart's list becomes one longer at most
+place_grows : {X : Type 0} (l : List (List X)) (h : ℕ) (x : X) → length (slice_index_or (slice_set l h (slice_index_or l h [] ++ x ∷ [])) h []) ≤ length (slice_index_or l h []) + 1
+place_grows [] h x = omega arith
+place_grows (xs ∷ l) zero x = rw (length-append xs (x ∷ [])) (omega arith)
+place_grows (xs ∷ l) (suc h) x = place_grows l h x
+
+-- the hart has gone on to here, with these entries
+abbrev moved : ℕ → List Retired → Hart → State → State
+moved h row hart s = with_trace (with_entries h row s.trace) (with_node h (record (node_at s h) { hart = hart }) s)
+
+abbrev first : ℕ → State → State
+first h s = moved h (next_entry s.trace.image (node_at s h).hart ∷ []) (after (node_at s h).hart (next_entry s.trace.image (node_at s h).hart)) s
+
+stepped_is : (s : State) (h : ℕ) (i : Instr) → decoded (word_at s.trace.image (node_at s h).hart.pc) ≡ Some i → can_go_alone s.trace.image (node_at s h).hart ≡ true → stepped h i s ≡ counted (first h s)
+stepped_is s h i d g =
+    let hart = (node_at s h).hart in
+    let entry = next_entry s.trace.image hart in
+    let is : after_instr hart entry (Some i) ≡ after hart entry = ap (after_instr hart entry) (sym d) in
+    let on : (after hart entry).status ≡ Running = running_is (after hart entry).status (after-running s.trace.image hart g) in
+    ap (λ (x : Hart). counted (with_trace (with_halt h x.status (with_entry h entry s.trace)) (with_node h (record (node_at s h) { hart = x }) s))) is
+    ∙ ap (λ (x : Status). counted (with_trace (with_halt h x (with_entry h entry s.trace)) (with_node h (record (node_at s h) { hart = after hart entry }) s))) on
+
+-- going on twice is going on once
+moved_twice : (s : State) (h : ℕ) (entry : Retired) (row : List Retired) (one two : Hart) → h < length s.views.nodes → moved h row two (counted (moved h (entry ∷ []) one s)) ≡ with_changes (s.views.changes + 1) (moved h (entry ∷ row) two s)
+moved_twice s h entry row one two l =
+    ap (λ (n : Node). nodes (slice_set (slice_set s.views.nodes h (record (node_at s h) { hart = one })) h (record n { hart = two }))) (node_same h (record (node_at s h) { hart = one }) s l)
+    ∙ ap nodes (set-set s.views.nodes h (record (node_at s h) { hart = one }) (record (node_at s h) { hart = two }))
+  where
+    nodes : List Node → State
+    nodes ns = record { views = record s.views { nodes = ns; changes = s.views.changes + 1 }; trace = with_entries h (entry ∷ row) s.trace }
+
+went_alone_more : (s : State) (h n : ℕ) → h < length s.views.nodes → can_go_alone s.trace.image (node_at s h).hart ≡ true → went_alone h n (counted (first h s)) ≡ with_changes (s.views.changes + 1) (went_alone h (suc n) s)
+went_alone_more s h n l g =
+    let image = s.trace.image in
+    let hart = (node_at s h).hart in
+    let entry = next_entry image hart in
+    let next = after hart entry in
+    let row = private_row image next n in
+    let at : (node_at (counted (first h s)) h).hart ≡ next = ap (λ (x : Node). x.hart) (node_same h (record (node_at s h) { hart = next }) s l) in
+    ap (λ (x : Hart). moved h (private_row image x n) (reached x (private_row image x n)) (counted (first h s))) at
+    ∙ (moved_twice s h entry row next (reached next row) l
+    ∙ ap (λ (b : Bool). with_changes (s.views.changes + 1) (moved h (cond b (entry ∷ row) []) (reached hart (cond b (entry ∷ row) [])) s)) (sym g))
+
+pub record Went (h n : ℕ) (s : State) : Type 0 where
+  pub last : State
+  pub steps : StepsRetire h n s last
+  pub is : last ≡ with_changes (s.views.changes + n) (went_alone h n s)
+
+stays_put : (s : State) (h : ℕ) → s ≡ with_changes (s.views.changes + 0) (went_alone h 0 s)
+stays_put s h =
+    ap (λ (n : ℕ). with_changes n s) (omega arith)
+    ∙ ap (λ (ns : List Node). record { views = record s.views { nodes = ns; changes = s.views.changes + 0 }; trace = s.trace }) (sym (set-get_or s.views.nodes h (no_node s)))
+
+went : (n : ℕ) (s : State) (h : ℕ) → h < length s.views.nodes → length (private_row s.trace.image (node_at s h).hart n) ≡ n → s.views.changes + n ≤ most_changes → place_at s h + n ≤ most_entries → Went h n s
+went zero s h l e c p = record { last = s; steps = refl; is = stays_put s h }
+went (suc n) s h l e c p =
+    let image = s.trace.image in
+    let hart = (node_at s h).hart in
+    let entry = next_entry image hart in
+    let head = row_head (can_go_alone image hart) entry (private_row image (after hart entry) n) n e in
+    let a = alone image hart head.0 in
+    let f = found hart (decoded (word_at image hart.pc)) a.done in
+    let next = stepped h f.0 s in
+    let is = stepped_is s h f.0 f.1 head.0 in
+    let at : (node_at next h).hart ≡ after hart entry = ap (λ (x : State). (node_at x h).hart) is ∙ ap (λ (x : Node). x.hart) (node_same h (record (node_at s h) { hart = after hart entry }) s l) in
+    let images : next.trace.image ≡ image = ap (λ (x : State). x.trace.image) is in
+    let places : place_at next h ≤ place_at s h + 1 = subst (λ (x : State). place_at x h ≤ place_at s h + 1) (sym is) (place_grows s.trace.entries h entry) in
+    let counts : next.views.changes ≡ s.views.changes + 1 = refl in
+    let room : length next.views.nodes ≡ length s.views.nodes = ap (λ (x : State). length x.views.nodes) is ∙ length-set s.views.nodes h _ in
+    let rest = went n next h (rw room l) (ap (λ (i : Initial). length (private_row i (node_at next h).hart n)) images ∙ (ap (λ (x : Hart). length (private_row image x n)) at ∙ head.1)) (omega arith) (omega arith) in
+    record {
+      last = rest.last;
+      steps = (next, step_verdict s h f.0 l head.0 f.1 f.2 f.3 (omega arith) (omega arith), rest.steps);
+      is = rest.is ∙ (ap (λ (x : State). with_changes (next.views.changes + n) (went_alone h n x)) is ∙ (ap (with_changes (next.views.changes + n)) (went_alone_more s h n l head.0) ∙ ap (λ (m : ℕ). with_changes m (went_alone h (suc n) s)) (omega arith)));
+    }
+
+-- ---- the law
+
+-- what a Local event that retires needed
+pub record Retires (s : State) (h count : ℕ) (o : Outcome) (new : State) : Type 0 where
+  pub there : h < length s.views.nodes
+  pub few : count ≤ 256
+  pub whole : length (private_row s.trace.image (node_at s h).hart count) ≡ count
+  pub place : place_at s h + count ≤ most_entries
+  pub retires : o ≡ outcome.Retired
+  pub new_is : new ≡ counted (went_alone h count s)
+
+moves_are : (o p : Outcome) (s t : State) → Verdict.Moves o s ≡ Verdict.Moves p t → (p ≡ o) × (t ≡ s)
+moves_are o p s t e = (cc, cc)
+
+abbrev limited : State → ℕ → ℕ → Bool → Bool → Verdict
+limited s h count a b = cond (a || b) Verdict.IsLimited (Verdict.Moves outcome.Retired (counted (went_alone h count s)))
+
+by_limit : (s : State) (h count : ℕ) (o : Outcome) (new : State) (a b : Bool) → nat_lt most_entries (place_at s h + count) ≡ b → h < length s.views.nodes → count ≤ 256 → length (private_row s.trace.image (node_at s h).hart count) ≡ count → limited s h count a b ≡ Verdict.Moves o new → Retires s h count o new
+by_limit s h count o new true b e l f w v = absurd cc
+by_limit s h count o new false true e l f w v = absurd cc
+by_limit s h count o new false false e l f w v =
+    let m = moves_are outcome.Retired o (counted (went_alone h count s)) new v in
+    record { there = l; few = f; whole = w; place = ltb-false most_entries (place_at s h + count) e; retires = m.0; new_is = m.1 }
+
+by_row : (s : State) (h count : ℕ) (o : Outcome) (new : State) (b : Bool) → nat_eq (length (private_row s.trace.image (node_at s h).hart count)) count ≡ b → h < length s.views.nodes → count ≤ 256 → verdict_by s h (cond b (Changes (act.Local count)) (Stays outcome.NotLocal)) ≡ Verdict.Moves o new → Retires s h count o new
+by_row s h count o new true e l f v = by_limit s h count o new (nat_le most_changes s.views.changes) (nat_lt most_entries (place_at s h + count)) refl l f (eqb-true _ _ e) v
+by_row s h count o new false e l f v = absurd cc
+
+by_running : (s : State) (h count : ℕ) (o : Outcome) (new : State) (b : Bool) → h < length s.views.nodes → count ≤ 256 → verdict_by s h (cond (not b) (Stays outcome.Halted) (cond (nat_eq (length (private_row s.trace.image (node_at s h).hart count)) count) (Changes (act.Local count)) (Stays outcome.NotLocal))) ≡ Verdict.Moves o new → Retires s h count o new
+by_running s h count o new true l f v = by_row s h count o new (nat_eq (length (private_row s.trace.image (node_at s h).hart count)) count) refl l f v
+by_running s h count o new false l f v = absurd cc
+
+by_good : (s : State) (h count : ℕ) (o : Outcome) (new : State) (b : Bool) → is_good s (event.Local h count) ≡ b → cond b (verdict_by s h (plan_of s (event.Local h count))) Verdict.IsBad ≡ Verdict.Moves o new → Retires s h count o new
+by_good s h count o new true g v =
+    let p = and_parts (nat_lt h (length s.views.nodes)) (nat_le 1 count && nat_le count 256) g in
+    by_running s h count o new (is_running (node_at s h).hart.status) (ltb-true h (length s.views.nodes) p.0) (leb-true count 256 (and_parts (nat_le 1 count) (nat_le count 256) p.1).1) v
+by_good s h count o new false g v = absurd cc
+
+pub local_is_steps : LocalIsSteps
+local_is_steps s h count o new v =
+    let r = by_good s h count o new (is_good s (event.Local h count)) refl v in
+    let few : 0 + count ≤ most_changes = let x = r.few in omega arith in
+    let w = went count (with_changes 0 s) h r.there r.whole few r.place in
+    record {
+      retires = r.retires;
+      last = w.last;
+      steps = w.steps;
+      counts_once = r.new_is ∙ sym (ap (with_changes (s.views.changes + 1)) w.is);
+    }

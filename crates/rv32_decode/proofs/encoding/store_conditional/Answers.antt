@@ -1,0 +1,11 @@
+use Rattle.std.proofs.Common.{◌≡◌, ap, ◌∙◌, arith}
+use Rattle.rv32_decode.specs.Encoding.{encoded}
+use Rattle.rv32_decode.specs.Rows.{decoded}
+use Rattle.rv32_decode.specs.declared.instruction.Instr.TheVariants as instr
+use Rattle.rv32_decode.proofs.ReadBackAtomics.{sc_read_back}
+use Rattle.rv32_decode.proofs.encoding.store_conditional.Goals as goal
+
+pub returns-clause-read_back : goal.returns-clause-read_back
+returns-clause-read_back c =
+    let word : c.assembled.result ≡ encoded (instr.Sc c.args.rd c.args.rs1 c.args.rs2 c.args.bits) = omega arith in
+    ap decoded word ∙ sc_read_back c.args.rd c.args.rs1 c.args.rs2 c.args.bits (omega arith) (omega arith) (omega arith)

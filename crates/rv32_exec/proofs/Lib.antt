@@ -1,0 +1,3 @@
+pub mod ReadRegisters
+pub mod StopLaws
+pub mod WrittenRegisters

@@ -1,0 +1,31 @@
+use Rattle.std.proofs.Common.{◌≡◌, ◌<◌, length, eqb, true, false, sym, arith}
+use Rattle.std.proofs.lemmas.Bool.{eqb-true, eqb-false}
+use Rattle.text_fields.proofs.Loops.{after_shortens}
+use Rattle.trace_text.specs.Traces.{retired_lead}
+use Rattle.trace_text.proofs.TraceLoops.{retired_shortens, entries_start, entries_more, entries_fail, entries_end, entries_full}
+use Rattle.trace_text.proofs.trace_reading.retired_of.Goals as goal
+
+pub loop-fields-init : goal.loop-fields-init
+loop-fields-init c = rw c.new-entries.ensures.items (entries_start c.args.hart c.args.bytes.now)
+
+pub loop-fields-smaller : goal.loop-fields-smaller
+loop-fields-smaller c =
+    omega (arith, after_shortens (retired_lead c.args.hart) c.loop-fields.rest.now c.in-Some.fields.now (sym (rw c.hart_lead-lead.ensures at c.in-Some.ensures)),
+    retired_shortens c.in-Some.fields.now c.in-Some-retired_at.entry c.in-Some-retired_at.later.now (sym c.in-Some-retired_at.ensures))
+
+pub loop-fields-preserved : goal.loop-fields-preserved
+loop-fields-preserved c =
+    let room : length c.loop-fields.entries.items < 1000000 = omega (arith, c.loop-fields.invariant.few, c.if-len.false) in
+    rw c.in-Ok.ensures.items
+        (entries_more c.args.hart c.loop-fields.entries.items c.loop-fields.rest.now c.in-Some.fields.now c.in-Some-retired_at.later.now c.args.bytes.now c.in-Some-retired_at.entry room (rw c.hart_lead-lead.ensures at c.in-Some.ensures) c.in-Some-retired_at.ensures c.loop-fields.invariant)
+
+pub returns-in_default-retired_at : goal.returns-in_default-retired_at
+returns-in_default-retired_at c = entries_fail c.args.hart c.loop-fields.entries.items c.loop-fields.rest.now c.in-Some.fields.now c.args.bytes.now (rw c.hart_lead-lead.ensures at c.in-Some.ensures) c.in_default-retired_at.ensures c.loop-fields.invariant
+
+pub returns-then-len : goal.returns-then-len
+returns-then-len c =
+    let full : length c.loop-fields.entries.items ≡ 1000000 = omega (arith, c.if-len.true) in
+    entries_full c.args.hart c.loop-fields.entries.items c.loop-fields.rest.now c.in-Some.fields.now c.in-Some-retired_at.later.now c.args.bytes.now c.in-Some-retired_at.entry full (rw c.hart_lead-lead.ensures at c.in-Some.ensures) c.in-Some-retired_at.ensures c.loop-fields.invariant
+
+pub returns : goal.returns
+returns c = entries_end c.args.hart c.loop-fields.entries.items c.loop-fields.rest.now c.args.bytes.now (rw c.hart_lead-lead.ensures at c.in_default.ensures) c.loop-fields.invariant
