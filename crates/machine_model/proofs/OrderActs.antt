@@ -30,7 +30,7 @@ use Rattle.machine_model.proofs.OrderSteps.{HartKept, Performs, IsNew, buffer_by
 use Rattle.machine_model.proofs.OrderTraces.{items_at, done, Extends, IsLonger, new_item, items_here, items_there, extends_longer, extends_same, items_same, length-items_from, id-reached, count_same}
 use Rattle.memory_model.specs.declared.Model.{Model}
 use Rattle.memory_model.specs.declared.operation.Operation.{Operation}
-use Rattle.memory_model.specs.Items.{Item, bits_of, gives, operation_of}
+use Rattle.memory_model.specs.Items.{Item, annotations_of, operation_of_entry, operation_of_access}
 use Rattle.rv32_decode.specs.Rows.{decoded}
 use Rattle.rv32_decode.specs.declared.instruction.Instr.{Instr}
 use Rattle.rv32_exec.specs.Meaning.{Access, Private, Loads, Stores, Reserves, Tries, Updates, Fences, Calls, access_of, effect_of, stop_of}
@@ -76,9 +76,9 @@ none_is (Some x) e = absurd (false≢true e)
 -- ---- an instruction retires
 
 -- what a retiring instruction gives, at a place of the list of the hart h with these registers
-gives_there : (h place : ℕ) (r : Hart) (entry : Retired) (i : Instr) (regs : List ℕ) → r.id ≡ h → r.regs ≡ regs → decoded entry.word ≡ Some i → gives place r entry (decoded entry.word) ≡ operation_of h place (bits_of i) entry (access_of i regs)
+gives_there : (h place : ℕ) (r : Hart) (entry : Retired) (i : Instr) (regs : List ℕ) → r.id ≡ h → r.regs ≡ regs → decoded entry.word ≡ Some i → operation_of_entry place r entry (decoded entry.word) ≡ operation_of_access h place (annotations_of i) entry (access_of i regs)
 gives_there h place r entry i regs e f d =
-    ap (gives place r entry) d ∙ (ap (λ k. operation_of k place (bits_of i) entry (access_of i r.regs)) e ∙ ap (λ x. operation_of h place (bits_of i) entry (access_of i x)) f)
+    ap (operation_of_entry place r entry) d ∙ (ap (λ k. operation_of_access k place (annotations_of i) entry (access_of i r.regs)) e ∙ ap (λ x. operation_of_access h place (annotations_of i) entry (access_of i x)) f)
 
 -- the trace after it
 retired_longer : (h : ℕ) (entry : Retired) (status : Status) (old new : History) → new.image ≡ old.image → new.entries ≡ old.entries → IsLonger h entry old (with_halt h status (with_entry h entry new))
@@ -95,12 +95,12 @@ retired_known h entry i s step dec f fi =
     (subst (λ q. run.does (length s.trace.image.bytes) (node_at s h).hart entry q ≡ true) dec (step_does s.trace.image (node_at s h).hart entry step))).0))
 
 -- what it gives
-pub retired_gave : (h : ℕ) (entry : Retired) (i : Instr) (s : State) → h < s.views.config.harts → AllStand s → decoded entry.word ≡ Some i → (f : Fetched) → f.instr ≡ i → (new_item h entry s.trace).gave ≡ operation_of h (length (items_at s.trace h)) (bits_of f.instr) entry (access_of i (node_at s h).hart.regs)
+pub retired_gave : (h : ℕ) (entry : Retired) (i : Instr) (s : State) → h < s.views.config.harts → AllStand s → decoded entry.word ≡ Some i → (f : Fetched) → f.instr ≡ i → (new_item h entry s.trace).operation ≡ operation_of_access h (length (items_at s.trace h)) (annotations_of f.instr) entry (access_of i (node_at s h).hart.regs)
 retired_gave h entry i s l a dec f fi =
     gives_there h (length (entries_of s.trace h)) (reached (at_reset s.trace.image h (length s.trace.entries)) (entries_of s.trace h)) entry i (node_at s h).hart.regs
     (id-reached (at_reset s.trace.image h (length s.trace.entries)) (entries_of s.trace h)) (here_regs s h l a) dec
-    ∙ (ap (λ p. operation_of h p (bits_of i) entry (access_of i (node_at s h).hart.regs)) (sym (length-items_from 0 (at_reset s.trace.image h (length s.trace.entries)) (entries_of s.trace h)))
-    ∙ ap (λ j. operation_of h (length (items_at s.trace h)) (bits_of j) entry (access_of i (node_at s h).hart.regs)) (sym fi))
+    ∙ (ap (λ p. operation_of_access h p (annotations_of i) entry (access_of i (node_at s h).hart.regs)) (sym (length-items_from 0 (at_reset s.trace.image h (length s.trace.entries)) (entries_of s.trace h)))
+    ∙ ap (λ j. operation_of_access h (length (items_at s.trace h)) (annotations_of j) entry (access_of i (node_at s h).hart.regs)) (sym fi))
 
 -- the trace behind it
 pub retired_trace : (h : ℕ) (entry : Retired) (i : Instr) (d : Deed) (s : State) → h < s.views.config.harts → AllStand s → IsLonger h entry s.trace (retired h entry i (does s.views.config.model h d s)).trace
@@ -199,12 +199,12 @@ after_same i r hart entry e f = (
   ap (λ x. (effect_of i r.pc x (run.number_read entry)).next) e ∙ ap (λ p. (effect_of i p hart.regs (run.number_read entry)).next) f,
 )
 
-alone_gave : (h : ℕ) (hart : Hart) (t : History) (i : Instr) → LeadsTo h hart t → decoded (word_at t.image hart.pc) ≡ Some i → is_done_alone hart (Some i) ≡ true → (new_item h (next_entry t.image hart) t).gave ≡ None
+alone_gave : (h : ℕ) (hart : Hart) (t : History) (i : Instr) → LeadsTo h hart t → decoded (word_at t.image hart.pc) ≡ Some i → is_done_alone hart (Some i) ≡ true → (new_item h (next_entry t.image hart) t).operation ≡ None
 alone_gave h hart t i leads dec alone =
     let p = and_parts (is_private (access_of i hart.regs)) (is_none (stop_of i hart.pc hart.regs 0)) alone in
     let q = private_plain i hart.pc hart.regs (access_of i hart.regs) refl p.0 (none_is _ p.1) in
     let start = at_reset t.image h (length t.entries) in
-    gives_there h (length (entries_of t h)) (reached start (entries_of t h)) (next_entry t.image hart) i hart.regs (id-reached start (entries_of t h)) leads.regs dec ∙ ap (operation_of h (length (entries_of t h)) (bits_of i) (next_entry t.image hart)) q.1
+    gives_there h (length (entries_of t h)) (reached start (entries_of t h)) (next_entry t.image hart) i hart.regs (id-reached start (entries_of t h)) leads.regs dec ∙ ap (operation_of_access h (length (entries_of t h)) (annotations_of i) (next_entry t.image hart)) q.1
 
 one_alone : (model : Model) (h : ℕ) (hart : Hart) (t : History) (buffer : Groups) (performed : List Operation) (i : Instr) → LeadsTo h hart t → decoded (word_at t.image hart.pc) ≡ Some i → is_done_alone hart (Some i) ≡ true → HartKept model h (items_at t h) buffer performed → HartKept model h (items_at t h ++ new_item h (next_entry t.image hart) t ∷ []) buffer performed
 one_alone model h hart t buffer performed i leads dec alone k =
@@ -247,7 +247,7 @@ row_next model h count image buffer performed ih hart t e l leads k = go (can_go
           image = g.image;
           performed_is = g.performed_is;
           extends = λ j p a f. g.extends j p a (extends_longer h (next_entry image hart) t (with_entry h (next_entry image hart) t) longer l j p a f);
-          operations = g.operations ∙ (ap ops_of (items_here h (next_entry image hart) t (with_entry h (next_entry image hart) t) longer l) ∙ ops_same (items_at t h) (new_item h (next_entry image hart) t) (subst (λ (im : Initial). (new_item h (next_entry im hart) t).gave ≡ None) e (alone_gave h hart t i leads (subst (λ (im : Initial). decoded (word_at im hart.pc) ≡ Some i) (sym e) dec) alone)));
+          operations = g.operations ∙ (ap ops_of (items_here h (next_entry image hart) t (with_entry h (next_entry image hart) t) longer l) ∙ ops_same (items_at t h) (new_item h (next_entry image hart) t) (subst (λ (im : Initial). (new_item h (next_entry im hart) t).operation ≡ None) e (alone_gave h hart t i leads (subst (λ (im : Initial). decoded (word_at im hart.pc) ≡ Some i) (sym e) dec) alone)));
           there = λ j d. g.there j d ∙ items_there h (next_entry image hart) t (with_entry h (next_entry image hart) t) longer j d;
           here = g.here;
         }

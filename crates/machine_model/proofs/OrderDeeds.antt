@@ -25,7 +25,7 @@ use Rattle.machine_model.specs.Words.{word_of, word_in, read_from, store_of}
 use Rattle.memory_model.specs.declared.Model.{Model}
 use Rattle.memory_model.specs.declared.operation.Kind.{Kind}
 use Rattle.memory_model.specs.declared.operation.Kind.TheVariants as kind
-use Rattle.memory_model.specs.Items.{bits_of}
+use Rattle.memory_model.specs.Items.{annotations_of}
 use Rattle.memory_model.specs.Rules.{fences}
 use Rattle.reservations.specs.Reservation.{is_valid}
 use Rattle.rv32_decode.specs.Amo.{combined}
@@ -171,8 +171,8 @@ abbrev pub NoFence : Instr → Type 0
 NoFence i = (j : Kind) → fences (Some i) kind.Store j ≡ false
 
 pub record IsPlain (i : Instr) : Type 0 where
-  pub no_acquire : (bits_of i).acquire ≡ false
-  pub no_release : (bits_of i).release ≡ false
+  pub no_acquire : (annotations_of i).acquire ≡ false
+  pub no_release : (annotations_of i).release ≡ false
   pub no_fence : NoFence i
 
 -- of a word: aligned

@@ -12,10 +12,9 @@ use Rattle.memory_model.specs.declared.operation.Operation.{Operation}
 use Rattle.memory_model.specs.Dependencies.{instr_in, uses_at, uses_in}
 use Rattle.memory_model.specs.Items.{Item}
 use Rattle.memory_model.specs.Operations.{precedes, overlap, writes, has_release}
-use Rattle.memory_model.specs.Order.{Pairwise}
 use Rattle.memory_model.specs.Rules.{fences}
 use Rattle.memory_model.proofs.Forms.{Ordered}
-use Rattle.memory_model.proofs.Lists.{Each-append, Each-left, Each-right, Each-weaker, Each-both, Each-kept, Pairwise-append}
+use Rattle.memory_model.proofs.Lists.{Each-append, Each-left, Each-right, Each-weaker, Each-both, Each-kept, Pairwise-append, Pairwise}
 use Rattle.machine_model.proofs.OrderLists.{Each-always, Pairwise-left, Pairwise-right, Pairwise-across, Pairwise-weaker, Pairwise-moved, Pairwise-between, Each-between, Each-push, Each-moved, others}
 use Rattle.machine_model.proofs.OrderRules.{is_store, late, late-more, fenced, fenced-late, fenced-back, fenced-more, late_kind, precedes_not, must_not_after, must-more, must_free, must, holds_back, IsQuiet, InWord, apart}
 

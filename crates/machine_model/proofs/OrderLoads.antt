@@ -24,7 +24,7 @@ use Rattle.memory_model.specs.declared.Model.{Model}
 use Rattle.memory_model.specs.declared.Model.TheVariants.{Rvwmo, Ztso}
 use Rattle.memory_model.specs.declared.operation.Kind.TheVariants.{Conditional}
 use Rattle.memory_model.specs.declared.operation.Operation.{Operation}
-use Rattle.memory_model.specs.Items.{Item, bits_of, operation_of, succeeded}
+use Rattle.memory_model.specs.Items.{Item, annotations_of, operation_of_access, succeeded}
 use Rattle.memory_model.specs.Operations.{reads, writes, touches, stores_to, read_at, byte_at}
 use Rattle.memory_model.specs.Order.{byte_from, last_write}
 use Rattle.memory_model.proofs.Lists.{filter_none}
@@ -118,7 +118,7 @@ trunk_byte model h items n performed memory small holds k address old x aligned 
     ∙ ap (λ xs. byte_from memory x (last_or None xs)) (sym (filter_none (stores_to x) (joined k.sealed ++ k.current) (none_stores h address x (joined k.sealed ++ k.current) (omega (arith, aligned, l, m)) k.kept.waiting none))))))
 
 lr_alone : (model : Model) (h : ℕ) (items : List Item) (n : Node) (performed : List Operation) (i : Instr) (address : ℕ) (k : HartKept model h items n.buffer performed) → waits_for_stores n i address ≡ false → list_any (of_word address) (joined k.sealed ++ k.current) ≡ false
-lr_alone model h items n performed i address k e = sym (has_is address n.buffer k.sealed k.current k.buffer_is) ∙ (or_parts ((bits_of i).release && not (is_empty n.buffer)) (has address n.buffer) e).1
+lr_alone model h items n performed i address k e = sym (has_is address n.buffer k.sealed k.current k.buffer_is) ∙ (or_parts ((annotations_of i).release && not (is_empty n.buffer)) (has address n.buffer) e).1
 
 write_alone : (model : Model) (h : ℕ) (items : List Item) (n : Node) (performed : List Operation) (i : Instr) (address : ℕ) (k : HartKept model h items n.buffer performed) → write_waits model n i address ≡ false → list_any (of_word address) (joined k.sealed ++ k.current) ≡ false
 write_alone Rvwmo h items n performed i address k e = lr_alone Rvwmo h items n performed i address k (or_parts (waits_for_stores n i address) (has_sealed n.buffer) e).0
@@ -172,7 +172,7 @@ none_gives image performed waiting a e = absurd (not_so e)
     not_so e = cc
 
 pub value_of : (model : Model) (image : ℕ → ℕ) (h place : ℕ) (n : Node) (f : Fetched) (e : Retired) (x : Access) (d : Deed) (items : List Item) (performed : List Operation) (bits : Annotations) → ((y : ℕ) → image y < 256) → HoldsLast (last_write image performed) n → Facts f.instr x → FitsDeed model n f x e d
-    → (k : HartKept model h items n.buffer performed) (a : Operation) → operation_of h place bits e x ≡ Some a → ReadsLast image performed (joined k.sealed ++ k.current) a
+    → (k : HartKept model h items n.buffer performed) (a : Operation) → operation_of_access h place bits e x ≡ Some a → ReadsLast image performed (joined k.sealed ++ k.current) a
 value_of model image h place n f e (Loads address bytes) d items performed bits small holds y fits k a g =
     let found = load_found model n f address bytes e d fits in
     let got = loaded_of e e.loaded refl model n address bytes found.1 in

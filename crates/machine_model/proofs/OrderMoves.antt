@@ -19,11 +19,10 @@ use Rattle.memory_model.specs.declared.Model.{Model}
 use Rattle.memory_model.specs.declared.operation.Operation.{Operation}
 use Rattle.memory_model.specs.Items.{Item}
 use Rattle.memory_model.specs.Operations.{same}
-use Rattle.memory_model.specs.Order.{IsDistinct}
 use Rattle.memory_model.specs.Traces.{instructions, operation_at, operations_at}
 use Rattle.memory_model.specs.Verdict.{name_of}
 use Rattle.memory_model.proofs.Lists.{Each-append, Each-left, Each-weaker, Each-both, Each-kept, Pairwise-append, Pairwise-filter}
-use Rattle.memory_model.proofs.Named.{each_not}
+use Rattle.memory_model.proofs.Named.{each_not, EachOnce}
 use Rattle.store_buffer.specs.Entry.{entry_of}
 use Rattle.store_buffer.specs.Groups.{Groups, after_take, oldest}
 use Rattle.store_buffer.specs.Stores.{Waiting, entries_in, entries_of, is_to_word, is_elsewhere, kept_stores}
@@ -36,7 +35,7 @@ use Rattle.trace_recorder.specs.declared.operation.OpId.{OpId}
 pub record OrderKept (s : State) : Type 0 where
   pub each : (h : ℕ) → h < s.views.config.harts → HartKept s.views.config.model h (items_at s.trace h) (node_at s h).buffer (done s.trace)
   pub resolved : Each (IsResolved s.trace) s.trace.performed
-  pub distinct : IsDistinct (done s.trace)
+  pub distinct : EachOnce (done s.trace)
 
 kept_same : (model model' : Model) (h : ℕ) (items items' : List Item) (buffer buffer' : Groups) (performed performed' : List Operation) → model' ≡ model → items' ≡ items → buffer' ≡ buffer → performed' ≡ performed → HartKept model h items buffer performed → HartKept model' h items' buffer' performed'
 kept_same model model' h items items' buffer buffer' performed performed' a b c d k =
@@ -52,7 +51,7 @@ order_still s t k o = record {
   each = λ h l. kept_same s.views.config.model t.views.config.model h (items_at s.trace h) (items_at t.trace h) (node_at s h).buffer (node_at t h).buffer (done s.trace) (done t.trace)
       (ap (λ (c : Config). c.model) k.config) (items_same s.trace t.trace k.image k.entries h) (k.buffers h) (done_same s.trace t.trace k.image k.entries k.performed) (o.each h (subst (λ (c : Config). h < c.harts) k.config l));
   resolved = subst (Each (IsResolved t.trace)) (sym k.performed) (resolved_on s.trace t.trace (extends_same s.trace t.trace k.image k.entries) s.trace.performed o.resolved);
-  distinct = subst IsDistinct (sym (done_same s.trace t.trace k.image k.entries k.performed)) o.distinct;
+  distinct = subst EachOnce (sym (done_same s.trace t.trace k.image k.entries k.performed)) o.distinct;
 }
 
 -- ---- one hart's part changes
@@ -95,7 +94,7 @@ order_changes h names s t c p o = record {
   each = λ k l. each k (subst (λ (x : Config). k < x.harts) c.config l) (eqb_tells k h);
   resolved = subst (Each (IsResolved t.trace)) (sym c.performed) (Each-append (IsResolved t.trace) s.trace.performed names (resolved_on s.trace t.trace c.extends s.trace.performed o.resolved)
       (subst (Each (IsResolved t.trace)) p.named (resolved_named t.trace p.out (stands_own t.trace h p.out p.own p.found))));
-  distinct = subst IsDistinct (sym (done_more h names s t c p o.resolved)) (p.distinct o.distinct);
+  distinct = subst EachOnce (sym (done_more h names s t c p o.resolved)) (p.distinct o.distinct);
 }
   where
     model_is : t.views.config.model ≡ s.views.config.model
@@ -133,7 +132,7 @@ drained_places h word buffer g e own =
     named_own h (filter (of_word word) g) own
     ∙ ap (names_at h) (sym (ap (λ (es : List Entry). (entry_of word es).ops) e ∙ (ops_are_filter word (stores_of g) ∙ (ap (map (λ (s : Store). s.op)) (filter-stores (is_to_word word) (of_word word) (λ a. refl) g) ∙ places_of (filter (of_word word) g)))))
 
-pub drain_parts : (model : Model) (h word : ℕ) (items : List Item) (performed g rest : List Operation) → Split h items (g ++ rest) performed → Each (IsWaiting h) g → IsDistinct performed → IsDistinct (performed ++ filter (of_word word) g)
+pub drain_parts : (model : Model) (h word : ℕ) (items : List Item) (performed g rest : List Operation) → Split h items (g ++ rest) performed → Each (IsWaiting h) g → EachOnce performed → EachOnce (performed ++ filter (of_word word) g)
 drain_parts model h word items performed g rest k own d =
     let out = filter (of_word word) g in
     Pairwise-append (λ a b. same a b ≡ false) performed out d (Pairwise-filter (λ a b. same a b ≡ false) (of_word word) g (Pairwise-left (λ a b. same a b ≡ false) g rest (waiting_distinct h items (g ++ rest) performed k)))

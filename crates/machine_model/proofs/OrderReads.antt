@@ -27,7 +27,7 @@ use Rattle.machine_model.proofs.OrderSteps.{HartKept, Performs, names_by}
 use Rattle.machine_model.proofs.OrderTraces.{items_at, items_same, items_here, done, new_item, operation_is, length-items_from}
 use Rattle.machine_model.proofs.OrderValues.{IsRight, waits, Gives, retire_rights, drain_rights, rights_foreign}
 use Rattle.memory_model.specs.declared.operation.Operation.{Operation}
-use Rattle.memory_model.specs.Items.{Item, bits_of}
+use Rattle.memory_model.specs.Items.{Item, annotations_of}
 use Rattle.memory_model.specs.Traces.{image_of, instructions, last_performed, operation_at}
 use Rattle.memory_model.specs.Verdict.{name_of}
 use Rattle.memory_model.proofs.Lists.{Each-weaker, Each-kept}
@@ -79,18 +79,18 @@ values_by h names s t out c image done_is own here o v = record { each = λ k l.
 
 new_gives : (h : ℕ) (entry : Retired) (i : Instr) (d : Deed) (s : State) → (l : h < s.views.config.harts) → AllStand s → is_step s.trace.image (node_at s h).hart entry ≡ true → decoded entry.word ≡ Some i
     → (f : Fetched) → f.instr ≡ i → FitsDeed s.views.config.model (node_at s h) f (access_of i (node_at s h).hart.regs) entry d → ((y : ℕ) → image_of s.trace y < 256) → HoldsLast (last_performed s.trace) (node_at s h)
-    → (o : OrderKept s) (a : Operation) → (new_item h entry s.trace).gave ≡ Some a → Gives (image_of s.trace) h (length (items_at s.trace h)) (done s.trace) (joined (o.each h l).sealed ++ (o.each h l).current) a
+    → (o : OrderKept s) (a : Operation) → (new_item h entry s.trace).operation ≡ Some a → Gives (image_of s.trace) h (length (items_at s.trace h)) (done s.trace) (joined (o.each h l).sealed ++ (o.each h l).current) a
 new_gives h entry i d s l st step dec f fi fits small holds o a g =
     let t = (retired h entry i (does s.views.config.model h d s)).trace in
     let n : OpId = record { hart = h; place = length (items_at s.trace h) } in
     let lt : h < length s.trace.entries = subst (λ x. h < x) (sym st.entries) l in
     let at : operation_at (instructions t) n ≡ Some a =
-    operation_is t n ∙ (ap (λ is. gave_at is (length (items_at s.trace h))) (items_here h entry s.trace t (retired_trace h entry i d s l st) lt) ∙ (ap (option_and_then (λ (m : Item). m.gave)) (get_new (items_at s.trace h) (new_item h entry s.trace) (length (items_at s.trace h)) refl) ∙ g)) in
+    operation_is t n ∙ (ap (λ is. gave_at is (length (items_at s.trace h))) (items_here h entry s.trace t (retired_trace h entry i d s l st) lt) ∙ (ap (option_and_then (λ (m : Item). m.operation)) (get_new (items_at s.trace h) (new_item h entry s.trace) (length (items_at s.trace h)) refl) ∙ g)) in
     let bears = operation_at-bears t n a at in
     record {
       own = bears.hart_is;
       here = bears.place_is;
-      value = value_of s.views.config.model (image_of s.trace) h (length (items_at s.trace h)) (node_at s h) f entry (access_of i (node_at s h).hart.regs) d (items_at s.trace h) (done s.trace) (bits_of f.instr) small holds
+      value = value_of s.views.config.model (image_of s.trace) h (length (items_at s.trace h)) (node_at s h) f entry (access_of i (node_at s h).hart.regs) d (items_at s.trace h) (done s.trace) (annotations_of f.instr) small holds
           (retired_known h entry i s step dec f fi) fits (o.each h l) a (sym (retired_gave h entry i s l st dec f fi) ∙ g);
     }
 

@@ -5,22 +5,22 @@ use Rattle.std.specs.List.{AllByRecursion as Each, filter, filter_map, list_any}
 use Rattle.std.proofs.lemmas.Bool.{and_left, and_right, or_from, eqb-true, ne_eqb}
 use Rattle.std.proofs.lemmas.List.Elements.{filter-append, filter_map-append}
 use Rattle.std.proofs.lemmas.List.Folds.{list_any-append}
+use Rattle.memory_model.proofs.Named.{EachOnce}
 use Rattle.memory_model.specs.declared.operation.Operation.{Operation}
 use Rattle.memory_model.specs.Items.{Item}
 use Rattle.memory_model.specs.Operations.{same}
-use Rattle.memory_model.specs.Order.{Pairwise, IsDistinct}
 use Rattle.memory_model.proofs.Forms.{same-self, same-swap}
-use Rattle.memory_model.proofs.Lists.{Each-append, Each-weaker, Each-both, Each-kept, Pairwise-append, Pairwise-filter, filter_same, filter_none}
+use Rattle.memory_model.proofs.Lists.{Each-append, Each-weaker, Each-both, Each-kept, Pairwise-append, Pairwise-filter, filter_same, filter_none, Pairwise}
 use Rattle.machine_model.proofs.OrderLists.{Each-always, Pairwise-left, Pairwise-across, filter-filter, others}
 use Rattle.machine_model.proofs.OrderKept.{IsBelow, length_more, get_left, get_new}
 
 -- the operations of a hart's list, in program order
 abbrev pub ops_of : List Item → List Operation
-ops_of items = filter_map (λ (m : Item). m.gave) items
+ops_of items = filter_map (λ (m : Item). m.operation) items
 
 -- the operation at a place
 abbrev pub gave_at : List Item → ℕ → Option Operation
-gave_at items k = option_and_then (λ (m : Item). m.gave) (slice_get items k)
+gave_at items k = option_and_then (λ (m : Item). m.operation) (slice_get items k)
 
 -- not among the performed ones
 abbrev pub absent : List Operation → Operation → Bool
@@ -35,7 +35,7 @@ pub record IsNamed (h : ℕ) (items : List Item) (a : Operation) : Type 0 where
 pub record Split (h : ℕ) (items : List Item) (waiting performed : List Operation) : Type 0 where
   pub waits : filter (absent performed) (ops_of items) ≡ waiting
   pub named : Each (IsNamed h items) (ops_of items)
-  pub distinct : IsDistinct (ops_of items)
+  pub distinct : EachOnce (ops_of items)
 
 same_none : (a : Operation) (xs : List Operation) → Each (λ s. same a s ≡ false) xs → list_any (same a) xs ≡ false
 same_none a [] h = refl
@@ -62,7 +62,7 @@ all_absent out [] h = refl
 all_absent out (x ∷ xs) h = keep_at (absent out x) x _ xs (ap not (same_none x out h.0)) (all_absent out xs h.1)
 
 -- those that leave a group leave the others
-leave_rest : (p : Operation → Bool) (g : List Operation) → IsDistinct g → filter (absent (filter p g)) g ≡ others p g
+leave_rest : (p : Operation → Bool) (g : List Operation) → EachOnce g → filter (absent (filter p g)) g ≡ others p g
 leave_rest p [] d = refl
 leave_rest p (x ∷ g) d = go (p x) (leave_rest p g d.1)
   where
@@ -80,29 +80,29 @@ leave_rest p (x ∷ g) d = go (p x) (leave_rest p g d.1)
 
 named_more : (h : ℕ) (items : List Item) (m : Item) (xs : List Operation) → Each (IsNamed h items) xs → Each (IsNamed h (items ++ m ∷ [])) xs
 named_more h items m xs n = Each-weaker (IsNamed h items) (IsNamed h (items ++ m ∷ []))
-    (λ a q. record { own = q.own; below = (let l = q.below in rw length_more (omega (arith, l))); found = ap (option_and_then (λ (m : Item). m.gave)) (get_left items m a.place q.below) ∙ q.found }) xs n
+    (λ a q. record { own = q.own; below = (let l = q.below in rw length_more (omega (arith, l))); found = ap (option_and_then (λ (m : Item). m.operation)) (get_left items m a.place q.below) ∙ q.found }) xs n
 
-ops_more : (items : List Item) (m : Item) (s : Operation) → m.gave ≡ Some s → ops_of (items ++ m ∷ []) ≡ ops_of items ++ s ∷ []
-ops_more items m s e = filter_map-append (λ (q : Item). q.gave) items (m ∷ []) ∙ ap (λ v. ops_of items ++ v) (rw e refl)
+ops_more : (items : List Item) (m : Item) (s : Operation) → m.operation ≡ Some s → ops_of (items ++ m ∷ []) ≡ ops_of items ++ s ∷ []
+ops_more items m s e = filter_map-append (λ (q : Item). q.operation) items (m ∷ []) ∙ ap (λ v. ops_of items ++ v) (rw e refl)
 
-pub ops_same : (items : List Item) (m : Item) → m.gave ≡ None → ops_of (items ++ m ∷ []) ≡ ops_of items
-ops_same items m e = filter_map-append (λ (q : Item). q.gave) items (m ∷ []) ∙ (ap (λ v. ops_of items ++ v) (rw e refl) ∙ append-nil (ops_of items))
+pub ops_same : (items : List Item) (m : Item) → m.operation ≡ None → ops_of (items ++ m ∷ []) ≡ ops_of items
+ops_same items m e = filter_map-append (λ (q : Item). q.operation) items (m ∷ []) ∙ (ap (λ v. ops_of items ++ v) (rw e refl) ∙ append-nil (ops_of items))
 
 unlike : (h : ℕ) (items : List Item) (s a : Operation) → s.place ≡ length items → IsNamed h items a → (same a s ≡ false) × (same s a ≡ false)
 unlike h items s a e q =
     let l = q.below in
     (and_right (nat_eq a.hart s.hart) _ (ne_eqb a.place s.place (λ f. absurd (omega (arith, f, e, l)))), and_right (nat_eq s.hart a.hart) _ (ne_eqb s.place a.place (λ f. absurd (omega (arith, f, e, l)))))
 
-new_named : (h : ℕ) (items : List Item) (m : Item) (s : Operation) → m.gave ≡ Some s → s.hart ≡ h → s.place ≡ length items → IsNamed h (items ++ m ∷ []) s
-new_named h items m s g mine here = record { own = mine; below = rw length_more (omega (arith, here)); found = ap (option_and_then (λ (m : Item). m.gave)) (get_new items m s.place here) ∙ g }
+new_named : (h : ℕ) (items : List Item) (m : Item) (s : Operation) → m.operation ≡ Some s → s.hart ≡ h → s.place ≡ length items → IsNamed h (items ++ m ∷ []) s
+new_named h items m s g mine here = record { own = mine; below = rw length_more (omega (arith, here)); found = ap (option_and_then (λ (m : Item). m.operation)) (get_new items m s.place here) ∙ g }
 
-split_named : (h : ℕ) (items : List Item) (m : Item) (s : Operation) → m.gave ≡ Some s → s.hart ≡ h → s.place ≡ length items → Each (IsNamed h items) (ops_of items) → Each (IsNamed h (items ++ m ∷ [])) (ops_of (items ++ m ∷ []))
+split_named : (h : ℕ) (items : List Item) (m : Item) (s : Operation) → m.operation ≡ Some s → s.hart ≡ h → s.place ≡ length items → Each (IsNamed h items) (ops_of items) → Each (IsNamed h (items ++ m ∷ [])) (ops_of (items ++ m ∷ []))
 split_named h items m s g mine here n =
     subst (Each (IsNamed h (items ++ m ∷ []))) (sym (ops_more items m s g)) (Each-append (IsNamed h (items ++ m ∷ [])) (ops_of items) (s ∷ []) (named_more h items m (ops_of items) n) (new_named h items m s g mine here, tt))
 
-split_distinct : (h : ℕ) (items : List Item) (m : Item) (s : Operation) → m.gave ≡ Some s → s.place ≡ length items → Each (IsNamed h items) (ops_of items) → IsDistinct (ops_of items) → IsDistinct (ops_of (items ++ m ∷ []))
+split_distinct : (h : ℕ) (items : List Item) (m : Item) (s : Operation) → m.operation ≡ Some s → s.place ≡ length items → Each (IsNamed h items) (ops_of items) → EachOnce (ops_of items) → EachOnce (ops_of (items ++ m ∷ []))
 split_distinct h items m s g here n d =
-    subst IsDistinct (sym (ops_more items m s g)) (Pairwise-append (λ a b. same a b ≡ false) (ops_of items) (s ∷ []) d (tt, tt)
+    subst EachOnce (sym (ops_more items m s g)) (Pairwise-append (λ a b. same a b ≡ false) (ops_of items) (s ∷ []) d (tt, tt)
     (Each-weaker (IsNamed h items) (λ a. Each (λ b. same a b ≡ false) (s ∷ [])) (λ a q. ((unlike h items s a here q).0, tt)) (ops_of items) n))
 
 -- an operation of the hart that is new is none of the performed ones
@@ -114,7 +114,7 @@ new_name h n s a mine here q = go (nat_eq s.hart a.hart) refl
     go false e = and_left (nat_eq s.hart a.hart) _ e
 
 -- a store joins those that wait
-pub split_store : (h : ℕ) (items : List Item) (waiting performed : List Operation) (m : Item) (s : Operation) → m.gave ≡ Some s → s.hart ≡ h → s.place ≡ length items → Each (IsBelow h (length items)) performed → Split h items waiting performed → Split h (items ++ m ∷ []) (waiting ++ s ∷ []) performed
+pub split_store : (h : ℕ) (items : List Item) (waiting performed : List Operation) (m : Item) (s : Operation) → m.operation ≡ Some s → s.hart ≡ h → s.place ≡ length items → Each (IsBelow h (length items)) performed → Split h items waiting performed → Split h (items ++ m ∷ []) (waiting ++ s ∷ []) performed
 split_store h items waiting performed m s g mine here below k = record {
   waits = ap (filter (absent performed)) (ops_more items m s g) ∙ (filter-append (absent performed) (ops_of items) (s ∷ []) ∙ (ap (λ v. v ++ filter (absent performed) (s ∷ [])) k.waits
       ∙ ap (λ v. waiting ++ v) (keep_at (absent performed s) s [] [] (ap not (same_none s performed (Each-weaker (IsBelow h (length items)) (λ a. same s a ≡ false) (λ a q. new_name h (length items) s a mine here q) performed below))) refl)));
@@ -123,7 +123,7 @@ split_store h items waiting performed m s g mine here below k = record {
 }
 
 -- an operation is performed as it retires
-pub split_at_once : (h : ℕ) (items : List Item) (waiting performed : List Operation) (m : Item) (i : Operation) → m.gave ≡ Some i → i.hart ≡ h → i.place ≡ length items → Split h items waiting performed → Split h (items ++ m ∷ []) waiting (performed ++ i ∷ [])
+pub split_at_once : (h : ℕ) (items : List Item) (waiting performed : List Operation) (m : Item) (i : Operation) → m.operation ≡ Some i → i.hart ≡ h → i.place ≡ length items → Split h items waiting performed → Split h (items ++ m ∷ []) waiting (performed ++ i ∷ [])
 split_at_once h items waiting performed m i g mine here k = record {
   waits = ap (filter (absent (performed ++ i ∷ []))) (ops_more items m i g) ∙ (filter-append (absent (performed ++ i ∷ [])) (ops_of items) (i ∷ []) ∙ (ap (λ v. v ++ filter (absent (performed ++ i ∷ [])) (i ∷ [])) old ∙ (ap (λ v. waiting ++ v) gone ∙ append-nil waiting)));
   named = split_named h items m i g mine here k.named;
@@ -138,11 +138,11 @@ split_at_once h items waiting performed m i g mine here k = record {
     gone = filter_none (absent (performed ++ i ∷ [])) (i ∷ []) (absent_more performed (i ∷ []) i ∙ and_right (absent performed i) (absent (i ∷ []) i) (ap (λ b. not (b || false)) (same-self i)), tt)
 
 -- an item with no operation
-pub split_item : (h : ℕ) (items : List Item) (waiting performed : List Operation) (m : Item) → m.gave ≡ None → Split h items waiting performed → Split h (items ++ m ∷ []) waiting performed
+pub split_item : (h : ℕ) (items : List Item) (waiting performed : List Operation) (m : Item) → m.operation ≡ None → Split h items waiting performed → Split h (items ++ m ∷ []) waiting performed
 split_item h items waiting performed m g k = record {
   waits = ap (filter (absent performed)) (ops_same items m g) ∙ k.waits;
   named = subst (Each (IsNamed h (items ++ m ∷ []))) (sym (ops_same items m g)) (named_more h items m (ops_of items) k.named);
-  distinct = subst IsDistinct (sym (ops_same items m g)) k.distinct;
+  distinct = subst EachOnce (sym (ops_same items m g)) k.distinct;
 }
 
 pub turned : (xs ys : List Operation) → Each (λ a. Each (λ b. same a b ≡ false) ys) xs → Each (λ b. Each (λ a. same b a ≡ false) xs) ys
@@ -150,13 +150,13 @@ turned [] ys h = Each-always (λ b. Each (λ a. same b a ≡ false) []) (λ b. t
 turned (x ∷ xs) ys h = Each-both (λ b. same b x ≡ false) (λ b. Each (λ a. same b a ≡ false) xs) ys (Each-weaker (λ b. same x b ≡ false) (λ b. same b x ≡ false) (λ b q. same-swap x b q) ys h.0) (turned xs ys h.1)
 
 -- those that wait are distinct
-pub waiting_distinct : (h : ℕ) (items : List Item) (waiting performed : List Operation) → Split h items waiting performed → IsDistinct waiting
-waiting_distinct h items waiting performed k = subst IsDistinct k.waits (Pairwise-filter (λ a b. same a b ≡ false) (absent performed) (ops_of items) k.distinct)
+pub waiting_distinct : (h : ℕ) (items : List Item) (waiting performed : List Operation) → Split h items waiting performed → EachOnce waiting
+waiting_distinct h items waiting performed k = subst EachOnce k.waits (Pairwise-filter (λ a b. same a b ≡ false) (absent performed) (ops_of items) k.distinct)
 
 -- some of the group that stands first are performed
 pub split_drain : (h : ℕ) (items : List Item) (g rest performed : List Operation) (p : Operation → Bool) → Split h items (g ++ rest) performed → Split h items (others p g ++ rest) (performed ++ filter p g)
 split_drain h items g rest performed p k =
-    let d : IsDistinct (g ++ rest) = waiting_distinct h items (g ++ rest) performed k in
+    let d : EachOnce (g ++ rest) = waiting_distinct h items (g ++ rest) performed k in
     record {
       waits = filter_absent performed (filter p g) (ops_of items) ∙ (ap (filter (absent (filter p g))) k.waits ∙ (filter-append (absent (filter p g)) g rest
           ∙ (ap (λ v. v ++ filter (absent (filter p g)) rest) (leave_rest p g (Pairwise-left (λ a b. same a b ≡ false) g rest d)) ∙ ap (λ v. others p g ++ v) (all_absent (filter p g) rest (turned (filter p g) rest (Each-kept (λ a. Each (λ b. same a b ≡ false) rest) p g (Pairwise-across (λ a b. same a b ≡ false) g rest d)))))));

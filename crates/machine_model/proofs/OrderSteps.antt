@@ -12,15 +12,15 @@ use Rattle.machine_model.specs.Changing.{put_behind as buffered_behind}
 use Rattle.machine_model.specs.Steps.{Fetched, waits_for_stores, write_waits}
 use Rattle.machine_model.specs.Views.{Node}
 use Rattle.machine_model.specs.Words.{word_of, store_of}
+use Rattle.memory_model.proofs.Named.{EachOnce}
 use Rattle.memory_model.specs.declared.Model.{Model}
 use Rattle.memory_model.specs.declared.Model.TheVariants.{Rvwmo, Ztso}
 use Rattle.memory_model.specs.declared.operation.Kind.{Kind}
 use Rattle.memory_model.specs.declared.operation.Kind.TheVariants as kind
 use Rattle.memory_model.specs.declared.operation.Operation.{Operation}
 use Rattle.memory_model.specs.Dependencies.{instr_in, uses_in, uses_at}
-use Rattle.memory_model.specs.Items.{Item, bits_of, operation_of, succeeded}
+use Rattle.memory_model.specs.Items.{Item, annotations_of, operation_of_access, succeeded}
 use Rattle.memory_model.specs.Operations.{same, overlap, writes, has_release}
-use Rattle.memory_model.specs.Order.{IsDistinct}
 use Rattle.memory_model.specs.Rules.{fences}
 use Rattle.memory_model.specs.Verdict.{name_of}
 use Rattle.memory_model.proofs.Forms.{same-swap}
@@ -123,7 +123,7 @@ pub record Performs (model : Model) (h : ℕ) (items : List Item) (buffer : Grou
   pub named : map name_of out ≡ names
   pub own : Each (λ a. a.hart ≡ h) out
   pub found : Each (λ a. gave_at items a.place ≡ Some a) out
-  pub distinct : IsDistinct performed → IsDistinct (performed ++ out)
+  pub distinct : EachOnce performed → EachOnce (performed ++ out)
   pub kept : HartKept model h items buffer (performed ++ out)
 
 pub performs_none : (model : Model) (h : ℕ) (items : List Item) (buffer : Groups) (performed : List Operation) → HartKept model h items buffer performed → Performs model h items buffer performed []
@@ -132,7 +132,7 @@ performs_none model h items buffer performed k = record {
   named = refl;
   own = tt;
   found = tt;
-  distinct = λ d. subst IsDistinct (sym (append-nil performed)) d;
+  distinct = λ d. subst EachOnce (sym (append-nil performed)) d;
   kept = subst (HartKept model h items buffer) (sym (append-nil performed)) k;
 }
 
@@ -165,15 +165,15 @@ none_waits h i word (b ∷ g) f at own e =
     (and_right (writes i.kind) _ (apart b i own.0.in_word f (λ q. eqb-false (word_of b.address) word es.0 (q ∙ at))), none_waits h i word g f at own.1 es.1)
 
 -- what an LR, SC or AMO need not wait for
-passes_lr : (model : Model) (h : ℕ) (n : Node) (items : List Item) (performed : List Operation) (instr : Instr) (i : Operation) (word : ℕ) → writes i.kind ≡ false → i.rl ≡ (bits_of instr).release → waits_for_stores n instr word ≡ false → (k : HartKept model h items n.buffer performed) → Passes model items i (joined k.sealed ++ k.current)
-passes_lr model h n items performed instr i word w r e k = go (is_empty n.buffer) refl ((bits_of instr).release) refl
+passes_lr : (model : Model) (h : ℕ) (n : Node) (items : List Item) (performed : List Operation) (instr : Instr) (i : Operation) (word : ℕ) → writes i.kind ≡ false → i.rl ≡ (annotations_of instr).release → waits_for_stores n instr word ≡ false → (k : HartKept model h items n.buffer performed) → Passes model items i (joined k.sealed ++ k.current)
+passes_lr model h n items performed instr i word w r e k = go (is_empty n.buffer) refl ((annotations_of instr).release) refl
   where
-    go : (b : Bool) → is_empty n.buffer ≡ b → (c : Bool) → (bits_of instr).release ≡ c → Passes model items i (joined k.sealed ++ k.current)
+    go : (b : Bool) → is_empty n.buffer ≡ b → (c : Bool) → (annotations_of instr).release ≡ c → Passes model items i (joined k.sealed ++ k.current)
     go true f c g = passes_nothing model items i (joined k.sealed ++ k.current) (empty_waits n.buffer k.sealed k.current k.buffer_is f)
     go false f false g = passes_reading model items i (joined k.sealed ++ k.current) w (r ∙ g)
-    go false f true g = absurd (true≢false (sym (rw (g, f) refl) ∙ (or_parts ((bits_of instr).release && not (is_empty n.buffer)) (has word n.buffer) e).0))
+    go false f true g = absurd (true≢false (sym (rw (g, f) refl) ∙ (or_parts ((annotations_of instr).release && not (is_empty n.buffer)) (has word n.buffer) e).0))
 
-passes_write : (model : Model) (h : ℕ) (n : Node) (items : List Item) (performed : List Operation) (instr : Instr) (i : Operation) (word : ℕ) → i.rl ≡ (bits_of instr).release → InWord i → word_of i.address ≡ word → write_waits model n instr word ≡ false → (k : HartKept model h items n.buffer performed) → Passes model items i (joined k.sealed ++ k.current)
+passes_write : (model : Model) (h : ℕ) (n : Node) (items : List Item) (performed : List Operation) (instr : Instr) (i : Operation) (word : ℕ) → i.rl ≡ (annotations_of instr).release → InWord i → word_of i.address ≡ word → write_waits model n instr word ≡ false → (k : HartKept model h items n.buffer performed) → Passes model items i (joined k.sealed ++ k.current)
 passes_write Ztso h n items performed instr i word r f at e k = passes_nothing Ztso items i (joined k.sealed ++ k.current) (empty_waits n.buffer k.sealed k.current k.buffer_is (turn (is_empty n.buffer) e))
   where
     turn : (b : Bool) → not b ≡ false → b ≡ true
@@ -181,10 +181,10 @@ passes_write Ztso h n items performed instr i word r f at e k = passes_nothing Z
     turn false e = absurd (true≢false e)
 passes_write Rvwmo h n items performed instr i word r f at e k =
     let s = or_parts (waits_for_stores n instr word) (has_sealed n.buffer) e in
-    let t = or_parts ((bits_of instr).release && not (is_empty n.buffer)) (has word n.buffer) s.0 in
-    go (is_empty n.buffer) refl ((bits_of instr).release) refl s.1 t.0 t.1
+    let t = or_parts ((annotations_of instr).release && not (is_empty n.buffer)) (has word n.buffer) s.0 in
+    go (is_empty n.buffer) refl ((annotations_of instr).release) refl s.1 t.0 t.1
   where
-    go : (b : Bool) → is_empty n.buffer ≡ b → (c : Bool) → (bits_of instr).release ≡ c → has_sealed n.buffer ≡ false → ((bits_of instr).release && not (is_empty n.buffer)) ≡ false → has word n.buffer ≡ false → Passes Rvwmo items i (joined k.sealed ++ k.current)
+    go : (b : Bool) → is_empty n.buffer ≡ b → (c : Bool) → (annotations_of instr).release ≡ c → has_sealed n.buffer ≡ false → ((annotations_of instr).release && not (is_empty n.buffer)) ≡ false → has word n.buffer ≡ false → Passes Rvwmo items i (joined k.sealed ++ k.current)
     go true q c g sealed released free = passes_nothing Rvwmo items i (joined k.sealed ++ k.current) (empty_waits n.buffer k.sealed k.current k.buffer_is q)
     go false q true g sealed released free = absurd (true≢false (sym (rw (g, q) refl) ∙ released))
     go false q false g sealed released free = record {
@@ -202,14 +202,14 @@ no_fence_of : (h : ℕ) (items : List Item) (m : Item) (i : Instr) → IsNew h i
 no_fence_of h items m i new f j = ap (λ o. fences o kind.Store j) new.instr_is ∙ f j
 
 pub performs_once : (model : Model) (h : ℕ) (items : List Item) (buffer : Groups) (performed : List Operation) (m : Item) (instr : Instr) (i : Operation) → IsNew h items m instr → NoFence instr
-    → m.gave ≡ Some i → i.hart ≡ h → i.place ≡ length items → is_store i.kind ≡ false → (k : HartKept model h items buffer performed) → Passes model items i (joined k.sealed ++ k.current) → Performs model h (items ++ m ∷ []) buffer performed (record { hart = h; place = length items } ∷ [])
+    → m.operation ≡ Some i → i.hart ≡ h → i.place ≡ length items → is_store i.kind ≡ false → (k : HartKept model h items buffer performed) → Passes model items i (joined k.sealed ++ k.current) → Performs model h (items ++ m ∷ []) buffer performed (record { hart = h; place = length items } ∷ [])
 performs_once model h items buffer performed m instr i new plain gave mine here kind_of k p =
     let below : Each (IsBelow h (length items)) performed = Each-left (IsBelow h (length items)) performed (joined k.sealed ++ k.current) k.kept.places in
     record {
       out = i ∷ [];
       named = rw (mine, here) refl;
       own = (mine, tt);
-      found = (ap (option_and_then (λ (m : Item). m.gave)) (get_new items m i.place here) ∙ gave, tt);
+      found = (ap (option_and_then (λ (m : Item). m.operation)) (get_new items m i.place here) ∙ gave, tt);
       distinct = λ d. Pairwise-append (λ a b. same a b ≡ false) performed (i ∷ []) d (tt, tt) (Each-weaker (IsBelow h (length items)) (λ a. Each (λ b. same a b ≡ false) (i ∷ [])) (λ a q. (same-swap i a (new_name h (length items) i a mine here q), tt)) performed below);
       kept = record {
         sealed = k.sealed;
@@ -222,7 +222,7 @@ performs_once model h items buffer performed m instr i new plain gave mine here 
 
 -- ---- an instruction that gives no operation
 
-pub keeps_plain : (model : Model) (h : ℕ) (items : List Item) (buffer : Groups) (performed : List Operation) (m : Item) (i : Instr) → IsNew h items m i → NoFence i → m.gave ≡ None → HartKept model h items buffer performed → HartKept model h (items ++ m ∷ []) buffer performed
+pub keeps_plain : (model : Model) (h : ℕ) (items : List Item) (buffer : Groups) (performed : List Operation) (m : Item) (i : Instr) → IsNew h items m i → NoFence i → m.operation ≡ None → HartKept model h items buffer performed → HartKept model h (items ++ m ∷ []) buffer performed
 keeps_plain model h items buffer performed m i new plain gave k = record {
   sealed = k.sealed;
   current = k.current;
@@ -240,7 +240,7 @@ lates_behind model h n items performed m i new e k = go (fences (Some i) kind.St
     go true f true g = subst (Each (λ a. late (items ++ m ∷ []) kind.Load a ≡ false)) (sym (empty_waits n.buffer k.sealed k.current k.buffer_is g)) tt
     go true f false g = absurd (true≢false (sym (rw (f, g) refl) ∙ e))
 
-keeps_fence : (model : Model) (h : ℕ) (n : Node) (items : List Item) (performed : List Operation) (m : Item) (i : Instr) → IsNew h items m i → m.gave ≡ None → (fences (Some i) kind.Store kind.Load && not (is_empty n.buffer)) ≡ false → fences (Some i) kind.Store kind.Store ≡ false → HartKept model h items n.buffer performed → HartKept model h (items ++ m ∷ []) n.buffer performed
+keeps_fence : (model : Model) (h : ℕ) (n : Node) (items : List Item) (performed : List Operation) (m : Item) (i : Instr) → IsNew h items m i → m.operation ≡ None → (fences (Some i) kind.Store kind.Load && not (is_empty n.buffer)) ≡ false → fences (Some i) kind.Store kind.Store ≡ false → HartKept model h items n.buffer performed → HartKept model h (items ++ m ∷ []) n.buffer performed
 keeps_fence model h n items performed m i new gave e f k = record {
   sealed = k.sealed;
   current = k.current;
@@ -249,7 +249,7 @@ keeps_fence model h n items performed m i new gave e f k = record {
   split = split_item h items (joined k.sealed ++ k.current) performed m gave k.split;
 }
 
-keeps_seal : (model : Model) (h : ℕ) (n : Node) (items : List Item) (performed : List Operation) (m : Item) (i : Instr) → IsNew h items m i → m.gave ≡ None → (fences (Some i) kind.Store kind.Load && not (is_empty n.buffer)) ≡ false → HartKept model h items n.buffer performed → HartKept model h (items ++ m ∷ []) (after_seal n.buffer) performed
+keeps_seal : (model : Model) (h : ℕ) (n : Node) (items : List Item) (performed : List Operation) (m : Item) (i : Instr) → IsNew h items m i → m.operation ≡ None → (fences (Some i) kind.Store kind.Load && not (is_empty n.buffer)) ≡ false → HartKept model h items n.buffer performed → HartKept model h (items ++ m ∷ []) (after_seal n.buffer) performed
 keeps_seal model h n items performed m i new gave e k =
     let line = sym (sealed_line k.sealed k.current) in
     record {
@@ -262,7 +262,7 @@ keeps_seal model h n items performed m i new gave e k =
 
 -- ---- a store waits
 
-keeps_put : (model : Model) (h : ℕ) (items : List Item) (sealed : List (List Operation)) (current : List Operation) (new_buffer : Groups) (performed : List Operation) (m : Item) (i : Instr) (s : Operation) → IsNew h items m i → NoFence i → m.gave ≡ Some s → IsWaiting h s → IsQuiet (items ++ m ∷ []) s → s.place ≡ length items
+keeps_put : (model : Model) (h : ℕ) (items : List Item) (sealed : List (List Operation)) (current : List Operation) (new_buffer : Groups) (performed : List Operation) (m : Item) (i : Instr) (s : Operation) → IsNew h items m i → NoFence i → m.operation ≡ Some s → IsWaiting h s → IsQuiet (items ++ m ∷ []) s → s.place ≡ length items
     → new_buffer ≡ entries_in (waiting_of sealed (current ++ s ∷ [])) → Kept model h items sealed current performed → Split h items (joined sealed ++ current) performed → (model ≡ Ztso → Each (λ a. word_of a.address ≡ word_of s.address) current) → HartKept model h (items ++ m ∷ []) new_buffer performed
 keeps_put model h items sealed current new_buffer performed m i s new plain gave own quiet here behind kept split fits =
     record {
@@ -285,7 +285,7 @@ fits_group word g one e = go g one e
     go [] q e = absurd (false≢true e)
     go (x ∷ xs) q e = at (of_word word x) x xs refl q.0 (go xs q.1) e
 
-keeps_store : (model : Model) (h : ℕ) (items : List Item) (buffer : Groups) (performed : List Operation) (m : Item) (i : Instr) (s : Operation) → IsNew h items m i → NoFence i → m.gave ≡ Some s → IsWaiting h s → IsQuiet (items ++ m ∷ []) s → s.place ≡ length items → HartKept model h items buffer performed → HartKept model h (items ++ m ∷ []) (buffered_behind model (store_of_operation s) buffer) performed
+keeps_store : (model : Model) (h : ℕ) (items : List Item) (buffer : Groups) (performed : List Operation) (m : Item) (i : Instr) (s : Operation) → IsNew h items m i → NoFence i → m.operation ≡ Some s → IsWaiting h s → IsQuiet (items ++ m ∷ []) s → s.place ≡ length items → HartKept model h items buffer performed → HartKept model h (items ++ m ∷ []) (buffered_behind model (store_of_operation s) buffer) performed
 keeps_store Rvwmo h items buffer performed m i s new plain gave own quiet here k =
     keeps_put Rvwmo h items k.sealed k.current _ performed m i s new plain gave own quiet here (ap (after_put (store_of_operation s)) k.buffer_is ∙ (put_is_behind (store_of_operation s) (waiting_of k.sealed k.current) ∙ pushed_is s k.sealed k.current)) k.kept k.split (λ z. absurd (rvwmo_not z))
   where
@@ -321,7 +321,7 @@ aligned_in_word : (address : ℕ) → address % 4 ≡ 0 → address % 4 + 4 ≤ 
 aligned_in_word address e = omega (arith, e)
 
 pub deed_keeps : (model : Model) (h : ℕ) (n : Node) (f : Fetched) (entry : Retired) (a : Access) (d : Deed) (items : List Item) (performed : List Operation) (m : Item)
-    → IsNew h items m f.instr → f.place ≡ length items → m.gave ≡ operation_of h (length items) (bits_of f.instr) entry a → Facts f.instr a → FitsDeed model n f a entry d
+    → IsNew h items m f.instr → f.place ≡ length items → m.operation ≡ operation_of_access h (length items) (annotations_of f.instr) entry a → Facts f.instr a → FitsDeed model n f a entry d
     → HartKept model h items n.buffer performed → Performs model h (items ++ m ∷ []) (buffer_by model d n.buffer) performed (names_by h (length items) d)
 deed_keeps model h n f entry Private deed.Alone items performed m new at gave x e k = performs_none model h _ _ performed (keeps_plain model h items n.buffer performed m f.instr new x gave k)
 deed_keeps model h n f entry (Calls number argument) deed.Alone items performed m new at gave x e k = performs_none model h _ _ performed (keeps_plain model h items n.buffer performed m f.instr new x gave k)
@@ -330,17 +330,17 @@ deed_keeps model h n f entry (Loads address bytes) deed.Load items performed m n
     performs_once model h items n.buffer performed m f.instr _ new x.0.no_fence gave refl refl refl k (passes_reading model items _ _ refl x.0.no_release)
 deed_keeps model h n f entry (Stores address bytes value) (deed.Store s) items performed m new at gave x e k =
     let own : IsWaiting h _ = record { own = refl; plain = refl; in_word = x.1; no_release = x.0.no_release } in
-    let quiet : IsQuiet (items ++ m ∷ []) (record { hart = h; place = length items; kind = kind.Store; address = address; size = bytes; read = 0; written = value; aq = (bits_of f.instr).acquire; rl = (bits_of f.instr).release }) =
+    let quiet : IsQuiet (items ++ m ∷ []) (record { hart = h; place = length items; kind = kind.Store; address = address; size = bytes; read = 0; written = value; aq = (annotations_of f.instr).acquire; rl = (annotations_of f.instr).release }) =
     record { no_acquire = x.0.no_acquire; no_release = x.0.no_release; writes_none = ap (λ (o : Option Item). (uses_in (instr_in o)).written) (get_new items m (length items) refl) ∙ (ap (λ o. (uses_in o).written) new.instr_is ∙ x.2) } in
     performs_none model h _ _ performed (subst (λ (t : Store). HartKept model h (items ++ m ∷ []) (buffered_behind model t n.buffer) performed) (sym (e ∙ ap (store_of address bytes value) at))
     (keeps_store model h items n.buffer performed m f.instr _ new x.0.no_fence gave own quiet refl k))
 deed_keeps model h n f entry (Reserves address) (deed.Reserve word) items performed m new at gave x e k =
     performs_once model h items n.buffer performed m f.instr _ new x.0 gave refl refl refl k (passes_lr model h n items performed f.instr _ address refl refl e.1 k)
 deed_keeps model h n f entry (Tries address value) deed.Fail items performed m new at gave x e k =
-    performs_none model h _ _ performed (keeps_plain model h items n.buffer performed m f.instr new x.0 (gave ∙ ap (λ o. cond (succeeded o) (Some (record { hart = h; place = length items; kind = kind.Conditional; address = address; size = 4; read = 0; written = value; aq = (bits_of f.instr).acquire; rl = (bits_of f.instr).release })) None) e) k)
+    performs_none model h _ _ performed (keeps_plain model h items n.buffer performed m f.instr new x.0 (gave ∙ ap (λ o. cond (succeeded o) (Some (record { hart = h; place = length items; kind = kind.Conditional; address = address; size = 4; read = 0; written = value; aq = (annotations_of f.instr).acquire; rl = (annotations_of f.instr).release })) None) e) k)
 deed_keeps model h n f entry (Tries address value) (deed.Conditional word v) items performed m new at gave x e k =
-    performs_once model h items n.buffer performed m f.instr (record { hart = h; place = length items; kind = kind.Conditional; address = address; size = 4; read = 0; written = value; aq = (bits_of f.instr).acquire; rl = (bits_of f.instr).release }) new x.0
-    (gave ∙ ap (λ o. cond (succeeded o) (Some (record { hart = h; place = length items; kind = kind.Conditional; address = address; size = 4; read = 0; written = value; aq = (bits_of f.instr).acquire; rl = (bits_of f.instr).release })) None) e.2) refl refl refl k
+    performs_once model h items n.buffer performed m f.instr (record { hart = h; place = length items; kind = kind.Conditional; address = address; size = 4; read = 0; written = value; aq = (annotations_of f.instr).acquire; rl = (annotations_of f.instr).release }) new x.0
+    (gave ∙ ap (λ o. cond (succeeded o) (Some (record { hart = h; place = length items; kind = kind.Conditional; address = address; size = 4; read = 0; written = value; aq = (annotations_of f.instr).acquire; rl = (annotations_of f.instr).release })) None) e.2) refl refl refl k
     (passes_write model h n items performed f.instr _ address refl (aligned_in_word address x.1) (word_aligned address x.1) e.4 k)
 deed_keeps model h n f entry (Updates address op operand) (deed.Update word v) items performed m new at gave x e k =
     performs_once model h items n.buffer performed m f.instr _ new x.0 gave refl refl refl k (passes_write model h n items performed f.instr _ address refl (aligned_in_word address x.1) (word_aligned address x.1) e.1 k)

@@ -49,7 +49,7 @@ id-reached hart (e ∷ es) = id-reached (after hart e) es ∙ id-after hart e
 
 -- ---- operations by name
 
-operation_in : (harts : List (List Item)) (k place : ℕ) → option_and_then (λ (m : Item). m.gave) (option_and_then (λ (items : List Item). slice_get items place) (slice_get harts k)) ≡ gave_at (items_of harts k) place
+operation_in : (harts : List (List Item)) (k place : ℕ) → option_and_then (λ (m : Item). m.operation) (option_and_then (λ (items : List Item). slice_get items place) (slice_get harts k)) ≡ gave_at (items_of harts k) place
 operation_in [] k place = refl
 operation_in (items ∷ rest) zero place = refl
 operation_in (items ∷ rest) (suc k) place = operation_in rest k place

@@ -8,7 +8,7 @@ use Rattle.machine_model.specs.declared.act.Deed.{Deed}
 use Rattle.machine_model.specs.declared.act.Deed.TheVariants as deed
 use Rattle.machine_model.specs.Words.{word_of}
 use Rattle.machine_model.proofs.OrderKept.{joined, of_word, IsWaiting, IsBelow, Kept, get_new}
-use Rattle.machine_model.proofs.OrderLists.{Each-always, filter-filter, last_or-append, byte_from-later, visible-append, others}
+use Rattle.machine_model.proofs.OrderLists.{Each-always, filter-filter, last_or-append, byte_from-later, candidates-append, others}
 use Rattle.machine_model.proofs.OrderRules.{precedes_not, precedes_yes, touches_word}
 use Rattle.machine_model.proofs.OrderSplit.{Split, absent, gave_at, ops_of, new_name, split_store, split_at_once, split_item}
 use Rattle.machine_model.proofs.OrderSteps.{HartKept, Performs, names_by}
@@ -18,9 +18,9 @@ use Rattle.memory_model.specs.declared.operation.Kind.TheVariants.{Store}
 use Rattle.memory_model.specs.declared.operation.Operation.{Operation}
 use Rattle.memory_model.specs.Items.{Item}
 use Rattle.memory_model.specs.Operations.{reads, writes, same, precedes, touches, stores_to, read_at}
-use Rattle.memory_model.specs.Order.{visible, source, last_of, byte_from, last_write}
+use Rattle.memory_model.specs.Order.{source, last_of, byte_from, last_write, candidates}
 use Rattle.memory_model.specs.Verdict.{name_of}
-use Rattle.memory_model.proofs.Forms.{same-self, same-swap, visible-behind}
+use Rattle.memory_model.proofs.Forms.{same-self, same-swap, candidates-behind}
 use Rattle.memory_model.proofs.Lists.{Each-append, Each-left, Each-right, Each-weaker, Each-both, Each-kept, filter_same, filter_none}
 use Rattle.store_buffer.specs.Groups.{Groups}
 use Rattle.trace_recorder.specs.declared.operation.OpId.{OpId}
@@ -43,8 +43,8 @@ pub members : (xs : List Operation) → Each (λ i. list_any (λ s. same s i) xs
 members [] = tt
 members (x ∷ xs) = (or_left (same x x) _ (same-self x), Each-weaker (λ i. list_any (λ s. same s i) xs ≡ true) (λ i. list_any (λ s. same s i) (x ∷ xs) ≡ true) (λ i e. or_right (same x i) _ e) xs (members xs))
 
-visible_same : (i : Operation) (x : ℕ) (done ys zs : List Operation) → list_any (λ s. same s i) done ≡ true → filter (theirs i x) ys ≡ filter (theirs i x) zs → visible i x (done ++ ys) ≡ visible i x (done ++ zs)
-visible_same i x done ys zs m e = visible-append i x done ys m ∙ (ap (λ w. visible i x done ++ w) e ∙ sym (visible-append i x done zs m))
+candidates_same : (i : Operation) (x : ℕ) (done ys zs : List Operation) → list_any (λ s. same s i) done ≡ true → filter (theirs i x) ys ≡ filter (theirs i x) zs → candidates (done ++ ys) i x ≡ candidates (done ++ zs) i x
+candidates_same i x done ys zs m e = candidates-append i x done ys m ∙ (ap (λ w. candidates done i x ++ w) e ∙ sym (candidates-append i x done zs m))
 
 -- the stores that a load sees behind the performed ones are these or those
 abbrev pub SeesSame : ℕ → (ys zs : List Operation) → Operation → Type 0
@@ -53,7 +53,7 @@ SeesSame h ys zs i = i.hart ≡ h → (x : ℕ) → filter (theirs i x) ys ≡ f
 pub rights_same : (image : ℕ → ℕ) (h : ℕ) (done ys zs : List Operation) → Each (SeesSame h ys zs) done → Each (IsRight image h (done ++ ys)) done → Each (IsRight image h (done ++ zs)) done
 rights_same image h done ys zs same_ones rights =
     Each-weaker (λ i. SeesSame h ys zs i × ((list_any (λ s. same s i) done ≡ true) × IsRight image h (done ++ ys) i)) (IsRight image h (done ++ zs))
-    (λ i k. record { right = λ mine reading x t. k.1.1.right mine reading x t ∙ ap (λ v. byte_from image x (last_of v)) (visible_same i x done ys zs k.1.0 (k.0 mine x)) })
+    (λ i k. record { right = λ mine reading x t. k.1.1.right mine reading x t ∙ ap (λ v. byte_from image x (last_of v)) (candidates_same i x done ys zs k.1.0 (k.0 mine x)) })
     done (Each-both (SeesSame h ys zs) (λ i. (list_any (λ s. same s i) done ≡ true) × IsRight image h (done ++ ys) i) done same_ones
     (Each-both (λ i. list_any (λ s. same s i) done ≡ true) (IsRight image h (done ++ ys)) done (members done) rights))
 
@@ -97,12 +97,12 @@ ReadsLast image performed waiting i = reads i.kind ≡ true → (x : ℕ) → to
 right_once : (image : ℕ → ℕ) (h n : ℕ) (done ys : List Operation) (i : Operation) → i.hart ≡ h → i.place ≡ n → Each (IsBelow h n) done → Each (IsBelow h n) ys → Each (IsWaiting h) ys → ReadsLast image done ys i → IsRight image h (done ++ (i ∷ ys)) i
 right_once image h n done ys i mine here below_done below_ys own value = record { right = λ e r x t. value r x t ∙ (sym (last_write_more image done ys x) ∙ ap (λ v. byte_from image x (last_or None v)) (sym (sees x))) }
   where
-    at_load : (x : ℕ) → visible i x (i ∷ ys) ≡ filter (theirs i x) ys
-    at_load x = ap (λ b. cond b (filter (theirs i x) ys) (cond (stores_to x i) (i ∷ visible i x ys) (visible i x ys))) (same-self i)
+    at_load : (x : ℕ) → candidates (i ∷ ys) i x ≡ filter (theirs i x) ys
+    at_load x = ap (λ b. cond b (filter (theirs i x) ys) (cond (stores_to x i) (i ∷ candidates ys i x) (candidates ys i x))) (same-self i)
 
-    sees : (x : ℕ) → visible i x (done ++ (i ∷ ys)) ≡ filter (stores_to x) (done ++ ys)
+    sees : (x : ℕ) → candidates (done ++ (i ∷ ys)) i x ≡ filter (stores_to x) (done ++ ys)
     sees x =
-        visible-behind i x done (i ∷ ys) (Each-weaker (IsBelow h n) (λ s. same s i ≡ false) (λ s q. same-swap i s (new_name h n i s mine here q)) done below_done)
+        candidates-behind i x done (i ∷ ys) (Each-weaker (IsBelow h n) (λ s. same s i ≡ false) (λ s q. same-swap i s (new_name h n i s mine here q)) done below_done)
         ∙ (ap (λ v. filter (stores_to x) done ++ v) (at_load x ∙ filter_same (theirs i x) (stores_to x) ys
         (Each-weaker (λ t. IsWaiting h t × IsBelow h n t) (λ t. theirs i x t ≡ stores_to x t) (λ t q. let l = q.1.below q.0.own in and_known (stores_to x t) (precedes t i) (precedes_yes t i (q.0.own ∙ sym mine) (omega (arith, l, here))))
         ys (Each-both (IsWaiting h) (IsBelow h n) ys own below_ys)))
@@ -110,7 +110,7 @@ right_once image h n done ys i mine here below_done below_ys own value = record 
 
 -- ---- an instruction retires
 
-names_cases : (h place : ℕ) (d : Deed) → (names_by h place d ≡ []) ⊎ (names_by h place d ≡ record { hart = h; place = place } ∷ [])
+pub names_cases : (h place : ℕ) (d : Deed) → (names_by h place d ≡ []) ⊎ (names_by h place d ≡ record { hart = h; place = place } ∷ [])
 names_cases h place deed.Load = inr refl
 names_cases h place (deed.Reserve word) = inr refl
 names_cases h place (deed.Conditional word value) = inr refl
@@ -121,14 +121,14 @@ names_cases h place (deed.Store s) = inl refl
 names_cases h place deed.Seal = inl refl
 names_cases h place deed.Fail = inl refl
 
-nothing_named : (out : List Operation) → map name_of out ≡ [] → out ≡ []
+pub nothing_named : (out : List Operation) → map name_of out ≡ [] → out ≡ []
 nothing_named [] e = refl
 nothing_named (a ∷ out) e = absurd (none_here e)
   where
     none_here : (name_of a ∷ map name_of out ≡ []) → ⊥
     none_here e = cc
 
-one_named : (out : List Operation) (n : OpId) → map name_of out ≡ n ∷ [] → (a : Operation) × (out ≡ a ∷ []) × (name_of a ≡ n)
+pub one_named : (out : List Operation) (n : OpId) → map name_of out ≡ n ∷ [] → (a : Operation) × (out ≡ a ∷ []) × (name_of a ≡ n)
 one_named [] n e = absurd (none_here e)
   where
     none_here : ([] ≡ n ∷ []) → ⊥
@@ -152,7 +152,7 @@ not_theirs : (h n : ℕ) (s j : Operation) (x : ℕ) → s.place ≡ n → IsBel
 not_theirs h n s j x here q e = let l = q.below e in theirs_not j s x (precedes_not s j (λ _. omega (arith, l, here)))
 
 pub retire_rights : (model : Model) (image : ℕ → ℕ) (h : ℕ) (items longer : List Item) (old new : Groups) (performed : List Operation) (m : Item) (d : Deed) (names : List OpId) → longer ≡ items ++ m ∷ [] → names ≡ names_by h (length items) d
-    → (k : HartKept model h items old performed) → (p : Performs model h longer new performed names) → ((a : Operation) → m.gave ≡ Some a → Gives image h (length items) performed (joined k.sealed ++ k.current) a)
+    → (k : HartKept model h items old performed) → (p : Performs model h longer new performed names) → ((a : Operation) → m.operation ≡ Some a → Gives image h (length items) performed (joined k.sealed ++ k.current) a)
     → Each (IsRight image h (performed ++ waits items performed)) performed → Each (IsRight image h ((performed ++ p.out) ++ waits longer (performed ++ p.out))) (performed ++ p.out)
 retire_rights model image h items longer old new performed m d names is_longer are_names k p gives rights = subst (λ is. Each (IsRight image h ((performed ++ p.out) ++ waits is (performed ++ p.out))) (performed ++ p.out)) (sym is_longer) (go (names_cases h (length items) d))
   where
@@ -163,7 +163,7 @@ retire_rights model image h items longer old new performed m d names is_longer a
     before = subst (λ v. Each (IsRight image h (performed ++ v)) performed) k.split.waits rights
 
     -- nothing is performed
-    still : (o : Option Operation) → m.gave ≡ o → Each (IsRight image h (performed ++ waits (items ++ m ∷ []) performed)) performed
+    still : (o : Option Operation) → m.operation ≡ o → Each (IsRight image h (performed ++ waits (items ++ m ∷ []) performed)) performed
     still None e = subst (λ v. Each (IsRight image h (performed ++ v)) performed) (sym (split_item h items (joined k.sealed ++ k.current) performed m e k.split).waits) before
     still (Some s) e =
         let g = gives s e in
@@ -173,7 +173,7 @@ retire_rights model image h items longer old new performed m d names is_longer a
         (λ j q mine x. sym (filter-append (theirs j x) (joined k.sealed ++ k.current) (s ∷ []) ∙ (ap (λ v. filter (theirs j x) (joined k.sealed ++ k.current) ++ v) (filter_none (theirs j x) (s ∷ []) (not_theirs h (length items) s j x g.here q mine, tt)) ∙ append-nil (filter (theirs j x) (joined k.sealed ++ k.current))))) performed below) before)
 
     -- its operation is
-    once : (i : Operation) → m.gave ≡ Some i → Each (IsRight image h ((performed ++ i ∷ []) ++ waits (items ++ m ∷ []) (performed ++ i ∷ []))) (performed ++ i ∷ [])
+    once : (i : Operation) → m.operation ≡ Some i → Each (IsRight image h ((performed ++ i ∷ []) ++ waits (items ++ m ∷ []) (performed ++ i ∷ []))) (performed ++ i ∷ [])
     once i e =
         let g = gives i e in
         subst (λ v. Each (IsRight image h ((performed ++ i ∷ []) ++ v)) (performed ++ i ∷ [])) (sym (split_at_once h items (joined k.sealed ++ k.current) performed m i e g.own g.here k.split).waits)
@@ -185,11 +185,11 @@ retire_rights model image h items longer old new performed m d names is_longer a
     go : (names_by h (length items) d ≡ []) ⊎ (names_by h (length items) d ≡ record { hart = h; place = length items } ∷ []) → Each (IsRight image h ((performed ++ p.out) ++ waits (items ++ m ∷ []) (performed ++ p.out))) (performed ++ p.out)
     go (inl e) =
         subst (λ out. Each (IsRight image h ((performed ++ out) ++ waits (items ++ m ∷ []) (performed ++ out))) (performed ++ out)) (sym (nothing_named p.out (p.named ∙ (are_names ∙ e))))
-        (subst (λ done. Each (IsRight image h (done ++ waits (items ++ m ∷ []) done)) done) (sym (append-nil performed)) (still m.gave refl))
+        (subst (λ done. Each (IsRight image h (done ++ waits (items ++ m ∷ []) done)) done) (sym (append-nil performed)) (still m.operation refl))
     go (inr e) =
         let one = one_named p.out (record { hart = h; place = length items }) (p.named ∙ (are_names ∙ e)) in
         let found = subst (Each (λ a. gave_at (items ++ m ∷ []) a.place ≡ Some a)) one.1 (subst (λ is. Each (λ a. gave_at is a.place ≡ Some a) p.out) is_longer p.found) in
-        let gave : m.gave ≡ Some one.0 = sym (ap (option_and_then (λ (q : Item). q.gave)) (get_new items m one.0.place (ap (λ (n : OpId). n.place) one.2))) ∙ found.0 in
+        let gave : m.operation ≡ Some one.0 = sym (ap (option_and_then (λ (q : Item). q.operation)) (get_new items m one.0.place (ap (λ (n : OpId). n.place) one.2))) ∙ found.0 in
         subst (λ out. Each (IsRight image h ((performed ++ out) ++ waits (items ++ m ∷ []) (performed ++ out))) (performed ++ out)) (sym one.1) (once one.0 gave)
 
 -- ---- a word is drained

@@ -29,14 +29,14 @@ use Rattle.machine_model.proofs.OrderTraces.{items_at, items_of-at, done, IsReso
 use Rattle.memory_model.specs.declared.Model.{Model}
 use Rattle.memory_model.specs.declared.operation.Kind.TheVariants.{Store}
 use Rattle.memory_model.specs.declared.operation.Operation.{Operation}
-use Rattle.memory_model.specs.Items.{Item, item_of, items_from, gives, gives_one, is_giving, operation_of, succeeded}
+use Rattle.memory_model.specs.Items.{Item, item_of, items_from, operation_of_entry, has_operation, accesses_memory, operation_of_access, succeeded}
 use Rattle.memory_model.specs.Operations.{same, precedes}
-use Rattle.memory_model.specs.Order.{Pairwise, IsDistinct, in_order}
+use Rattle.memory_model.specs.Order.{in_order}
 use Rattle.memory_model.specs.Rules.{items_of, preserved}
 use Rattle.memory_model.specs.Traces.{completed, instructions, is_among, is_distinct, is_named, names_from, names_of_harts, names_in, operation_at, operations_at}
 use Rattle.memory_model.proofs.Forms.{Ordered, in_order-from_Ordered}
-use Rattle.memory_model.proofs.Lists.{Each-append, Each-weaker, Each-both, Pairwise-append, list_all-from_Each}
-use Rattle.memory_model.proofs.Named.{Apart, Bears, operation_at-bears, is_named-self, is_distinct-from_Pairwise, completed_is_order}
+use Rattle.memory_model.proofs.Lists.{Each-append, Each-weaker, Each-both, Pairwise-append, list_all-from_Each, Pairwise}
+use Rattle.memory_model.proofs.Named.{Apart, Bears, operation_at-bears, is_named-self, is_distinct-from_Pairwise, completed_is_order, EachOnce}
 use Rattle.rv32_decode.specs.Rows.{decoded}
 use Rattle.rv32_decode.specs.declared.instruction.Instr.{Instr}
 use Rattle.rv32_decode.specs.declared.instruction.Instr.TheVariants as instr
@@ -48,7 +48,7 @@ use Rattle.trace_recorder.specs.declared.operation.OpId.{OpId}
 -- ---- names and operations
 
 -- an entry gives an operation where its word and its SC answer say so
-giving_is : (place : ℕ) (hart : Hart) (entry : Retired) (o : Option Instr) → option_map_or (is_giving entry.sc_ok) o false ≡ is_some (gives place hart entry o)
+giving_is : (place : ℕ) (hart : Hart) (entry : Retired) (o : Option Instr) → option_map_or (accesses_memory entry.sc_ok) o false ≡ is_some (operation_of_entry place hart entry o)
 giving_is place hart entry None = refl
 giving_is place hart entry (Some (instr.Load op rd rs1 offset)) = refl
 giving_is place hart entry (Some (instr.Store op rs1 rs2 offset)) = refl
@@ -83,7 +83,7 @@ named_from h place hart [] k a e = absurd (none_not a e)
 named_from h place hart (x ∷ es) zero a e =
     ap (λ b. is_among (cond b (named h place ∷ names_from h (place + 1) es) (names_from h (place + 1) es)) (named h (place + 0))) (giving_is place hart x (decoded x.word) ∙ ap is_some e)
     ∙ or_left (is_named (named h (place + 0)) (named h place)) _ (subst (λ p. is_named (named h (place + 0)) (named h p) ≡ true) (omega arith) (is_named-self (named h (place + 0))))
-named_from h place hart (x ∷ es) (suc k) a e = go (gives_one x) (subst (λ p. is_among (names_from h (place + 1) es) (named h p) ≡ true) (omega arith) (named_from h (place + 1) (after hart x) es k a e))
+named_from h place hart (x ∷ es) (suc k) a e = go (has_operation x) (subst (λ p. is_among (names_from h (place + 1) es) (named h p) ≡ true) (omega arith) (named_from h (place + 1) (after hart x) es k a e))
   where
     go : (b : Bool) → is_among (names_from h (place + 1) es) (named h (place + suc k)) ≡ true → is_among (cond b (named h place ∷ names_from h (place + 1) es) (names_from h (place + 1) es)) (named h (place + suc k)) ≡ true
     go true f = or_right (is_named (named h (place + suc k)) (named h place)) _ f
@@ -111,10 +111,10 @@ names_apart_one t n a (m ∷ ns) e r d =
     let d' = subst (λ o. Each (λ b. same a b ≡ false) (cons_option o (operations_at (instructions t) ns))) r.0.1 d in
     (sym (same_is t n m a r.0.0 e r.0.1) ∙ d'.0, names_apart_one t n a ns e r.1 d'.1)
 
-names_apart : (t : History) (ns : List OpId) → Each (IsResolved t) ns → IsDistinct (operations_at (instructions t) ns) → Pairwise Apart ns
+names_apart : (t : History) (ns : List OpId) → Each (IsResolved t) ns → EachOnce (operations_at (instructions t) ns) → Pairwise Apart ns
 names_apart t [] r d = tt
 names_apart t (n ∷ ns) r d =
-    let d' = subst (λ o. IsDistinct (cons_option o (operations_at (instructions t) ns))) r.0.1 d in (names_apart_one t n r.0.0 ns r.0.1 r.1 d'.0, names_apart t ns r.1 d'.1)
+    let d' = subst (λ o. EachOnce (cons_option o (operations_at (instructions t) ns))) r.0.1 d in (names_apart_one t n r.0.0 ns r.0.1 r.1 d'.0, names_apart t ns r.1 d'.1)
 
 performed_once : (s : State) → OrderKept s → IsPerformedOnce s.trace
 performed_once s o = record {
@@ -145,7 +145,7 @@ tail_part : (t : History) (h place : ℕ) (hart : Hart) (es : List Retired) → 
 tail_part t h place hart [] r f = refl
 tail_part t h place hart (x ∷ es) r f =
     ap (λ b. operations_at (instructions t) (filter (missing t) (cond b (named h place ∷ names_from h (place + 1) es) (names_from h (place + 1) es)))) (giving_is place hart x (decoded x.word))
-    ∙ go (gives place hart x (decoded x.word)) (subst (λ p. operation_at (instructions t) (named h p) ≡ gives place hart x (decoded x.word)) (omega arith) (f 0))
+    ∙ go (operation_of_entry place hart x (decoded x.word)) (subst (λ p. operation_at (instructions t) (named h p) ≡ operation_of_entry place hart x (decoded x.word)) (omega arith) (f 0))
     (tail_part t h (place + 1) (after hart x) es r (λ k. subst (λ p. operation_at (instructions t) (named h p) ≡ gave_at (items_from (place + 1) (after hart x) es) k) (omega arith) (f (suc k))))
   where
     kept_or_not : (a : Operation) (b : Bool) → operation_at (instructions t) (named h place) ≡ Some a
