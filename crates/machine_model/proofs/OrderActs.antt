@@ -1,11 +1,9 @@
 -- Each event keeps what is kept of the harts' waiting stores.
-use Rattle.std.proofs.Common.{◌≡◌, ◌≢◌, ℕ, zero, suc, ◌+◌, ◌<◌, List, [], ◌∷◌, ◌++◌, Bool, true, false, Option, Some, None, refl, cond, sym, ap, ◌∙◌, subst, not, ◌&&◌, append-nil, arith, length, map, replicate, slice_index_or, slice_set}
-use Rattle.std.specs.Prelude.{nat_eq, nat_lt, nat_le, is_none}
-use Rattle.std.specs.List.{AllByRecursion as Each, range_with_len}
-use Rattle.std.proofs.lemmas.Bool.{false≢true, true≢false, and_parts, ltb-true}
-use Rattle.std.proofs.lemmas.List.{length-set, length-replicate, get_or-replicate, get_or-set_same}
-use Rattle.std.proofs.lemmas.List.FromFn.{get_or-map-range_with_len, length-map-range_with_len}
-use Rattle.elf_loader.specs.Image.{Initial, IsImage, word_at}
+use Rattle.std.proofs.Common.{◌≡◌, ◌≢◌, ℕ, zero, suc, ◌<◌, List, [], ◌∷◌, ◌++◌, Bool, true, false, Option, Some, None, refl, cond, sym, ap, ◌∙◌, subst, ◌&&◌, append-nil, length, slice_index_or, slice_set}
+use Rattle.std.specs.Prelude.{is_none}
+use Rattle.std.proofs.lemmas.Bool.{false≢true, and_parts}
+use Rattle.std.proofs.lemmas.List.{length-set, get_or-set_same}
+use Rattle.elf_loader.specs.Image.{Initial, word_at}
 use Rattle.hart.specs.declared.retired.Retired.{Retired}
 use Rattle.hart.specs.declared.state.Hart.{Hart}
 use Rattle.hart.specs.declared.status.Status.{Status}
@@ -14,30 +12,26 @@ use Rattle.hart.specs.Local.{private_row, next_entry, can_go_alone, is_done_alon
 use Rattle.hart.specs.Run as run
 use Rattle.hart.specs.Run.{after, after_instr, at_reset, can_fetch, is_step, is_running, next_stop, reached}
 use Rattle.hart.proofs.Endings.{reached-append, step_does}
-use Rattle.machine_model.specs.declared.act.Act.{Act}
-use Rattle.machine_model.specs.declared.act.Act.TheVariants as act
 use Rattle.machine_model.specs.declared.act.Deed.{Deed}
-use Rattle.machine_model.specs.declared.config.Config.{Config}
-use Rattle.machine_model.specs.Changing.{acted, does, place_at, retired, stopped, with_halt, with_entries, went_alone, drained}
+use Rattle.machine_model.specs.Changing.{does, place_at, retired, with_halt, with_entries, went_alone}
 use Rattle.machine_model.specs.Steps.{Fetched}
-use Rattle.machine_model.specs.Views.{Node, State, node_at, with_node, with_trace, no_node, opening, opening_node}
-use Rattle.machine_model.proofs.Runs.{AllStand, Stands}
-use Rattle.machine_model.proofs.OrderBuffers.{KeepsBuffers, Moves, node_keeps, does_moves, delivered_keeps, missed_keeps, given_up_keeps, stopped_keeps}
+use Rattle.machine_model.specs.Views.{Node, State, node_at, with_node, with_trace, opening_node}
+use Rattle.machine_model.proofs.Runs.{AllStand}
+use Rattle.machine_model.proofs.OrderBuffers.{Moves, node_keeps, does_moves}
 use Rattle.machine_model.proofs.OrderDeeds.{FitsDeed, Facts, NoFence, facts}
-use Rattle.machine_model.proofs.OrderMoves.{OrderKept, Changes, Step, step_kept, performs_same, order_changes}
+use Rattle.machine_model.proofs.OrderMoves.{OrderKept, Changes, Step, step_kept, performs_same}
 use Rattle.machine_model.proofs.OrderSplit.{ops_of, ops_same}
 use Rattle.machine_model.proofs.OrderSteps.{HartKept, Performs, IsNew, buffer_by, names_by, deed_keeps, keeps_plain, performs_none}
-use Rattle.machine_model.proofs.OrderTraces.{items_at, done, Extends, IsLonger, new_item, items_here, items_there, extends_longer, extends_same, items_same, length-items_from, id-reached, count_same}
+use Rattle.machine_model.proofs.OrderTraces.{items_at, done, Extends, IsLonger, new_item, items_here, items_there, extends_longer, length-items_from, id-reached}
 use Rattle.memory_model.specs.declared.Model.{Model}
 use Rattle.memory_model.specs.declared.operation.Operation.{Operation}
-use Rattle.memory_model.specs.Items.{Item, annotations_of, operation_of_entry, operation_of_access}
+use Rattle.memory_model.specs.Items.{annotations_of, operation_of_entry, operation_of_access}
 use Rattle.rv32_decode.specs.Rows.{decoded}
 use Rattle.rv32_decode.specs.declared.instruction.Instr.{Instr}
 use Rattle.rv32_exec.specs.Meaning.{Access, Private, Loads, Stores, Reserves, Tries, Updates, Fences, Calls, access_of, effect_of, stop_of}
 use Rattle.rv32_exec.specs.Registers.{after_write}
 use Rattle.store_buffer.specs.Groups.{Groups}
 use Rattle.trace_recorder.specs.History.{History, entries_of, with_entry}
-use Rattle.trace_recorder.specs.declared.operation.OpId.{OpId}
 
 -- ---- halts and traces
 

@@ -1,16 +1,15 @@
 -- The bytes that a load finds: the last waiting store's, else those of what was performed.
-use Rattle.std.proofs.Common.{◌≡◌, ℕ, zero, suc, ◌+◌, ◌-◌, ◌*◌, ◌/◌, ◌%◌, ◌^◌, ◌<◌, ◌≤◌, List, [], ◌∷◌, ◌++◌, Bool, true, false, Option, Some, None, refl, cond, sym, ap, ◌∙◌, subst, not, ◌&&◌, ◌||◌, arith, map}
+use Rattle.std.proofs.Common.{◌≡◌, ℕ, zero, suc, ◌+◌, ◌-◌, ◌*◌, ◌/◌, ◌%◌, ◌^◌, ◌<◌, ◌≤◌, List, [], ◌∷◌, Bool, true, false, Option, Some, None, refl, cond, sym, ap, ◌∙◌, subst, not, ◌&&◌, ◌||◌, arith}
 use Rattle.std.specs.Prelude.{nat_eq, nat_le, nat_lt, is_some, unwrap_or, slice_index}
 use Rattle.std.specs.List.{AllByRecursion as Each, filter, last_or}
-use Rattle.std.proofs.lemmas.Bool.{false≢true, true≢false, and_parts, and_left, and_from, eqb-true, eqb-false, leb-true, leb-false, ltb-true, ltb-false, le-leb, lt-leb, lt-ltb, le-ltb, false_from_ne_true}
+use Rattle.std.proofs.lemmas.Bool.{false≢true, true≢false, and_parts, and_from, eqb-true, eqb-false, leb-true, ltb-true, le-leb, lt-ltb, false_from_ne_true}
 use Rattle.machine_model.specs.Words.{word_of, number_of, read_from, bytes_of_word}
 use Rattle.machine_model.proofs.OrderKept.{IsWaiting}
-use Rattle.machine_model.proofs.OrderRules.{InWord, touches_word}
+use Rattle.machine_model.proofs.OrderRules.{touches_word}
 use Rattle.machine_model.proofs.OrderSteps.{store_of_operation, stores_of}
-use Rattle.memory_model.specs.declared.operation.Kind.TheVariants.{Store}
 use Rattle.memory_model.specs.declared.operation.Operation.{Operation}
 use Rattle.memory_model.specs.Operations.{byte_at, writes, touches, stores_to, written_at}
-use Rattle.memory_model.specs.Order.{byte_from, last_of}
+use Rattle.memory_model.specs.Order.{byte_from}
 use Rattle.store_buffer.specs.ByteMask.{each_place, is_marked, marks_of_access, covers}
 use Rattle.store_buffer.specs.Groups.{or_else}
 use Rattle.store_buffer.specs.Stores.{last_byte, stored_byte}

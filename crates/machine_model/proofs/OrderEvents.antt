@@ -1,5 +1,5 @@
 -- Whatever events come, the harts' waiting stores are kept as they should be.
-use Rattle.std.proofs.Common.{◌≡◌, ◌≢◌, ℕ, zero, suc, ◌+◌, ◌<◌, List, [], ◌∷◌, ◌++◌, Bool, true, false, Option, Some, None, refl, cond, sym, ap, ◌∙◌, subst, not, ◌&&◌, arith, length, replicate, slice_index_or}
+use Rattle.std.proofs.Common.{◌≡◌, ℕ, ◌<◌, List, [], ◌∷◌, Bool, true, false, Option, Some, None, refl, cond, sym, ap, subst, not, arith, length, slice_index_or}
 use Rattle.std.specs.Prelude.{nat_eq, nat_lt, nat_le}
 use Rattle.std.proofs.lemmas.Bool.{and_parts, ltb-true}
 use Rattle.std.proofs.lemmas.List.{length-replicate, get_or-replicate}
@@ -32,7 +32,7 @@ use Rattle.machine_model.specs.declared.event.Event.{Event}
 use Rattle.machine_model.specs.declared.event.Event.TheVariants as event
 use Rattle.machine_model.specs.declared.outcome.Outcome.{Outcome}
 use Rattle.machine_model.specs.declared.outcome.Outcome.TheVariants as outcome
-use Rattle.machine_model.specs.Changing.{acted, does, place_at, outcome_of}
+use Rattle.machine_model.specs.Changing.{acted, place_at, outcome_of}
 use Rattle.machine_model.specs.Deciding.{miss_by, writing_by}
 use Rattle.machine_model.specs.Deliveries.{plan_body, plan_front, unless_busy, unless_releasing, unless_acks_full}
 use Rattle.machine_model.specs.Events.{Verdict, verdict_by, state_by, happens, after_events, is_good, is_limited, plan_of, plan_drain, evict_by, hart_of, counted}
@@ -45,9 +45,8 @@ use Rattle.machine_model.proofs.OrderBuffers.{still, delivered_keeps, missed_kee
 use Rattle.machine_model.proofs.OrderDeeds.{FitsDeed, FitsPlan, access_fits}
 use Rattle.machine_model.proofs.OrderMoves.{OrderKept, order_still, order_drained}
 use Rattle.machine_model.proofs.OrderSteps.{HartKept}
-use Rattle.machine_model.proofs.OrderTraces.{items_at, done}
+use Rattle.machine_model.proofs.OrderTraces.{items_at}
 use Rattle.memory_model.specs.declared.Model.{Model}
-use Rattle.memory_model.specs.declared.operation.Operation.{Operation}
 use Rattle.memory_model.specs.Items.{Item, items_from}
 use Rattle.rv32_decode.specs.Rows.{decoded}
 use Rattle.rv32_decode.specs.declared.instruction.Instr.{Instr}
@@ -59,7 +58,7 @@ use Rattle.tl_types.specs.declared.message.Body.TheVariants.{AcquireBlock, Probe
 use Rattle.tl_types.specs.declared.message.Channel.TheVariants.{E}
 use Rattle.tl_types.specs.declared.message.Msg.{Msg}
 use Rattle.tl_types.specs.declared.permission.Grow.TheVariants.{NtoT, BtoT}
-use Rattle.trace_recorder.specs.History.{History, entries_of}
+use Rattle.trace_recorder.specs.History.{entries_of}
 
 -- ---- acts
 

@@ -1,17 +1,16 @@
 -- A coherent machine's copies hold what was performed.
-use Rattle.std.proofs.Common.{◌≡◌, ℕ, zero, suc, ◌+◌, ◌-◌, ◌%◌, ◌<◌, ◌≤◌, List, [], ◌∷◌, Option, Some, None, refl, sym, ap, ◌∙◌, subst, arith}
+use Rattle.std.proofs.Common.{◌≡◌, ℕ, zero, suc, ◌+◌, ◌-◌, ◌%◌, ◌<◌, ◌≤◌, List, [], ◌∷◌, Some, None, ap, ◌∙◌, subst, arith}
 use Rattle.std.specs.Prelude.{slice_get, slice_index}
 use Rattle.client_cache.specs.Cache.{copy_at}
 use Rattle.client_cache.specs.Held.{bytes_in}
 use Rattle.client_cache.specs.declared.held.Held.{Held}
 use Rattle.machine_model.specs.Coherent.{IsCoherent}
 use Rattle.machine_model.specs.Views.{State, line_of, line_size, node_at}
-use Rattle.machine_model.specs.Words.{word_of, word_in}
+use Rattle.machine_model.specs.Words.{word_of}
 use Rattle.machine_model.proofs.OrderBytes.{place_at}
 use Rattle.machine_model.proofs.OrderReturns.{AllHold}
 use Rattle.memory_model.specs.Traces.{last_performed}
 use Rattle.tl_types.specs.Line.{bytes_of, length_of, size_of}
-use Rattle.tl_types.specs.declared.line.LineData.{LineData}
 use Rattle.tl_types.specs.declared.line.LineSize.{LineSize}
 use Rattle.tl_types.specs.declared.line.LineSize.TheVariants.{Bytes16, Bytes64}
 

@@ -1,8 +1,8 @@
 -- What a step does to the last performed write of each byte.
-use Rattle.std.proofs.Common.{◌≡◌, ◌≢◌, ℕ, ◌+◌, ◌-◌, ◌/◌, ◌%◌, ◌^◌, ◌<◌, List, [], ◌∷◌, ◌++◌, Bool, true, false, Option, Some, None, refl, cond, sym, ap, ◌∙◌, subst, ◌&&◌, ◌⊎◌, inl, inr, arith, length}
-use Rattle.std.specs.Prelude.{nat_eq, nat_le, nat_lt, option_and_then, unwrap_or}
+use Rattle.std.proofs.Common.{◌≡◌, ◌≢◌, ℕ, ◌+◌, ◌%◌, ◌<◌, List, [], ◌∷◌, ◌++◌, Bool, true, false, Option, Some, None, refl, cond, sym, ap, ◌∙◌, subst, ◌&&◌, ◌⊎◌, inl, inr, arith, length}
+use Rattle.std.specs.Prelude.{nat_le, nat_lt, option_and_then, unwrap_or}
 use Rattle.std.specs.List.{AllByRecursion as Each, filter, last_or}
-use Rattle.std.proofs.lemmas.Bool.{true≢false, and_parts, and_left, eqb-true, eq-eqb, ne_eqb, false_from_ne_true}
+use Rattle.std.proofs.lemmas.Bool.{and_parts, eqb-true, eq-eqb, false_from_ne_true}
 use Rattle.std.proofs.lemmas.List.Elements.{filter-append}
 use Rattle.elf_loader.specs.Image.{byte_at as image_byte}
 use Rattle.hart.specs.declared.retired.Retired.{Retired}
@@ -22,7 +22,7 @@ use Rattle.machine_model.proofs.OrderLists.{filter-filter, last_or-append, byte_
 use Rattle.machine_model.proofs.OrderMoves.{OrderKept, done_more, oldest_group, oldest_is, oldest_waiting, drained_out, drained_done, drained_moves}
 use Rattle.machine_model.proofs.OrderRules.{touches_word}
 use Rattle.machine_model.proofs.OrderSplit.{gave_at}
-use Rattle.machine_model.proofs.OrderSteps.{HartKept, Performs, names_by, stores_of, waiting_of}
+use Rattle.machine_model.proofs.OrderSteps.{Performs, names_by, stores_of}
 use Rattle.machine_model.proofs.OrderTraces.{items_at, items_here, done, new_item, IsLonger, length-items_from}
 use Rattle.machine_model.proofs.OrderValues.{names_cases, nothing_named, one_named}
 use Rattle.memory_model.specs.declared.Model.{Model}

@@ -1,6 +1,6 @@
 -- What a retiring instruction read: the last waiting store's byte, else the last performed one's, where each copy holds what was performed.
-use Rattle.std.proofs.Common.{◌≡◌, ℕ, zero, suc, ◌+◌, ◌-◌, ◌%◌, ◌<◌, ◌≤◌, List, [], ◌∷◌, ◌++◌, Bool, true, false, Option, Some, None, refl, cond, sym, ap, ◌∙◌, subst, not, ◌&&◌, ◌||◌, arith, length, ◌⊎◌, inl, inr}
-use Rattle.std.specs.Prelude.{nat_eq, nat_le, nat_lt, is_some, unwrap_or, slice_index}
+use Rattle.std.proofs.Common.{◌≡◌, ℕ, ◌+◌, ◌-◌, ◌%◌, ◌<◌, ◌≤◌, List, [], ◌∷◌, ◌++◌, Bool, true, false, Option, Some, None, refl, cond, sym, ap, ◌∙◌, subst, not, ◌&&◌, arith, inl, inr}
+use Rattle.std.specs.Prelude.{nat_le, nat_lt, is_some, unwrap_or, slice_index}
 use Rattle.std.specs.List.{AllByRecursion as Each, filter, list_any, last_or}
 use Rattle.std.proofs.lemmas.Bool.{false≢true, true≢false, and_parts, or_parts, eqb-false, leb-true, ltb-true, false_from_ne_true}
 use Rattle.client_cache.specs.Cache.{copy_at}
@@ -17,7 +17,7 @@ use Rattle.machine_model.specs.Words.{word_of, word_in, read_from}
 use Rattle.machine_model.proofs.OrderBytes.{byte_of, read_byte, place_at, mark_at, last_is, from_buffer, from_both, buffer_small, both_small, covered_at}
 use Rattle.machine_model.proofs.OrderDeeds.{FitsDeed, Facts, ReadsBoth, ReadsTrunk}
 use Rattle.machine_model.proofs.OrderKept.{joined, of_word, IsWaiting}
-use Rattle.machine_model.proofs.OrderRules.{InWord, touches_word}
+use Rattle.machine_model.proofs.OrderRules.{touches_word}
 use Rattle.machine_model.proofs.OrderSteps.{HartKept, waiting_of, stores_joined, has_is, empty_waits}
 use Rattle.machine_model.proofs.OrderValues.{ReadsLast}
 use Rattle.memory_model.specs.declared.Model.{Model}
@@ -25,16 +25,16 @@ use Rattle.memory_model.specs.declared.Model.TheVariants.{Rvwmo, Ztso}
 use Rattle.memory_model.specs.declared.operation.Kind.TheVariants.{Conditional}
 use Rattle.memory_model.specs.declared.operation.Operation.{Operation}
 use Rattle.memory_model.specs.Items.{Item, annotations_of, operation_of_access, succeeded}
-use Rattle.memory_model.specs.Operations.{reads, writes, touches, stores_to, read_at, byte_at}
+use Rattle.memory_model.specs.Operations.{writes, touches, stores_to, byte_at}
 use Rattle.memory_model.specs.Order.{byte_from, last_write}
 use Rattle.memory_model.proofs.Lists.{filter_none}
 use Rattle.rv32_decode.specs.declared.instruction.AmoOp.{AmoOp}
 use Rattle.rv32_decode.specs.declared.instruction.Annotations.{Annotations}
 use Rattle.rv32_decode.specs.declared.instruction.Instr.{Instr}
 use Rattle.rv32_exec.specs.Meaning.{Access, Private, Loads, Stores, Reserves, Tries, Updates, Fences, Calls}
-use Rattle.store_buffer.specs.ByteMask.{each_place, is_marked, laid_over, marks_of_access, covers}
-use Rattle.store_buffer.specs.Groups.{forwarded, buffered_byte, groups_of, has, has_sealed, is_empty}
-use Rattle.store_buffer.specs.Stores.{entries_in, last_byte}
+use Rattle.store_buffer.specs.ByteMask.{each_place, is_marked, laid_over}
+use Rattle.store_buffer.specs.Groups.{buffered_byte, groups_of, has, has_sealed, is_empty}
+use Rattle.store_buffer.specs.Stores.{last_byte}
 use Rattle.store_buffer.proofs.StoreLaws.{forward_is_last}
 
 -- each copy's words are those of what was performed

@@ -1,15 +1,15 @@
 -- What is kept of all harts, and what a change of one hart's part of it leaves of the others.
-use Rattle.std.proofs.Common.{◌≡◌, ◌≢◌, ℕ, ◌+◌, ◌<◌, List, [], ◌∷◌, ◌++◌, Bool, true, false, Option, Some, None, refl, cond, sym, ap, ◌∙◌, subst, not, append_assoc, append-nil, map, length, ◌⊎◌, inl, inr}
+use Rattle.std.proofs.Common.{◌≡◌, ◌≢◌, ℕ, ◌<◌, List, [], ◌∷◌, ◌++◌, Bool, true, false, Some, refl, cond, sym, ap, ◌∙◌, subst, not, append_assoc, append-nil, map, length, ◌⊎◌, inl, inr}
 use Rattle.std.specs.Prelude.{nat_eq}
-use Rattle.std.specs.List.{AllByRecursion as Each, filter, filter_map, list_any}
+use Rattle.std.specs.List.{AllByRecursion as Each, filter}
 use Rattle.std.proofs.lemmas.Bool.{not-true}
 use Rattle.std.proofs.lemmas.Bool.Decides.{eqb_tells}
 use Rattle.std.proofs.lemmas.List.{map-append, length-set}
 use Rattle.std.proofs.lemmas.List.Elements.{filter_map-append}
 use Rattle.machine_model.specs.Changing.{performs, drained, writes_word}
 use Rattle.machine_model.specs.declared.config.Config.{Config}
-use Rattle.machine_model.specs.Views.{Node, State, node_at, with_trace}
-use Rattle.machine_model.proofs.OrderBuffers.{KeepsBuffers, Moves, moves_on, moves_still, node_keeps, names_at, performs_moves, buffer_after}
+use Rattle.machine_model.specs.Views.{State, node_at}
+use Rattle.machine_model.proofs.OrderBuffers.{KeepsBuffers, Moves, moves_on, node_keeps, names_at, performs_moves, buffer_after}
 use Rattle.machine_model.proofs.OrderKept.{joined, kept_group, of_word, IsWaiting, Kept, joined-kept, foreign_keeps, drain_sealed_keeps, drain_open_keeps}
 use Rattle.machine_model.proofs.OrderLists.{Pairwise-left, others}
 use Rattle.machine_model.proofs.OrderSplit.{Split, IsNamed, gave_at, absent, turned, split_drain, split_foreign, waiting_absent, waiting_distinct, waiting_named}
@@ -21,11 +21,11 @@ use Rattle.memory_model.specs.Items.{Item}
 use Rattle.memory_model.specs.Operations.{same}
 use Rattle.memory_model.specs.Traces.{instructions, operation_at, operations_at}
 use Rattle.memory_model.specs.Verdict.{name_of}
-use Rattle.memory_model.proofs.Lists.{Each-append, Each-left, Each-weaker, Each-both, Each-kept, Pairwise-append, Pairwise-filter}
+use Rattle.memory_model.proofs.Lists.{Each-append, Each-left, Each-weaker, Each-kept, Pairwise-append, Pairwise-filter}
 use Rattle.memory_model.proofs.Named.{each_not, EachOnce}
 use Rattle.store_buffer.specs.Entry.{entry_of}
 use Rattle.store_buffer.specs.Groups.{Groups, after_take, oldest}
-use Rattle.store_buffer.specs.Stores.{Waiting, entries_in, entries_of, is_to_word, is_elsewhere, kept_stores}
+use Rattle.store_buffer.specs.Stores.{entries_in, entries_of, is_to_word, is_elsewhere, kept_stores}
 use Rattle.store_buffer.specs.declared.entry.Entry.{Entry}
 use Rattle.store_buffer.specs.declared.entry.Store.{Store}
 use Rattle.store_buffer.proofs.StoreLaws.{ops_are_filter, oldest_is_first, take_is_drained}

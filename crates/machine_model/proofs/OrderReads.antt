@@ -1,5 +1,5 @@
 -- Where each copy holds what was performed, each event keeps that loads returned their sources' bytes.
-use Rattle.std.proofs.Common.{◌≡◌, ◌≢◌, ℕ, zero, suc, ◌+◌, ◌<◌, List, [], ◌∷◌, ◌++◌, Bool, true, false, Option, Some, None, refl, cond, sym, ap, ◌∙◌, subst, not, append-nil, arith, length, map, ◌⊎◌, inl, inr}
+use Rattle.std.proofs.Common.{◌≡◌, ◌≢◌, ℕ, ◌<◌, List, [], ◌∷◌, ◌++◌, true, false, Some, refl, sym, ap, ◌∙◌, subst, append-nil, length, map, ◌⊎◌, inl, inr}
 use Rattle.std.specs.Prelude.{nat_eq, option_and_then}
 use Rattle.std.specs.List.{AllByRecursion as Each, filter}
 use Rattle.std.proofs.lemmas.Bool.Decides.{eqb_tells}
@@ -12,7 +12,7 @@ use Rattle.machine_model.specs.declared.act.Deed.{Deed}
 use Rattle.machine_model.specs.declared.config.Config.{Config}
 use Rattle.machine_model.specs.Changing.{acted, does, drained, place_at, retired, went_alone}
 use Rattle.machine_model.specs.Steps.{Fetched}
-use Rattle.machine_model.specs.Views.{Node, State, node_at}
+use Rattle.machine_model.specs.Views.{State, node_at}
 use Rattle.machine_model.proofs.Runs.{AllStand}
 use Rattle.machine_model.proofs.OrderActs.{retired_step, retired_known, retired_gave, retired_trace, alone_step, alone_grown}
 use Rattle.machine_model.proofs.OrderBuffers.{KeepsBuffers, delivered_keeps, missed_keeps, given_up_keeps, stopped_keeps}
@@ -20,10 +20,9 @@ use Rattle.machine_model.proofs.OrderDeeds.{FitsDeed}
 use Rattle.machine_model.proofs.OrderEvents.{IsFit}
 use Rattle.machine_model.proofs.OrderKept.{joined, of_word, IsWaiting, get_new}
 use Rattle.machine_model.proofs.OrderLoads.{HoldsLast, value_of}
-use Rattle.machine_model.proofs.OrderMoves.{OrderKept, Changes, Step, done_more, drained_step, drained_names, drained_out, drained_done, drained_moves, oldest_group, younger, oldest_line, oldest_waiting}
-use Rattle.machine_model.proofs.OrderLists.{others}
-use Rattle.machine_model.proofs.OrderSplit.{Split, absent, gave_at, ops_of, split_drain, split_foreign}
-use Rattle.machine_model.proofs.OrderSteps.{HartKept, Performs, names_by}
+use Rattle.machine_model.proofs.OrderMoves.{OrderKept, Changes, done_more, drained_step, drained_names, drained_out, drained_done, drained_moves, oldest_group, younger, oldest_line, oldest_waiting}
+use Rattle.machine_model.proofs.OrderSplit.{Split, absent, gave_at, split_drain, split_foreign}
+use Rattle.machine_model.proofs.OrderSteps.{names_by}
 use Rattle.machine_model.proofs.OrderTraces.{items_at, items_same, items_here, done, new_item, operation_is, length-items_from}
 use Rattle.machine_model.proofs.OrderValues.{IsRight, waits, Gives, retire_rights, drain_rights, rights_foreign}
 use Rattle.memory_model.specs.declared.operation.Operation.{Operation}

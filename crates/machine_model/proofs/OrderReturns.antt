@@ -1,14 +1,13 @@
 -- Where in every state each copy holds what was performed, each load returned its sources' bytes in the completed order.
-use Rattle.std.proofs.Common.{◌≡◌, ◌≢◌, ℕ, zero, suc, ◌+◌, ◌<◌, ◌≤◌, List, [], ◌∷◌, ◌++◌, Bool, true, false, refl, cond, sym, ap, ◌∙◌, subst, not, ◌&&◌, ◌||◌, append-nil, arith, length, slice_index_or}
+use Rattle.std.proofs.Common.{◌≡◌, ◌≢◌, ℕ, zero, suc, ◌+◌, ◌<◌, ◌≤◌, List, [], ◌∷◌, ◌++◌, Bool, true, false, refl, cond, sym, ap, ◌∙◌, subst, not, ◌||◌, append-nil, arith, length, slice_index_or}
 use Rattle.std.specs.Prelude.{nat_eq, nat_lt, IsTrue}
 use Rattle.std.specs.List.{AllByRecursion as Each, filter, list_all, range_with_len}
 use Rattle.std.proofs.lemmas.Bool.{and_parts, and_from, and_right, eq-eqb, ltb-true, le-leb, lt-ltb}
 use Rattle.std.proofs.lemmas.List.Elements.{filter-append, filter_map-append}
-use Rattle.elf_loader.specs.Image.{Initial, IsImage, byte_at as image_byte}
+use Rattle.elf_loader.specs.Image.{Initial, byte_at as image_byte}
 use Rattle.hart.specs.declared.retired.Retired.{Retired}
 use Rattle.machine_model.specs.declared.act.Plan.{Plan}
 use Rattle.machine_model.specs.declared.act.Plan.TheVariants.{Stays, Changes}
-use Rattle.machine_model.specs.declared.config.Config.{Config}
 use Rattle.machine_model.specs.declared.event.Event.{Event}
 use Rattle.machine_model.specs.declared.outcome.Outcome.{Outcome}
 use Rattle.machine_model.specs.Changing.{acted, outcome_of}
@@ -25,7 +24,7 @@ use Rattle.machine_model.proofs.OrderLoads.{HoldsLast}
 use Rattle.machine_model.proofs.OrderMoves.{OrderKept}
 use Rattle.machine_model.proofs.OrderReads.{ValuesKept, values_still, acted_values}
 use Rattle.machine_model.proofs.OrderRules.{precedes_not}
-use Rattle.machine_model.proofs.OrderTraces.{items_at, done}
+use Rattle.machine_model.proofs.OrderTraces.{done}
 use Rattle.machine_model.proofs.OrderValues.{IsRight, theirs, rights_same}
 use Rattle.machine_model.proofs.OrderWhole.{missing, waiting_at, part_is, tail_free, whole_tail, done_inside, completed_operations}
 use Rattle.memory_model.specs.declared.operation.Kind.TheVariants.{Store}

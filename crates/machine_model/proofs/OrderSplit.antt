@@ -1,5 +1,5 @@
 -- A hart's operations that are not performed are its waiting stores, in program order.
-use Rattle.std.proofs.Common.{◌≡◌, ℕ, zero, suc, ◌+◌, ◌<◌, ◌≤◌, List, [], ◌∷◌, ◌++◌, Bool, true, false, Option, Some, None, refl, cond, sym, ap, ◌∙◌, subst, not, ◌&&◌, ◌||◌, append_assoc, append-nil, arith, length}
+use Rattle.std.proofs.Common.{◌≡◌, ℕ, ◌<◌, List, [], ◌∷◌, ◌++◌, Bool, true, false, Option, Some, None, refl, cond, sym, ap, ◌∙◌, subst, not, ◌&&◌, ◌||◌, append-nil, arith, length}
 use Rattle.std.specs.Prelude.{nat_eq, slice_get, option_and_then}
 use Rattle.std.specs.List.{AllByRecursion as Each, filter, filter_map, list_any}
 use Rattle.std.proofs.lemmas.Bool.{and_left, and_right, or_from, eqb-true, ne_eqb}
@@ -10,7 +10,7 @@ use Rattle.memory_model.specs.declared.operation.Operation.{Operation}
 use Rattle.memory_model.specs.Items.{Item}
 use Rattle.memory_model.specs.Operations.{same}
 use Rattle.memory_model.proofs.Forms.{same-self, same-swap}
-use Rattle.memory_model.proofs.Lists.{Each-append, Each-weaker, Each-both, Each-kept, Pairwise-append, Pairwise-filter, filter_same, filter_none, Pairwise}
+use Rattle.memory_model.proofs.Lists.{Each-append, Each-weaker, Each-both, Each-kept, Pairwise-append, Pairwise-filter, filter_same, filter_none}
 use Rattle.machine_model.proofs.OrderLists.{Each-always, Pairwise-left, Pairwise-across, filter-filter, others}
 use Rattle.machine_model.proofs.OrderKept.{IsBelow, length_more, get_left, get_new}
 

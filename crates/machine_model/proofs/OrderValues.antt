@@ -1,20 +1,18 @@
 -- Each load returned its sources' bytes: what a performed operation leaves of that.
-use Rattle.std.proofs.Common.{◌≡◌, ◌≢◌, ℕ, zero, suc, ◌+◌, ◌<◌, ◌≤◌, List, [], ◌∷◌, ◌++◌, Bool, true, false, Option, Some, None, refl, cond, sym, ap, ◌∙◌, subst, not, ◌&&◌, ◌||◌, append_assoc, append-nil, arith, length, map, ◌⊎◌, inl, inr}
+use Rattle.std.proofs.Common.{◌≡◌, ℕ, List, [], ◌∷◌, ◌++◌, Bool, true, false, Option, Some, None, refl, cond, sym, ap, ◌∙◌, subst, not, ◌&&◌, append_assoc, append-nil, arith, length, map, ◌⊎◌, inl, inr}
 use Rattle.std.specs.Prelude.{nat_eq, option_and_then}
 use Rattle.std.specs.List.{AllByRecursion as Each, filter, list_any, last_or}
-use Rattle.std.proofs.lemmas.Bool.{false≢true, true≢false, and_left, and_right, and_from, and_parts, or_left, or_right, eqb-true, eqb-false, eq-eqb, ne_eqb, false_from_ne_true}
+use Rattle.std.proofs.lemmas.Bool.{true≢false, and_right, and_parts, or_left, or_right}
 use Rattle.std.proofs.lemmas.List.Elements.{filter-append}
 use Rattle.machine_model.specs.declared.act.Deed.{Deed}
 use Rattle.machine_model.specs.declared.act.Deed.TheVariants as deed
 use Rattle.machine_model.specs.Words.{word_of}
-use Rattle.machine_model.proofs.OrderKept.{joined, of_word, IsWaiting, IsBelow, Kept, get_new}
+use Rattle.machine_model.proofs.OrderKept.{joined, of_word, IsWaiting, IsBelow, get_new}
 use Rattle.machine_model.proofs.OrderLists.{Each-always, filter-filter, last_or-append, byte_from-later, candidates-append, others}
 use Rattle.machine_model.proofs.OrderRules.{precedes_not, precedes_yes, touches_word}
-use Rattle.machine_model.proofs.OrderSplit.{Split, absent, gave_at, ops_of, new_name, split_store, split_at_once, split_item}
+use Rattle.machine_model.proofs.OrderSplit.{absent, gave_at, ops_of, new_name, split_store, split_at_once, split_item}
 use Rattle.machine_model.proofs.OrderSteps.{HartKept, Performs, names_by}
 use Rattle.memory_model.specs.declared.Model.{Model}
-use Rattle.memory_model.specs.declared.operation.Kind.{Kind}
-use Rattle.memory_model.specs.declared.operation.Kind.TheVariants.{Store}
 use Rattle.memory_model.specs.declared.operation.Operation.{Operation}
 use Rattle.memory_model.specs.Items.{Item}
 use Rattle.memory_model.specs.Operations.{reads, writes, same, precedes, touches, stores_to, read_at}
