@@ -29,3 +29,10 @@ pub mod OrderActs
 pub mod OrderEvents
 pub mod OrderWhole
 pub mod WorldSlots
+pub mod OrderBytes
+pub mod OrderLast
+pub mod OrderValues
+pub mod OrderLoads
+pub mod OrderReads
+pub mod OrderReturns
+pub mod OrderJoint

@@ -1,5 +1,5 @@
 -- What messages, misses and stops leave: lists, performed order and store buffers.
-use Rattle.std.proofs.Common.{◌≡◌, ◌≢◌, ℕ, zero, suc, ◌<◌, List, [], ◌∷◌, ◌++◌, Bool, true, false, Option, Some, None, refl, sym, ap, ◌∙◌, append-nil, append_assoc, map, slice_index_or, slice_set, length}
+use Rattle.std.proofs.Common.{◌≡◌, ◌≢◌, ℕ, zero, suc, ◌<◌, List, [], ◌∷◌, ◌++◌, Option, Some, None, refl, sym, ap, ◌∙◌, append-nil, append_assoc, map, slice_index_or, slice_set, length}
 use Rattle.client_cache.specs.Cache.{probed, evicted, wanted, granted}
 use Rattle.client_cache.specs.declared.answers.Evict.{Evict}
 use Rattle.client_cache.specs.declared.answers.Evict.TheVariants as evict
@@ -13,7 +13,7 @@ use Rattle.directory.specs.declared.answer.Sent.{Sent}
 use Rattle.directory.specs.declared.answer.Sent.TheVariants.{Probes, Granting as Grants}
 use Rattle.machine_model.specs.declared.act.Deed.{Deed}
 use Rattle.machine_model.specs.declared.act.Deed.TheVariants as deed
-use Rattle.machine_model.specs.Changing.{does, performs, performs_own, place_at, missed, given_up, sent_if_evicted, writes_word, with_buffer, with_reservation, stopped, put_behind}
+use Rattle.machine_model.specs.Changing.{does, performs, performs_own, place_at, missed, given_up, sent_if_evicted, writes_word, with_buffer, stopped, put_behind}
 use Rattle.machine_model.specs.Deliveries.{delivered, handled, taken, sent_probes, sent_any, sent_if_handled, sent_if_granted, sent_if_answered, with_memory, with_notes, with_less, on_probe_ack, on_release, on_grant}
 use Rattle.machine_model.specs.Views.{Node, State, line_size, place_of, node_at, with_node, with_trace, sent}
 use Rattle.machine_model.specs.Words.{bytes_of_word}

@@ -1,17 +1,14 @@
 -- What a step that retires has found: what its access reads, and what its deed may pass.
-use Rattle.std.proofs.Common.{◌≡◌, ℕ, ◌+◌, ◌%◌, ◌<◌, ◌≤◌, List, [], ◌∷◌, Bool, true, false, Option, Some, None, refl, cond, sym, ap, ◌∙◌, not, ◌&&◌, ◌⊎◌, inl, inr, arith, length}
-use Rattle.std.specs.Prelude.{nat_eq, nat_lt, is_none}
-use Rattle.std.proofs.lemmas.Bool.{false≢true, true≢false, eqb-true, not-true, and_parts}
+use Rattle.std.proofs.Common.{◌≡◌, ℕ, ◌+◌, ◌%◌, ◌≤◌, List, [], Bool, true, false, Option, Some, None, refl, cond, not, ◌&&◌, ◌⊎◌, inl, inr, arith}
+use Rattle.std.specs.Prelude.{nat_eq}
+use Rattle.std.proofs.lemmas.Bool.{true≢false, eqb-true}
 use Rattle.client_cache.specs.Cache.{Cache, copy_at, wanted}
 use Rattle.client_cache.specs.Held.{bytes_in}
 use Rattle.client_cache.specs.declared.answers.Want.{Want}
 use Rattle.client_cache.specs.declared.answers.Want.TheVariants as want
 use Rattle.client_cache.specs.declared.held.Held.{Held}
 use Rattle.client_cache.specs.declared.held.Held.TheVariants.{Branch, Trunk}
-use Rattle.elf_loader.specs.Image.{Initial, word_at}
 use Rattle.hart.specs.declared.retired.Retired.{Retired}
-use Rattle.hart.specs.Run.{is_running, next_stop}
-use Rattle.machine_model.specs.declared.act.Act.{Act}
 use Rattle.machine_model.specs.declared.act.Act.TheVariants as act
 use Rattle.machine_model.specs.declared.act.Deed.{Deed}
 use Rattle.machine_model.specs.declared.act.Deed.TheVariants as deed
@@ -19,7 +16,7 @@ use Rattle.machine_model.specs.declared.act.Plan.{Plan}
 use Rattle.machine_model.specs.declared.act.Plan.TheVariants.{Stays, Changes}
 use Rattle.machine_model.specs.declared.outcome.Outcome.TheVariants as outcome
 use Rattle.machine_model.specs.Deciding.{miss_by, reading, reading_by, writing, writing_by}
-use Rattle.machine_model.specs.Steps.{Fetched, retires, plan_load, plan_store, plan_reserve, plan_conditional, plan_amo, plan_fence, plan_call, plan_access, plan_instr, plan_unless, plan_step, waits_for_stores, write_waits, update}
+use Rattle.machine_model.specs.Steps.{Fetched, retires, plan_load, plan_store, plan_reserve, plan_conditional, plan_amo, plan_fence, plan_call, plan_access, waits_for_stores, write_waits, update}
 use Rattle.machine_model.specs.Views.{Node, line_of}
 use Rattle.machine_model.specs.Words.{word_of, word_in, read_from, store_of}
 use Rattle.memory_model.specs.declared.Model.{Model}
@@ -29,7 +26,6 @@ use Rattle.memory_model.specs.Items.{annotations_of}
 use Rattle.memory_model.specs.Rules.{fences}
 use Rattle.reservations.specs.Reservation.{is_valid}
 use Rattle.rv32_decode.specs.Amo.{combined}
-use Rattle.rv32_decode.specs.Rows.{decoded}
 use Rattle.rv32_decode.specs.declared.instruction.AmoOp.{AmoOp}
 use Rattle.rv32_decode.specs.declared.instruction.Instr.{Instr}
 use Rattle.rv32_decode.specs.declared.instruction.Instr.TheVariants as instr
@@ -39,7 +35,7 @@ use Rattle.rv32_decode.specs.declared.instruction.StoreOp.{StoreOp}
 use Rattle.rv32_decode.specs.declared.instruction.StoreOp.TheVariants as store
 use Rattle.rv32_decode.specs.declared.instruction.SystemOp.TheVariants as system
 use Rattle.rv32_exec.specs.Arithmetic.{bytes_loaded, bytes_stored}
-use Rattle.rv32_exec.specs.Meaning.{Access, Private, Loads, Stores, Reserves, Tries, Updates, Fences, Calls, access_of, stop_of, stop_of_access, access_stop, is_outside}
+use Rattle.rv32_exec.specs.Meaning.{Access, Private, Loads, Stores, Reserves, Tries, Updates, Fences, Calls, access_of, stop_of, access_stop, is_outside}
 use Rattle.rv32_exec.specs.Uses.{uses_of}
 use Rattle.store_buffer.specs.ByteMask.{covers, laid_over, marks_of_access}
 use Rattle.store_buffer.specs.Groups.{fits, forwarded, is_empty}

@@ -1,5 +1,5 @@
 -- Whatever events come, the harts' waiting stores are kept as they should be.
-use Rattle.std.proofs.Common.{◌≡◌, ◌≢◌, ℕ, zero, suc, ◌+◌, ◌<◌, List, [], ◌∷◌, ◌++◌, Bool, true, false, Option, Some, None, refl, cond, sym, ap, ◌∙◌, subst, not, ◌&&◌, arith, length, replicate, slice_index_or}
+use Rattle.std.proofs.Common.{◌≡◌, ℕ, ◌<◌, List, [], ◌∷◌, Bool, true, false, Option, Some, None, refl, cond, sym, ap, subst, not, arith, length, slice_index_or}
 use Rattle.std.specs.Prelude.{nat_eq, nat_lt, nat_le}
 use Rattle.std.proofs.lemmas.Bool.{and_parts, ltb-true}
 use Rattle.std.proofs.lemmas.List.{length-replicate, get_or-replicate}
@@ -32,7 +32,7 @@ use Rattle.machine_model.specs.declared.event.Event.{Event}
 use Rattle.machine_model.specs.declared.event.Event.TheVariants as event
 use Rattle.machine_model.specs.declared.outcome.Outcome.{Outcome}
 use Rattle.machine_model.specs.declared.outcome.Outcome.TheVariants as outcome
-use Rattle.machine_model.specs.Changing.{acted, does, place_at, outcome_of}
+use Rattle.machine_model.specs.Changing.{acted, place_at, outcome_of}
 use Rattle.machine_model.specs.Deciding.{miss_by, writing_by}
 use Rattle.machine_model.specs.Deliveries.{plan_body, plan_front, unless_busy, unless_releasing, unless_acks_full}
 use Rattle.machine_model.specs.Events.{Verdict, verdict_by, state_by, happens, after_events, is_good, is_limited, plan_of, plan_drain, evict_by, hart_of, counted}
@@ -45,9 +45,8 @@ use Rattle.machine_model.proofs.OrderBuffers.{still, delivered_keeps, missed_kee
 use Rattle.machine_model.proofs.OrderDeeds.{FitsDeed, FitsPlan, access_fits}
 use Rattle.machine_model.proofs.OrderMoves.{OrderKept, order_still, order_drained}
 use Rattle.machine_model.proofs.OrderSteps.{HartKept}
-use Rattle.machine_model.proofs.OrderTraces.{items_at, done}
+use Rattle.machine_model.proofs.OrderTraces.{items_at}
 use Rattle.memory_model.specs.declared.Model.{Model}
-use Rattle.memory_model.specs.declared.operation.Operation.{Operation}
 use Rattle.memory_model.specs.Items.{Item, items_from}
 use Rattle.rv32_decode.specs.Rows.{decoded}
 use Rattle.rv32_decode.specs.declared.instruction.Instr.{Instr}
@@ -59,7 +58,7 @@ use Rattle.tl_types.specs.declared.message.Body.TheVariants.{AcquireBlock, Probe
 use Rattle.tl_types.specs.declared.message.Channel.TheVariants.{E}
 use Rattle.tl_types.specs.declared.message.Msg.{Msg}
 use Rattle.tl_types.specs.declared.permission.Grow.TheVariants.{NtoT, BtoT}
-use Rattle.trace_recorder.specs.History.{History, entries_of}
+use Rattle.trace_recorder.specs.History.{entries_of}
 
 -- ---- acts
 
@@ -81,7 +80,7 @@ acted_kept h (act.Local count) s l st p o = alone_kept h count s l st o
 
 -- ---- plans
 
-abbrev IsFitPlan : State → ℕ → Plan → Type 0
+abbrev pub IsFitPlan : State → ℕ → Plan → Type 0
 IsFitPlan s h (Stays o) = Unit {0}
 IsFitPlan s h (Changes a) = IsFit s h a
 
@@ -179,7 +178,7 @@ local_fit s h count =
     let goes = cond (nat_eq (length (private_row s.trace.image n.hart count)) count) (Changes (act.Local count)) (Stays outcome.NotLocal) in
     either (IsFitPlan s h) (not (is_running n.hart.status)) (Stays outcome.Halted) goes tt (either (IsFitPlan s h) (nat_eq (length (private_row s.trace.image n.hart count)) count) (Changes (act.Local count)) (Stays outcome.NotLocal) tt tt)
 
-plan_fit : (s : State) (e : Event) → IsFitPlan s (hart_of e) (plan_of s e)
+pub plan_fit : (s : State) (e : Event) → IsFitPlan s (hart_of e) (plan_of s e)
 plan_fit s (event.Step h) = step_fit s h
 plan_fit s (event.Drain h word) = drain_fit s h word
 plan_fit s (event.Evict h line) = evict_fit s h line (evicted (node_at s h).cache line).0
@@ -214,7 +213,7 @@ events_kept (e ∷ events) s st k = events_kept events (happens s e) (happens_st
 fresh : (image : Initial) (config : Config) (h : ℕ) → h < config.harts → node_at (opening image config) h ≡ opening_node image config h
 fresh image config h l = get_or-map-range_with_len (opening_node image config) 0 config.harts h h (no_node (opening image config)) l (omega arith)
 
-opening_stand : (image : Initial) (config : Config) → AllStand (opening image config)
+pub opening_stand : (image : Initial) (config : Config) → AllStand (opening image config)
 opening_stand image config = record {
   nodes = length-map-range_with_len (opening_node image config) 0 config.harts;
   entries = length-replicate config.harts [];
@@ -238,7 +237,7 @@ nothing_kept model h = record {
   split = record { waits = refl; named = tt; distinct = tt };
 }
 
-opening_kept : (image : Initial) (config : Config) → OrderKept (opening image config)
+pub opening_kept : (image : Initial) (config : Config) → OrderKept (opening image config)
 opening_kept image config = record { each = λ h l. at h l; resolved = tt; distinct = tt }
   where
     at : (h : ℕ) → h < config.harts → HartKept config.model h (items_at (opening image config).trace h) (node_at (opening image config) h).buffer []

@@ -1,23 +1,22 @@
 -- What is kept of a hart's waiting stores: they are plain stores of its list, in groups that no fence divides, and performed and waiting operations stand in an order that the rules allow.
-use Rattle.std.proofs.Common.{◌≡◌, ℕ, zero, suc, ◌+◌, ◌%◌, ◌<◌, ◌≤◌, List, [], ◌∷◌, ◌++◌, Bool, true, false, Option, Some, None, refl, cond, sym, ap, ◌∙◌, subst, not, ◌&&◌, ◌||◌, append_assoc, append-nil, arith, length, length-append}
-use Rattle.std.specs.Prelude.{nat_lt, nat_eq, slice_get}
-use Rattle.std.specs.List.{AllByRecursion as Each, filter, list_any}
-use Rattle.std.proofs.lemmas.Bool.{false≢true, true≢false, and_left, and_right, or_from, eqb-true, eqb-false, le-ltb, ne_eqb, not-true}
+use Rattle.std.proofs.Common.{◌≡◌, ℕ, zero, suc, ◌+◌, ◌<◌, ◌≤◌, List, [], ◌∷◌, ◌++◌, Bool, true, false, Option, Some, refl, sym, ap, ◌∙◌, subst, not, ◌&&◌, append_assoc, append-nil, arith, length, length-append}
+use Rattle.std.specs.Prelude.{nat_eq, slice_get}
+use Rattle.std.specs.List.{AllByRecursion as Each, filter}
+use Rattle.std.proofs.lemmas.Bool.{true≢false, and_left, and_right, or_from, eqb-true, eqb-false, le-ltb, ne_eqb, not-true}
 use Rattle.machine_model.specs.Words.{word_of}
 use Rattle.memory_model.specs.declared.Model.{Model}
 use Rattle.memory_model.specs.declared.Model.TheVariants.{Rvwmo, Ztso}
 use Rattle.memory_model.specs.declared.operation.Kind.{Kind}
 use Rattle.memory_model.specs.declared.operation.Kind.TheVariants.{Load, Store}
 use Rattle.memory_model.specs.declared.operation.Operation.{Operation}
-use Rattle.memory_model.specs.Dependencies.{instr_in, uses_at, uses_in}
+use Rattle.memory_model.specs.Dependencies.{instr_in, uses_in}
 use Rattle.memory_model.specs.Items.{Item}
 use Rattle.memory_model.specs.Operations.{precedes, overlap, writes, has_release}
-use Rattle.memory_model.proofs.Lists.{Pairwise}
 use Rattle.memory_model.specs.Rules.{fences}
 use Rattle.memory_model.proofs.Forms.{Ordered}
-use Rattle.memory_model.proofs.Lists.{Each-append, Each-left, Each-right, Each-weaker, Each-both, Each-kept, Pairwise-append}
+use Rattle.memory_model.proofs.Lists.{Each-append, Each-left, Each-right, Each-weaker, Each-both, Each-kept, Pairwise-append, Pairwise}
 use Rattle.machine_model.proofs.OrderLists.{Each-always, Pairwise-left, Pairwise-right, Pairwise-across, Pairwise-weaker, Pairwise-moved, Pairwise-between, Each-between, Each-push, Each-moved, others}
-use Rattle.machine_model.proofs.OrderRules.{is_store, late, late-more, fenced, fenced-late, fenced-back, fenced-more, late_kind, precedes_not, must_not_after, must-more, must_free, must, holds_back, IsQuiet, InWord, apart}
+use Rattle.machine_model.proofs.OrderRules.{is_store, late, late-more, fenced, fenced-late, fenced-back, fenced-more, late_kind, precedes_not, must_not_after, must-more, must_free, must, IsQuiet, InWord, apart}
 
 -- ---- words of the invariant
 

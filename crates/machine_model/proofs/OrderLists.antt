@@ -1,13 +1,12 @@
 -- Laws of lists that orders need: pairs, filters, and what a load sees of an order.
-use Rattle.std.proofs.Common.{◌≡◌, ℕ, List, [], ◌∷◌, ◌++◌, Bool, true, false, Option, Some, None, refl, cond, sym, ap, ◌∙◌, not, ◌&&◌, ◌||◌, append_assoc, append-nil}
+use Rattle.std.proofs.Common.{◌≡◌, ℕ, List, [], ◌∷◌, ◌++◌, Bool, true, false, Option, Some, None, refl, cond, sym, ap, ◌∙◌, not, ◌&&◌, ◌||◌, append_assoc}
 use Rattle.std.specs.List.{AllByRecursion as Each, filter, list_any, last_or}
 use Rattle.std.proofs.lemmas.Bool.{false≢true}
 use Rattle.std.proofs.lemmas.List.Elements.{filter-append}
 use Rattle.memory_model.specs.declared.operation.Operation.{Operation}
 use Rattle.memory_model.specs.Operations.{same, precedes, stores_to}
-use Rattle.memory_model.specs.Order.{candidates, byte_from}
-use Rattle.memory_model.proofs.Lists.{Pairwise}
-use Rattle.memory_model.proofs.Lists.{Each-append, Each-left, Each-right, Each-weaker, Each-both, Each-filter, Each-kept, Pairwise-append, Pairwise-filter, filter_same, filter_none}
+use Rattle.memory_model.specs.Order.{byte_from, candidates}
+use Rattle.memory_model.proofs.Lists.{Each-append, Each-left, Each-right, Each-weaker, Each-both, Each-filter, Each-kept, Pairwise-append, Pairwise-filter, Pairwise}
 
 pub Each-always : {X : Type 0} (P : X → Type 0) → ((x : X) → P x) → (xs : List X) → Each P xs
 Each-always P f [] = tt
@@ -95,21 +94,21 @@ choose_append : (c : Bool) (s : Operation) (a b m : List Operation) → a ≡ b 
 choose_append true s a b m e = ap (λ ys. s ∷ ys) e
 choose_append false s a b m e = e
 
-visible_at : (b c : Bool) (s : Operation) (fa fb va vb m : List Operation) → fa ≡ fb ++ m → (b ≡ false → va ≡ vb ++ m)
+candidates_at : (b c : Bool) (s : Operation) (fa fb va vb m : List Operation) → fa ≡ fb ++ m → (b ≡ false → va ≡ vb ++ m)
     → cond b fa (cond c (s ∷ va) va) ≡ cond b fb (cond c (s ∷ vb) vb) ++ m
-visible_at true c s fa fb va vb m e f = e
-visible_at false c s fa fb va vb m e f = choose_append c s va vb m (f refl)
+candidates_at true c s fa fb va vb m e f = e
+candidates_at false c s fa fb va vb m e f = choose_append c s va vb m (f refl)
 
 or_right : (a b : Bool) → a ≡ false → (a || b) ≡ true → b ≡ true
 or_right true b e h = absurd (false≢true (sym e))
 or_right false b e h = h
 
-pub visible-append : (load : Operation) (x : ℕ) (xs ys : List Operation) → list_any (λ s. same s load) xs ≡ true
+pub candidates-append : (load : Operation) (x : ℕ) (xs ys : List Operation) → list_any (λ s. same s load) xs ≡ true
     → candidates (xs ++ ys) load x ≡ candidates xs load x ++ filter (λ t. stores_to x t && precedes t load) ys
-visible-append load x [] ys h = absurd (false≢true h)
-visible-append load x (s ∷ xs) ys h =
-    visible_at (same s load) (stores_to x s) s _ _ _ _ _ (filter-append (λ t. stores_to x t && precedes t load) xs ys)
-    (λ e. visible-append load x xs ys (or_right (same s load) (list_any (λ s. same s load) xs) e h))
+candidates-append load x [] ys h = absurd (false≢true h)
+candidates-append load x (s ∷ xs) ys h =
+    candidates_at (same s load) (stores_to x s) s _ _ _ _ _ (filter-append (λ t. stores_to x t && precedes t load) xs ys)
+    (λ e. candidates-append load x xs ys (or_right (same s load) (list_any (λ s. same s load) xs) e h))
 
 -- ---- the last of two lists
 

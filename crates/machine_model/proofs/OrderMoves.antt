@@ -1,15 +1,15 @@
 -- What is kept of all harts, and what a change of one hart's part of it leaves of the others.
-use Rattle.std.proofs.Common.{◌≡◌, ◌≢◌, ℕ, ◌+◌, ◌<◌, List, [], ◌∷◌, ◌++◌, Bool, true, false, Option, Some, None, refl, cond, sym, ap, ◌∙◌, subst, not, append_assoc, append-nil, map, length, ◌⊎◌, inl, inr}
+use Rattle.std.proofs.Common.{◌≡◌, ◌≢◌, ℕ, ◌<◌, List, [], ◌∷◌, ◌++◌, Bool, true, false, Some, refl, cond, sym, ap, ◌∙◌, subst, not, append_assoc, append-nil, map, length, ◌⊎◌, inl, inr}
 use Rattle.std.specs.Prelude.{nat_eq}
-use Rattle.std.specs.List.{AllByRecursion as Each, filter, filter_map, list_any}
+use Rattle.std.specs.List.{AllByRecursion as Each, filter}
 use Rattle.std.proofs.lemmas.Bool.{not-true}
 use Rattle.std.proofs.lemmas.Bool.Decides.{eqb_tells}
 use Rattle.std.proofs.lemmas.List.{map-append, length-set}
 use Rattle.std.proofs.lemmas.List.Elements.{filter_map-append}
 use Rattle.machine_model.specs.Changing.{performs, drained, writes_word}
 use Rattle.machine_model.specs.declared.config.Config.{Config}
-use Rattle.machine_model.specs.Views.{Node, State, node_at, with_trace}
-use Rattle.machine_model.proofs.OrderBuffers.{KeepsBuffers, Moves, moves_on, moves_still, node_keeps, names_at, performs_moves, buffer_after}
+use Rattle.machine_model.specs.Views.{State, node_at}
+use Rattle.machine_model.proofs.OrderBuffers.{KeepsBuffers, Moves, moves_on, node_keeps, names_at, performs_moves, buffer_after}
 use Rattle.machine_model.proofs.OrderKept.{joined, kept_group, of_word, IsWaiting, Kept, joined-kept, foreign_keeps, drain_sealed_keeps, drain_open_keeps}
 use Rattle.machine_model.proofs.OrderLists.{Pairwise-left, others}
 use Rattle.machine_model.proofs.OrderSplit.{Split, IsNamed, gave_at, absent, turned, split_drain, split_foreign, waiting_absent, waiting_distinct, waiting_named}
@@ -19,14 +19,13 @@ use Rattle.memory_model.specs.declared.Model.{Model}
 use Rattle.memory_model.specs.declared.operation.Operation.{Operation}
 use Rattle.memory_model.specs.Items.{Item}
 use Rattle.memory_model.specs.Operations.{same}
-use Rattle.memory_model.proofs.Named.{EachOnce}
 use Rattle.memory_model.specs.Traces.{instructions, operation_at, operations_at}
 use Rattle.memory_model.specs.Verdict.{name_of}
-use Rattle.memory_model.proofs.Lists.{Each-append, Each-left, Each-weaker, Each-both, Each-kept, Pairwise-append, Pairwise-filter}
-use Rattle.memory_model.proofs.Named.{each_not}
+use Rattle.memory_model.proofs.Lists.{Each-append, Each-left, Each-weaker, Each-kept, Pairwise-append, Pairwise-filter}
+use Rattle.memory_model.proofs.Named.{each_not, EachOnce}
 use Rattle.store_buffer.specs.Entry.{entry_of}
 use Rattle.store_buffer.specs.Groups.{Groups, after_take, oldest}
-use Rattle.store_buffer.specs.Stores.{Waiting, entries_in, entries_of, is_to_word, is_elsewhere, kept_stores}
+use Rattle.store_buffer.specs.Stores.{entries_in, entries_of, is_to_word, is_elsewhere, kept_stores}
 use Rattle.store_buffer.specs.declared.entry.Entry.{Entry}
 use Rattle.store_buffer.specs.declared.entry.Store.{Store}
 use Rattle.store_buffer.proofs.StoreLaws.{ops_are_filter, oldest_is_first, take_is_drained}
@@ -80,12 +79,15 @@ stands_own : (t : History) (h : ℕ) (out : List Operation) → Each (λ a. a.ha
 stands_own t h [] o f = tt
 stands_own t h (a ∷ out) o f = (ap (λ k. gave_at (items_at t k) a.place) o.0 ∙ f.0, stands_own t h out o.1 f.1)
 
-pub done_more : (h : ℕ) (names : List OpId) (s t : State) → Changes h names s t → (p : Performs s.views.config.model h (items_at t.trace h) (node_at t h).buffer (done s.trace) names) → Each (IsResolved s.trace) s.trace.performed → done t.trace ≡ done s.trace ++ p.out
-done_more h names s t c p r =
+pub done_by : (h : ℕ) (names : List OpId) (s t : State) → Changes h names s t → (out : List Operation) → map name_of out ≡ names → Each (λ a. a.hart ≡ h) out → Each (λ a. gave_at (items_at t.trace h) a.place ≡ Some a) out → Each (IsResolved s.trace) s.trace.performed → done t.trace ≡ done s.trace ++ out
+done_by h names s t c out named own found r =
     ap (operations_at (instructions t.trace)) c.performed
     ∙ (filter_map-append (operation_at (instructions t.trace)) s.trace.performed names
     ∙ (ap (λ v. v ++ operations_at (instructions t.trace) names) (operations_on s.trace t.trace c.extends s.trace.performed r)
-    ∙ ap (λ v. done s.trace ++ v) (ap (operations_at (instructions t.trace)) (sym p.named) ∙ operations_named t.trace p.out (stands_own t.trace h p.out p.own p.found))))
+    ∙ ap (λ v. done s.trace ++ v) (ap (operations_at (instructions t.trace)) (sym named) ∙ operations_named t.trace out (stands_own t.trace h out own found))))
+
+pub done_more : (h : ℕ) (names : List OpId) (s t : State) → Changes h names s t → (p : Performs s.views.config.model h (items_at t.trace h) (node_at t h).buffer (done s.trace) names) → Each (IsResolved s.trace) s.trace.performed → done t.trace ≡ done s.trace ++ p.out
+done_more h names s t c p r = done_by h names s t c p.out p.named p.own p.found r
 
 pub order_changes : (h : ℕ) (names : List OpId) (s t : State) → Changes h names s t → Performs s.views.config.model h (items_at t.trace h) (node_at t h).buffer (done s.trace) names → OrderKept s → OrderKept t
 order_changes h names s t c p o = record {
@@ -125,12 +127,12 @@ named_own h [] o = refl
 named_own h (a ∷ g) o = ap (λ k. record { hart = k; place = a.place } ∷ map name_of g) o.0 ∙ ap (λ v. record { hart = h; place = a.place } ∷ v) (named_own h g o.1)
 
 -- the places of a word's entry in the group that stands first
-drained_places : (h word : ℕ) (buffer : Groups) (g : List Operation) → oldest buffer ≡ entries_of (stores_of g) → Each (λ a. a.hart ≡ h) (filter (of_word word) g) → map name_of (filter (of_word word) g) ≡ names_at h (entry_of word (oldest buffer)).ops
+pub drained_places : (h word : ℕ) (buffer : Groups) (g : List Operation) → oldest buffer ≡ entries_of (stores_of g) → Each (λ a. a.hart ≡ h) (filter (of_word word) g) → map name_of (filter (of_word word) g) ≡ names_at h (entry_of word (oldest buffer)).ops
 drained_places h word buffer g e own =
     named_own h (filter (of_word word) g) own
     ∙ ap (names_at h) (sym (ap (λ (es : List Entry). (entry_of word es).ops) e ∙ (ops_are_filter word (stores_of g) ∙ (ap (map (λ (s : Store). s.op)) (filter-stores (is_to_word word) (of_word word) (λ a. refl) g) ∙ places_of (filter (of_word word) g)))))
 
-drain_parts : (model : Model) (h word : ℕ) (items : List Item) (performed g rest : List Operation) → Split h items (g ++ rest) performed → Each (IsWaiting h) g → EachOnce performed → EachOnce (performed ++ filter (of_word word) g)
+pub drain_parts : (model : Model) (h word : ℕ) (items : List Item) (performed g rest : List Operation) → Split h items (g ++ rest) performed → Each (IsWaiting h) g → EachOnce performed → EachOnce (performed ++ filter (of_word word) g)
 drain_parts model h word items performed g rest k own d =
     let out = filter (of_word word) g in
     Pairwise-append (λ a b. same a b ≡ false) performed out d (Pairwise-filter (λ a b. same a b ≡ false) (of_word word) g (Pairwise-left (λ a b. same a b ≡ false) g rest (waiting_distinct h items (g ++ rest) performed k)))
@@ -140,65 +142,75 @@ kept_stores-is : (g : List Operation) → kept_stores (stores_of g) ≡ map stor
 kept_stores-is [] = refl
 kept_stores-is (a ∷ g) = refl
 
-pub drain_performs : (model : Model) (h word : ℕ) (items : List Item) (buffer : Groups) (performed : List Operation) → HartKept model h items buffer performed → Performs model h items (after_take word buffer) performed (names_at h (entry_of word (oldest buffer)).ops)
-drain_performs model h word items buffer performed k = at k.sealed k.buffer_is k.kept k.split
-  where
-    stay : List Operation → List Operation
-    stay g = others (of_word word) g
+-- the group that stands first, and what waits behind it
+abbrev pub oldest_group : List (List Operation) → List Operation → List Operation
+oldest_group [] current = current
+oldest_group (g ∷ gs) current = g
 
-    rest_is : (g : List Operation) → filter (is_elsewhere word) (stores_of g) ≡ stores_of (others (of_word word) g)
-    rest_is g = filter-stores (is_elsewhere word) (λ a. not (of_word word a)) (λ a. refl) g
+abbrev pub younger : List (List Operation) → List Operation → List Operation
+younger [] current = []
+younger (g ∷ gs) current = joined gs ++ current
 
-    at : (sealed : List (List Operation)) → buffer ≡ entries_in (waiting_of sealed k.current) → Kept model h items sealed k.current performed → Split h items (joined sealed ++ k.current) performed → Performs model h items (after_take word buffer) performed (names_at h (entry_of word (oldest buffer)).ops)
-    at [] e q split =
-        let g = k.current in
-        let own = Each-kept (IsWaiting h) (of_word word) g q.waiting in
-        let split' : Split h items (g ++ []) performed = subst (λ v. Split h items v performed) (sym (append-nil g)) split in
-        let mine = Each-weaker (IsWaiting h) (λ a. a.hart ≡ h) (λ a z. z.own) (filter (of_word word) g) own in
-        record {
-          out = filter (of_word word) g;
-          named = drained_places h word buffer g (ap oldest e ∙ oldest_is_first (waiting_of [] g)) mine;
-          own = mine;
-          found = Each-weaker (IsNamed h items) (λ a. gave_at items a.place ≡ Some a) (λ a z. z.found) (filter (of_word word) g) (Each-kept (IsNamed h items) (of_word word) g (waiting_named h items g performed split));
-          distinct = drain_parts model h word items performed g [] split' q.waiting;
-          kept = record {
-            sealed = [];
-            current = others (of_word word) g;
-            buffer_is = ap (after_take word) e ∙ (take_is_drained word (waiting_of [] g) ∙ ap (λ c. entries_in (record { sealed = []; current = c })) (rest_is g));
-            kept = drain_open_keeps model h items g performed word q;
-            split = subst (λ v. Split h items v (performed ++ filter (of_word word) g)) (append-nil (others (of_word word) g)) (split_drain h items g [] performed (of_word word) split');
-          };
-        }
-    at (g ∷ gs) e q split =
-        let rest = joined gs ++ k.current in
-        let split' : Split h items (g ++ rest) performed = subst (λ v. Split h items v performed) (append_assoc g (joined gs) k.current) split in
-        let waiting_g : Each (IsWaiting h) g = Each-left (IsWaiting h) g rest (subst (Each (IsWaiting h)) (append_assoc g (joined gs) k.current) q.waiting) in
-        let own = Each-kept (IsWaiting h) (of_word word) g waiting_g in
-        let mine = Each-weaker (IsWaiting h) (λ a. a.hart ≡ h) (λ a z. z.own) (filter (of_word word) g) own in
-        record {
-          out = filter (of_word word) g;
-          named = drained_places h word buffer g (ap oldest e ∙ oldest_is_first (waiting_of (g ∷ gs) k.current)) mine;
-          own = mine;
-          found = Each-weaker (IsNamed h items) (λ a. gave_at items a.place ≡ Some a) (λ a z. z.found) (filter (of_word word) g) (Each-kept (IsNamed h items) (of_word word) g (Each-left (IsNamed h items) g rest (waiting_named h items (g ++ rest) performed split')));
-          distinct = drain_parts model h word items performed g rest split' waiting_g;
-          kept = record {
-            sealed = kept_group (others (of_word word) g) ++ gs;
-            current = k.current;
-            buffer_is = ap (after_take word) e ∙ (take_is_drained word (waiting_of (g ∷ gs) k.current) ∙ ap (λ v. entries_in (record { sealed = v; current = stores_of k.current }))
-                (ap (λ v. kept_stores v ++ map stores_of gs) (rest_is g) ∙ (ap (λ v. v ++ map stores_of gs) (kept_stores-is (others (of_word word) g)) ∙ sym (map-append stores_of (kept_group (others (of_word word) g)) gs))));
-            kept = drain_sealed_keeps model h items g gs k.current performed word q;
-            split = subst (λ v. Split h items v (performed ++ filter (of_word word) g)) (regrouped g gs) (split_drain h items g rest performed (of_word word) split');
-          };
-        }
-      where
-        regrouped : (g : List Operation) (gs : List (List Operation)) → others (of_word word) g ++ (joined gs ++ k.current) ≡ joined (kept_group (others (of_word word) g) ++ gs) ++ k.current
-        regrouped g gs = sym (ap (λ v. v ++ k.current) (joined-kept (others (of_word word) g) gs) ∙ append_assoc (others (of_word word) g) (joined gs) k.current)
+pub oldest_line : (sealed : List (List Operation)) (current : List Operation) → joined sealed ++ current ≡ oldest_group sealed current ++ younger sealed current
+oldest_line [] current = sym (append-nil current)
+oldest_line (g ∷ gs) current = append_assoc g (joined gs) current
+
+pub oldest_is : (sealed : List (List Operation)) (current : List Operation) → oldest (entries_in (waiting_of sealed current)) ≡ entries_of (stores_of (oldest_group sealed current))
+oldest_is [] current = oldest_is_first (waiting_of [] current)
+oldest_is (g ∷ gs) current = oldest_is_first (waiting_of (g ∷ gs) current)
+
+rest_is : (word : ℕ) (g : List Operation) → filter (is_elsewhere word) (stores_of g) ≡ stores_of (others (of_word word) g)
+rest_is word g = filter-stores (is_elsewhere word) (λ a. not (of_word word a)) (λ a. refl) g
+
+regrouped : (word : ℕ) (g : List Operation) (gs : List (List Operation)) (current : List Operation) → others (of_word word) g ++ (joined gs ++ current) ≡ joined (kept_group (others (of_word word) g) ++ gs) ++ current
+regrouped word g gs current = sym (ap (λ v. v ++ current) (joined-kept (others (of_word word) g) gs) ∙ append_assoc (others (of_word word) g) (joined gs) current)
+
+pub drain_hart : (model : Model) (h word : ℕ) (items : List Item) (buffer : Groups) (performed : List Operation) (sealed : List (List Operation)) (current : List Operation) → buffer ≡ entries_in (waiting_of sealed current) → Kept model h items sealed current performed → Split h items (oldest_group sealed current ++ younger sealed current) performed
+    → HartKept model h items (after_take word buffer) (performed ++ filter (of_word word) (oldest_group sealed current))
+drain_hart model h word items buffer performed [] g e q split = record {
+  sealed = [];
+  current = others (of_word word) g;
+  buffer_is = ap (after_take word) e ∙ (take_is_drained word (waiting_of [] g) ∙ ap (λ c. entries_in (record { sealed = []; current = c })) (rest_is word g));
+  kept = drain_open_keeps model h items g performed word q;
+  split = subst (λ v. Split h items v (performed ++ filter (of_word word) g)) (append-nil (others (of_word word) g)) (split_drain h items g [] performed (of_word word) split);
+}
+drain_hart model h word items buffer performed (g ∷ gs) current e q split = record {
+  sealed = kept_group (others (of_word word) g) ++ gs;
+  current = current;
+  buffer_is = ap (after_take word) e ∙ (take_is_drained word (waiting_of (g ∷ gs) current) ∙ ap (λ v. entries_in (record { sealed = v; current = stores_of current }))
+      (ap (λ v. kept_stores v ++ map stores_of gs) (rest_is word g) ∙ (ap (λ v. v ++ map stores_of gs) (kept_stores-is (others (of_word word) g)) ∙ sym (map-append stores_of (kept_group (others (of_word word) g)) gs))));
+  kept = drain_sealed_keeps model h items g gs current performed word q;
+  split = subst (λ v. Split h items v (performed ++ filter (of_word word) g)) (regrouped word g gs current) (split_drain h items g (joined gs ++ current) performed (of_word word) split);
+}
+
+-- the operations that a drain of the word performs
+abbrev pub drained_out : {model : Model} {h : ℕ} {items : List Item} {buffer : Groups} {performed : List Operation} → ℕ → HartKept model h items buffer performed → List Operation
+drained_out word k = filter (of_word word) (oldest_group k.sealed k.current)
+
+pub oldest_waiting : (model : Model) (h : ℕ) (items : List Item) (buffer : Groups) (performed : List Operation) (k : HartKept model h items buffer performed) → Each (IsWaiting h) (oldest_group k.sealed k.current)
+oldest_waiting model h items buffer performed k = Each-left (IsWaiting h) (oldest_group k.sealed k.current) (younger k.sealed k.current) (subst (Each (IsWaiting h)) (oldest_line k.sealed k.current) k.kept.waiting)
+
+abbrev pub drain_performs : (model : Model) (h word : ℕ) (items : List Item) (buffer : Groups) (performed : List Operation) → HartKept model h items buffer performed → Performs model h items (after_take word buffer) performed (names_at h (entry_of word (oldest buffer)).ops)
+drain_performs model h word items buffer performed k =
+    let g = oldest_group k.sealed k.current in
+    let rest = younger k.sealed k.current in
+    let split = subst (λ v. Split h items v performed) (oldest_line k.sealed k.current) k.split in
+    let own = oldest_waiting model h items buffer performed k in
+    let mine = Each-weaker (IsWaiting h) (λ a. a.hart ≡ h) (λ a z. z.own) (filter (of_word word) g) (Each-kept (IsWaiting h) (of_word word) g own) in
+    record {
+      out = filter (of_word word) (oldest_group k.sealed k.current);
+      named = drained_places h word buffer g (ap oldest k.buffer_is ∙ oldest_is k.sealed k.current) mine;
+      own = mine;
+      found = Each-weaker (IsNamed h items) (λ a. gave_at items a.place ≡ Some a) (λ a z. z.found) (filter (of_word word) g) (Each-kept (IsNamed h items) (of_word word) g (Each-left (IsNamed h items) g rest (waiting_named h items (g ++ rest) performed split)));
+      distinct = drain_parts model h word items performed g rest split own;
+      kept = drain_hart model h word items buffer performed k.sealed k.current k.buffer_is k.kept split;
+    }
 
 performs_count : (h : ℕ) (places : List ℕ) (s : State) → length (performs h places s).views.nodes ≡ length s.views.nodes
 performs_count h [] s = refl
 performs_count h (place ∷ places) s = performs_count h places _
 
-drained_moves : (h word : ℕ) (s : State) → h < length s.views.nodes → Moves h (after_take word (node_at s h).buffer) (names_at h (entry_of word (oldest (node_at s h).buffer)).ops) s (drained h word s)
+pub drained_moves : (h word : ℕ) (s : State) → h < length s.views.nodes → Moves h (after_take word (node_at s h).buffer) (names_at h (entry_of word (oldest (node_at s h).buffer)).ops) s (drained h word s)
 drained_moves h word s l =
     let e = entry_of word (oldest (node_at s h).buffer) in
     let did = performs h e.ops s in
@@ -215,11 +227,40 @@ moves_changes h buffer names s t m = record {
   buffers = m.there;
 }
 
+-- a change of one hart, with what it performed
+pub record Step (h : ℕ) (names : List OpId) (s t : State) : Type 0 where
+  pub changes : Changes h names s t
+  pub performs : Performs s.views.config.model h (items_at t.trace h) (node_at t h).buffer (done s.trace) names
+
+pub step_kept : (h : ℕ) (names : List OpId) (s t : State) → Step h names s t → OrderKept s → OrderKept t
+step_kept h names s t p o = order_changes h names s t p.changes p.performs o
+
+-- the same of other items and another buffer
+pub performs_same : (model : Model) (h : ℕ) (items items' : List Item) (buffer buffer' : Groups) (performed : List Operation) (names : List OpId) → items' ≡ items → buffer' ≡ buffer → Performs model h items buffer performed names → Performs model h items' buffer' performed names
+performs_same model h items items' buffer buffer' performed names e f p = subst (λ b. Performs model h items' b performed names) (sym f) (subst (λ is. Performs model h is buffer performed names) (sym e) p)
+
+abbrev pub drained_names : ℕ → ℕ → State → List OpId
+drained_names h word s = names_at h (entry_of word (oldest (node_at s h).buffer)).ops
+
+pub drained_step : (h word : ℕ) (s : State) → h < length s.views.nodes → (l : h < s.views.config.harts) → OrderKept s → Step h (drained_names h word s) s (drained h word s)
+drained_step h word s l m o =
+    let mv = drained_moves h word s l in
+    record {
+      changes = moves_changes h _ (names_at h (entry_of word (oldest (node_at s h).buffer)).ops) s (drained h word s) mv;
+      performs = performs_same s.views.config.model h (items_at s.trace h) (items_at (drained h word s).trace h) (after_take word (node_at s h).buffer) (node_at (drained h word s) h).buffer (done s.trace) (names_at h (entry_of word (oldest (node_at s h).buffer)).ops)
+          (items_same s.trace (drained h word s).trace mv.image mv.entries h) mv.here (drain_performs s.views.config.model h word (items_at s.trace h) (node_at s h).buffer (done s.trace) (o.each h m));
+    }
+
 pub order_drained : (h word : ℕ) (s : State) → h < length s.views.nodes → h < s.views.config.harts → OrderKept s → OrderKept (drained h word s)
-order_drained h word s l m o =
+order_drained h word s l m o = step_kept h (drained_names h word s) s (drained h word s) (drained_step h word s l m o) o
+
+-- what a drain adds to the performed operations
+pub drained_done : (h word : ℕ) (s : State) → h < length s.views.nodes → (m : h < s.views.config.harts) → (o : OrderKept s) → done (drained h word s).trace ≡ done s.trace ++ drained_out word (o.each h m)
+drained_done h word s l m o =
     let mv = drained_moves h word s l in
     let names = names_at h (entry_of word (oldest (node_at s h).buffer)).ops in
-    order_changes h names s (drained h word s) (moves_changes h _ names s (drained h word s) mv)
-    (subst (λ b. Performs s.views.config.model h (items_at (drained h word s).trace h) b (done s.trace) names) (sym mv.here)
-    (subst (λ is. Performs s.views.config.model h is (after_take word (node_at s h).buffer) (done s.trace) names) (sym (items_same s.trace (drained h word s).trace mv.image mv.entries h))
-    (drain_performs s.views.config.model h word (items_at s.trace h) (node_at s h).buffer (done s.trace) (o.each h m)))) o
+    let t = drained h word s in
+    let k = o.each h m in
+    let p = drain_performs s.views.config.model h word (items_at s.trace h) (node_at s h).buffer (done s.trace) k in
+    let found : Each (λ a. gave_at (items_at t.trace h) a.place ≡ Some a) (drained_out word k) = subst (λ is. Each (λ a. gave_at is a.place ≡ Some a) (drained_out word k)) (sym (items_same s.trace t.trace mv.image mv.entries h)) p.found in
+    done_by h names s t (moves_changes h _ names s t mv) (drained_out word k) p.named p.own found o.resolved

@@ -1,8 +1,8 @@
 -- What the thirteen rules ask where the first of two operations is a plain store: overlap, fence and release; and what a new item changes of that.
-use Rattle.std.proofs.Common.{◌≡◌, ℕ, zero, suc, ◌+◌, ◌-◌, ◌%◌, ◌<◌, ◌≤◌, List, [], ◌∷◌, ◌++◌, Bool, true, false, Option, Some, None, refl, cond, sym, ap, ◌∙◌, subst, not, ◌&&◌, ◌||◌, append-nil, arith, ◌⊎◌, inl, inr, replicate, slice_index_or, slice_set}
+use Rattle.std.proofs.Common.{◌≡◌, ℕ, zero, suc, ◌+◌, ◌%◌, ◌<◌, ◌≤◌, List, [], ◌∷◌, ◌++◌, Bool, true, false, Option, Some, None, refl, cond, sym, ap, ◌∙◌, subst, not, ◌&&◌, ◌||◌, append-nil, arith, replicate, slice_index_or, slice_set}
 use Rattle.std.specs.Prelude.{nat_lt, nat_le, nat_eq}
 use Rattle.std.specs.List.{AllByRecursion as Each, filter, list_any}
-use Rattle.std.proofs.lemmas.Bool.{false≢true, true≢false, and_parts, and_from, and_left, and_right, or_left, or_right, or_from, or_parts, eqb-true, ltb-true, leb-true, le-ltb, lt-ltb, eq-eqb, cases_Bool, false_from_ne_true}
+use Rattle.std.proofs.lemmas.Bool.{false≢true, true≢false, and_parts, and_from, and_left, and_right, or_left, or_right, or_from, or_parts, eqb-true, ltb-true, leb-true, le-ltb, lt-ltb, eq-eqb, false_from_ne_true}
 use Rattle.std.proofs.lemmas.List.Elements.{filter-append}
 use Rattle.std.proofs.lemmas.List.Folds.{list_any-append}
 use Rattle.machine_model.specs.Words.{word_of}
@@ -11,10 +11,10 @@ use Rattle.memory_model.specs.declared.Model.TheVariants.{Rvwmo, Ztso}
 use Rattle.memory_model.specs.declared.operation.Kind.{Kind}
 use Rattle.memory_model.specs.declared.operation.Kind.TheVariants.{Load, Store, Reserve, Conditional, Amo}
 use Rattle.memory_model.specs.declared.operation.Operation.{Operation}
-use Rattle.memory_model.specs.Dependencies.{between, held_at, held_first, held_after, held_behind, holds, with_flags, sources, uses_in, uses_at, steers, any_steers, any_addresses, has_address_dependency, has_data_dependency, has_control_dependency, has_dependent_address_between}
+use Rattle.memory_model.specs.Dependencies.{between, held_at, held_first, held_after, held_behind, holds, with_flags, sources, uses_in, uses_at, steers, any_steers, any_addresses, has_address_dependency, has_data_dependency}
 use Rattle.memory_model.specs.Items.{Item}
 use Rattle.memory_model.specs.Operations.{precedes, reads, writes, overlap, touches, is_reserve, is_amo, is_conditional, has_acquire, has_release, has_rcsc}
-use Rattle.memory_model.specs.Rules.{Rule, rules, fences, has_read, has_write, is_in_set, passes_on, rule_1, rule_2, rule_3, rule_4, rule_5, rule_6, rule_7, rule_8, rule_9, rule_10, rule_11, rule_12, rule_13}
+use Rattle.memory_model.specs.Rules.{Rule, rules, fences, has_read, has_write, passes_on, rule_2, rule_3, rule_7, rule_8, rule_11, rule_12, rule_13}
 use Rattle.rv32_decode.specs.declared.instruction.Instr.{Instr}
 use Rattle.rv32_decode.specs.declared.instruction.Instr.TheVariants as instr
 use Rattle.rv32_exec.specs.Uses.{Uses}
@@ -229,9 +229,9 @@ quiet_rcsc : (model : Model) (a : Operation) → a.kind ≡ Store → a.aq ≡ f
 quiet_rcsc Rvwmo a s e f = or_from a.aq a.rl e f
 quiet_rcsc Ztso a s e f = or_from (a.aq || a.rl) (is_amo a.kind) (or_from a.aq a.rl e f) (ap is_amo s)
 
-no_dependent : (items : List Item) (order : List Operation) (a b : Operation) → (uses_at items a).written ≡ [] → (o : Option Operation) → passes_on items order a b o ≡ false
-no_dependent items order a b e None = refl
-no_dependent items order a b e (Some m) =
+none_passed : (items : List Item) (order : List Operation) (a b : Operation) → (uses_at items a).written ≡ [] → (o : Option Operation) → passes_on items order a b o ≡ false
+none_passed items order a b e None = refl
+none_passed items order a b e (Some m) =
     let d = no_dependency items a m e in and_left _ _ (and_right (writes m.kind) _ (or_from _ _ d.0 d.1))
 
 -- one of the rules asks it
@@ -256,7 +256,7 @@ asked_store model items order a b s q free =
     or_from _ _ d.0 (
     or_from _ _ d.1 (
     or_from (rule_11 model items order a b) _ (and_right (writes b.kind) _ (and_right (precedes a b) _ (steers_none _ (between items a b) clear))) (
-    or_from (rule_12 model items order a b) _ (and_right (reads b.kind) _ (none_any (λ (m : Item). passes_on items order a b m.operation) (λ m. no_dependent items order a b q.writes_none m.operation) (between items a b))) (
+    or_from (rule_12 model items order a b) _ (and_right (reads b.kind) _ (none_any (λ (m : Item). passes_on items order a b m.operation) (λ m. none_passed items order a b q.writes_none m.operation) (between items a b))) (
     or_from (rule_13 model items order a b) _ (and_right (writes b.kind) _ (and_right (precedes a b) _ (addresses_none _ (between items a b) clear))) refl))))))))))))
 
 pub preserved_from : (model : Model) (h : ℕ) (items : List Item) (order : List Operation) (a b : Operation) → a.hart ≡ h → (a.kind ≡ Store → IsQuiet items a) → must model h items a b ≡ false → (precedes a b && asked model items order a b) ≡ false

@@ -1,15 +1,14 @@
 -- A hart's operations that are not performed are its waiting stores, in program order.
-use Rattle.std.proofs.Common.{◌≡◌, ℕ, zero, suc, ◌+◌, ◌<◌, ◌≤◌, List, [], ◌∷◌, ◌++◌, Bool, true, false, Option, Some, None, refl, cond, sym, ap, ◌∙◌, subst, not, ◌&&◌, ◌||◌, append_assoc, append-nil, arith, length}
+use Rattle.std.proofs.Common.{◌≡◌, ℕ, ◌<◌, List, [], ◌∷◌, ◌++◌, Bool, true, false, Option, Some, None, refl, cond, sym, ap, ◌∙◌, subst, not, ◌&&◌, ◌||◌, append-nil, arith, length}
 use Rattle.std.specs.Prelude.{nat_eq, slice_get, option_and_then}
 use Rattle.std.specs.List.{AllByRecursion as Each, filter, filter_map, list_any}
 use Rattle.std.proofs.lemmas.Bool.{and_left, and_right, or_from, eqb-true, ne_eqb}
 use Rattle.std.proofs.lemmas.List.Elements.{filter-append, filter_map-append}
 use Rattle.std.proofs.lemmas.List.Folds.{list_any-append}
+use Rattle.memory_model.proofs.Named.{EachOnce}
 use Rattle.memory_model.specs.declared.operation.Operation.{Operation}
 use Rattle.memory_model.specs.Items.{Item}
 use Rattle.memory_model.specs.Operations.{same}
-use Rattle.memory_model.proofs.Lists.{Pairwise}
-use Rattle.memory_model.proofs.Named.{EachOnce}
 use Rattle.memory_model.proofs.Forms.{same-self, same-swap}
 use Rattle.memory_model.proofs.Lists.{Each-append, Each-weaker, Each-both, Each-kept, Pairwise-append, Pairwise-filter, filter_same, filter_none}
 use Rattle.machine_model.proofs.OrderLists.{Each-always, Pairwise-left, Pairwise-across, filter-filter, others}
@@ -86,7 +85,7 @@ named_more h items m xs n = Each-weaker (IsNamed h items) (IsNamed h (items ++ m
 ops_more : (items : List Item) (m : Item) (s : Operation) → m.operation ≡ Some s → ops_of (items ++ m ∷ []) ≡ ops_of items ++ s ∷ []
 ops_more items m s e = filter_map-append (λ (q : Item). q.operation) items (m ∷ []) ∙ ap (λ v. ops_of items ++ v) (rw e refl)
 
-ops_same : (items : List Item) (m : Item) → m.operation ≡ None → ops_of (items ++ m ∷ []) ≡ ops_of items
+pub ops_same : (items : List Item) (m : Item) → m.operation ≡ None → ops_of (items ++ m ∷ []) ≡ ops_of items
 ops_same items m e = filter_map-append (λ (q : Item). q.operation) items (m ∷ []) ∙ (ap (λ v. ops_of items ++ v) (rw e refl) ∙ append-nil (ops_of items))
 
 unlike : (h : ℕ) (items : List Item) (s a : Operation) → s.place ≡ length items → IsNamed h items a → (same a s ≡ false) × (same s a ≡ false)

@@ -1,41 +1,38 @@
 -- What each deed of a retiring instruction does to what is kept of its hart.
-use Rattle.std.proofs.Common.{◌≡◌, ℕ, zero, suc, ◌+◌, ◌-◌, ◌%◌, ◌<◌, ◌≤◌, List, [], ◌∷◌, ◌++◌, Bool, true, false, Option, Some, None, refl, cond, sym, ap, ◌∙◌, subst, not, ◌&&◌, ◌||◌, append-nil, append_assoc, arith, length, map}
-use Rattle.std.specs.Prelude.{nat_eq, slice_get, option_and_then}
-use Rattle.std.specs.List.{AllByRecursion as Each, filter, list_any}
+use Rattle.std.proofs.Common.{◌≡◌, ℕ, ◌+◌, ◌%◌, ◌≤◌, List, [], ◌∷◌, ◌++◌, Bool, true, false, Option, Some, None, refl, cond, sym, ap, ◌∙◌, subst, not, ◌&&◌, ◌||◌, append-nil, append_assoc, arith, length, map}
+use Rattle.std.specs.Prelude.{option_and_then}
+use Rattle.std.specs.List.{AllByRecursion as Each, list_any}
 use Rattle.std.proofs.lemmas.Bool.{false≢true, true≢false, and_left, and_right, and_parts, or_from, or_parts, eqb-false, eqb-true}
 use Rattle.std.proofs.lemmas.List.{map-append}
 use Rattle.hart.specs.declared.retired.Retired.{Retired}
-use Rattle.hart.specs.Run.{number_read}
 use Rattle.machine_model.specs.declared.act.Deed.{Deed}
 use Rattle.machine_model.specs.declared.act.Deed.TheVariants as deed
 use Rattle.machine_model.specs.Changing.{put_behind as buffered_behind}
 use Rattle.machine_model.specs.Steps.{Fetched, waits_for_stores, write_waits}
 use Rattle.machine_model.specs.Views.{Node}
 use Rattle.machine_model.specs.Words.{word_of, store_of}
+use Rattle.memory_model.proofs.Named.{EachOnce}
 use Rattle.memory_model.specs.declared.Model.{Model}
 use Rattle.memory_model.specs.declared.Model.TheVariants.{Rvwmo, Ztso}
 use Rattle.memory_model.specs.declared.operation.Kind.{Kind}
 use Rattle.memory_model.specs.declared.operation.Kind.TheVariants as kind
 use Rattle.memory_model.specs.declared.operation.Operation.{Operation}
-use Rattle.memory_model.specs.Dependencies.{instr_in, uses_in, uses_at}
+use Rattle.memory_model.specs.Dependencies.{instr_in, uses_in}
 use Rattle.memory_model.specs.Items.{Item, annotations_of, operation_of_access, succeeded}
 use Rattle.memory_model.specs.Operations.{same, overlap, writes, has_release}
-use Rattle.memory_model.proofs.Named.{EachOnce}
 use Rattle.memory_model.specs.Rules.{fences}
 use Rattle.memory_model.specs.Verdict.{name_of}
 use Rattle.memory_model.proofs.Forms.{same-swap}
-use Rattle.memory_model.proofs.Lists.{Each-append, Each-left, Each-right, Each-weaker, Pairwise-append}
-use Rattle.machine_model.proofs.OrderDeeds.{FitsDeed, Facts, NoFence, IsPlain}
-use Rattle.machine_model.proofs.OrderKept.{joined, kept_group, of_word, IsWaiting, IsBelow, Kept, length_more, get_new, lates_more, sealed_line, item_keeps, store_keeps, seal_keeps, at_once_keeps}
+use Rattle.memory_model.proofs.Lists.{Each-left, Each-weaker, Pairwise-append}
+use Rattle.machine_model.proofs.OrderDeeds.{FitsDeed, Facts, NoFence}
+use Rattle.machine_model.proofs.OrderKept.{joined, kept_group, of_word, IsWaiting, IsBelow, Kept, get_new, lates_more, sealed_line, item_keeps, store_keeps, seal_keeps, at_once_keeps}
 use Rattle.machine_model.proofs.OrderLists.{Each-always}
 use Rattle.machine_model.proofs.OrderRules.{is_store, late, InWord, IsQuiet, apart}
 use Rattle.machine_model.proofs.OrderSplit.{Split, gave_at, new_name, split_store, split_at_once, split_item}
-use Rattle.rv32_decode.specs.Amo.{combined}
 use Rattle.rv32_decode.specs.declared.instruction.Instr.{Instr}
 use Rattle.rv32_exec.specs.Meaning.{Access, Private, Loads, Stores, Reserves, Tries, Updates, Fences, Calls}
-use Rattle.rv32_exec.specs.Uses.{uses_of}
 use Rattle.store_buffer.specs.Groups.{Groups, after_put, after_put_single, after_seal, has, has_sealed, is_empty, is_nil}
-use Rattle.store_buffer.specs.Stores.{Waiting, entries_in, entries_of, all_stores, kept_stores, is_to_word, put_behind, sealed_up}
+use Rattle.store_buffer.specs.Stores.{Waiting, entries_in, all_stores, kept_stores, is_to_word, put_behind, sealed_up}
 use Rattle.store_buffer.specs.declared.entry.Store.{Store}
 use Rattle.store_buffer.proofs.StoreLaws.{put_is_behind, put_single_is_behind, seal_is_up, has_is_any_of_all, empty_is_none, sealed_is_some}
 use Rattle.trace_recorder.specs.declared.operation.OpId.{OpId}
@@ -80,7 +77,7 @@ nil_is (x ∷ xs) e = absurd (false≢true e)
 pub has_is : (word : ℕ) (buffer : Groups) (sealed : List (List Operation)) (current : List Operation) → buffer ≡ entries_in (waiting_of sealed current) → has word buffer ≡ list_any (of_word word) (joined sealed ++ current)
 has_is word buffer sealed current e = ap (has word) e ∙ (has_is_any_of_all word (waiting_of sealed current) ∙ (ap (list_any (is_to_word word)) (stores_joined sealed current) ∙ any_stores word (joined sealed ++ current)))
 
-empty_waits : (buffer : Groups) (sealed : List (List Operation)) (current : List Operation) → buffer ≡ entries_in (waiting_of sealed current) → is_empty buffer ≡ true → joined sealed ++ current ≡ []
+pub empty_waits : (buffer : Groups) (sealed : List (List Operation)) (current : List Operation) → buffer ≡ entries_in (waiting_of sealed current) → is_empty buffer ≡ true → joined sealed ++ current ≡ []
 empty_waits buffer sealed current e f =
     let s = and_parts (is_nil sealed) (is_nil current) (sym (ap is_empty e ∙ (empty_is_none (waiting_of sealed current) ∙ (ap (λ b. b && is_nil (stores_of current)) (is_nil-map stores_of sealed) ∙ ap (λ b. is_nil sealed && b) (is_nil-map store_of_operation current)))) ∙ f) in
     ap (λ (gs : List (List Operation)). joined gs ++ current) (nil_is sealed s.0) ∙ nil_is current s.1

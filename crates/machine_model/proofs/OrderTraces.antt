@@ -1,21 +1,19 @@
 -- Items and operations of a trace whose lists grow.
-use Rattle.std.proofs.Common.{◌≡◌, ◌≢◌, ℕ, zero, suc, ◌+◌, ◌<◌, ◌≤◌, List, [], ◌∷◌, ◌++◌, Bool, true, false, Option, Some, None, refl, cond, sym, ap, ◌∙◌, subst, not, ◌&&◌, arith, length, map, slice_index_or, slice_set}
+use Rattle.std.proofs.Common.{◌≡◌, ◌≢◌, ℕ, zero, suc, ◌+◌, ◌<◌, List, [], ◌∷◌, ◌++◌, Bool, true, false, Some, None, refl, sym, ap, ◌∙◌, subst, arith, length, map, slice_index_or, slice_set}
 use Rattle.std.specs.Prelude.{slice_get, option_and_then, nat_eq}
-use Rattle.std.specs.List.{AllByRecursion as Each, filter, filter_map, cons_option, list_any}
-use Rattle.std.proofs.lemmas.Bool.{true≢false, and_from, eq-eqb, eqb-true, and_parts, and_left, and_right, ne_eqb}
+use Rattle.std.specs.List.{AllByRecursion as Each, cons_option}
+use Rattle.std.proofs.lemmas.Bool.{true≢false, eq-eqb, eqb-true}
 use Rattle.std.proofs.lemmas.List.{length-set, get_or-set_same, get_or-set_other}
-use Rattle.std.proofs.lemmas.List.Elements.{filter_map-append}
 use Rattle.elf_loader.specs.Image.{Initial}
 use Rattle.hart.specs.declared.retired.Retired.{Retired}
 use Rattle.hart.specs.declared.state.Hart.{Hart}
 use Rattle.hart.specs.Run.{after, at_reset, reached}
 use Rattle.memory_model.specs.declared.operation.Operation.{Operation}
 use Rattle.memory_model.specs.Items.{Item, item_of, items_from, items_of_harts}
-use Rattle.memory_model.specs.Operations.{same}
 use Rattle.memory_model.specs.Rules.{items_of}
 use Rattle.memory_model.specs.Traces.{instructions, operation_at, operations_at}
 use Rattle.memory_model.specs.Verdict.{name_of}
-use Rattle.memory_model.proofs.Lists.{Each-append, Each-weaker}
+use Rattle.memory_model.proofs.Lists.{Each-weaker}
 use Rattle.memory_model.proofs.Named.{id-after}
 use Rattle.machine_model.proofs.OrderSplit.{gave_at}
 use Rattle.trace_recorder.specs.History.{History, entries_of}

@@ -1,9 +1,9 @@
 -- From what is kept of each hart to the completed order of all.
 use Rattle.std.proofs.Common.{◌≡◌, ◌≢◌, ℕ, zero, suc, ◌+◌, ◌<◌, ◌≤◌, List, [], ◌∷◌, ◌++◌, Bool, true, false, Option, Some, None, refl, cond, sym, ap, ◌∙◌, subst, not, ◌&&◌, ◌||◌, arith, length, slice_index_or}
-use Rattle.std.specs.Prelude.{nat_eq, nat_lt, is_some, slice_get, option_and_then, IsTrue}
-use Rattle.std.specs.List.{AllByRecursion as Each, filter, filter_map, cons_option, list_any, list_all}
+use Rattle.std.specs.Prelude.{is_some}
+use Rattle.std.specs.List.{AllByRecursion as Each, filter, cons_option, list_any}
 use Rattle.std.specs.Option.{option_map_or}
-use Rattle.std.proofs.lemmas.Bool.{true≢false, false≢true, and_left, and_from, or_left, or_right, eq-eqb}
+use Rattle.std.proofs.lemmas.Bool.{and_left, or_left, or_right}
 use Rattle.std.proofs.lemmas.List.Elements.{filter-append, filter_map-append}
 use Rattle.std.proofs.lemmas.List.Folds.{list_any-append}
 use Rattle.elf_loader.specs.Image.{Initial}
@@ -15,11 +15,11 @@ use Rattle.machine_model.specs.declared.event.Event.{Event}
 use Rattle.machine_model.specs.Events.{after_events, happens}
 use Rattle.machine_model.specs.Laws.{IsPerformedOnce}
 use Rattle.machine_model.specs.OrderLaws.{PerformedOnceAlways, OrderAlways, PreservedAlways}
-use Rattle.machine_model.specs.Views.{State, node_at, opening}
+use Rattle.machine_model.specs.Views.{State, opening}
 use Rattle.machine_model.proofs.Growth.{happens_follows}
 use Rattle.machine_model.proofs.Runs.{AllStand}
 use Rattle.machine_model.proofs.OrderEvents.{order_kept}
-use Rattle.machine_model.proofs.OrderKept.{joined, IsWaiting, IsKnown, Kept}
+use Rattle.machine_model.proofs.OrderKept.{joined, IsWaiting, IsKnown}
 use Rattle.machine_model.proofs.OrderLists.{Each-always, Pairwise-left, Pairwise-right, Pairwise-across, Pairwise-weaker}
 use Rattle.machine_model.proofs.OrderMoves.{OrderKept}
 use Rattle.machine_model.proofs.OrderRules.{asked, must, precedes_not, preserved_from}
@@ -29,16 +29,14 @@ use Rattle.machine_model.proofs.OrderTraces.{items_at, items_of-at, done, IsReso
 use Rattle.memory_model.specs.declared.Model.{Model}
 use Rattle.memory_model.specs.declared.operation.Kind.TheVariants.{Store}
 use Rattle.memory_model.specs.declared.operation.Operation.{Operation}
-use Rattle.memory_model.specs.Items.{Item, item_of, items_from, operation_of_entry, has_operation, accesses_memory, operation_of_access, succeeded}
+use Rattle.memory_model.specs.Items.{Item, items_from, operation_of_entry, has_operation, accesses_memory, succeeded}
 use Rattle.memory_model.specs.Operations.{same, precedes}
 use Rattle.memory_model.specs.Order.{in_order}
-use Rattle.memory_model.proofs.Lists.{Pairwise}
-use Rattle.memory_model.proofs.Named.{EachOnce}
-use Rattle.memory_model.specs.Rules.{items_of, preserved}
-use Rattle.memory_model.specs.Traces.{completed, instructions, is_among, is_distinct, is_named, names_from, names_of_harts, names_in, operation_at, operations_at}
+use Rattle.memory_model.specs.Rules.{preserved}
+use Rattle.memory_model.specs.Traces.{completed, instructions, is_among, is_named, names_from, names_of_harts, names_in, operation_at, operations_at}
 use Rattle.memory_model.proofs.Forms.{Ordered, in_order-from_Ordered}
-use Rattle.memory_model.proofs.Lists.{Each-append, Each-weaker, Each-both, Pairwise-append, list_all-from_Each}
-use Rattle.memory_model.proofs.Named.{Apart, Bears, operation_at-bears, is_named-self, is_distinct-from_Pairwise, completed_is_order}
+use Rattle.memory_model.proofs.Lists.{Each-append, Each-weaker, Each-both, Pairwise-append, list_all-from_Each, Pairwise}
+use Rattle.memory_model.proofs.Named.{Apart, operation_at-bears, is_named-self, is_distinct-from_Pairwise, completed_is_order, EachOnce}
 use Rattle.rv32_decode.specs.Rows.{decoded}
 use Rattle.rv32_decode.specs.declared.instruction.Instr.{Instr}
 use Rattle.rv32_decode.specs.declared.instruction.Instr.TheVariants as instr
@@ -133,7 +131,7 @@ order_always image config events i c =
 
 -- ---- what isn't performed, hart by hart
 
-abbrev missing : History → OpId → Bool
+abbrev pub missing : History → OpId → Bool
 missing t n = not (is_among t.performed n)
 
 among_is : (t : History) (ns : List OpId) (n : OpId) (a : Operation) → operation_at (instructions t) n ≡ Some a → Each (IsResolved t) ns → is_among ns n ≡ list_any (same a) (operations_at (instructions t) ns)
@@ -165,7 +163,7 @@ tail_part t h place hart (x ∷ es) r f =
         ∙ kept_or_not a (absent (done t) a) e ih
 
 -- the waiting stores of a hart
-abbrev waiting_at : {model : Model} {h : ℕ} {items : List Item} {buffer : Groups} {performed : List Operation} → HartKept model h items buffer performed → List Operation
+abbrev pub waiting_at : {model : Model} {h : ℕ} {items : List Item} {buffer : Groups} {performed : List Operation} → HartKept model h items buffer performed → List Operation
 waiting_at k = joined k.sealed ++ k.current
 
 -- ---- in order
@@ -175,7 +173,7 @@ in_lists [] h k hart a e = absurd (none_not a e)
 in_lists (es ∷ rest) zero k hart a e = omega arith
 in_lists (es ∷ rest) (suc h) k hart a e = let l = in_lists rest h k hart a e in omega (arith, l)
 
-done_inside : (t : History) (ns : List OpId) → Each (IsResolved t) ns → Each (λ a. a.hart < length t.entries) (operations_at (instructions t) ns)
+pub done_inside : (t : History) (ns : List OpId) → Each (IsResolved t) ns → Each (λ a. a.hart < length t.entries) (operations_at (instructions t) ns)
 done_inside t [] r = tt
 done_inside t (n ∷ ns) r =
     subst (λ o. Each (λ a. a.hart < length t.entries) (cons_option o (operations_at (instructions t) ns))) (sym r.0.1)
@@ -244,7 +242,7 @@ waiting_free s o order n l rest r =
     }
 
 -- the operations of a hart's list that aren't performed
-part_is : (s : State) (o : OrderKept s) (n : ℕ) (l : n < s.views.config.harts) (es : List Retired) → es ≡ entries_of s.trace n → operations_at (instructions s.trace) (filter (missing s.trace) (names_from n 0 es)) ≡ waiting_at (o.each n l)
+pub part_is : (s : State) (o : OrderKept s) (n : ℕ) (l : n < s.views.config.harts) (es : List Retired) → es ≡ entries_of s.trace n → operations_at (instructions s.trace) (filter (missing s.trace) (names_from n 0 es)) ≡ waiting_at (o.each n l)
 part_is s o n l es e =
     let t = s.trace in
     ap (λ xs. operations_at (instructions t) (filter (missing t) (names_from n 0 xs))) e

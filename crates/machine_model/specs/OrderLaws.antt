@@ -1,8 +1,6 @@
 -- Laws of the completed order that need no coherence.
 use Rattle.std.specs.Prelude.{IsTrue}
-use Rattle.machine_model.specs.declared.config.Config.{Config}
 use Rattle.machine_model.specs.Laws.{Always, IsPerformedOnce}
-use Rattle.machine_model.specs.Views.{State}
 use Rattle.memory_model.specs.Legal.{keeps_preserved_order}
 use Rattle.memory_model.specs.Traces.{IsOrder, completed, instructions, operations_at}
 
