@@ -1,5 +1,6 @@
 //! Why a machine isn't made, or an event isn't applied.
 
+use plain_machine::Refusal;
 use std::alloc::AllocError;
 use thiserror::Error;
 
@@ -13,7 +14,7 @@ pub enum NewError {
     NoMemory = 2,
 }
 
-/// Why an event isn't applied. The machine is as it was.
+/// Why an event isn't applied.
 #[derive(Clone, Copy, Debug, PartialEq, Eq, Error)]
 pub enum ApplyError {
     /// The event names a hart, word, line or count that the machine hasn't.
@@ -49,9 +50,13 @@ impl From<AllocError> for NewError {
     }
 }
 
-impl From<AllocError> for ApplyError {
-    fn from(_error: AllocError) -> Self {
-        ApplyError::NoMemory
+impl From<Refusal> for ApplyError {
+    fn from(refusal: Refusal) -> Self {
+        match refusal {
+            Refusal::BadEvent => ApplyError::BadEvent,
+            Refusal::Limit => ApplyError::Limit,
+            Refusal::NoMemory => ApplyError::NoMemory,
+        }
     }
 }
 

@@ -16,7 +16,7 @@ pub use files::Files;
 pub use running::run_line;
 pub use system::SystemFiles;
 pub use usage::settings;
-pub use wanted::{Settings, SettingsError};
+pub use wanted::{Replay, Settings, SettingsError};
 
 #[cfg(test)]
 mod tests;

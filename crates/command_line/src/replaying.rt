@@ -2,8 +2,9 @@
 
 use crate::fault::Fault;
 use crate::files::Files;
+use crate::wanted::Replay;
 use coherent_machine::replay;
-use elf_loader::{Image, raw, size_of_kib};
+use elf_loader::{Image, load, raw, size_of_kib};
 use hart::Status;
 use machine_model::{Config, Model};
 use std::alloc::Global;
@@ -16,18 +17,18 @@ use trace_text::{Script, read_script, write_trace};
 pub(crate) fn replay_files<'a, F: Files, O: Write, E: Write>(
     alloc: Global,
     files: &mut F,
-    image_file: &'a str,
-    script_file: &'a str,
+    wanted: Replay<'a>,
     out: &mut O,
     err: &mut E,
 ) -> Result<(), Fault<'a>> {
-    let script = script_in(alloc, files, script_file)?;
-    let image = image_in(alloc, files, image_file, script.kib)?;
-    let machine = match replay(alloc, image, config_of(&script), script.events.as_slice()) {
+    let script = script_in(alloc, files, wanted.script)?;
+    let image = image_in(alloc, files, &wanted, script.kib)?;
+    let config = config_of(&script, wanted.model);
+    let machine = match replay(alloc, image, config, script.events.as_slice()) {
         Ok(machine) => machine,
-        Err(error) => return Err(Fault::replay(script_file, error)),
+        Err(error) => return Err(Fault::replay(wanted.script, error)),
     };
-    let (trace, outputs) = machine.into_parts();
+    let (trace, outputs) = machine.into_parts()?;
     if let Err(error) = print(&trace, out) {
         return Err(Fault::writing(error));
     }
@@ -72,26 +73,31 @@ fn script_in<'a, F: Files>(
 fn image_in<'a, F: Files>(
     alloc: Global,
     files: &mut F,
-    name: &'a str,
+    wanted: &Replay<'a>,
     kib: u32,
 ) -> Result<Image, Fault<'a>> {
-    let bytes = contents(alloc, files, name)?;
+    let bytes = contents(alloc, files, wanted.image)?;
     let Some(size) = size_of_kib(kib) else {
         return Err(Fault::Configuration);
     };
-    match raw(alloc, bytes.as_slice(), size) {
+    let loaded = if wanted.raw {
+        raw(alloc, bytes.as_slice(), size)
+    } else {
+        load(alloc, bytes.as_slice(), size)
+    };
+    match loaded {
         Ok(image) => Ok(image),
-        Err(error) => Err(Fault::image(name, error)),
+        Err(error) => Err(Fault::image(wanted.image, error)),
     }
 }
 
-fn config_of(script: &Script) -> Config {
+fn config_of(script: &Script, model: Model) -> Config {
     Config {
         harts: script.harts,
         sets: script.sets,
         ways: script.ways,
         line: script.line,
-        model: Model::Rvwmo,
+        model,
     }
 }
 

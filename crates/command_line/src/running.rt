@@ -25,13 +25,10 @@ pub fn run_line<S: AsStr, F: Files, O: Write, E: Write>(
     err: &mut E,
 ) -> u8 {
     let fault = match settings(alloc, words) {
-        Ok(Settings::Replay { raw: false, .. }) => Fault::Configuration,
-        Ok(Settings::Replay { image, script, .. }) => {
-            match replay_files(alloc, files, image, script, out, err) {
-                Ok(()) => return 0,
-                Err(fault) => fault,
-            }
-        }
+        Ok(Settings::Replay(wanted)) => match replay_files(alloc, files, wanted, out, err) {
+            Ok(()) => return 0,
+            Err(fault) => fault,
+        },
         Ok(Settings::Check { model, trace }) => {
             match check_file(alloc, files, trace, model, out) {
                 Ok(Verdict::Legal) => return 0,

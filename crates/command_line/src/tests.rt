@@ -179,12 +179,6 @@ const FAULTS: [(&[u8], &[u8], &str, u8); 10] = [
     ),
     (
         &[0; 4],
-        b"rvtl-script 1 2 4 4 2\n",
-        "rvtl: bad configuration\n",
-        2,
-    ),
-    (
-        &[0; 4],
         b"rvtl-script 1 1 4 4 2\nstep 0\nstep 9\n",
         "rvtl: script: line 3: event fault 1 BadEvent\n",
         1,
@@ -208,7 +202,7 @@ fn row_23_and_the_other_faults(rt: HostRuntime) {
     }
 }
 
-/// The script is judged first, and without `--raw` no file is read.
+/// The script is judged first.
 #[test]
 fn files_that_are_not_there(rt: HostRuntime) {
     let script = [File::whole("script", b"rvtl-script 1 1 4 4 2\n")];
@@ -225,8 +219,8 @@ fn files_that_are_not_there(rt: HostRuntime) {
         ),
         (
             &["rvtl", "replay", "image", "gone"],
-            "rvtl: bad configuration\n",
-            2,
+            "rvtl: gone: cannot read\n",
+            1,
         ),
     ] {
         let ran = line(rt.alloc(), words, &script);

@@ -1,6 +1,6 @@
 //! The program's usage, and how its words are read.
 
-use crate::wanted::{Settings, SettingsError};
+use crate::wanted::{Replay, Settings, SettingsError};
 use clap::{Arg, ArgAction, Command};
 use machine_model::Model;
 use std::alloc::{AllocError, Global};
@@ -18,16 +18,18 @@ pub fn settings<'a, S: AsStr>(
             model: model_of(check.get_str("model").unwrap_or("")),
             trace: check.get_str("TRACE").unwrap_or(""),
         },
-        Some((_, replay)) => Settings::Replay {
+        Some((_, replay)) => Settings::Replay(Replay {
             raw: replay.get_flag("raw"),
+            model: model_of(replay.get_str("model").unwrap_or("")),
             image: replay.get_str("IMAGE").unwrap_or(""),
             script: replay.get_str("SCRIPT").unwrap_or(""),
-        },
-        None => Settings::Replay {
+        }),
+        None => Settings::Replay(Replay {
             raw: false,
+            model: Model::Rvwmo,
             image: "",
             script: "",
-        },
+        }),
     })
 }
 
@@ -57,6 +59,7 @@ fn command<'a>(alloc: Global) -> Result<Command<'a>, AllocError> {
         .about("Applies a script of events to a machine and prints the trace")
         .after_help(REPLAY_HELP)
         .arg(raw)?
+        .arg(model_argument(alloc, "the memory model that the machine runs under"))?
         .arg(image)?
         .arg(script)?;
     Command::new(alloc, "rvtl")
@@ -66,12 +69,16 @@ fn command<'a>(alloc: Global) -> Result<Command<'a>, AllocError> {
         .subcommand(check_command(alloc)?)
 }
 
-fn check_command<'a>(alloc: Global) -> Result<Command<'a>, AllocError> {
-    let model = Arg::new(alloc, "model")
+fn model_argument<'a>(alloc: Global, help: &'a str) -> Arg<'a> {
+    Arg::new(alloc, "model")
         .long("model")
         .value_parser(MODELS.as_slice())
         .default_value(MODELS[0])
-        .help("the memory model that the order has to keep");
+        .help(help)
+}
+
+fn check_command<'a>(alloc: Global) -> Result<Command<'a>, AllocError> {
+    let model = model_argument(alloc, "the memory model that the order has to keep");
     let trace = Arg::new(alloc, "TRACE")
         .required(true)
         .help("a trace, as replay prints it");

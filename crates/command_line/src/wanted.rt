@@ -5,16 +5,21 @@ use machine_model::Model;
 use std::alloc::AllocError;
 use thiserror::Error;
 
+/// Apply the events of the file `script` to a machine that begins with the file `image`, which has bare
+/// words where `raw` is set, and else is an ELF file.
+#[derive(Clone, Copy, Debug, PartialEq, Eq)]
+pub struct Replay<'a> {
+    pub raw: bool,
+    /// Under which the machine runs.
+    pub model: Model,
+    pub image: &'a str,
+    pub script: &'a str,
+}
+
 /// What the program is to do.
 #[derive(Clone, Copy, Debug, PartialEq, Eq)]
 pub enum Settings<'a> {
-    /// Apply the events of the file `script` to a machine that begins with the file `image`, which has
-    /// bare words where `raw` is set, and else is an ELF file.
-    Replay {
-        raw: bool,
-        image: &'a str,
-        script: &'a str,
-    },
+    Replay(Replay<'a>),
     /// Judge the order of the trace in this file.
     Check {
         model: Model,
