@@ -21,10 +21,7 @@ pub struct Replay<'a> {
 pub enum Settings<'a> {
     Replay(Replay<'a>),
     /// Judge the order of the trace in this file.
-    Check {
-        model: Model,
-        trace: &'a str,
-    },
+    Check { model: Model, trace: &'a str },
 }
 
 /// Why the words ask for nothing that the program can do.

@@ -104,6 +104,7 @@ retired_stops_not image hart entry i code e = access_stops_not (access_of i hart
     cond_stops_not : (b : Bool) (n code : ℕ) → cond b (Exited n) Running ≡ Stopped code → ⊥
     cond_stops_not true n code e = cc
     cond_stops_not false n code e = cc
+
     access_stops_not : (a : Access) (code : ℕ) → status_after a ≡ Stopped code → ⊥
     access_stops_not Private code e = cc
     access_stops_not (Loads address bytes) code e = cc
@@ -192,16 +193,20 @@ one_changed s t h n entries status image config nodes lists statuses l st a =
   where
     at : (k : ℕ) (d : Node) → slice_index_or t.views.nodes k d ≡ slice_index_or (slice_set s.views.nodes h n) k d
     at k d = ap (λ (ns : List Node). slice_index_or ns k d) nodes
+
     blank : no_node t ≡ no_node s
     blank = rw (image, config) refl
+
     node_is : (k : ℕ) → node_at t k ≡ slice_index_or (slice_set s.views.nodes h n) k (no_node s)
     node_is k = at k (no_node t) ∙ ap (slice_index_or (slice_set s.views.nodes h n) k) blank
+
     moved : (k : ℕ) (hart : Hart) (es : List Retired) (status' : Status) → (node_at t k).hart ≡ hart → entries_of t.trace k ≡ es → slice_index_or t.trace.statuses k Running ≡ status' → Stands s.trace.image s.views.config.harts k hart es status' → Stands t.trace.image t.views.config.harts k (node_at t k).hart (entries_of t.trace k) (slice_index_or t.trace.statuses k Running)
     moved k hart es status' e f g x = subst (λ (i : Initial). Stands i t.views.config.harts k (node_at t k).hart (entries_of t.trace k) (slice_index_or t.trace.statuses k Running)) (sym image)
         (subst (λ (m : ℕ). Stands s.trace.image m k (node_at t k).hart (entries_of t.trace k) (slice_index_or t.trace.statuses k Running)) (sym (ap (λ (c : Config). c.harts) config))
         (subst (λ (x : Hart). Stands s.trace.image s.views.config.harts k x (entries_of t.trace k) (slice_index_or t.trace.statuses k Running)) (sym e)
         (subst (λ (xs : List Retired). Stands s.trace.image s.views.config.harts k hart xs (slice_index_or t.trace.statuses k Running)) (sym f)
         (subst (λ (x : Status). Stands s.trace.image s.views.config.harts k hart es x) (sym g) x))))
+
     each : (k : ℕ) → k < s.views.config.harts → ((nat_eq k h ≡ true) × (k ≡ h)) ⊎ ((nat_eq k h ≡ false) × (k ≢ h)) → Stands t.trace.image t.views.config.harts k (node_at t k).hart (entries_of t.trace k) (slice_index_or t.trace.statuses k Running)
     each k m (inl e) =
         let here = get_or-set_same s.views.nodes h n (no_node s) (subst (λ x. h < x) (sym a.nodes) l) in
@@ -419,6 +424,7 @@ opening_stands image config = record {
   where
     fresh : (h : ℕ) → h < config.harts → node_at (opening image config) h ≡ opening_node image config h
     fresh h l = get_or-map-range_with_len (opening_node image config) 0 config.harts h h (no_node (opening image config)) l (omega arith)
+
     at : (h : ℕ) → h < config.harts → Stands image config.harts h (node_at (opening image config) h).hart (entries_of (opening image config).trace h) (slice_index_or (opening image config).trace.statuses h Running)
     at h l =
         let start : Stands image config.harts h (at_reset image h config.harts) [] Running = record { steps = refl; fits = refl; here = refl } in

@@ -1,11 +1,10 @@
 //! What an event changes, once it is decided on.
 
+use crate::outcome::Outcome;
 use hart::Retired;
 use rv32_decode::Instr;
 use store_buffer::Store;
 use tl_types::{Grow, Msg};
-
-use crate::outcome::Outcome;
 
 /// What an event comes to, before anything changes.
 #[derive(Clone, Copy, Debug, PartialEq, Eq)]
@@ -28,7 +27,10 @@ pub enum Act {
         deed: Deed,
     },
     /// An Acquire of the line that begins at this address is sent.
-    Miss { line: u32, grow: Grow },
+    Miss {
+        line: u32,
+        grow: Grow,
+    },
     /// The word's entry leaves the oldest group of the store buffer, and its stores are performed.
     Drain(u32),
     /// The cache gives up the line that begins at this address.
