@@ -36,3 +36,6 @@ pub mod OrderLoads
 pub mod OrderReads
 pub mod OrderReturns
 pub mod OrderJoint
+pub mod JointBytes
+pub mod JointActs
+pub mod JointAlways

@@ -43,7 +43,7 @@ kept_same model model' h items items' buffer buffer' performed performed' a b c 
 
 -- ---- nothing of it changes
 
-done_same : (old new : History) → new.image ≡ old.image → new.entries ≡ old.entries → new.performed ≡ old.performed → done new ≡ done old
+pub done_same : (old new : History) → new.image ≡ old.image → new.entries ≡ old.entries → new.performed ≡ old.performed → done new ≡ done old
 done_same old new i e p = rw (i, e, p) refl
 
 pub order_still : (s t : State) → KeepsBuffers s t → OrderKept s → OrderKept t

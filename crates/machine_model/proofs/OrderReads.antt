@@ -20,7 +20,7 @@ use Rattle.machine_model.proofs.OrderDeeds.{FitsDeed}
 use Rattle.machine_model.proofs.OrderEvents.{IsFit}
 use Rattle.machine_model.proofs.OrderKept.{joined, of_word, IsWaiting, get_new}
 use Rattle.machine_model.proofs.OrderLoads.{HoldsLast, value_of}
-use Rattle.machine_model.proofs.OrderMoves.{OrderKept, Changes, done_more, drained_step, drained_names, drained_out, drained_done, drained_moves, oldest_group, younger, oldest_line, oldest_waiting}
+use Rattle.machine_model.proofs.OrderMoves.{OrderKept, Changes, done_more, done_same, drained_step, drained_names, drained_out, drained_done, drained_moves, oldest_group, younger, oldest_line, oldest_waiting}
 use Rattle.machine_model.proofs.OrderSplit.{Split, absent, gave_at, split_drain, split_foreign}
 use Rattle.machine_model.proofs.OrderSteps.{names_by}
 use Rattle.machine_model.proofs.OrderTraces.{items_at, items_same, items_here, done, new_item, operation_is, length-items_from}
@@ -34,7 +34,7 @@ use Rattle.memory_model.proofs.Named.{operation_at-bears}
 use Rattle.rv32_decode.specs.Rows.{decoded}
 use Rattle.rv32_decode.specs.declared.instruction.Instr.{Instr}
 use Rattle.rv32_exec.specs.Meaning.{access_of}
-use Rattle.trace_recorder.specs.History.{History, entries_of}
+use Rattle.trace_recorder.specs.History.{entries_of}
 use Rattle.trace_recorder.specs.declared.operation.OpId.{OpId}
 
 -- each load of a hart is right, where these are performed
@@ -50,11 +50,8 @@ right_same im im' h items items' performed performed' a b c r =
 
 pub values_still : (s t : State) → KeepsBuffers s t → ValuesKept s → ValuesKept t
 values_still s t k v = record {
-  each = λ h l. right_same s.trace.image t.trace.image h (items_at s.trace h) (items_at t.trace h) (done s.trace) (done t.trace) k.image (items_same s.trace t.trace k.image k.entries h) (done_is s.trace t.trace k.image k.entries k.performed) (v.each h (subst (λ (c : Config). h < c.harts) k.config l));
+  each = λ h l. right_same s.trace.image t.trace.image h (items_at s.trace h) (items_at t.trace h) (done s.trace) (done t.trace) k.image (items_same s.trace t.trace k.image k.entries h) (done_same s.trace t.trace k.image k.entries k.performed) (v.each h (subst (λ (c : Config). h < c.harts) k.config l));
 }
-  where
-    done_is : (old new : History) → new.image ≡ old.image → new.entries ≡ old.entries → new.performed ≡ old.performed → done new ≡ done old
-    done_is old new i e p = rw (i, e, p) refl
 
 -- one hart's part changes
 values_by : (h : ℕ) (names : List OpId) (s t : State) (out : List Operation) → Changes h names s t → t.trace.image ≡ s.trace.image → done t.trace ≡ done s.trace ++ out → Each (λ a. a.hart ≡ h) out

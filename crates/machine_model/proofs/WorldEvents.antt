@@ -30,6 +30,7 @@ use Rattle.machine_model.specs.Events.{IsBad, IsLimited, Moves, after_events, ev
 use Rattle.machine_model.specs.Steps.{Fetched, plan_access, plan_amo, plan_call, plan_conditional, plan_fence, plan_instr, plan_load, plan_reserve, plan_store, plan_unless, retires, update, waits_for_stores, write_waits}
 use Rattle.machine_model.specs.Views.{Node, State, line_of, line_size, node_at, place_of}
 use Rattle.machine_model.specs.Words.{read_from, store_of, word_in, word_of}
+use Rattle.machine_model.specs.declared.act.Act.{Act}
 use Rattle.machine_model.specs.declared.act.Act.TheVariants as act
 use Rattle.machine_model.specs.declared.act.Deed.{Deed}
 use Rattle.machine_model.specs.declared.act.Deed.TheVariants as deed
@@ -46,7 +47,7 @@ use Rattle.machine_model.proofs.WorldActs.{given_up_fits, granted_fits, missed_f
 use Rattle.machine_model.proofs.WorldDeliveries.{acquired_fits, ended_fits, probe_ack_data_fits, probe_ack_fits, release_data_fits, release_fits}
 use Rattle.machine_model.proofs.WorldFits.{Framed, IsFit, framed_taken, kit_at, kit_of}
 use Rattle.machine_model.proofs.WorldKept.{front_line, is_line, side}
-use Rattle.machine_model.proofs.WorldSteps.{Fits, IsAllowed, MayWrite, drains_fits, retires_fits, stopped_fits, went_alone_fits}
+use Rattle.machine_model.proofs.WorldSteps.{Fits, IsAllowed, MayWrite, drains_fits, last_after, retires_fits, stopped_fits, went_alone_fits}
 use Rattle.memory_model.specs.declared.Model.{Model}
 use Rattle.reservations.specs.Reservation.{is_valid}
 use Rattle.memory_model.specs.Rules.{fences}
@@ -131,14 +132,19 @@ instr_inside image _ pc regs e = tt
 
 -- ---- plans
 
--- what a plan changes keeps what holds
-abbrev IsGoodPlan : State → ℕ → Plan → Type 0
-IsGoodPlan s h (Stays o) = Unit {0}
-IsGoodPlan s h (Changes a) = Fits (acted h a s)
+-- a drain's word is aligned
+abbrev pub IsAligned : Act → Type 0
+IsAligned (act.Drain word) = word % 4 ≡ 0
+IsAligned _ = Unit {0}
 
-good_if : (s : State) (h : ℕ) (t : Bool) (p q : Plan) → (t ≡ true → IsGoodPlan s h p) → (t ≡ false → IsGoodPlan s h q) → IsGoodPlan s h (if t then p else q)
-good_if s h true p q f g = f refl
-good_if s h false p q f g = g refl
+-- what a plan changes keeps what holds
+abbrev pub IsGoodPlan : State → (ℕ → LineData) → ℕ → Plan → Type 0
+IsGoodPlan s last h (Stays o) = Unit {0}
+IsGoodPlan s last h (Changes a) = IsFit (acted h a s) (last_after s h a last) × IsAligned a
+
+good_if : (s : State) (last : ℕ → LineData) (h : ℕ) (t : Bool) (p q : Plan) → (t ≡ true → IsGoodPlan s last h p) → (t ≡ false → IsGoodPlan s last h q) → IsGoodPlan s last h (if t then p else q)
+good_if s last h true p q f g = f refl
+good_if s last h false p q f g = g refl
 
 module _ (s : State) (last : ℕ → LineData) (i : IsFit s last) (h : ℕ) (in_h : h < length s.views.nodes) where
   abbrev n : Node
@@ -157,10 +163,10 @@ module _ (s : State) (last : ℕ → LineData) (i : IsFit s last) (h : ℕ) (in_
   may_write : (address : ℕ) → is_trunk (perm_of (copy_at n.cache (line address))) ≡ true → MayWrite s h address
   may_write address may = subst (λ size. is_trunk (perm_of (copy_at n.cache (line_of size address))) ≡ true) (i.sized h) may
 
-  good_retire : (f : Fetched) (loaded : Option ℕ) (sc_ok : Option Bool) (d : Deed) → IsAllowed s h d → IsGoodPlan s h (retires n f loaded sc_ok d)
-  good_retire f loaded sc_ok d may = retires_fits s last i h in_h s.views.config.model _ f.instr d may
+  good_retire : (f : Fetched) (loaded : Option ℕ) (sc_ok : Option Bool) (d : Deed) → IsAllowed s h d → IsGoodPlan s last h (retires n f loaded sc_ok d)
+  good_retire f loaded sc_ok d may = (retires_fits s last i h in_h s.views.config.model _ f.instr d may, tt)
 
-  good_miss : (l : ℕ) (grow : Grow) → IsLine l → IsReader (copy_at n.cache l) → IsGoodPlan s h (plan_miss n.cache l grow)
+  good_miss : (l : ℕ) (grow : Grow) → IsLine l → IsReader (copy_at n.cache l) → IsGoodPlan s last h (plan_miss n.cache l grow)
   good_miss l grow on reader = go (wanted n.cache l grow).0 refl
     where
       same_grow : (after : Cache) (a b c d : Bool) (g : Grow) → (chosen n.cache after grow a b c d).0 ≡ want.Missed g → grow ≡ g
@@ -170,44 +176,44 @@ module _ (s : State) (last : ℕ → LineData) (i : IsFit s last) (h : ℕ) (in_
       same_grow after false false false true g e = cc e
       same_grow after false false false false g e = cc e
 
-      go : (w : Want) → (wanted n.cache l grow).0 ≡ w → IsGoodPlan s h (miss_by l w)
+      go : (w : Want) → (wanted n.cache l grow).0 ≡ w → IsGoodPlan s last h (miss_by l w)
       go want.WaitRelease e = tt
       go want.WaitGrant e = tt
       go want.NoTracker e = tt
       go want.SetFull e = tt
       go (want.Missed g) e =
           let same : grow ≡ g = same_grow (record n.cache { acquiring = set.insert n.cache.acquiring l }) (set.contains n.cache.releasing l) (set.contains n.cache.acquiring l) (nat_le 4 (set.len n.cache.acquiring)) (is_set_full n.cache l) g e in
-          (last, missed_fits s last i h in_h l g on (subst (λ k. (wanted n.cache l k).0 ≡ want.Missed g) same e) reader)
+          (missed_fits s last i h in_h l g on (subst (λ k. (wanted n.cache l k).0 ≡ want.Missed g) same e) reader, tt)
 
-  good_reading : (l : ℕ) (go : LineData → Plan) → IsLine l → ((bytes : LineData) → IsGoodPlan s h (go bytes)) → IsGoodPlan s h (reading go n.cache l)
+  good_reading : (l : ℕ) (go : LineData → Plan) → IsLine l → ((bytes : LineData) → IsGoodPlan s last h (go bytes)) → IsGoodPlan s last h (reading go n.cache l)
   good_reading l go on good = by (copy_at n.cache l) refl
     where
-      by : (o : Option Held) → copy_at n.cache l ≡ o → IsGoodPlan s h (reading_by o go n.cache l)
+      by : (o : Option Held) → copy_at n.cache l ≡ o → IsGoodPlan s last h (reading_by o go n.cache l)
       by None e = good_miss l NtoB on (rw e refl)
       by (Some x) e = good (bytes_in x)
 
-  good_writing : (l : ℕ) (go : LineData → Plan) → IsLine l → ((bytes : LineData) → is_trunk (perm_of (copy_at n.cache l)) ≡ true → IsGoodPlan s h (go bytes)) → IsGoodPlan s h (writing go n.cache l)
+  good_writing : (l : ℕ) (go : LineData → Plan) → IsLine l → ((bytes : LineData) → is_trunk (perm_of (copy_at n.cache l)) ≡ true → IsGoodPlan s last h (go bytes)) → IsGoodPlan s last h (writing go n.cache l)
   good_writing l go on good = by (copy_at n.cache l) refl
     where
-      by : (o : Option Held) → copy_at n.cache l ≡ o → IsGoodPlan s h (writing_by o go n.cache l)
+      by : (o : Option Held) → copy_at n.cache l ≡ o → IsGoodPlan s last h (writing_by o go n.cache l)
       by None e = good_miss l NtoT on (rw e refl)
       by (Some (held.Branch bytes)) e = good_miss l BtoT on (rw e refl)
       by (Some (held.Trunk dirty bytes)) e = good bytes (rw e refl)
 
   -- ---- a step
 
-  good_conditional : (model : Model) (f : Fetched) (address value : ℕ) → IsGoodPlan s h (plan_conditional model n f address value)
+  good_conditional : (model : Model) (f : Fetched) (address value : ℕ) → IsGoodPlan s last h (plan_conditional model n f address value)
   good_conditional model f address value = go (is_valid address n.reserved) refl
     where
       valid : (reserved : Option ℕ) → n.reserved ≡ reserved → is_valid address reserved ≡ true → MayWrite s h address
       valid None e v = cc v
       valid (Some word) e v = let same : word ≡ address = eqb-true word address v in i.reserved h address (e ∙ ap Some same)
 
-      go : (t : Bool) → is_valid address n.reserved ≡ t → IsGoodPlan s h (if not t then retires n f None (Some false) deed.Fail else if write_waits model n f.instr address then Stays outcome.MustDrain else retires n f None (Some true) (deed.Conditional address value))
+      go : (t : Bool) → is_valid address n.reserved ≡ t → IsGoodPlan s last h (if not t then retires n f None (Some false) deed.Fail else if write_waits model n f.instr address then Stays outcome.MustDrain else retires n f None (Some true) (deed.Conditional address value))
       go false e = good_retire f None (Some false) deed.Fail tt
-      go true e = good_if s h (write_waits model n f.instr address) _ _ (λ _. tt) (λ _. good_retire f None (Some true) (deed.Conditional address value) (valid n.reserved refl e))
+      go true e = good_if s last h (write_waits model n f.instr address) _ _ (λ _. tt) (λ _. good_retire f None (Some true) (deed.Conditional address value) (valid n.reserved refl e))
 
-  good_load : (f : Fetched) (address bytes : ℕ) → IsLine (line address) → IsGoodPlan s h (plan_load n f address bytes)
+  good_load : (f : Fetched) (address bytes : ℕ) → IsLine (line address) → IsGoodPlan s last h (plan_load n f address bytes)
   good_load f address bytes on = go (covers waiting.0 (marks_of_access (address % 4) bytes))
     where
       waiting : List Bool × List ℕ
@@ -216,46 +222,46 @@ module _ (s : State) (last : ℕ → LineData) (i : IsFit s last) (h : ℕ) (in_
       from_line : LineData → Option ℕ
       from_line found = Some (read_from (laid_over waiting.0 waiting.1 (word_in found (word_of address))) address bytes)
 
-      go : (t : Bool) → IsGoodPlan s h (if t then retires n f (Some (read_from waiting.1 address bytes)) None deed.Load else reading (λ found. retires n f (from_line found) None deed.Load) n.cache (line address))
+      go : (t : Bool) → IsGoodPlan s last h (if t then retires n f (Some (read_from waiting.1 address bytes)) None deed.Load else reading (λ found. retires n f (from_line found) None deed.Load) n.cache (line address))
       go true = good_retire f (Some (read_from waiting.1 address bytes)) None deed.Load tt
       go false = good_reading (line address) (λ found. retires n f (from_line found) None deed.Load) on (λ found. good_retire f (from_line found) None deed.Load tt)
 
-  good_store : (f : Fetched) (address bytes value : ℕ) → IsGoodPlan s h (plan_store n f address bytes value)
+  good_store : (f : Fetched) (address bytes value : ℕ) → IsGoodPlan s last h (plan_store n f address bytes value)
   good_store f address bytes value = go (fits (word_of address) n.buffer)
     where
-      go : (t : Bool) → IsGoodPlan s h (if t then retires n f None None (deed.Store (store_of address bytes value f.place)) else Stays outcome.BufferFull)
+      go : (t : Bool) → IsGoodPlan s last h (if t then retires n f None None (deed.Store (store_of address bytes value f.place)) else Stays outcome.BufferFull)
       go true = good_retire f None None (deed.Store (store_of address bytes value f.place)) tt
       go false = tt
 
   -- what waits for stores, and then writes or reserves
-  good_wait : (t : Bool) (address : ℕ) (go : LineData → Plan) → IsLine (line address) → ((found : LineData) → MayWrite s h address → IsGoodPlan s h (go found)) → IsGoodPlan s h (if t then Stays outcome.MustDrain else writing go n.cache (line address))
+  good_wait : (t : Bool) (address : ℕ) (go : LineData → Plan) → IsLine (line address) → ((found : LineData) → MayWrite s h address → IsGoodPlan s last h (go found)) → IsGoodPlan s last h (if t then Stays outcome.MustDrain else writing go n.cache (line address))
   good_wait true address go on good = tt
   good_wait false address go on good = good_writing (line address) go on (λ found may. good found (may_write address may))
 
-  good_reserve : (f : Fetched) (address : ℕ) → IsLine (line address) → IsGoodPlan s h (plan_reserve n f address)
+  good_reserve : (f : Fetched) (address : ℕ) → IsLine (line address) → IsGoodPlan s last h (plan_reserve n f address)
   good_reserve f address on = good_wait (waits_for_stores n f.instr address) address (λ found. retires n f (Some (read_from (word_in found address) address 4)) None (deed.Reserve address)) on
       (λ found may. good_retire f (Some (read_from (word_in found address) address 4)) None (deed.Reserve address) may)
 
-  good_amo : (model : Model) (f : Fetched) (address : ℕ) (op : AmoOp) (operand : ℕ) → IsLine (line address) → IsGoodPlan s h (plan_amo model n f address op operand)
+  good_amo : (model : Model) (f : Fetched) (address : ℕ) (op : AmoOp) (operand : ℕ) → IsLine (line address) → IsGoodPlan s last h (plan_amo model n f address op operand)
   good_amo model f address op operand on = good_wait (write_waits model n f.instr address) address (λ found. update n f address op operand (read_from (word_in found address) address 4)) on
       (λ found may. good_retire f (Some (read_from (word_in found address) address 4)) None (deed.Update address (combined op (read_from (word_in found address) address 4) operand)) may)
 
-  good_fence : (f : Fetched) → IsGoodPlan s h (plan_fence n f)
+  good_fence : (f : Fetched) → IsGoodPlan s last h (plan_fence n f)
   good_fence f = go (fences (Some f.instr) Store Load && not (is_empty n.buffer)) (fences (Some f.instr) Store Store)
     where
-      go : (t u : Bool) → IsGoodPlan s h (if t then Stays outcome.MustDrain else retires n f None None (if u then deed.Seal else deed.Alone))
+      go : (t u : Bool) → IsGoodPlan s last h (if t then Stays outcome.MustDrain else retires n f None None (if u then deed.Seal else deed.Alone))
       go true u = tt
       go false true = good_retire f None None deed.Seal tt
       go false false = good_retire f None None deed.Alone tt
 
-  good_call : (f : Fetched) (number argument : ℕ) → IsGoodPlan s h (plan_call n f number argument)
+  good_call : (f : Fetched) (number argument : ℕ) → IsGoodPlan s last h (plan_call n f number argument)
   good_call f number argument = go (number == 0)
     where
-      go : (t : Bool) → IsGoodPlan s h (retires n f None None (if t then deed.Alone else deed.Output argument))
+      go : (t : Bool) → IsGoodPlan s last h (retires n f None None (if t then deed.Alone else deed.Output argument))
       go true = good_retire f None None deed.Alone tt
       go false = good_retire f None None (deed.Output argument) tt
 
-  good_access : (model : Model) (f : Fetched) (a : Access) → IsInside s.trace.image a → IsGoodPlan s h (plan_access model n f a)
+  good_access : (model : Model) (f : Fetched) (a : Access) → IsInside s.trace.image a → IsGoodPlan s last h (plan_access model n f a)
   good_access model f Private is = good_retire f None None deed.Alone tt
   good_access model f (Loads address bytes) is = good_load f address bytes (inside address is.0 is.1)
   good_access model f (Stores address bytes value) is = good_store f address bytes value
@@ -265,47 +271,50 @@ module _ (s : State) (last : ℕ → LineData) (i : IsFit s last) (h : ℕ) (in_
   good_access model f Fences is = good_fence f
   good_access model f (Calls number argument) is = good_call f number argument
 
-  good_instr : (model : Model) (word place : ℕ) (o : Option Instr) → stop_with (length s.trace.image.bytes) n.hart o ≡ None → IsGoodPlan s h (plan_instr model n word place o)
-  good_instr model word place None e = (last, stopped_fits s last i h in_h 2)
+  good_instr : (model : Model) (word place : ℕ) (o : Option Instr) → stop_with (length s.trace.image.bytes) n.hart o ≡ None → IsGoodPlan s last h (plan_instr model n word place o)
+  good_instr model word place None e = (stopped_fits s last i h in_h 2, tt)
   good_instr model word place (Some instr) e = good_access model (record { word = word; instr = instr; place = place }) (access_of instr n.hart.regs) (instr_inside s.trace.image instr n.hart.pc n.hart.regs e)
 
-  good_step : (model : Model) (place : ℕ) (o : Option Instr) → (fetch : Bool) → IsGoodPlan s h (plan_unless (if fetch then stop_with (length s.trace.image.bytes) n.hart o else Some 1) (plan_instr model n (word_at s.trace.image n.hart.pc) place o))
-  good_step model place o false = (last, stopped_fits s last i h in_h 1)
+  good_step : (model : Model) (place : ℕ) (o : Option Instr) → (fetch : Bool) → IsGoodPlan s last h (plan_unless (if fetch then stop_with (length s.trace.image.bytes) n.hart o else Some 1) (plan_instr model n (word_at s.trace.image n.hart.pc) place o))
+  good_step model place o false = (stopped_fits s last i h in_h 1, tt)
   good_step model place o true = go (stop_with (length s.trace.image.bytes) n.hart o) refl
     where
-      go : (stop : Option ℕ) → stop_with (length s.trace.image.bytes) n.hart o ≡ stop → IsGoodPlan s h (plan_unless stop (plan_instr model n (word_at s.trace.image n.hart.pc) place o))
+      go : (stop : Option ℕ) → stop_with (length s.trace.image.bytes) n.hart o ≡ stop → IsGoodPlan s last h (plan_unless stop (plan_instr model n (word_at s.trace.image n.hart.pc) place o))
       go None e = good_instr model (word_at s.trace.image n.hart.pc) place o e
-      go (Some code) e = (last, stopped_fits s last i h in_h code)
+      go (Some code) e = (stopped_fits s last i h in_h code, tt)
 
   -- ---- the other events
 
-  good_drain : (word : ℕ) → is_piece s.trace.image word 4 ≡ true → IsGoodPlan s h (plan_drain n word)
+  good_drain : (word : ℕ) → is_piece s.trace.image word 4 ≡ true → IsGoodPlan s last h (plan_drain n word)
   good_drain word on = go (has word n.buffer) (drainable word n.buffer)
     where
-      lies : IsLine (line word)
-      lies = let p : IsPiece s.trace.image word 4 = piece s.trace.image word 4 on in let high : word + 4 ≤ end_of s.trace.image = p.high in inside word p.low (omega arith)
+      p : IsPiece s.trace.image word 4
+      p = piece s.trace.image word 4 on
 
-      go : (t u : Bool) → IsGoodPlan s h (if not t then Stays outcome.NoEntry else if not u then Stays outcome.NotOldest else writing (λ found. Changes (act.Drain word)) n.cache (line word))
+      lies : IsLine (line word)
+      lies = let high : word + 4 ≤ end_of s.trace.image = p.high in inside word p.low (omega arith)
+
+      go : (t u : Bool) → IsGoodPlan s last h (if not t then Stays outcome.NoEntry else if not u then Stays outcome.NotOldest else writing (λ found. Changes (act.Drain word)) n.cache (line word))
       go false u = tt
       go true false = tt
-      go true true = good_writing (line word) (λ found. Changes (act.Drain word)) lies (λ found may. drains_fits s last i h in_h word (may_write word may))
+      go true true = good_writing (line word) (λ found. Changes (act.Drain word)) lies (λ found may. (drains_fits s last i h in_h word (may_write word may), p.aligned))
 
-  good_evict : (l : ℕ) → IsLine l → IsGoodPlan s h (plan_evict n l)
+  good_evict : (l : ℕ) → IsLine l → IsGoodPlan s last h (plan_evict n l)
   good_evict l on = go (evicted n.cache l).0 refl
     where
-      go : (e : Evict) → (evicted n.cache l).0 ≡ e → IsGoodPlan s h (evict_by l e)
+      go : (e : Evict) → (evicted n.cache l).0 ≡ e → IsGoodPlan s last h (evict_by l e)
       go NotHeld e = tt
       go AcquirePending e = tt
       go ReleaseFull e = tt
-      go (Evicted change bytes) e = (last, given_up_fits s last i h in_h l change bytes on e)
+      go (Evicted change bytes) e = (given_up_fits s last i h in_h l change bytes on e, tt)
 
-  good_local : (count : ℕ) → IsGoodPlan s h (plan_local s.trace.image n count)
+  good_local : (count : ℕ) → IsGoodPlan s last h (plan_local s.trace.image n count)
   good_local count = go (is_running n.hart.status) (length (private_row s.trace.image n.hart count) == count)
     where
-      go : (t u : Bool) → IsGoodPlan s h (if not t then Stays outcome.Halted else if u then Changes (act.Local count) else Stays outcome.NotLocal)
+      go : (t u : Bool) → IsGoodPlan s last h (if not t then Stays outcome.Halted else if u then Changes (act.Local count) else Stays outcome.NotLocal)
       go false u = tt
       go true false = tt
-      go true true = (last, went_alone_fits s last i h in_h count)
+      go true true = (went_alone_fits s last i h in_h count, tt)
 
   -- ---- a delivery
 
@@ -335,39 +344,39 @@ module _ (s : State) (last : ℕ → LineData) (i : IsFit s last) (h : ℕ) (in_
   granted_taken : (l : ℕ) (body : Body) → channel_of_body body ≡ D → Framed s (taken h (record { line = l; body = body }) s) h (record n { queues = popped n.queues D })
   granted_taken l body e = subst (λ ch. Framed s (taken h (record { line = l; body = body }) s) h (record n { queues = popped n.queues ch })) e (framed_taken s h (record { line = l; body = body }) in_h)
 
-  good_body : (l : ℕ) (body : Body) (rest : List Msg) → queue_of n.queues (channel_of_body body) ≡ (record { line = l; body = body }) ∷ rest → IsGoodPlan s h (plan_body s h n l body (Changes (act.Deliver (record { line = l; body = body }))))
+  good_body : (l : ℕ) (body : Body) (rest : List Msg) → queue_of n.queues (channel_of_body body) ≡ (record { line = l; body = body }) ∷ rest → IsGoodPlan s last h (plan_body s h n l body (Changes (act.Deliver (record { line = l; body = body }))))
   good_body l (AcquireBlock grow) rest front = go (directory.acquired s.views.notes (place_of (line_size s) l) h grow).0 refl
     where
-      go : (a : Acquired) → (directory.acquired s.views.notes (place_of (line_size s) l) h grow).0 ≡ a → IsGoodPlan s h (unless_busy a (Changes (act.Deliver (record { line = l; body = AcquireBlock grow }))))
+      go : (a : Acquired) → (directory.acquired s.views.notes (place_of (line_size s) l) h grow).0 ≡ a → IsGoodPlan s last h (unless_busy a (Changes (act.Deliver (record { line = l; body = AcquireBlock grow }))))
       go Busy e = tt
-      go (Handled sends) e = (last, acquired_fits s last i h in_h l grow rest front sends e)
+      go (Handled sends) e = (acquired_fits s last i h in_h l grow rest front sends e, tt)
   good_body l (ProbeBlock cap) rest front = go (probed n.cache l cap).0 refl
     where
-      go : (a : Probed) → (probed n.cache l cap).0 ≡ a → IsGoodPlan s h (unless_releasing a (Changes (act.Deliver (record { line = l; body = ProbeBlock cap }))))
+      go : (a : Probed) → (probed n.cache l cap).0 ≡ a → IsGoodPlan s last h (unless_releasing a (Changes (act.Deliver (record { line = l; body = ProbeBlock cap }))))
       go Releasing e = tt
-      go (Answered change bytes) e = (last, probed_fits s last i h in_h l cap rest change bytes front e)
-  good_body l (Grant cap) rest front = good_if s h (nat_le (room_of E) (length n.queues.e)) (Stays outcome.AckFull) (Changes (act.Deliver (record { line = l; body = Grant cap }))) (λ _. tt) (λ _. (last, granted_fits s last i h in_h l cap None (Grant cap) rest front (λ x r m. m) (λ x r m. m) (taken h (record { line = l; body = Grant cap }) s) (granted_taken l (Grant cap) refl) refl refl))
-  good_body l (GrantData cap bytes) rest front = good_if s h (nat_le (room_of E) (length n.queues.e)) (Stays outcome.AckFull) (Changes (act.Deliver (record { line = l; body = GrantData cap bytes }))) (λ _. tt) (λ _. (last, granted_fits s last i h in_h l cap (Some bytes) (GrantData cap bytes) rest front (λ x r m. m) (λ x r m. m) (taken h (record { line = l; body = GrantData cap bytes }) s) (granted_taken l (GrantData cap bytes) refl) refl refl))
-  good_body l (ProbeAck change) rest front = (last, probe_ack_fits s last i h in_h l change rest front)
-  good_body l (ProbeAckData change bytes) rest front = (last, probe_ack_data_fits s last i h in_h l change bytes rest front)
-  good_body l (Release change) rest front = (last, release_fits s last i h in_h l change rest front)
-  good_body l (ReleaseData change bytes) rest front = (last, release_data_fits s last i h in_h l change bytes rest front)
-  good_body l ReleaseAck rest front = (last, rested_fits s last i h in_h l rest front)
-  good_body l GrantAck rest front = (last, ended_fits s last i h in_h l rest front)
+      go (Answered change bytes) e = (probed_fits s last i h in_h l cap rest change bytes front e, tt)
+  good_body l (Grant cap) rest front = good_if s last h (nat_le (room_of E) (length n.queues.e)) (Stays outcome.AckFull) (Changes (act.Deliver (record { line = l; body = Grant cap }))) (λ _. tt) (λ _. (granted_fits s last i h in_h l cap None (Grant cap) rest front (λ x r m. m) (λ x r m. m) (taken h (record { line = l; body = Grant cap }) s) (granted_taken l (Grant cap) refl) refl refl, tt))
+  good_body l (GrantData cap bytes) rest front = good_if s last h (nat_le (room_of E) (length n.queues.e)) (Stays outcome.AckFull) (Changes (act.Deliver (record { line = l; body = GrantData cap bytes }))) (λ _. tt) (λ _. (granted_fits s last i h in_h l cap (Some bytes) (GrantData cap bytes) rest front (λ x r m. m) (λ x r m. m) (taken h (record { line = l; body = GrantData cap bytes }) s) (granted_taken l (GrantData cap bytes) refl) refl refl, tt))
+  good_body l (ProbeAck change) rest front = (probe_ack_fits s last i h in_h l change rest front, tt)
+  good_body l (ProbeAckData change bytes) rest front = (probe_ack_data_fits s last i h in_h l change bytes rest front, tt)
+  good_body l (Release change) rest front = (release_fits s last i h in_h l change rest front, tt)
+  good_body l (ReleaseData change bytes) rest front = (release_data_fits s last i h in_h l change bytes rest front, tt)
+  good_body l ReleaseAck rest front = (rested_fits s last i h in_h l rest front, tt)
+  good_body l GrantAck rest front = (ended_fits s last i h in_h l rest front, tt)
 
-  good_deliver : (ch : Channel) → IsGoodPlan s h (plan_deliver s h n ch)
+  good_deliver : (ch : Channel) → IsGoodPlan s last h (plan_deliver s h n ch)
   good_deliver ch = go (queue_of n.queues ch) refl
     where
-      go : (q : List Msg) → queue_of n.queues ch ≡ q → IsGoodPlan s h (plan_front s h n (front_of q))
+      go : (q : List Msg) → queue_of n.queues ch ≡ q → IsGoodPlan s last h (plan_front s h n (front_of q))
       go [] e = tt
       go (m ∷ rest) e = good_body m.line m.body rest (subst (λ c. queue_of n.queues c ≡ m ∷ rest) (sym (on_channel ch m.line m.body rest e)) e)
 
 -- ---- events
 
-good_event : (s : State) (last : ℕ → LineData) → IsFit s last → (e : Event) → hart_of e < length s.views.nodes → names_well s e ≡ true → IsGoodPlan s (hart_of e) (plan_of s e)
+pub good_event : (s : State) (last : ℕ → LineData) → IsFit s last → (e : Event) → hart_of e < length s.views.nodes → names_well s e ≡ true → IsGoodPlan s last (hart_of e) (plan_of s e)
 good_event s last i (event.Step h) in_h well = go (is_running (node_at s h).hart.status) (decoded (word_at s.trace.image (node_at s h).hart.pc))
   where
-    go : (t : Bool) (o : Option Instr) → IsGoodPlan s h (if not t then Stays outcome.Halted else plan_unless (if can_fetch s.trace.image (node_at s h).hart.pc then stop_with (length s.trace.image.bytes) (node_at s h).hart o else Some 1) (plan_instr s.views.config.model (node_at s h) (word_at s.trace.image (node_at s h).hart.pc) (place_at s h) o))
+    go : (t : Bool) (o : Option Instr) → IsGoodPlan s last h (if not t then Stays outcome.Halted else plan_unless (if can_fetch s.trace.image (node_at s h).hart.pc then stop_with (length s.trace.image.bytes) (node_at s h).hart o else Some 1) (plan_instr s.views.config.model (node_at s h) (word_at s.trace.image (node_at s h).hart.pc) (place_at s h) o))
     go true o = good_step s last i h in_h s.views.config.model (place_at s h) o (can_fetch s.trace.image (node_at s h).hart.pc)
     go false o = tt
 good_event s last i (event.Drain h word) in_h well = good_drain s last i h in_h word well
@@ -375,17 +384,21 @@ good_event s last i (event.Evict h l) in_h well = good_evict s last i h in_h l w
 good_event s last i (event.Deliver ch h) in_h well = good_deliver s last i h in_h ch
 good_event s last i (event.Local h count) in_h well = good_local s last i h in_h count
 
+-- the count of events isn't spoken of
+pub counted_fits : (s : State) (last : ℕ → LineData) → IsFit s last → IsFit (counted s) last
+counted_fits s last i = record { pages = i.pages; well = i.well; sized = i.sized; reserved = i.reserved }
+
 -- any event, and any list of them
 pub happens_fits : (s : State) (e : Event) → Fits s → Fits (happens s e)
 happens_fits s e fit = go (nat_lt (hart_of e) (length s.views.nodes)) refl (names_well s e) refl
   where
-    moves : (p : Plan) → IsGoodPlan s (hart_of e) p → Fits (state_by s (verdict_by s (hart_of e) p))
+    moves : (p : Plan) → IsGoodPlan s fit.0 (hart_of e) p → Fits (state_by s (verdict_by s (hart_of e) p))
     moves (Stays o) good = fit
     moves (Changes a) good = limited (is_limited s (hart_of e) a)
       where
         limited : (t : Bool) → Fits (state_by s (if t then IsLimited else Moves (outcome_of s (hart_of e) a) (counted (acted (hart_of e) a s))))
         limited true = fit
-        limited false = (good.0, record { pages = good.1.pages; well = good.1.well; sized = good.1.sized; reserved = good.1.reserved })
+        limited false = (last_after s (hart_of e) a fit.0, counted_fits (acted (hart_of e) a s) (last_after s (hart_of e) a fit.0) good.0)
 
     go : (t : Bool) → nat_lt (hart_of e) (length s.views.nodes) ≡ t → (w : Bool) → names_well s e ≡ w → Fits (state_by s (if t && w then verdict_by s (hart_of e) (plan_of s e) else IsBad))
     go false f w g = fit

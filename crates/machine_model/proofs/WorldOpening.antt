@@ -27,10 +27,11 @@ use Rattle.machine_model.specs.declared.config.Config.{Config}
 use Rattle.machine_model.proofs.LineKept.{IsKept}
 use Rattle.machine_model.proofs.LineStands.{Alone, Holds, Side, Stands, IsLast, newest, noted_none, noted_writer, quiet_side}
 use Rattle.machine_model.proofs.WorldEvents.{after_events_fit}
-use Rattle.machine_model.proofs.WorldFits.{kit_at, kit_of}
+use Rattle.machine_model.proofs.WorldFits.{IsFit, kit_at, kit_of}
 use Rattle.machine_model.proofs.WorldKept.{Kit, IsWell, is_line, side}
 use Rattle.machine_model.proofs.WorldSteps.{Fits}
 use Rattle.tl_types.specs.Line.{length_of}
+use Rattle.tl_types.specs.declared.line.LineData.{LineData}
 use Rattle.tl_types.specs.declared.line.LineSize.{LineSize}
 use Rattle.tl_types.specs.declared.line.LineSize.TheVariants.{Bytes16, Bytes64}
 use Rattle.tl_types.specs.declared.permission.Perm.TheVariants.{Nothing}
@@ -85,7 +86,11 @@ module _ (image : Initial) (config : Config) where
   known_quiet : (l h : ℕ) → known_at (line_at s.views.notes (place_of (line_size s) l)) h ≡ unknown
   known_quiet l h = ap (λ y. known_at y h) (entry_quiet l) ∙ same_everywhere config.harts unknown h
 
-  opening_well : IsWell image (line_size s) (length s.views.nodes) (kit_at s) s.views.notes s.views.memory (λ l. memory.line_at s.views.memory (place_of (line_size s) l))
+  -- the lines' last writes at reset
+  abbrev pub opening_last : ℕ → LineData
+  opening_last l = memory.line_at s.views.memory (place_of (line_size s) l)
+
+  opening_well : IsWell image (line_size s) (length s.views.nodes) (kit_at s) s.views.notes s.views.memory opening_last
   opening_well = record {
     kept = λ l on. subst (λ (t : Transaction). IsKept (λ h. side (kit_at s h) (known_at (line_at s.views.notes (place_of (line_size s) l)) h) l) (memory.line_at s.views.memory (place_of (line_size s) l)) t (memory.line_at s.views.memory (place_of (line_size s) l)))
         (sym (ap (λ y. y.transaction) (entry_quiet l))) (record {
@@ -100,19 +105,19 @@ module _ (image : Initial) (config : Config) where
     requester = λ l r g on e. cc (e, ap (λ y. y.transaction) (entry_quiet l));
   }
 
+  pub opening_is_fit : length image.bytes % 4096 ≡ 0 → IsFit s opening_last
+  opening_is_fit pages = record {
+    pages = pages;
+    well = opening_well;
+    sized = λ h. ap (λ (x : Kit). x.cache.shape.size) ((fresh h).kit);
+    reserved = λ h word e. cc (e, (fresh h).none);
+  }
+
   pub opening_fits : length image.bytes % 4096 ≡ 0 → Fits s
-  opening_fits pages = (
-    (λ l. memory.line_at s.views.memory (place_of (line_size s) l)),
-    record {
-      pages = pages;
-      well = opening_well;
-      sized = λ h. ap (λ (x : Kit). x.cache.shape.size) ((fresh h).kit);
-      reserved = λ h word e. cc (e, (fresh h).none);
-    },
-  )
+  opening_fits pages = (opening_last, opening_is_fit pages)
 
 -- at most one writer of each line, in a state that fits
-one_writer : (s : State) → Fits s → HasOneWriter s
+pub one_writer : (s : State) → Fits s → HasOneWriter s
 one_writer s fit a b l ne e = go (is_line s.trace.image (line_size s) (length s.views.nodes) l) refl
   where
     go : (t : Bool) → is_line s.trace.image (line_size s) (length s.views.nodes) l ≡ t → perm_of (copy_at (node_at s b).cache l) ≡ Nothing

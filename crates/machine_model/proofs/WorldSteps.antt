@@ -19,11 +19,14 @@ use Rattle.hart.specs.declared.status.Status.{Status}
 use Rattle.hart.specs.declared.status.Status.TheVariants.{Running, Stopped, Exited}
 use Rattle.machine_model.specs.Changing.{does, drained, performs, performs_own, place_at, put_behind, retired, stopped, went_alone, with_buffer, with_entries, with_halt, with_reservation, writes_word}
 use Rattle.machine_model.specs.Deliveries.{is_trunk}
-use Rattle.machine_model.specs.Views.{Node, State, line_of, line_size, node_at, with_node, with_trace}
+use Rattle.machine_model.specs.Views.{Node, State, Views, line_of, line_size, node_at, size_of_config, with_node, with_trace}
 use Rattle.machine_model.specs.Words.{bytes_of_word}
+use Rattle.machine_model.specs.declared.act.Act.{Act}
+use Rattle.machine_model.specs.declared.act.Act.TheVariants as act
 use Rattle.machine_model.specs.declared.act.Deed.{Deed}
 use Rattle.machine_model.specs.declared.act.Deed.TheVariants as deed
 use Rattle.machine_model.proofs.LineKept.{not_eq}
+use Rattle.machine_model.proofs.LineStands.{IsLast, newest}
 use Rattle.machine_model.proofs.LineViews.{written_here, written_elsewhere}
 use Rattle.machine_model.proofs.WorldFits.{IsFit, HoldsReserved, fits, fits_alone, framed_node, framed_trace, kit_at, kit_changed, kit_of, same_reserved}
 use Rattle.machine_model.proofs.WorldKept.{is_line, writes}
@@ -34,11 +37,28 @@ use Rattle.store_buffer.specs.Entry.{entry_of}
 use Rattle.store_buffer.specs.Groups.{Groups, after_seal, after_take, oldest}
 use Rattle.store_buffer.specs.declared.entry.Entry.{Entry}
 use Rattle.tl_types.specs.declared.line.LineData.{LineData}
+use Rattle.tl_types.specs.declared.line.LineSize.{LineSize}
 use Rattle.trace_recorder.specs.History.{History, with_entry, with_performed}
 
 -- the hart may write the word
 abbrev pub MayWrite : State → ℕ → ℕ → Type 0
 MayWrite s h word = is_trunk (perm_of (copy_at (node_at s h).cache (line_of (line_size s) word))) ≡ true
+
+-- the lines' last writes, behind a write of a word's marked bytes
+abbrev pub wrote_word : LineSize → (ℕ → LineData) → ℕ → List Bool → List ℕ → ℕ → LineData
+wrote_word size last word marks bytes q = if q == line_of size word then with_word (last q) word marks bytes else last q
+
+-- behind an instruction's deed
+abbrev pub last_by : LineSize → Deed → (ℕ → LineData) → ℕ → LineData
+last_by size (deed.Conditional word value) last = wrote_word size last word (marks_of_access 0 4) (bytes_of_word value)
+last_by size (deed.Update word value) last = wrote_word size last word (marks_of_access 0 4) (bytes_of_word value)
+last_by size _ last = last
+
+-- behind an act
+abbrev pub last_after : State → ℕ → Act → (ℕ → LineData) → ℕ → LineData
+last_after s h (act.Retire entry i d) last = last_by (line_size s) d last
+last_after s h (act.Drain word) last = let e = entry_of word (oldest (node_at s h).buffer) in wrote_word (line_size s) last word e.mask e.bytes
+last_after s h _ last = last
 
 -- some lines' last writes fit the state
 abbrev pub Fits : State → Type 0
@@ -94,29 +114,29 @@ module _ (s : State) (last : ℕ → LineData) (i : IsFit s last) (h : ℕ) (in_
   output_fits numbers = alone (record n { output = numbers }) refl refl (λ word q. i.reserved h word q)
 
   -- a write of a word
-  pub writes_fits : (word : ℕ) (marks : List Bool) (bytes : List ℕ) → MayWrite s h word → Fits (writes_word h word marks bytes s)
-  writes_fits word marks bytes may = subst (λ size. Fits (with_node h (record n { cache = word_written n.cache (line_of size word) word marks bytes }) s)) (sym (i.sized h)) (go (copy_at n.cache l) refl)
+  pub writes_fits : (word : ℕ) (marks : List Bool) (bytes : List ℕ) → MayWrite s h word → IsFit (writes_word h word marks bytes s) (wrote_word (line_size s) last word marks bytes)
+  writes_fits word marks bytes may = subst (λ size. IsFit (with_node h (record n { cache = word_written n.cache (line_of size word) word marks bytes }) s) next) (sym (i.sized h)) (go (copy_at n.cache l) refl)
     where
       l : ℕ
       l = line_of (line_size s) word
 
-      go : (o : Option Held) → copy_at n.cache l ≡ o → Fits (with_node h (record n { cache = word_written_in n.cache l word marks bytes o }) s)
+      next : ℕ → LineData
+      next = wrote_word (line_size s) last word marks bytes
+
+      go : (o : Option Held) → copy_at n.cache l ≡ o → IsFit (with_node h (record n { cache = word_written_in n.cache l word marks bytes o }) s) next
       go None e = cc (may, ap (λ o. is_trunk (perm_of o)) e)
-      go (Some x) e = (
-        next,
-        fits s t h m last next i (framed_node s h m in_h)
-            (writes s.trace.image (line_size s) (length s.views.nodes) (kit_at s) (kit_at t) s.views.notes s.views.memory last l on i.well h next later (kit_of m) (kit_changed s t h m (framed_node s h m in_h))
-            (λ q ne z. written_elsewhere n.cache n.queues z l q later ne) (λ z. written_here n.cache n.queues z l later)
-            (λ q ne. rw (not_eq q l ne) refl) (rw (eq-eqb l l refl) refl) may)
-            refl
-            (same_reserved (line_size s) n (written n.cache l later) l written_other (i.reserved h) (λ _. ap (λ o. is_trunk (perm_of o)) (put_own n.cache.copies l (Some (held.Trunk true later))))),
-      )
+      go (Some x) e =
+          fits s t h m last next i (framed_node s h m in_h)
+          (writes s.trace.image (line_size s) (length s.views.nodes) (kit_at s) (kit_at t) s.views.notes s.views.memory last l on i.well h next later (kit_of m) (kit_changed s t h m (framed_node s h m in_h))
+          (λ q ne z. written_elsewhere n.cache n.queues z l q later ne) (λ z. written_here n.cache n.queues z l later)
+          (λ q ne. ap (λ b. if b then with_word (last q) word marks bytes else last q) (not_eq q l ne))
+          (ap (λ b. if b then with_word (last l) word marks bytes else last l) (eq-eqb l l refl) ∙ ap (λ line. with_word line word marks bytes) (sym is_last))
+          may)
+          refl
+          (same_reserved (line_size s) n (written n.cache l later) l written_other (i.reserved h) (λ _. ap (λ o. is_trunk (perm_of o)) (put_own n.cache.copies l (Some (held.Trunk true later)))))
         where
           later : LineData
           later = with_word (bytes_in x) word marks bytes
-
-          next : ℕ → LineData
-          next q = if q == l then later else last q
 
           m : Node
           m = record n { cache = written n.cache l later }
@@ -126,6 +146,9 @@ module _ (s : State) (last : ℕ → LineData) (i : IsFit s last) (h : ℕ) (in_
 
           on : is_line s.trace.image (line_size s) (length s.views.nodes) l ≡ true
           on = trunk_line s last h l i (λ none. cc (may, ap is_trunk none))
+
+          is_last : bytes_in x ≡ last l
+          is_last = subst (IsLast (last l)) e (newest ((i.well.kept l on).stands h))
 
           written_other : KeepsOthers l n.cache (written n.cache l later)
           written_other q ne = λ k. record { copy = put_other n.cache.copies l (Some (held.Trunk true later)) q ne k; acquiring = set.contains n.cache.acquiring q; releasing = set.contains n.cache.releasing q }
@@ -154,30 +177,33 @@ IsAllowed s h (deed.Update word value) = MayWrite s h word
 IsAllowed s h _ = Unit {0}
 
 module _ (s : State) (last : ℕ → LineData) (i : IsFit s last) (h : ℕ) (in_h : h < length s.views.nodes) where
-  pub does_fits : (model : Model) (d : Deed) → IsAllowed s h d → Fits (does model h d s) × (length (does model h d s).views.nodes ≡ length s.views.nodes)
-  does_fits model deed.Alone may = ((last, i), refl)
-  does_fits model (deed.Output number) may = ((last, output_fits s last i h in_h ((node_at s h).output ++ number ∷ [])), length-set s.views.nodes h _)
-  does_fits model deed.Load may = ((last, performs_fits s last h (place_at s h ∷ []) i), refl)
-  does_fits model (deed.Store store) may = ((last, buffer_fits s last i h in_h (put_behind model store (node_at s h).buffer)), length-set s.views.nodes h _)
-  does_fits model deed.Seal may = ((last, buffer_fits s last i h in_h (after_seal (node_at s h).buffer)), length-set s.views.nodes h _)
-  does_fits model (deed.Reserve word) may = ((last, reserved_fits (performs_own h s) last (performs_fits s last h (place_at s h ∷ []) i) h in_h word may), length-set s.views.nodes h _)
-  does_fits model deed.Fail may = ((last, failed_fits s last i h in_h), length-set s.views.nodes h _)
+  pub does_fits : (model : Model) (d : Deed) → IsAllowed s h d → IsFit (does model h d s) (last_by (line_size s) d last) × (length (does model h d s).views.nodes ≡ length s.views.nodes)
+  does_fits model deed.Alone may = (i, refl)
+  does_fits model (deed.Output number) may = (output_fits s last i h in_h ((node_at s h).output ++ number ∷ []), length-set s.views.nodes h _)
+  does_fits model deed.Load may = (performs_fits s last h (place_at s h ∷ []) i, refl)
+  does_fits model (deed.Store store) may = (buffer_fits s last i h in_h (put_behind model store (node_at s h).buffer), length-set s.views.nodes h _)
+  does_fits model deed.Seal may = (buffer_fits s last i h in_h (after_seal (node_at s h).buffer), length-set s.views.nodes h _)
+  does_fits model (deed.Reserve word) may = (reserved_fits (performs_own h s) last (performs_fits s last h (place_at s h ∷ []) i) h in_h word may, length-set s.views.nodes h _)
+  does_fits model deed.Fail may = (failed_fits s last i h in_h, length-set s.views.nodes h _)
   does_fits model (deed.Conditional word value) may =
-      let w : Fits (writes_word h word (marks_of_access 0 4) (bytes_of_word value) (performs_own h s)) = writes_fits (performs_own h s) last (performs_fits s last h (place_at s h ∷ []) i) h in_h word (marks_of_access 0 4) (bytes_of_word value) may in
+      let later : ℕ → LineData = wrote_word (line_size s) last word (marks_of_access 0 4) (bytes_of_word value) in
+      let w : IsFit (writes_word h word (marks_of_access 0 4) (bytes_of_word value) (performs_own h s)) later = writes_fits (performs_own h s) last (performs_fits s last h (place_at s h ∷ []) i) h in_h word (marks_of_access 0 4) (bytes_of_word value) may in
       let count : length (writes_word h word (marks_of_access 0 4) (bytes_of_word value) (performs_own h s)).views.nodes ≡ length s.views.nodes = length-set s.views.nodes h _ in
-      ((w.0, failed_fits (writes_word h word (marks_of_access 0 4) (bytes_of_word value) (performs_own h s)) w.0 w.1 h (rw count in_h)), length-set _ h _ ∙ count)
+      (failed_fits (writes_word h word (marks_of_access 0 4) (bytes_of_word value) (performs_own h s)) later w h (rw count in_h), length-set _ h _ ∙ count)
   does_fits model (deed.Update word value) may = (writes_fits (performs_own h s) last (performs_fits s last h (place_at s h ∷ []) i) h in_h word (marks_of_access 0 4) (bytes_of_word value) may, length-set s.views.nodes h _)
 
-  pub retires_fits : (model : Model) (entry : Retired) (instr : Instr) (d : Deed) → IsAllowed s h d → Fits (retired h entry instr (does model h d s))
+  pub retires_fits : (model : Model) (entry : Retired) (instr : Instr) (d : Deed) → IsAllowed s h d → IsFit (retired h entry instr (does model h d s)) (last_by (line_size s) d last)
   retires_fits model entry instr d may =
-      let w : Fits (does model h d s) × (length (does model h d s).views.nodes ≡ length s.views.nodes) = does_fits model d may in
-      (w.0.0, retired_fits (does model h d s) w.0.0 w.0.1 h (rw w.1 in_h) entry instr)
+      let w : IsFit (does model h d s) (last_by (line_size s) d last) × (length (does model h d s).views.nodes ≡ length s.views.nodes) = does_fits model d may in
+      retired_fits (does model h d s) (last_by (line_size s) d last) w.0 h (rw w.1 in_h) entry instr
 
   -- the word's entry leaves the buffer
-  pub drains_fits : (word : ℕ) → MayWrite s h word → Fits (drained h word s)
+  pub drains_fits : (word : ℕ) → MayWrite s h word → IsFit (drained h word s) (last_after s h (act.Drain word) last)
   drains_fits word may =
       let e : Entry = entry_of word (oldest (node_at s h).buffer) in
       let performed : State = performs h e.ops s in
       let in_p : h < length performed.views.nodes = rw (performs_count s h e.ops) in_h in
-      let w : Fits (writes_word h word e.mask e.bytes performed) = writes_fits performed last (performs_fits s last h e.ops i) h in_p word e.mask e.bytes (performs_may s h h e.ops word may) in
-      (w.0, buffer_fits (writes_word h word e.mask e.bytes performed) w.0 w.1 h (rw (length-set performed.views.nodes h _) in_p) (after_take word (node_at s h).buffer))
+      let later : ℕ → LineData = wrote_word (line_size performed) last word e.mask e.bytes in
+      let w : IsFit (writes_word h word e.mask e.bytes performed) later = writes_fits performed last (performs_fits s last h e.ops i) h in_p word e.mask e.bytes (performs_may s h h e.ops word may) in
+      subst (λ (v : Views). IsFit (drained h word s) (wrote_word (size_of_config v.config) last word e.mask e.bytes)) (performs_nodes s h e.ops)
+      (buffer_fits (writes_word h word e.mask e.bytes performed) later w h (rw (length-set performed.views.nodes h _) in_p) (after_take word (node_at s h).buffer))

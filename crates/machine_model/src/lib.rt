@@ -4,6 +4,7 @@
 mod act;
 mod config;
 mod event;
+mod joint_laws;
 mod laws;
 mod order_laws;
 mod outcome;
@@ -11,6 +12,7 @@ mod outcome;
 pub use act::{Act, Deed, Plan};
 pub use config::Config;
 pub use event::Event;
+pub use joint_laws::{coherent_always, load_values_always};
 pub use laws::{
     copies_agree_always, grants_have_slots_always, image_and_config_stay, local_is_steps,
     nothing_is_rewritten, one_writer_always, reserved_is_trunk_always, runs_always,

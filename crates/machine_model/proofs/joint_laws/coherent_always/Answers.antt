@@ -1,0 +1,5 @@
+use Rattle.machine_model.proofs.JointAlways.{coherent_always}
+use Rattle.machine_model.proofs.joint_laws.coherent_always.Goals as goal
+
+pub returns : goal.returns
+returns c = coherent_always

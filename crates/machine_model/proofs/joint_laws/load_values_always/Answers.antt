@@ -1,0 +1,5 @@
+use Rattle.machine_model.proofs.JointAlways.{load_values_always}
+use Rattle.machine_model.proofs.joint_laws.load_values_always.Goals as goal
+
+pub returns : goal.returns
+returns c = load_values_always
