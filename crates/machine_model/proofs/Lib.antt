@@ -36,3 +36,8 @@ pub mod OrderLoads
 pub mod OrderReads
 pub mod OrderReturns
 pub mod OrderJoint
+pub mod RoomSizes
+pub mod RoomEvents
+pub mod RoomPigeons
+pub mod RoomLines
+pub mod RoomQueues

@@ -10,4 +10,5 @@ pub mod Coherent
 pub mod LawfulLog
 pub mod Laws
 pub mod Writers
+pub mod Rooms
 pub mod OrderLaws
