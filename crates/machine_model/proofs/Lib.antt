@@ -39,3 +39,8 @@ pub mod OrderJoint
 pub mod JointBytes
 pub mod JointActs
 pub mod JointAlways
+pub mod RoomSizes
+pub mod RoomEvents
+pub mod RoomPigeons
+pub mod RoomLines
+pub mod RoomQueues

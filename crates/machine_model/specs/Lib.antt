@@ -10,5 +10,6 @@ pub mod Coherent
 pub mod LawfulLog
 pub mod Laws
 pub mod Writers
+pub mod Rooms
 pub mod OrderLaws
 pub mod JointLaws

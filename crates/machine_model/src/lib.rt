@@ -8,6 +8,7 @@ mod joint_laws;
 mod laws;
 mod order_laws;
 mod outcome;
+mod room_laws;
 
 pub use act::{Act, Deed, Plan};
 pub use config::Config;
@@ -20,3 +21,4 @@ pub use laws::{
 pub use memory_model::Model;
 pub use order_laws::{order_always, performed_once_always, preserved_always};
 pub use outcome::Outcome;
+pub use room_laws::{queues_fit_always, room_always};
