@@ -36,3 +36,8 @@ pub mod OrderLoads
 pub mod OrderReads
 pub mod OrderReturns
 pub mod OrderJoint
+pub mod LogLists
+pub mod LogQueues
+pub mod LogActs
+pub mod LogPlans
+pub mod LogEvents

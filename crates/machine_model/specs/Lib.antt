@@ -11,3 +11,4 @@ pub mod LawfulLog
 pub mod Laws
 pub mod Writers
 pub mod OrderLaws
+pub mod LogLaws

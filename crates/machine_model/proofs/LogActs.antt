@@ -1,0 +1,191 @@
+-- What stays while log and queues do, and as a message goes out, stays at each act but the taking of a message.
+use Rattle.std.proofs.Common.{ℕ, List, [], ◌∷◌, ◌≡◌, Option, Some, None, refl, ap, ◌∙◌, length, slice_index_or}
+use Rattle.client_cache.specs.Cache.{probed, evicted, wanted, granted, answered}
+use Rattle.client_cache.specs.declared.answers.Evict.{Evict}
+use Rattle.client_cache.specs.declared.answers.Evict.TheVariants as evict
+use Rattle.client_cache.specs.declared.answers.Probed.{Probed}
+use Rattle.client_cache.specs.declared.answers.Probed.TheVariants as probe
+use Rattle.directory.specs.Directory.{acquired, probe_acked, released, grant_acked}
+use Rattle.directory.specs.declared.answer.Acquired.{Acquired}
+use Rattle.directory.specs.declared.answer.Acquired.TheVariants.{Handled, Busy}
+use Rattle.directory.specs.declared.answer.Grant.{Grant as Granting}
+use Rattle.directory.specs.declared.answer.Sent.{Sent}
+use Rattle.directory.specs.declared.answer.Sent.TheVariants.{Probes, Granting as Grants}
+use Rattle.hart.specs.Local.{private_row}
+use Rattle.hart.specs.Run.{after_instr}
+use Rattle.hart.specs.declared.retired.Retired.{Retired}
+use Rattle.hart.specs.declared.status.Status.{Status}
+use Rattle.hart.specs.declared.status.Status.TheVariants.{Running, Stopped, Exited}
+use Rattle.machine_model.specs.Changing.{acted, does, drained, given_up, performs, performs_own, place_at, retired, sent_if_evicted, stopped, went_alone, with_entries, with_halt, writes_word}
+use Rattle.machine_model.specs.Deliveries.{grant_body, handled, line_in_memory, on_grant, on_probe_ack, on_release, sent_any, sent_if_answered, sent_if_granted, sent_if_handled, sent_probes, taken, with_less, with_memory, with_notes}
+use Rattle.machine_model.specs.Views.{Node, State, line_size, node_at, place_of, sent, with_node, with_trace}
+use Rattle.machine_model.specs.Words.{bytes_of_word}
+use Rattle.machine_model.specs.declared.act.Act.{Act}
+use Rattle.machine_model.specs.declared.act.Act.TheVariants as act
+use Rattle.machine_model.specs.declared.act.Deed.{Deed}
+use Rattle.machine_model.specs.declared.act.Deed.TheVariants as deed
+use Rattle.machine_model.proofs.LogQueues.{Quiet, quiet_node, quiet_trace}
+use Rattle.memory_model.specs.declared.Model.{Model}
+use Rattle.rv32_decode.specs.declared.instruction.Instr.{Instr}
+use Rattle.store_buffer.specs.ByteMask.{marks_of_access}
+use Rattle.store_buffer.specs.Entry.{entry_of}
+use Rattle.store_buffer.specs.Groups.{oldest}
+use Rattle.tl_types.specs.declared.line.LineData.{LineData}
+use Rattle.tl_types.specs.declared.message.Body.{Body}
+use Rattle.tl_types.specs.declared.message.Body.TheVariants.{AcquireBlock, ProbeBlock, ProbeAck, ProbeAckData, Release, ReleaseData, Grant, GrantData, ReleaseAck, GrantAck}
+use Rattle.tl_types.specs.declared.message.Msg.{Msg}
+use Rattle.tl_types.specs.declared.permission.Cap.{Cap}
+use Rattle.tl_types.specs.declared.permission.Change.{Change}
+use Rattle.trace_recorder.specs.History.{History, with_entry, with_performed}
+
+-- ---- log and queues stay
+
+quiet_not : (s : State) → Quiet s s
+quiet_not s = record { log = refl; count = refl; queues = λ k d. refl }
+
+quiet_then : (a b c : State) → Quiet a b → Quiet b c → Quiet a c
+quiet_then a b c f g = record { log = g.log ∙ f.log; count = g.count ∙ f.count; queues = λ k d. g.queues k d ∙ f.queues k d }
+
+-- notes, memory and counts don't matter
+same_nodes : (s t : State) → t.trace ≡ s.trace → t.views.nodes ≡ s.views.nodes → Quiet s t
+same_nodes s t e n = record { log = ap (λ (r : History). r.log) e; count = ap length n; queues = λ k d. ap (λ (nodes : List Node). (slice_index_or nodes k d).queues) n }
+
+performs_quiet : (h : ℕ) (places : List ℕ) (s : State) → Quiet s (performs h places s)
+performs_quiet h [] s = quiet_not s
+performs_quiet h (place ∷ places) s =
+    let one = with_trace (with_performed (record { hart = h; place = place }) s.trace) s in
+    quiet_then s one _ (quiet_trace s _ refl) (performs_quiet h places one)
+
+own_quiet : (h : ℕ) (s : State) → Quiet s (performs_own h s)
+own_quiet h s = performs_quiet h (place_at s h ∷ []) s
+
+does_quiet : (model : Model) (h : ℕ) (d : Deed) (s : State) → Quiet s (does model h d s)
+does_quiet model h deed.Alone s = quiet_not s
+does_quiet model h (deed.Output number) s = quiet_node h _ s refl
+does_quiet model h deed.Load s = own_quiet h s
+does_quiet model h (deed.Store store) s = quiet_node h _ s refl
+does_quiet model h deed.Seal s = quiet_node h _ s refl
+does_quiet model h (deed.Reserve word) s = quiet_then s (performs_own h s) _ (own_quiet h s) (quiet_node h _ (performs_own h s) refl)
+does_quiet model h deed.Fail s = quiet_node h _ s refl
+does_quiet model h (deed.Conditional word value) s =
+    let stored = writes_word h word (marks_of_access 0 4) (bytes_of_word value) (performs_own h s) in
+    quiet_then s (performs_own h s) _ (own_quiet h s) (quiet_then (performs_own h s) stored _ (quiet_node h _ (performs_own h s) refl) (quiet_node h _ stored refl))
+does_quiet model h (deed.Update word value) s = quiet_then s (performs_own h s) _ (own_quiet h s) (quiet_node h _ (performs_own h s) refl)
+
+halt_log : (h : ℕ) (status : Status) (t : History) → (with_halt h status t).log ≡ t.log
+halt_log h Running t = refl
+halt_log h (Stopped code) t = refl
+halt_log h (Exited code) t = refl
+
+entries_log : (h : ℕ) (row : List Retired) (t : History) → (with_entries h row t).log ≡ t.log
+entries_log h [] t = refl
+entries_log h (entry ∷ row) t = entries_log h row (with_entry h entry t)
+
+hart_quiet : (h : ℕ) (n : Node) (t : History) (s : State) → n.queues ≡ (node_at s h).queues → t.log ≡ s.trace.log → Quiet s (with_trace t (with_node h n s))
+hart_quiet h n t s e log = quiet_then s (with_node h n s) _ (quiet_node h n s e) (quiet_trace (with_node h n s) t log)
+
+retired_quiet : (h : ℕ) (entry : Retired) (i : Instr) (s : State) → Quiet s (retired h entry i s)
+retired_quiet h entry i s = hart_quiet h _ _ s refl (halt_log h (after_instr (node_at s h).hart entry (Some i)).status (with_entry h entry s.trace))
+
+alone_quiet : (h count : ℕ) (s : State) → Quiet s (went_alone h count s)
+alone_quiet h count s = hart_quiet h _ _ s refl (entries_log h (private_row s.trace.image (node_at s h).hart count) s.trace)
+
+drained_quiet : (h word : ℕ) (s : State) → Quiet s (drained h word s)
+drained_quiet h word s =
+    let e = entry_of word (oldest (node_at s h).buffer) in
+    let done = performs h e.ops s in
+    let stored = writes_word h word e.mask e.bytes done in
+    quiet_then s done _ (performs_quiet h e.ops s) (quiet_then done stored _ (quiet_node h _ done refl) (quiet_node h _ stored refl))
+
+memory_quiet : (line : ℕ) (bytes : Option LineData) (s : State) → Quiet s (with_memory line bytes s)
+memory_quiet line None s = quiet_not s
+memory_quiet line (Some bytes) s = same_nodes s _ refl refl
+
+-- ---- what messages that go out keep
+
+-- what a delivery needs is that the message's taking keeps it
+abbrev pub Takes : (State → Type 0) → State → ℕ → Act → Type 0
+Takes P s h (act.Deliver m) = P (taken h m s)
+Takes P s h _ = Unit {0}
+
+module _ (P : State → Type 0) (quiet : (s t : State) → Quiet s t → P s → P t) (sends : (h : ℕ) (m : Msg) (s : State) → P s → P (sent h m s)) where
+  probes_keep : (harts : List ℕ) (line : ℕ) (cap : Cap) (s : State) → P s → P (sent_probes harts line cap s)
+  probes_keep [] line cap s p = p
+  probes_keep (hart ∷ harts) line cap s p =
+      let query : Msg = record { line = line; body = ProbeBlock cap } in
+      probes_keep harts line cap (sent hart query s) (sends hart query s p)
+
+  any_keeps : (line : ℕ) (a : Sent) (s : State) → P s → P (sent_any line a s)
+  any_keeps line (Probes cap harts) s p = probes_keep harts line cap s p
+  any_keeps line (Grants g) s p = sends g.hart (record { line = line; body = grant_body g (line_in_memory s line) }) s p
+
+  if_handled : (line : ℕ) (a : Acquired) (s : State) → P s → P (sent_if_handled line a s)
+  if_handled line Busy s p = p
+  if_handled line (Handled out) s p = any_keeps line out s p
+
+  if_granted : (line : ℕ) (g : Option Granting) (s : State) → P s → P (sent_if_granted line g s)
+  if_granted line None s p = p
+  if_granted line (Some g) s p = sends g.hart (record { line = line; body = grant_body g (line_in_memory s line) }) s p
+
+  if_answered : (h line : ℕ) (a : Probed) (s : State) → P s → P (sent_if_answered h line a s)
+  if_answered h line probe.Releasing s p = p
+  if_answered h line (probe.Answered change bytes) s p = sends h _ s p
+
+  if_evicted : (h line : ℕ) (e : Evict) (s : State) → P s → P (sent_if_evicted h line e s)
+  if_evicted h line (evict.Evicted change bytes) s p = sends h _ s p
+  if_evicted h line evict.NotHeld s p = p
+  if_evicted h line evict.AcquirePending s p = p
+  if_evicted h line evict.ReleaseFull s p = p
+
+  acknowledged : (h line : ℕ) (change : Change) (bytes : Option LineData) (s : State) → P s → P (on_probe_ack h line change bytes s)
+  acknowledged h line change bytes s p =
+      let answer = probe_acked s.views.notes (place_of (line_size s) line) h change in
+      let noted = with_notes answer.1 (with_memory line bytes s) in
+      if_granted line answer.0 noted (quiet s noted (quiet_then s (with_memory line bytes s) noted (memory_quiet line bytes s) (same_nodes (with_memory line bytes s) noted refl refl)) p)
+
+  released_keeps : (h line : ℕ) (bytes : Option LineData) (s : State) → P s → P (on_release h line bytes s)
+  released_keeps h line bytes s p =
+      let noted = with_notes (released s.views.notes (place_of (line_size s) line) h) (with_memory line bytes s) in
+      sends h (record { line = line; body = ReleaseAck }) noted (quiet s noted (quiet_then s (with_memory line bytes s) noted (memory_quiet line bytes s) (same_nodes (with_memory line bytes s) noted refl refl)) p)
+
+  granted_keeps : (h line : ℕ) (cap : Cap) (bytes : Option LineData) (s : State) → P s → P (on_grant h line cap bytes s)
+  granted_keeps h line cap bytes s p =
+      let held = with_node h (record (node_at s h) { cache = granted (node_at s h).cache line cap bytes }) s in
+      sends h (record { line = line; body = GrantAck }) held (quiet s held (quiet_node h _ s refl) p)
+
+  handled_keeps : (h line : ℕ) (body : Body) (s : State) → P s → P (handled h line body s)
+  handled_keeps h line (AcquireBlock grow) s p =
+      let answer = acquired s.views.notes (place_of (line_size s) line) h grow in
+      let noted = with_notes answer.1 s in
+      if_handled line answer.0 noted (quiet s noted (same_nodes s noted refl refl) p)
+  handled_keeps h line (ProbeBlock cap) s p =
+      let answer = probed (node_at s h).cache line cap in
+      let shrunk = with_node h (with_less answer.1 line (node_at s h)) s in
+      if_answered h line answer.0 shrunk (quiet s shrunk (quiet_node h _ s refl) p)
+  handled_keeps h line (ProbeAck change) s p = acknowledged h line change None s p
+  handled_keeps h line (ProbeAckData change bytes) s p = acknowledged h line change (Some bytes) s p
+  handled_keeps h line (Release change) s p = released_keeps h line None s p
+  handled_keeps h line (ReleaseData change bytes) s p = released_keeps h line (Some bytes) s p
+  handled_keeps h line (Grant cap) s p = granted_keeps h line cap None s p
+  handled_keeps h line (GrantData cap bytes) s p = granted_keeps h line cap (Some bytes) s p
+  handled_keeps h line ReleaseAck s p = quiet s _ (quiet_node h (record (node_at s h) { cache = answered (node_at s h).cache line }) s refl) p
+  handled_keeps h line GrantAck s p = quiet s (with_notes (grant_acked s.views.notes (place_of (line_size s) line)) s) (same_nodes s _ refl refl) p
+
+  evicted_keeps : (h line : ℕ) (s : State) → P s → P (given_up h line s)
+  evicted_keeps h line s p =
+      let answer = evicted (node_at s h).cache line in
+      let less = with_node h (with_less answer.1 line (node_at s h)) s in
+      if_evicted h line answer.0 less (quiet s less (quiet_node h _ s refl) p)
+
+  pub acted_keeps : (h : ℕ) (a : Act) (s : State) → Takes P s h a → P s → P (acted h a s)
+  acted_keeps h (act.Stop code) s t p = quiet s (stopped h code s) (hart_quiet h _ _ s refl refl) p
+  acted_keeps h (act.Retire entry i d) s t p =
+      let did = does s.views.config.model h d s in
+      quiet s (retired h entry i did) (quiet_then s did _ (does_quiet s.views.config.model h d s) (retired_quiet h entry i did)) p
+  acted_keeps h (act.Miss line grow) s t p =
+      let asking = with_node h (record (node_at s h) { cache = (wanted (node_at s h).cache line grow).1 }) s in
+      sends h (record { line = line; body = AcquireBlock grow }) asking (quiet s asking (quiet_node h _ s refl) p)
+  acted_keeps h (act.Drain word) s t p = quiet s (drained h word s) (drained_quiet h word s) p
+  acted_keeps h (act.Evict line) s t p = evicted_keeps h line s p
+  acted_keeps h (act.Deliver m) s t p = handled_keeps h m.line m.body (taken h m s) t
+  acted_keeps h (act.Local count) s t p = quiet s (went_alone h count s) (alone_quiet h count s) p

@@ -1,0 +1,8 @@
+//! Laws of the message log, each the contract of a function that does nothing.
+ghost use Rattle.machine_model.specs.LogLaws.{LogInOrderAlways};
+
+/// Whatever events come in whatever order, at each moment what has come out of a queue is a beginning
+/// of what has gone into it.
+pub fn log_in_order_always()
+    ensures { LogInOrderAlways }
+{}
