@@ -41,3 +41,6 @@ pub mod LogQueues
 pub mod LogActs
 pub mod LogPlans
 pub mod LogEvents
+pub mod LogCounts
+pub mod LogAlways
+pub mod LogAnswers
