@@ -1,11 +1,12 @@
 -- What stays while log and queues do, and as a message goes out, stays at each act but the taking of a message.
-use Rattle.std.proofs.Common.{ℕ, Bool, true, false, List, [], ◌∷◌, ◌≡◌, Option, Some, None, refl, ap, ◌∙◌, length, slice_index_or}
+use Rattle.std.proofs.Common.{ℕ, zero, suc, Bool, true, false, List, [], ◌∷◌, ◌≡◌, Option, Some, None, refl, ap, ◌∙◌, length, slice_index_or, slice_set}
 use Rattle.std.specs.Prelude.{if◌then◌else◌}
-use Rattle.client_cache.specs.Cache.{probed, evicted, wanted, granted, answered}
+use Rattle.client_cache.specs.Cache.{Cache, answered, copy_at, evicted, granted, probed, wanted, word_written, word_written_in}
 use Rattle.client_cache.specs.declared.answers.Evict.{Evict}
 use Rattle.client_cache.specs.declared.answers.Evict.TheVariants as evict
 use Rattle.client_cache.specs.declared.answers.Probed.{Probed}
 use Rattle.client_cache.specs.declared.answers.Probed.TheVariants as probe
+use Rattle.client_cache.specs.declared.held.Held.{Held}
 use Rattle.directory.specs.Directory.{Notes, acquired, probe_acked, released, grant_acked}
 use Rattle.directory.specs.declared.answer.Acquired.{Acquired}
 use Rattle.directory.specs.declared.answer.Acquired.TheVariants.{Handled, Busy}
@@ -15,12 +16,13 @@ use Rattle.directory.specs.declared.answer.Sent.TheVariants.{Probes, Granting as
 use Rattle.hart.specs.Local.{private_row}
 use Rattle.hart.specs.Run.{after_instr}
 use Rattle.hart.specs.declared.retired.Retired.{Retired}
+use Rattle.hart.specs.declared.state.Hart.{Hart}
 use Rattle.hart.specs.declared.status.Status.{Status}
 use Rattle.hart.specs.declared.status.Status.TheVariants.{Running, Stopped, Exited}
-use Rattle.machine_model.specs.Changing.{acted, does, drained, given_up, performs, performs_own, place_at, release_body, retired, sent_if_evicted, stopped, went_alone, with_entries, with_halt, writes_word}
+use Rattle.machine_model.specs.Changing.{acted, does, drained, given_up, performs, performs_own, place_at, release_body, sent_if_evicted, with_entries, with_halt, writes_word}
 use Rattle.machine_model.specs.Deliveries.{delivered, grant_body, handled, line_in_memory, on_acquire, on_grant, on_probe_ack, on_release, probe_ack_body, sent_any, sent_grant, sent_if_answered, sent_if_granted, sent_if_handled, sent_probes, with_less, with_memory, with_notes}
 use Rattle.machine_model.specs.LawfulLog.{is_grant, is_grant_ack, is_probe_ack, is_release, is_release_ack}
-use Rattle.machine_model.specs.Views.{Node, State, line_size, node_at, place_of, sent, with_node, with_trace}
+use Rattle.machine_model.specs.Views.{Node, State, line_of, line_size, no_node, node_at, place_of, sent, with_node, with_trace}
 use Rattle.machine_model.specs.Words.{bytes_of_word}
 use Rattle.machine_model.specs.declared.act.Act.{Act}
 use Rattle.machine_model.specs.declared.act.Act.TheVariants as act
@@ -28,7 +30,6 @@ use Rattle.machine_model.specs.declared.act.Deed.{Deed}
 use Rattle.machine_model.specs.declared.act.Deed.TheVariants as deed
 use Rattle.machine_model.proofs.LogQueues.{Quiet, quiet_node, quiet_trace}
 use Rattle.memory_model.specs.declared.Model.{Model}
-use Rattle.rv32_decode.specs.declared.instruction.Instr.{Instr}
 use Rattle.store_buffer.specs.ByteMask.{marks_of_access}
 use Rattle.store_buffer.specs.Entry.{entry_of}
 use Rattle.store_buffer.specs.Groups.{oldest}
@@ -41,39 +42,81 @@ use Rattle.tl_types.specs.declared.permission.Change.{Change}
 use Rattle.tl_types.specs.declared.permission.Grow.{Grow}
 use Rattle.trace_recorder.specs.History.{History, with_entry, with_performed}
 
--- ---- log and queues stay
+-- ---- log, queues and what is outstanding stay
 
-quiet_not : (s : State) → Quiet s s
-quiet_not s = record { log = refl; count = refl; queues = λ k d. refl }
+pub record Still (s t : State) : Type 0 where
+  pub quiet : Quiet s t
+  pub acquiring : (k : ℕ) (d : Node) → (slice_index_or t.views.nodes k d).cache.acquiring ≡ (slice_index_or s.views.nodes k d).cache.acquiring
+  pub releasing : (k : ℕ) (d : Node) → (slice_index_or t.views.nodes k d).cache.releasing ≡ (slice_index_or s.views.nodes k d).cache.releasing
 
-quiet_then : (a b c : State) → Quiet a b → Quiet b c → Quiet a c
-quiet_then a b c f g = record { log = g.log ∙ f.log; count = g.count ∙ f.count; queues = λ k d. g.queues k d ∙ f.queues k d }
+still_not : (s : State) → Still s s
+still_not s = record { quiet = record { log = refl; count = refl; queues = λ k d. refl }; acquiring = λ k d. refl; releasing = λ k d. refl }
+
+pub still_then : (a b c : State) → Still a b → Still b c → Still a c
+still_then a b c f g = record {
+  quiet = record { log = g.quiet.log ∙ f.quiet.log; count = g.quiet.count ∙ f.quiet.count; queues = λ k d. g.quiet.queues k d ∙ f.quiet.queues k d };
+  acquiring = λ k d. g.acquiring k d ∙ f.acquiring k d;
+  releasing = λ k d. g.releasing k d ∙ f.releasing k d;
+}
 
 -- notes, memory and counts don't matter
-same_nodes : (s t : State) → t.trace ≡ s.trace → t.views.nodes ≡ s.views.nodes → Quiet s t
-same_nodes s t e n = record { log = ap (λ (r : History). r.log) e; count = ap length n; queues = λ k d. ap (λ (nodes : List Node). (slice_index_or nodes k d).queues) n }
+pub same_nodes : (s t : State) → t.trace ≡ s.trace → t.views.nodes ≡ s.views.nodes → Still s t
+same_nodes s t e n = record {
+  quiet = record { log = ap (λ (r : History). r.log) e; count = ap length n; queues = λ k d. ap (λ (nodes : List Node). (slice_index_or nodes k d).queues) n };
+  acquiring = λ k d. ap (λ (nodes : List Node). (slice_index_or nodes k d).cache.acquiring) n;
+  releasing = λ k d. ap (λ (nodes : List Node). (slice_index_or nodes k d).cache.releasing) n;
+}
 
-performs_quiet : (h : ℕ) (places : List ℕ) (s : State) → Quiet s (performs h places s)
-performs_quiet h [] s = quiet_not s
-performs_quiet h (place ∷ places) s =
+still_trace : (s : State) (t : History) → t.log ≡ s.trace.log → Still s (with_trace t s)
+still_trace s t e = record { quiet = quiet_trace s t e; acquiring = λ k d. refl; releasing = λ k d. refl }
+
+-- one node was replaced by one that is the same to a test
+pub same-set : {X : Type 0} (f : Node → X) (nodes : List Node) (h k : ℕ) (n d e : Node) → f n ≡ f (slice_index_or nodes h e) → f (slice_index_or (slice_set nodes h n) k d) ≡ f (slice_index_or nodes k d)
+same-set f [] h k n d e q = refl
+same-set f (x ∷ xs) zero zero n d e q = q
+same-set f (x ∷ xs) zero (suc k) n d e q = refl
+same-set f (x ∷ xs) (suc h) zero n d e q = refl
+same-set f (x ∷ xs) (suc h) (suc k) n d e q = same-set f xs h k n d e q
+
+pub still_node : (h : ℕ) (n : Node) (s : State) → n.queues ≡ (node_at s h).queues → n.cache.acquiring ≡ (node_at s h).cache.acquiring → n.cache.releasing ≡ (node_at s h).cache.releasing → Still s (with_node h n s)
+still_node h n s q a r = record {
+  quiet = quiet_node h n s q;
+  acquiring = λ k d. same-set (λ (x : Node). x.cache.acquiring) s.views.nodes h k n d (no_node s) a;
+  releasing = λ k d. same-set (λ (x : Node). x.cache.releasing) s.views.nodes h k n d (no_node s) r;
+}
+
+performs_still : (h : ℕ) (places : List ℕ) (s : State) → Still s (performs h places s)
+performs_still h [] s = still_not s
+performs_still h (place ∷ places) s =
     let one = with_trace (with_performed (record { hart = h; place = place }) s.trace) s in
-    quiet_then s one _ (quiet_trace s _ refl) (performs_quiet h places one)
+    still_then s one _ (still_trace s _ refl) (performs_still h places one)
 
-own_quiet : (h : ℕ) (s : State) → Quiet s (performs_own h s)
-own_quiet h s = performs_quiet h (place_at s h ∷ []) s
+own_still : (h : ℕ) (s : State) → Still s (performs_own h s)
+own_still h s = performs_still h (place_at s h ∷ []) s
 
-does_quiet : (model : Model) (h : ℕ) (d : Deed) (s : State) → Quiet s (does model h d s)
-does_quiet model h deed.Alone s = quiet_not s
-does_quiet model h (deed.Output number) s = quiet_node h _ s refl
-does_quiet model h deed.Load s = own_quiet h s
-does_quiet model h (deed.Store store) s = quiet_node h _ s refl
-does_quiet model h deed.Seal s = quiet_node h _ s refl
-does_quiet model h (deed.Reserve word) s = quiet_then s (performs_own h s) _ (own_quiet h s) (quiet_node h _ (performs_own h s) refl)
-does_quiet model h deed.Fail s = quiet_node h _ s refl
-does_quiet model h (deed.Conditional word value) s =
+written_same : (c : Cache) (line word : ℕ) (marks : List Bool) (bytes : List ℕ) (o : Option Held) → ((word_written_in c line word marks bytes o).acquiring ≡ c.acquiring) × ((word_written_in c line word marks bytes o).releasing ≡ c.releasing)
+written_same c line word marks bytes None = (refl, refl)
+written_same c line word marks bytes (Some x) = (refl, refl)
+
+writes_still : (h word : ℕ) (marks : List Bool) (bytes : List ℕ) (s : State) → Still s (writes_word h word marks bytes s)
+writes_still h word marks bytes s =
+    let c = (node_at s h).cache in
+    let line = line_of c.shape.size word in
+    let same = written_same c line word marks bytes (copy_at c line) in
+    still_node h (record (node_at s h) { cache = word_written c line word marks bytes }) s refl same.0 same.1
+
+does_still : (model : Model) (h : ℕ) (d : Deed) (s : State) → Still s (does model h d s)
+does_still model h deed.Alone s = still_not s
+does_still model h (deed.Output number) s = still_node h _ s refl refl refl
+does_still model h deed.Load s = own_still h s
+does_still model h (deed.Store store) s = still_node h _ s refl refl refl
+does_still model h deed.Seal s = still_node h _ s refl refl refl
+does_still model h (deed.Reserve word) s = still_then s (performs_own h s) _ (own_still h s) (still_node h _ (performs_own h s) refl refl refl)
+does_still model h deed.Fail s = still_node h _ s refl refl refl
+does_still model h (deed.Conditional word value) s =
     let stored = writes_word h word (marks_of_access 0 4) (bytes_of_word value) (performs_own h s) in
-    quiet_then s (performs_own h s) _ (own_quiet h s) (quiet_then (performs_own h s) stored _ (quiet_node h _ (performs_own h s) refl) (quiet_node h _ stored refl))
-does_quiet model h (deed.Update word value) s = quiet_then s (performs_own h s) _ (own_quiet h s) (quiet_node h _ (performs_own h s) refl)
+    still_then s (performs_own h s) _ (own_still h s) (still_then (performs_own h s) stored _ (writes_still h word (marks_of_access 0 4) (bytes_of_word value) (performs_own h s)) (still_node h _ stored refl refl refl))
+does_still model h (deed.Update word value) s = still_then s (performs_own h s) _ (own_still h s) (writes_still h word (marks_of_access 0 4) (bytes_of_word value) (performs_own h s))
 
 halt_log : (h : ℕ) (status : Status) (t : History) → (with_halt h status t).log ≡ t.log
 halt_log h Running t = refl
@@ -84,28 +127,43 @@ entries_log : (h : ℕ) (row : List Retired) (t : History) → (with_entries h r
 entries_log h [] t = refl
 entries_log h (entry ∷ row) t = entries_log h row (with_entry h entry t)
 
-hart_quiet : (h : ℕ) (n : Node) (t : History) (s : State) → n.queues ≡ (node_at s h).queues → t.log ≡ s.trace.log → Quiet s (with_trace t (with_node h n s))
-hart_quiet h n t s e log = quiet_then s (with_node h n s) _ (quiet_node h n s e) (quiet_trace (with_node h n s) t log)
+hart_still : (h : ℕ) (hart : Hart) (t : History) (s : State) → t.log ≡ s.trace.log → Still s (with_trace t (with_node h (record (node_at s h) { hart = hart }) s))
+hart_still h hart t s log =
+    let moved = with_node h (record (node_at s h) { hart = hart }) s in
+    still_then s moved _ (still_node h _ s refl refl refl) (still_trace moved t log)
 
-retired_quiet : (h : ℕ) (entry : Retired) (i : Instr) (s : State) → Quiet s (retired h entry i s)
-retired_quiet h entry i s = hart_quiet h _ _ s refl (halt_log h (after_instr (node_at s h).hart entry (Some i)).status (with_entry h entry s.trace))
-
-alone_quiet : (h count : ℕ) (s : State) → Quiet s (went_alone h count s)
-alone_quiet h count s = hart_quiet h _ _ s refl (entries_log h (private_row s.trace.image (node_at s h).hart count) s.trace)
-
-drained_quiet : (h word : ℕ) (s : State) → Quiet s (drained h word s)
-drained_quiet h word s =
+drained_still : (h word : ℕ) (s : State) → Still s (drained h word s)
+drained_still h word s =
     let e = entry_of word (oldest (node_at s h).buffer) in
     let done = performs h e.ops s in
     let stored = writes_word h word e.mask e.bytes done in
-    quiet_then s done _ (performs_quiet h e.ops s) (quiet_then done stored _ (quiet_node h _ done refl) (quiet_node h _ stored refl))
+    still_then s done _ (performs_still h e.ops s) (still_then done stored _ (writes_still h word e.mask e.bytes done) (still_node h _ stored refl refl refl))
 
-memory_quiet : (line : ℕ) (bytes : Option LineData) (s : State) → Quiet s (with_memory line bytes s)
-memory_quiet line None s = quiet_not s
-memory_quiet line (Some bytes) s = same_nodes s _ refl refl
+memory_still : (line : ℕ) (bytes : Option LineData) (s : State) → Still s (with_memory line bytes s)
+memory_still line None s = still_not s
+memory_still line (Some bytes) s = same_nodes s _ refl refl
 
-noted_quiet : (line : ℕ) (bytes : Option LineData) (notes : Notes) (s : State) → Quiet s (with_notes notes (with_memory line bytes s))
-noted_quiet line bytes notes s = quiet_then s (with_memory line bytes s) _ (memory_quiet line bytes s) (same_nodes (with_memory line bytes s) _ refl refl)
+pub noted_still : (line : ℕ) (bytes : Option LineData) (notes : Notes) (s : State) → Still s (with_notes notes (with_memory line bytes s))
+noted_still line bytes notes s = still_then s (with_memory line bytes s) _ (memory_still line bytes s) (same_nodes (with_memory line bytes s) _ refl refl)
+
+-- the acts of a hart alone
+abbrev pub IsAlone : Act → Type 0
+IsAlone (act.Miss line grow) = ⊥
+IsAlone (act.Evict line) = ⊥
+IsAlone (act.Deliver m) = ⊥
+IsAlone _ = Unit {0}
+
+pub alone_still : (h : ℕ) (a : Act) (s : State) → IsAlone a → Still s (acted h a s)
+alone_still h (act.Stop code) s is = hart_still h _ _ s refl
+alone_still h (act.Retire entry i d) s is =
+    let did = does s.views.config.model h d s in
+    let after = after_instr (node_at did h).hart entry (Some i) in
+    still_then s did _ (does_still s.views.config.model h d s) (hart_still h after (with_halt h after.status (with_entry h entry did.trace)) did (halt_log h after.status (with_entry h entry did.trace)))
+alone_still h (act.Drain word) s is = drained_still h word s
+alone_still h (act.Local count) s is = hart_still h _ _ s (entries_log h (private_row s.trace.image (node_at s h).hart count) s.trace)
+alone_still h (act.Miss line grow) s is = absurd is
+alone_still h (act.Evict line) s is = absurd is
+alone_still h (act.Deliver m) s is = absurd is
 
 -- ---- what messages that go out keep
 
@@ -161,13 +219,13 @@ module _ (P : State → Type 0) (quiet : (s t : State) → Quiet s t → P s →
   acknowledged h line change bytes s p =
       let answer = probe_acked s.views.notes (place_of (line_size s) line) h change in
       let noted = with_notes answer.1 (with_memory line bytes s) in
-      if_granted line answer.0 noted (quiet s noted (noted_quiet line bytes answer.1 s) p)
+      if_granted line answer.0 noted (quiet s noted (noted_still line bytes answer.1 s).quiet p)
 
   acquired_keeps : (h line : ℕ) (grow : Grow) (s : State) → P s → P (on_acquire h line grow s)
   acquired_keeps h line grow s p =
       let answer = acquired s.views.notes (place_of (line_size s) line) h grow in
       let noted = with_notes answer.1 s in
-      if_handled line answer.0 noted (quiet s noted (same_nodes s noted refl refl) p)
+      if_handled line answer.0 noted (quiet s noted (same_nodes s noted refl refl).quiet p)
 
   evicted_keeps : (h line : ℕ) (s : State) → P s → P (given_up h line s)
   evicted_keeps h line s p =
@@ -176,17 +234,15 @@ module _ (P : State → Type 0) (quiet : (s t : State) → Quiet s t → P s →
       if_evicted h line answer.0 less (quiet s less (quiet_node h _ s refl) p)
 
   pub acted_keeps : (h : ℕ) (a : Act) (s : State) → Delivers P s h a → P s → P (acted h a s)
-  acted_keeps h (act.Stop code) s t p = quiet s (stopped h code s) (hart_quiet h _ _ s refl refl) p
-  acted_keeps h (act.Retire entry i d) s t p =
-      let did = does s.views.config.model h d s in
-      quiet s (retired h entry i did) (quiet_then s did _ (does_quiet s.views.config.model h d s) (retired_quiet h entry i did)) p
+  acted_keeps h (act.Stop code) s t p = quiet s (acted h (act.Stop code) s) (alone_still h (act.Stop code) s tt).quiet p
+  acted_keeps h (act.Retire entry i d) s t p = quiet s (acted h (act.Retire entry i d) s) (alone_still h (act.Retire entry i d) s tt).quiet p
   acted_keeps h (act.Miss line grow) s t p =
       let asking = with_node h (record (node_at s h) { cache = (wanted (node_at s h).cache line grow).1 }) s in
       asks h (record { line = line; body = AcquireBlock grow }) asking (refl, refl, refl) (quiet s asking (quiet_node h _ s refl) p)
-  acted_keeps h (act.Drain word) s t p = quiet s (drained h word s) (drained_quiet h word s) p
+  acted_keeps h (act.Drain word) s t p = quiet s (acted h (act.Drain word) s) (alone_still h (act.Drain word) s tt).quiet p
   acted_keeps h (act.Evict line) s t p = evicted_keeps h line s p
   acted_keeps h (act.Deliver m) s t p = t
-  acted_keeps h (act.Local count) s t p = quiet s (went_alone h count s) (alone_quiet h count s) p
+  acted_keeps h (act.Local count) s t p = quiet s (acted h (act.Local count) s) (alone_still h (act.Local count) s tt).quiet p
 
   -- `R` holds once the message has left its queue, and until it is answered
   module _ (R : ℕ → Msg → State → Type 0) (quiet_taken : (h : ℕ) (m : Msg) (s t : State) → Quiet s t → R h m s → R h m t) (forget : (h : ℕ) (m : Msg) (s : State) → R h m s → P s)
@@ -201,7 +257,7 @@ module _ (P : State → Type 0) (quiet : (s t : State) → Quiet s t → P s →
     released_keeps h line body bytes s is r =
         let notes = released s.views.notes (place_of (line_size s) line) h in
         let noted = with_notes notes (with_memory line bytes s) in
-        acks_release h line body noted is (quiet_taken h _ s noted (noted_quiet line bytes notes s) r)
+        acks_release h line body noted is (quiet_taken h _ s noted (noted_still line bytes notes s).quiet r)
 
     granted_keeps : (h line : ℕ) (body : Body) (cap : Cap) (bytes : Option LineData) (s : State) → is_grant body ≡ true → R h (record { line = line; body = body }) s → P (on_grant h line cap bytes s)
     granted_keeps h line body cap bytes s is r =
@@ -221,4 +277,4 @@ module _ (P : State → Type 0) (quiet : (s t : State) → Quiet s t → P s →
     handled_keeps h line (Grant cap) s r = granted_keeps h line (Grant cap) cap None s refl r
     handled_keeps h line (GrantData cap bytes) s r = granted_keeps h line (GrantData cap bytes) cap (Some bytes) s refl r
     handled_keeps h line ReleaseAck s r = quiet s _ (quiet_node h (record (node_at s h) { cache = answered (node_at s h).cache line }) s refl) (forget h _ s r)
-    handled_keeps h line GrantAck s r = quiet s (with_notes (grant_acked s.views.notes (place_of (line_size s) line)) s) (same_nodes s _ refl refl) (forget h _ s r)
+    handled_keeps h line GrantAck s r = quiet s (with_notes (grant_acked s.views.notes (place_of (line_size s) line)) s) (same_nodes s _ refl refl).quiet (forget h _ s r)

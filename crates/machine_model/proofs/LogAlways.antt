@@ -10,23 +10,31 @@ use Rattle.machine_model.specs.declared.act.Plan.{Plan}
 use Rattle.machine_model.specs.declared.act.Plan.TheVariants.{Stays, Changes}
 use Rattle.machine_model.specs.declared.event.Event.{Event}
 use Rattle.machine_model.specs.declared.outcome.Outcome.{Outcome}
-use Rattle.machine_model.proofs.LogQueues.{Quiet}
+use Rattle.machine_model.proofs.LogActs.{Still, same_nodes}
 
-module _ (P : State → Type 0) (quiet : (s t : State) → Quiet s t → P s → P t) (acts : (s : State) (e : Event) (a : Act) → plan_of s e ≡ Changes a → hart_of e < length s.views.nodes → P s → P (acted (hart_of e) a s)) where
+-- `G` is known already of each state
+module _ (G P : State → Type 0) (known : (s : State) (e : Event) → G s → G (happens s e)) (quiet : (s t : State) → Still s t → P s → P t) (acts : (s : State) (e : Event) (a : Act) → plan_of s e ≡ Changes a → hart_of e < length s.views.nodes → G s → P s → P (acted (hart_of e) a s)) where
   limited : (b : Bool) (s t : State) (o : Outcome) → P s → P t → P (state_by s (cond b Verdict.IsLimited (Verdict.Moves o t)))
   limited true s t o p q = p
   limited false s t o p q = q
 
-  planned : (s : State) (e : Event) (p : Plan) → plan_of s e ≡ p → hart_of e < length s.views.nodes → P s → P (state_by s (verdict_by s (hart_of e) p))
-  planned s e (Stays o) is in_h p = p
-  planned s e (Changes a) is in_h p =
+  planned : (s : State) (e : Event) (p : Plan) → plan_of s e ≡ p → hart_of e < length s.views.nodes → G s → P s → P (state_by s (verdict_by s (hart_of e) p))
+  planned s e (Stays o) is in_h g p = p
+  planned s e (Changes a) is in_h g p =
       let new = acted (hart_of e) a s in
-      limited (is_limited s (hart_of e) a) s (counted new) (outcome_of s (hart_of e) a) p (quiet new (counted new) (record { log = refl; count = refl; queues = λ k d. refl }) (acts s e a is in_h p))
+      limited (is_limited s (hart_of e) a) s (counted new) (outcome_of s (hart_of e) a) p (quiet new (counted new) (same_nodes new (counted new) refl refl) (acts s e a is in_h g p))
 
-  good : (b : Bool) (s : State) (e : Event) → is_good s e ≡ b → P s → P (state_by s (cond b (verdict_by s (hart_of e) (plan_of s e)) Verdict.IsBad))
-  good true s e g p = planned s e (plan_of s e) refl (ltb-true (hart_of e) (length s.views.nodes) (and_parts (nat_lt (hart_of e) (length s.views.nodes)) _ g).0) p
-  good false s e g p = p
+  good : (b : Bool) (s : State) (e : Event) → is_good s e ≡ b → G s → P s → P (state_by s (cond b (verdict_by s (hart_of e) (plan_of s e)) Verdict.IsBad))
+  good true s e is g p = planned s e (plan_of s e) refl (ltb-true (hart_of e) (length s.views.nodes) (and_parts (nat_lt (hart_of e) (length s.views.nodes)) _ is).0) g p
+  good false s e is g p = p
 
-  pub events_keep : (events : List Event) (s : State) → P s → P (after_events s events)
-  events_keep [] s p = p
-  events_keep (e ∷ events) s p = events_keep events (happens s e) (good (is_good s e) s e refl p)
+  pub happens_keeps : (s : State) (e : Event) → G s → P s → P (happens s e)
+  happens_keeps s e g p = good (is_good s e) s e refl g p
+
+  pub events_keep : (events : List Event) (s : State) → G s → P s → P (after_events s events)
+  events_keep [] s g p = p
+  events_keep (e ∷ events) s g p = events_keep events (happens s e) (known s e g) (happens_keeps s e g p)
+
+-- nothing need be known
+abbrev pub Anything : State → Type 0
+Anything s = Unit {0}

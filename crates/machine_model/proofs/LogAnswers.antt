@@ -16,7 +16,7 @@ use Rattle.machine_model.specs.declared.act.Plan.TheVariants.{Changes}
 use Rattle.machine_model.specs.declared.config.Config.{Config}
 use Rattle.machine_model.specs.declared.event.Event.{Event}
 use Rattle.machine_model.proofs.LogActs.{Delivers, IsAsking, acted_keeps, handled_keeps}
-use Rattle.machine_model.proofs.LogAlways.{events_keep}
+use Rattle.machine_model.proofs.LogAlways.{Anything, events_keep}
 use Rattle.machine_model.proofs.LogCounts.{EachSent, NoneTooMany, Owes, no_last, none_in, none_out, one_sent, one_taken, owes_out}
 use Rattle.machine_model.proofs.LogLists.{comes_out, goes_in}
 use Rattle.machine_model.proofs.LogQueues.{Quiet}
@@ -126,4 +126,4 @@ opening_answered image config = record {
 }
 
 pub answers_due_always : AnswersDueAlways
-answers_due_always image config events is within = (events_keep Answered quiet_answered acts events (opening image config) (opening_answered image config)).each
+answers_due_always image config events is within = (events_keep Anything Answered (λ s e g. tt) (λ s t q i. quiet_answered s t q.quiet i) (λ s e a is in_h g i. acts s e a is in_h i) events (opening image config) tt (opening_answered image config)).each

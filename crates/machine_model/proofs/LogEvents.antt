@@ -5,7 +5,7 @@ use Rattle.std.proofs.lemmas.List.FromFn.{get_or-map-range_with_len, length-map-
 use Rattle.elf_loader.specs.Image.{Initial}
 use Rattle.machine_model.specs.Changing.{acted}
 use Rattle.machine_model.specs.Deliveries.{taken}
-use Rattle.machine_model.specs.Events.{hart_of, plan_of}
+use Rattle.machine_model.specs.Events.{happens, hart_of, plan_of}
 use Rattle.machine_model.specs.LogLaws.{LogInOrderAlways}
 use Rattle.machine_model.specs.Views.{Node, State, node_at, opening, opening_node}
 use Rattle.machine_model.specs.declared.act.Act.{Act}
@@ -14,7 +14,7 @@ use Rattle.machine_model.specs.declared.act.Plan.TheVariants.{Changes}
 use Rattle.machine_model.specs.declared.config.Config.{Config}
 use Rattle.machine_model.specs.declared.event.Event.{Event}
 use Rattle.machine_model.proofs.LogActs.{Delivers, acted_keeps, handled_keeps}
-use Rattle.machine_model.proofs.LogAlways.{events_keep}
+use Rattle.machine_model.proofs.LogAlways.{Anything, events_keep, happens_keeps}
 use Rattle.machine_model.proofs.LogLists.{no_first}
 use Rattle.machine_model.proofs.LogPlans.{IsFrontPlan, plan_front_of}
 use Rattle.machine_model.proofs.LogQueues.{IsInOrder, IsQueueOrder, quiet_order, sent_order, taken_order}
@@ -37,8 +37,11 @@ delivers s h (act.Local count) i in_h front = tt
 acts : (s : State) (e : Event) (a : Act) → plan_of s e ≡ Changes a → hart_of e < length s.views.nodes → IsInOrder s → IsInOrder (acted (hart_of e) a s)
 acts s e a is in_h i = acted_keeps IsInOrder quiet_order (λ h m s is i. sent_order h m s i) (hart_of e) a s (delivers s (hart_of e) a i in_h (subst (IsFrontPlan (node_at s (hart_of e))) is (plan_front_of s i e in_h))) i
 
+pub happens_order : (s : State) (e : Event) → IsInOrder s → IsInOrder (happens s e)
+happens_order s e i = happens_keeps Anything IsInOrder (λ s e g. tt) (λ s t q i. quiet_order s t q.quiet i) (λ s e a is in_h g i. acts s e a is in_h i) s e tt i
+
 -- nothing waits at reset
-opening_order : (image : Initial) (config : Config) → IsInOrder (opening image config)
+pub opening_order : (image : Initial) (config : Config) → IsInOrder (opening image config)
 opening_order image config = record {
   waiting = λ c k d l. empty c k d l;
   moments = λ before rest e. subst IsQueueOrder (sym (no_first before rest e)) (λ c h. ([], refl));
@@ -58,4 +61,4 @@ opening_order image config = record {
 
 pub log_in_order_always : LogInOrderAlways
 log_in_order_always image config events is within c h before rest e =
-    (events_keep IsInOrder quiet_order acts events (opening image config) (opening_order image config)).moments before rest e c h
+    (events_keep Anything IsInOrder (λ s e g. tt) (λ s t q i. quiet_order s t q.quiet i) (λ s e a is in_h g i. acts s e a is in_h i) events (opening image config) tt (opening_order image config)).moments before rest e c h
