@@ -44,3 +44,11 @@ pub mod RoomEvents
 pub mod RoomPigeons
 pub mod RoomLines
 pub mod RoomQueues
+pub mod LogLists
+pub mod LogQueues
+pub mod LogActs
+pub mod LogPlans
+pub mod LogEvents
+pub mod LogCounts
+pub mod LogAlways
+pub mod LogAnswers

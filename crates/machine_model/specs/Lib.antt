@@ -13,3 +13,4 @@ pub mod Writers
 pub mod Rooms
 pub mod OrderLaws
 pub mod JointLaws
+pub mod LogLaws

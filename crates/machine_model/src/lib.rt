@@ -6,6 +6,7 @@ mod config;
 mod event;
 mod joint_laws;
 mod laws;
+mod log_laws;
 mod order_laws;
 mod outcome;
 mod room_laws;
@@ -18,6 +19,7 @@ pub use laws::{
     copies_agree_always, grants_have_slots_always, image_and_config_stay, local_is_steps,
     nothing_is_rewritten, one_writer_always, reserved_is_trunk_always, runs_always,
 };
+pub use log_laws::{answers_due_always, log_in_order_always};
 pub use memory_model::Model;
 pub use order_laws::{order_always, performed_once_always, preserved_always};
 pub use outcome::Outcome;

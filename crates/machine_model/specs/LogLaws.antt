@@ -1,0 +1,31 @@
+-- Parts of the lawful log, each of every state that a list of events leads to.
+use Rattle.std.specs.Prelude.{ℕ, ◌≡◌, Bool, true, List, ◌∷◌, ◌++◌, IsTrue}
+use Rattle.machine_model.specs.LawfulLog.{IsBeginningOf, concerns, is_grant, is_grant_ack, is_owed, is_probe, is_probe_ack, is_release, is_release_ack, sent_on, taken_on}
+use Rattle.machine_model.specs.Laws.{Always}
+use Rattle.tl_types.specs.declared.message.Body.{Body}
+use Rattle.tl_types.specs.declared.message.Body.TheVariants.{ProbeAck, ProbeAckData, ReleaseAck, GrantAck}
+use Rattle.tl_types.specs.declared.message.Channel.{Channel}
+use Rattle.tl_types.specs.declared.message.Msg.{Msg}
+use Rattle.trace_recorder.specs.declared.logged.Direction.TheVariants.{Sent}
+use Rattle.trace_recorder.specs.declared.logged.Logged.{Logged}
+
+-- at each moment, what came out of a queue is a beginning of what went into it
+abbrev pub IsLogInOrder : List Logged → Type 0
+IsLogInOrder log = (c : Channel) (h : ℕ) (before rest : List Logged) → before ++ rest ≡ log → IsBeginningOf (taken_on c h before) (sent_on c h before)
+
+abbrev pub LogInOrderAlways : Type 0
+LogInOrderAlways = Always (λ image config s. IsLogInOrder s.trace.log)
+
+-- a ProbeAck answers a Probe that has arrived, a ReleaseAck a Release and a GrantAck a Grant
+abbrev pub is_due : Body → ℕ → ℕ → List Logged → Bool
+is_due (ProbeAck change) h line log = is_owed is_probe is_probe_ack (concerns h line) log
+is_due (ProbeAckData change bytes) h line log = is_owed is_probe is_probe_ack (concerns h line) log
+is_due ReleaseAck h line log = is_owed is_release is_release_ack (concerns h line) log
+is_due GrantAck h line log = is_owed is_grant is_grant_ack (concerns h line) log
+is_due _ h line log = true
+
+abbrev pub AreAnswersDue : List Logged → Type 0
+AreAnswersDue log = (h : ℕ) (m : Msg) (before rest : List Logged) → before ++ (record { direction = Sent; hart = h; message = m }) ∷ rest ≡ log → IsTrue (is_due m.body h m.line before)
+
+abbrev pub AnswersDueAlways : Type 0
+AnswersDueAlways = Always (λ image config s. AreAnswersDue s.trace.log)
