@@ -24,7 +24,7 @@ use Rattle.machine_model.proofs.LineViews.{evicted_says, missed_says, probed_say
 use Rattle.machine_model.proofs.LogActs.{IsManaging, Still, same-set, still_node}
 use Rattle.machine_model.proofs.LogCounts.{EachSent, bit, one_sent, one_taken}
 use Rattle.machine_model.proofs.LogLists.{comes_out, goes_in}
-use Rattle.machine_model.proofs.LogFlags.{Tells, Turned, balance, comes, flag, goes, no_bit, settled, still_tells}
+use Rattle.machine_model.proofs.LogFlags.{Tells, Turned, balance, comes, goes, no_bit, settled, still_tells}
 use Rattle.tl_types.specs.declared.line.LineData.{LineData}
 use Rattle.tl_types.specs.declared.message.Body.{Body}
 use Rattle.tl_types.specs.declared.message.Body.TheVariants.{AcquireBlock, ProbeBlock, ProbeAck, ProbeAckData, Release, ReleaseData, Grant, GrantData, GrantAck}
