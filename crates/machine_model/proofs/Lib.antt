@@ -52,3 +52,7 @@ pub mod LogEvents
 pub mod LogCounts
 pub mod LogAlways
 pub mod LogAnswers
+pub mod LogFlags
+pub mod LogWanted
+pub mod LogCaches
+pub mod LogSends

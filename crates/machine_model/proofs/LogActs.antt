@@ -171,13 +171,6 @@ alone_still h (act.Deliver m) s is = absurd is
 abbrev pub IsAsking : Body → Type 0
 IsAsking body = (is_probe_ack body ≡ false) × (is_release_ack body ≡ false) × (is_grant_ack body ≡ false)
 
-grant_asks : (g : Granting) (bytes : LineData) → IsAsking (grant_body g bytes)
-grant_asks g bytes = go g.with_data
-  where
-    go : (t : Bool) → IsAsking (if t then GrantData g.cap bytes else Grant g.cap)
-    go true = (refl, refl, refl)
-    go false = (refl, refl, refl)
-
 release_asks : (change : Change) (bytes : Option LineData) → IsAsking (release_body change bytes)
 release_asks change None = (refl, refl, refl)
 release_asks change (Some bytes) = (refl, refl, refl)
@@ -187,15 +180,36 @@ abbrev pub Delivers : (State → Type 0) → State → ℕ → Act → Type 0
 Delivers P s h (act.Deliver m) = P (delivered h m s)
 Delivers P s h _ = Unit {0}
 
-module _ (P : State → Type 0) (quiet : (s t : State) → Quiet s t → P s → P t) (asks : (h : ℕ) (m : Msg) (s : State) → IsAsking m.body → P s → P (sent h m s)) where
+-- a Probe or a Grant
+abbrev pub IsManaging : Body → Type 0
+IsManaging (ProbeBlock cap) = Unit {0}
+IsManaging (Grant cap) = Unit {0}
+IsManaging (GrantData cap bytes) = Unit {0}
+IsManaging _ = ⊥
+
+managing_asks : (body : Body) → IsManaging body → IsAsking body
+managing_asks (ProbeBlock cap) is = (refl, refl, refl)
+managing_asks (Grant cap) is = (refl, refl, refl)
+managing_asks (GrantData cap bytes) is = (refl, refl, refl)
+managing_asks _ is = absurd is
+
+grant_manages : (g : Granting) (bytes : LineData) → IsManaging (grant_body g bytes)
+grant_manages g bytes = go g.with_data
+  where
+    go : (t : Bool) → IsManaging (if t then GrantData g.cap bytes else Grant g.cap)
+    go true = tt
+    go false = tt
+
+-- what the manager sends
+module _ (P : State → Type 0) (still : (s t : State) → Still s t → P s → P t) (manages : (h : ℕ) (m : Msg) (s : State) → IsManaging m.body → P s → P (sent h m s)) where
   probes_keep : (harts : List ℕ) (line : ℕ) (cap : Cap) (s : State) → P s → P (sent_probes harts line cap s)
   probes_keep [] line cap s p = p
   probes_keep (hart ∷ harts) line cap s p =
       let query : Msg = record { line = line; body = ProbeBlock cap } in
-      probes_keep harts line cap (sent hart query s) (asks hart query s (refl, refl, refl) p)
+      probes_keep harts line cap (sent hart query s) (manages hart query s tt p)
 
   grant_keeps : (line : ℕ) (g : Granting) (s : State) → P s → P (sent_grant line g s)
-  grant_keeps line g s p = asks g.hart (record { line = line; body = grant_body g (line_in_memory s line) }) s (grant_asks g (line_in_memory s line)) p
+  grant_keeps line g s p = manages g.hart (record { line = line; body = grant_body g (line_in_memory s line) }) s (grant_manages g (line_in_memory s line)) p
 
   any_keeps : (line : ℕ) (a : Sent) (s : State) → P s → P (sent_any line a s)
   any_keeps line (Probes cap harts) s p = probes_keep harts line cap s p
@@ -209,23 +223,27 @@ module _ (P : State → Type 0) (quiet : (s t : State) → Quiet s t → P s →
   if_granted line None s p = p
   if_granted line (Some g) s p = grant_keeps line g s p
 
+  pub acknowledged : (h line : ℕ) (change : Change) (bytes : Option LineData) (s : State) → P s → P (on_probe_ack h line change bytes s)
+  acknowledged h line change bytes s p =
+      let answer = probe_acked s.views.notes (place_of (line_size s) line) h change in
+      let noted = with_notes answer.1 (with_memory line bytes s) in
+      if_granted line answer.0 noted (still s noted (noted_still line bytes answer.1 s) p)
+
+  pub acquired_keeps : (h line : ℕ) (grow : Grow) (s : State) → P s → P (on_acquire h line grow s)
+  acquired_keeps h line grow s p =
+      let answer = acquired s.views.notes (place_of (line_size s) line) h grow in
+      let noted = with_notes answer.1 s in
+      if_handled line answer.0 noted (still s noted (same_nodes s noted refl refl) p)
+
+module _ (P : State → Type 0) (quiet : (s t : State) → Quiet s t → P s → P t) (asks : (h : ℕ) (m : Msg) (s : State) → IsAsking m.body → P s → P (sent h m s)) where
   if_evicted : (h line : ℕ) (e : Evict) (s : State) → P s → P (sent_if_evicted h line e s)
   if_evicted h line (evict.Evicted change bytes) s p = asks h (record { line = line; body = release_body change bytes }) s (release_asks change bytes) p
   if_evicted h line evict.NotHeld s p = p
   if_evicted h line evict.AcquirePending s p = p
   if_evicted h line evict.ReleaseFull s p = p
 
-  acknowledged : (h line : ℕ) (change : Change) (bytes : Option LineData) (s : State) → P s → P (on_probe_ack h line change bytes s)
-  acknowledged h line change bytes s p =
-      let answer = probe_acked s.views.notes (place_of (line_size s) line) h change in
-      let noted = with_notes answer.1 (with_memory line bytes s) in
-      if_granted line answer.0 noted (quiet s noted (noted_still line bytes answer.1 s).quiet p)
-
-  acquired_keeps : (h line : ℕ) (grow : Grow) (s : State) → P s → P (on_acquire h line grow s)
-  acquired_keeps h line grow s p =
-      let answer = acquired s.views.notes (place_of (line_size s) line) h grow in
-      let noted = with_notes answer.1 s in
-      if_handled line answer.0 noted (quiet s noted (same_nodes s noted refl refl).quiet p)
+  by_manager : (h : ℕ) (m : Msg) (s : State) → IsManaging m.body → P s → P (sent h m s)
+  by_manager h m s is p = asks h m s (managing_asks m.body is) p
 
   evicted_keeps : (h line : ℕ) (s : State) → P s → P (given_up h line s)
   evicted_keeps h line s p =
@@ -265,13 +283,13 @@ module _ (P : State → Type 0) (quiet : (s t : State) → Quiet s t → P s →
         acks_grant h line body held is (quiet_taken h _ s held (quiet_node h _ s refl) r)
 
     pub handled_keeps : (h line : ℕ) (body : Body) (s : State) → R h (record { line = line; body = body }) s → P (handled h line body s)
-    handled_keeps h line (AcquireBlock grow) s r = acquired_keeps h line grow s (forget h _ s r)
+    handled_keeps h line (AcquireBlock grow) s r = acquired_keeps P (λ s t q. quiet s t q.quiet) by_manager h line grow s (forget h _ s r)
     handled_keeps h line (ProbeBlock cap) s r =
         let answer = probed (node_at s h).cache line cap in
         let shrunk = with_node h (with_less answer.1 line (node_at s h)) s in
         if_answered h line cap answer.0 shrunk (quiet_taken h _ s shrunk (quiet_node h _ s refl) r)
-    handled_keeps h line (ProbeAck change) s r = acknowledged h line change None s (forget h _ s r)
-    handled_keeps h line (ProbeAckData change bytes) s r = acknowledged h line change (Some bytes) s (forget h _ s r)
+    handled_keeps h line (ProbeAck change) s r = acknowledged P (λ s t q. quiet s t q.quiet) by_manager h line change None s (forget h _ s r)
+    handled_keeps h line (ProbeAckData change bytes) s r = acknowledged P (λ s t q. quiet s t q.quiet) by_manager h line change (Some bytes) s (forget h _ s r)
     handled_keeps h line (Release change) s r = released_keeps h line (Release change) None s refl r
     handled_keeps h line (ReleaseData change bytes) s r = released_keeps h line (ReleaseData change bytes) (Some bytes) s refl r
     handled_keeps h line (Grant cap) s r = granted_keeps h line (Grant cap) cap None s refl r

@@ -40,7 +40,7 @@ told E E = inl (refl, refl, λ w ms. refl)
 told E _ = inr (refl, λ w ms. refl)
 
 -- what stands at a place doesn't depend on what would stand beyond the end
-same_within : (nodes : List Node) (h : ℕ) (d e : Node) → h < length nodes → slice_index_or nodes h d ≡ slice_index_or nodes h e
+pub same_within : (nodes : List Node) (h : ℕ) (d e : Node) → h < length nodes → slice_index_or nodes h d ≡ slice_index_or nodes h e
 same_within [] h d e l = absurd (omega arith)
 same_within (x ∷ nodes) zero d e l = refl
 same_within (x ∷ nodes) (suc h) d e l = same_within nodes h d e (omega arith)

@@ -1,6 +1,6 @@
 -- Parts of the lawful log, each of every state that a list of events leads to.
-use Rattle.std.specs.Prelude.{ℕ, ◌≡◌, Bool, true, List, ◌∷◌, ◌++◌, IsTrue}
-use Rattle.machine_model.specs.LawfulLog.{IsBeginningOf, concerns, is_grant, is_grant_ack, is_owed, is_probe, is_probe_ack, is_release, is_release_ack, sent_on, taken_on}
+use Rattle.std.specs.Prelude.{ℕ, ◌≡◌, Bool, true, not, ◌||◌, List, ◌∷◌, ◌++◌, IsTrue}
+use Rattle.machine_model.specs.LawfulLog.{IsBeginningOf, concerns, is_grant, is_grant_ack, is_owed, is_probe, is_probe_ack, is_release, is_release_ack, may_send, sent_on, taken_on}
 use Rattle.machine_model.specs.Laws.{Always}
 use Rattle.tl_types.specs.declared.message.Body.{Body}
 use Rattle.tl_types.specs.declared.message.Body.TheVariants.{ProbeAck, ProbeAckData, ReleaseAck, GrantAck}
@@ -29,3 +29,14 @@ AreAnswersDue log = (h : ℕ) (m : Msg) (before rest : List Logged) → before +
 
 abbrev pub AnswersDueAlways : Type 0
 AnswersDueAlways = Always (λ image config s. AreAnswersDue s.trace.log)
+
+-- a Probe or a Grant
+abbrev pub is_probe_or_grant : Body → Bool
+is_probe_or_grant body = is_probe body || is_grant body
+
+-- each other message was sent where it may be
+abbrev pub AreOthersLawful : List Logged → Type 0
+AreOthersLawful log = (h : ℕ) (m : Msg) (before rest : List Logged) → before ++ (record { direction = Sent; hart = h; message = m }) ∷ rest ≡ log → IsTrue (not (is_probe_or_grant m.body)) → IsTrue (may_send m.body h m.line before)
+
+abbrev pub OthersLawfulAlways : Type 0
+OthersLawfulAlways = Always (λ image config s. AreOthersLawful s.trace.log)
