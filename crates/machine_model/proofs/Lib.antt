@@ -39,3 +39,10 @@ pub mod OrderJoint
 pub mod JointBytes
 pub mod JointActs
 pub mod JointAlways
+pub mod AtomicOrder
+pub mod AtomicKept
+pub mod AtomicAlways
+pub mod AtomicNodes
+pub mod AtomicDeeds
+pub mod AtomicActs
+pub mod AtomicSteps

@@ -12,3 +12,4 @@ pub mod Laws
 pub mod Writers
 pub mod OrderLaws
 pub mod JointLaws
+pub mod HeadlineLaws
