@@ -1,8 +1,8 @@
 -- Each act keeps what is kept of pairs and reservations.
-use Rattle.std.proofs.Common.{◌≡◌, ◌≢◌, ℕ, ◌<◌, ◌≤◌, List, [], ◌∷◌, ◌++◌, Bool, true, false, Option, Some, None, refl, cond, sym, ap, ◌∙◌, subst, not, ◌&&◌, ◌||◌, append-nil, arith, length, length-append, ◌+◌, ◌⊎◌, inl, inr}
+use Rattle.std.proofs.Common.{◌≡◌, ◌≢◌, ℕ, ◌<◌, ◌≤◌, List, [], ◌∷◌, ◌++◌, true, false, Option, Some, None, sym, ap, ◌∙◌, subst, append-nil, arith, length, length-append, ◌+◌, ◌⊎◌, inl, inr}
 use Rattle.std.specs.Prelude.{nat_eq, option_and_then}
 use Rattle.std.specs.List.{AllByRecursion as Each, list_any}
-use Rattle.std.proofs.lemmas.Bool.{false≢true, true≢false, and_left, and_right, and_parts, or_left, or_right, eq-eqb, false_from_ne_true}
+use Rattle.std.proofs.lemmas.Bool.{false≢true, true≢false, and_left, and_right, and_parts, or_left, eq-eqb, false_from_ne_true}
 use Rattle.machine_model.specs.Words.{word_of}
 use Rattle.machine_model.proofs.AtomicDeeds.{Ends, IsNewest, IsReserving, Plain, Takes}
 use Rattle.machine_model.proofs.AtomicKept.{AreLater, Atomic, Grows, IsClear, IsMarked, IsPair, IsStill, Reserves, clear_more, grown, pair_parts, pairs_now, reserves_more, theirs_later}

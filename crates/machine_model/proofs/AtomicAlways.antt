@@ -1,6 +1,6 @@
 -- In every state that a list of events leads to, the completed order keeps the atomicity axiom; with that it is legal, and the headline holds.
-use Rattle.std.proofs.Common.{◌≡◌, ℕ, ◌+◌, ◌<◌, List, [], ◌∷◌, ◌++◌, Bool, true, false, Option, Some, None, refl, cond, sym, ap, ◌∙◌, subst, not, ◌&&◌, ◌||◌, arith, length}
-use Rattle.std.specs.Prelude.{nat_lt, IsTrue}
+use Rattle.std.proofs.Common.{◌≡◌, ℕ, ◌+◌, ◌<◌, List, [], ◌∷◌, ◌++◌, Bool, true, false, Option, Some, None, refl, cond, sym, ap, ◌∙◌, subst, not, ◌||◌, arith, length}
+use Rattle.std.specs.Prelude.{nat_lt}
 use Rattle.std.specs.List.{AllByRecursion as Each, filter, list_all, list_any}
 use Rattle.std.proofs.lemmas.Bool.{false≢true, and_parts, and_from, le-leb, lt-ltb, ltb-true}
 use Rattle.std.proofs.lemmas.List.{get_or-replicate}
@@ -14,7 +14,7 @@ use Rattle.machine_model.specs.declared.outcome.Outcome.{Outcome}
 use Rattle.machine_model.specs.Changing.{acted, outcome_of}
 use Rattle.machine_model.specs.Events.{Verdict, verdict_by, state_by, happens, after_events, is_good, is_limited, plan_of, hart_of, counted}
 use Rattle.machine_model.specs.HeadlineLaws.{AtomicityAlways}
-use Rattle.machine_model.specs.Laws.{Always, Headline, LegalAlways}
+use Rattle.machine_model.specs.Laws.{Headline, LegalAlways}
 use Rattle.machine_model.specs.Views.{Node, State, node_at, opening}
 use Rattle.machine_model.proofs.AtomicKept.{Atomic, IsClear, IsPair, pair_parts}
 use Rattle.machine_model.proofs.AtomicNodes.{less_still}
@@ -36,7 +36,7 @@ use Rattle.memory_model.specs.declared.operation.Kind.TheVariants.{Store}
 use Rattle.memory_model.specs.declared.operation.Operation.{Operation}
 use Rattle.memory_model.specs.Items.{Item, items_from}
 use Rattle.memory_model.specs.Legal.{is_atomic, is_atomic_at, keeps_atomicity}
-use Rattle.memory_model.specs.Operations.{bytes_of, is_conditional, is_reserve, same, touches}
+use Rattle.memory_model.specs.Operations.{is_conditional, is_reserve, same, touches}
 use Rattle.memory_model.specs.Rules.{items_of, paired}
 use Rattle.memory_model.specs.Traces.{completed, instructions, names_in, operations_at}
 use Rattle.memory_model.proofs.Lists.{Each-append, Each-both, Each-weaker, filter_none, list_all-from_Each}

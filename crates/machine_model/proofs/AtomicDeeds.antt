@@ -1,8 +1,8 @@
 -- What each deed of a retiring instruction does to the hart's reservation and to pairs, and where it may write.
-use Rattle.std.proofs.Common.{◌≡◌, ℕ, ◌+◌, ◌%◌, ◌≤◌, List, [], ◌∷◌, ◌++◌, Bool, true, false, Option, Some, None, refl, cond, sym, ap, ◌∙◌, subst, ◌&&◌, ◌||◌, arith, length, map, ◌⊎◌, inl, inr}
+use Rattle.std.proofs.Common.{◌≡◌, ℕ, ◌+◌, ◌%◌, ◌≤◌, List, [], ◌∷◌, ◌++◌, Bool, true, false, Option, Some, None, refl, cond, sym, ap, ◌∙◌, subst, arith, length, ◌⊎◌, inl, inr}
 use Rattle.std.specs.Prelude.{option_and_then}
 use Rattle.std.specs.List.{AllByRecursion as Each}
-use Rattle.std.proofs.lemmas.Bool.{false≢true, true≢false, and_parts, or_parts, eqb-true}
+use Rattle.std.proofs.lemmas.Bool.{false≢true, and_parts, or_parts, eqb-true}
 use Rattle.client_cache.specs.Cache.{copy_at}
 use Rattle.client_cache.specs.Held.{perm_of}
 use Rattle.client_cache.specs.declared.held.Held.TheVariants.{Trunk}

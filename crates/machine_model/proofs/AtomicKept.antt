@@ -1,15 +1,14 @@
 -- What is kept of one hart's pairs of LR and SC, and of the LR that its reservation is of.
-use Rattle.std.proofs.Common.{◌≡◌, ℕ, zero, suc, ◌+◌, ◌%◌, ◌<◌, ◌≤◌, List, [], ◌∷◌, ◌++◌, Bool, true, false, Option, Some, None, refl, cond, sym, ap, ◌∙◌, subst, not, ◌&&◌, ◌||◌, append-nil, arith, length, length-append}
-use Rattle.std.specs.Prelude.{nat_eq, nat_lt, option_and_then, slice_get}
+use Rattle.std.proofs.Common.{◌≡◌, ℕ, zero, suc, ◌<◌, ◌≤◌, List, [], ◌∷◌, ◌++◌, Bool, true, false, Option, Some, None, refl, cond, sym, ap, ◌∙◌, subst, not, ◌&&◌, append-nil, arith, length, length-append}
+use Rattle.std.specs.Prelude.{nat_eq, nat_lt}
 use Rattle.std.specs.List.{AllByRecursion as Each, cons_option, filter, list_any}
-use Rattle.std.proofs.lemmas.Bool.{false≢true, true≢false, and_left, and_right, and_parts, eqb-true, ltb-true, ltb-false, le-ltb, lt-ltb, or_parts, not-true}
+use Rattle.std.proofs.lemmas.Bool.{false≢true, true≢false, and_right, and_parts, eqb-true, ltb-true, ltb-false, le-ltb, lt-ltb, or_parts, not-true}
 use Rattle.std.proofs.lemmas.List.Elements.{filter-append, filter_map-append}
 use Rattle.hart.specs.declared.retired.Retired.{Retired}
 use Rattle.hart.specs.declared.state.Hart.{Hart}
 use Rattle.machine_model.specs.Words.{word_of}
 use Rattle.machine_model.proofs.AtomicOrder.{IsFree, any_more, atomic_now, free_more, harmless, pair_more}
 use Rattle.machine_model.proofs.OrderKept.{IsBelow}
-use Rattle.machine_model.proofs.OrderLists.{Each-always}
 use Rattle.machine_model.proofs.OrderRules.{InWord, precedes_not, touches_word}
 use Rattle.machine_model.proofs.OrderSplit.{absent, filter_absent, gave_at, ops_of}
 use Rattle.machine_model.proofs.OrderValues.{members, theirs, waits}

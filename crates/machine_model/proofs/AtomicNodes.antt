@@ -15,7 +15,7 @@ use Rattle.directory.specs.declared.answer.Sent.{Sent}
 use Rattle.directory.specs.declared.answer.Sent.TheVariants.{Probes, Granting as Grants}
 use Rattle.machine_model.specs.declared.act.Deed.{Deed}
 use Rattle.machine_model.specs.declared.act.Deed.TheVariants as deed
-use Rattle.machine_model.specs.Changing.{does, performs, performs_own, drained, missed, given_up, sent_if_evicted, writes_word, with_buffer, with_reservation, stopped}
+use Rattle.machine_model.specs.Changing.{does, performs, performs_own, drained, missed, given_up, sent_if_evicted, writes_word, with_reservation, stopped}
 use Rattle.machine_model.specs.Deliveries.{delivered, handled, is_trunk, kept_reservation, taken, sent_probes, sent_any, sent_if_handled, sent_if_granted, sent_if_answered, with_memory, with_notes, with_less, on_probe_ack, on_release, on_grant}
 use Rattle.machine_model.specs.Views.{Node, State, line_size, no_node, place_of, node_at, with_node, with_trace, sent}
 use Rattle.machine_model.specs.Words.{bytes_of_word}
@@ -24,7 +24,7 @@ use Rattle.memory_model.specs.declared.Model.{Model}
 use Rattle.reservations.specs.Reservation.{lies_in, without_line}
 use Rattle.store_buffer.specs.ByteMask.{marks_of_access}
 use Rattle.store_buffer.specs.Entry.{entry_of}
-use Rattle.store_buffer.specs.Groups.{after_take, oldest}
+use Rattle.store_buffer.specs.Groups.{oldest}
 use Rattle.tl_types.specs.declared.line.LineData.{LineData}
 use Rattle.tl_types.specs.declared.line.LineSize.{LineSize}
 use Rattle.tl_types.specs.declared.message.Body.{Body}
@@ -41,7 +41,7 @@ use Rattle.trace_recorder.specs.History.{with_performed}
 abbrev pub IsLess : Option ℕ → Option ℕ → Type 0
 IsLess new old = (word : ℕ) → new ≡ Some word → old ≡ Some word
 
-pub record Reserves (old new : State) : Type 0 where
+pub record LosesReservations (old new : State) : Type 0 where
   pub less : (h : ℕ) → IsLess (node_at new h).reserved (node_at old h).reserved
 
 -- one node was replaced by one with no other reservation
@@ -52,22 +52,22 @@ less_set (x ∷ xs) zero (suc k) n d e = λ w f. f
 less_set (x ∷ xs) (suc h) zero n d e = λ w f. f
 less_set (x ∷ xs) (suc h) (suc k) n d e = less_set xs h k n d e
 
-less_not : (s : State) → Reserves s s
+less_not : (s : State) → LosesReservations s s
 less_not s = record { less = λ h w f. f }
 
-pub less_then : (a b c : State) → Reserves a b → Reserves b c → Reserves a c
+pub less_then : (a b c : State) → LosesReservations a b → LosesReservations b c → LosesReservations a c
 less_then a b c f g = record { less = λ h w e. f.less h w (g.less h w e) }
 
-pub node_less : (h : ℕ) (n : Node) (s : State) → IsLess n.reserved (node_at s h).reserved → Reserves s (with_node h n s)
+pub node_less : (h : ℕ) (n : Node) (s : State) → IsLess n.reserved (node_at s h).reserved → LosesReservations s (with_node h n s)
 node_less h n s e = record { less = λ k. less_set s.views.nodes h k n (no_node s) e }
 
-sent_less : (h : ℕ) (m : Msg) (s : State) → Reserves s (sent h m s)
+sent_less : (h : ℕ) (m : Msg) (s : State) → LosesReservations s (sent h m s)
 sent_less h m s = let k = node_less h _ s (λ w f. f) in record { less = k.less }
 
-taken_less : (h : ℕ) (m : Msg) (s : State) → Reserves s (taken h m s)
+taken_less : (h : ℕ) (m : Msg) (s : State) → LosesReservations s (taken h m s)
 taken_less h m s = let k = node_less h _ s (λ w f. f) in record { less = k.less }
 
-pub less_still : (s t : State) → t.trace ≡ s.trace → t.views.config ≡ s.views.config → t.views.nodes ≡ s.views.nodes → Reserves s t
+pub less_still : (s t : State) → t.trace ≡ s.trace → t.views.config ≡ s.views.config → t.views.nodes ≡ s.views.nodes → LosesReservations s t
 less_still s t e c n = record { less = λ h w f. subst (λ o. o ≡ Some w) (rw (n, c, e) refl) f }
 
 without_less : (line : ℕ) (size : LineSize) (o : Option ℕ) → IsLess (without_line line size o) o
@@ -91,53 +91,53 @@ kept_less c line o w e = go (is_trunk (perm_of (copy_at c line))) e
 abbrev probe_of : ℕ → Cap → Msg
 probe_of line cap = record { line = line; body = ProbeBlock cap }
 
-probes_less : (harts : List ℕ) (line : ℕ) (cap : Cap) (s : State) → Reserves s (sent_probes harts line cap s)
+probes_less : (harts : List ℕ) (line : ℕ) (cap : Cap) (s : State) → LosesReservations s (sent_probes harts line cap s)
 probes_less [] line cap s = less_not s
 probes_less (hart ∷ harts) line cap s = less_then _ _ _ (sent_less hart (probe_of line cap) s) (probes_less harts line cap (sent hart (probe_of line cap) s))
 
-any_less : (line : ℕ) (a : Sent) (s : State) → Reserves s (sent_any line a s)
+any_less : (line : ℕ) (a : Sent) (s : State) → LosesReservations s (sent_any line a s)
 any_less line (Probes cap harts) s = probes_less harts line cap s
 any_less line (Grants g) s = sent_less g.hart _ s
 
-if_handled : (line : ℕ) (a : Acquired) (s : State) → Reserves s (sent_if_handled line a s)
+if_handled : (line : ℕ) (a : Acquired) (s : State) → LosesReservations s (sent_if_handled line a s)
 if_handled line Busy s = less_not s
 if_handled line (Handled sends) s = any_less line sends s
 
-if_granted : (line : ℕ) (g : Option Granting) (s : State) → Reserves s (sent_if_granted line g s)
+if_granted : (line : ℕ) (g : Option Granting) (s : State) → LosesReservations s (sent_if_granted line g s)
 if_granted line None s = less_not s
 if_granted line (Some g) s = sent_less g.hart _ s
 
-if_answered : (h line : ℕ) (p : Probed) (s : State) → Reserves s (sent_if_answered h line p s)
+if_answered : (h line : ℕ) (p : Probed) (s : State) → LosesReservations s (sent_if_answered h line p s)
 if_answered h line probe.Releasing s = less_not s
 if_answered h line (probe.Answered change bytes) s = sent_less h _ s
 
-if_evicted : (h line : ℕ) (e : Evict) (s : State) → Reserves s (sent_if_evicted h line e s)
+if_evicted : (h line : ℕ) (e : Evict) (s : State) → LosesReservations s (sent_if_evicted h line e s)
 if_evicted h line (evict.Evicted change bytes) s = sent_less h _ s
 if_evicted h line evict.NotHeld s = less_not s
 if_evicted h line evict.AcquirePending s = less_not s
 if_evicted h line evict.ReleaseFull s = less_not s
 
-memory_less : (line : ℕ) (bytes : Option LineData) (s : State) → Reserves s (with_memory line bytes s)
+memory_less : (line : ℕ) (bytes : Option LineData) (s : State) → LosesReservations s (with_memory line bytes s)
 memory_less line None s = less_not s
 memory_less line (Some bytes) s = less_still s _ refl refl refl
 
-acknowledged : (h line : ℕ) (change : Change) (bytes : Option LineData) (s : State) → Reserves s (on_probe_ack h line change bytes s)
+acknowledged : (h line : ℕ) (change : Change) (bytes : Option LineData) (s : State) → LosesReservations s (on_probe_ack h line change bytes s)
 acknowledged h line change bytes s =
     let answer = probe_acked s.views.notes (place_of (line_size s) line) h change in
     let noted = with_notes answer.1 (with_memory line bytes s) in
     less_then s noted _ (less_then s (with_memory line bytes s) noted (memory_less line bytes s) (less_still _ _ refl refl refl)) (if_granted line answer.0 noted)
 
-released_less : (h line : ℕ) (bytes : Option LineData) (s : State) → Reserves s (on_release h line bytes s)
+released_less : (h line : ℕ) (bytes : Option LineData) (s : State) → LosesReservations s (on_release h line bytes s)
 released_less h line bytes s =
     let noted = with_notes (released s.views.notes (place_of (line_size s) line) h) (with_memory line bytes s) in
     less_then s noted _ (less_then s (with_memory line bytes s) noted (memory_less line bytes s) (less_still _ _ refl refl refl)) (sent_less h (record { line = line; body = ReleaseAck }) noted)
 
-granted_less : (h line : ℕ) (cap : Cap) (bytes : Option LineData) (s : State) → Reserves s (on_grant h line cap bytes s)
+granted_less : (h line : ℕ) (cap : Cap) (bytes : Option LineData) (s : State) → LosesReservations s (on_grant h line cap bytes s)
 granted_less h line cap bytes s =
     let held = with_node h (record (node_at s h) { cache = granted (node_at s h).cache line cap bytes }) s in
     less_then s held _ (node_less h _ s (λ w f. f)) (sent_less h (record { line = line; body = GrantAck }) held)
 
-handled_less : (h line : ℕ) (body : Body) (s : State) → Reserves s (handled h line body s)
+handled_less : (h line : ℕ) (body : Body) (s : State) → LosesReservations s (handled h line body s)
 handled_less h line (AcquireBlock grow) s =
     let answer = acquired s.views.notes (place_of (line_size s) line) h grow in
     less_then s (with_notes answer.1 s) _ (less_still s _ refl refl refl) (if_handled line answer.0 (with_notes answer.1 s))
@@ -154,28 +154,28 @@ handled_less h line (GrantData cap bytes) s = granted_less h line cap (Some byte
 handled_less h line ReleaseAck s = node_less h _ s (λ w f. f)
 handled_less h line GrantAck s = less_still s _ refl refl refl
 
-pub delivered_less : (h : ℕ) (m : Msg) (s : State) → Reserves s (delivered h m s)
+pub delivered_less : (h : ℕ) (m : Msg) (s : State) → LosesReservations s (delivered h m s)
 delivered_less h m s = less_then s (taken h m s) _ (taken_less h m s) (handled_less h m.line m.body (taken h m s))
 
-pub missed_less : (h line : ℕ) (grow : Grow) (s : State) → Reserves s (missed h line grow s)
+pub missed_less : (h line : ℕ) (grow : Grow) (s : State) → LosesReservations s (missed h line grow s)
 missed_less h line grow s =
     let asking = with_node h (record (node_at s h) { cache = (wanted (node_at s h).cache line grow).1 }) s in
     less_then s asking _ (node_less h _ s (λ w f. f)) (sent_less h (record { line = line; body = AcquireBlock grow }) asking)
 
-pub given_up_less : (h line : ℕ) (s : State) → Reserves s (given_up h line s)
+pub given_up_less : (h line : ℕ) (s : State) → LosesReservations s (given_up h line s)
 given_up_less h line s =
     let answer = evicted (node_at s h).cache line in
     let less = with_node h (with_less answer.1 line (node_at s h)) s in
     less_then s less _ (node_less h _ s (kept_less answer.1 line (node_at s h).reserved)) (if_evicted h line answer.0 less)
 
-pub stopped_less : (h code : ℕ) (s : State) → Reserves s (stopped h code s)
+pub stopped_less : (h code : ℕ) (s : State) → LosesReservations s (stopped h code s)
 stopped_less h code s = let k = node_less h _ s (λ w f. f) in record { less = k.less }
 
-performs_less : (h : ℕ) (places : List ℕ) (s : State) → Reserves s (performs h places s)
+performs_less : (h : ℕ) (places : List ℕ) (s : State) → LosesReservations s (performs h places s)
 performs_less h [] s = less_not s
 performs_less h (place ∷ places) s = let k = performs_less h places (with_trace (with_performed (record { hart = h; place = place }) s.trace) s) in record { less = k.less }
 
-pub drained_less : (h word : ℕ) (s : State) → Reserves s (drained h word s)
+pub drained_less : (h word : ℕ) (s : State) → LosesReservations s (drained h word s)
 drained_less h word s =
     let e = entry_of word (oldest (node_at s h).buffer) in
     let did = performs h e.ops s in
@@ -194,10 +194,10 @@ pub record Reserved (h : ℕ) (reserved : Option ℕ) (old new : State) : Type 0
   pub here : IsLess (node_at new h).reserved reserved
   pub there : (k : ℕ) → k ≢ h → IsLess (node_at new k).reserved (node_at old k).reserved
 
-less_by : (h : ℕ) (s t : State) → Reserves s t → Reserved h (node_at s h).reserved s t
+less_by : (h : ℕ) (s t : State) → LosesReservations s t → Reserved h (node_at s h).reserved s t
 less_by h s t k = record { here = k.less h; there = λ j d. k.less j }
 
-reserved_to : (h : ℕ) (o : Option ℕ) (s t : State) → length t.views.nodes ≡ length s.views.nodes → Reserves s t → h < length s.views.nodes → Reserved h o s (with_reservation h o t)
+reserved_to : (h : ℕ) (o : Option ℕ) (s t : State) → length t.views.nodes ≡ length s.views.nodes → LosesReservations s t → h < length s.views.nodes → Reserved h o s (with_reservation h o t)
 reserved_to h o s t count k l = record {
   here = λ w e. sym (ap (λ (n : Node). n.reserved) (node_same h _ t (subst (λ c. h < c) (sym count) l))) ∙ e;
   there = λ j d w e. k.less j w (sym (ap (λ (n : Node). n.reserved) (node_other h j _ t d)) ∙ e);

@@ -8,7 +8,7 @@ use Rattle.memory_model.specs.Legal.{behind, is_atomic_at, up_to}
 use Rattle.memory_model.specs.Operations.{same, stores_to}
 use Rattle.memory_model.specs.Order.{candidates, last_of, source}
 use Rattle.memory_model.proofs.Forms.{same-self, same-swap, candidates-behind}
-use Rattle.memory_model.proofs.Lists.{Each-append, Each-kept, Each-left, Each-right, Each-weaker, filter_none, list_all-from_Each, Each-from_list_all}
+use Rattle.memory_model.proofs.Lists.{Each-append, Each-kept, Each-weaker, filter_none, list_all-from_Each}
 use Rattle.memory_model.proofs.Named.{EachOnce}
 use Rattle.machine_model.proofs.OrderLists.{candidates-append}
 use Rattle.machine_model.proofs.OrderValues.{theirs}

@@ -1,8 +1,8 @@
 -- Whatever act comes, all harts keep what is kept of pairs and reservations.
-use Rattle.std.proofs.Common.{◌≡◌, ◌≢◌, ℕ, zero, suc, ◌+◌, ◌<◌, ◌≤◌, List, [], ◌∷◌, ◌++◌, Bool, true, false, Option, Some, None, refl, cond, sym, ap, ◌∙◌, subst, not, ◌&&◌, ◌||◌, append-nil, append_assoc, arith, length, slice_index_or, slice_set, ◌⊎◌, inl, inr}
-use Rattle.std.specs.Prelude.{nat_eq, nat_lt}
-use Rattle.std.specs.List.{AllByRecursion as Each, cons_option, filter}
-use Rattle.std.proofs.lemmas.Bool.{false≢true, true≢false, and_parts, eqb-true, or_right}
+use Rattle.std.proofs.Common.{◌≡◌, ◌≢◌, ℕ, zero, suc, ◌+◌, ◌<◌, ◌≤◌, List, [], ◌∷◌, ◌++◌, Bool, true, false, Option, Some, None, refl, cond, sym, ap, ◌∙◌, subst, not, ◌&&◌, append-nil, arith, length, slice_index_or, slice_set, ◌⊎◌, inl, inr}
+use Rattle.std.specs.Prelude.{nat_eq}
+use Rattle.std.specs.List.{AllByRecursion as Each, cons_option}
+use Rattle.std.proofs.lemmas.Bool.{false≢true, and_parts, eqb-true, or_right}
 use Rattle.std.proofs.lemmas.Bool.Decides.{eqb_tells}
 use Rattle.std.proofs.lemmas.List.{length-set, get_or-set_same}
 use Rattle.client_cache.specs.Cache.{copy_at}
@@ -16,7 +16,7 @@ use Rattle.machine_model.specs.declared.act.Act.{Act}
 use Rattle.machine_model.specs.declared.act.Act.TheVariants as act
 use Rattle.machine_model.specs.declared.act.Deed.{Deed}
 use Rattle.machine_model.specs.declared.config.Config.{Config}
-use Rattle.machine_model.specs.Changing.{acted, does, drained, place_at, retired, went_alone, with_entries}
+use Rattle.machine_model.specs.Changing.{acted, does, drained, place_at, retired, went_alone}
 use Rattle.machine_model.specs.Coherent.{perm_at}
 use Rattle.machine_model.specs.Deliveries.{is_trunk}
 use Rattle.machine_model.specs.Steps.{Fetched}
@@ -24,8 +24,8 @@ use Rattle.machine_model.specs.Views.{Node, State, line_of, line_size, node_at, 
 use Rattle.machine_model.specs.Words.{word_of}
 use Rattle.machine_model.proofs.AtomicActs.{Before, IsOutside, SparesWord, foreign_atomic, none_atomic, none_of_word, once_atomic, outside_atomic}
 use Rattle.machine_model.proofs.AtomicDeeds.{Ends, IsNewest, Plain, Takes, Writable, deed_is, deed_writes, out_is, store_word, trunk_writable}
-use Rattle.machine_model.proofs.AtomicKept.{AreLater, Atomic, IsClear, IsMarked, IsStill, is_pairing, marked_item, pairing_is}
-use Rattle.machine_model.proofs.AtomicNodes.{IsLess, Reserved, Reserves, delivered_less, does_reserved, drained_less, given_up_less, less_then, missed_less, node_less, reserved_by, stopped_less}
+use Rattle.machine_model.proofs.AtomicKept.{AreLater, Atomic, IsClear, IsStill, is_pairing, marked_item, pairing_is}
+use Rattle.machine_model.proofs.AtomicNodes.{IsLess, LosesReservations, delivered_less, does_reserved, drained_less, given_up_less, missed_less, node_less, reserved_by, stopped_less}
 use Rattle.machine_model.proofs.AtomicOrder.{harmless}
 use Rattle.machine_model.proofs.OrderActs.{alone_grown, alone_step, image-with_halt, node-with_trace, retired_gave, retired_known, retired_step, retired_trace}
 use Rattle.machine_model.proofs.OrderBuffers.{KeepsBuffers, delivered_keeps, given_up_keeps, missed_keeps, stopped_keeps}
@@ -34,16 +34,16 @@ use Rattle.machine_model.proofs.OrderEvents.{HasTrunk, IsFit}
 use Rattle.machine_model.proofs.OrderKept.{IsBelow, IsWaiting, joined, of_word}
 use Rattle.machine_model.proofs.OrderMoves.{Changes, OrderKept, done_more, done_same, drained_done, drained_moves, drained_names, drained_out, drained_step, oldest_group, oldest_line, oldest_waiting, younger}
 use Rattle.machine_model.proofs.OrderSteps.{HartKept, names_by}
-use Rattle.machine_model.proofs.OrderTraces.{IsLonger, IsResolved, Stands, done, items_at, items_here, items_same, length-items_from, new_item, operation_is, operations_on}
+use Rattle.machine_model.proofs.OrderTraces.{IsResolved, Stands, done, items_at, items_here, items_same, length-items_from, new_item, operation_is, operations_on}
 use Rattle.machine_model.proofs.OrderSplit.{gave_at}
-use Rattle.machine_model.proofs.OrderValues.{theirs, waits}
+use Rattle.machine_model.proofs.OrderValues.{theirs}
 use Rattle.machine_model.proofs.Runs.{AllStand, entries-with_entries}
 use Rattle.machine_model.proofs.WorldOpening.{one_writer}
 use Rattle.machine_model.proofs.WorldSteps.{Fits}
 use Rattle.memory_model.specs.declared.Model.{Model}
 use Rattle.memory_model.specs.declared.operation.Operation.{Operation}
 use Rattle.memory_model.specs.Items.{Item, annotations_of, item_of, items_from}
-use Rattle.memory_model.specs.Operations.{is_conditional, is_reserve, stores_to, touches}
+use Rattle.memory_model.specs.Operations.{is_conditional, is_reserve, stores_to}
 use Rattle.memory_model.specs.Rules.{is_lr_or_sc}
 use Rattle.memory_model.specs.Traces.{instructions, operations_at}
 use Rattle.memory_model.proofs.Lists.{Each-filter, Each-kept, Each-left, Each-weaker}
@@ -63,7 +63,7 @@ pub record AllAtomic (s : State) : Type 0 where
 atomic_less : (h : ℕ) (items : List Item) (old next : Option ℕ) (performed : List Operation) → IsLess next old → Atomic h items old performed → Atomic h items next performed
 atomic_less h items old next performed f k = record { marked = k.marked; clear = k.clear; pairs = k.pairs; reserves = λ w e. k.reserves w (f w e) }
 
-pub atomic_still : (s t : State) → KeepsBuffers s t → Reserves s t → AllAtomic s → AllAtomic t
+pub atomic_still : (s t : State) → KeepsBuffers s t → LosesReservations s t → AllAtomic s → AllAtomic t
 atomic_still s t k r a = record {
   each = λ h l.
       subst (λ is. Atomic h is (node_at t h).reserved (done t.trace)) (sym (items_same s.trace t.trace k.image k.entries h))
@@ -146,7 +146,7 @@ done_stands t (n ∷ ns) r =
     subst (λ o. Each (Stands t) (cons_option o (operations_at (instructions t) ns))) (sym r.0.1)
     (subst (λ h. gave_at (items_at t h) r.0.0.place ≡ Some r.0.0) (sym b.hart_is) (subst (λ p. gave_at (items_at t n.hart) p ≡ Some r.0.0) (sym b.place_is) (sym (operation_is t n) ∙ r.0.1)), done_stands t ns r.1)
 
-retired_less : (h : ℕ) (entry : Retired) (i : Instr) (s : State) → Reserves s (retired h entry i s)
+retired_less : (h : ℕ) (entry : Retired) (i : Instr) (s : State) → LosesReservations s (retired h entry i s)
 retired_less h entry i s =
     let n = record (node_at s h) { hart = after_instr (node_at s h).hart entry (Some i) } in
     record { less = λ k w e. (node_less h n s (λ v f. f)).less k w (sym (ap (λ (x : Node). x.reserved) (node-with_trace (with_node h n s) (retired h entry i s).trace k (image-with_halt h _ _))) ∙ e) }
@@ -249,7 +249,7 @@ alone_atomic h count s l st fit o a =
     let more = items_from (length (entries_of s.trace h)) last row in
     let is_longer : items_at t.trace h ≡ items ++ more = longer_items h row s.trace t.trace g.image (entries-with_entries h row s.trace l') l' in
     let n = record (node_at s h) { hart = reached (node_at s h).hart row } in
-    let less : Reserves s t = record { less = λ k w e. (node_less h n s (λ v f. f)).less k w (sym (ap (λ (x : Node). x.reserved) (node-with_trace (with_node h n s) t.trace k g.image)) ∙ e) } in
+    let less : LosesReservations s t = record { less = λ k w e. (node_less h n s (λ v f. f)).less k w (sym (ap (λ (x : Node). x.reserved) (node-with_trace (with_node h n s) t.trace k g.image)) ∙ e) } in
     let now = outside_atomic h items more (node_at s h).reserved (node_at t h).reserved (done s.trace) [] (below_at s o h l) (items_later (length items) (length (entries_of s.trace h)) last row (omega (arith, here))) (λ r b c. record { still = λ mine reads x z. tt }) tt tt (less.less h)
     (items_plain (length (entries_of s.trace h)) last row (row_plain s.trace.image count (node_at s h).hart)) (a.each h l) in
     step_atomic h [] s t [] (alone_step h count s l st o).changes
