@@ -56,3 +56,10 @@ pub mod LogFlags
 pub mod LogWanted
 pub mod LogCaches
 pub mod LogSends
+pub mod AtomicOrder
+pub mod AtomicKept
+pub mod AtomicAlways
+pub mod AtomicNodes
+pub mod AtomicDeeds
+pub mod AtomicActs
+pub mod AtomicSteps

@@ -35,7 +35,7 @@ use Rattle.trace_recorder.specs.History.{History, entries_of, with_entry}
 
 -- ---- halts and traces
 
-image-with_halt : (h : ℕ) (status : Status) (t : History) → (with_halt h status t).image ≡ t.image
+pub image-with_halt : (h : ℕ) (status : Status) (t : History) → (with_halt h status t).image ≡ t.image
 image-with_halt h Running t = refl
 image-with_halt h (Stopped code) t = refl
 image-with_halt h (Exited code) t = refl
@@ -50,7 +50,7 @@ performed-with_halt h Running t = refl
 performed-with_halt h (Stopped code) t = refl
 performed-with_halt h (Exited code) t = refl
 
-node-with_trace : (u : State) (t : History) (k : ℕ) → t.image ≡ u.trace.image → node_at (with_trace t u) k ≡ node_at u k
+pub node-with_trace : (u : State) (t : History) (k : ℕ) → t.image ≡ u.trace.image → node_at (with_trace t u) k ≡ node_at u k
 node-with_trace u t k e = ap (λ (i : Initial). slice_index_or u.views.nodes k (opening_node i u.views.config 0)) e
 
 -- ---- the hart that a list leads to

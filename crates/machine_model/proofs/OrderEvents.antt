@@ -53,6 +53,7 @@ use Rattle.rv32_decode.specs.declared.instruction.Instr.{Instr}
 use Rattle.rv32_exec.specs.Meaning.{access_of}
 use Rattle.store_buffer.specs.Groups.{Groups, drainable, has, no_groups}
 use Rattle.tilelink_channels.specs.Queues.{front_of, queue_of, room_of}
+use Rattle.tl_types.specs.declared.line.LineData.{LineData}
 use Rattle.tl_types.specs.declared.message.Body.{Body}
 use Rattle.tl_types.specs.declared.message.Body.TheVariants.{AcquireBlock, ProbeBlock, ProbeAck, ProbeAckData, Release, ReleaseData, Grant, GrantData, ReleaseAck, GrantAck}
 use Rattle.tl_types.specs.declared.message.Channel.TheVariants.{E}
@@ -62,11 +63,16 @@ use Rattle.trace_recorder.specs.History.{entries_of}
 
 -- ---- acts
 
--- what a retiring instruction has found; of the other acts nothing is asked
+-- the hart's copy of the word's line may be written
+abbrev pub HasTrunk : Node → ℕ → Type 0
+HasTrunk n word = (dirty : Bool) × (bytes : LineData) × (copy_at n.cache (line_of n.cache.shape.size word) ≡ Some (Trunk dirty bytes))
+
+-- what a retiring instruction has found, and that a drain may write; of the other acts nothing is asked
 abbrev pub IsFit : State → ℕ → Act → Type 0
 IsFit s h (act.Retire e i d) =
     (is_step s.trace.image (node_at s h).hart e ≡ true) × (decoded e.word ≡ Some i)
     × (f : Fetched) × (f.instr ≡ i) × (f.place ≡ place_at s h) × FitsDeed s.views.config.model (node_at s h) f (access_of i (node_at s h).hart.regs) e d
+IsFit s h (act.Drain word) = HasTrunk (node_at s h) word
 IsFit s h _ = Unit {0}
 
 pub acted_kept : (h : ℕ) (a : Act) (s : State) → h < s.views.config.harts → AllStand s → IsFit s h a → OrderKept s → OrderKept (acted h a s)
@@ -93,7 +99,7 @@ fit_both s h f (Stays o) e x y = tt
 fit_both s h f (Changes (act.Retire r i d)) e x y = (x.0, x.1, f, sym y.0, e, subst (λ (j : Instr). FitsDeed s.views.config.model (node_at s h) f (access_of j (node_at s h).hart.regs) r d) (sym y.0) y.1)
 fit_both s h f (Changes (act.Stop code)) e x y = tt
 fit_both s h f (Changes (act.Miss line grow)) e x y = tt
-fit_both s h f (Changes (act.Drain word)) e x y = tt
+fit_both s h f (Changes (act.Drain word)) e x y = absurd y
 fit_both s h f (Changes (act.Evict line)) e x y = tt
 fit_both s h f (Changes (act.Deliver m)) e x y = tt
 fit_both s h f (Changes (act.Local count)) e x y = tt
@@ -126,10 +132,10 @@ miss_fit s h line want.NoTracker = tt
 miss_fit s h line want.SetFull = tt
 miss_fit s h line (want.Missed grow) = tt
 
-writing_fit : (s : State) (h word line : ℕ) (copy : Option Held) → IsFitPlan s h (writing_by copy (λ bytes. Changes (act.Drain word)) (node_at s h).cache line)
-writing_fit s h word line None = miss_fit s h line (wanted (node_at s h).cache line NtoT).0
-writing_fit s h word line (Some (Branch bytes)) = miss_fit s h line (wanted (node_at s h).cache line BtoT).0
-writing_fit s h word line (Some (Trunk dirty bytes)) = tt
+writing_fit : (s : State) (h word line : ℕ) (copy : Option Held) → ((dirty : Bool) (bytes : LineData) → copy ≡ Some (Trunk dirty bytes) → HasTrunk (node_at s h) word) → IsFitPlan s h (writing_by copy (λ bytes. Changes (act.Drain word)) (node_at s h).cache line)
+writing_fit s h word line None g = miss_fit s h line (wanted (node_at s h).cache line NtoT).0
+writing_fit s h word line (Some (Branch bytes)) g = miss_fit s h line (wanted (node_at s h).cache line BtoT).0
+writing_fit s h word line (Some (Trunk dirty bytes)) g = g dirty bytes refl
 
 drain_fit : (s : State) (h word : ℕ) → IsFitPlan s h (plan_drain (node_at s h) word)
 drain_fit s h word =
@@ -137,7 +143,7 @@ drain_fit s h word =
     let line = line_of n.cache.shape.size word in
     let drains = writing_by (copy_at n.cache line) (λ bytes. Changes (act.Drain word)) n.cache line in
     either (IsFitPlan s h) (not (has word n.buffer)) (Stays outcome.NoEntry) (cond (not (drainable word n.buffer)) (Stays outcome.NotOldest) drains) tt
-    (either (IsFitPlan s h) (not (drainable word n.buffer)) (Stays outcome.NotOldest) drains tt (writing_fit s h word line (copy_at n.cache line)))
+    (either (IsFitPlan s h) (not (drainable word n.buffer)) (Stays outcome.NotOldest) drains tt (writing_fit s h word line (copy_at n.cache line) (λ dirty bytes e. (dirty, bytes, e))))
 
 evict_fit : (s : State) (h line : ℕ) (e : Evict) → IsFitPlan s h (evict_by line e)
 evict_fit s h line evict.NotHeld = tt
@@ -210,7 +216,7 @@ events_kept (e ∷ events) s st k = events_kept events (happens s e) (happens_st
 
 -- ---- from reset
 
-fresh : (image : Initial) (config : Config) (h : ℕ) → h < config.harts → node_at (opening image config) h ≡ opening_node image config h
+pub fresh : (image : Initial) (config : Config) (h : ℕ) → h < config.harts → node_at (opening image config) h ≡ opening_node image config h
 fresh image config h l = get_or-map-range_with_len (opening_node image config) 0 config.harts h h (no_node (opening image config)) l (omega arith)
 
 pub opening_stand : (image : Initial) (config : Config) → AllStand (opening image config)

@@ -74,7 +74,7 @@ not_theirs : (a b : Operation) (x : ℕ) → b.hart ≢ a.hart → theirs a x b 
 not_theirs a b x d = and_right (stores_to x b) _ (precedes_not b a (λ e. absurd (d (sym e))))
 
 -- of what isn't performed, a load sees its own hart's part
-sees_part : (s : State) (st : AllStand s) (o : OrderKept s) (a : Operation) (x : ℕ) (lists : List (List Retired)) (n j : ℕ) → ((j : ℕ) → slice_index_or lists j [] ≡ entries_of s.trace (n + j)) → n + length lists ≡ s.views.config.harts → j < length lists → a.hart ≡ n + j
+pub sees_part : (s : State) (st : AllStand s) (o : OrderKept s) (a : Operation) (x : ℕ) (lists : List (List Retired)) (n j : ℕ) → ((j : ℕ) → slice_index_or lists j [] ≡ entries_of s.trace (n + j)) → n + length lists ≡ s.views.config.harts → j < length lists → a.hart ≡ n + j
     → filter (theirs a x) (operations_at (instructions s.trace) (filter (missing s.trace) (names_from a.hart 0 (entries_of s.trace a.hart)))) ≡ filter (theirs a x) (operations_at (instructions s.trace) (filter (missing s.trace) (names_of_harts n lists)))
 sees_part s st o a x [] n j link e l mine = absurd (omega (arith, l))
 sees_part s st o a x (es ∷ rest) n j link e l mine =
@@ -111,7 +111,7 @@ sees_part s st o a x (es ∷ rest) n j link e l mine =
         ∙ ap (λ v. v ++ filter (theirs a x) (operations_at (instructions s.trace) (filter (missing s.trace) (names_of_harts (n + 1) rest))))
         (sym (filter_none (theirs a x) (operations_at (instructions s.trace) (filter (missing s.trace) (names_from n 0 es))) (Each-weaker (λ b. b.hart ≡ n) (λ b. theirs a x b ≡ false) (λ b m. not_theirs a b x (λ f. absurd (omega (arith, f, m, mine)))) (operations_at (instructions s.trace) (filter (missing s.trace) (names_from n 0 es))) own_part)))
 
-abbrev tail_of : State → List Operation
+abbrev pub tail_of : State → List Operation
 tail_of s = operations_at (instructions s.trace) (filter (missing s.trace) (names_in s.trace))
 
 -- each performed load of a hart is right in the completed order
@@ -125,7 +125,7 @@ right_whole s st o v h l =
     ∙ sees_part s st o a x s.trace.entries 0 h (λ j. ap (entries_of s.trace) (omega arith)) (omega (arith, c)) (omega (arith, c, l)) (mine ∙ omega arith)) (done s.trace))
     (subst (λ w. Each (IsRight (image_of s.trace) h (done s.trace ++ w)) (done s.trace)) k.split.waits (v.each h l))
 
-all_range : (p : ℕ → Bool) (a n : ℕ) → ((x : ℕ) → a ≤ x → x < a + n → p x ≡ true) → list_all p (range_with_len a n) ≡ true
+pub all_range : (p : ℕ → Bool) (a n : ℕ) → ((x : ℕ) → a ≤ x → x < a + n → p x ≡ true) → list_all p (range_with_len a n) ≡ true
 all_range p a zero f = refl
 all_range p a (suc n) f = and_from _ _ (f a (omega arith) (omega arith)) (all_range p (a + 1) n (λ x l m. f x (omega (arith, l)) (omega (arith, m))))
 

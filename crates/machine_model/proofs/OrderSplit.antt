@@ -48,7 +48,7 @@ absent_more done out a = ap not (list_any-append (same a) done out) ∙ de_morga
     de_morgan true b = refl
     de_morgan false b = refl
 
-filter_absent : (done out xs : List Operation) → filter (absent (done ++ out)) xs ≡ filter (absent out) (filter (absent done) xs)
+pub filter_absent : (done out xs : List Operation) → filter (absent (done ++ out)) xs ≡ filter (absent out) (filter (absent done) xs)
 filter_absent done out xs = filter_same (absent (done ++ out)) (λ a. absent done a && absent out a) xs (Each-always (λ a. absent (done ++ out) a ≡ (absent done a && absent out a)) (λ a. absent_more done out a) xs) ∙ sym (filter-filter (absent done) (absent out) xs)
 
 keep_at : (b : Bool) (x : Operation) (xs ys : List Operation) → b ≡ true → xs ≡ ys → cond b (x ∷ xs) xs ≡ x ∷ ys

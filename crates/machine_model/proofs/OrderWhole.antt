@@ -179,7 +179,7 @@ done_inside t (n ∷ ns) r =
     subst (λ o. Each (λ a. a.hart < length t.entries) (cons_option o (operations_at (instructions t) ns))) (sym r.0.1)
     (subst (λ h. h < length t.entries) (sym (operation_at-bears t n r.0.0 r.0.1).hart_is) (in_lists t.entries n.hart n.place (at_reset t.image n.hart (length t.entries)) r.0.0 (sym (operation_is t n) ∙ r.0.1)), done_inside t ns r.1)
 
-each_index : {I : Type 0} (P : I → Operation → Type 0) (xs : List Operation) → ((i : I) → Each (P i) xs) → Each (λ a. (i : I) → P i a) xs
+pub each_index : {I : Type 0} (P : I → Operation → Type 0) (xs : List Operation) → ((i : I) → Each (P i) xs) → Each (λ a. (i : I) → P i a) xs
 each_index P [] f = tt
 each_index P (x ∷ xs) f = (λ i. (f i).0, each_index P xs (λ i. (f i).1))
 
@@ -192,7 +192,7 @@ abbrev IsFree : State → List Operation → Operation → Operation → Type 0
 IsFree s order a b = preserved s.views.config.model (instructions s.trace) order b a ≡ false
 
 -- a hart's number
-abbrev HartOf : State → Type 0
+abbrev pub HartOf : State → Type 0
 HartOf s = (h : ℕ) × (h < s.views.config.harts)
 
 abbrev FreeOf : (s : State) → List Operation → HartOf s → Operation → Operation → Type 0
@@ -274,7 +274,7 @@ ordered s st o =
     subst (Pairwise (IsFree s order)) (sym (completed_operations s.trace)) (Pairwise-append (IsFree s order) (done s.trace) tail (done_free s st o order) r.among r.behind)
 
 -- the configuration is as it was at reset
-config_stays : (events : List Event) (s : State) → (after_events s events).views.config ≡ s.views.config
+pub config_stays : (events : List Event) (s : State) → (after_events s events).views.config ≡ s.views.config
 config_stays [] s = refl
 config_stays (e ∷ events) s = config_stays events (happens s e) ∙ (happens_follows s e).stays.config
 

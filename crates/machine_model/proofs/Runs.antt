@@ -255,7 +255,7 @@ stopped_stand h code s l r e a =
     (stands_stopped s.trace.image s.views.config.harts h (node_at s h).hart (entries_of s.trace h) (slice_index_or s.trace.statuses h Running) code (a.each h l) r e) a
 
 -- entries that are appended one by one
-entries-with_entries : (h : ℕ) (row : List Retired) (t : History) → h < length t.entries → (with_entries h row t).entries ≡ slice_set t.entries h (entries_of t h ++ row)
+pub entries-with_entries : (h : ℕ) (row : List Retired) (t : History) → h < length t.entries → (with_entries h row t).entries ≡ slice_set t.entries h (entries_of t h ++ row)
 entries-with_entries h [] t l = sym (ap (slice_set t.entries h) (append-nil (entries_of t h)) ∙ set-get_or t.entries h [])
 entries-with_entries h (entry ∷ rest) t l =
     let more = entries_of t h ++ entry ∷ [] in

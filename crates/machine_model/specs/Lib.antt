@@ -14,3 +14,4 @@ pub mod Rooms
 pub mod OrderLaws
 pub mod JointLaws
 pub mod LogLaws
+pub mod HeadlineLaws

@@ -4,6 +4,7 @@
 mod act;
 mod config;
 mod event;
+mod headline_laws;
 mod joint_laws;
 mod laws;
 mod log_laws;
@@ -14,6 +15,7 @@ mod room_laws;
 pub use act::{Act, Deed, Plan};
 pub use config::Config;
 pub use event::Event;
+pub use headline_laws::{atomicity_always, headline, legal_always};
 pub use joint_laws::{coherent_always, load_values_always};
 pub use laws::{
     copies_agree_always, grants_have_slots_always, image_and_config_stay, local_is_steps,

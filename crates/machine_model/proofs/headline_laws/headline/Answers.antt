@@ -1,0 +1,5 @@
+use Rattle.machine_model.proofs.AtomicAlways.{headline}
+use Rattle.machine_model.proofs.headline_laws.headline.Goals as goal
+
+pub returns : goal.returns
+returns c = headline
