@@ -135,10 +135,10 @@ reserving_clear : (h word : ℕ) (items : List Item) (buffer : Groups) (performe
 reserving_clear h word items buffer performed m i b free k = record {
   clear = λ mine reads x t. Each-weaker (λ u. IsWaiting h u × (of_word word u ≡ false)) (λ u. theirs i x u ≡ false)
       (λ u z. false_from_ne_true (theirs i x u) (λ e.
-          let s = and_parts (stores_to x u) (precedes u i) e in
-          let touched = and_parts (writes u.kind) (touches x u) s.0 in
-          let at : word_of u.address ≡ word = sym (touches_word x u z.0.in_word touched.1) ∙ (touches_word x i k.in_word t ∙ k.word_is) in
-          true≢false (sym (eq-eqb (word_of u.address) word at) ∙ z.1)))
+      let s = and_parts (stores_to x u) (precedes u i) e in
+      let touched = and_parts (writes u.kind) (touches x u) s.0 in
+      let at : word_of u.address ≡ word = sym (touches_word x u z.0.in_word touched.1) ∙ (touches_word x i k.in_word t ∙ k.word_is) in
+      true≢false (sym (eq-eqb (word_of u.address) word at) ∙ z.1)))
       (waits items performed) (b.waiting word free);
 }
 

@@ -165,11 +165,16 @@ out_is model h items longer buffer performed m d names is_longer are_names p = g
         let one = one_named p.out (record { hart = h; place = length items }) (p.named ∙ (are_names ∙ e)) in
         let found = subst (Each (λ a. gave_at (items ++ m ∷ []) a.place ≡ Some a)) one.1 (subst (λ is. Each (λ a. gave_at is a.place ≡ Some a) p.out) is_longer p.found) in
         let here : one.0.place ≡ length items = ap (λ (k : OpId). k.place) one.2 in
-        inr ((λ z. not_nil _ (sym z ∙ e)), one.0, one.1, record {
-          own = ap (λ (k : OpId). k.hart) one.2;
-          here = here;
-          gave = sym (ap (option_and_then (λ (x : Item). x.operation)) (get_new items m one.0.place here)) ∙ found.0;
-        })
+        inr (
+          (λ z. not_nil _ (sym z ∙ e)),
+          one.0,
+          one.1,
+          record {
+            own = ap (λ (k : OpId). k.hart) one.2;
+            here = here;
+            gave = sym (ap (option_and_then (λ (x : Item). x.operation)) (get_new items m one.0.place here)) ∙ found.0;
+          },
+        )
       where
         not_nil : (n : OpId) → [] ≡ n ∷ [] → ⊥
         not_nil n e = cc
