@@ -139,7 +139,7 @@ fn stops_are_told(rt: HostRuntime) {
 }
 
 /// An image, a script, and the message and status that they give.
-const FAULTS: [(&[u8], &[u8], &str, u8); 10] = [
+const FAULTS: [(&[u8], &[u8], &str, u8); 9] = [
     (
         &[0; 4],
         b"rvtl-script 1 1 4 4 2\nstep 00\n",
