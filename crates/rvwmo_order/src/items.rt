@@ -1,16 +1,17 @@
 //! A hart's retired instructions with their memory operations (chapter 14.1, "Memory Model
 //! Primitives").
-ghost use Rattle.std.specs.Prelude.{◌≡◌, ◌≤◌, ◌*◌, ◌%◌, ◌^◌, IfOk, Some, false, length};
+ghost use Rattle.std.specs.Prelude.{◌≡◌, ◌≤◌, ◌*◌, ◌%◌, ◌^◌, IfOk, Some, false, length, slice_index};
 ghost use Rattle.hart.specs.Run as run;
 ghost use Rattle.rv32_decode.specs.Rows.{decoded};
 ghost use Rattle.rv32_exec.specs.Arithmetic as arithmetic;
+ghost use Rattle.rv32_exec.specs.Meaning as meaning;
 ghost use Rattle.memory_model.specs.Items as spec;
 
 use crate::runs::{after, number_read};
 use amo_unit::combine;
 use hart::{Hart, Retired};
 use memory_model::{Kind, Operation};
-use rv32_decode::{Annotations, Instr, LoadOp, StoreOp, decode};
+use rv32_decode::{Annotations, Instr, LoadOp, Register, StoreOp, decode};
 use std::alloc::{AllocError, Global};
 use std::marker::Model;
 
@@ -130,25 +131,8 @@ fn operation_of(place: u32, hart: &Hart, entry: &Retired, instr: &Instr) -> Opti
             let address = hart.regs.get(rs1).wrapping_add(offset.value());
             Some(store(place, hart.id, op, address, hart.regs.get(rs2)))
         }
-        Instr::Lr { rs1, bits, .. } => {
-            let read = number_read(entry);
-            Some(atomic(
-                place,
-                hart.id,
-                bits,
-                Kind::Reserve,
-                hart.regs.get(rs1),
-                read,
-                0,
-            ))
-        }
-        Instr::Sc { rs1, rs2, bits, .. } => {
-            if !entry.sc_ok.unwrap_or(false) {
-                return None;
-            }
-            let (address, written) = (hart.regs.get(rs1), hart.regs.get(rs2));
-            Some(atomic(place, hart.id, bits, Kind::Conditional, address, 0, written))
-        }
+        Instr::Lr { rs1, bits, .. } => Some(reserve(place, hart, entry, rs1, bits)),
+        Instr::Sc { rs1, rs2, bits, .. } => conditional(place, hart, entry, rs1, rs2, bits),
         Instr::Amo {
             op,
             rs1,
@@ -156,28 +140,10 @@ fn operation_of(place: u32, hart: &Hart, entry: &Retired, instr: &Instr) -> Opti
             bits,
             ..
         } => {
-            let read = number_read(entry);
-            let written = combine(op, read, hart.regs.get(rs2));
-            Some(atomic(
-                place,
-                hart.id,
-                bits,
-                Kind::Amo,
-                hart.regs.get(rs1),
-                read,
-                written,
-            ))
+            let written = combine(op, number_read(entry), hart.regs.get(rs2));
+            Some(update(place, hart, entry, rs1, bits, written))
         }
-        Instr::Upper { .. }
-        | Instr::Jal { .. }
-        | Instr::Jalr { .. }
-        | Instr::Branch { .. }
-        | Instr::Immediate { .. }
-        | Instr::Shift { .. }
-        | Instr::Register { .. }
-        | Instr::Fence(_)
-        | Instr::FenceTso
-        | Instr::System(_) => None,
+        _ => None,
     }
 }
 
@@ -212,6 +178,61 @@ fn store(place: u32, hart: u8, op: StoreOp, address: u32, register: u32) -> Oper
         aq: false,
         rl: false,
     }
+}
+
+fn reserve(place: u32, hart: &Hart, entry: &Retired, rs1: Register, bits: Annotations) -> Operation
+    ensures { Some result ≡ spec.operation_of_access hart.now.id place bits entry.now (meaning.Reserves (slice_index hart.now.regs rs1)) }
+{
+    let address = hart.regs.get(rs1);
+    atomic(
+        place,
+        hart.id,
+        bits,
+        Kind::Reserve,
+        address,
+        number_read(entry),
+        0,
+    )
+}
+
+// None where it failed.
+fn conditional(
+    place: u32,
+    hart: &Hart,
+    entry: &Retired,
+    rs1: Register,
+    rs2: Register,
+    bits: Annotations,
+) -> Option<Operation>
+    ensures { result ≡ spec.operation_of_access hart.now.id place bits entry.now (meaning.Tries (slice_index hart.now.regs rs1) (slice_index hart.now.regs rs2)) }
+{
+    if !entry.sc_ok.unwrap_or(false) {
+        return None;
+    }
+    let (address, written) = (hart.regs.get(rs1), hart.regs.get(rs2));
+    Some(atomic(place, hart.id, bits, Kind::Conditional, address, 0, written))
+}
+
+fn update(
+    place: u32,
+    hart: &Hart,
+    entry: &Retired,
+    rs1: Register,
+    bits: Annotations,
+    written: u32,
+) -> Operation
+    ensures { result ≡ record { hart = hart.now.id; place = place; kind = Kind.Amo; address = slice_index hart.now.regs rs1; size = 4; read = run.number_read entry.now; written = written; aq = bits.acquire; rl = bits.release } }
+{
+    let address = hart.regs.get(rs1);
+    atomic(
+        place,
+        hart.id,
+        bits,
+        Kind::Amo,
+        address,
+        number_read(entry),
+        written,
+    )
 }
 
 // An LR, an SC that succeeded or an AMO.
