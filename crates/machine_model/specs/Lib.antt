@@ -15,3 +15,4 @@ pub mod OrderLaws
 pub mod JointLaws
 pub mod LogLaws
 pub mod HeadlineLaws
+pub mod Ready

@@ -1,0 +1,9 @@
+//! The parts of a machine, and what an event does to them: what it comes to, the room that it needs, and
+//! the change.
+#![tactic(auto)]
+
+mod node;
+mod parts;
+
+pub use node::Node;
+pub use parts::Parts;

@@ -1,0 +1,71 @@
+//! What belongs to one hart.
+
+ghost use Rattle.std.specs.Prelude.{◌≡◌, IfOk, IsTrue};
+ghost use Rattle.elf_loader.specs.Image.{Initial};
+ghost use Rattle.machine_model.specs.Config.{is_within_limits};
+ghost use Rattle.machine_model.specs.Views.{opening_node, size_of_config};
+
+use client_cache::ClientCache;
+use hart::Hart;
+use machine_model::Config;
+use reservations::Reservation;
+use std::alloc::{AllocError, Global};
+use std::marker::Model;
+use store_buffer::StoreBuffer;
+use tilelink_channels::Queues;
+use tl_types::LineSize;
+
+/// A hart with the numbers that it put out, its reservation, store buffer and cache, and the messages
+/// between its cache and the manager.
+#[derive(Drop)]
+pub struct Node {
+    pub(crate) hart: Hart,
+    pub(crate) output: Vec<u32>,
+    pub(crate) reservation: Reservation,
+    pub(crate) buffer: StoreBuffer,
+    pub(crate) cache: ClientCache,
+    pub(crate) queues: Queues,
+}
+
+impl Model for Node {
+    ghost use Rattle.machine_model.specs.Views as views;
+    ghost use Rattle.std.specs.Coded.{codes};
+    ghost use Rattle.machine_parts.specs.Codes.{cache_coded};
+
+    ghost Value = { views.Node };
+
+    ghost coded = { Prim.hlevel (codes, cache_coded) };
+
+    ghost view = { λ n. record {
+      hart = n.hart;
+      output = n.output.items;
+      reserved = n.reservation;
+      buffer = n.buffer;
+      cache = n.cache;
+      queues = n.queues;
+    } };
+}
+
+impl Node {
+    /// A hart at reset, with an empty buffer and cache.
+    pub fn new(
+        alloc: Global,
+        id: u8,
+        entry: u32,
+        config: &Config,
+        size: LineSize,
+    ) -> Result<Node, AllocError>
+        requires limits { IsTrue (is_within_limits config.now) }
+        requires line { size ≡ size_of_config config.now }
+        ensures { IfOk result (λ node. (image : Initial) → image.entry ≡ entry → node ≡ opening_node image config.now id) }
+    {
+        Ok(Node {
+            hart: Hart::at_reset(id, entry, config.harts),
+            output: Vec::new(alloc),
+            reservation: Reservation::none(),
+            buffer: StoreBuffer::new(alloc),
+            cache: ClientCache::new(alloc, config.sets, config.ways, size)?,
+            queues: Queues::new(alloc)?,
+        })
+    }
+}
