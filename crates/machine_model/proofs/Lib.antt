@@ -63,3 +63,10 @@ pub mod AtomicNodes
 pub mod AtomicDeeds
 pub mod AtomicActs
 pub mod AtomicSteps
+pub mod ReadyHeads
+pub mod ReadyMessages
+pub mod ReadyPlans
+pub mod ReadySizes
+pub mod ReadyLists
+pub mod ReadyKept
+pub mod ReadyAlways
