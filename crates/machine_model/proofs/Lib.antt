@@ -44,6 +44,13 @@ pub mod RoomEvents
 pub mod RoomPigeons
 pub mod RoomLines
 pub mod RoomQueues
+pub mod ReadyHeads
+pub mod ReadyMessages
+pub mod ReadyPlans
+pub mod ReadySizes
+pub mod ReadyLists
+pub mod ReadyKept
+pub mod ReadyAlways
 pub mod LogLists
 pub mod LogQueues
 pub mod LogActs
@@ -63,10 +70,3 @@ pub mod AtomicNodes
 pub mod AtomicDeeds
 pub mod AtomicActs
 pub mod AtomicSteps
-pub mod ReadyHeads
-pub mod ReadyMessages
-pub mod ReadyPlans
-pub mod ReadySizes
-pub mod ReadyLists
-pub mod ReadyKept
-pub mod ReadyAlways
