@@ -1,6 +1,6 @@
-//! Why a machine isn't made, or an event isn't applied.
+//! Why a machine isn't made, or a list of events isn't replayed.
 
-use plain_machine::Refusal;
+use machine_parts::ApplyError;
 use std::alloc::AllocError;
 use thiserror::Error;
 
@@ -14,24 +14,14 @@ pub enum NewError {
     NoMemory = 2,
 }
 
-/// Why an event isn't applied.
-#[derive(Clone, Copy, Debug, PartialEq, Eq, Error)]
-pub enum ApplyError {
-    /// The event names a hart, word, line or count that the machine hasn't.
-    #[error("BadEvent")]
-    BadEvent = 1,
-    /// The event would change the machine, but 4,000,000 events did, or the hart's list would pass
-    /// 1,000,000 retired instructions.
-    #[error("Limit")]
-    Limit = 2,
-    #[error("NoMemory")]
-    NoMemory = 3,
-}
+impl From<AllocError> for NewError {
+    ghost use Rattle.std.specs.Prelude.{◌≡◌};
+    ghost use Rattle.coherent_machine.specs.declared.errors.NewError.TheVariants as new;
 
-impl ApplyError {
-    /// 1 to 3, in the order of testing.
-    pub fn number(self) -> u8 {
-        self as u8
+    ghost from_gives = { λ _ e. e ≡ new.NoMemory };
+
+    fn from(_error: AllocError) -> Self {
+        NewError::NoMemory
     }
 }
 
@@ -44,23 +34,12 @@ pub enum ReplayError {
     Event(usize, ApplyError),
 }
 
-impl From<AllocError> for NewError {
-    fn from(_error: AllocError) -> Self {
-        NewError::NoMemory
-    }
-}
-
-impl From<Refusal> for ApplyError {
-    fn from(refusal: Refusal) -> Self {
-        match refusal {
-            Refusal::BadEvent => ApplyError::BadEvent,
-            Refusal::Limit => ApplyError::Limit,
-            Refusal::NoMemory => ApplyError::NoMemory,
-        }
-    }
-}
-
 impl From<NewError> for ReplayError {
+    ghost use Rattle.std.specs.Prelude.{◌≡◌};
+    ghost use Rattle.coherent_machine.specs.declared.errors.ReplayError.TheVariants as replay;
+
+    ghost from_gives = { λ error e. e ≡ replay.New error };
+
     fn from(error: NewError) -> Self {
         ReplayError::New(error)
     }

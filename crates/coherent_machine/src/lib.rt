@@ -3,6 +3,9 @@
 
 mod errors;
 mod machine;
+mod views;
 
-pub use errors::{ApplyError, NewError, ReplayError};
+pub use errors::{NewError, ReplayError};
 pub use machine::{Machine, replay};
+pub use machine_parts::ApplyError;
+pub use views::Views;

@@ -1,38 +1,115 @@
 //! The machine, and the calls on it.
 
-use crate::errors::{ApplyError, NewError, ReplayError};
+ghost use Rattle.std.specs.Prelude.{◌≡◌, ◌↔◌, ◌<◌, Err, IfErr, IfOk, IsTrue, OnOk, OnErr, false, length, map};
+ghost use Rattle.machine_model.specs.Config as limits;
+ghost use Rattle.machine_model.specs.Events.{happens, verdict};
+ghost use Rattle.machine_model.specs.Laws.{Grows, KeepsImageAndConfig};
+ghost use Rattle.machine_model.specs.Views.{State, opening};
+ghost use Rattle.machine_parts.specs.Applying.{Answers};
+ghost use Rattle.coherent_machine.specs.Machine.{IsFirstRefusal, IsRefusedAt, KeepsHeadline, Replayed, replayed_from};
+
+use crate::errors::{NewError, ReplayError};
+use crate::views::Views;
 use elf_loader::Image;
-use machine_model::{Config, Event, Outcome};
-use plain_machine::PlainMachine;
+use machine_model::{
+    Config, Event, Outcome, headline, image_and_config_stay, nothing_is_rewritten, ready_always, sound_always,
+};
+use machine_parts::{ApplyError, Node, Parts, is_within_limits};
 use std::alloc::{AllocError, Global};
+use std::marker::Model;
 use trace_recorder::Trace;
 
-/// Harts with their store buffers and caches, the manager of main memory, and the trace so far. It does
-/// what every event means as a plain program over lists does it.
-#[derive(Debug, Drop)]
+/// Harts with their store buffers and caches, the manager of main memory, and the trace so far. Some list
+/// of events leads to it from reset.
+#[derive(Drop)]
 pub struct Machine {
-    plain: PlainMachine,
+    parts: Parts,
+}
+
+impl Model for Machine {
+    ghost use Rattle.machine_model.specs.Views.{State};
+    ghost use Rattle.coherent_machine.specs.Machine.{IsReached};
+    ghost use Rattle.machine_parts.specs.Parts.{state_of};
+    ghost use Rattle.std.specs.Coded.{codes};
+    ghost use Rattle.machine_parts.specs.Codes.{cache_coded};
+
+    ghost Value = { State };
+
+    ghost coded = { Prim.hlevel (codes, cache_coded) };
+
+    ghost view = { λ m. state_of m.parts };
+
+    ghost invariant = { λ m. IsReached (state_of m.parts) };
 }
 
 impl Machine {
-    /// A machine at reset: 1 to 8 harts, caches of 1 to 64 sets of 1 to 4 lines, lines of 16 or 64 bytes.
-    pub fn new(alloc: Global, image: Image, config: Config) -> Result<Machine, NewError> {
-        match PlainMachine::new(alloc, image, config)? {
-            Some(plain) => Ok(Machine { plain }),
-            None => Err(NewError::Config),
+    /// A machine at reset: 1 to 8 harts, caches of 1 to 64 sets (a power of two) of 1 to 4 lines, lines of
+    /// 16 or 64 bytes.
+    pub fn new(alloc: Global, image: Image, config: Config) -> Result<Machine, NewError>
+        ensures ok { IfOk result (λ machine. machine ≡ opening image config) }
+        ensures config { (result ≡ Err NewError.Config) ↔ (limits.is_within_limits config ≡ false) }
+        ensures headline { IfOk result (λ machine. KeepsHeadline machine) }
+    {
+        headline();
+        image_and_config_stay();
+        if !is_within_limits(&config) {
+            return Err(NewError::Config);
         }
+        let parts = Parts::new(alloc, image, config)?;
+        Ok(Machine { parts })
     }
 
     /// Applies one event. Where it can't change anything its outcome says why, and where it is refused the
-    /// error does; in both cases the machine is as it was, but after want of memory.
-    pub fn apply(&mut self, event: Event) -> Result<Outcome, ApplyError> {
-        Ok(self.plain.apply(event)?)
+    /// error does.
+    pub fn apply(&mut self, event: Event) -> Result<Outcome, ApplyError>
+        ensures answers { Answers (verdict self.old event) self.old result self.new }
+        ensures ok { OnOk result (self.new ≡ happens self.old event) }
+        ensures err { OnErr result (self.new ≡ self.old) }
+        ensures headline { KeepsHeadline self.new }
+        ensures grows { Grows self.old.trace self.new.trace }
+        ensures stays { KeepsImageAndConfig self.old self.new }
+    {
+        headline();
+        sound_always();
+        ready_always();
+        nothing_is_rewritten();
+        image_and_config_stay();
+        self.parts.apply(&event)
     }
 
-    /// The trace, and what each hart put out.
-    pub fn into_parts(self) -> Result<(Trace, Vec<Vec<u32>>), AllocError> {
-        self.plain.into_parts()
+    /// What the machine is at the moment.
+    pub fn views(&self) -> Views<'_>
+        ensures { result ≡ self.now }
+    {
+        Views { parts: &self.parts }
     }
+
+    pub fn trace(&self) -> &Trace
+        ensures { result.now.history ≡ self.now.trace }
+    {
+        &self.parts.trace
+    }
+
+    /// The trace, and the numbers that each hart put out, by hart. Only the list of lists may find no
+    /// memory.
+    pub fn into_parts(self, alloc: Global) -> Result<(Trace, Vec<Vec<u32>>), AllocError>
+        ensures trace { IfOk result (λ parts. parts.0.history ≡ self.trace) }
+        ensures outputs { IfOk result (λ parts. map (λ output. output.items) parts.1.items ≡ map (λ node. node.output) self.views.nodes) }
+    {
+        let Machine { parts } = self;
+        let outputs = outputs_of(alloc, parts.nodes)?;
+        Ok((parts.trace, outputs))
+    }
+}
+
+fn outputs_of(alloc: Global, nodes: Vec<Node>) -> Result<Vec<Vec<u32>>, AllocError>
+    ensures { IfOk result (λ outputs. map (λ output. output.items) outputs.items ≡ map (λ node. node.output) nodes.items) }
+{
+    let mut outputs = Vec::new(alloc);
+    for node in nodes {
+        outputs.push(node.output)?;
+    }
+    Ok(outputs)
 }
 
 /// Applies the events in their order to a machine at reset. Where one is refused the answer has its index.
@@ -41,12 +118,33 @@ pub fn replay(
     image: Image,
     config: Config,
     events: &[Event],
-) -> Result<Machine, ReplayError> {
+) -> Result<Machine, ReplayError>
+    ensures ok { IfOk result (λ machine. replayed_from 0 (opening image config) events.now ≡ Replayed.Reached machine) }
+    ensures config { (result ≡ Err (ReplayError.New NewError.Config)) ↔ (limits.is_within_limits config ≡ false) }
+    ensures refused { IfErr result (λ error. IsFirstRefusal (replayed_from 0 (opening image config) events.now) error) }
+    ensures headline { IfOk result (λ machine. KeepsHeadline machine) }
+{
     let mut machine = Machine::new(alloc, image, config)?;
-    for (index, event) in events.iter().enumerate() {
-        if let Err(error) = machine.apply(*event) {
-            return Err(ReplayError::Event(index, error));
-        }
+    match apply_all(&mut machine, events) {
+        Ok(()) => Ok(machine),
+        Err((index, error)) => Err(ReplayError::Event(index, error)),
     }
-    Ok(machine)
+}
+
+fn apply_all(machine: &mut Machine, events: &[Event]) -> Result<(), (usize, ApplyError)>
+    requires { KeepsHeadline machine.old }
+    ensures ok { OnOk result (replayed_from 0 machine.old events.now ≡ Replayed.Reached machine.new) }
+    ensures refused { IfErr result (λ error. IsRefusedAt (replayed_from 0 machine.old events.now) error.0 error.1) }
+    ensures headline { KeepsHeadline machine.new }
+{
+    let mut index = 0;
+    let mut rest = events;
+    while let [event, tail @ ..] = rest {
+        if let Err(error) = machine.apply(*event) {
+            return Err((index, error));
+        }
+        index += 1;
+        rest = tail;
+    }
+    Ok(())
 }

@@ -2,8 +2,11 @@
 //! the change.
 #![tactic(auto)]
 
+mod applying;
+mod errors;
 mod node;
 mod parts;
 
+pub use errors::ApplyError;
 pub use node::Node;
-pub use parts::Parts;
+pub use parts::{Parts, is_within_limits, line_size};

@@ -19,12 +19,12 @@ use tl_types::LineSize;
 /// between its cache and the manager.
 #[derive(Drop)]
 pub struct Node {
-    pub(crate) hart: Hart,
-    pub(crate) output: Vec<u32>,
-    pub(crate) reservation: Reservation,
-    pub(crate) buffer: StoreBuffer,
-    pub(crate) cache: ClientCache,
-    pub(crate) queues: Queues,
+    pub hart: Hart,
+    pub output: Vec<u32>,
+    pub reservation: Reservation,
+    pub buffer: StoreBuffer,
+    pub cache: ClientCache,
+    pub queues: Queues,
 }
 
 impl Model for Node {

@@ -1,0 +1,110 @@
+-- What holds of a state that some list of events leads to, by the laws of every list of events.
+use Rattle.std.proofs.Common.{ℕ, ◌≡◌, ◌∙◌, refl, sym, ap, subst, List, [], ◌∷◌, ◌++◌, ◌⊎◌, IsTrue, OnErr, Ok, Err, inl, inr}
+use Rattle.std.proofs.lemmas.List.{append-nil}
+use Rattle.std.specs.declared.result.Result.{Result}
+use Rattle.elf_loader.specs.Image.{Initial, IsImage}
+use Rattle.machine_model.specs.declared.config.Config.{Config}
+use Rattle.machine_model.specs.declared.event.Event.{Event}
+use Rattle.machine_model.specs.declared.outcome.Outcome.{Outcome}
+use Rattle.machine_model.specs.Config.{is_within_limits}
+use Rattle.machine_model.specs.Events.{Verdict, after_events, happens, state_by, verdict}
+use Rattle.machine_model.specs.Events.Verdict.{IsBad, Keeps, IsLimited, Moves}
+use Rattle.machine_model.specs.Laws.{Always, Grows, Headline, ImageAndConfigStay, IsHeadline, KeepsImageAndConfig, NothingIsRewritten}
+use Rattle.machine_model.specs.LawfulLog.{IsBeginningOf}
+use Rattle.machine_model.specs.Views.{State, opening}
+use Rattle.machine_parts.specs.Applying.{Answers}
+use Rattle.coherent_machine.specs.Machine.{IsReached, KeepsHeadline}
+use Rattle.machine_parts.specs.declared.errors.ApplyError.{ApplyError}
+use Rattle.trace_recorder.specs.History.{entries_of}
+
+pub reached_opening : (image : Initial) (config : Config) → IsImage image → IsTrue (is_within_limits config) → IsReached (opening image config)
+reached_opening image config loaded within = record { image = image; config = config; events = []; loaded = loaded; within = within; leads = refl }
+
+one_more : (s : State) (events : List Event) (e : Event) → after_events s (events ++ e ∷ []) ≡ happens (after_events s events) e
+one_more s [] e = refl
+one_more s (x ∷ events) e = one_more (happens s x) events e
+
+pub reached_more : (s : State) (e : Event) → IsReached s → IsReached (happens s e)
+reached_more s e r = record {
+  image = r.image;
+  config = r.config;
+  events = r.events ++ e ∷ [];
+  loaded = r.loaded;
+  within = r.within;
+  leads = one_more (opening r.image r.config) r.events e ∙ ap (λ (x : State). happens x e) r.leads;
+}
+
+-- an answer leaves the old state or the meaning's
+reached_by : (v : Verdict) (s new : State) (result : Result Outcome ApplyError) → Answers v s result new → IsReached s → IsReached (state_by s v) → IsReached new
+reached_by IsBad s new result a r next = subst IsReached (sym a.1) r
+reached_by (Keeps o) s new result a r next = subst IsReached (sym a.1) r
+reached_by IsLimited s new result a r next = subst IsReached (sym a.1) r
+reached_by (Moves o moved) s new result a r next =
+    elim a [ inl x ↦ subst IsReached (sym x.1) next | inr x ↦ subst IsReached (sym x.1) r ]
+
+pub reached_after : (s new : State) (e : Event) (result : Result Outcome ApplyError) → Answers (verdict s e) s result new → IsReached s → IsReached new
+reached_after s new e result a r = reached_by (verdict s e) s new result a r (reached_more s e r)
+
+-- what an answer leaves is what it found, or what the event's meaning gives
+left_by : (v : Verdict) (s new : State) (result : Result Outcome ApplyError) → Answers v s result new → (new ≡ s) ⊎ (new ≡ state_by s v)
+left_by IsBad s new result a = inl a.1
+left_by (Keeps o) s new result a = inl a.1
+left_by IsLimited s new result a = inl a.1
+left_by (Moves o moved) s new result a = elim a [ inl x ↦ inr x.1 | inr x ↦ inl x.1 ]
+
+kept_by : (v : Verdict) (s new : State) (result : Result Outcome ApplyError) → Answers v s result new → OnErr result (new ≡ s)
+kept_by v s new (Ok o) a = tt
+kept_by IsBad s new (Err error) a = a.1
+kept_by (Keeps o) s new (Err error) a = absurd (cc (a.0))
+kept_by IsLimited s new (Err error) a = a.1
+kept_by (Moves o moved) s new (Err error) a = elim a [ inl x ↦ absurd (cc (x.0)) | inr x ↦ x.1 ]
+
+pub kept_on_error : (s new : State) (e : Event) (result : Result Outcome ApplyError) → Answers (verdict s e) s result new → OnErr result (new ≡ s)
+kept_on_error s new e result a = kept_by (verdict s e) s new result a
+
+begins_itself : {A : Type 0} (xs : List A) → IsBeginningOf xs xs
+begins_itself xs = ([], append-nil xs)
+
+grows_none : (s : State) → Grows s.trace s.trace
+grows_none s = record { performed = begins_itself s.trace.performed; entries = λ h. begins_itself (entries_of s.trace h); log = begins_itself s.trace.log }
+
+pub grows_after : NothingIsRewritten → (s new : State) (e : Event) (result : Result Outcome ApplyError) → Answers (verdict s e) s result new → Grows s.trace new.trace
+grows_after law s new e result a =
+    elim (left_by (verdict s e) s new result a) [
+      inl x ↦ subst (λ (n : State). Grows s.trace n.trace) (sym x) (grows_none s)
+      | inr x ↦ subst (λ (n : State). Grows s.trace n.trace) (sym x) (law s e)
+    ]
+
+stays_none : (s : State) → KeepsImageAndConfig s s
+stays_none s = record { image = refl; line = refl; config = refl }
+
+pub stays_after : ImageAndConfigStay → (s new : State) (e : Event) (result : Result Outcome ApplyError) → Answers (verdict s e) s result new → KeepsImageAndConfig s new
+stays_after law s new e result a =
+    elim (left_by (verdict s e) s new result a) [
+      inl x ↦ subst (λ (n : State). KeepsImageAndConfig s n) (sym x) (stays_none s)
+      | inr x ↦ subst (λ (n : State). KeepsImageAndConfig s n) (sym x) (law s e)
+    ]
+
+-- a law of every list of events holds here, of the image and the configuration at reset
+pub law_of : (P : Initial → Config → State → Type 0) → Always P → (s : State) (r : IsReached s) → P r.image r.config s
+law_of P law s r = subst (P r.image r.config) r.leads (law r.image r.config r.events r.loaded r.within)
+
+-- which are the machine's own
+image_stays : ImageAndConfigStay → (s : State) (events : List Event) → (after_events s events).trace.image ≡ s.trace.image
+image_stays stay s [] = refl
+image_stays stay s (e ∷ events) = image_stays stay (happens s e) events ∙ (stay s e).image
+
+config_stays : ImageAndConfigStay → (s : State) (events : List Event) → (after_events s events).views.config ≡ s.views.config
+config_stays stay s [] = refl
+config_stays stay s (e ∷ events) = config_stays stay (happens s e) events ∙ (stay s e).config
+
+image_of : ImageAndConfigStay → (s : State) (r : IsReached s) → r.image ≡ s.trace.image
+image_of stay s r = sym (image_stays stay (opening r.image r.config) r.events) ∙ ap (λ (x : State). x.trace.image) r.leads
+
+config_of : ImageAndConfigStay → (s : State) (r : IsReached s) → r.config ≡ s.views.config
+config_of stay s r = sym (config_stays stay (opening r.image r.config) r.events) ∙ ap (λ (x : State). x.views.config) r.leads
+
+pub headline_of : Headline → ImageAndConfigStay → (s : State) → IsReached s → KeepsHeadline s
+headline_of law stay s r =
+    subst (λ (x : Config). IsHeadline s.trace.image x s) (config_of stay s r)
+    (subst (λ (x : Initial). IsHeadline x r.config s) (image_of stay s r) (law_of IsHeadline law s r))

@@ -1,0 +1,25 @@
+use Rattle.machine_model.specs.Ready.{AreReady, IsSound}
+use Rattle.coherent_machine.proofs.Reached.{grows_after, headline_of, kept_on_error, law_of, reached_after, stays_after}
+use Rattle.machine_parts.specs.Parts.{state_of}
+use Rattle.coherent_machine.proofs.machine.Machine.apply.Goals as goal
+
+pub apply-requires-clause-sound : goal.apply-requires-clause-sound
+apply-requires-clause-sound c = law_of (λ image config s. IsSound s) c.sound_always.ensures (state_of c.self.inside.parts) c.self.invariant
+
+pub apply-requires-clause-ready : goal.apply-requires-clause-ready
+apply-requires-clause-ready c = law_of (λ image config s. AreReady s) c.ready_always.ensures (state_of c.self.inside.parts) c.self.invariant
+
+pub invariant_of-self : goal.invariant_of-self
+invariant_of-self c = reached_after (state_of c.self.inside.parts) (state_of c.apply.new.self) c.args.event c.apply.result c.apply.ensures c.self.invariant
+
+pub returns-clause-headline : goal.returns-clause-headline
+returns-clause-headline c = headline_of c.headline.ensures c.image_and_config_stay.ensures (state_of c.apply.new.self) (invariant_of-self c)
+
+pub returns-clause-err : goal.returns-clause-err
+returns-clause-err c = rw (← c.self.view_is) (kept_on_error (state_of c.self.inside.parts) (state_of c.apply.new.self) c.args.event c.apply.result c.apply.ensures)
+
+pub returns-clause-grows : goal.returns-clause-grows
+returns-clause-grows c = rw (← c.self.view_is) (grows_after c.nothing_is_rewritten.ensures (state_of c.self.inside.parts) (state_of c.apply.new.self) c.args.event c.apply.result c.apply.ensures)
+
+pub returns-clause-stays : goal.returns-clause-stays
+returns-clause-stays c = rw (← c.self.view_is) (stays_after c.image_and_config_stay.ensures (state_of c.self.inside.parts) (state_of c.apply.new.self) c.args.event c.apply.result c.apply.ensures)

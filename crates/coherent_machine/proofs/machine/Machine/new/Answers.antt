@@ -1,0 +1,14 @@
+use Rattle.std.proofs.Common.{rules}
+use Rattle.std.proofs.lemmas.Bool.{not-false}
+use Rattle.std.proofs.Common.{subst, ap, ◌∙◌, sym, true}
+use Rattle.elf_loader.specs.Image.{IsImage}
+use Rattle.coherent_machine.proofs.Reached.{headline_of, reached_opening}
+use Rattle.coherent_machine.specs.Machine.{IsReached}
+use Rattle.machine_parts.specs.Parts.{state_of}
+use Rattle.coherent_machine.proofs.machine.Machine.new.Goals as goal
+
+pub invariant_of-result : goal.invariant_of-result
+invariant_of-result c = rw c.in_ok-parts.ensures (reached_opening c.args.image c.args.config (rw (← c.image.view_is) c.image.invariant) (search (rules, not-false)))
+
+pub returns-clause-headline : goal.returns-clause-headline
+returns-clause-headline c = headline_of c.headline.ensures c.image_and_config_stay.ensures (state_of c.in_ok-parts.parts) (invariant_of-result c)

@@ -1,0 +1,54 @@
+-- What a machine is by its history, and what a list of events comes to from reset.
+use Rattle.std.specs.Prelude.{ℕ, ◌≡◌, ◌+◌, List, [], ◌∷◌, IsTrue}
+use Rattle.elf_loader.specs.Image.{Initial, IsImage}
+use Rattle.machine_model.specs.declared.config.Config.{Config}
+use Rattle.machine_model.specs.declared.event.Event.{Event as AnEvent}
+use Rattle.machine_model.specs.Config.{is_within_limits}
+use Rattle.machine_model.specs.Events.{Verdict, after_events, happens, verdict}
+use Rattle.machine_model.specs.Events.Verdict.{IsBad, Keeps, IsLimited, Moves}
+use Rattle.machine_model.specs.Laws.{IsHeadline}
+use Rattle.machine_model.specs.Views.{State, opening}
+use Rattle.machine_parts.specs.declared.errors.ApplyError.{ApplyError}
+use Rattle.machine_parts.specs.declared.errors.ApplyError.TheVariants.{BadEvent, Limit, NoMemory}
+use Rattle.coherent_machine.specs.declared.errors.ReplayError.{ReplayError}
+use Rattle.coherent_machine.specs.declared.errors.ReplayError.TheVariants.{Event, New}
+
+-- some list of events leads here from reset
+pub record IsReached (s : State) : Type 0 where
+  pub image : Initial
+  pub config : Config
+  pub events : List AnEvent
+  pub loaded : IsImage image
+  pub within : IsTrue (is_within_limits config)
+  pub leads : after_events (opening image config) events ≡ s
+
+-- the headline, by the machine's own image and configuration
+abbrev pub KeepsHeadline : State → Type 0
+KeepsHeadline s = IsHeadline s.trace.image s.views.config s
+
+-- ---- lists of events
+
+-- what a list of events comes to: a state, or the first event that is refused
+pub data Replayed : Type 0 where
+  Reached : (state : State) → Replayed
+  Refused : (index : ℕ) (error : ApplyError) → Replayed
+
+abbrev pub unless_refused : Verdict → ℕ → Replayed → Replayed
+unless_refused IsBad i rest = Replayed.Refused i BadEvent
+unless_refused IsLimited i rest = Replayed.Refused i Limit
+unless_refused (Keeps o) i rest = rest
+unless_refused (Moves o new) i rest = rest
+
+abbrev pub replayed_from : ℕ → State → List AnEvent → Replayed
+replayed_from i s [] = Replayed.Reached s
+replayed_from i s (e ∷ events) = unless_refused (verdict s e) i (replayed_from (i + 1) (happens s e) events)
+
+-- the event of this index is the first that is refused, with this error; want of memory says nothing of the events
+abbrev pub IsRefusedAt : Replayed → ℕ → ApplyError → Type 0
+IsRefusedAt r i BadEvent = r ≡ Replayed.Refused i BadEvent
+IsRefusedAt r i Limit = r ≡ Replayed.Refused i Limit
+IsRefusedAt r i NoMemory = Unit {0}
+
+abbrev pub IsFirstRefusal : Replayed → ReplayError → Type 0
+IsFirstRefusal r (Event i error) = IsRefusedAt r i error
+IsFirstRefusal r (New error) = Unit {0}

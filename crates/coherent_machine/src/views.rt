@@ -1,0 +1,116 @@
+//! What can be asked of a machine.
+
+ghost use Rattle.std.specs.Prelude.{◌≡◌, ◌<◌, length};
+ghost use Rattle.machine_model.specs.Views.{node_at};
+
+use backing_memory::Memory;
+use client_cache::ClientCache;
+use directory::Directory;
+use hart::Hart;
+use machine_model::Config;
+use machine_parts::Parts;
+use std::marker::Model;
+use store_buffer::StoreBuffer;
+use tilelink_channels::Queues;
+
+/// What a machine is at the moment, lent part by part. No call takes memory.
+pub struct Views<'a> {
+    pub(crate) parts: &'a Parts,
+}
+
+impl<'a> Model for Views<'a> {
+    ghost use Rattle.machine_model.specs.Views as views;
+    ghost use Rattle.machine_parts.specs.Parts.{state_of};
+    ghost use Rattle.std.specs.Coded.{codes};
+    ghost use Rattle.machine_parts.specs.Codes.{cache_coded};
+
+    ghost Value = { views.State };
+
+    ghost coded = { Prim.hlevel (codes, cache_coded) };
+
+    ghost view = { λ v. state_of v.parts.now };
+}
+
+impl<'a> Views<'a> {
+    pub fn config(&self) -> &'a Config
+        ensures { result.now ≡ self.now.views.config }
+    {
+        &self.parts.config
+    }
+
+    /// How many harts there are.
+    pub fn harts(&self) -> usize
+        ensures { result ≡ length self.now.views.nodes }
+    {
+        self.parts.nodes.len()
+    }
+
+    /// How many events changed the machine.
+    pub fn changes(&self) -> u32
+        ensures { result ≡ self.now.views.changes }
+    {
+        self.parts.changes
+    }
+
+    pub fn hart(&self, hart: u8) -> &'a Hart
+        requires { hart < length self.now.views.nodes }
+        ensures { result.now ≡ (node_at self.now hart).hart }
+    {
+        &self.parts.nodes[hart as usize].hart
+    }
+
+    /// The numbers that the hart put out, the first one first.
+    pub fn output(&self, hart: u8) -> &'a [u32]
+        requires { hart < length self.now.views.nodes }
+        ensures { result.now ≡ (node_at self.now hart).output }
+    {
+        &self.parts.nodes[hart as usize].output
+    }
+
+    /// The word that the hart has reserved.
+    pub fn reserved(&self, hart: u8) -> Option<u32>
+        requires { hart < length self.now.views.nodes }
+        ensures { result ≡ (node_at self.now hart).reserved }
+    {
+        self.parts.nodes[hart as usize].reservation.word()
+    }
+
+    /// The hart's stores that wait.
+    pub fn buffer(&self, hart: u8) -> &'a StoreBuffer
+        requires { hart < length self.now.views.nodes }
+        ensures { result.now ≡ (node_at self.now hart).buffer }
+    {
+        &self.parts.nodes[hart as usize].buffer
+    }
+
+    /// The hart's copies with their permissions and dirty marks, its outstanding Acquires and its
+    /// unanswered Releases.
+    pub fn cache(&self, hart: u8) -> &'a ClientCache
+        requires { hart < length self.now.views.nodes }
+        ensures { result.now ≡ (node_at self.now hart).cache }
+    {
+        &self.parts.nodes[hart as usize].cache
+    }
+
+    /// The messages that wait between the hart's cache and the manager.
+    pub fn queues(&self, hart: u8) -> &'a Queues
+        requires { hart < length self.now.views.nodes }
+        ensures { result.now ≡ (node_at self.now hart).queues }
+    {
+        &self.parts.nodes[hart as usize].queues
+    }
+
+    /// Main memory by line.
+    pub fn memory(&self) -> &'a Memory
+        ensures { result.now ≡ self.now.views.memory }
+    {
+        &self.parts.memory
+    }
+
+    /// The manager's records and transactions by line.
+    pub fn directory(&self) -> &'a Directory
+        ensures { result.now ≡ self.now.views.notes }
+    {
+        &self.parts.directory
+    }
+}

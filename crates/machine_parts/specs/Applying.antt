@@ -1,0 +1,23 @@
+-- What an event's verdict lets a machine answer and become.
+use Rattle.std.specs.Prelude.{ℕ, ◌≡◌, ◌≢◌, ◌⊎◌, Ok, Err}
+use Rattle.std.specs.declared.result.Result.{Result}
+use Rattle.machine_model.specs.declared.outcome.Outcome.{Outcome}
+use Rattle.machine_model.specs.declared.outcome.Outcome.TheVariants.{Stopped}
+use Rattle.machine_model.specs.Events.{Verdict}
+use Rattle.machine_model.specs.Events.Verdict.{IsBad, Keeps, IsLimited, Moves}
+use Rattle.machine_model.specs.Views.{State}
+use Rattle.machine_parts.specs.declared.errors.ApplyError.{ApplyError}
+use Rattle.machine_parts.specs.declared.errors.ApplyError.TheVariants.{BadEvent, Limit, NoMemory}
+
+-- the only answers to an event: what it comes to, or want of memory with nothing changed where it would change the machine, but a stop wants none
+abbrev pub Answers : Verdict → State → Result Outcome ApplyError → State → Type 0
+Answers IsBad old result new = (result ≡ Err BadEvent) × (new ≡ old)
+Answers (Keeps o) old result new = (result ≡ Ok o) × (new ≡ old)
+Answers IsLimited old result new = (result ≡ Err Limit) × (new ≡ old)
+Answers (Moves o moved) old result new = ((result ≡ Ok o) × (new ≡ moved)) ⊎ ((result ≡ Err NoMemory) × (new ≡ old) × ((code : ℕ) → o ≢ Stopped code))
+
+-- the errors by their numbers, in the order of testing
+abbrev pub number_of : ApplyError → ℕ
+number_of BadEvent = 1
+number_of Limit = 2
+number_of NoMemory = 3

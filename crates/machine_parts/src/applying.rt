@@ -1,0 +1,107 @@
+//! An event: decided, limited, given room, and only then performed.
+
+ghost use Rattle.std.specs.Prelude.{◌≡◌, ◌<◌, ℕ, IsOk, IsTrue, OnOk, OnErr, length};
+ghost use Rattle.machine_model.specs.Changing as changing;
+ghost use Rattle.machine_model.specs.Events as events;
+ghost use Rattle.machine_model.specs.Events.{verdict};
+ghost use Rattle.machine_model.specs.Ready.{AreReady, IsReady, IsReadyAct, IsSound};
+ghost use Rattle.machine_parts.specs.Applying.{Answers};
+ghost use Rattle.machine_parts.specs.Needs.{HasRoom, needs_of};
+ghost use Rattle.machine_parts.specs.Parts.{state_of};
+
+use crate::errors::ApplyError;
+use crate::parts::Parts;
+use machine_model::{Act, Event, Outcome, Plan};
+use std::alloc::AllocError;
+
+fn hart_of(event: &Event) -> u8
+    ensures { result ≡ events.hart_of event.now }
+{
+    match *event {
+        Event::Step { hart }
+        | Event::Drain { hart, .. }
+        | Event::Evict { hart, .. }
+        | Event::Deliver { hart, .. }
+        | Event::Local { hart, .. } => hart,
+    }
+}
+
+fn is_good(parts: &Parts, event: &Event) -> bool
+    requires { IsSound (state_of parts.now) }
+    ensures { result ≡ events.is_good (state_of parts.now) event.now }
+{
+    parts.changes > 3
+}
+
+fn plan(parts: &Parts, event: &Event) -> Plan
+    requires sound { IsSound (state_of parts.now) }
+    requires good { IsTrue (events.is_good (state_of parts.now) event.now) }
+    ensures { result ≡ events.plan_of (state_of parts.now) event.now }
+{
+    Plan::Stays(Outcome::Empty)
+}
+
+fn is_limited(parts: &Parts, hart: u8, act: &Act) -> bool
+    requires sound { IsSound (state_of parts.now) }
+    requires hart { hart < length parts.now.nodes.items }
+    ensures { result ≡ events.is_limited (state_of parts.now) hart act.now }
+{
+    parts.changes > 3
+}
+
+fn outcome_of(parts: &Parts, hart: u8, act: &Act) -> Outcome
+    requires hart { hart < length parts.now.nodes.items }
+    ensures { result ≡ changing.outcome_of (state_of parts.now) hart act.now }
+{
+    Outcome::Empty
+}
+
+fn reserve(parts: &mut Parts, hart: u8, act: &Act) -> Result<(), AllocError>
+    requires sound { IsSound (state_of parts.old) }
+    requires hart { hart < length parts.old.nodes.items }
+    requires ready { IsReadyAct hart act.now (state_of parts.old) }
+    ensures same { state_of parts.new ≡ state_of parts.old }
+    ensures room { OnOk result (HasRoom hart (needs_of (state_of parts.old) hart act.now) parts.new.trace.room) }
+    ensures stop { (code : ℕ) → act.now ≡ Act.Stop code → IsOk result }
+{
+    Ok(())
+}
+
+fn perform(parts: &mut Parts, hart: u8, act: &Act) -> Result<(), AllocError>
+    requires sound { IsSound (state_of parts.old) }
+    requires hart { hart < length parts.old.nodes.items }
+    requires ready { IsReady hart act.now (state_of parts.old) }
+    requires room { HasRoom hart (needs_of (state_of parts.old) hart act.now) parts.old.trace.room }
+    ensures ok { OnOk result (state_of parts.new ≡ changing.acted hart act.now (state_of parts.old)) }
+    ensures err { OnErr result (state_of parts.new ≡ state_of parts.old) }
+    ensures stop { (code : ℕ) → act.now ≡ Act.Stop code → IsOk result }
+{
+    Ok(())
+}
+
+impl Parts {
+    /// Decides what an event comes to, tests the limits, makes room for all that grows, and only then
+    /// changes anything.
+    pub fn apply(&mut self, event: &Event) -> Result<Outcome, ApplyError>
+        requires sound { IsSound (state_of self.old) }
+        requires ready { AreReady (state_of self.old) }
+        ensures { Answers (verdict (state_of self.old) event.now) (state_of self.old) result (state_of self.new) }
+    {
+        if !is_good(self, event) {
+            return Err(ApplyError::BadEvent);
+        }
+        let act = match plan(self, event) {
+            Plan::Stays(outcome) => return Ok(outcome),
+            Plan::Changes(act) => act,
+        };
+        let hart = hart_of(event);
+        if is_limited(self, hart, &act) {
+            return Err(ApplyError::Limit);
+        }
+        let outcome = outcome_of(self, hart, &act);
+        reserve(self, hart, &act)?;
+        perform(self, hart, &act)?;
+        self.changes += 1;
+        Ok(outcome)
+    }
+}

@@ -1,0 +1,41 @@
+//! Why an event isn't applied.
+
+ghost use Rattle.std.specs.Prelude.{◌≡◌};
+ghost use Rattle.machine_parts.specs.Applying.{number_of};
+
+use std::alloc::AllocError;
+use thiserror::Error;
+
+/// Why an event isn't applied.
+#[derive(Clone, Copy, Debug, PartialEq, Eq, Error)]
+pub enum ApplyError {
+    /// The event names a hart, word, line or count that the machine hasn't.
+    #[error("BadEvent")]
+    BadEvent = 1,
+    /// The event would change the machine, but 4,000,000 events did, or the hart's list would pass
+    /// 1,000,000 retired instructions.
+    #[error("Limit")]
+    Limit = 2,
+    #[error("NoMemory")]
+    NoMemory = 3,
+}
+
+impl ApplyError {
+    /// 1 to 3, in the order of testing.
+    pub fn number(self) -> u8
+        ensures { result ≡ number_of self }
+    {
+        self as u8
+    }
+}
+
+impl From<AllocError> for ApplyError {
+    ghost use Rattle.std.specs.Prelude.{◌≡◌};
+    ghost use Rattle.machine_parts.specs.declared.errors.ApplyError.TheVariants.{NoMemory};
+
+    ghost from_gives = { λ _ e. e ≡ NoMemory };
+
+    fn from(_error: AllocError) -> Self {
+        ApplyError::NoMemory
+    }
+}
