@@ -2,6 +2,7 @@
 //! the change.
 #![tactic(auto)]
 
+mod acts;
 mod node;
 mod parts;
 
