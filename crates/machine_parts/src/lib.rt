@@ -3,8 +3,12 @@
 #![tactic(auto)]
 
 mod acts;
+mod caches;
+mod draining;
+mod limits;
 mod node;
 mod parts;
+mod retiring;
 
 pub use node::Node;
 pub use parts::Parts;
