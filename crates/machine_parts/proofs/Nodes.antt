@@ -1,5 +1,5 @@
 -- Where a node stands after a change of one, and that a message which is sent had room.
-use Rattle.std.proofs.Common.{◌≡◌, ℕ, ◌+◌, ◌<◌, ◌≤◌, List, [], ◌∷◌, ◌++◌, length, refl, sym, ap, subst, arith}
+use Rattle.std.proofs.Common.{◌≡◌, ℕ, ◌+◌, ◌<◌, ◌≤◌, List, [], ◌∷◌, ◌++◌, length, sym, ap, subst, arith}
 use Rattle.std.proofs.lemmas.List.{get_or-set_same, length-set, length-append, set-set}
 use Rattle.machine_model.specs.Laws.{QueuesFit}
 use Rattle.machine_model.specs.Views.{Node, State, node_at, with_node, sent}

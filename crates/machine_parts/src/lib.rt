@@ -4,6 +4,7 @@
 
 mod acts;
 mod caches;
+mod deeds;
 mod draining;
 mod limits;
 mod node;

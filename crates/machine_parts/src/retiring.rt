@@ -1,17 +1,73 @@
 //! What an instruction that retires changes.
 
-ghost use Rattle.std.specs.Prelude.{◌≡◌, Some};
+ghost use Rattle.std.specs.Prelude.{◌≡◌, ◌<◌, OnErr, OnOk, Some, length, slice_index};
 ghost use Rattle.hart.specs.Run as spec;
+ghost use Rattle.machine_model.specs.declared.act.Act.TheVariants as act;
+ghost use Rattle.machine_model.specs.Changing.{does, retired, with_halt};
+ghost use Rattle.machine_model.specs.Ready.{IsReadyDeed, IsSound};
+ghost use Rattle.machine_parts.specs.Needs.{HasRoom, needs_of};
+ghost use Rattle.machine_parts.specs.Parts.{state_of};
 ghost use Rattle.rv32_exec.specs.Meaning.{access_of};
 
+use crate::deeds::carry_out;
+use crate::parts::Parts;
 use hart::{Hart, Retired, Status};
+use machine_model::Deed;
 use rv32_decode::{Instr, Register, SystemOp};
 use rv32_exec::{Regs, finish};
+use std::alloc::AllocError;
+use trace_recorder::Trace;
 
 /// The number and the argument of an ECALL.
 const CALL_NUMBER: u8 = 17;
 
 const CALL_ARGUMENT: u8 = 10;
+
+/// The instruction retires with its entry, and does its deed. An error leaves everything as it was.
+pub(crate) fn retire(
+    parts: &mut Parts,
+    hart: u8,
+    entry: &Retired,
+    instr: &Instr,
+    deed: &Deed,
+) -> Result<(), AllocError>
+    requires sound { IsSound (state_of parts.old) }
+    requires hart { hart < length parts.old.nodes.items }
+    requires room { HasRoom hart (needs_of (state_of parts.old) hart (act.Retire entry.now instr.now deed.now)) parts.old.trace.room }
+    requires ready { IsReadyDeed hart deed.now (state_of parts.old) }
+    ensures ok { OnOk result (state_of parts.new ≡ retired hart entry.now instr.now (does parts.old.config.model hart deed.now (state_of parts.old))) }
+    ensures err { OnErr result (state_of parts.new ≡ state_of parts.old) }
+{
+    carry_out(parts, hart, deed)?;
+    move_on(parts, hart, entry, instr);
+    Ok(())
+}
+
+// The hart moves on, and its list has one more entry.
+fn move_on(parts: &mut Parts, hart: u8, entry: &Retired, instr: &Instr)
+    requires hart { hart < length parts.old.nodes.items }
+    requires entries { hart < length parts.old.trace.history.entries }
+    requires statuses { hart < length parts.old.trace.history.statuses }
+    requires room { 0 < slice_index parts.old.trace.room.entries hart }
+    ensures { state_of parts.new ≡ retired hart entry.now instr.now (state_of parts.old) }
+{
+    let next = after_instr(&parts.nodes[hart as usize].hart, entry, instr);
+    let status = next.status;
+    parts.nodes[hart as usize].hart = next;
+    parts.trace.retire(hart as usize, *entry);
+    halt(&mut parts.trace, hart, status);
+}
+
+// A hart that doesn't run on says so in the trace.
+fn halt(trace: &mut Trace, hart: u8, status: Status)
+    requires { hart < length trace.old.history.statuses }
+    ensures { trace.new.history ≡ with_halt hart status trace.old.history }
+{
+    match status {
+        Status::Running => {}
+        Status::Stopped(_) | Status::Exited(_) => trace.halt(hart as usize, status),
+    }
+}
 
 /// The hart after it retired an entry.
 pub(crate) fn after_instr(hart: &Hart, entry: &Retired, instr: &Instr) -> Hart
