@@ -4,8 +4,14 @@
 
 mod applying;
 mod errors;
+mod acts;
+mod caches;
+mod deeds;
+mod draining;
+mod limits;
 mod node;
 mod parts;
+mod retiring;
 
 pub use errors::ApplyError;
 pub use node::Node;

@@ -1,0 +1,191 @@
+//! What an instruction that retires does beside its hart's pc, registers and status.
+
+ghost use Rattle.std.specs.Prelude.{◌≡◌, ◌<◌, ◌≤◌, ◌++◌, ◌∷◌, [], IsTrue, None, OnErr, OnOk, Some, length};
+ghost use Rattle.machine_model.specs.declared.act.Deed.TheVariants as deed;
+ghost use Rattle.machine_model.specs.Changing.{does, performs_own, put_behind, with_buffer, with_reservation, writes_word};
+ghost use Rattle.machine_model.specs.Ready.{IsReadyDeed, IsSound, IsWritable};
+ghost use Rattle.machine_model.specs.Views.{node_at, with_node};
+ghost use Rattle.machine_model.specs.Words.{bytes_of_word};
+ghost use Rattle.machine_parts.specs.Lists.{KeepsLists};
+ghost use Rattle.machine_parts.specs.Parts.{state_of};
+ghost use Rattle.store_buffer.specs.ByteMask.{marks_of_access};
+ghost use Rattle.store_buffer.specs.Groups.{after_seal, fits};
+ghost use Rattle.trace_recorder.specs.History.{entries_of};
+
+use crate::caches::write_word;
+use crate::draining::line_of;
+use crate::parts::Parts;
+use machine_model::Deed;
+use memory_model::Model;
+use std::alloc::AllocError;
+use store_buffer::{PutError, Store, StoreBuffer};
+use trace_recorder::OpId;
+
+/// What an instruction does as it retires. An error leaves everything as it was.
+pub(crate) fn carry_out(parts: &mut Parts, hart: u8, deed: &Deed) -> Result<(), AllocError>
+    requires sound { IsSound (state_of parts.old) }
+    requires hart { hart < length parts.old.nodes.items }
+    requires room { 0 < parts.old.trace.room.performed }
+    requires ready { IsReadyDeed hart deed.now (state_of parts.old) }
+    ensures ok { OnOk result (state_of parts.new ≡ does parts.old.config.model hart deed.now (state_of parts.old)) }
+    ensures err { OnErr result (state_of parts.new ≡ state_of parts.old) }
+    ensures kept { KeepsLists parts.old parts.new }
+{
+    match deed {
+        Deed::Output(number) => put_out(parts, hart, *number),
+        Deed::Store(store) => put(parts, hart, store),
+        Deed::Alone => Ok(()),
+        Deed::Load => {
+            perform_own(parts, hart);
+            Ok(())
+        }
+        Deed::Seal => {
+            seal(parts, hart);
+            Ok(())
+        }
+        Deed::Reserve(word) => {
+            reserve_word(parts, hart, *word);
+            Ok(())
+        }
+        Deed::Fail => {
+            end_reservation(parts, hart);
+            Ok(())
+        }
+        Deed::Conditional { word, value } => {
+            store_conditional(parts, hart, *word, *value);
+            Ok(())
+        }
+        Deed::Update { word, value } => {
+            update(parts, hart, *word, *value);
+            Ok(())
+        }
+    }
+}
+
+fn put_out(parts: &mut Parts, hart: u8, number: u32) -> Result<(), AllocError>
+    requires hart { hart < length parts.old.nodes.items }
+    ensures ok { OnOk result (state_of parts.new ≡ does parts.old.config.model hart (deed.Output number) (state_of parts.old)) }
+    ensures err { OnErr result (state_of parts.new ≡ state_of parts.old) }
+    ensures kept { KeepsLists parts.old parts.new }
+{
+    parts.nodes[hart as usize].output.push(number)?;
+    Ok(())
+}
+
+fn put(parts: &mut Parts, hart: u8, store: &Store) -> Result<(), AllocError>
+    requires hart { hart < length parts.old.nodes.items }
+    requires fits { IsTrue (fits store.now.word (node_at (state_of parts.old) hart).buffer) }
+    ensures ok { OnOk result (state_of parts.new ≡ does parts.old.config.model hart (deed.Store store.now) (state_of parts.old)) }
+    ensures err { OnErr result (state_of parts.new ≡ state_of parts.old) }
+    ensures kept { KeepsLists parts.old parts.new }
+{
+    let model = parts.config.model;
+    put_store(&mut parts.nodes[hart as usize].buffer, model, store)?;
+    Ok(())
+}
+
+// A store waits; under Ztso a group holds one word.
+fn put_store(buffer: &mut StoreBuffer, model: Model, store: &Store) -> Result<(), AllocError>
+    requires fits { IsTrue (fits store.now.word buffer.old) }
+    ensures ok { OnOk result (buffer.new ≡ put_behind model store.now buffer.old) }
+    ensures err { OnErr result (buffer.new ≡ buffer.old) }
+{
+    let Store {
+        word,
+        mask,
+        value,
+        op,
+    } = *store;
+    let put = match model {
+        Model::Rvwmo => buffer.put(word, mask, value, op),
+        Model::Ztso => buffer.put_single(word, mask, value, op),
+    };
+    match put {
+        Ok(()) => Ok(()),
+        Err(PutError::NoMemory) => Err(AllocError),
+        Err(PutError::Full) => unreachable!(),
+    }
+}
+
+fn seal(parts: &mut Parts, hart: u8)
+    requires hart { hart < length parts.old.nodes.items }
+    ensures state { state_of parts.new ≡ with_buffer hart (after_seal (node_at (state_of parts.old) hart).buffer) (state_of parts.old) }
+    ensures kept { KeepsLists parts.old parts.new }
+{
+    parts.nodes[hart as usize].buffer.seal();
+}
+
+// The operation of the instruction that retires is performed.
+fn perform_own(parts: &mut Parts, hart: u8)
+    requires hart { hart < length parts.old.trace.history.entries }
+    requires places { length (entries_of parts.old.trace.history hart) ≤ 1000000 }
+    requires room { 0 < parts.old.trace.room.performed }
+    ensures state { state_of parts.new ≡ performs_own hart (state_of parts.old) }
+    ensures kept { KeepsLists parts.old parts.new }
+{
+    let place = parts.trace.entries(hart as usize).len() as u32;
+    parts.trace.perform(OpId { hart, place });
+}
+
+fn reserve_word(parts: &mut Parts, hart: u8, word: u32)
+    requires sound { IsSound (state_of parts.old) }
+    requires hart { hart < length parts.old.nodes.items }
+    requires room { 0 < parts.old.trace.room.performed }
+    ensures state { state_of parts.new ≡ with_reservation hart (Some word) (performs_own hart (state_of parts.old)) }
+    ensures kept { KeepsLists parts.old parts.new }
+{
+    perform_own(parts, hart);
+    parts.nodes[hart as usize].reservation.set(word);
+}
+
+fn end_reservation(parts: &mut Parts, hart: u8)
+    requires hart { hart < length parts.old.nodes.items }
+    ensures state { state_of parts.new ≡ with_reservation hart None (state_of parts.old) }
+    ensures kept { KeepsLists parts.old parts.new }
+{
+    parts.nodes[hart as usize].reservation.clear();
+}
+
+// The number goes to the hart's copy of the word.
+fn write(parts: &mut Parts, hart: u8, word: u32, value: u32)
+    requires sound { IsSound (state_of parts.old) }
+    requires hart { hart < length parts.old.nodes.items }
+    requires writable { IsWritable hart word (state_of parts.old) }
+    ensures state { state_of parts.new ≡ writes_word hart word (marks_of_access 0 4) (bytes_of_word value) (state_of parts.old) }
+    ensures trace { parts.new.trace ≡ parts.old.trace }
+    ensures kept { KeepsLists parts.old parts.new }
+{
+    let line = line_of(parts.trace.line_size(), word);
+    let bytes = bytes_of(value);
+    write_word(&mut parts.nodes[hart as usize].cache, line, word, [true; 4], bytes);
+}
+
+fn bytes_of(value: u32) -> [u8; 4]
+    ensures { result ≡ bytes_of_word value }
+{
+    value.to_le_bytes()
+}
+
+fn update(parts: &mut Parts, hart: u8, word: u32, value: u32)
+    requires sound { IsSound (state_of parts.old) }
+    requires hart { hart < length parts.old.nodes.items }
+    requires room { 0 < parts.old.trace.room.performed }
+    requires writable { IsWritable hart word (state_of parts.old) }
+    ensures state { state_of parts.new ≡ writes_word hart word (marks_of_access 0 4) (bytes_of_word value) (performs_own hart (state_of parts.old)) }
+    ensures kept { KeepsLists parts.old parts.new }
+{
+    write(parts, hart, word, value);
+    perform_own(parts, hart);
+}
+
+fn store_conditional(parts: &mut Parts, hart: u8, word: u32, value: u32)
+    requires sound { IsSound (state_of parts.old) }
+    requires hart { hart < length parts.old.nodes.items }
+    requires room { 0 < parts.old.trace.room.performed }
+    requires writable { IsWritable hart word (state_of parts.old) }
+    ensures state { state_of parts.new ≡ with_reservation hart None (writes_word hart word (marks_of_access 0 4) (bytes_of_word value) (performs_own hart (state_of parts.old))) }
+    ensures kept { KeepsLists parts.old parts.new }
+{
+    update(parts, hart, word, value);
+    end_reservation(parts, hart);
+}
