@@ -2,6 +2,7 @@
 //! the change.
 #![tactic(auto)]
 
+mod messages;
 mod node;
 mod parts;
 
