@@ -2,6 +2,7 @@
 //! the change.
 #![tactic(auto)]
 
+mod manager;
 mod messages;
 mod node;
 mod parts;

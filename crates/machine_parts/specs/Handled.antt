@@ -1,0 +1,25 @@
+-- What the handling of a message rests on, once the message is taken.
+use Rattle.std.specs.Prelude.{ℕ, ◌≡◌, ◌<◌, ◌≤◌, List, length, Option, Some, None, slice_set}
+use Rattle.backing_memory.specs.Memory.{line_at}
+use Rattle.elf_loader.specs.Size.{base}
+use Rattle.machine_model.specs.Views.{State, line_size, place_of}
+use Rattle.tl_types.specs.Line.{size_of}
+use Rattle.tl_types.specs.declared.line.LineData.{LineData}
+use Rattle.tl_types.specs.declared.line.LineSize.{LineSize}
+
+-- the line that begins at this address is one of memory's, with as many bytes as each, and the manager has notes of it
+pub record HasLine (line : ℕ) (s : State) : Type 0 where
+  pub low : base ≤ line
+  pub kept : place_of (line_size s) line < length s.views.memory
+  pub size : size_of (line_at s.views.memory (place_of (line_size s) line)) ≡ line_size s
+  pub noted : place_of (line_size s) line < length s.views.notes.lines
+
+-- data that came with a message are as many bytes as a line has
+abbrev pub HasSize : LineSize → Option LineData → Type 0
+HasSize size None = Unit {0}
+HasSize size (Some bytes) = size_of bytes ≡ size
+
+-- memory once data that came with a message went to this place
+abbrev pub written_back : ℕ → Option LineData → List LineData → List LineData
+written_back place None lines = lines
+written_back place (Some bytes) lines = slice_set lines place bytes
