@@ -1,11 +1,14 @@
 -- What the handling of a message rests on, once the message is taken.
 use Rattle.std.specs.Prelude.{ℕ, ◌≡◌, ◌<◌, ◌≤◌, List, length, Option, Some, None, slice_set}
 use Rattle.backing_memory.specs.Memory.{line_at}
+use Rattle.client_cache.specs.Cache.{granted, probed}
 use Rattle.elf_loader.specs.Size.{base}
-use Rattle.machine_model.specs.Views.{State, line_size, place_of}
+use Rattle.machine_model.specs.Deliveries.{with_less}
+use Rattle.machine_model.specs.Views.{State, line_size, node_at, place_of, with_node}
 use Rattle.tl_types.specs.Line.{size_of}
 use Rattle.tl_types.specs.declared.line.LineData.{LineData}
 use Rattle.tl_types.specs.declared.line.LineSize.{LineSize}
+use Rattle.tl_types.specs.declared.permission.Cap.{Cap}
 
 -- the line that begins at this address is one of memory's, with as many bytes as each, and the manager has notes of it
 pub record HasLine (line : ℕ) (s : State) : Type 0 where
@@ -23,3 +26,10 @@ HasSize size (Some bytes) = size_of bytes ≡ size
 abbrev pub written_back : ℕ → Option LineData → List LineData → List LineData
 written_back place None lines = lines
 written_back place (Some bytes) lines = slice_set lines place bytes
+
+-- the cache once a Probe's copy has shrunk, and once a Grant's is installed, before the answer is sent
+abbrev pub shrunk : ℕ → ℕ → Cap → State → State
+shrunk h line cap s = with_node h (with_less (probed (node_at s h).cache line cap).1 line (node_at s h)) s
+
+abbrev pub installed : ℕ → ℕ → Cap → Option LineData → State → State
+installed h line cap bytes s = with_node h (record (node_at s h) { cache = granted (node_at s h).cache line cap bytes }) s

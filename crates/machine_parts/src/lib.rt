@@ -2,6 +2,7 @@
 //! the change.
 #![tactic(auto)]
 
+mod client;
 mod manager;
 mod messages;
 mod node;
