@@ -1,16 +1,23 @@
 //! What the manager does with a message that it has taken.
 
-ghost use Rattle.std.specs.Prelude.{◌≡◌, ◌<◌, ◌≤◌, length};
+ghost use Rattle.std.specs.Prelude.{◌≡◌, ◌≢◌, ◌<◌, ◌≤◌, length};
+ghost use Rattle.backing_memory.specs.Memory.{line_at};
 ghost use Rattle.elf_loader.specs.Size.{base};
-ghost use Rattle.machine_model.specs.Deliveries.{on_grant_ack};
+ghost use Rattle.machine_model.specs.Deliveries.{grant_body, line_in_memory, on_grant_ack, on_probe_ack, on_release, sent_grant};
+ghost use Rattle.machine_model.specs.Laws.{QueuesFit};
 ghost use Rattle.machine_model.specs.Views.{line_size, place_of};
 ghost use Rattle.machine_parts.specs.Handled.{HasLine, HasSize, written_back};
 ghost use Rattle.machine_parts.specs.Parts.{state_of};
+ghost use Rattle.tl_types.specs.Line.{size_of};
+ghost use Rattle.tl_types.specs.Permission.{left_by};
 
+use crate::messages::send;
 use crate::parts::{Parts, line_size};
+use backing_memory::Memory;
+use directory::Grant;
 use elf_loader::BASE;
 use std::sync::ledger::Ledger;
-use tl_types::Ticks;
+use tl_types::{Body, Change, LineData, LineSize, Msg, Perm, Ticks};
 
 /// The place in memory of the line that begins at this address.
 fn place_of(parts: &Parts, line: u32) -> u32
@@ -18,6 +25,100 @@ fn place_of(parts: &Parts, line: u32) -> u32
     ensures { result ≡ place_of (line_size (state_of parts.now)) line }
 {
     (line - BASE) / line_size(&parts.config).bytes()
+}
+
+/// Data that came with a message go to memory.
+fn write_back(memory: &mut Memory, place: u32, bytes: Option<LineData>, size: LineSize)
+    requires place { place < length memory.old }
+    requires line { size_of (line_at memory.old place) ≡ size }
+    requires bytes { HasSize size bytes }
+    ensures { memory.new ≡ written_back place bytes memory.old }
+{
+    if let Some(bytes) = bytes {
+        memory.set_line(place, bytes);
+    }
+}
+
+/// The body of a Grant; its data are memory's.
+fn grant_body(parts: &Parts, line: u32, grant: Grant) -> Body
+    requires low { base ≤ line }
+    requires kept { place_of (line_size (state_of parts.now)) line < length parts.now.memory }
+    ensures { result ≡ grant_body grant (line_in_memory (state_of parts.now) line) }
+{
+    if !grant.with_data {
+        return Body::Grant(grant.cap);
+    }
+    Body::GrantData {
+        cap: grant.cap,
+        bytes: parts.memory.line(place_of(parts, line)),
+    }
+}
+
+/// Sends a Grant, of which the manager has taken note.
+fn send_grant(parts: &mut Parts, line: u32, grant: Grant)
+    requires low { base ≤ line }
+    requires kept { place_of (line_size (state_of parts.old)) line < length parts.old.memory }
+    requires hart { grant.hart < length parts.old.nodes.items }
+    requires queues { QueuesFit (sent_grant line grant (state_of parts.old)) }
+    requires log { 0 < parts.old.trace.room.log }
+    ensures { state_of parts.new ≡ sent_grant line grant (state_of parts.old) }
+{
+    let body = grant_body(parts, line, grant);
+    send(parts, grant.hart, &Msg { line, body });
+}
+
+/// A Release: its data go to memory, and it is answered at once.
+pub(crate) fn on_release<L: Ledger>(
+    parts: &mut Parts,
+    hart: u8,
+    line: u32,
+    bytes: Option<LineData>,
+    ticks: &mut Ticks<L>,
+)
+    requires hart { hart < length parts.old.nodes.items }
+    requires noted { hart < parts.old.directory.harts }
+    requires line { HasLine line (state_of parts.old) }
+    requires bytes { HasSize (line_size (state_of parts.old)) bytes }
+    requires queues { QueuesFit (on_release hart line bytes (state_of parts.old)) }
+    requires log { 0 < parts.old.trace.room.log }
+    ensures { state_of parts.new ≡ on_release hart line bytes (state_of parts.old) }
+{
+    let place = place_of(parts, line);
+    write_back(&mut parts.memory, place, bytes, line_size(&parts.config));
+    parts.directory.on_release(place, hart, ticks);
+    send(
+        parts,
+        hart,
+        &Msg {
+            line,
+            body: Body::ReleaseAck,
+        },
+    );
+}
+
+/// A ProbeAck: its data go to memory, and the last one that was awaited sends the Grant.
+pub(crate) fn on_probe_ack<L: Ledger>(
+    parts: &mut Parts,
+    hart: u8,
+    line: u32,
+    change: Change,
+    bytes: Option<LineData>,
+    ticks: &mut Ticks<L>,
+)
+    requires hart { hart < parts.old.directory.harts }
+    requires harts { parts.old.directory.harts ≡ length parts.old.nodes.items }
+    requires line { HasLine line (state_of parts.old) }
+    requires shrinks { left_by change ≢ Perm.Trunk }
+    requires bytes { HasSize (line_size (state_of parts.old)) bytes }
+    requires queues { QueuesFit (on_probe_ack hart line change bytes (state_of parts.old)) }
+    requires log { 0 < parts.old.trace.room.log }
+    ensures { state_of parts.new ≡ on_probe_ack hart line change bytes (state_of parts.old) }
+{
+    let place = place_of(parts, line);
+    write_back(&mut parts.memory, place, bytes, line_size(&parts.config));
+    if let Some(grant) = parts.directory.on_probe_ack(place, hart, change, ticks) {
+        send_grant(parts, line, grant);
+    }
 }
 
 /// A GrantAck ends the line's transaction.
