@@ -18,13 +18,16 @@ queue-with_queue w D ms = refl
 queue-with_queue w E ms = refl
 
 -- a message that has gone into its queue had room there
-pub had_room : (h : ℕ) (m : Msg) (s : State) → h < length s.views.nodes → QueuesFit (sent h m s) → length (queue_of (node_at s h).queues (channel_of m)) < room_of (channel_of m)
-had_room h m s in_h fit =
+pub had_room_in : (h : ℕ) (m : Msg) (s : State) → h < length s.views.nodes → length (queue_of (node_at (sent h m s) h).queues (channel_of m)) ≤ room_of (channel_of m) → length (queue_of (node_at s h).queues (channel_of m)) < room_of (channel_of m)
+had_room_in h m s in_h le =
     let at : node_at (sent h m s) h ≡ record (node_at s h) { queues = pushed (node_at s h).queues m } = get_or-set_same s.views.nodes h _ _ in_h in
-    let le : length (queue_of (node_at (sent h m s) h).queues (channel_of m)) ≤ room_of (channel_of m) = fit h (channel_of m) in
     let few : length (queue_of (pushed (node_at s h).queues m) (channel_of m)) ≤ room_of (channel_of m) = subst (λ (n : Node). length (queue_of n.queues (channel_of m)) ≤ room_of (channel_of m)) at le in
     let more : length (queue_of (pushed (node_at s h).queues m) (channel_of m)) ≡ length (queue_of (node_at s h).queues (channel_of m)) + 1 = rw (queue-with_queue (node_at s h).queues (channel_of m) (queue_of (node_at s h).queues (channel_of m) ++ m ∷ [])) (length-append (queue_of (node_at s h).queues (channel_of m)) (m ∷ [])) in
     omega (arith, few, more)
+
+-- where all queues fit
+pub had_room : (h : ℕ) (m : Msg) (s : State) → h < length s.views.nodes → QueuesFit (sent h m s) → length (queue_of (node_at s h).queues (channel_of m)) < room_of (channel_of m)
+had_room h m s in_h fit = had_room_in h m s in_h (fit h (channel_of m))
 
 -- the same of a state by another name
 pub had_room_as : (h : ℕ) (m : Msg) (s t : State) → t ≡ s → h < length s.views.nodes → QueuesFit (sent h m s) → length (queue_of (node_at t h).queues (channel_of m)) < room_of (channel_of m)

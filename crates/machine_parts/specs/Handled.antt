@@ -2,6 +2,8 @@
 use Rattle.std.specs.Prelude.{ℕ, ◌≡◌, ◌<◌, ◌≤◌, List, length, Option, Some, None, slice_set}
 use Rattle.backing_memory.specs.Memory.{line_at}
 use Rattle.client_cache.specs.Cache.{granted, probed}
+use Rattle.directory.specs.declared.answer.Sent.{Sent}
+use Rattle.directory.specs.declared.answer.Sent.TheVariants.{Probes, Granting}
 use Rattle.elf_loader.specs.Size.{base}
 use Rattle.machine_model.specs.Deliveries.{with_less}
 use Rattle.machine_model.specs.Views.{State, line_size, node_at, place_of, with_node}
@@ -33,3 +35,8 @@ shrunk h line cap s = with_node h (with_less (probed (node_at s h).cache line ca
 
 abbrev pub installed : ℕ → ℕ → Cap → Option LineData → State → State
 installed h line cap bytes s = with_node h (record (node_at s h) { cache = granted (node_at s h).cache line cap bytes }) s
+
+-- how many messages an Acquire has the manager send
+abbrev pub count_of : Sent → ℕ
+count_of (Probes cap harts) = length harts
+count_of (Granting grant) = 1

@@ -1,12 +1,13 @@
 //! What the manager does with a message that it has taken.
 
-ghost use Rattle.std.specs.Prelude.{◌≡◌, ◌≢◌, ◌<◌, ◌≤◌, length};
+ghost use Rattle.std.specs.Prelude.{◌≡◌, ◌≢◌, ◌<◌, ◌≤◌, All, length};
 ghost use Rattle.backing_memory.specs.Memory.{line_at};
+ghost use Rattle.directory.specs.Directory.{SendsToHarts};
 ghost use Rattle.elf_loader.specs.Size.{base};
-ghost use Rattle.machine_model.specs.Deliveries.{grant_body, line_in_memory, on_grant_ack, on_probe_ack, on_release, sent_grant};
+ghost use Rattle.machine_model.specs.Deliveries.{grant_body, line_in_memory, on_acquire, on_grant_ack, on_probe_ack, on_release, sent_any, sent_grant, sent_probes};
 ghost use Rattle.machine_model.specs.Laws.{QueuesFit};
 ghost use Rattle.machine_model.specs.Views.{line_size, place_of};
-ghost use Rattle.machine_parts.specs.Handled.{HasLine, HasSize, written_back};
+ghost use Rattle.machine_parts.specs.Handled.{HasLine, HasSize, count_of, written_back};
 ghost use Rattle.machine_parts.specs.Parts.{state_of};
 ghost use Rattle.tl_types.specs.Line.{size_of};
 ghost use Rattle.tl_types.specs.Permission.{left_by};
@@ -14,10 +15,10 @@ ghost use Rattle.tl_types.specs.Permission.{left_by};
 use crate::messages::send;
 use crate::parts::{Parts, line_size};
 use backing_memory::Memory;
-use directory::Grant;
+use directory::{Acquired, Grant, HartSet, Sent};
 use elf_loader::BASE;
 use std::sync::ledger::Ledger;
-use tl_types::{Body, Change, LineData, LineSize, Msg, Perm, Ticks};
+use tl_types::{Body, Cap, Change, Grow, LineData, LineSize, Msg, Perm, Ticks};
 
 /// The place in memory of the line that begins at this address.
 fn place_of(parts: &Parts, line: u32) -> u32
@@ -65,6 +66,58 @@ fn send_grant(parts: &mut Parts, line: u32, grant: Grant)
 {
     let body = grant_body(parts, line, grant);
     send(parts, grant.hart, &Msg { line, body });
+}
+
+/// Sends a Probe to each of these harts.
+fn send_probes(parts: &mut Parts, harts: HartSet, line: u32, cap: Cap)
+    requires harts { All (λ hart. hart < length parts.old.nodes.items) harts }
+    requires queues { QueuesFit (sent_probes harts line cap (state_of parts.old)) }
+    requires log { length harts ≤ parts.old.trace.room.log }
+    ensures { state_of parts.new ≡ sent_probes harts line cap (state_of parts.old) }
+{
+    let message = Msg {
+        line,
+        body: Body::ProbeBlock(cap),
+    };
+    for hart in harts.iter() {
+        send(parts, hart, &message);
+    }
+}
+
+/// Sends what an Acquire has the manager send.
+fn send_any(parts: &mut Parts, line: u32, sent: Sent)
+    requires low { base ≤ line }
+    requires kept { place_of (line_size (state_of parts.old)) line < length parts.old.memory }
+    requires harts { SendsToHarts (length parts.old.nodes.items) sent }
+    requires queues { QueuesFit (sent_any line sent (state_of parts.old)) }
+    requires log { count_of sent ≤ parts.old.trace.room.log }
+    ensures { state_of parts.new ≡ sent_any line sent (state_of parts.old) }
+{
+    match sent {
+        Sent::Probes(cap, harts) => send_probes(parts, harts, line, cap),
+        Sent::Granting(grant) => send_grant(parts, line, grant),
+    }
+}
+
+/// An Acquire: Probes to those who stand in its way, or the Grant.
+pub(crate) fn on_acquire<L: Ledger>(
+    parts: &mut Parts,
+    hart: u8,
+    line: u32,
+    grow: Grow,
+    ticks: &mut Ticks<L>,
+)
+    requires hart { hart < parts.old.directory.harts }
+    requires harts { parts.old.directory.harts ≡ length parts.old.nodes.items }
+    requires line { HasLine line (state_of parts.old) }
+    requires queues { QueuesFit (on_acquire hart line grow (state_of parts.old)) }
+    requires log { length parts.old.nodes.items ≤ parts.old.trace.room.log }
+    ensures { state_of parts.new ≡ on_acquire hart line grow (state_of parts.old) }
+{
+    let place = place_of(parts, line);
+    if let Acquired::Handled(sent) = parts.directory.on_acquire(place, hart, grow, ticks) {
+        send_any(parts, line, sent);
+    }
 }
 
 /// A Release: its data go to memory, and it is answered at once.
