@@ -3,6 +3,7 @@
 #![tactic(auto)]
 
 mod client;
+mod deliveries;
 mod manager;
 mod messages;
 mod node;

@@ -1,4 +1,4 @@
-use Rattle.std.proofs.Common.{ℕ, ◌≡◌, ap, sym, subst, ◌∙◌, length}
+use Rattle.std.proofs.Common.{ℕ, ap, sym, subst, ◌∙◌, length}
 use native.Mathlib.Omega.{arith}
 use Rattle.directory.specs.Directory.{Notes, SendsToHarts, acquired}
 use Rattle.directory.specs.declared.answer.Acquired.{Acquired}

@@ -1,4 +1,4 @@
-use Rattle.std.proofs.Common.{ℕ, ap, sym, ◌∙◌, Option, Some}
+use Rattle.std.proofs.Common.{ℕ, ap, sym, ◌∙◌, Option}
 use Rattle.directory.specs.Directory.{Notes, probe_acked}
 use Rattle.directory.specs.declared.answer.Grant.{Grant}
 use Rattle.machine_parts.specs.Handled.{written_back}

@@ -1,4 +1,4 @@
-use Rattle.std.proofs.Common.{◌≡◌, ◌<◌, ℕ, List, ◌∷◌, All, ap, sym, subst, ◌∙◌, length}
+use Rattle.std.proofs.Common.{◌<◌, ℕ, List, All, ap, sym, subst, ◌∙◌, length}
 use Rattle.std.proofs.lemmas.List.{length-set}
 use Rattle.std.proofs.lemmas.List.Elements.{All-head, All-rest}
 use native.Mathlib.Omega.{arith}
