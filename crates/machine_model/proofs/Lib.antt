@@ -44,6 +44,13 @@ pub mod RoomEvents
 pub mod RoomPigeons
 pub mod RoomLines
 pub mod RoomQueues
+pub mod ReadyHeads
+pub mod ReadyMessages
+pub mod ReadyPlans
+pub mod ReadySizes
+pub mod ReadyLists
+pub mod ReadyKept
+pub mod ReadyAlways
 pub mod LogLists
 pub mod LogQueues
 pub mod LogActs

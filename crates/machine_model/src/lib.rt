@@ -10,6 +10,7 @@ mod laws;
 mod log_laws;
 mod order_laws;
 mod outcome;
+mod ready_laws;
 mod room_laws;
 
 pub use act::{Act, Deed, Plan};
@@ -25,4 +26,5 @@ pub use log_laws::{answers_due_always, log_in_order_always, others_lawful_always
 pub use memory_model::Model;
 pub use order_laws::{order_always, performed_once_always, preserved_always};
 pub use outcome::Outcome;
+pub use ready_laws::{ready_always, sound_always};
 pub use room_laws::{queues_fit_always, room_always};

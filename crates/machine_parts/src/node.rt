@@ -1,11 +1,11 @@
 //! What belongs to one hart.
 
 ghost use Rattle.std.specs.Prelude.{◌≡◌, IfOk, IsTrue};
-ghost use Rattle.elf_loader.specs.Image.{Initial};
 ghost use Rattle.machine_model.specs.Config.{is_within_limits};
 ghost use Rattle.machine_model.specs.Views.{opening_node, size_of_config};
 
 use client_cache::ClientCache;
+use elf_loader::Image;
 use hart::Hart;
 use machine_model::Config;
 use reservations::Reservation;
@@ -50,17 +50,17 @@ impl Node {
     /// A hart at reset, with an empty buffer and cache.
     pub fn new(
         alloc: Global,
-        id: u8,
-        entry: u32,
+        image: &Image,
         config: &Config,
         size: LineSize,
+        id: u8,
     ) -> Result<Node, AllocError>
         requires limits { IsTrue (is_within_limits config.now) }
         requires line { size ≡ size_of_config config.now }
-        ensures { IfOk result (λ node. (image : Initial) → image.entry ≡ entry → node ≡ opening_node image config.now id) }
+        ensures { IfOk result (λ node. node ≡ opening_node image.now config.now id) }
     {
         Ok(Node {
-            hart: Hart::at_reset(id, entry, config.harts),
+            hart: Hart::at_reset(id, image.entry(), config.harts),
             output: Vec::new(alloc),
             reservation: Reservation::none(),
             buffer: StoreBuffer::new(alloc),
