@@ -1,3 +1,6 @@
 pub mod Changes
 pub mod Nodes
 pub mod Drains
+mod Answered
+mod Probes
+mod Rooms

@@ -4,3 +4,4 @@ pub mod Needs
 pub mod Applying
 pub mod Drains
 pub mod Lists
+pub mod Handled

@@ -1,0 +1,8 @@
+use Rattle.machine_parts.specs.Parts.{state_of}
+use Rattle.tl_types.specs.declared.message.Body.TheVariants.{GrantAck}
+use Rattle.machine_parts.proofs.Rooms.{had_room_after}
+use Rattle.machine_parts.proofs.client.on_grant.Goals as goal
+
+pub send-requires-clause-queue : goal.send-requires-clause-queue
+send-requires-clause-queue g c =
+    had_room_after c.args.hart (record { line = c.args.line; body = GrantAck }) _ (state_of c.args.parts.now) _ c.install.ensures.state c.requires.hart c.requires.queues
