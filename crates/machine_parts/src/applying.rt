@@ -9,8 +9,13 @@ ghost use Rattle.machine_parts.specs.Applying.{Answers};
 ghost use Rattle.machine_parts.specs.Needs.{HasRoom, needs_of};
 ghost use Rattle.machine_parts.specs.Parts.{state_of};
 
+use crate::acts::{give_up, miss, stop};
+use crate::deliveries::deliver;
+use crate::draining::drain;
 use crate::errors::ApplyError;
+use crate::limits::{is_limited, outcome_of, reserve};
 use crate::parts::Parts;
+use crate::retiring::retire;
 use machine_model::{Act, Event, Outcome, Plan};
 use std::alloc::AllocError;
 
@@ -41,32 +46,6 @@ fn plan(parts: &Parts, event: &Event) -> Plan
     Plan::Stays(Outcome::Empty)
 }
 
-fn is_limited(parts: &Parts, hart: u8, act: &Act) -> bool
-    requires sound { IsSound (state_of parts.now) }
-    requires hart { hart < length parts.now.nodes.items }
-    ensures { result ≡ events.is_limited (state_of parts.now) hart act.now }
-{
-    parts.changes > 3
-}
-
-fn outcome_of(parts: &Parts, hart: u8, act: &Act) -> Outcome
-    requires hart { hart < length parts.now.nodes.items }
-    ensures { result ≡ changing.outcome_of (state_of parts.now) hart act.now }
-{
-    Outcome::Empty
-}
-
-fn reserve(parts: &mut Parts, hart: u8, act: &Act) -> Result<(), AllocError>
-    requires sound { IsSound (state_of parts.old) }
-    requires hart { hart < length parts.old.nodes.items }
-    requires ready { IsReadyAct hart act.now (state_of parts.old) }
-    ensures same { state_of parts.new ≡ state_of parts.old }
-    ensures room { OnOk result (HasRoom hart (needs_of (state_of parts.old) hart act.now) parts.new.trace.room) }
-    ensures stop { (code : ℕ) → act.now ≡ Act.Stop code → IsOk result }
-{
-    Ok(())
-}
-
 fn perform(parts: &mut Parts, hart: u8, act: &Act) -> Result<(), AllocError>
     requires sound { IsSound (state_of parts.old) }
     requires hart { hart < length parts.old.nodes.items }
@@ -76,6 +55,15 @@ fn perform(parts: &mut Parts, hart: u8, act: &Act) -> Result<(), AllocError>
     ensures err { OnErr result (state_of parts.new ≡ state_of parts.old) }
     ensures stop { (code : ℕ) → act.now ≡ Act.Stop code → IsOk result }
 {
+    match act {
+        Act::Stop(code) => stop(parts, hart, *code),
+        Act::Retire { entry, instr, deed } => retire(parts, hart, entry, instr, deed)?,
+        Act::Miss { line, grow } => miss(parts, hart, *line, *grow),
+        Act::Drain(word) => drain(parts, hart, *word),
+        Act::Evict(line) => give_up(parts, hart, *line),
+        Act::Deliver(message) => deliver(parts, hart, message),
+        Act::Local(count) => {}
+    }
     Ok(())
 }
 
