@@ -70,3 +70,7 @@ pub mod AtomicNodes
 pub mod AtomicDeeds
 pub mod AtomicActs
 pub mod AtomicSteps
+pub mod LogManagerQueues
+pub mod LogManagerSums
+pub mod LogManagerParts
+pub mod LogManagerReadings
