@@ -74,3 +74,4 @@ pub mod LogManagerQueues
 pub mod LogManagerSums
 pub mod LogManagerParts
 pub mod LogManagerReadings
+pub mod LogManagerAnswers
