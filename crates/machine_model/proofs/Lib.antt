@@ -75,3 +75,5 @@ pub mod LogManagerSums
 pub mod LogManagerParts
 pub mod LogManagerReadings
 pub mod LogManagerAnswers
+pub mod LogManagerAlone
+pub mod LogManagerLosses

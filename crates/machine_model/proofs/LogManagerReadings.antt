@@ -177,7 +177,7 @@ lost_behind : (k l : ℕ) (lost : Bool) (log : List Logged) (e : Logged) → los
 lost_behind k l lost [] e = refl
 lost_behind k l lost (x ∷ log) e = lost_behind k l (lost_after k l lost x) log e
 
-same_count : (a b : ℕ) → a ≡ b + 0 → a ≡ b
+pub same_count : (a b : ℕ) → a ≡ b + 0 → a ≡ b
 same_count a b e = omega (arith, e)
 
 module _ (k l : ℕ) (log : List Logged) (h : ℕ) (m : Msg) where

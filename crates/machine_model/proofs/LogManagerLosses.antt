@@ -1,0 +1,263 @@
+-- A hart that asks to write what it reads has lost its copy meanwhile exactly where the log says so.
+use Rattle.std.proofs.Common.{ℕ, suc, ◌+◌, ◌<◌, ◌≤◌, Bool, true, false, List, [], ◌∷◌, ◌++◌, ◌≡◌, Option, Some, None, refl, ap, sym, ◌∙◌, subst, length, slice_index_or}
+use Rattle.std.specs.Prelude.{◌≢◌, ◌==◌, ◌&&◌, ◌||◌, nat_lt}
+use Rattle.std.specs.FinSet as set
+use Rattle.std.specs.FinSet.{contains-empty}
+use Rattle.std.specs.Ordering.{nat_cmp}
+use Rattle.std.proofs.lemmas.Bool.{eq-eqb, lt-ltb}
+use Rattle.std.proofs.lemmas.Bool.Decides.{eqb_tells, leb_tells}
+use Rattle.std.proofs.lemmas.List.{length-set}
+use Rattle.std.proofs.lemmas.List.FromFn.{get_or-map-range_with_len, length-map-range_with_len}
+use mathlib.Core.Logic.{◌⊎◌, inl, inr}
+use native.Mathlib.Omega.{arith}
+use Rattle.client_cache.proofs.AtLines.{evicted_other, evicted_own, missed_own, probed_other, probed_own, remove_own, wanted_other}
+use Rattle.client_cache.specs.AtLine.{AtLine, KeepsOthers, at_line}
+use Rattle.client_cache.specs.Cache.{Cache, answered, copy_at, evicted, granted, probed, wanted}
+use Rattle.client_cache.specs.Held.{perm_of, shrunk_at}
+use Rattle.client_cache.specs.declared.answers.Evict.{Evict}
+use Rattle.client_cache.specs.declared.answers.Evict.TheVariants as evict
+use Rattle.client_cache.specs.declared.answers.Probed.{Probed}
+use Rattle.client_cache.specs.declared.answers.Probed.TheVariants.{Answered}
+use Rattle.client_cache.specs.declared.held.Held.{Held}
+use Rattle.client_cache.specs.declared.held.Held.TheVariants as held
+use Rattle.directory.specs.Directory as directory
+use Rattle.directory.specs.Directory.{line_at}
+use Rattle.directory.specs.Lines.{known_at, needs_data, unknown}
+use Rattle.elf_loader.specs.Image.{Initial}
+use Rattle.machine_model.specs.Changing.{acted, given_up, missed, release_body, sent_if_evicted}
+use Rattle.machine_model.specs.Deliveries.{handled, is_trunk, on_grant, on_release, on_release_ack, probe_ack_body, sent_if_answered, taken, with_less, with_memory, with_notes}
+use Rattle.machine_model.specs.Events.{happens, hart_of, plan_of}
+use Rattle.machine_model.specs.LawfulLog.{concerns, is_BtoN, is_acquire, is_loss, is_on, lost_since_asking, sent_count, taken_count}
+use Rattle.machine_model.specs.Views.{Node, State, line_size, no_node, node_at, opening, opening_node, place_of, sent, with_node}
+use Rattle.machine_model.specs.declared.act.Act.{Act}
+use Rattle.machine_model.specs.declared.act.Act.TheVariants as act
+use Rattle.machine_model.specs.declared.act.Plan.TheVariants.{Changes}
+use Rattle.machine_model.specs.declared.config.Config.{Config}
+use Rattle.machine_model.specs.declared.event.Event.{Event}
+use Rattle.machine_model.proofs.LineStands.{Side}
+use Rattle.machine_model.proofs.LineViews.{Answering, evicted_says, front_here, granted_other, answered_other, of_line, probed_says}
+use Rattle.machine_model.proofs.LogActs.{IsAlone, IsManaging, Still, acknowledged, acquired_keeps, alone_still, noted_still, same-set, same_nodes}
+use Rattle.machine_model.proofs.LogAlways.{happens_keeps}
+use Rattle.machine_model.proofs.LogCounts.{bit, sent_in, sent_out, taken_in, taken_out}
+use Rattle.machine_model.proofs.LogLists.{comes_out, goes_in}
+use Rattle.machine_model.proofs.LogManagerAlone.{alone_perms}
+use Rattle.machine_model.proofs.LogManagerAnswers.{same_cache}
+use Rattle.machine_model.proofs.LogManagerParts.{asking_reads, branch_kept}
+use Rattle.machine_model.proofs.LogManagerQueues.{GoesOn, count_in, in_queue}
+use Rattle.machine_model.proofs.LogManagerReadings.{and_off, asked_in, asked_now, asked_out, is_at, last_asked, losses_in, lost_asking, lost_taken, reading, reading_in, reading_out, same_count}
+use Rattle.machine_model.proofs.LogPlans.{IsFront, IsFrontPlan, plan_front_of}
+use Rattle.machine_model.proofs.LogQueues.{IsInOrder, same_within}
+use Rattle.machine_model.proofs.LogSends.{Known, known}
+use Rattle.machine_model.proofs.LogWanted.{IsMissed, IsReady, IsWanted, plan_wanted}
+use Rattle.machine_model.proofs.WorldFits.{Framed, framed_again, framed_node, framed_sent, framed_taken, kit_at, kit_of}
+use Rattle.machine_model.proofs.WorldKept.{front_line, is_line, side}
+use Rattle.machine_model.proofs.WorldSteps.{Fits, trunk_line}
+use Rattle.tilelink_channels.specs.Queues.{popped, pushed, queue_of}
+use Rattle.tl_types.specs.Message.{channel_of_body}
+use Rattle.tl_types.specs.Shrink.{shrunk_by}
+use Rattle.tl_types.specs.declared.line.LineData.{LineData}
+use Rattle.tl_types.specs.declared.message.Body.{Body}
+use Rattle.tl_types.specs.declared.message.Body.TheVariants.{AcquireBlock, ProbeBlock, ProbeAck, ProbeAckData, Release, ReleaseData, Grant, GrantData, ReleaseAck, GrantAck}
+use Rattle.tl_types.specs.declared.message.Channel.{Channel}
+use Rattle.tl_types.specs.declared.message.Channel.TheVariants.{C}
+use Rattle.tl_types.specs.declared.message.Msg.{Msg}
+use Rattle.tl_types.specs.declared.permission.Cap.{Cap}
+use Rattle.tl_types.specs.declared.permission.Cap.TheVariants.{ToT, ToB, ToN}
+use Rattle.tl_types.specs.declared.permission.Change.{Change}
+use Rattle.tl_types.specs.declared.permission.Grow.{Grow}
+use Rattle.tl_types.specs.declared.permission.Grow.TheVariants.{BtoT}
+use Rattle.tl_types.specs.declared.permission.Perm.{Perm}
+use Rattle.tl_types.specs.declared.permission.Perm.TheVariants.{Nothing, Branch}
+use Rattle.trace_recorder.specs.declared.logged.Logged.{Logged}
+
+-- what the hart needs for its BtoT is what the log says that it lost
+abbrev pub Lost : ℕ → ℕ → AtLine → List Logged → Type 0
+Lost k l x log = x.acquiring ≡ true → last_asked k l log ≡ Some (AcquireBlock BtoT) → is_trunk (perm_of x.copy) ≡ false → needs_data BtoT (perm_of x.copy) ≡ reading k l log
+
+abbrev pub IsLosing : State → Type 0
+IsLosing s = (k l : ℕ) → k < length s.views.nodes → Lost k l (at_line (node_at s k).cache l) s.trace.log
+
+-- ---- losses in queue C
+
+losses_on : GoesOn is_loss C
+losses_on (ProbeAck change) f = cc f
+losses_on (ProbeAckData change bytes) f = cc f
+losses_on _ f = refl
+
+is_carried : (body : Body) → is_loss body ≡ true → channel_of_body body ≡ C
+is_carried (ProbeAck change) e = refl
+is_carried (ProbeAckData change bytes) e = refl
+is_carried _ e = cc e
+
+less_not : (n : ℕ) → nat_lt n n ≡ false
+less_not n = go (leb_tells (suc n) n)
+  where
+    go : ((nat_lt n n ≡ true) × (suc n ≤ n)) ⊎ ((nat_lt n n ≡ false) × (n < suc n)) → nat_lt n n ≡ false
+    go (inl e) = absurd (omega (arith, e.1))
+    go (inr e) = e.0
+
+or_true : (a : Bool) → a || true ≡ true
+or_true true = refl
+or_true false = refl
+
+module _ (s : State) (order : IsInOrder s) (h l : ℕ) (in_h : h < length s.views.nodes) where
+  abbrev sends : ℕ
+  sends = sent_count is_loss (concerns h l) s.trace.log
+
+  abbrev takes : ℕ
+  takes = taken_count is_loss (concerns h l) s.trace.log
+
+  losses : sends ≡ takes + count_in is_loss (of_line l (node_at s h).queues.c)
+  losses = in_queue is_loss C losses_on h l s (no_node s) order in_h
+
+  some_lost : (body : Body) (rest : List Msg) → is_loss body ≡ true → queue_of (node_at s h).queues (channel_of_body body) ≡ (record { line = l; body = body }) ∷ rest → takes < sends
+  some_lost body rest e front =
+      let here : of_line l (node_at s h).queues.c ≡ body ∷ of_line l rest = front_here l (node_at s h).queues.c body rest (subst (λ c. queue_of (node_at s h).queues c ≡ (record { line = l; body = body }) ∷ rest) (is_carried body e) front) in
+      let one : count_in is_loss (of_line l (node_at s h).queues.c) ≡ count_in is_loss (of_line l rest) + 1 = ap (count_in is_loss) here ∙ counted (of_line l rest) in
+      omega (arith, losses, one)
+    where
+      counted : (bodies : List Body) → count_in is_loss (body ∷ bodies) ≡ count_in is_loss bodies + 1
+      counted bodies = rw e (omega arith)
+
+-- ---- messages
+
+same_lost : (k l : ℕ) (x : AtLine) (log after : List Logged) → last_asked k l after ≡ last_asked k l log → reading k l after ≡ reading k l log → Lost k l x log → Lost k l x after
+same_lost k l x log after asks reads i on last reader = i on (sym asks ∙ last) reader ∙ sym reads
+
+-- the caches stay
+same_caches : (s t : State) → length t.views.nodes ≡ length s.views.nodes → ((k : ℕ) → (node_at t k).cache ≡ (node_at s k).cache) → ((k l : ℕ) → k < length s.views.nodes → Lost k l (at_line (node_at s k).cache l) t.trace.log) → IsLosing t
+same_caches s t count same i k l in_k = subst (λ (c : Cache). Lost k l (at_line c l) t.trace.log) (sym (same k)) (i k l (subst (λ n. k < n) count in_k))
+
+sent_losing : (h : ℕ) (m : Msg) (s : State) → is_acquire m.body ≡ false → is_loss m.body ≡ false → IsLosing s → IsLosing (sent h m s)
+sent_losing h m s a b i = same_caches s (sent h m s) (length-set s.views.nodes h _) (λ k. same-set (λ (x : Node). x.cache) s.views.nodes h k _ (no_node s) (no_node s) refl)
+    (λ k l in_k. same_lost k l (at_line (node_at s k).cache l) s.trace.log (s.trace.log ++ goes_in h m ∷ []) (asked_in k l s.trace.log h m (and_off (is_at k l h m) _ a)) (reading_in k l s.trace.log h m (and_off (is_at k l h m) _ a) (and_off (is_at k l h m) _ b)) (i k l in_k))
+
+managed : (h : ℕ) (m : Msg) (s : State) → IsManaging m.body → IsLosing s → IsLosing (sent h m s)
+managed h m s is i = go m.body refl is
+  where
+    go : (body : Body) → m.body ≡ body → IsManaging body → IsLosing (sent h m s)
+    go (ProbeBlock cap) e is = sent_losing h m s (ap is_acquire e) (ap is_loss e) i
+    go (Grant cap) e is = sent_losing h m s (ap is_acquire e) (ap is_loss e) i
+    go (GrantData cap bytes) e is = sent_losing h m s (ap is_acquire e) (ap is_loss e) i
+    go _ e is = absurd is
+
+taken_losing : (h : ℕ) (m : Msg) (s : State) → IsInOrder s → IsFront (node_at s h) m → IsLosing s → IsLosing (taken h m s)
+taken_losing h m s order front i = same_caches s (taken h m s) (length-set s.views.nodes h _) (λ k. same-set (λ (x : Node). x.cache) s.views.nodes h k _ (no_node s) (no_node s) refl)
+    (λ k l in_k. go k l in_k (eqb_tells h k) (eqb_tells m.line l) (is_loss m.body) refl)
+  where
+    plain : (k l : ℕ) → k < length s.views.nodes → is_at k l h m && is_loss m.body ≡ false → Lost k l (at_line (node_at s k).cache l) (taken h m s).trace.log
+    plain k l in_k off = same_lost k l (at_line (node_at s k).cache l) s.trace.log (s.trace.log ++ comes_out h m ∷ []) (asked_out k l s.trace.log h m) (reading_out k l s.trace.log h m off) (i k l in_k)
+
+    here : h < length s.views.nodes → is_loss m.body ≡ true → Lost h m.line (at_line (node_at s h).cache m.line) (taken h m s).trace.log
+    here in_h e on last reader =
+        let was : reading h m.line s.trace.log ≡ true = ap (λ b. lost_since_asking h m.line false s.trace.log || b) (lt-ltb _ _ (some_lost s order h m.line in_h m.body front.0 e front.1)) ∙ or_true (lost_since_asking h m.line false s.trace.log) in
+        let now : reading h m.line (taken h m s).trace.log ≡ true = ap (λ b. b || nat_lt (taken_count is_loss (concerns h m.line) (taken h m s).trace.log) (sent_count is_loss (concerns h m.line) (taken h m s).trace.log)) (lost_taken s.trace.log h m e) in
+        i h m.line in_h on (sym (asked_out h m.line s.trace.log h m) ∙ last) reader ∙ was ∙ sym now
+
+    go : (k l : ℕ) → k < length s.views.nodes → (((h == k) ≡ true) × (h ≡ k)) ⊎ (((h == k) ≡ false) × (h ≡ k → ⊥)) → (((m.line == l) ≡ true) × (m.line ≡ l)) ⊎ (((m.line == l) ≡ false) × (m.line ≡ l → ⊥)) → (b : Bool) → is_loss m.body ≡ b →
+        Lost k l (at_line (node_at s k).cache l) (taken h m s).trace.log
+    go k l in_k e f false g = plain k l in_k (and_off (is_at k l h m) _ g)
+    go k l in_k (inr e) f true g = plain k l in_k (rw e.0 refl)
+    go k l in_k (inl e) (inr f) true g = plain k l in_k (rw (e.0, f.0) refl)
+    go k l in_k (inl e) (inl f) true g = subst (λ j. Lost j l (at_line (node_at s j).cache l) (taken h m s).trace.log) e.1 (subst (λ q. Lost h q (at_line (node_at s h).cache q) (taken h m s).trace.log) f.1 (here (subst (λ j. j < length s.views.nodes) (sym e.1) in_k) g))
+
+-- ---- one cache turns
+
+-- away from the hart and the line the log says the same
+abbrev SaysSame : ℕ → ℕ → List Logged → List Logged → Type 0
+SaysSame h line log after = (k l : ℕ) → h == k && line == l ≡ false → (last_asked k l after ≡ last_asked k l log) × (reading k l after ≡ reading k l log)
+
+same_in : (h : ℕ) (m : Msg) (log : List Logged) → SaysSame h m.line log (log ++ goes_in h m ∷ [])
+same_in h m log k l off = (asked_in k l log h m (rw off refl), reading_in k l log h m (rw off refl) (rw off refl))
+
+same_out : (h : ℕ) (m : Msg) (log : List Logged) → SaysSame h m.line log (log ++ comes_out h m ∷ [])
+same_out h m log k l off = (asked_out k l log h m, reading_out k l log h m (rw off refl))
+
+same_both : (h line : ℕ) (asks says : Body) (log : List Logged) → SaysSame h line log ((log ++ comes_out h (record { line = line; body = asks }) ∷ []) ++ goes_in h (record { line = line; body = says }) ∷ [])
+same_both h line asks says log k l off =
+    let m : Msg = record { line = line; body = asks } in
+    let n : Msg = record { line = line; body = says } in
+    ((same_in h n (log ++ comes_out h m ∷ []) k l off).0 ∙ (same_out h m log k l off).0, (same_in h n (log ++ comes_out h m ∷ []) k l off).1 ∙ (same_out h m log k l off).1)
+
+-- one hart's cache becomes this
+record TurnsTo (s t : State) (h : ℕ) (c : Cache) : Type 0 where
+  count : length t.views.nodes ≡ length s.views.nodes
+  here : (node_at t h).cache ≡ c
+  there : (k : ℕ) → k ≢ h → (node_at t k).cache ≡ (node_at s k).cache
+
+framed_turns : (s t : State) (h : ℕ) (n : Node) → Framed s t h n → TurnsTo s t h n.cache
+framed_turns s t h n f = record { count = f.count; here = ap (λ (x : Node). x.cache) f.here; there = λ k ne. ap (λ (x : Node). x.cache) (f.there k ne) }
+
+turned_losing : (s t : State) (h line : ℕ) (c : Cache) → TurnsTo s t h c → KeepsOthers line (node_at s h).cache c → SaysSame h line s.trace.log t.trace.log → (h < length s.views.nodes → Lost h line (at_line c line) t.trace.log) → IsLosing s → IsLosing t
+turned_losing s t h line c u keeps says here i k l in_t = go (eqb_tells h k) (eqb_tells line l)
+  where
+    in_k : k < length s.views.nodes
+    in_k = subst (λ n. k < n) u.count in_t
+
+    go : (((h == k) ≡ true) × (h ≡ k)) ⊎ (((h == k) ≡ false) × (h ≡ k → ⊥)) → (((line == l) ≡ true) × (line ≡ l)) ⊎ (((line == l) ≡ false) × (line ≡ l → ⊥)) → Lost k l (at_line (node_at t k).cache l) t.trace.log
+    go (inl e) (inl f) = subst (λ j. Lost j l (at_line (node_at t j).cache l) t.trace.log) e.1 (subst (λ q. Lost h q (at_line (node_at t h).cache q) t.trace.log) f.1
+        (subst (λ (x : Cache). Lost h line (at_line x line) t.trace.log) (sym u.here) (here (subst (λ j. j < length s.views.nodes) (sym e.1) in_k))))
+    go (inl e) (inr f) =
+        let off : h == k && line == l ≡ false = rw (e.0, f.0) refl in
+        let same : at_line (node_at s k).cache l ≡ at_line (node_at t k).cache l = subst (λ j. at_line (node_at s j).cache l ≡ at_line (node_at t j).cache l) e.1 (sym (keeps l (λ q. f.1 (sym q))) ∙ ap (λ (x : Cache). at_line x l) (sym u.here)) in
+        subst (λ (x : AtLine). Lost k l x t.trace.log) same (same_lost k l (at_line (node_at s k).cache l) s.trace.log t.trace.log (says k l off).0 (says k l off).1 (i k l in_k))
+    go (inr e) f =
+        let off : h == k && line == l ≡ false = rw e.0 refl in
+        subst (λ (x : Cache). Lost k l (at_line x l) t.trace.log) (sym (u.there k (λ q. e.1 (sym q)))) (same_lost k l (at_line (node_at s k).cache l) s.trace.log t.trace.log (says k l off).0 (says k l off).1 (i k l in_k))
+
+-- ---- the acts of a cache
+
+-- what a Probe takes of a copy that isn't written
+shrinks : (copy : Option Held) (cap : Cap) → is_trunk (perm_of copy) ≡ false →
+    ((is_BtoN (shrunk_by (perm_of copy) cap).1 ≡ true) × (perm_of (shrunk_at cap copy) ≡ Nothing)) ⊎ ((is_BtoN (shrunk_by (perm_of copy) cap).1 ≡ false) × (perm_of (shrunk_at cap copy) ≡ perm_of copy))
+shrinks None cap e = inr (refl, refl)
+shrinks (Some (held.Branch bytes)) ToT e = inr (refl, refl)
+shrinks (Some (held.Branch bytes)) ToB e = inr (refl, refl)
+shrinks (Some (held.Branch bytes)) ToN e = inl (refl, refl)
+shrinks (Some (held.Trunk dirty bytes)) cap e = cc e
+
+loss_by : (change : Change) (bytes : Option LineData) → (is_loss (probe_ack_body change bytes) ≡ is_BtoN change) × (is_acquire (probe_ack_body change bytes) ≡ false)
+loss_by change None = (refl, refl)
+loss_by change (Some bytes) = (refl, refl)
+
+module _ (s : State) (h : ℕ) (in_h : h < length s.views.nodes) (g : Known s) (i : IsLosing s) where
+  abbrev n : Node
+  n = node_at s h
+
+  abbrev seen_at : ℕ → Side
+  seen_at l = side (kit_of n) (known_at (line_at s.views.notes (place_of (line_size s) l)) h) l
+
+  abbrev IsLine : ℕ → Type 0
+  IsLine l = is_line s.trace.image (line_size s) (length s.views.nodes) l ≡ true
+
+  missed_losing : (line : ℕ) (grow : Grow) → IsMissed n line grow → IsLosing (missed h line grow s)
+  missed_losing line grow is = turned_losing s t h line (wanted n.cache line grow).1 (framed_turns s t h _ f) (wanted_other n.cache line grow) (same_in h m s.trace.log) (λ _. here) i
+    where
+      m : Msg
+      m = record { line = line; body = AcquireBlock grow }
+
+      asking : State
+      asking = with_node h (record n { cache = (wanted n.cache line grow).1 }) s
+
+      t : State
+      t = missed h line grow s
+
+      f : Framed s t h (record n { cache = (wanted n.cache line grow).1; queues = pushed n.queues m })
+      f = framed_sent s asking h (record n { cache = (wanted n.cache line grow).1 }) m in_h (framed_node s h (record n { cache = (wanted n.cache line grow).1 }) in_h)
+
+      none : perm_of (copy_at n.cache line) ≡ Branch → nat_lt (taken_count is_loss (concerns h line) t.trace.log) (sent_count is_loss (concerns h line) t.trace.log) ≡ false
+      none branch =
+          let on : IsLine line = trunk_line s g.0.0 h line g.0.1 (λ e. cc (e, branch)) in
+          let kept : count_in is_loss (of_line line n.queues.c) ≡ 0 = branch_kept ((g.0.1.well.kept line on).stands h) branch in
+          let all : sends s g.1 h line in_h ≡ takes s g.1 h line in_h + count_in is_loss (of_line line n.queues.c) = losses s g.1 h line in_h in
+          let a : taken_count is_loss (concerns h line) t.trace.log ≡ taken_count is_loss (concerns h line) s.trace.log = same_count _ _ (taken_in is_loss h line s.trace.log h m) in
+          let b : sent_count is_loss (concerns h line) t.trace.log ≡ sent_count is_loss (concerns h line) s.trace.log = same_count _ _ (sent_in is_loss h line s.trace.log h m ∙ ap (λ x. sent_count is_loss (concerns h line) s.trace.log + bit x) (and_off (is_at h line h m) false refl)) in
+          let same : taken_count is_loss (concerns h line) t.trace.log ≡ sent_count is_loss (concerns h line) t.trace.log = omega (arith, kept, all, a, b) in
+          ap (λ x. nat_lt x (sent_count is_loss (concerns h line) t.trace.log)) same ∙ less_not (sent_count is_loss (concerns h line) t.trace.log)
+
+      here : Lost h line (at_line (wanted n.cache line grow).1 line) t.trace.log
+      here on last reader =
+          let same : grow ≡ BtoT = let e : Some (AcquireBlock grow) ≡ Some (AcquireBlock BtoT) = sym (asked_now line s.trace.log h grow) ∙ last in cc e in
+          let branch : perm_of (copy_at n.cache line) ≡ Branch = is.1 same in
+          let lost : lost_since_asking h line false t.trace.log ≡ false = lost_asking s.trace.log h m refl in
+          ap (λ (x : AtLine). needs_data BtoT (perm_of x.copy)) (missed_own n.cache line grow is.0) ∙ ap (needs_data BtoT) branch ∙ sym (λ j. lost j || none branch j)
