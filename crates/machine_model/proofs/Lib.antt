@@ -77,3 +77,4 @@ pub mod LogManagerReadings
 pub mod LogManagerAnswers
 pub mod LogManagerAlone
 pub mod LogManagerLosses
+pub mod LogManagerCaches

@@ -10,7 +10,7 @@ use Rattle.client_cache.specs.declared.answers.Probed.TheVariants.{Answered}
 use Rattle.elf_loader.specs.Image.{Initial}
 use Rattle.machine_model.specs.Changing.{acted, release_body, sent_if_evicted}
 use Rattle.machine_model.specs.Deliveries.{handled, probe_ack_body, sent_if_answered, taken, with_less}
-use Rattle.machine_model.specs.Events.{happens, hart_of, plan_of}
+use Rattle.machine_model.specs.Events.{counted, happens, hart_of, plan_of}
 use Rattle.machine_model.specs.LawfulLog.{concerns, is_grant, is_grant_ack, is_probe, is_probe_ack, sent_count, taken_count}
 use Rattle.machine_model.specs.Views.{Node, State, no_node, node_at, opening, sent, with_node}
 use Rattle.machine_model.specs.declared.act.Act.{Act}
@@ -154,7 +154,7 @@ answering s h (act.Drain word) is i = still_answering s _ (alone_still h (act.Dr
 answering s h (act.Local count) is i = still_answering s _ (alone_still h (act.Local count) s tt) i
 
 pub happens_answering : (s : State) (e : Event) → IsAnswering s → IsAnswering (happens s e)
-happens_answering s e i = happens_keeps Anything IsAnswering (λ s e g. tt) still_answering (λ s e a is in_h g i. answering s (hart_of e) a (subst (IsWanted s (hart_of e)) is (plan_wanted s e)) i) s e tt i
+happens_answering s e i = happens_keeps Anything IsAnswering (λ s e g. tt) (λ s i. same_log s (counted s) refl i) (λ s e a is in_h g i. answering s (hart_of e) a (subst (IsWanted s (hart_of e)) is (plan_wanted s e)) i) s e tt i
 
 pub opening_answering : (image : Initial) (config : Config) → IsAnswering (opening image config)
 opening_answering image config = record { grants = λ k l. refl; probes = λ k l. refl }

@@ -89,28 +89,28 @@ is_carried (ProbeAck change) e = refl
 is_carried (ProbeAckData change bytes) e = refl
 is_carried _ e = cc e
 
-less_not : (n : ℕ) → nat_lt n n ≡ false
+pub less_not : (n : ℕ) → nat_lt n n ≡ false
 less_not n = go (leb_tells (suc n) n)
   where
     go : ((nat_lt n n ≡ true) × (suc n ≤ n)) ⊎ ((nat_lt n n ≡ false) × (n < suc n)) → nat_lt n n ≡ false
     go (inl e) = absurd (omega (arith, e.1))
     go (inr e) = e.0
 
-or_true : (a : Bool) → a || true ≡ true
+pub or_true : (a : Bool) → a || true ≡ true
 or_true true = refl
 or_true false = refl
 
 module _ (s : State) (order : IsInOrder s) (h l : ℕ) (in_h : h < length s.views.nodes) where
-  abbrev sends : ℕ
+  abbrev pub sends : ℕ
   sends = sent_count is_loss (concerns h l) s.trace.log
 
-  abbrev takes : ℕ
+  abbrev pub takes : ℕ
   takes = taken_count is_loss (concerns h l) s.trace.log
 
-  losses : sends ≡ takes + count_in is_loss (of_line l (node_at s h).queues.c)
+  pub losses : sends ≡ takes + count_in is_loss (of_line l (node_at s h).queues.c)
   losses = in_queue is_loss C losses_on h l s (no_node s) order in_h
 
-  some_lost : (body : Body) (rest : List Msg) → is_loss body ≡ true → queue_of (node_at s h).queues (channel_of_body body) ≡ (record { line = l; body = body }) ∷ rest → takes < sends
+  pub some_lost : (body : Body) (rest : List Msg) → is_loss body ≡ true → queue_of (node_at s h).queues (channel_of_body body) ≡ (record { line = l; body = body }) ∷ rest → takes < sends
   some_lost body rest e front =
       let here : of_line l (node_at s h).queues.c ≡ body ∷ of_line l rest = front_here l (node_at s h).queues.c body rest (subst (λ c. queue_of (node_at s h).queues c ≡ (record { line = l; body = body }) ∷ rest) (is_carried body e) front) in
       let one : count_in is_loss (of_line l (node_at s h).queues.c) ≡ count_in is_loss (of_line l rest) + 1 = ap (count_in is_loss) here ∙ counted (of_line l rest) in
@@ -121,18 +121,18 @@ module _ (s : State) (order : IsInOrder s) (h l : ℕ) (in_h : h < length s.view
 
 -- ---- messages
 
-same_lost : (k l : ℕ) (x : AtLine) (log after : List Logged) → last_asked k l after ≡ last_asked k l log → reading k l after ≡ reading k l log → Lost k l x log → Lost k l x after
+pub same_lost : (k l : ℕ) (x : AtLine) (log after : List Logged) → last_asked k l after ≡ last_asked k l log → reading k l after ≡ reading k l log → Lost k l x log → Lost k l x after
 same_lost k l x log after asks reads i on last reader = i on (sym asks ∙ last) reader ∙ sym reads
 
 -- the caches stay
-same_caches : (s t : State) → length t.views.nodes ≡ length s.views.nodes → ((k : ℕ) → (node_at t k).cache ≡ (node_at s k).cache) → ((k l : ℕ) → k < length s.views.nodes → Lost k l (at_line (node_at s k).cache l) t.trace.log) → IsLosing t
+pub same_caches : (s t : State) → length t.views.nodes ≡ length s.views.nodes → ((k : ℕ) → (node_at t k).cache ≡ (node_at s k).cache) → ((k l : ℕ) → k < length s.views.nodes → Lost k l (at_line (node_at s k).cache l) t.trace.log) → IsLosing t
 same_caches s t count same i k l in_k = subst (λ (c : Cache). Lost k l (at_line c l) t.trace.log) (sym (same k)) (i k l (subst (λ n. k < n) count in_k))
 
-sent_losing : (h : ℕ) (m : Msg) (s : State) → is_acquire m.body ≡ false → is_loss m.body ≡ false → IsLosing s → IsLosing (sent h m s)
+pub sent_losing : (h : ℕ) (m : Msg) (s : State) → is_acquire m.body ≡ false → is_loss m.body ≡ false → IsLosing s → IsLosing (sent h m s)
 sent_losing h m s a b i = same_caches s (sent h m s) (length-set s.views.nodes h _) (λ k. same-set (λ (x : Node). x.cache) s.views.nodes h k _ (no_node s) (no_node s) refl)
     (λ k l in_k. same_lost k l (at_line (node_at s k).cache l) s.trace.log (s.trace.log ++ goes_in h m ∷ []) (asked_in k l s.trace.log h m (and_off (is_at k l h m) _ a)) (reading_in k l s.trace.log h m (and_off (is_at k l h m) _ a) (and_off (is_at k l h m) _ b)) (i k l in_k))
 
-managed : (h : ℕ) (m : Msg) (s : State) → IsManaging m.body → IsLosing s → IsLosing (sent h m s)
+pub managed : (h : ℕ) (m : Msg) (s : State) → IsManaging m.body → IsLosing s → IsLosing (sent h m s)
 managed h m s is i = go m.body refl is
   where
     go : (body : Body) → m.body ≡ body → IsManaging body → IsLosing (sent h m s)
@@ -141,7 +141,7 @@ managed h m s is i = go m.body refl is
     go (GrantData cap bytes) e is = sent_losing h m s (ap is_acquire e) (ap is_loss e) i
     go _ e is = absurd is
 
-taken_losing : (h : ℕ) (m : Msg) (s : State) → IsInOrder s → IsFront (node_at s h) m → IsLosing s → IsLosing (taken h m s)
+pub taken_losing : (h : ℕ) (m : Msg) (s : State) → IsInOrder s → IsFront (node_at s h) m → IsLosing s → IsLosing (taken h m s)
 taken_losing h m s order front i = same_caches s (taken h m s) (length-set s.views.nodes h _) (λ k. same-set (λ (x : Node). x.cache) s.views.nodes h k _ (no_node s) (no_node s) refl)
     (λ k l in_k. go k l in_k (eqb_tells h k) (eqb_tells m.line l) (is_loss m.body) refl)
   where
@@ -164,31 +164,31 @@ taken_losing h m s order front i = same_caches s (taken h m s) (length-set s.vie
 -- ---- one cache turns
 
 -- away from the hart and the line the log says the same
-abbrev SaysSame : ℕ → ℕ → List Logged → List Logged → Type 0
+abbrev pub SaysSame : ℕ → ℕ → List Logged → List Logged → Type 0
 SaysSame h line log after = (k l : ℕ) → h == k && line == l ≡ false → (last_asked k l after ≡ last_asked k l log) × (reading k l after ≡ reading k l log)
 
-same_in : (h : ℕ) (m : Msg) (log : List Logged) → SaysSame h m.line log (log ++ goes_in h m ∷ [])
+pub same_in : (h : ℕ) (m : Msg) (log : List Logged) → SaysSame h m.line log (log ++ goes_in h m ∷ [])
 same_in h m log k l off = (asked_in k l log h m (rw off refl), reading_in k l log h m (rw off refl) (rw off refl))
 
-same_out : (h : ℕ) (m : Msg) (log : List Logged) → SaysSame h m.line log (log ++ comes_out h m ∷ [])
+pub same_out : (h : ℕ) (m : Msg) (log : List Logged) → SaysSame h m.line log (log ++ comes_out h m ∷ [])
 same_out h m log k l off = (asked_out k l log h m, reading_out k l log h m (rw off refl))
 
-same_both : (h line : ℕ) (asks says : Body) (log : List Logged) → SaysSame h line log ((log ++ comes_out h (record { line = line; body = asks }) ∷ []) ++ goes_in h (record { line = line; body = says }) ∷ [])
+pub same_both : (h line : ℕ) (asks says : Body) (log : List Logged) → SaysSame h line log ((log ++ comes_out h (record { line = line; body = asks }) ∷ []) ++ goes_in h (record { line = line; body = says }) ∷ [])
 same_both h line asks says log k l off =
     let m : Msg = record { line = line; body = asks } in
     let n : Msg = record { line = line; body = says } in
     ((same_in h n (log ++ comes_out h m ∷ []) k l off).0 ∙ (same_out h m log k l off).0, (same_in h n (log ++ comes_out h m ∷ []) k l off).1 ∙ (same_out h m log k l off).1)
 
 -- one hart's cache becomes this
-record TurnsTo (s t : State) (h : ℕ) (c : Cache) : Type 0 where
-  count : length t.views.nodes ≡ length s.views.nodes
-  here : (node_at t h).cache ≡ c
-  there : (k : ℕ) → k ≢ h → (node_at t k).cache ≡ (node_at s k).cache
+pub record TurnsTo (s t : State) (h : ℕ) (c : Cache) : Type 0 where
+  pub count : length t.views.nodes ≡ length s.views.nodes
+  pub here : (node_at t h).cache ≡ c
+  pub there : (k : ℕ) → k ≢ h → (node_at t k).cache ≡ (node_at s k).cache
 
-framed_turns : (s t : State) (h : ℕ) (n : Node) → Framed s t h n → TurnsTo s t h n.cache
+pub framed_turns : (s t : State) (h : ℕ) (n : Node) → Framed s t h n → TurnsTo s t h n.cache
 framed_turns s t h n f = record { count = f.count; here = ap (λ (x : Node). x.cache) f.here; there = λ k ne. ap (λ (x : Node). x.cache) (f.there k ne) }
 
-turned_losing : (s t : State) (h line : ℕ) (c : Cache) → TurnsTo s t h c → KeepsOthers line (node_at s h).cache c → SaysSame h line s.trace.log t.trace.log → (h < length s.views.nodes → Lost h line (at_line c line) t.trace.log) → IsLosing s → IsLosing t
+pub turned_losing : (s t : State) (h line : ℕ) (c : Cache) → TurnsTo s t h c → KeepsOthers line (node_at s h).cache c → SaysSame h line s.trace.log t.trace.log → (h < length s.views.nodes → Lost h line (at_line c line) t.trace.log) → IsLosing s → IsLosing t
 turned_losing s t h line c u keeps says here i k l in_t = go (eqb_tells h k) (eqb_tells line l)
   where
     in_k : k < length s.views.nodes
@@ -204,60 +204,3 @@ turned_losing s t h line c u keeps says here i k l in_t = go (eqb_tells h k) (eq
     go (inr e) f =
         let off : h == k && line == l ≡ false = rw e.0 refl in
         subst (λ (x : Cache). Lost k l (at_line x l) t.trace.log) (sym (u.there k (λ q. e.1 (sym q)))) (same_lost k l (at_line (node_at s k).cache l) s.trace.log t.trace.log (says k l off).0 (says k l off).1 (i k l in_k))
-
--- ---- the acts of a cache
-
--- what a Probe takes of a copy that isn't written
-shrinks : (copy : Option Held) (cap : Cap) → is_trunk (perm_of copy) ≡ false →
-    ((is_BtoN (shrunk_by (perm_of copy) cap).1 ≡ true) × (perm_of (shrunk_at cap copy) ≡ Nothing)) ⊎ ((is_BtoN (shrunk_by (perm_of copy) cap).1 ≡ false) × (perm_of (shrunk_at cap copy) ≡ perm_of copy))
-shrinks None cap e = inr (refl, refl)
-shrinks (Some (held.Branch bytes)) ToT e = inr (refl, refl)
-shrinks (Some (held.Branch bytes)) ToB e = inr (refl, refl)
-shrinks (Some (held.Branch bytes)) ToN e = inl (refl, refl)
-shrinks (Some (held.Trunk dirty bytes)) cap e = cc e
-
-loss_by : (change : Change) (bytes : Option LineData) → (is_loss (probe_ack_body change bytes) ≡ is_BtoN change) × (is_acquire (probe_ack_body change bytes) ≡ false)
-loss_by change None = (refl, refl)
-loss_by change (Some bytes) = (refl, refl)
-
-module _ (s : State) (h : ℕ) (in_h : h < length s.views.nodes) (g : Known s) (i : IsLosing s) where
-  abbrev n : Node
-  n = node_at s h
-
-  abbrev seen_at : ℕ → Side
-  seen_at l = side (kit_of n) (known_at (line_at s.views.notes (place_of (line_size s) l)) h) l
-
-  abbrev IsLine : ℕ → Type 0
-  IsLine l = is_line s.trace.image (line_size s) (length s.views.nodes) l ≡ true
-
-  missed_losing : (line : ℕ) (grow : Grow) → IsMissed n line grow → IsLosing (missed h line grow s)
-  missed_losing line grow is = turned_losing s t h line (wanted n.cache line grow).1 (framed_turns s t h _ f) (wanted_other n.cache line grow) (same_in h m s.trace.log) (λ _. here) i
-    where
-      m : Msg
-      m = record { line = line; body = AcquireBlock grow }
-
-      asking : State
-      asking = with_node h (record n { cache = (wanted n.cache line grow).1 }) s
-
-      t : State
-      t = missed h line grow s
-
-      f : Framed s t h (record n { cache = (wanted n.cache line grow).1; queues = pushed n.queues m })
-      f = framed_sent s asking h (record n { cache = (wanted n.cache line grow).1 }) m in_h (framed_node s h (record n { cache = (wanted n.cache line grow).1 }) in_h)
-
-      none : perm_of (copy_at n.cache line) ≡ Branch → nat_lt (taken_count is_loss (concerns h line) t.trace.log) (sent_count is_loss (concerns h line) t.trace.log) ≡ false
-      none branch =
-          let on : IsLine line = trunk_line s g.0.0 h line g.0.1 (λ e. cc (e, branch)) in
-          let kept : count_in is_loss (of_line line n.queues.c) ≡ 0 = branch_kept ((g.0.1.well.kept line on).stands h) branch in
-          let all : sends s g.1 h line in_h ≡ takes s g.1 h line in_h + count_in is_loss (of_line line n.queues.c) = losses s g.1 h line in_h in
-          let a : taken_count is_loss (concerns h line) t.trace.log ≡ taken_count is_loss (concerns h line) s.trace.log = same_count _ _ (taken_in is_loss h line s.trace.log h m) in
-          let b : sent_count is_loss (concerns h line) t.trace.log ≡ sent_count is_loss (concerns h line) s.trace.log = same_count _ _ (sent_in is_loss h line s.trace.log h m ∙ ap (λ x. sent_count is_loss (concerns h line) s.trace.log + bit x) (and_off (is_at h line h m) false refl)) in
-          let same : taken_count is_loss (concerns h line) t.trace.log ≡ sent_count is_loss (concerns h line) t.trace.log = omega (arith, kept, all, a, b) in
-          ap (λ x. nat_lt x (sent_count is_loss (concerns h line) t.trace.log)) same ∙ less_not (sent_count is_loss (concerns h line) t.trace.log)
-
-      here : Lost h line (at_line (wanted n.cache line grow).1 line) t.trace.log
-      here on last reader =
-          let same : grow ≡ BtoT = let e : Some (AcquireBlock grow) ≡ Some (AcquireBlock BtoT) = sym (asked_now line s.trace.log h grow) ∙ last in cc e in
-          let branch : perm_of (copy_at n.cache line) ≡ Branch = is.1 same in
-          let lost : lost_since_asking h line false t.trace.log ≡ false = lost_asking s.trace.log h m refl in
-          ap (λ (x : AtLine). needs_data BtoT (perm_of x.copy)) (missed_own n.cache line grow is.0) ∙ ap (needs_data BtoT) branch ∙ sym (λ j. lost j || none branch j)

@@ -15,7 +15,7 @@ use Rattle.directory.specs.Lines.{known_at}
 use Rattle.elf_loader.specs.Image.{Initial}
 use Rattle.machine_model.specs.Changing.{acted}
 use Rattle.machine_model.specs.Deliveries.{handled, on_release, taken, with_memory, with_notes}
-use Rattle.machine_model.specs.Events.{happens, hart_of, plan_of}
+use Rattle.machine_model.specs.Events.{counted, happens, hart_of, plan_of}
 use Rattle.machine_model.specs.LawfulLog.{may_send}
 use Rattle.machine_model.specs.LogLaws.{OthersLawfulAlways, is_due, is_probe_or_grant}
 use Rattle.machine_model.specs.Views.{Node, State, line_size, node_at, opening, opening_node, place_of}
@@ -147,8 +147,11 @@ flagged s h (act.Local count) in_h fit is front i = still_flagged s _ (alone_sti
 acts : (s : State) (e : Event) (a : Act) → plan_of s e ≡ Changes a → hart_of e < length s.views.nodes → Known s → IsFlagged s → IsFlagged (acted (hart_of e) a s)
 acts s e a is in_h g i = flagged s (hart_of e) a in_h g.0 (subst (IsWanted s (hart_of e)) is (plan_wanted s e)) (subst (IsFrontPlan (node_at s (hart_of e))) is (plan_front_of s g.1 e in_h)) i
 
+counted_flagged : (s : State) → IsFlagged s → IsFlagged (counted s)
+counted_flagged s i = still_flagged s (counted s) (same_nodes s (counted s) refl refl) i
+
 pub happens_flagged : (s : State) (e : Event) → Known s → IsFlagged s → IsFlagged (happens s e)
-happens_flagged s e g i = happens_keeps Known IsFlagged known still_flagged acts s e g i
+happens_flagged s e g i = happens_keeps Known IsFlagged known counted_flagged acts s e g i
 
 -- nothing is outstanding at reset
 pub opening_flagged : (image : Initial) (config : Config) → IsFlagged (opening image config)
@@ -178,4 +181,4 @@ may _ h l log due free is = cc is
 pub others_lawful_always : OthersLawfulAlways
 others_lawful_always image config events is within h m before rest e other =
     may m.body h m.line before (answers_due_always image config events is within h m before rest e)
-    ((events_keep Known IsFlagged known still_flagged acts events (opening image config) (opening_fits image config is.legal_size.whole_pages, opening_order image config) (opening_flagged image config)).each h m before rest e) other
+    ((events_keep Known IsFlagged known counted_flagged acts events (opening image config) (opening_fits image config is.legal_size.whole_pages, opening_order image config) (opening_flagged image config)).each h m before rest e) other
