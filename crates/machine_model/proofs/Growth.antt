@@ -197,7 +197,7 @@ entries_follow h (entry ∷ rest) s = follows_then s (with_trace (with_entry h e
 
 -- ---- acts
 
-acted_follows : (h : ℕ) (a : Act) (s : State) → Follows s (acted h a s)
+pub acted_follows : (h : ℕ) (a : Act) (s : State) → Follows s (acted h a s)
 acted_follows h (act.Stop code) s = record { grows = record { performed = begins _; entries = λ k. begins _; log = begins _ }; stays = record { image = refl; line = refl; config = refl } }
 acted_follows h (act.Retire entry i d) s = follows_then _ _ _ (does_follows _ h d s) (retired_follows h entry i _)
 acted_follows h (act.Miss line grow) s = follows_then _ _ _ (still s _ refl refl) (sent_follows h _ _)

@@ -78,3 +78,7 @@ pub mod LogManagerAnswers
 pub mod LogManagerAlone
 pub mod LogManagerLosses
 pub mod LogManagerCaches
+pub mod LogManagerNumbers
+pub mod LogManagerGrants
+pub mod LogManagerKept
+pub mod LogManagerProbes

@@ -36,7 +36,7 @@ last_of [] = None
 last_of (b ∷ []) = Some b
 last_of (b ∷ c ∷ bodies) = last_of (c ∷ bodies)
 
-last_behind : (bodies : List Body) (b : Body) → last_of (bodies ++ b ∷ []) ≡ Some b
+pub last_behind : (bodies : List Body) (b : Body) → last_of (bodies ++ b ∷ []) ≡ Some b
 last_behind [] b = refl
 last_behind (x ∷ []) b = refl
 last_behind (x ∷ y ∷ bodies) b = last_behind (y ∷ bodies) b
