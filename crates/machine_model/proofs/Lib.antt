@@ -82,3 +82,4 @@ pub mod LogManagerNumbers
 pub mod LogManagerGrants
 pub mod LogManagerKept
 pub mod LogManagerProbes
+pub mod LogManagerAcks
