@@ -83,3 +83,4 @@ pub mod LogManagerGrants
 pub mod LogManagerKept
 pub mod LogManagerProbes
 pub mod LogManagerAcks
+pub mod LogManagerAlways

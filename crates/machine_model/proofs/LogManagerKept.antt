@@ -122,12 +122,12 @@ noted_same s t p y trace config notes begins = record {
 -- ---- acts
 
 module _ (s : State) (h : ℕ) (in_h : h < s.views.config.harts) (i : IsGoverned s) where
-  alone_governed : (a : Act) → IsAlone a → IsGoverned (acted h a s)
+  pub alone_governed : (a : Act) → IsAlone a → IsGoverned (acted h a s)
   alone_governed a is =
       let follows : Follows s (acted h a s) = acted_follows h a s in
       same_governed s (acted h a s) (same_views s (acted h a s) (alone_still h a s is).quiet.log follows.stays.image follows.stays.config (alone_notes h a s is)) i
 
-  missed_governed : (line : ℕ) (grow : Grow) → IsGoverned (missed h line grow s)
+  pub missed_governed : (line : ℕ) (grow : Grow) → IsGoverned (missed h line grow s)
   missed_governed line grow =
       let asking : State = with_node h (record (node_at s h) { cache = (wanted (node_at s h).cache line grow).1 }) s in
       plain_sent h (record { line = line; body = AcquireBlock grow }) asking in_h refl (same_governed s asking (same_views s asking refl refl refl refl) i)
@@ -139,7 +139,7 @@ module _ (s : State) (h : ℕ) (in_h : h < s.views.config.harts) (i : IsGoverned
   evicted_governed line evict.AcquirePending a in_a j = j
   evicted_governed line evict.ReleaseFull a in_a j = j
 
-  given_up_governed : (line : ℕ) → IsGoverned (given_up h line s)
+  pub given_up_governed : (line : ℕ) → IsGoverned (given_up h line s)
   given_up_governed line =
       let less : State = with_node h (with_less (evicted (node_at s h).cache line).1 line (node_at s h)) s in
       evicted_governed line (evicted (node_at s h).cache line).0 less in_h (same_governed s less (same_views s less refl refl refl refl) i)
@@ -153,12 +153,12 @@ module _ (s : State) (h : ℕ) (in_h : h < s.views.config.harts) (i : IsGoverned
     i1 : IsGoverned s1
     i1 = taken_governed h (record { line = line; body = body }) s in_h other i
 
-    granted_governed : (cap : Cap) (bytes : Option LineData) → IsGoverned (on_grant h line cap bytes s1)
+    pub granted_governed : (cap : Cap) (bytes : Option LineData) → IsGoverned (on_grant h line cap bytes s1)
     granted_governed cap bytes =
         let held : State = with_node h (record (node_at s1 h) { cache = granted (node_at s1 h).cache line cap bytes }) s1 in
         plain_sent h (record { line = line; body = GrantAck }) held in_h refl (same_governed s1 held (same_views s1 held refl refl refl refl) i1)
 
-    rested_governed : IsGoverned (on_release_ack h line s1)
+    pub rested_governed : IsGoverned (on_release_ack h line s1)
     rested_governed = same_governed s1 (on_release_ack h line s1) (same_views s1 (on_release_ack h line s1) refl refl refl refl) i1
 
     answered_governed : (a : Probed) (b : State) → h < b.views.config.harts → IsGoverned b → IsGoverned (sent_if_answered h line a b)
@@ -166,7 +166,7 @@ module _ (s : State) (h : ℕ) (in_h : h < s.views.config.harts) (i : IsGoverned
     answered_governed (probe.Answered change None) b in_b j = plain_sent h (record { line = line; body = ProbeAck change }) b in_b refl j
     answered_governed (probe.Answered change (Some bytes)) b in_b j = plain_sent h (record { line = line; body = ProbeAckData change bytes }) b in_b refl j
 
-    probed_governed : (cap : Cap) → IsGoverned (on_probe h line cap s1)
+    pub probed_governed : (cap : Cap) → IsGoverned (on_probe h line cap s1)
     probed_governed cap =
         let shrunk : State = with_node h (with_less (probed (node_at s1 h).cache line cap).1 line (node_at s1 h)) s1 in
         answered_governed (probed (node_at s1 h).cache line cap).0 shrunk in_h (same_governed s1 shrunk (same_views s1 shrunk refl refl refl refl) i1)
@@ -177,7 +177,7 @@ module _ (s : State) (h : ℕ) (in_h : h < s.views.config.harts) (i : IsGoverned
     stored_governed None a = same_views a a refl refl refl refl
     stored_governed (Some bytes) a = same_views a (with_memory line (Some bytes) a) refl refl refl refl
 
-    released_governed : (bytes : Option LineData) → IsGoverned (on_release h line bytes s1)
+    pub released_governed : (bytes : Option LineData) → IsGoverned (on_release h line bytes s1)
     released_governed bytes = go bytes
       where
         p : ℕ
@@ -195,7 +195,7 @@ module _ (s : State) (h : ℕ) (in_h : h < s.views.config.harts) (i : IsGoverned
             let stored : State = with_memory line (Some bytes) s1 in
             plain_sent h (record { line = line; body = ReleaseAck }) (with_notes notes stored) in_h refl (same_governed stored (with_notes notes stored) (noted_at stored refl) (same_governed s1 stored (same_views s1 stored refl refl refl refl) i1))
 
-    ended_governed : IsGoverned (on_grant_ack line s1)
+    pub ended_governed : IsGoverned (on_grant_ack line s1)
     ended_governed =
         let p : ℕ = place_of (line_size s1) line in
         same_governed s1 (on_grant_ack line s1) (noted_same s1 (on_grant_ack line s1) p (lines.grant_acked (line_at s1.views.notes p)) refl refl refl (λ k grow e. cc e)) i1
