@@ -1,12 +1,11 @@
 -- The Grant that the last awaited ProbeAck comes to goes out where it may.
-use Rattle.std.proofs.Common.{ℕ, ◌+◌, ◌<◌, ◌≤◌, Bool, true, false, List, [], ◌∷◌, ◌++◌, ◌≡◌, Option, Some, None, refl, ap, sym, ◌∙◌, subst, length}
-use Rattle.std.specs.Prelude.{◌≢◌, ◌==◌, ◌&&◌, if◌then◌else◌, not, slice_set}
+use Rattle.std.proofs.Common.{ℕ, ◌+◌, ◌<◌, Bool, true, false, List, [], ◌∷◌, ◌≡◌, Option, Some, None, refl, ap, sym, ◌∙◌, subst, length}
+use Rattle.std.specs.Prelude.{◌≢◌, ◌==◌, ◌&&◌, if◌then◌else◌, not}
 use Rattle.std.proofs.lemmas.Bool.{eq-eqb}
 use Rattle.std.proofs.lemmas.Bool.Decides.{eqb_tells}
 use Rattle.std.proofs.lemmas.List.{get_or-set_other}
 use mathlib.Core.Logic.{◌⊎◌, inl, inr}
 use native.Mathlib.Omega.{arith}
-use Rattle.directory.specs.Directory as directory
 use Rattle.directory.specs.Directory.{Notes, line_at, with_line}
 use Rattle.directory.specs.Lines.{Line, acknowledged, answered_in, grant_for, granted, is_any_awaited, known_at, unknown}
 use Rattle.directory.specs.declared.answer.Grant.{Grant as Granting}
@@ -14,29 +13,27 @@ use Rattle.directory.specs.declared.answer.Known.{Known}
 use Rattle.directory.specs.declared.answer.Transaction.{Transaction}
 use Rattle.directory.specs.declared.answer.Transaction.TheVariants.{Idle, Probing, Granted}
 use Rattle.machine_model.specs.Deliveries.{grant_body, line_in_memory, on_probe_ack, sent_grant, sent_if_granted, taken, with_memory, with_notes}
-use Rattle.machine_model.specs.LawfulLog.{concerns, is_BtoT, is_acquire, is_grant, is_grant_ack, is_loss, is_probe, is_probe_ack, lost_since_asking, may_send, sent_count, taken_count}
+use Rattle.machine_model.specs.LawfulLog.{concerns, is_BtoT, is_acquire, is_grant, is_grant_ack, is_loss, is_probe, is_probe_ack, may_send, sent_count, taken_count}
 use Rattle.machine_model.specs.Views.{Node, State, line_size, node_at, place_of}
 use Rattle.machine_model.specs.declared.config.Config.{Config}
 use Rattle.machine_model.proofs.LineKept.{not_eq, part_of}
-use Rattle.machine_model.proofs.LineStands.{Asking, Part, Probed, Stands}
+use Rattle.machine_model.proofs.LineStands.{Asking, Probed, Stands}
 use Rattle.machine_model.proofs.LineViews.{front_here, of_line}
-use Rattle.machine_model.proofs.LogCounts.{bit, sent_in, sent_out, taken_in, taken_out}
+use Rattle.machine_model.proofs.LogCounts.{bit, sent_out, taken_out}
 use Rattle.machine_model.proofs.LogFlags.{no_bit}
-use Rattle.machine_model.proofs.LogLists.{comes_out, goes_in}
 use Rattle.machine_model.proofs.LogManagerGrants.{HasData, MayGrant, has_data, may_grant_now, none_waits}
-use Rattle.machine_model.proofs.LogManagerKept.{IsGoverned, SameMessages, noted_same, same_governed, same_views, sent_governed, taken_governed}
+use Rattle.machine_model.proofs.LogManagerKept.{IsGoverned, noted_same, same_governed, same_views, sent_governed, taken_governed}
 use Rattle.machine_model.proofs.LogManagerNumbers.{IsLine, IsPlain, acquires_are, grants_are, noted, part_at, probes_are, seen_at, stands}
 use Rattle.machine_model.proofs.LogManagerParts.{IsWaiting, is_asking, is_taking, probes_open, waits_for}
-use Rattle.machine_model.proofs.LogManagerProbes.{EachAnswered}
 use Rattle.machine_model.proofs.LogManagerQueues.{count_in}
-use Rattle.machine_model.proofs.LogManagerReadings.{and_off, heard_out, is_at, last_heard, lost_out}
+use Rattle.machine_model.proofs.LogManagerReadings.{and_off, heard_out, is_at, lost_out}
 use Rattle.machine_model.proofs.LogManagerSums.{settled_by_all}
-use Rattle.machine_model.proofs.WorldFits.{kit_at, kit_of}
-use Rattle.machine_model.proofs.WorldKept.{front_line, side}
+use Rattle.machine_model.proofs.WorldFits.{kit_at}
+use Rattle.machine_model.proofs.WorldKept.{front_line}
 use Rattle.machine_model.proofs.WorldManager.{none_awaited}
 use Rattle.tl_types.specs.declared.line.LineData.{LineData}
 use Rattle.tl_types.specs.declared.message.Body.{Body}
-use Rattle.tl_types.specs.declared.message.Body.TheVariants.{AcquireBlock, ProbeAck, ProbeAckData}
+use Rattle.tl_types.specs.declared.message.Body.TheVariants.{ProbeAck, ProbeAckData}
 use Rattle.tl_types.specs.declared.message.Msg.{Msg}
 use Rattle.tl_types.specs.declared.permission.Change.{Change}
 use Rattle.tl_types.specs.declared.permission.Grow.{Grow}

@@ -1,6 +1,6 @@
 -- What a hart does alone keeps the manager's notes, and changes no permission but of a copy that it may write.
 use Rattle.std.proofs.Common.{ℕ, zero, suc, Bool, true, false, List, [], ◌∷◌, ◌≡◌, Option, Some, None, refl, ap, ◌∙◌, sym, subst, slice_index_or, slice_set}
-use Rattle.std.specs.Prelude.{◌≢◌, ◌==◌}
+use Rattle.std.specs.Prelude.{◌==◌}
 use Rattle.std.proofs.lemmas.Bool.Decides.{eqb_tells}
 use mathlib.Core.Logic.{◌⊎◌, inl, inr}
 use Rattle.client_cache.proofs.AtLines.{put_own, put_other}

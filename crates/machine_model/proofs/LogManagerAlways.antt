@@ -1,5 +1,5 @@
 -- Every list of events leads to a lawful log.
-use Rattle.std.proofs.Common.{ℕ, ◌/◌, ◌%◌, ◌<◌, Bool, true, false, List, [], ◌∷◌, ◌++◌, ◌≡◌, Some, None, refl, ap, sym, ◌∙◌, subst, length}
+use Rattle.std.proofs.Common.{ℕ, ◌/◌, ◌%◌, ◌<◌, Bool, true, false, List, ◌∷◌, ◌++◌, ◌≡◌, Some, None, refl, ap, subst, length}
 use Rattle.std.specs.Prelude.{IsTrue, not}
 use Rattle.directory.specs.Directory.{quiet}
 use Rattle.directory.specs.Lines.{Line}
@@ -34,7 +34,6 @@ use Rattle.machine_model.proofs.OrderEvents.{opening_stand}
 use Rattle.machine_model.proofs.Runs.{happens_stand}
 use Rattle.machine_model.proofs.WorldOpening.{opening_fits, same_everywhere}
 use Rattle.tl_types.specs.Line.{length_of}
-use Rattle.tl_types.specs.declared.line.LineData.{LineData}
 use Rattle.tl_types.specs.declared.message.Body.{Body}
 use Rattle.tl_types.specs.declared.message.Body.TheVariants.{AcquireBlock, ProbeBlock, ProbeAck, ProbeAckData, Release, ReleaseData, Grant, GrantData, ReleaseAck, GrantAck}
 use Rattle.tl_types.specs.declared.message.Msg.{Msg}

@@ -1,5 +1,5 @@
 -- Each Grant and each Probe is answered as it is taken.
-use Rattle.std.proofs.Common.{ℕ, ◌+◌, ◌<◌, Bool, true, false, List, [], ◌∷◌, ◌++◌, ◌≡◌, Option, Some, None, refl, ap, sym, ◌∙◌, subst, length}
+use Rattle.std.proofs.Common.{ℕ, ◌+◌, Bool, false, List, [], ◌∷◌, ◌++◌, ◌≡◌, Option, Some, None, refl, ap, sym, ◌∙◌, subst}
 use Rattle.std.specs.Prelude.{◌==◌, ◌&&◌}
 use native.Mathlib.Omega.{arith}
 use Rattle.client_cache.specs.Cache.{evicted, probed, wanted}
@@ -8,9 +8,9 @@ use Rattle.client_cache.specs.declared.answers.Evict.TheVariants as evict
 use Rattle.client_cache.specs.declared.answers.Probed.{Probed}
 use Rattle.client_cache.specs.declared.answers.Probed.TheVariants.{Answered}
 use Rattle.elf_loader.specs.Image.{Initial}
-use Rattle.machine_model.specs.Changing.{acted, release_body, sent_if_evicted}
-use Rattle.machine_model.specs.Deliveries.{handled, probe_ack_body, sent_if_answered, taken, with_less}
-use Rattle.machine_model.specs.Events.{counted, happens, hart_of, plan_of}
+use Rattle.machine_model.specs.Changing.{acted, sent_if_evicted}
+use Rattle.machine_model.specs.Deliveries.{handled, sent_if_answered, taken, with_less}
+use Rattle.machine_model.specs.Events.{counted, happens, hart_of}
 use Rattle.machine_model.specs.LawfulLog.{concerns, is_grant, is_grant_ack, is_probe, is_probe_ack, sent_count, taken_count}
 use Rattle.machine_model.specs.Views.{Node, State, no_node, node_at, opening, sent, with_node}
 use Rattle.machine_model.specs.declared.act.Act.{Act}

@@ -1,13 +1,8 @@
 -- What each act makes of the losses of a hart that asks to write what it reads.
-use Rattle.std.proofs.Common.{ℕ, suc, ◌+◌, ◌<◌, ◌≤◌, Bool, true, false, List, [], ◌∷◌, ◌++◌, ◌≡◌, Option, Some, None, refl, ap, sym, ◌∙◌, subst, length, slice_index_or}
-use Rattle.std.specs.Prelude.{◌≢◌, ◌==◌, ◌&&◌, ◌||◌, nat_lt}
+use Rattle.std.proofs.Common.{ℕ, ◌+◌, ◌<◌, true, false, List, [], ◌∷◌, ◌++◌, ◌≡◌, Option, Some, None, refl, ap, sym, ◌∙◌, subst, length, slice_index_or}
+use Rattle.std.specs.Prelude.{◌||◌, nat_lt}
 use Rattle.std.specs.FinSet as set
-use Rattle.std.specs.FinSet.{contains-empty}
-use Rattle.std.specs.Ordering.{nat_cmp}
 use Rattle.std.proofs.lemmas.Bool.{eq-eqb, lt-ltb}
-use Rattle.std.proofs.lemmas.Bool.Decides.{eqb_tells, leb_tells}
-use Rattle.std.proofs.lemmas.List.{length-set}
-use Rattle.std.proofs.lemmas.List.FromFn.{get_or-map-range_with_len, length-map-range_with_len}
 use mathlib.Core.Logic.{◌⊎◌, inl, inr}
 use native.Mathlib.Omega.{arith}
 use Rattle.client_cache.proofs.AtLines.{evicted_other, evicted_own, missed_own, probed_other, probed_own, remove_own, wanted_other}
@@ -22,15 +17,15 @@ use Rattle.client_cache.specs.declared.held.Held.{Held}
 use Rattle.client_cache.specs.declared.held.Held.TheVariants as held
 use Rattle.directory.specs.Directory as directory
 use Rattle.directory.specs.Directory.{Notes, line_at}
-use Rattle.directory.specs.Lines.{known_at, needs_data, unknown}
+use Rattle.directory.specs.Lines.{known_at, needs_data}
 use Rattle.directory.specs.declared.answer.Acquired.{Acquired}
 use Rattle.directory.specs.declared.answer.Grant.{Grant as Granting}
 use Rattle.elf_loader.specs.Image.{Initial}
 use Rattle.machine_model.specs.Changing.{acted, given_up, missed, release_body, sent_if_evicted}
 use Rattle.machine_model.specs.Deliveries.{handled, is_trunk, on_grant, on_probe_ack, on_release, on_release_ack, probe_ack_body, sent_if_answered, taken, with_less, with_memory, with_notes}
-use Rattle.machine_model.specs.Events.{happens, hart_of, plan_of}
-use Rattle.machine_model.specs.LawfulLog.{concerns, is_BtoN, is_acquire, is_loss, is_on, lost_since_asking, sent_count, taken_count}
-use Rattle.machine_model.specs.Views.{Node, State, line_size, no_node, node_at, opening, opening_node, place_of, sent, with_node}
+use Rattle.machine_model.specs.Events.{happens, hart_of}
+use Rattle.machine_model.specs.LawfulLog.{concerns, is_BtoN, is_acquire, is_loss, lost_since_asking, sent_count, taken_count}
+use Rattle.machine_model.specs.Views.{Node, State, line_size, no_node, node_at, opening, place_of, sent, with_node}
 use Rattle.machine_model.specs.declared.act.Act.{Act}
 use Rattle.machine_model.specs.declared.act.Act.TheVariants as act
 use Rattle.machine_model.specs.declared.act.Plan.TheVariants.{Changes}
@@ -44,32 +39,29 @@ use Rattle.machine_model.proofs.LogCounts.{bit, sent_in, sent_out, taken_in, tak
 use Rattle.machine_model.proofs.LogLists.{comes_out, goes_in}
 use Rattle.machine_model.proofs.LogManagerAlone.{KeepsPerms, alone_perms}
 use Rattle.machine_model.proofs.LogManagerAnswers.{same_cache}
-use Rattle.machine_model.proofs.LogManagerLosses.{IsLosing, Lost, SaysSame, TurnsTo, framed_turns, less_not, losses, managed, or_true, same_both, same_in, same_lost, same_out, sends, sent_losing, taken_losing, takes, turned_losing}
+use Rattle.machine_model.proofs.LogManagerLosses.{IsLosing, Lost, framed_turns, less_not, losses, managed, or_true, same_both, same_in, same_lost, same_out, sends, sent_losing, taken_losing, takes, turned_losing}
 use Rattle.machine_model.proofs.LogManagerParts.{asking_reads, branch_kept}
-use Rattle.machine_model.proofs.LogManagerQueues.{GoesOn, count_in, in_queue}
-use Rattle.machine_model.proofs.LogManagerReadings.{and_off, asked_in, asked_now, asked_out, is_at, last_asked, losses_in, lost_asking, lost_taken, reading, reading_in, reading_out, same_count}
+use Rattle.machine_model.proofs.LogManagerQueues.{count_in}
+use Rattle.machine_model.proofs.LogManagerReadings.{and_off, asked_in, asked_now, asked_out, is_at, last_asked, losses_in, lost_asking, reading, reading_in, reading_out, same_count}
 use Rattle.machine_model.proofs.LogPlans.{IsFront, IsFrontPlan, plan_front_of}
-use Rattle.machine_model.proofs.LogQueues.{IsInOrder, same_within}
+use Rattle.machine_model.proofs.LogQueues.{same_within}
 use Rattle.machine_model.proofs.LogSends.{Known, known}
 use Rattle.machine_model.proofs.LogWanted.{IsMissed, IsReady, IsWanted, plan_wanted}
 use Rattle.machine_model.proofs.WorldFits.{Framed, framed_again, framed_node, framed_sent, framed_taken, kit_at, kit_of}
 use Rattle.machine_model.proofs.WorldKept.{front_line, is_line, side}
-use Rattle.machine_model.proofs.WorldSteps.{Fits, trunk_line}
-use Rattle.tilelink_channels.specs.Queues.{popped, pushed, queue_of}
+use Rattle.machine_model.proofs.WorldSteps.{trunk_line}
+use Rattle.tilelink_channels.specs.Queues.{popped, pushed}
 use Rattle.tl_types.specs.Message.{channel_of_body}
 use Rattle.tl_types.specs.Shrink.{shrunk_by}
 use Rattle.tl_types.specs.declared.line.LineData.{LineData}
 use Rattle.tl_types.specs.declared.message.Body.{Body}
 use Rattle.tl_types.specs.declared.message.Body.TheVariants.{AcquireBlock, ProbeBlock, ProbeAck, ProbeAckData, Release, ReleaseData, Grant, GrantData, ReleaseAck, GrantAck}
-use Rattle.tl_types.specs.declared.message.Channel.{Channel}
-use Rattle.tl_types.specs.declared.message.Channel.TheVariants.{C}
 use Rattle.tl_types.specs.declared.message.Msg.{Msg}
 use Rattle.tl_types.specs.declared.permission.Cap.{Cap}
 use Rattle.tl_types.specs.declared.permission.Cap.TheVariants.{ToT, ToB, ToN}
 use Rattle.tl_types.specs.declared.permission.Change.{Change}
 use Rattle.tl_types.specs.declared.permission.Grow.{Grow}
 use Rattle.tl_types.specs.declared.permission.Grow.TheVariants.{BtoT}
-use Rattle.tl_types.specs.declared.permission.Perm.{Perm}
 use Rattle.tl_types.specs.declared.permission.Perm.TheVariants.{Nothing, Branch}
 use Rattle.trace_recorder.specs.declared.logged.Logged.{Logged}
 
@@ -216,9 +208,6 @@ module _ (s : State) (h : ℕ) (in_h : h < length s.views.nodes) (g : Known s) (
 
     abbrev log2 : List Logged
     log2 = log1 ++ goes_in h answer ∷ []
-
-    own_at : is_at h line h answer ≡ true
-    own_at = rw (eq-eqb h h refl, eq-eqb line line refl) refl
 
     asked_same : last_asked h line log2 ≡ last_asked h line s.trace.log
     asked_same = asked_in h line log1 h answer (and_off (is_at h line h answer) _ (loss_by change bytes).1) ∙ asked_out h line s.trace.log h (record { line = line; body = ProbeBlock cap })

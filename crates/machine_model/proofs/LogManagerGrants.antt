@@ -1,6 +1,6 @@
 -- When a Grant may be sent.
-use Rattle.std.proofs.Common.{ℕ, ◌+◌, ◌<◌, Bool, true, false, List, [], ◌∷◌, ◌++◌, ◌≡◌, Option, Some, None, refl, ap, sym, ◌∙◌, subst, length}
-use Rattle.std.specs.Prelude.{◌==◌, ◌&&◌, ◌||◌, if◌then◌else◌, not, nat_lt, slice_get}
+use Rattle.std.proofs.Common.{ℕ, ◌+◌, ◌<◌, Bool, true, false, List, [], ◌∷◌, ◌++◌, ◌≡◌, Option, Some, refl, ap, sym, ◌∙◌, length}
+use Rattle.std.specs.Prelude.{◌==◌, ◌||◌, if◌then◌else◌, not, nat_lt}
 use Rattle.std.specs.FinSet as set
 use Rattle.std.proofs.lemmas.Bool.{and_from}
 use Rattle.std.proofs.lemmas.List.{append-nil}
@@ -9,8 +9,8 @@ use Rattle.client_cache.specs.AtLine.{at_line}
 use Rattle.client_cache.specs.Held.{perm_of}
 use Rattle.directory.specs.Lines.{Line, grant_for, known_at, needs_data}
 use Rattle.machine_model.specs.Deliveries.{grant_body, is_trunk}
-use Rattle.machine_model.specs.LawfulLog.{answers_acquire, asked_by_next, concerns, goes_without_data, grows_taken, is_BtoT, is_acquire, is_for, is_grant, is_loss, lost_since_asking, may_grant, may_send, no_grant_open, no_hart_probed, sent_count, sent_on, taken_count, taken_on}
-use Rattle.machine_model.specs.Views.{Node, State, no_node, node_at}
+use Rattle.machine_model.specs.LawfulLog.{answers_acquire, asked_by_next, concerns, goes_without_data, is_acquire, is_for, is_grant, is_loss, lost_since_asking, may_grant, may_send, no_grant_open, no_hart_probed, sent_count, taken_count, taken_on}
+use Rattle.machine_model.specs.Views.{State, no_node, node_at}
 use Rattle.machine_model.proofs.LineViews.{of_line}
 use Rattle.machine_model.proofs.LogManagerLosses.{IsLosing, less_not, losses}
 use Rattle.machine_model.proofs.LogManagerQueues.{count_in}
@@ -18,11 +18,9 @@ use Rattle.machine_model.proofs.LogManagerReadings.{heard_next, last_asked, last
 use Rattle.machine_model.proofs.LogQueues.{IsInOrder}
 use Rattle.tl_types.specs.Permission.{granted_for}
 use Rattle.tl_types.specs.declared.line.LineData.{LineData}
-use Rattle.tl_types.specs.declared.message.Body.{Body}
 use Rattle.tl_types.specs.declared.message.Body.TheVariants.{AcquireBlock, Grant, GrantData}
 use Rattle.tl_types.specs.declared.message.Channel.TheVariants.{A}
 use Rattle.tl_types.specs.declared.message.Msg.{Msg}
-use Rattle.tl_types.specs.declared.permission.Cap.{Cap}
 use Rattle.tl_types.specs.declared.permission.Grow.{Grow}
 use Rattle.tl_types.specs.declared.permission.Grow.TheVariants.{NtoB, NtoT, BtoT}
 use Rattle.tl_types.specs.declared.permission.Perm.{Perm}

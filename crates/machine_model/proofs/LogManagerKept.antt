@@ -1,6 +1,6 @@
 -- What holds of the manager's messages, and that each act which isn't the manager's keeps it.
-use Rattle.std.proofs.Common.{ℕ, ◌+◌, ◌<◌, ◌≤◌, Bool, true, false, List, [], ◌∷◌, ◌++◌, ◌≡◌, Option, Some, None, refl, ap, sym, ◌∙◌, subst, length}
-use Rattle.std.specs.Prelude.{◌≢◌, ◌==◌, ◌&&◌, slice_set}
+use Rattle.std.proofs.Common.{ℕ, ◌<◌, ◌≤◌, true, false, List, ◌≡◌, Option, Some, None, refl, ap, sym, ◌∙◌, subst, length}
+use Rattle.std.specs.Prelude.{◌==◌, slice_set}
 use Rattle.std.proofs.lemmas.Bool.{cases_lt}
 use Rattle.std.proofs.lemmas.Bool.Decides.{eqb_tells}
 use Rattle.std.proofs.lemmas.List.{get_or-set_same, get_or-set_other, get_or_past, length-set}
@@ -17,17 +17,16 @@ use Rattle.directory.specs.Lines as lines
 use Rattle.directory.specs.Lines.{Line}
 use Rattle.directory.specs.declared.answer.Transaction.TheVariants.{Probing}
 use Rattle.elf_loader.specs.Image.{Initial}
-use Rattle.machine_model.specs.Changing.{acted, given_up, missed, release_body, sent_if_evicted}
-use Rattle.machine_model.specs.Deliveries.{handled, on_grant, on_grant_ack, on_probe, on_release, on_release_ack, probe_ack_body, sent_if_answered, taken, with_less, with_memory, with_notes}
+use Rattle.machine_model.specs.Changing.{acted, given_up, missed, sent_if_evicted}
+use Rattle.machine_model.specs.Deliveries.{on_grant, on_grant_ack, on_probe, on_release, on_release_ack, sent_if_answered, taken, with_less, with_memory, with_notes}
 use Rattle.machine_model.specs.Events.{is_piece}
-use Rattle.machine_model.specs.LawfulLog.{is_acquire, is_grant, is_probe, may_send}
+use Rattle.machine_model.specs.LawfulLog.{is_acquire, may_send}
 use Rattle.machine_model.specs.LogLaws.{is_probe_or_grant}
-use Rattle.machine_model.specs.Views.{Node, State, line_size, node_at, place_of, sent, size_of_config, with_node}
+use Rattle.machine_model.specs.Views.{State, line_size, node_at, place_of, sent, size_of_config, with_node}
 use Rattle.machine_model.specs.declared.act.Act.{Act}
-use Rattle.machine_model.specs.declared.act.Act.TheVariants as act
 use Rattle.machine_model.specs.declared.config.Config.{Config}
 use Rattle.machine_model.proofs.Growth.{Follows, acted_follows}
-use Rattle.machine_model.proofs.LogActs.{IsAlone, Still, alone_still}
+use Rattle.machine_model.proofs.LogActs.{IsAlone, alone_still}
 use Rattle.machine_model.proofs.LogCounts.{EachSent, one_sent, one_taken}
 use Rattle.machine_model.proofs.LogLists.{comes_out, goes_in}
 use Rattle.machine_model.proofs.LogManagerAlone.{alone_notes}
@@ -37,10 +36,9 @@ use Rattle.machine_model.proofs.LogManagerSums.{AreBelow, below_more}
 use Rattle.tl_types.specs.Line.{length_of}
 use Rattle.tl_types.specs.declared.line.LineData.{LineData}
 use Rattle.tl_types.specs.declared.message.Body.{Body}
-use Rattle.tl_types.specs.declared.message.Body.TheVariants.{AcquireBlock, ProbeBlock, ProbeAck, ProbeAckData, Release, ReleaseData, Grant, GrantData, ReleaseAck, GrantAck}
+use Rattle.tl_types.specs.declared.message.Body.TheVariants.{AcquireBlock, ProbeAck, ProbeAckData, Release, ReleaseData, ReleaseAck, GrantAck}
 use Rattle.tl_types.specs.declared.message.Msg.{Msg}
 use Rattle.tl_types.specs.declared.permission.Cap.{Cap}
-use Rattle.tl_types.specs.declared.permission.Change.{Change}
 use Rattle.tl_types.specs.declared.permission.Grow.{Grow}
 use Rattle.trace_recorder.specs.declared.logged.Logged.{Logged}
 
@@ -172,10 +170,6 @@ module _ (s : State) (h : ℕ) (in_h : h < s.views.config.harts) (i : IsGoverned
         answered_governed (probed (node_at s1 h).cache line cap).0 shrunk in_h (same_governed s1 shrunk (same_views s1 shrunk refl refl refl refl) i1)
 
     -- ---- deliveries to the manager that send no Probe and no Grant
-
-    stored_governed : (bytes : Option LineData) (a : State) → SameMessages a (with_memory line bytes a)
-    stored_governed None a = same_views a a refl refl refl refl
-    stored_governed (Some bytes) a = same_views a (with_memory line (Some bytes) a) refl refl refl refl
 
     pub released_governed : (bytes : Option LineData) → IsGoverned (on_release h line bytes s1)
     released_governed bytes = go bytes

@@ -1,19 +1,15 @@
 -- The numbers of messages of a hart and a line, by what the manager notes of them.
-use Rattle.std.proofs.Common.{ℕ, ◌+◌, ◌<◌, Bool, true, false, List, [], ◌∷◌, ◌++◌, ◌≡◌, Option, Some, None, refl, ap, sym, ◌∙◌, subst, length}
-use Rattle.std.specs.Prelude.{◌==◌, ◌&&◌, not}
-use Rattle.std.specs.FinSet as set
+use Rattle.std.proofs.Common.{ℕ, ◌+◌, ◌<◌, true, List, ◌≡◌, refl, length}
 use native.Mathlib.Omega.{arith}
 use Rattle.directory.specs.Directory.{line_at}
 use Rattle.directory.specs.Lines.{Line, known_at}
 use Rattle.machine_model.specs.LawfulLog.{concerns, is_acquire, is_grant, is_grant_ack, is_probe, is_probe_ack, sent_count, taken_count}
-use Rattle.machine_model.specs.Views.{Node, State, line_size, no_node, node_at, place_of}
+use Rattle.machine_model.specs.Views.{State, line_size, no_node, node_at, place_of}
 use Rattle.machine_model.proofs.LineKept.{part_of}
 use Rattle.machine_model.proofs.LineStands.{Part, Side, Stands}
-use Rattle.machine_model.proofs.LineViews.{of_line}
 use Rattle.machine_model.proofs.LogCaches.{IsFlagged}
 use Rattle.machine_model.proofs.LogCounts.{bit}
 use Rattle.machine_model.proofs.LogManagerAnswers.{IsAnswering}
-use Rattle.machine_model.proofs.LogManagerCaches.{happens_losing}
 use Rattle.machine_model.proofs.LogManagerLosses.{IsLosing}
 use Rattle.machine_model.proofs.LogManagerParts.{acquires_open, grants_open, is_asking, is_taking, probes_open}
 use Rattle.machine_model.proofs.LogManagerQueues.{GoesOn, count_in, in_queue}
@@ -21,8 +17,7 @@ use Rattle.machine_model.proofs.LogSends.{Known}
 use Rattle.machine_model.proofs.Runs.{AllStand}
 use Rattle.machine_model.proofs.WorldFits.{kit_of}
 use Rattle.machine_model.proofs.WorldKept.{is_line, side}
-use Rattle.tl_types.specs.declared.message.Body.{Body}
-use Rattle.tl_types.specs.declared.message.Body.TheVariants.{AcquireBlock, ProbeBlock, ProbeAck, ProbeAckData, Release, ReleaseData, Grant, GrantData, ReleaseAck, GrantAck}
+use Rattle.tl_types.specs.declared.message.Body.TheVariants.{AcquireBlock, ProbeBlock, ProbeAck, ProbeAckData, Grant, GrantData, GrantAck}
 use Rattle.tl_types.specs.declared.message.Channel.TheVariants.{A, B, C, D, E}
 use Rattle.trace_recorder.specs.declared.logged.Logged.{Logged}
 

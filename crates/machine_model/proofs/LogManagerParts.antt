@@ -2,18 +2,17 @@
 use Rattle.std.proofs.Common.{ℕ, ◌+◌, Bool, true, false, List, [], ◌∷◌, ◌≡◌, Some, None, refl, ap, sym, ◌∙◌}
 use native.Mathlib.Omega.{arith}
 use Rattle.client_cache.specs.Held.{perm_of}
-use Rattle.directory.specs.Lines.{conflicts}
 use Rattle.machine_model.specs.Deliveries.{is_trunk, probe_ack_body}
 use Rattle.machine_model.specs.LawfulLog.{is_acquire, is_grant, is_grant_ack, is_loss, is_probe, is_probe_ack}
-use Rattle.machine_model.proofs.LineStands.{Side, Part, Alone, Probed, Asking, Taking, IsBystander, IsReader, Stands, Holds, Asks, Leaves, Left, HoldsProbed, AsksProbed, LeavesProbed, LeftProbed, HoldsAnswered, AsksAnswered, LeavesAnswered, Waits, Receives, Upgrades, HoldsGranted, AsksGranted, LeavesGranted, LeftGranted, not_conflicting}
+use Rattle.machine_model.proofs.LineStands.{Side, Part, Alone, Probed, Asking, Taking, IsBystander, Stands, Holds, Asks, Leaves, Left, AsksProbed, LeavesProbed, HoldsAnswered, AsksAnswered, LeavesAnswered, Waits, Receives, Upgrades, AsksGranted, LeavesGranted, not_conflicting}
 use Rattle.machine_model.proofs.LogCounts.{bit}
 use Rattle.machine_model.proofs.LogManagerQueues.{count_in}
 use Rattle.tl_types.specs.Permission.{left_by}
 use Rattle.tl_types.specs.declared.line.LineData.{LineData}
 use Rattle.tl_types.specs.declared.message.Body.{Body}
-use Rattle.tl_types.specs.declared.message.Body.TheVariants.{AcquireBlock, ProbeAck, ProbeAckData}
+use Rattle.tl_types.specs.declared.message.Body.TheVariants.{AcquireBlock}
 use Rattle.tl_types.specs.declared.permission.Change.{Change}
-use Rattle.tl_types.specs.declared.permission.Change.TheVariants.{TtoT, TtoB, TtoN, BtoB, BtoN, NtoN}
+use Rattle.tl_types.specs.declared.permission.Change.TheVariants.{TtoB, BtoB}
 use Rattle.tl_types.specs.declared.permission.Grow.{Grow}
 use Rattle.tl_types.specs.declared.permission.Perm.{Perm}
 use Rattle.tl_types.specs.declared.permission.Perm.TheVariants.{Branch}

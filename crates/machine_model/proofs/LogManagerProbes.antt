@@ -1,23 +1,21 @@
 -- The Probes and the Grant that an Acquire comes to go out where they may.
-use Rattle.std.proofs.Common.{ℕ, zero, suc, ◌+◌, ◌<◌, ◌≤◌, Bool, true, false, List, [], ◌∷◌, ◌++◌, ◌≡◌, Option, Some, None, refl, ap, sym, ◌∙◌, subst, length}
-use Rattle.std.specs.Prelude.{◌≢◌, ◌==◌, ◌&&◌, if◌then◌else◌, not, filter}
+use Rattle.std.proofs.Common.{ℕ, zero, suc, ◌+◌, ◌<◌, ◌≤◌, Bool, true, false, List, [], ◌∷◌, ◌++◌, ◌≡◌, Some, refl, ap, sym, ◌∙◌, subst, length}
+use Rattle.std.specs.Prelude.{◌==◌, ◌&&◌, if◌then◌else◌, not, filter}
 use Rattle.std.specs.List.{range_with_len}
-use Rattle.std.specs.FinSet as set
 use Rattle.std.proofs.lemmas.Bool.{and_from, eq-eqb}
 use Rattle.std.proofs.lemmas.Bool.Decides.{eqb_tells}
 use mathlib.Core.Logic.{◌⊎◌, inl, inr}
 use native.Mathlib.Omega.{arith}
-use Rattle.client_cache.specs.Held.{perm_of}
 use Rattle.directory.specs.Directory as directory
 use Rattle.directory.specs.Directory.{Notes, line_at, with_line}
 use Rattle.directory.specs.Harts.{harts_below}
-use Rattle.directory.specs.Lines.{Line, acquired_by, acquired_in, grant_for, granted, is_probed, known_at, probe_cap, probed, probing, unknown}
+use Rattle.directory.specs.Lines.{Line, acquired_by, acquired_in, grant_for, granted, is_probed, known_at, probe_cap, probed, probing}
 use Rattle.directory.specs.declared.answer.Acquired.TheVariants.{Handled}
 use Rattle.directory.specs.declared.answer.Sent.{Sent}
 use Rattle.directory.specs.declared.answer.Transaction.{Transaction}
 use Rattle.directory.specs.declared.answer.Transaction.TheVariants.{Idle, Probing, Granted}
 use Rattle.machine_model.specs.Deliveries.{grant_body, line_in_memory, on_acquire, sent_grant, sent_if_handled, sent_probes, taken, with_notes}
-use Rattle.machine_model.specs.LawfulLog.{concerns, goes_without_data, is_BtoT, is_acquire, is_grant, is_grant_ack, is_probe, is_probe_ack, lost_since_asking, may_send, sent_count, taken_count, taken_on}
+use Rattle.machine_model.specs.LawfulLog.{concerns, is_BtoT, is_acquire, is_grant, is_grant_ack, is_probe, is_probe_ack, may_send, sent_count, taken_count, taken_on}
 use Rattle.machine_model.specs.Views.{Node, State, line_size, node_at, place_of, sent}
 use Rattle.machine_model.proofs.LineKept.{part_of}
 use Rattle.machine_model.proofs.LinePlaces.{place_own}
@@ -25,24 +23,22 @@ use Rattle.machine_model.proofs.LineStands.{Alone, Stands}
 use Rattle.machine_model.proofs.LineViews.{front_here, of_line}
 use Rattle.machine_model.proofs.LogCounts.{bit, one_taken, sent_in, sent_out, taken_in, taken_out}
 use Rattle.machine_model.proofs.LogFlags.{no_bit}
-use Rattle.machine_model.proofs.LogLists.{comes_out, goes_in}
+use Rattle.machine_model.proofs.LogLists.{comes_out}
 use Rattle.machine_model.proofs.LogManagerGrants.{HasData, MayGrant, asked_are, has_data, may_grant_now}
 use Rattle.machine_model.proofs.LogManagerKept.{Governed, IsGoverned, at_place, noted_same, same_governed, sent_governed}
 use Rattle.machine_model.proofs.LogManagerNumbers.{IsLine, IsPlain, acquires_are, grants_are, noted, part_at, probes_are, seen_at, stands}
 use Rattle.machine_model.proofs.LogManagerParts.{AsksFirst, asks_first, is_asking, is_taking}
 use Rattle.machine_model.proofs.LogManagerReadings.{and_off, heard_now, heard_out, is_at, last_asked, last_behind, last_heard, last_of, lost_out}
-use Rattle.machine_model.proofs.LogManagerSums.{AreBelow, below_more, settled_by_all}
-use Rattle.machine_model.proofs.WorldFits.{kit_at, kit_of}
-use Rattle.machine_model.proofs.WorldKept.{front_line, side}
+use Rattle.machine_model.proofs.LogManagerSums.{below_more, settled_by_all}
+use Rattle.machine_model.proofs.WorldFits.{kit_at}
+use Rattle.machine_model.proofs.WorldKept.{front_line}
 use Rattle.machine_model.proofs.WorldManager.{rests}
-use Rattle.tl_types.specs.declared.line.LineData.{LineData}
 use Rattle.tl_types.specs.declared.message.Body.{Body}
 use Rattle.tl_types.specs.declared.message.Body.TheVariants.{AcquireBlock, ProbeBlock}
 use Rattle.tl_types.specs.declared.message.Channel.TheVariants.{A}
 use Rattle.tl_types.specs.declared.message.Msg.{Msg}
 use Rattle.tl_types.specs.declared.permission.Cap.{Cap}
 use Rattle.tl_types.specs.declared.permission.Grow.{Grow}
-use Rattle.tl_types.specs.declared.permission.Grow.TheVariants.{BtoT}
 use Rattle.trace_recorder.specs.declared.logged.Logged.{Logged}
 
 -- each question of this kind is answered, hart by hart

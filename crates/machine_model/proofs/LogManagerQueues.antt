@@ -1,5 +1,5 @@
 -- The messages of a kind that were sent and not taken yet wait in their queue.
-use Rattle.std.proofs.Common.{ℕ, suc, ◌+◌, ◌<◌, Bool, true, false, List, [], ◌∷◌, ◌++◌, ◌≡◌, Some, None, refl, ap, cond, sym, ◌∙◌, subst, length, slice_index_or}
+use Rattle.std.proofs.Common.{ℕ, suc, ◌+◌, ◌<◌, Bool, true, false, List, [], ◌∷◌, ◌++◌, ◌≡◌, Some, None, refl, ap, cond, sym, ◌∙◌, length, slice_index_or}
 use Rattle.std.specs.Prelude.{◌==◌, ◌&&◌, not, filter}
 use Rattle.std.specs.List.{cons_option}
 use Rattle.std.proofs.lemmas.List.{length-append}

@@ -1,5 +1,5 @@
 -- What a log says of a hart's last Acquire of a line and of what the hart lost since, and what one more entry makes of it.
-use Rattle.std.proofs.Common.{ℕ, suc, ◌+◌, ◌<◌, Bool, true, false, List, [], ◌∷◌, ◌++◌, ◌≡◌, Option, Some, None, refl, ap, cond, sym, ◌∙◌, subst, length}
+use Rattle.std.proofs.Common.{ℕ, suc, ◌+◌, Bool, true, false, List, [], ◌∷◌, ◌++◌, ◌≡◌, Option, Some, None, refl, ap, cond, sym, ◌∙◌}
 use Rattle.std.specs.Prelude.{◌==◌, ◌&&◌, ◌||◌, not, nat_lt, slice_get}
 use Rattle.std.specs.List.{cons_option, filter_map}
 use Rattle.std.proofs.lemmas.List.{append-nil}
@@ -10,7 +10,6 @@ use native.Mathlib.Omega.{arith}
 use Rattle.machine_model.specs.LawfulLog.{concerns, grow_in, grows_taken, is_acquire, is_loss, is_on, is_sent, lost_after, lost_since_asking, sent_count, sent_on, taken_count, taken_on}
 use Rattle.machine_model.proofs.LineViews.{of_line, of_line_other, of_line_same}
 use Rattle.machine_model.proofs.LogCounts.{bit, sent_in, sent_out, taken_in, taken_out}
-use Rattle.machine_model.proofs.LogFlags.{no_bit}
 use Rattle.machine_model.proofs.LogLists.{comes_out, goes_in, is_in, part, sent_on_sent, sent_on_taken, taken_on_sent, taken_on_taken}
 use Rattle.machine_model.proofs.LogManagerQueues.{GoesOn, count_in, taken_in_line}
 use Rattle.tl_types.specs.Message.{channel_of, channel_of_body}
@@ -181,9 +180,6 @@ pub same_count : (a b : ℕ) → a ≡ b + 0 → a ≡ b
 same_count a b e = omega (arith, e)
 
 module _ (k l : ℕ) (log : List Logged) (h : ℕ) (m : Msg) where
-  lost : Bool
-  lost = lost_since_asking k l false log
-
   pub lost_in : is_at k l h m && is_acquire m.body ≡ false → lost_since_asking k l false (log ++ goes_in h m ∷ []) ≡ lost_since_asking k l false log
   lost_in off = lost_behind k l false log (goes_in h m) ∙ go (is_at k l h m) off
     where
