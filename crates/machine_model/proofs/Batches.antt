@@ -2,7 +2,7 @@
 use Rattle.std.proofs.Common.{◌≡◌, ℕ, zero, suc, ◌+◌, ◌<◌, ◌≤◌, List, [], ◌∷◌, ◌++◌, Bool, true, false, Option, Some, None, refl, cond, sym, ap, ◌∙◌, subst, not, ◌&&◌, ◌||◌, length, slice_index_or, slice_set, arith}
 use Rattle.std.specs.Prelude.{nat_eq, nat_lt, nat_le, is_none}
 use Rattle.std.proofs.lemmas.Bool.{false≢true, and_parts, and_from, eqb-true, ltb-true, ltb-false, lt-ltb, leb-true}
-use Rattle.std.proofs.lemmas.List.{set-set, set-get_or, get_or-set_same, length-set, length-append}
+use Rattle.std.proofs.lemmas.List.{set-set, set-get_or, length-set, length-append}
 use Rattle.elf_loader.specs.Image.{Initial, word_at}
 use Rattle.hart.specs.declared.retired.Retired.{Retired}
 use Rattle.hart.specs.declared.state.Hart.{Hart}
@@ -10,26 +10,25 @@ use Rattle.hart.specs.declared.status.Status.{Status}
 use Rattle.hart.specs.declared.status.Status.TheVariants.{Running, Stopped, Exited}
 use Rattle.hart.specs.Local.{can_go_alone, is_done_alone, is_private, next_entry, private_row}
 use Rattle.hart.specs.Run.{after, after_instr, can_fetch, is_running, next_stop, reached, stop_with}
-use Rattle.hart.proofs.Alone.{Alone, alone, after-running, private_is}
+use Rattle.hart.proofs.Alone.{alone, after-running, private_is}
 use Rattle.hart.proofs.Rows.{stop_of-private}
 use Rattle.machine_model.specs.declared.act.Act.TheVariants as act
 use Rattle.machine_model.specs.declared.act.Deed.TheVariants as deed
-use Rattle.machine_model.specs.declared.act.Plan.{Plan}
 use Rattle.machine_model.specs.declared.act.Plan.TheVariants.{Stays, Changes}
 use Rattle.machine_model.specs.declared.event.Event.TheVariants as event
 use Rattle.machine_model.specs.declared.outcome.Outcome.{Outcome}
 use Rattle.machine_model.specs.declared.outcome.Outcome.TheVariants as outcome
-use Rattle.machine_model.specs.Changing.{acted, with_entries, outcome_by, outcome_of, place_at, retired, went_alone, with_halt}
-use Rattle.machine_model.specs.Events.{Verdict, counted, is_good, is_limited, most_changes, most_entries, plan_local, plan_of, verdict, verdict_by}
-use Rattle.machine_model.specs.Laws.{IsSteps, LocalIsSteps, StepsRetire, with_changes}
-use Rattle.machine_model.specs.Steps.{Fetched, plan_access, plan_instr, plan_step, plan_unless}
+use Rattle.machine_model.specs.Changing.{with_entries, outcome_by, place_at, retired, went_alone, with_halt}
+use Rattle.machine_model.specs.Events.{Verdict, counted, is_good, most_changes, most_entries, plan_of, verdict, verdict_by}
+use Rattle.machine_model.specs.Laws.{LocalIsSteps, StepsRetire, with_changes}
+use Rattle.machine_model.specs.Steps.{plan_access, plan_instr, plan_step, plan_unless}
 use Rattle.machine_model.specs.Views.{Node, State, no_node, node_at, with_node, with_trace}
 use Rattle.machine_model.proofs.Nodes.{node_same}
 use Rattle.memory_model.specs.declared.Model.{Model}
 use Rattle.rv32_decode.specs.Rows.{decoded}
 use Rattle.rv32_decode.specs.declared.instruction.Instr.{Instr}
-use Rattle.rv32_exec.specs.Meaning.{Access, Private, access_of, stop_of}
-use Rattle.trace_recorder.specs.History.{entries_of, with_entry}
+use Rattle.rv32_exec.specs.Meaning.{Private, access_of, stop_of}
+use Rattle.trace_recorder.specs.History.{with_entry}
 
 -- ---- one step of a private instruction
 

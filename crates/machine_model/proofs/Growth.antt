@@ -23,9 +23,9 @@ use Rattle.machine_model.specs.declared.act.Deed.TheVariants as deed
 use Rattle.machine_model.specs.declared.act.Plan.{Plan}
 use Rattle.machine_model.specs.declared.act.Plan.TheVariants as plan
 use Rattle.machine_model.specs.declared.event.Event.{Event}
-use Rattle.machine_model.specs.Changing.{acted, does, performs_own, place_at, performs, with_halt, with_entries, retired, stopped, missed, drained, given_up, sent_if_evicted, went_alone}
-use Rattle.machine_model.specs.Deliveries.{delivered, handled, taken, sent_probes, sent_grant, sent_any, sent_if_handled, sent_if_granted, sent_if_answered, with_memory, with_notes, with_less, on_probe_ack}
-use Rattle.machine_model.specs.Events.{Verdict, verdict_by, verdict, state_by, happens, is_good, is_limited, plan_of, hart_of}
+use Rattle.machine_model.specs.Changing.{acted, does, performs_own, place_at, performs, with_halt, with_entries, retired, sent_if_evicted}
+use Rattle.machine_model.specs.Deliveries.{handled, taken, sent_probes, sent_any, sent_if_handled, sent_if_granted, sent_if_answered, with_memory, with_notes, with_less, on_probe_ack}
+use Rattle.machine_model.specs.Events.{Verdict, verdict_by, state_by, happens, is_good, is_limited, plan_of, hart_of}
 use Rattle.machine_model.specs.Laws.{Grows, KeepsImageAndConfig}
 use Rattle.machine_model.specs.LawfulLog.{IsBeginningOf}
 use Rattle.machine_model.specs.Views.{State, line_size, place_of, node_at, with_node, with_trace, sent}
@@ -197,7 +197,7 @@ entries_follow h (entry ∷ rest) s = follows_then s (with_trace (with_entry h e
 
 -- ---- acts
 
-acted_follows : (h : ℕ) (a : Act) (s : State) → Follows s (acted h a s)
+pub acted_follows : (h : ℕ) (a : Act) (s : State) → Follows s (acted h a s)
 acted_follows h (act.Stop code) s = record { grows = record { performed = begins _; entries = λ k. begins _; log = begins _ }; stays = record { image = refl; line = refl; config = refl } }
 acted_follows h (act.Retire entry i d) s = follows_then _ _ _ (does_follows _ h d s) (retired_follows h entry i _)
 acted_follows h (act.Miss line grow) s = follows_then _ _ _ (still s _ refl refl) (sent_follows h _ _)

@@ -70,3 +70,17 @@ pub mod AtomicNodes
 pub mod AtomicDeeds
 pub mod AtomicActs
 pub mod AtomicSteps
+pub mod LogManagerQueues
+pub mod LogManagerSums
+pub mod LogManagerParts
+pub mod LogManagerReadings
+pub mod LogManagerAnswers
+pub mod LogManagerAlone
+pub mod LogManagerLosses
+pub mod LogManagerCaches
+pub mod LogManagerNumbers
+pub mod LogManagerGrants
+pub mod LogManagerKept
+pub mod LogManagerProbes
+pub mod LogManagerAcks
+pub mod LogManagerAlways

@@ -215,7 +215,7 @@ granted_other c k cap bytes q n = λ i. record { copy = put_other c.copies k (gr
 answered_own : (c : Cache) (k : ℕ) → at_line (answered c k) k ≡ record (at_line c k) { releasing = false }
 answered_own c k = λ i. record { copy = copy_at c k; acquiring = set.contains c.acquiring k; releasing = remove_own c.releasing k i }
 
-answered_other : (c : Cache) (k : ℕ) → KeepsOthers k c (answered c k)
+pub answered_other : (c : Cache) (k : ℕ) → KeepsOthers k c (answered c k)
 answered_other c k q n = λ i. record { copy = copy_at c q; acquiring = set.contains c.acquiring q; releasing = remove_other c.releasing k q n i }
 
 pub granted_here : (c : Cache) (w : Waiting) (z : Known) (k : ℕ) (cap : Cap) (bytes : Option LineData) (m : Msg) (rest : List Msg) → w.d ≡ m ∷ rest →

@@ -201,7 +201,7 @@ grant_manages g bytes = go g.with_data
     go false = tt
 
 -- what the manager sends
-module _ (P : State → Type 0) (still : (s t : State) → Still s t → P s → P t) (manages : (h : ℕ) (m : Msg) (s : State) → IsManaging m.body → P s → P (sent h m s)) where
+module _ (P : State → Type 0) (manages : (h : ℕ) (m : Msg) (s : State) → IsManaging m.body → P s → P (sent h m s)) where
   probes_keep : (harts : List ℕ) (line : ℕ) (cap : Cap) (s : State) → P s → P (sent_probes harts line cap s)
   probes_keep [] line cap s p = p
   probes_keep (hart ∷ harts) line cap s p =
@@ -215,25 +215,26 @@ module _ (P : State → Type 0) (still : (s t : State) → Still s t → P s →
   any_keeps line (Probes cap harts) s p = probes_keep harts line cap s p
   any_keeps line (Grants g) s p = grant_keeps line g s p
 
-  if_handled : (line : ℕ) (a : Acquired) (s : State) → P s → P (sent_if_handled line a s)
+  pub if_handled : (line : ℕ) (a : Acquired) (s : State) → P s → P (sent_if_handled line a s)
   if_handled line Busy s p = p
   if_handled line (Handled out) s p = any_keeps line out s p
 
-  if_granted : (line : ℕ) (g : Option Granting) (s : State) → P s → P (sent_if_granted line g s)
+  pub if_granted : (line : ℕ) (g : Option Granting) (s : State) → P s → P (sent_if_granted line g s)
   if_granted line None s p = p
   if_granted line (Some g) s p = grant_keeps line g s p
 
+module _ (P : State → Type 0) (still : (s t : State) → Still s t → P s → P t) (manages : (h : ℕ) (m : Msg) (s : State) → IsManaging m.body → P s → P (sent h m s)) where
   pub acknowledged : (h line : ℕ) (change : Change) (bytes : Option LineData) (s : State) → P s → P (on_probe_ack h line change bytes s)
   acknowledged h line change bytes s p =
       let answer = probe_acked s.views.notes (place_of (line_size s) line) h change in
       let noted = with_notes answer.1 (with_memory line bytes s) in
-      if_granted line answer.0 noted (still s noted (noted_still line bytes answer.1 s) p)
+      if_granted P manages line answer.0 noted (still s noted (noted_still line bytes answer.1 s) p)
 
   pub acquired_keeps : (h line : ℕ) (grow : Grow) (s : State) → P s → P (on_acquire h line grow s)
   acquired_keeps h line grow s p =
       let answer = acquired s.views.notes (place_of (line_size s) line) h grow in
       let noted = with_notes answer.1 s in
-      if_handled line answer.0 noted (still s noted (same_nodes s noted refl refl) p)
+      if_handled P manages line answer.0 noted (still s noted (same_nodes s noted refl refl) p)
 
 module _ (P : State → Type 0) (quiet : (s t : State) → Quiet s t → P s → P t) (asks : (h : ℕ) (m : Msg) (s : State) → IsAsking m.body → P s → P (sent h m s)) where
   if_evicted : (h line : ℕ) (e : Evict) (s : State) → P s → P (sent_if_evicted h line e s)

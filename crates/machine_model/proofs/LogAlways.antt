@@ -10,10 +10,9 @@ use Rattle.machine_model.specs.declared.act.Plan.{Plan}
 use Rattle.machine_model.specs.declared.act.Plan.TheVariants.{Stays, Changes}
 use Rattle.machine_model.specs.declared.event.Event.{Event}
 use Rattle.machine_model.specs.declared.outcome.Outcome.{Outcome}
-use Rattle.machine_model.proofs.LogActs.{Still, same_nodes}
 
 -- `G` is known already of each state
-module _ (G P : State → Type 0) (known : (s : State) (e : Event) → G s → G (happens s e)) (quiet : (s t : State) → Still s t → P s → P t) (acts : (s : State) (e : Event) (a : Act) → plan_of s e ≡ Changes a → hart_of e < length s.views.nodes → G s → P s → P (acted (hart_of e) a s)) where
+module _ (G P : State → Type 0) (known : (s : State) (e : Event) → G s → G (happens s e)) (counts : (s : State) → P s → P (counted s)) (acts : (s : State) (e : Event) (a : Act) → plan_of s e ≡ Changes a → hart_of e < length s.views.nodes → G s → P s → P (acted (hart_of e) a s)) where
   limited : (b : Bool) (s t : State) (o : Outcome) → P s → P t → P (state_by s (cond b Verdict.IsLimited (Verdict.Moves o t)))
   limited true s t o p q = p
   limited false s t o p q = q
@@ -22,7 +21,7 @@ module _ (G P : State → Type 0) (known : (s : State) (e : Event) → G s → G
   planned s e (Stays o) is in_h g p = p
   planned s e (Changes a) is in_h g p =
       let new = acted (hart_of e) a s in
-      limited (is_limited s (hart_of e) a) s (counted new) (outcome_of s (hart_of e) a) p (quiet new (counted new) (same_nodes new (counted new) refl refl) (acts s e a is in_h g p))
+      limited (is_limited s (hart_of e) a) s (counted new) (outcome_of s (hart_of e) a) p (counts new (acts s e a is in_h g p))
 
   good : (b : Bool) (s : State) (e : Event) → is_good s e ≡ b → G s → P s → P (state_by s (cond b (verdict_by s (hart_of e) (plan_of s e)) Verdict.IsBad))
   good true s e is g p = planned s e (plan_of s e) refl (ltb-true (hart_of e) (length s.views.nodes) (and_parts (nat_lt (hart_of e) (length s.views.nodes)) _ is).0) g p

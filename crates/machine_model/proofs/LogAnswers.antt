@@ -126,4 +126,4 @@ opening_answered image config = record {
 }
 
 pub answers_due_always : AnswersDueAlways
-answers_due_always image config events is within = (events_keep Anything Answered (λ s e g. tt) (λ s t q i. quiet_answered s t q.quiet i) (λ s e a is in_h g i. acts s e a is in_h i) events (opening image config) tt (opening_answered image config)).each
+answers_due_always image config events is within = (events_keep Anything Answered (λ s e g. tt) (λ s i. i) (λ s e a is in_h g i. acts s e a is in_h i) events (opening image config) tt (opening_answered image config)).each

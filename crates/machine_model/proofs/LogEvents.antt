@@ -5,7 +5,7 @@ use Rattle.std.proofs.lemmas.List.FromFn.{get_or-map-range_with_len, length-map-
 use Rattle.elf_loader.specs.Image.{Initial}
 use Rattle.machine_model.specs.Changing.{acted}
 use Rattle.machine_model.specs.Deliveries.{taken}
-use Rattle.machine_model.specs.Events.{happens, hart_of, plan_of}
+use Rattle.machine_model.specs.Events.{counted, happens, hart_of, plan_of}
 use Rattle.machine_model.specs.LogLaws.{LogInOrderAlways}
 use Rattle.machine_model.specs.Views.{Node, State, node_at, opening, opening_node}
 use Rattle.machine_model.specs.declared.act.Act.{Act}
@@ -13,7 +13,7 @@ use Rattle.machine_model.specs.declared.act.Act.TheVariants as act
 use Rattle.machine_model.specs.declared.act.Plan.TheVariants.{Changes}
 use Rattle.machine_model.specs.declared.config.Config.{Config}
 use Rattle.machine_model.specs.declared.event.Event.{Event}
-use Rattle.machine_model.proofs.LogActs.{Delivers, acted_keeps, handled_keeps}
+use Rattle.machine_model.proofs.LogActs.{Delivers, acted_keeps, handled_keeps, same_nodes}
 use Rattle.machine_model.proofs.LogAlways.{Anything, events_keep, happens_keeps}
 use Rattle.machine_model.proofs.LogLists.{no_first}
 use Rattle.machine_model.proofs.LogPlans.{IsFrontPlan, plan_front_of}
@@ -37,8 +37,11 @@ delivers s h (act.Local count) i in_h front = tt
 acts : (s : State) (e : Event) (a : Act) → plan_of s e ≡ Changes a → hart_of e < length s.views.nodes → IsInOrder s → IsInOrder (acted (hart_of e) a s)
 acts s e a is in_h i = acted_keeps IsInOrder quiet_order (λ h m s is i. sent_order h m s i) (hart_of e) a s (delivers s (hart_of e) a i in_h (subst (IsFrontPlan (node_at s (hart_of e))) is (plan_front_of s i e in_h))) i
 
+counted_order : (s : State) → IsInOrder s → IsInOrder (counted s)
+counted_order s i = quiet_order s (counted s) (same_nodes s (counted s) refl refl).quiet i
+
 pub happens_order : (s : State) (e : Event) → IsInOrder s → IsInOrder (happens s e)
-happens_order s e i = happens_keeps Anything IsInOrder (λ s e g. tt) (λ s t q i. quiet_order s t q.quiet i) (λ s e a is in_h g i. acts s e a is in_h i) s e tt i
+happens_order s e i = happens_keeps Anything IsInOrder (λ s e g. tt) counted_order (λ s e a is in_h g i. acts s e a is in_h i) s e tt i
 
 -- nothing waits at reset
 pub opening_order : (image : Initial) (config : Config) → IsInOrder (opening image config)
@@ -61,4 +64,4 @@ opening_order image config = record {
 
 pub log_in_order_always : LogInOrderAlways
 log_in_order_always image config events is within c h before rest e =
-    (events_keep Anything IsInOrder (λ s e g. tt) (λ s t q i. quiet_order s t q.quiet i) (λ s e a is in_h g i. acts s e a is in_h i) events (opening image config) tt (opening_order image config)).moments before rest e c h
+    (events_keep Anything IsInOrder (λ s e g. tt) counted_order (λ s e a is in_h g i. acts s e a is in_h i) events (opening image config) tt (opening_order image config)).moments before rest e c h

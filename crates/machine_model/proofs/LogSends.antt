@@ -15,7 +15,7 @@ use Rattle.directory.specs.Lines.{known_at}
 use Rattle.elf_loader.specs.Image.{Initial}
 use Rattle.machine_model.specs.Changing.{acted}
 use Rattle.machine_model.specs.Deliveries.{handled, on_release, taken, with_memory, with_notes}
-use Rattle.machine_model.specs.Events.{happens, hart_of, plan_of}
+use Rattle.machine_model.specs.Events.{counted, happens, hart_of, plan_of}
 use Rattle.machine_model.specs.LawfulLog.{may_send}
 use Rattle.machine_model.specs.LogLaws.{OthersLawfulAlways, is_due, is_probe_or_grant}
 use Rattle.machine_model.specs.Views.{Node, State, line_size, node_at, opening, opening_node, place_of}
@@ -27,7 +27,7 @@ use Rattle.machine_model.specs.declared.event.Event.{Event}
 use Rattle.machine_model.proofs.LineStands.{Side, Part, Stands, Leaves, Left, LeavesProbed, LeftProbed, LeavesAnswered, Receives, Upgrades, LeavesGranted, LeftGranted}
 use Rattle.machine_model.proofs.LineViews.{evicted_says, front_here, of_line}
 use Rattle.machine_model.proofs.LogActs.{acknowledged, acquired_keeps, alone_still, noted_still, same_nodes}
-use Rattle.machine_model.proofs.LogAlways.{events_keep}
+use Rattle.machine_model.proofs.LogAlways.{events_keep, happens_keeps}
 use Rattle.machine_model.proofs.LogAnswers.{answers_due_always}
 use Rattle.machine_model.proofs.LogCaches.{IsFlagged, given_up_flagged, granted_flagged, is_free, managed, missed_flagged, plus_none, plain_sent, plain_taken, probed_flagged, rested_flagged, still_flagged}
 use Rattle.machine_model.proofs.LogCounts.{bit, no_last}
@@ -129,14 +129,14 @@ module _ (s : State) (fit : Fits s) (h : ℕ) (in_h : h < length s.views.nodes) 
   delivered_flagged l ReleaseAck rest front = rested_flagged s h in_h i (record { line = l; body = ReleaseAck }) refl refl (front_awaits s fit h l ReleaseAck rest front)
   delivered_flagged l GrantAck rest front = still_flagged (after l GrantAck) _ (same_nodes (after l GrantAck) _ refl refl) (plain_taken h _ s refl refl i)
 
-abbrev Known : State → Type 0
+abbrev pub Known : State → Type 0
 Known s = Fits s × IsInOrder s
 
-known : (s : State) (e : Event) → Known s → Known (happens s e)
+pub known : (s : State) (e : Event) → Known s → Known (happens s e)
 known s e g = (happens_fits s e g.0, happens_order s e g.1)
 
-flagged : (s : State) (h : ℕ) (a : Act) → h < length s.views.nodes → Fits s → IsWanted (node_at s h) (Changes a) → IsFrontPlan (node_at s h) (Changes a) → IsFlagged s → IsFlagged (acted h a s)
-flagged s h (act.Miss line grow) in_h fit is front i = missed_flagged s h in_h i line grow is
+flagged : (s : State) (h : ℕ) (a : Act) → h < length s.views.nodes → Fits s → IsWanted s h (Changes a) → IsFrontPlan (node_at s h) (Changes a) → IsFlagged s → IsFlagged (acted h a s)
+flagged s h (act.Miss line grow) in_h fit is front i = missed_flagged s h in_h i line grow is.0
 flagged s h (act.Evict line) in_h fit is front i = given_up_flagged s h in_h i line is.0 is.1 is.2 (copy_rests s fit h line (evicted_says (node_at s h).cache line is.0 is.1 is.2).held)
 flagged s h (act.Deliver m) in_h fit is front i = delivered_flagged s fit h in_h i m.line m.body front.0 front.1
 flagged s h (act.Stop code) in_h fit is front i = still_flagged s _ (alone_still h (act.Stop code) s tt) i
@@ -145,10 +145,16 @@ flagged s h (act.Drain word) in_h fit is front i = still_flagged s _ (alone_stil
 flagged s h (act.Local count) in_h fit is front i = still_flagged s _ (alone_still h (act.Local count) s tt) i
 
 acts : (s : State) (e : Event) (a : Act) → plan_of s e ≡ Changes a → hart_of e < length s.views.nodes → Known s → IsFlagged s → IsFlagged (acted (hart_of e) a s)
-acts s e a is in_h g i = flagged s (hart_of e) a in_h g.0 (subst (IsWanted (node_at s (hart_of e))) is (plan_wanted s e)) (subst (IsFrontPlan (node_at s (hart_of e))) is (plan_front_of s g.1 e in_h)) i
+acts s e a is in_h g i = flagged s (hart_of e) a in_h g.0 (subst (IsWanted s (hart_of e)) is (plan_wanted s e)) (subst (IsFrontPlan (node_at s (hart_of e))) is (plan_front_of s g.1 e in_h)) i
+
+counted_flagged : (s : State) → IsFlagged s → IsFlagged (counted s)
+counted_flagged s i = still_flagged s (counted s) (same_nodes s (counted s) refl refl) i
+
+pub happens_flagged : (s : State) (e : Event) → Known s → IsFlagged s → IsFlagged (happens s e)
+happens_flagged s e g i = happens_keeps Known IsFlagged known counted_flagged acts s e g i
 
 -- nothing is outstanding at reset
-opening_flagged : (image : Initial) (config : Config) → IsFlagged (opening image config)
+pub opening_flagged : (image : Initial) (config : Config) → IsFlagged (opening image config)
 opening_flagged image config = record {
   asked = λ k l d in_k. plus_none 0 0 _ refl (ap (λ (n : Node). bit (set.contains n.cache.acquiring l)) (fresh k d in_k) ∙ ap bit (contains-empty nat_cmp l));
   left = λ k l d in_k. plus_none 0 0 _ refl (ap (λ (n : Node). bit (set.contains n.cache.releasing l)) (fresh k d in_k) ∙ ap bit (contains-empty nat_cmp l));
@@ -175,4 +181,4 @@ may _ h l log due free is = cc is
 pub others_lawful_always : OthersLawfulAlways
 others_lawful_always image config events is within h m before rest e other =
     may m.body h m.line before (answers_due_always image config events is within h m before rest e)
-    ((events_keep Known IsFlagged known still_flagged acts events (opening image config) (opening_fits image config is.legal_size.whole_pages, opening_order image config) (opening_flagged image config)).each h m before rest e) other
+    ((events_keep Known IsFlagged known counted_flagged acts events (opening image config) (opening_fits image config is.legal_size.whole_pages, opening_order image config) (opening_flagged image config)).each h m before rest e) other

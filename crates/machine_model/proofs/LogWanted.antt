@@ -1,5 +1,5 @@
--- A miss that is planned is the cache's own answer, and so is an eviction.
-use Rattle.std.proofs.Common.{ℕ, Bool, true, false, ◌≡◌, Option, Some, None, refl, cond, not, subst, ◌%◌, ◌&&◌, length}
+-- A miss that is planned is the cache's own answer, and so is an eviction; a delivery that is planned is answered.
+use Rattle.std.proofs.Common.{ℕ, Bool, true, false, ◌≡◌, Option, Some, None, refl, ap, sym, ◌∙◌, cond, not, subst, ◌%◌, ◌&&◌, length}
 use Rattle.std.specs.FinSet as set
 use Rattle.std.specs.Prelude.{nat_eq, nat_le}
 use Rattle.client_cache.specs.Cache.{Cache, copy_at, evicted, is_set_full, probed, wanted}
@@ -11,10 +11,11 @@ use Rattle.client_cache.specs.declared.answers.Want.{Want}
 use Rattle.client_cache.specs.declared.answers.Want.TheVariants as want
 use Rattle.client_cache.specs.declared.held.Held.{Held}
 use Rattle.client_cache.specs.declared.held.Held.TheVariants.{Branch, Trunk}
-use Rattle.client_cache.specs.Held.{bytes_in}
+use Rattle.client_cache.specs.Held.{bytes_in, perm_of}
 use Rattle.directory.specs.Directory.{acquired}
 use Rattle.directory.specs.declared.answer.Acquired.{Acquired}
 use Rattle.directory.specs.declared.answer.Acquired.TheVariants.{Handled, Busy}
+use Rattle.directory.specs.declared.answer.Sent.{Sent}
 use Rattle.hart.specs.Local.{private_row}
 use Rattle.hart.specs.Run.{is_running, next_stop}
 use Rattle.elf_loader.specs.Image.{Initial, word_at}
@@ -44,18 +45,31 @@ use Rattle.store_buffer.specs.Groups.{drainable, fits, forwarded, has, is_empty}
 use Rattle.tilelink_channels.specs.Queues.{front_of, queue_of, room_of}
 use Rattle.tl_types.specs.declared.line.LineData.{LineData}
 use Rattle.tl_types.specs.declared.message.Body.{Body}
-use Rattle.tl_types.specs.declared.message.Body.TheVariants.{AcquireBlock, ProbeBlock, Grant, GrantData}
+use Rattle.tl_types.specs.declared.message.Body.TheVariants.{AcquireBlock, ProbeBlock, ProbeAck, ProbeAckData, Release, ReleaseData, Grant, GrantData, ReleaseAck, GrantAck}
 use Rattle.tl_types.specs.declared.message.Channel.TheVariants.{E}
 use Rattle.tl_types.specs.declared.message.Msg.{Msg}
+use Rattle.tl_types.specs.declared.permission.Cap.{Cap}
 use Rattle.tl_types.specs.declared.permission.Change.{Change}
 use Rattle.tl_types.specs.declared.permission.Grow.{Grow}
 use Rattle.tl_types.specs.declared.permission.Grow.TheVariants.{NtoB, NtoT, BtoT}
+use Rattle.tl_types.specs.declared.permission.Perm.TheVariants as perm
 
-abbrev pub IsWanted : Node → Plan → Type 0
-IsWanted n (Stays o) = Unit {0}
-IsWanted n (Changes (act.Miss line grow)) = (wanted n.cache line grow).0 ≡ want.Missed grow
-IsWanted n (Changes (act.Evict line)) = (change : Change) × (bytes : Option LineData) × ((evicted n.cache line).0 ≡ evict.Evicted change bytes)
-IsWanted n (Changes _) = Unit {0}
+-- the manager isn't busy with the line of an Acquire, and the cache has no Release of the line of a Probe unanswered
+abbrev pub IsReady : State → ℕ → ℕ → Body → Type 0
+IsReady s h line (AcquireBlock grow) = (sends : Sent) × ((acquired s.views.notes (place_of (line_size s) line) h grow).0 ≡ Handled sends)
+IsReady s h line (ProbeBlock cap) = (change : Change) × (bytes : Option LineData) × ((probed (node_at s h).cache line cap).0 ≡ probe.Answered change bytes)
+IsReady s h line _ = Unit {0}
+
+-- who asks to write what it reads has a Branch copy
+abbrev pub IsMissed : Node → ℕ → Grow → Type 0
+IsMissed n line grow = ((wanted n.cache line grow).0 ≡ want.Missed grow) × (grow ≡ BtoT → perm_of (copy_at n.cache line) ≡ perm.Branch)
+
+abbrev pub IsWanted : State → ℕ → Plan → Type 0
+IsWanted s h (Stays o) = Unit {0}
+IsWanted s h (Changes (act.Miss line grow)) = IsMissed (node_at s h) line grow
+IsWanted s h (Changes (act.Evict line)) = (change : Change) × (bytes : Option LineData) × ((evicted (node_at s h).cache line).0 ≡ evict.Evicted change bytes)
+IsWanted s h (Changes (act.Deliver m)) = IsReady s h m.line m.body
+IsWanted s h (Changes _) = Unit {0}
 
 either : (P : Plan → Type 0) (b : Bool) (p q : Plan) → P p → P q → P (cond b p q)
 either P true p q x y = x
@@ -68,36 +82,39 @@ same_grow c after false false true e grow g is = cc is
 same_grow c after false false false true grow g is = cc is
 same_grow c after false false false false grow g is = cc is
 
-module _ (n : Node) where
+module _ (s : State) (h : ℕ) where
+  abbrev n : Node
+  n = node_at s h
+
   abbrev Good : Plan → Type 0
-  Good p = IsWanted n p
+  Good p = IsWanted s h p
 
   abbrev line : ℕ → ℕ
   line address = line_of n.cache.shape.size address
 
-  miss : (l : ℕ) (grow : Grow) → Good (plan_miss n.cache l grow)
-  miss l grow = go (wanted n.cache l grow).0 refl
+  miss : (l : ℕ) (grow : Grow) → (grow ≡ BtoT → perm_of (copy_at n.cache l) ≡ perm.Branch) → Good (plan_miss n.cache l grow)
+  miss l grow reads = go (wanted n.cache l grow).0 refl
     where
-      go : (w : Want) → (wanted n.cache l grow).0 ≡ w → IsWanted n (miss_by l w)
+      go : (w : Want) → (wanted n.cache l grow).0 ≡ w → Good (miss_by l w)
       go want.WaitRelease e = tt
       go want.WaitGrant e = tt
       go want.NoTracker e = tt
       go want.SetFull e = tt
       go (want.Missed g) e =
           let same : grow ≡ g = same_grow n.cache (record n.cache { acquiring = set.insert n.cache.acquiring l }) (set.contains n.cache.releasing l) (set.contains n.cache.acquiring l) (nat_le 4 (set.len n.cache.acquiring)) (is_set_full n.cache l) grow g e in
-          subst (λ k. (wanted n.cache l k).0 ≡ want.Missed g) same e
+          (subst (λ k. (wanted n.cache l k).0 ≡ want.Missed g) same e, λ is. reads (same ∙ is))
 
   by_reading : (l : ℕ) (go : LineData → Plan) (o : Option Held) → ((bytes : LineData) → Good (go bytes)) → Good (reading_by o go n.cache l)
-  by_reading l go None good = miss l NtoB
+  by_reading l go None good = miss l NtoB (λ e. cc e)
   by_reading l go (Some x) good = good (bytes_in x)
 
-  by_writing : (l : ℕ) (go : LineData → Plan) (o : Option Held) → ((bytes : LineData) → Good (go bytes)) → Good (writing_by o go n.cache l)
-  by_writing l go None good = miss l NtoT
-  by_writing l go (Some (Branch bytes)) good = miss l BtoT
-  by_writing l go (Some (Trunk dirty bytes)) good = good bytes
+  by_writing : (l : ℕ) (go : LineData → Plan) (o : Option Held) → copy_at n.cache l ≡ o → ((bytes : LineData) → Good (go bytes)) → Good (writing_by o go n.cache l)
+  by_writing l go None is good = miss l NtoT (λ e. cc e)
+  by_writing l go (Some (Branch bytes)) is good = miss l BtoT (λ e. ap perm_of is)
+  by_writing l go (Some (Trunk dirty bytes)) is good = good bytes
 
   waits : (t : Bool) (l : ℕ) (go : LineData → Plan) → ((bytes : LineData) → Good (go bytes)) → Good (cond t (Stays outcome.MustDrain) (writing go n.cache l))
-  waits t l go good = either Good t (Stays outcome.MustDrain) (writing go n.cache l) tt (by_writing l go (copy_at n.cache l) good)
+  waits t l go good = either Good t (Stays outcome.MustDrain) (writing go n.cache l) tt (by_writing l go (copy_at n.cache l) refl good)
 
   load : (f : Fetched) (address bytes : ℕ) → Good (plan_load n f address bytes)
   load f address bytes =
@@ -139,7 +156,7 @@ module _ (n : Node) where
   drain word =
       let drains = writing (λ bytes. Changes (act.Drain word)) n.cache (line word) in
       either Good (not (has word n.buffer)) (Stays outcome.NoEntry) (cond (not (drainable word n.buffer)) (Stays outcome.NotOldest) drains) tt
-      (either Good (not (drainable word n.buffer)) (Stays outcome.NotOldest) drains tt (by_writing (line word) (λ bytes. Changes (act.Drain word)) (copy_at n.cache (line word)) (λ bytes. tt)))
+      (either Good (not (drainable word n.buffer)) (Stays outcome.NotOldest) drains tt (by_writing (line word) (λ bytes. Changes (act.Drain word)) (copy_at n.cache (line word)) refl (λ bytes. tt)))
 
   evicts : (l : ℕ) (e : Evict) → (evicted n.cache l).0 ≡ e → Good (evict_by l e)
   evicts l evict.NotHeld e = tt
@@ -147,36 +164,42 @@ module _ (n : Node) where
   evicts l evict.ReleaseFull e = tt
   evicts l (evict.Evicted change bytes) e = (change, bytes, e)
 
-  busy : (m : Msg) (a : Acquired) → Good (unless_busy a (Changes (act.Deliver m)))
-  busy m Busy = tt
-  busy m (Handled sends) = tt
+  module _ (m : Msg) where
+    busy : (grow : Grow) → m.body ≡ AcquireBlock grow → (a : Acquired) → (acquired s.views.notes (place_of (line_size s) m.line) h grow).0 ≡ a → Good (unless_busy a (Changes (act.Deliver m)))
+    busy grow e Busy is = tt
+    busy grow e (Handled sends) is = subst (IsReady s h m.line) (sym e) (sends, is)
 
-  releasing : (m : Msg) (p : Probed) → Good (unless_releasing p (Changes (act.Deliver m)))
-  releasing m probe.Releasing = tt
-  releasing m (probe.Answered change bytes) = tt
+    releasing : (cap : Cap) → m.body ≡ ProbeBlock cap → (p : Probed) → (probed n.cache m.line cap).0 ≡ p → Good (unless_releasing p (Changes (act.Deliver m)))
+    releasing cap e probe.Releasing is = tt
+    releasing cap e (probe.Answered change bytes) is = subst (IsReady s h m.line) (sym e) (change, bytes, is)
 
-  full : (m : Msg) → Good (unless_acks_full n (Changes (act.Deliver m)))
-  full m = either Good (nat_le (room_of E) (length n.queues.e)) (Stays outcome.AckFull) (Changes (act.Deliver m)) tt tt
+    full : IsReady s h m.line m.body → Good (unless_acks_full n (Changes (act.Deliver m)))
+    full ready = either Good (nat_le (room_of E) (length n.queues.e)) (Stays outcome.AckFull) (Changes (act.Deliver m)) tt ready
 
-  body : (s : State) (h l : ℕ) (m : Msg) (b : Body) → Good (plan_body s h n l b (Changes (act.Deliver m)))
-  body s h l m (AcquireBlock grow) = busy m (acquired s.views.notes (place_of (line_size s) l) h grow).0
-  body s h l m (ProbeBlock cap) = releasing m (probed n.cache l cap).0
-  body s h l m (Grant cap) = full m
-  body s h l m (GrantData cap bytes) = full m
-  body s h l m _ = tt
+    body : (b : Body) → m.body ≡ b → Good (plan_body s h n m.line b (Changes (act.Deliver m)))
+    body (AcquireBlock grow) e = busy grow e (acquired s.views.notes (place_of (line_size s) m.line) h grow).0 refl
+    body (ProbeBlock cap) e = releasing cap e (probed n.cache m.line cap).0 refl
+    body (Grant cap) e = full (subst (IsReady s h m.line) (sym e) tt)
+    body (GrantData cap bytes) e = full (subst (IsReady s h m.line) (sym e) tt)
+    body (ProbeAck change) e = subst (IsReady s h m.line) (sym e) tt
+    body (ProbeAckData change bytes) e = subst (IsReady s h m.line) (sym e) tt
+    body (Release change) e = subst (IsReady s h m.line) (sym e) tt
+    body (ReleaseData change bytes) e = subst (IsReady s h m.line) (sym e) tt
+    body ReleaseAck e = subst (IsReady s h m.line) (sym e) tt
+    body GrantAck e = subst (IsReady s h m.line) (sym e) tt
 
-  front : (s : State) (h : ℕ) (o : Option Msg) → Good (plan_front s h n o)
-  front s h None = tt
-  front s h (Some m) = body s h m.line m m.body
+  front : (o : Option Msg) → Good (plan_front s h n o)
+  front None = tt
+  front (Some m) = body m m.body refl
 
-  local : (s : State) (h count : ℕ) → n ≡ node_at s h → Good (plan_local s.trace.image n count)
-  local s h count e =
+  local : (count : ℕ) → Good (plan_local s.trace.image n count)
+  local count =
       let goes = cond (nat_eq (length (private_row s.trace.image n.hart count)) count) (Changes (act.Local count)) (Stays outcome.NotLocal) in
       either Good (not (is_running n.hart.status)) (Stays outcome.Halted) goes tt (either Good (nat_eq (length (private_row s.trace.image n.hart count)) count) (Changes (act.Local count)) (Stays outcome.NotLocal) tt tt)
 
-pub plan_wanted : (s : State) (e : Event) → IsWanted (node_at s (hart_of e)) (plan_of s e)
-plan_wanted s (event.Step h) = step (node_at s h) s.views.config.model s.trace.image _
-plan_wanted s (event.Drain h word) = drain (node_at s h) word
-plan_wanted s (event.Evict h l) = evicts (node_at s h) l (evicted (node_at s h).cache l).0 refl
-plan_wanted s (event.Deliver channel h) = front (node_at s h) s h (front_of (queue_of (node_at s h).queues channel))
-plan_wanted s (event.Local h count) = local (node_at s h) s h count refl
+pub plan_wanted : (s : State) (e : Event) → IsWanted s (hart_of e) (plan_of s e)
+plan_wanted s (event.Step h) = step s h s.views.config.model s.trace.image _
+plan_wanted s (event.Drain h word) = drain s h word
+plan_wanted s (event.Evict h l) = evicts s h l (evicted (node_at s h).cache l).0 refl
+plan_wanted s (event.Deliver channel h) = front s h (front_of (queue_of (node_at s h).queues channel))
+plan_wanted s (event.Local h count) = local s h count

@@ -1,5 +1,5 @@
 -- Where each hart's node stands after a change of one, and what a change leaves of the harts.
-use Rattle.std.proofs.Common.{◌≡◌, ◌≢◌, ℕ, zero, suc, ◌<◌, List, [], ◌∷◌, ◌++◌, Bool, true, false, Option, Some, None, refl, cond, sym, ap, ◌∙◌, length, slice_index_or, slice_set}
+use Rattle.std.proofs.Common.{◌≡◌, ◌≢◌, ℕ, zero, suc, ◌<◌, List, [], ◌∷◌, Bool, Option, Some, None, refl, ap, ◌∙◌, length, slice_index_or, slice_set}
 use Rattle.std.proofs.lemmas.List.{length-set, get_or-set_same, get_or-set_other}
 use Rattle.client_cache.specs.Cache.{probed, evicted, wanted, granted}
 use Rattle.client_cache.specs.declared.answers.Evict.{Evict}
@@ -12,11 +12,10 @@ use Rattle.directory.specs.declared.answer.Acquired.TheVariants.{Handled, Busy}
 use Rattle.directory.specs.declared.answer.Grant.{Grant as Granting}
 use Rattle.directory.specs.declared.answer.Sent.{Sent}
 use Rattle.directory.specs.declared.answer.Sent.TheVariants.{Probes, Granting as Grants}
-use Rattle.hart.specs.declared.state.Hart.{Hart}
 use Rattle.machine_model.specs.declared.act.Deed.{Deed}
 use Rattle.machine_model.specs.declared.act.Deed.TheVariants as deed
 use Rattle.machine_model.specs.Changing.{does, performs, performs_own, place_at, missed, drained, given_up, sent_if_evicted, writes_word}
-use Rattle.machine_model.specs.Deliveries.{delivered, handled, taken, sent_probes, sent_grant, sent_any, sent_if_handled, sent_if_granted, sent_if_answered, with_memory, with_notes, with_less, on_probe_ack, on_release, on_grant}
+use Rattle.machine_model.specs.Deliveries.{delivered, handled, taken, sent_probes, sent_any, sent_if_handled, sent_if_granted, sent_if_answered, with_memory, with_notes, with_less, on_probe_ack, on_release, on_grant}
 use Rattle.machine_model.specs.Views.{Node, State, line_size, place_of, node_at, with_node, with_trace, sent}
 use Rattle.machine_model.specs.Words.{bytes_of_word}
 use Rattle.memory_model.specs.declared.Model.{Model}

@@ -1,8 +1,8 @@
 -- What a step retires is a step of its hart's run.
-use Rattle.std.proofs.Common.{◌≡◌, ℕ, ◌<◌, ◌/◌, ◌%◌, ◌^◌, List, [], ◌∷◌, Bool, true, false, Option, Some, None, refl, cond, sym, ap, ◌∙◌, subst, not, ◌&&◌, ◌||◌, arith}
-use Rattle.std.specs.Prelude.{nat_eq, nat_lt, is_none, length}
+use Rattle.std.proofs.Common.{◌≡◌, ℕ, ◌/◌, ◌%◌, ◌^◌, List, Bool, true, false, Option, Some, None, refl, cond, sym, ap, ◌∙◌, not, ◌&&◌, arith}
+use Rattle.std.specs.Prelude.{nat_lt, is_none, length}
 use Rattle.std.proofs.Math.Nat.{mod-lt, one-le-pow}
-use Rattle.std.proofs.lemmas.Bool.{false≢true, true≢false, and_parts, and_from, eq-eqb, lt-ltb}
+use Rattle.std.proofs.lemmas.Bool.{and_from, eq-eqb, lt-ltb}
 use Rattle.client_cache.specs.Cache.{Cache, copy_at, wanted}
 use Rattle.client_cache.specs.declared.answers.Want.{Want}
 use Rattle.client_cache.specs.declared.answers.Want.TheVariants as want
@@ -12,15 +12,13 @@ use Rattle.client_cache.specs.Held.{bytes_in}
 use Rattle.elf_loader.specs.Image.{Initial, word_at}
 use Rattle.hart.specs.declared.retired.Retired.{Retired}
 use Rattle.hart.specs.Run.{can_fetch, does, has_answers, is_running, is_step, next_stop, stop_with}
-use Rattle.machine_model.specs.declared.act.Act.{Act}
 use Rattle.machine_model.specs.declared.act.Act.TheVariants as act
-use Rattle.machine_model.specs.declared.act.Deed.{Deed}
 use Rattle.machine_model.specs.declared.act.Deed.TheVariants as deed
 use Rattle.machine_model.specs.declared.act.Plan.{Plan}
 use Rattle.machine_model.specs.declared.act.Plan.TheVariants.{Stays, Changes}
 use Rattle.machine_model.specs.declared.outcome.Outcome.TheVariants as outcome
-use Rattle.machine_model.specs.Deciding.{miss_by, plan_miss, reading, reading_by, writing, writing_by}
-use Rattle.machine_model.specs.Steps.{Fetched, retires, plan_load, plan_store, plan_reserve, plan_conditional, plan_amo, plan_fence, plan_call, plan_access, plan_instr, plan_unless, plan_step, waits_for_stores, write_waits, update}
+use Rattle.machine_model.specs.Deciding.{miss_by, reading, reading_by, writing, writing_by}
+use Rattle.machine_model.specs.Steps.{Fetched, retires, plan_load, plan_store, plan_reserve, plan_conditional, plan_amo, plan_fence, plan_access, plan_instr, plan_unless, plan_step, waits_for_stores, write_waits, update}
 use Rattle.machine_model.specs.Views.{Node, line_of}
 use Rattle.machine_model.specs.Words.{word_of, word_in, number_of, read_from, store_of}
 use Rattle.memory_model.specs.declared.Model.{Model}
@@ -34,7 +32,6 @@ use Rattle.rv32_exec.specs.Meaning.{Access, Private, Loads, Stores, Reserves, Tr
 use Rattle.store_buffer.specs.ByteMask.{covers, laid_over, marks_of_access}
 use Rattle.store_buffer.specs.Groups.{fits, forwarded, is_empty}
 use Rattle.tl_types.specs.declared.line.LineData.{LineData}
-use Rattle.tl_types.specs.declared.permission.Grow.{Grow}
 use Rattle.tl_types.specs.declared.permission.Grow.TheVariants.{NtoB, NtoT, BtoT}
 
 -- ---- a plan's entry has the answers of this access, where the plan retires

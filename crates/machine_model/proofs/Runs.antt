@@ -1,10 +1,9 @@
 -- Each hart's list is a run of the image, with its status.
-use Rattle.std.proofs.Common.{◌≡◌, ◌≢◌, ℕ, zero, suc, ◌+◌, ◌<◌, ◌≤◌, ◌⊎◌, inl, inr, List, [], ◌∷◌, ◌++◌, Bool, true, false, Option, Some, None, refl, cond, sym, ap, ◌∙◌, subst, not, ◌&&◌, length, map, replicate, slice_index_or, slice_set, arith}
-use Rattle.std.specs.Prelude.{nat_eq, nat_lt, nat_le, IsTrue}
-use Rattle.std.specs.List.{range_with_len}
-use Rattle.std.proofs.lemmas.Bool.{false≢true, true≢false, and_parts, and_from, eq-eqb, eqb-true, ltb-true}
+use Rattle.std.proofs.Common.{◌≡◌, ◌≢◌, ℕ, suc, ◌+◌, ◌<◌, ◌⊎◌, inl, inr, List, [], ◌∷◌, ◌++◌, Bool, true, false, Option, Some, None, refl, cond, sym, ap, ◌∙◌, subst, not, length, slice_index_or, slice_set, arith}
+use Rattle.std.specs.Prelude.{nat_eq, nat_lt, nat_le}
+use Rattle.std.proofs.lemmas.Bool.{false≢true, and_parts, and_from, eq-eqb, ltb-true}
 use Rattle.std.proofs.lemmas.Bool.Decides.{eqb_tells}
-use Rattle.std.proofs.lemmas.List.{length-set, get_or-set_same, get_or-set_other, set-get_or, set-set, append-nil, append_assoc, length-map, length-replicate, get_or-replicate}
+use Rattle.std.proofs.lemmas.List.{length-set, get_or-set_same, get_or-set_other, set-get_or, set-set, append-nil, append_assoc, length-replicate, get_or-replicate}
 use Rattle.std.proofs.lemmas.List.FromFn.{get_or-map-range_with_len, length-map-range_with_len}
 use Rattle.client_cache.specs.Cache.{copy_at, evicted, probed, wanted}
 use Rattle.client_cache.specs.declared.answers.Evict.{Evict}
@@ -18,7 +17,7 @@ use Rattle.client_cache.specs.declared.held.Held.TheVariants.{Branch, Trunk}
 use Rattle.directory.specs.Directory.{acquired}
 use Rattle.directory.specs.declared.answer.Acquired.{Acquired}
 use Rattle.directory.specs.declared.answer.Acquired.TheVariants.{Handled, Busy}
-use Rattle.elf_loader.specs.Image.{Initial, IsImage, word_at}
+use Rattle.elf_loader.specs.Image.{Initial}
 use Rattle.hart.specs.declared.retired.Retired.{Retired}
 use Rattle.hart.specs.declared.state.Hart.{Hart}
 use Rattle.hart.specs.declared.status.Status.{Status}
@@ -29,7 +28,6 @@ use Rattle.hart.proofs.Alone.{row-steps, row-running}
 use Rattle.hart.proofs.Endings.{reached-append, are_steps-append, step_runs}
 use Rattle.machine_model.specs.declared.act.Act.{Act}
 use Rattle.machine_model.specs.declared.act.Act.TheVariants as act
-use Rattle.machine_model.specs.declared.act.Deed.{Deed}
 use Rattle.machine_model.specs.declared.act.Plan.{Plan}
 use Rattle.machine_model.specs.declared.act.Plan.TheVariants.{Stays, Changes}
 use Rattle.machine_model.specs.declared.outcome.Outcome.{Outcome}
@@ -37,16 +35,15 @@ use Rattle.machine_model.specs.declared.outcome.Outcome.TheVariants as outcome
 use Rattle.machine_model.specs.declared.config.Config.{Config}
 use Rattle.machine_model.specs.declared.event.Event.{Event}
 use Rattle.machine_model.specs.declared.event.Event.TheVariants as event
-use Rattle.machine_model.specs.Config.{is_within_limits}
 use Rattle.machine_model.specs.Changing.{acted, does, drained, given_up, missed, outcome_of, place_at, retired, stopped, with_halt, with_entries, went_alone}
 use Rattle.machine_model.specs.Deliveries.{delivered}
 use Rattle.machine_model.specs.Deciding.{miss_by, writing_by}
 use Rattle.machine_model.specs.Deliveries.{plan_body, plan_front, unless_acks_full, unless_busy, unless_releasing}
-use Rattle.machine_model.specs.Events.{counted, evict_by, plan_drain, Verdict, verdict, verdict_by, state_by, happens, after_events, is_good, is_limited, plan_of, plan_local, hart_of}
+use Rattle.machine_model.specs.Events.{counted, evict_by, plan_drain, Verdict, verdict_by, state_by, happens, after_events, is_good, is_limited, plan_of, hart_of}
 use Rattle.machine_model.specs.Laws.{RunsAlways}
-use Rattle.machine_model.specs.Views.{Node, State, line_of, line_size, place_of, node_at, with_node, no_node, opening, opening_node}
+use Rattle.machine_model.specs.Views.{Node, State, line_of, line_size, place_of, node_at, no_node, opening, opening_node}
 use Rattle.machine_model.proofs.Growth.{Follows, follows_not, follows_then, happens_follows}
-use Rattle.machine_model.proofs.Nodes.{KeepsHarts, node_same, node_other, does_keeps, drained_keeps, given_up_keeps, missed_keeps, delivered_keeps}
+use Rattle.machine_model.proofs.Nodes.{KeepsHarts, does_keeps, drained_keeps, given_up_keeps, missed_keeps, delivered_keeps}
 use Rattle.machine_model.proofs.Retiring.{IsNext, step_is_next}
 use Rattle.memory_model.specs.Traces.{are_runs, are_runs_from}
 use Rattle.rv32_decode.specs.Rows.{decoded}

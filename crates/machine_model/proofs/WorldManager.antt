@@ -40,13 +40,13 @@ pushed_grant w l g bytes = go g.with_data
     go false = refl
 
 -- nobody is awaited outside a transaction's probes
-rests : {last : LineData} {x : Side} → Stands last Alone x → x.awaited ≡ false
+pub rests : {last : LineData} {x : Side} → Stands last Alone x → x.awaited ≡ false
 rests (Holds _ copy by is) = refl
 rests (Asks _ copy h by is reader) = refl
 rests (Leaves _ from change carried by is) = refl
 rests (Left _ by) = refl
 
-none_awaited : (ks : List Known) → list_any (λ (x : Known). x.awaited) ks ≡ false → (j : ℕ) → (slice_index_or ks j unknown).awaited ≡ false
+pub none_awaited : (ks : List Known) → list_any (λ (x : Known). x.awaited) ks ≡ false → (j : ℕ) → (slice_index_or ks j unknown).awaited ≡ false
 none_awaited [] e j = refl
 none_awaited (x ∷ xs) e zero = head x.awaited e
   where

@@ -36,7 +36,7 @@ use Rattle.tl_types.specs.declared.line.LineSize.{LineSize}
 use Rattle.tl_types.specs.declared.line.LineSize.TheVariants.{Bytes16, Bytes64}
 use Rattle.tl_types.specs.declared.permission.Perm.TheVariants.{Nothing}
 
-same_everywhere : {A : Type 0} (n : ℕ) (x : A) (j : ℕ) → slice_index_or (replicate n x) j x ≡ x
+pub same_everywhere : {A : Type 0} (n : ℕ) (x : A) (j : ℕ) → slice_index_or (replicate n x) j x ≡ x
 same_everywhere n x j = go (cases_lt j n)
   where
     go : (j < n) ⊎ (n ≤ j) → slice_index_or (replicate n x) j x ≡ x

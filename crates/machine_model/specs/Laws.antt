@@ -1,5 +1,5 @@
 -- What holds of every list of events, in any order, from reset: the headline and its parts.
-use Rattle.std.specs.Prelude.{ℕ, zero, suc, ◌≡◌, ◌≢◌, ◌+◌, ◌≤◌, List, length, Contains, IsTrue, Option, Some}
+use Rattle.std.specs.Prelude.{ℕ, zero, suc, ◌≡◌, ◌+◌, ◌≤◌, List, length, Contains, IsTrue, Some}
 use Rattle.std.specs.List.{list_all}
 use Rattle.std.specs.FinSet as set
 use Rattle.client_cache.specs.Cache.{Cache, copy_at}
@@ -14,7 +14,7 @@ use Rattle.machine_model.specs.Coherent.{IsCoherent, perm_at}
 use Rattle.machine_model.specs.Config.{is_within_limits}
 use Rattle.machine_model.specs.Events.{Verdict, verdict, after_events, happens}
 use Rattle.machine_model.specs.LawfulLog.{IsBeginningOf, IsLawfulLog, is_grant}
-use Rattle.machine_model.specs.Views.{State, Views, line_of, line_size, node_at, opening}
+use Rattle.machine_model.specs.Views.{State, line_of, line_size, node_at, opening}
 use Rattle.memory_model.specs.Traces.{IsLegalOrder, IsOrder, are_runs, completed, is_among, is_distinct, names_in}
 use Rattle.tilelink_channels.specs.Queues.{queue_of, room_of}
 use Rattle.tl_types.specs.declared.message.Body.TheVariants.{Grant}

@@ -22,7 +22,9 @@ pub use laws::{
     copies_agree_always, grants_have_slots_always, image_and_config_stay, local_is_steps,
     nothing_is_rewritten, one_writer_always, reserved_is_trunk_always, runs_always,
 };
-pub use log_laws::{answers_due_always, log_in_order_always, others_lawful_always};
+pub use log_laws::{
+    answers_due_always, log_in_order_always, log_lawful_always, others_lawful_always,
+};
 pub use memory_model::Model;
 pub use order_laws::{order_always, performed_once_always, preserved_always};
 pub use outcome::Outcome;
