@@ -3,6 +3,7 @@
 #![tactic(auto)]
 
 mod acts;
+mod alone;
 mod caches;
 mod deeds;
 mod draining;
