@@ -13,8 +13,8 @@ ghost use Rattle.store_buffer.specs.Groups.{after_seal, fits};
 ghost use Rattle.trace_recorder.specs.History.{entries_of};
 
 use crate::caches::write_word;
-use crate::draining::line_of;
 use crate::parts::Parts;
+use crate::performing::line_of;
 use machine_model::Deed;
 use memory_model::Model;
 use std::alloc::AllocError;

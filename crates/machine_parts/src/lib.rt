@@ -6,10 +6,10 @@ mod acts;
 mod alone;
 mod caches;
 mod deeds;
-mod draining;
 mod limits;
 mod node;
 mod parts;
+mod performing;
 mod retiring;
 
 pub use node::Node;
