@@ -28,7 +28,7 @@ pub(crate) fn replay_files<'a, F: Files, O: Write, E: Write>(
         Ok(machine) => machine,
         Err(error) => return Err(Fault::replay(wanted.script, error)),
     };
-    let (trace, outputs) = machine.into_parts()?;
+    let (trace, outputs) = machine.into_parts(alloc)?;
     if let Err(error) = print(&trace, out) {
         return Err(Fault::writing(error));
     }

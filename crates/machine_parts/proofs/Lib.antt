@@ -4,3 +4,4 @@ pub mod Drains
 mod Answered
 mod Probes
 mod Rooms
+pub mod RowsAlone

@@ -32,7 +32,7 @@ pub(crate) fn stop(parts: &mut Parts, hart: u8, code: u8)
     parts.trace.halt(hart as usize, status);
 }
 
-/// A message goes into its queue of the hart, and into the log.
+// A message goes into its queue of the hart, and into the log.
 fn send(parts: &mut Parts, hart: u8, message: Msg)
     requires hart { hart < length parts.old.nodes.items }
     requires queue { length (queue_of (node_at (state_of parts.old) hart).queues (channel_of message)) < room_of (channel_of message) }

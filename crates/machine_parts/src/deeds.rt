@@ -13,8 +13,8 @@ ghost use Rattle.store_buffer.specs.Groups.{after_seal, fits};
 ghost use Rattle.trace_recorder.specs.History.{entries_of};
 
 use crate::caches::write_word;
-use crate::draining::line_of;
 use crate::parts::Parts;
+use crate::performing::line_of;
 use machine_model::Deed;
 use memory_model::Model;
 use std::alloc::AllocError;
@@ -157,7 +157,13 @@ fn write(parts: &mut Parts, hart: u8, word: u32, value: u32)
 {
     let line = line_of(parts.trace.line_size(), word);
     let bytes = bytes_of(value);
-    write_word(&mut parts.nodes[hart as usize].cache, line, word, [true; 4], bytes);
+    write_word(
+        &mut parts.nodes[hart as usize].cache,
+        line,
+        word,
+        [true; 4],
+        bytes,
+    );
 }
 
 fn bytes_of(value: u32) -> [u8; 4]

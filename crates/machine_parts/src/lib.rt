@@ -5,9 +5,9 @@
 mod applying;
 mod errors;
 mod acts;
+mod alone;
 mod caches;
 mod deeds;
-mod draining;
 mod limits;
 mod client;
 mod deliveries;
@@ -15,6 +15,7 @@ mod manager;
 mod messages;
 mod node;
 mod parts;
+mod performing;
 mod retiring;
 
 pub use errors::ApplyError;

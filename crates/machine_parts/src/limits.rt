@@ -76,7 +76,7 @@ fn outcome_by(status: Status) -> Outcome
     }
 }
 
-/// How much an act adds to the trace at most.
+// How much an act adds to the trace at most.
 #[derive(Clone, Copy, Debug)]
 struct Growth {
     entries: usize,

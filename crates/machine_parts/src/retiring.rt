@@ -79,7 +79,7 @@ pub(crate) fn after_instr(hart: &Hart, entry: &Retired, instr: &Instr) -> Hart
     next
 }
 
-/// The number that an entry's instruction read; for an SC 0 where it succeeded, else 1.
+// The number that an entry's instruction read; for an SC 0 where it succeeded, else 1.
 fn number_read(entry: &Retired) -> u32
     ensures { result ≡ spec.number_read entry.now }
 {

@@ -6,7 +6,7 @@ use Rattle.store_buffer.specs.Groups.{oldest}
 use Rattle.store_buffer.specs.declared.entry.Entry.{Entry}
 use Rattle.machine_model.specs.Views.{State, node_at}
 use Rattle.machine_parts.proofs.Drains.{drained_is}
-use Rattle.machine_parts.proofs.draining.drain.Goals as goal
+use Rattle.machine_parts.proofs.performing.drain.Goals as goal
 
 pub returns : goal.returns
 returns c =
