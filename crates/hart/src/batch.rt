@@ -68,7 +68,7 @@ pub fn run_local(alloc: Global, image: &Image, hart: &Hart, max: u32) -> Result<
     let mut last = *hart;
     let mut room = max;
     while room > 0 {
-        let Some((entry, next)) = private_step(image, &last) else {
+        let Some((entry, next)) = next_alone(image, &last) else {
             break;
         };
         entries.push(entry)?;
@@ -82,8 +82,8 @@ pub fn run_local(alloc: Global, image: &Image, hart: &Hart, max: u32) -> Result<
     })
 }
 
-// The hart's next instruction and where the hart stands behind it, where it is private and doesn't stop.
-fn private_step(image: &Image, hart: &Hart) -> Option<(Retired, Hart)>
+/// The hart's next instruction and where the hart stands behind it, where it is private and doesn't stop.
+pub fn next_alone(image: &Image, hart: &Hart) -> Option<(Retired, Hart)>
     ensures { result ≡ (if can_go_alone image.now hart.now then Some (next_step image.now hart.now) else None) }
 {
     if !hart.status.is_running() {

@@ -7,7 +7,7 @@ mod retired;
 mod state;
 mod status;
 
-pub use batch::{Batch, run_local};
+pub use batch::{Batch, next_alone, run_local};
 pub use laws::runs_end_as_their_lists;
 pub use retired::Retired;
 pub use state::Hart;

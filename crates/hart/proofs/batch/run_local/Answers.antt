@@ -6,7 +6,7 @@ use Rattle.hart.proofs.batch.run_local.Goals.{else-loop-room-test, then-loop-roo
 
 pub loop-room-preserved : goal.loop-room-preserved
 loop-room-preserved c =
-    let t = step_taken c.args.image.now c.loop-room.last c.private_step.result c.in-Some.entry c.in-Some.next c.private_step.ensures c.in-Some.is in
+    let t = step_taken c.args.image.now c.loop-room.last c.next_alone.result c.in-Some.entry c.in-Some.next c.next_alone.ensures c.in-Some.is in
     record {
       row = row_goes c.args.image.now c.args.hart.now c.loop-room.last c.in-Some.next c.in-Some.entry c.loop-room.entries.items c.push.new.self.items c.args.max c.loop-room.room c.loop-room.invariant.row c.loop-room-test.true t c.in_ok-push.ensures.items;
       leads = row_leads c.args.image.now c.args.hart.now c.loop-room.last c.in-Some.next c.in-Some.entry c.loop-room.entries.items c.push.new.self.items c.loop-room.invariant.leads t c.in_ok-push.ensures.items;
@@ -17,7 +17,7 @@ invariant_of-result c =
     let none : private_row c.args.image.now c.loop-room.last c.loop-room.room ≡ [] =
     elim c.loop-room-test.branch [
       | else-loop-room-test w ↦ none_without_room c.args.image.now c.loop-room.last c.loop-room.room w.loop-room-test.false
-      | then-loop-room-test+in_default w ↦ none_refused c.args.image.now c.loop-room.last c.loop-room.room w.private_step.result w.loop-room-test.true w.private_step.ensures w.in_default.is
+      | then-loop-room-test+in_default w ↦ none_refused c.args.image.now c.loop-room.last c.loop-room.room w.next_alone.result w.loop-room-test.true w.next_alone.ensures w.in_default.is
     ] in
     the_row c.args.image.now c.args.hart.now c.loop-room.last c.loop-room.entries.items c.args.max c.requires.few (row_done c.args.image.now c.args.hart.now c.loop-room.last c.loop-room.entries.items c.args.max c.loop-room.room c.loop-room.invariant.row c.loop-room.invariant.leads none)
 
@@ -26,6 +26,6 @@ returns c =
     let none : private_row c.args.image.now c.loop-room.last c.loop-room.room ≡ [] =
     elim c.loop-room-test.branch [
       | else-loop-room-test w ↦ none_without_room c.args.image.now c.loop-room.last c.loop-room.room w.loop-room-test.false
-      | then-loop-room-test+in_default w ↦ none_refused c.args.image.now c.loop-room.last c.loop-room.room w.private_step.result w.loop-room-test.true w.private_step.ensures w.in_default.is
+      | then-loop-room-test+in_default w ↦ none_refused c.args.image.now c.loop-room.last c.loop-room.room w.next_alone.result w.loop-room-test.true w.next_alone.ensures w.in_default.is
     ] in
     row_done c.args.image.now c.args.hart.now c.loop-room.last c.loop-room.entries.items c.args.max c.loop-room.room c.loop-room.invariant.row c.loop-room.invariant.leads none

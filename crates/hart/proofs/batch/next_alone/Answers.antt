@@ -6,7 +6,7 @@ use Rattle.hart.specs.declared.state.Hart.{Hart}
 use Rattle.hart.specs.Local.{is_done_alone, can_go_alone, next_entry}
 use Rattle.hart.specs.Run.{after}
 use Rattle.hart.proofs.Rows.{alone-outside, alone-done, after-alone, no_step, one_step, step_of}
-use Rattle.hart.proofs.batch.private_step.Goals as goal
+use Rattle.hart.proofs.batch.next_alone.Goals as goal
 
 pub returns-then-not-has_word : goal.returns-then-not-has_word
 returns-then-not-has_word c = no_step c.args.image.now c.args.hart.now (alone-outside c.args.image.now c.args.hart.now c.has_word.result c.has_word.ensures c.if-not-has_word.true)
