@@ -1,3 +1,4 @@
 pub mod Codes
 pub mod Parts
 pub mod Needs
+pub mod Deciding

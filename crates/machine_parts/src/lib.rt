@@ -2,8 +2,10 @@
 //! the change.
 #![tactic(auto)]
 
+mod deciding;
 mod node;
 mod parts;
+mod words;
 
 pub use node::Node;
 pub use parts::Parts;
