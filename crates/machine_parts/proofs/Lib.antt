@@ -1,1 +1,3 @@
-mod Words
+mod Numbers
+mod Fronts
+mod PrivateRows

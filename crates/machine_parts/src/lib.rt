@@ -2,7 +2,11 @@
 //! the change.
 #![tactic(auto)]
 
+mod accesses;
+mod arriving;
 mod deciding;
+mod draining;
+mod going_alone;
 mod node;
 mod parts;
 mod words;

@@ -1,6 +1,6 @@
-use Rattle.std.proofs.Common.{rules, arith, ◌≡◌, ◌∙◌, ap, ℕ, length}
+use Rattle.std.proofs.Common.{rules, arith, ◌%◌, ◌≡◌, ◌∙◌, ap, ℕ, length}
 use Rattle.machine_model.specs.Words.{read_from}
-use Rattle.machine_parts.proofs.Words.{read-byte, read-half, read-word}
+use Rattle.machine_parts.proofs.Numbers.{read-byte, read-half, read-word}
 use Rattle.machine_parts.proofs.words.read_from.Goals as goal
 
 pub returns-in-Byte : goal.returns-in-Byte

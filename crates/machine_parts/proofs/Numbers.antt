@@ -1,9 +1,9 @@
 -- The numbers that accesses read.
-use Rattle.std.proofs.Common.{arith, ◌∙◌, ap, sym, absurd, bit_and}
+use Rattle.std.proofs.Common.{arith, ◌∙◌, ap, sym, bit_and}
 use Rattle.std.specs.Prelude.{ℕ, ◌≡◌, ◌<◌, ◌+◌, ◌*◌, ◌/◌, ◌%◌, ◌^◌, zero, suc, List, [], ◌∷◌, length, refl}
 use Rattle.std.proofs.lemmas.Nat.{and_mask}
 use Rattle.std.proofs.Math.Nat.{mod-eq_of_lt}
-use Rattle.core.specs.Int.{w32, from_le_bytes}
+use Rattle.std.specs.Int.{w32, from_le_bytes}
 use Rattle.machine_model.specs.Words.{number_of}
 
 number-again : (bs : List ℕ) → length bs ≡ 4 → from_le_bytes w32 bs ≡ number_of bs
