@@ -1,3 +1,5 @@
 mod Numbers
 mod Fronts
 mod PrivateRows
+mod FoundPlans
+mod Fetching

@@ -9,6 +9,8 @@ mod draining;
 mod going_alone;
 mod node;
 mod parts;
+mod planning;
+mod stepping;
 mod words;
 
 pub use node::Node;
