@@ -5,3 +5,8 @@ mod Answered
 mod Probes
 mod Rooms
 pub mod RowsAlone
+mod Numbers
+mod Fronts
+mod PrivateRows
+mod FoundPlans
+mod Fetching

@@ -5,3 +5,5 @@ pub mod Applying
 pub mod Drains
 pub mod Lists
 pub mod Handled
+pub mod Deciding
+pub mod Accesses

@@ -17,6 +17,14 @@ mod node;
 mod parts;
 mod performing;
 mod retiring;
+mod accesses;
+mod arriving;
+mod deciding;
+mod draining;
+mod going_alone;
+mod planning;
+mod stepping;
+mod words;
 
 pub use errors::ApplyError;
 pub use node::Node;

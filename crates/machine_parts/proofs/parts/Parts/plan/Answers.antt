@@ -1,0 +1,19 @@
+use Rattle.std.proofs.Common.{◌∙◌, ap, sym, ℕ}
+use Rattle.elf_loader.specs.Image.{Initial}
+use Rattle.machine_model.specs.Changing.{place_at}
+use Rattle.machine_model.specs.Events.{hart_of, plan_of}
+use Rattle.machine_model.specs.Steps.{plan_step}
+use Rattle.machine_model.specs.Views.{Node, node_at}
+use Rattle.machine_parts.specs.Parts.{state_of}
+use Rattle.machine_parts.proofs.parts.Parts.plan.Goals as goal
+
+pub returns-in-Step : goal.returns-in-Step
+returns-in-Step c =
+    let s = state_of c.args.self.now in
+    let model = s.views.config.model in
+    let image = s.trace.image in
+    c.plan_step.ensures
+    ∙ (ap (λ (i : Initial). plan_step model i c.node-node.result.now c.place_at.result) c.image.ensures
+    ∙ (ap (λ (n : Node). plan_step model image n c.place_at.result) c.node-node.ensures.node
+    ∙ (ap (plan_step model image (node_at s c.hart_of-hart.result)) c.place_at.ensures
+    ∙ (ap (λ (h : ℕ). plan_step model image (node_at s h) (place_at s h)) (c.hart_of-hart.ensures ∙ ap hart_of c.in-Step.is) ∙ sym (ap (plan_of s) c.in-Step.is)))))
