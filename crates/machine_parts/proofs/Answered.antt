@@ -22,6 +22,7 @@ had_room_released h line bytes s in_h fit = had_room h (record { line = line; bo
   where
     place : ℕ
     place = place_of (line_size s) line
+
     go : (bytes : Option LineData) → QueuesFit (on_release h line bytes s) → QueuesFit (sent h (record { line = line; body = ReleaseAck }) (with_parts (released s.views.notes place h) (written_back place bytes s.views.memory) s))
     go None fit = fit
     go (Some bytes) fit = fit

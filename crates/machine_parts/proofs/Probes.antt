@@ -57,6 +57,7 @@ few_below p a (suc n) k all = go (p a) (few_below p (a + 1) n k) all
   where
     rest : List ℕ
     rest = filter p (range_with_len (a + 1) n)
+
     go : (b : Bool) → (All (λ (h : ℕ). h < k) rest → length rest ≤ k - (a + 1)) → All (λ (h : ℕ). h < k) (cond b (a ∷ rest) rest) → length (cond b (a ∷ rest) rest) ≤ k - a
     go true later all = let first : a < k = All-head (λ (h : ℕ). h < k) a rest all in omega (arith, first, later (All-tail (λ (h : ℕ). h < k) a rest all))
     go false later all = omega (arith, later all)

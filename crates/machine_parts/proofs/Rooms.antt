@@ -30,7 +30,7 @@ pub had_room : (h : ℕ) (m : Msg) (s : State) → h < length s.views.nodes → 
 had_room h m s in_h fit = had_room_in h m s in_h (fit h (channel_of m))
 
 -- the same of a state by another name
-pub had_room_as : (h : ℕ) (m : Msg) (s t : State) → t ≡ s → h < length s.views.nodes → QueuesFit (sent h m s) → length (queue_of (node_at t h).queues (channel_of m)) < room_of (channel_of m)
+had_room_as : (h : ℕ) (m : Msg) (s t : State) → t ≡ s → h < length s.views.nodes → QueuesFit (sent h m s) → length (queue_of (node_at t h).queues (channel_of m)) < room_of (channel_of m)
 had_room_as h m s t e in_h fit = subst (λ (u : State). length (queue_of (node_at u h).queues (channel_of m)) < room_of (channel_of m)) (sym e) (had_room h m s in_h fit)
 
 -- the same after a change of the hart's node

@@ -18,7 +18,7 @@ use backing_memory::Memory;
 use directory::{Acquired, Grant, HartSet, Sent};
 use elf_loader::BASE;
 use std::sync::ledger::Ledger;
-use tl_types::{Body, Cap, Change, Grow, LineData, LineSize, Msg, Perm, Ticks};
+use tl_types::{Body, Cap, Change, Grow, LineData, Msg, Perm, Ticks};
 
 /// The place in memory of the line that begins at this address.
 fn place_of(parts: &Parts, line: u32) -> u32
@@ -29,10 +29,9 @@ fn place_of(parts: &Parts, line: u32) -> u32
 }
 
 /// Data that came with a message go to memory.
-fn write_back(memory: &mut Memory, place: u32, bytes: Option<LineData>, size: LineSize)
+fn write_back(memory: &mut Memory, place: u32, bytes: Option<LineData>)
     requires place { place < length memory.old }
-    requires line { size_of (line_at memory.old place) ≡ size }
-    requires bytes { HasSize size bytes }
+    requires bytes { HasSize (size_of (line_at memory.old place)) bytes }
     ensures { memory.new ≡ written_back place bytes memory.old }
 {
     if let Some(bytes) = bytes {
@@ -137,7 +136,7 @@ pub(crate) fn on_release<L: Ledger>(
     ensures { state_of parts.new ≡ on_release hart line bytes (state_of parts.old) }
 {
     let place = place_of(parts, line);
-    write_back(&mut parts.memory, place, bytes, line_size(&parts.config));
+    write_back(&mut parts.memory, place, bytes);
     parts.directory.on_release(place, hart, ticks);
     send(
         parts,
@@ -168,7 +167,7 @@ pub(crate) fn on_probe_ack<L: Ledger>(
     ensures { state_of parts.new ≡ on_probe_ack hart line change bytes (state_of parts.old) }
 {
     let place = place_of(parts, line);
-    write_back(&mut parts.memory, place, bytes, line_size(&parts.config));
+    write_back(&mut parts.memory, place, bytes);
     if let Some(grant) = parts.directory.on_probe_ack(place, hart, change, ticks) {
         send_grant(parts, line, grant);
     }
