@@ -10,41 +10,16 @@ ghost use Rattle.machine_parts.specs.Needs.{HasRoom, needs_of};
 ghost use Rattle.machine_parts.specs.Parts.{state_of};
 
 use crate::acts::{give_up, miss, stop};
+use crate::alone::go_alone;
 use crate::deliveries::deliver;
-use crate::draining::drain;
 use crate::errors::ApplyError;
 use crate::limits::{is_limited, outcome_of, reserve};
 use crate::parts::Parts;
+use crate::performing::drain;
+use crate::planning::hart_of;
 use crate::retiring::retire;
 use machine_model::{Act, Event, Outcome, Plan};
 use std::alloc::AllocError;
-
-fn hart_of(event: &Event) -> u8
-    ensures { result ≡ events.hart_of event.now }
-{
-    match *event {
-        Event::Step { hart }
-        | Event::Drain { hart, .. }
-        | Event::Evict { hart, .. }
-        | Event::Deliver { hart, .. }
-        | Event::Local { hart, .. } => hart,
-    }
-}
-
-fn is_good(parts: &Parts, event: &Event) -> bool
-    requires { IsSound (state_of parts.now) }
-    ensures { result ≡ events.is_good (state_of parts.now) event.now }
-{
-    parts.changes > 3
-}
-
-fn plan(parts: &Parts, event: &Event) -> Plan
-    requires sound { IsSound (state_of parts.now) }
-    requires good { IsTrue (events.is_good (state_of parts.now) event.now) }
-    ensures { result ≡ events.plan_of (state_of parts.now) event.now }
-{
-    Plan::Stays(Outcome::Empty)
-}
 
 fn perform(parts: &mut Parts, hart: u8, act: &Act) -> Result<(), AllocError>
     requires sound { IsSound (state_of parts.old) }
@@ -62,7 +37,7 @@ fn perform(parts: &mut Parts, hart: u8, act: &Act) -> Result<(), AllocError>
         Act::Drain(word) => drain(parts, hart, *word),
         Act::Evict(line) => give_up(parts, hart, *line),
         Act::Deliver(message) => deliver(parts, hart, message),
-        Act::Local(count) => {}
+        Act::Local(count) => go_alone(parts, hart, *count),
     }
     Ok(())
 }
@@ -75,10 +50,10 @@ impl Parts {
         requires ready { AreReady (state_of self.old) }
         ensures { Answers (verdict (state_of self.old) event.now) (state_of self.old) result (state_of self.new) }
     {
-        if !is_good(self, event) {
+        if !self.is_good(event) {
             return Err(ApplyError::BadEvent);
         }
-        let act = match plan(self, event) {
+        let act = match self.plan(event) {
             Plan::Stays(outcome) => return Ok(outcome),
             Plan::Changes(act) => act,
         };
