@@ -3,6 +3,7 @@
 ghost use Rattle.std.specs.Prelude.{◌≡◌, ◌↔◌, ◌<◌, Err, IfErr, IfOk, IsTrue, OnOk, OnErr, false, length, map};
 ghost use Rattle.machine_model.specs.Config as limits;
 ghost use Rattle.machine_model.specs.Events.{happens, verdict};
+ghost use Rattle.machine_model.specs.LawfulLog.{IsLawfulLog};
 ghost use Rattle.machine_model.specs.Laws.{Grows, KeepsImageAndConfig};
 ghost use Rattle.machine_model.specs.Views.{State, opening};
 ghost use Rattle.machine_parts.specs.Applying.{Answers};
@@ -12,7 +13,7 @@ use crate::errors::{NewError, ReplayError};
 use crate::views::Views;
 use elf_loader::Image;
 use machine_model::{
-    Config, Event, Outcome, headline, image_and_config_stay, nothing_is_rewritten, ready_always, sound_always,
+    Config, Event, Outcome, headline, image_and_config_stay, log_lawful_always, nothing_is_rewritten, ready_always, sound_always,
 };
 use machine_parts::{ApplyError, Node, Parts, is_within_limits};
 use std::alloc::{AllocError, Global};
@@ -49,8 +50,10 @@ impl Machine {
         ensures ok { IfOk result (λ machine. machine ≡ opening image config) }
         ensures config { (result ≡ Err NewError.Config) ↔ (limits.is_within_limits config ≡ false) }
         ensures headline { IfOk result (λ machine. KeepsHeadline machine) }
+        ensures log { IfOk result (λ machine. IsLawfulLog machine.trace.log) }
     {
         headline();
+        log_lawful_always();
         image_and_config_stay();
         if !is_within_limits(&config) {
             return Err(NewError::Config);
@@ -66,10 +69,12 @@ impl Machine {
         ensures ok { OnOk result (self.new ≡ happens self.old event) }
         ensures err { OnErr result (self.new ≡ self.old) }
         ensures headline { KeepsHeadline self.new }
+        ensures log { IsLawfulLog self.new.trace.log }
         ensures grows { Grows self.old.trace self.new.trace }
         ensures stays { KeepsImageAndConfig self.old self.new }
     {
         headline();
+        log_lawful_always();
         sound_always();
         ready_always();
         nothing_is_rewritten();
@@ -123,6 +128,7 @@ pub fn replay(
     ensures config { (result ≡ Err (ReplayError.New NewError.Config)) ↔ (limits.is_within_limits config ≡ false) }
     ensures refused { IfErr result (λ error. IsFirstRefusal (replayed_from 0 (opening image config) events.now) error) }
     ensures headline { IfOk result (λ machine. KeepsHeadline machine) }
+    ensures log { IfOk result (λ machine. IsLawfulLog machine.trace.log) }
 {
     let mut machine = Machine::new(alloc, image, config)?;
     match apply_all(&mut machine, events) {
@@ -132,10 +138,12 @@ pub fn replay(
 }
 
 fn apply_all(machine: &mut Machine, events: &[Event]) -> Result<(), (usize, ApplyError)>
-    requires { KeepsHeadline machine.old }
+    requires headline { KeepsHeadline machine.old }
+    requires log { IsLawfulLog machine.old.trace.log }
     ensures ok { OnOk result (replayed_from 0 machine.old events.now ≡ Replayed.Reached machine.new) }
     ensures refused { IfErr result (λ error. IsRefusedAt (replayed_from 0 machine.old events.now) error.0 error.1) }
     ensures headline { KeepsHeadline machine.new }
+    ensures log { IsLawfulLog machine.new.trace.log }
 {
     let mut index = 0;
     let mut rest = events;

@@ -1,3 +1,4 @@
+use Rattle.machine_model.specs.LawfulLog.{IsLawfulLog}
 use Rattle.machine_model.specs.Ready.{AreReady, IsSound}
 use Rattle.coherent_machine.proofs.Reached.{grows_after, headline_of, kept_on_error, law_of, reached_after, stays_after}
 use Rattle.machine_parts.specs.Parts.{state_of}
@@ -23,3 +24,6 @@ returns-clause-grows c = rw (← c.self.view_is) (grows_after c.nothing_is_rewri
 
 pub returns-clause-stays : goal.returns-clause-stays
 returns-clause-stays c = rw (← c.self.view_is) (stays_after c.image_and_config_stay.ensures (state_of c.self.inside.parts) (state_of c.apply.new.self) c.args.event c.apply.result c.apply.ensures)
+
+pub returns-clause-log : goal.returns-clause-log
+returns-clause-log c = law_of (λ image config s. IsLawfulLog s.trace.log) c.log_lawful_always.ensures (state_of c.apply.new.self) (invariant_of-self c)

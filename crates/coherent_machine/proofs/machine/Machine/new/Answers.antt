@@ -1,8 +1,8 @@
 use Rattle.std.proofs.Common.{rules}
 use Rattle.std.proofs.lemmas.Bool.{not-false}
 use Rattle.std.proofs.Common.{subst, ap, ◌∙◌, sym, true}
-use Rattle.elf_loader.specs.Image.{IsImage}
-use Rattle.coherent_machine.proofs.Reached.{headline_of, reached_opening}
+use Rattle.machine_model.specs.LawfulLog.{IsLawfulLog}
+use Rattle.coherent_machine.proofs.Reached.{headline_of, law_of, reached_opening}
 use Rattle.coherent_machine.specs.Machine.{IsReached}
 use Rattle.machine_parts.specs.Parts.{state_of}
 use Rattle.coherent_machine.proofs.machine.Machine.new.Goals as goal
@@ -12,3 +12,6 @@ invariant_of-result c = rw c.in_ok-parts.ensures (reached_opening c.args.image c
 
 pub returns-clause-headline : goal.returns-clause-headline
 returns-clause-headline c = headline_of c.headline.ensures c.image_and_config_stay.ensures (state_of c.in_ok-parts.parts) (invariant_of-result c)
+
+pub returns-clause-log : goal.returns-clause-log
+returns-clause-log c = law_of (λ image config s. IsLawfulLog s.trace.log) c.log_lawful_always.ensures (state_of c.in_ok-parts.parts) (invariant_of-result c)
