@@ -1,11 +1,11 @@
 -- Messages in front of their queues.
-use Rattle.std.specs.Prelude.{◌≡◌, ◌<◌, ◌≤◌, ◌/◌, ℕ, List, [], ◌∷◌, Option, Some, None, Contains, length, IsTrue}
-use Rattle.std.proofs.Common.{arith, sym, subst, ◌∙◌, ap}
+use Rattle.std.specs.Prelude.{◌≡◌, ◌<◌, ◌≤◌, ◌/◌, ℕ, List, [], ◌∷◌, Some, Contains, length, IsTrue}
+use Rattle.std.proofs.Common.{arith, sym, subst}
 use Rattle.elf_loader.specs.Image.{Initial}
 use Rattle.elf_loader.specs.Size.{base}
 use Rattle.machine_model.specs.Events.{is_piece}
 use Rattle.machine_model.specs.Views.{place_of}
-use Rattle.machine_model.proofs.LinePlaces.{IsPiece, piece, place_inside}
+use Rattle.machine_model.proofs.LinePlaces.{piece, place_inside}
 use Rattle.tilelink_channels.specs.Queues.{front_of}
 use Rattle.tl_types.specs.Line.{length_of}
 use Rattle.tl_types.specs.declared.line.LineSize.{LineSize}

@@ -50,7 +50,13 @@ pub(crate) fn retires(
 }
 
 /// A byte that waits in the buffer wins over the copy's; where all wait there, no copy is needed.
-pub(crate) fn plan_load(config: &Config, node: &Node, fetched: &Fetched, address: u32, width: Width) -> Plan
+pub(crate) fn plan_load(
+    config: &Config,
+    node: &Node,
+    fetched: &Fetched,
+    address: u32,
+    width: Width,
+) -> Plan
     requires line { node.now.cache.shape.size ≡ size_of_config config.now }
     requires aligned { address % bytes_of width ≡ 0 }
     ensures { result ≡ spec.plan_load node.now (fetched_of fetched.now) address (bytes_of width) }
@@ -69,7 +75,13 @@ pub(crate) fn plan_load(config: &Config, node: &Node, fetched: &Fetched, address
     retires(node, fetched, Some(loaded), None, Deed::Load)
 }
 
-pub(crate) fn plan_store(node: &Node, fetched: &Fetched, address: u32, width: Width, value: u32) -> Plan
+pub(crate) fn plan_store(
+    node: &Node,
+    fetched: &Fetched,
+    address: u32,
+    width: Width,
+    value: u32,
+) -> Plan
     requires aligned { address % bytes_of width ≡ 0 }
     requires fits { value < 2 ^ (8 * bytes_of width) }
     ensures { result ≡ spec.plan_store node.now (fetched_of fetched.now) address (bytes_of width) value }

@@ -31,11 +31,21 @@ pub(crate) fn word_in(line: &LineData, word: u32) -> [u8; 4]
     match line {
         LineData::Bytes16(bytes) => {
             let place = (word % 16) as usize;
-            [bytes[place], bytes[place + 1], bytes[place + 2], bytes[place + 3]]
+            [
+                bytes[place],
+                bytes[place + 1],
+                bytes[place + 2],
+                bytes[place + 3],
+            ]
         }
         LineData::Bytes64(bytes) => {
             let place = (word % 64) as usize;
-            [bytes[place], bytes[place + 1], bytes[place + 2], bytes[place + 3]]
+            [
+                bytes[place],
+                bytes[place + 1],
+                bytes[place + 2],
+                bytes[place + 3],
+            ]
         }
     }
 }

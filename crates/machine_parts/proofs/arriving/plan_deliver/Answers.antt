@@ -1,7 +1,4 @@
 use Rattle.std.proofs.Common.{◌∙◌, sym}
-use Rattle.machine_model.specs.Events.{is_piece}
-use Rattle.machine_model.specs.Views.{line_size, node_at}
-use Rattle.machine_parts.specs.Parts.{state_of}
 use Rattle.machine_parts.proofs.Fronts.{front_waits, from_base, noted_line}
 use Rattle.machine_parts.proofs.arriving.plan_deliver.Goals as goal
 

@@ -1,6 +1,6 @@
-use Rattle.std.proofs.Common.{rules, ◌≡◌, ◌∙◌, sym}
+use Rattle.std.proofs.Common.{◌∙◌, sym}
 use Rattle.hart.proofs.Rows.{none_refused, step_taken}
-use Rattle.machine_parts.proofs.PrivateRows.{is_whole, not_whole, whole_on}
+use Rattle.machine_parts.proofs.PrivateRows.{not_whole, whole_on}
 use Rattle.machine_parts.proofs.going_alone.goes_alone.Goals as goal
 
 pub returns-in_default : goal.returns-in_default

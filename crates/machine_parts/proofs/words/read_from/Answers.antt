@@ -1,5 +1,4 @@
-use Rattle.std.proofs.Common.{rules, arith, ◌%◌, ◌≡◌, ◌∙◌, ap, ℕ, length}
-use Rattle.machine_model.specs.Words.{read_from}
+use Rattle.std.proofs.Common.{rules, arith, ◌%◌}
 use Rattle.machine_parts.proofs.Numbers.{read-byte, read-half, read-word}
 use Rattle.machine_parts.proofs.words.read_from.Goals as goal
 
