@@ -1,6 +1,6 @@
 -- What holds of a machine's state holds at reset, and it means that each line has one writer or many readers.
-use Rattle.std.proofs.Common.{Some, ℕ, ◌/◌, ◌%◌, Bool, true, false, List, [], ◌≡◌, ◌<◌, ◌≤◌, None, refl, ap, sym, ◌∙◌, subst, length, replicate}
-use Rattle.std.specs.Prelude.{map, slice_index_or}
+use Rattle.std.proofs.Common.{ℕ, ◌/◌, ◌%◌, Bool, true, false, List, [], ◌≡◌, ◌<◌, ◌≤◌, None, refl, ap, sym, ◌∙◌, subst, length, replicate}
+use Rattle.std.specs.Prelude.{◌≢◌, map, slice_index_or}
 use Rattle.std.specs.List.{range_with_len}
 use Rattle.std.specs.Ordering.{nat_cmp}
 use Rattle.std.specs.FinMap.{get-empty}
@@ -13,20 +13,17 @@ use native.Mathlib.Omega.{arith}
 use Rattle.backing_memory.specs.Memory as memory
 use Rattle.backing_memory.specs.Memory.{lines_of, pieces_of}
 use Rattle.client_cache.specs.Cache.{copy_at}
-use Rattle.client_cache.specs.Held.{bytes_in, perm_of}
-use Rattle.client_cache.specs.declared.held.Held.{Held}
+use Rattle.client_cache.specs.Held.{perm_of}
 use Rattle.directory.specs.Directory.{line_at, quiet}
 use Rattle.directory.specs.Lines.{known_at, unknown}
 use Rattle.directory.specs.declared.answer.Known.{Known}
 use Rattle.directory.specs.declared.answer.Transaction.{Transaction}
 use Rattle.elf_loader.specs.Image.{Initial}
-use Rattle.machine_model.specs.Events.{after_events}
+use Rattle.machine_model.specs.Coherent.{perm_at}
 use Rattle.machine_model.specs.Views.{Node, State, line_size, node_at, opening, opening_node, place_of, size_of_config}
-use Rattle.machine_model.specs.Writers.{CopiesAgree, CopiesAgreeAlways, HasOneWriter, OneWriterAlways}
 use Rattle.machine_model.specs.declared.config.Config.{Config}
 use Rattle.machine_model.proofs.LineKept.{IsKept}
-use Rattle.machine_model.proofs.LineStands.{Alone, Holds, Side, Stands, IsLast, newest, noted_none, noted_writer, quiet_side}
-use Rattle.machine_model.proofs.WorldEvents.{after_events_fit}
+use Rattle.machine_model.proofs.LineStands.{Alone, Holds, Side, Stands, noted_none, noted_writer, quiet_side}
 use Rattle.machine_model.proofs.WorldFits.{IsFit, kit_at, kit_of}
 use Rattle.machine_model.proofs.WorldKept.{Kit, IsWell, is_line, side}
 use Rattle.machine_model.proofs.WorldSteps.{Fits}
@@ -34,7 +31,7 @@ use Rattle.tl_types.specs.Line.{length_of}
 use Rattle.tl_types.specs.declared.line.LineData.{LineData}
 use Rattle.tl_types.specs.declared.line.LineSize.{LineSize}
 use Rattle.tl_types.specs.declared.line.LineSize.TheVariants.{Bytes16, Bytes64}
-use Rattle.tl_types.specs.declared.permission.Perm.TheVariants.{Nothing}
+use Rattle.tl_types.specs.declared.permission.Perm.TheVariants.{Nothing, Trunk}
 
 pub same_everywhere : {A : Type 0} (n : ℕ) (x : A) (j : ℕ) → slice_index_or (replicate n x) j x ≡ x
 same_everywhere n x j = go (cases_lt j n)
@@ -117,26 +114,9 @@ module _ (image : Initial) (config : Config) where
   opening_fits pages = (opening_last, opening_is_fit pages)
 
 -- at most one writer of each line, in a state that fits
-pub one_writer : (s : State) → Fits s → HasOneWriter s
+pub one_writer : (s : State) → Fits s → (a b line : ℕ) → a ≢ b → perm_at s a line ≡ Trunk → perm_at s b line ≡ Nothing
 one_writer s fit a b l ne e = go (is_line s.trace.image (line_size s) (length s.views.nodes) l) refl
   where
     go : (t : Bool) → is_line s.trace.image (line_size s) (length s.views.nodes) l ≡ t → perm_of (copy_at (node_at s b).cache l) ≡ Nothing
     go true on = let k = fit.1.well.kept l on in noted_none (k.stands b) (k.apart a b ne (noted_writer (k.stands a) e))
     go false off = ap (λ (x : Side). perm_of x.copy) (fit.1.well.outside l off b)
-
-pub one_writer_always : OneWriterAlways
-one_writer_always image config events is within = one_writer (after_events (opening image config) events) (after_events_fit events (opening image config) (opening_fits image config is.legal_size.whole_pages))
-
--- all copies of a line have what was written last
-copies_agree : (s : State) → Fits s → CopiesAgree s
-copies_agree s fit a b l one other e f = go (is_line s.trace.image (line_size s) (length s.views.nodes) l) refl
-  where
-    newest_at : (h : ℕ) (x : Held) → copy_at (node_at s h).cache l ≡ Some x → is_line s.trace.image (line_size s) (length s.views.nodes) l ≡ true → bytes_in x ≡ fit.0 l
-    newest_at h x e on = subst (IsLast (fit.0 l)) e (newest ((fit.1.well.kept l on).stands h))
-
-    go : (t : Bool) → is_line s.trace.image (line_size s) (length s.views.nodes) l ≡ t → bytes_in one ≡ bytes_in other
-    go true on = newest_at a one e on ∙ sym (newest_at b other f on)
-    go false off = cc (e, ap (λ (x : Side). x.copy) (fit.1.well.outside l off a))
-
-pub copies_agree_always : CopiesAgreeAlways
-copies_agree_always image config events is within = copies_agree (after_events (opening image config) events) (after_events_fit events (opening image config) (opening_fits image config is.legal_size.whole_pages))

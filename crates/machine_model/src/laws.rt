@@ -1,6 +1,6 @@
 //! Laws of the event meaning, each the contract of a function that does nothing.
 ghost use Rattle.machine_model.specs.Laws.{ImageAndConfigStay, LocalIsSteps, NothingIsRewritten, RunsAlways};
-ghost use Rattle.machine_model.specs.Writers.{CopiesAgreeAlways, GrantsHaveSlotsAlways, OneWriterAlways, ReservedIsTrunkAlways};
+ghost use Rattle.machine_model.specs.Writers.{GrantsHaveSlotsAlways, ReservedIsTrunkAlways};
 
 /// An event only adds to the performed order, to the harts' lists and to the message log.
 pub fn nothing_is_rewritten()
@@ -22,17 +22,6 @@ pub fn runs_always()
 /// the count of events, which grows by one.
 pub fn local_is_steps()
     ensures { LocalIsSteps }
-{}
-
-/// Whatever events come in whatever order, where one cache may write a line, no other has a copy of it.
-pub fn one_writer_always()
-    ensures { OneWriterAlways }
-{}
-
-/// Whatever events come in whatever order, all caches that have a copy of a line have the same bytes of
-/// it.
-pub fn copies_agree_always()
-    ensures { CopiesAgreeAlways }
 {}
 
 /// Whatever events come in whatever order, a Grant on its way finds its cache's Acquire outstanding,
