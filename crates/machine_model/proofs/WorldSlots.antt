@@ -9,9 +9,8 @@ use Rattle.directory.specs.Lines.{known_at}
 use Rattle.directory.specs.Directory.{line_at}
 use Rattle.machine_model.specs.Events.{after_events}
 use Rattle.machine_model.specs.LawfulLog.{is_grant}
-use Rattle.machine_model.specs.Laws.{GrantsHaveSlots, HasSlot}
+use Rattle.machine_model.specs.Laws.{Always, GrantsHaveSlots, HasSlot, ReservedIsTrunk}
 use Rattle.machine_model.specs.Views.{State, line_size, node_at, opening, place_of}
-use Rattle.machine_model.specs.Writers.{GrantsHaveSlotsAlways, ReservedIsTrunkAlways}
 use Rattle.machine_model.proofs.LineStands.{Side, Part, Stands, is_writer, Left, LeftProbed, Receives, Upgrades, LeftGranted}
 use Rattle.machine_model.proofs.LineViews.{of_line}
 use Rattle.machine_model.proofs.WorldEvents.{after_events_fit}
@@ -77,8 +76,8 @@ grants_have_slots s fit h m among grants = go (is_line s.trace.image (line_size 
     go true on = slot m.body refl (finds (side (kit_at s h) (known_at (line_at s.views.notes (place_of (line_size s) m.line)) h) m.line) (of_line m.line (node_at s h).queues.d) m.body (all_find ((fit.1.well.kept m.line on).stands h)) member) grants
     go false off = absurd (subst (λ bs. Member bs m.body) (ap (λ (x : Side). x.d) (fit.1.well.outside m.line off h)) member)
 
-pub grants_have_slots_always : GrantsHaveSlotsAlways
+pub grants_have_slots_always : Always (λ image config s. GrantsHaveSlots s)
 grants_have_slots_always image config events is within = grants_have_slots (after_events (opening image config) events) (after_events_fit events (opening image config) (opening_fits image config is.legal_size.whole_pages))
 
-pub reserved_is_trunk_always : ReservedIsTrunkAlways
+pub reserved_is_trunk_always : Always (λ image config s. ReservedIsTrunk s)
 reserved_is_trunk_always image config events is within h word e = let fit : Fits (after_events (opening image config) events) = after_events_fit events (opening image config) (opening_fits image config is.legal_size.whole_pages) in is_writer _ (fit.1.reserved h word e)

@@ -1,6 +1,5 @@
 //! Laws of the event meaning, each the contract of a function that does nothing.
 ghost use Rattle.machine_model.specs.Laws.{ImageAndConfigStay, LocalIsSteps, NothingIsRewritten, RunsAlways};
-ghost use Rattle.machine_model.specs.Writers.{GrantsHaveSlotsAlways, ReservedIsTrunkAlways};
 
 /// An event only adds to the performed order, to the harts' lists and to the message log.
 pub fn nothing_is_rewritten()
@@ -22,15 +21,4 @@ pub fn runs_always()
 /// the count of events, which grows by one.
 pub fn local_is_steps()
     ensures { LocalIsSteps }
-{}
-
-/// Whatever events come in whatever order, a Grant on its way finds its cache's Acquire outstanding,
-/// and one without data finds the copy that it raises.
-pub fn grants_have_slots_always()
-    ensures { GrantsHaveSlotsAlways }
-{}
-
-/// Whatever events come in whatever order, a reserved word's line is one that its hart may write.
-pub fn reserved_is_trunk_always()
-    ensures { ReservedIsTrunkAlways }
 {}
