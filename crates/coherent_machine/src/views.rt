@@ -14,6 +14,7 @@ use store_buffer::StoreBuffer;
 use tilelink_channels::Queues;
 
 /// What a machine is at the moment, lent part by part. No call takes memory.
+#[derive(Drop)]
 pub struct Views<'a> {
     pub(crate) parts: &'a Parts,
 }
@@ -52,52 +53,52 @@ impl<'a> Views<'a> {
         self.parts.changes
     }
 
-    pub fn hart(&self, hart: u8) -> &'a Hart
+    pub fn hart(&self, hart: usize) -> &'a Hart
         requires { hart < length self.now.views.nodes }
         ensures { result.now ≡ (node_at self.now hart).hart }
     {
-        &self.parts.nodes[hart as usize].hart
+        &self.parts.nodes[hart].hart
     }
 
     /// The numbers that the hart put out, the first one first.
-    pub fn output(&self, hart: u8) -> &'a [u32]
+    pub fn output(&self, hart: usize) -> &'a [u32]
         requires { hart < length self.now.views.nodes }
         ensures { result.now ≡ (node_at self.now hart).output }
     {
-        &self.parts.nodes[hart as usize].output
+        &self.parts.nodes[hart].output
     }
 
     /// The word that the hart has reserved.
-    pub fn reserved(&self, hart: u8) -> Option<u32>
+    pub fn reserved(&self, hart: usize) -> Option<u32>
         requires { hart < length self.now.views.nodes }
         ensures { result ≡ (node_at self.now hart).reserved }
     {
-        self.parts.nodes[hart as usize].reservation.word()
+        self.parts.nodes[hart].reservation.word()
     }
 
     /// The hart's stores that wait.
-    pub fn buffer(&self, hart: u8) -> &'a StoreBuffer
+    pub fn buffer(&self, hart: usize) -> &'a StoreBuffer
         requires { hart < length self.now.views.nodes }
         ensures { result.now ≡ (node_at self.now hart).buffer }
     {
-        &self.parts.nodes[hart as usize].buffer
+        &self.parts.nodes[hart].buffer
     }
 
     /// The hart's copies with their permissions and dirty marks, its outstanding Acquires and its
     /// unanswered Releases.
-    pub fn cache(&self, hart: u8) -> &'a ClientCache
+    pub fn cache(&self, hart: usize) -> &'a ClientCache
         requires { hart < length self.now.views.nodes }
         ensures { result.now ≡ (node_at self.now hart).cache }
     {
-        &self.parts.nodes[hart as usize].cache
+        &self.parts.nodes[hart].cache
     }
 
     /// The messages that wait between the hart's cache and the manager.
-    pub fn queues(&self, hart: u8) -> &'a Queues
+    pub fn queues(&self, hart: usize) -> &'a Queues
         requires { hart < length self.now.views.nodes }
         ensures { result.now ≡ (node_at self.now hart).queues }
     {
-        &self.parts.nodes[hart as usize].queues
+        &self.parts.nodes[hart].queues
     }
 
     /// Main memory by line.

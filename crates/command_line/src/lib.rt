@@ -3,6 +3,7 @@
 #![tactic(auto)]
 
 mod checking;
+mod composing;
 mod fault;
 mod files;
 mod replaying;
@@ -11,6 +12,7 @@ mod system;
 mod usage;
 mod wanted;
 
+pub use composing::{CompositionError, replay_and_write};
 pub use fault::Fault;
 pub use files::Files;
 pub use running::run_line;

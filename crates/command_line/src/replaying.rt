@@ -1,16 +1,15 @@
 //! `rvtl replay`: a script of events is applied to a machine, and the trace printed.
 
+use crate::composing::{CompositionError, replay_and_write};
 use crate::fault::Fault;
 use crate::files::Files;
 use crate::wanted::Replay;
-use coherent_machine::replay;
+use coherent_machine::Machine;
 use elf_loader::{Image, load, raw, size_of_kib};
 use hart::Status;
-use machine_model::{Config, Model};
 use std::alloc::Global;
 use std::io::{self, Read, Write};
-use trace_recorder::Trace;
-use trace_text::{Script, read_script, write_trace};
+use trace_text::{Script, read_script};
 
 /// Reads and judges the script, then the image, replays, and prints the trace on `out` and each hart's
 /// end on `err`. Where an event is refused nothing is printed.
@@ -23,21 +22,16 @@ pub(crate) fn replay_files<'a, F: Files, O: Write, E: Write>(
 ) -> Result<(), Fault<'a>> {
     let script = script_in(alloc, files, wanted.script)?;
     let image = image_in(alloc, files, &wanted, script.kib)?;
-    let config = config_of(&script, wanted.model);
-    let machine = match replay(alloc, image, config, script.events.as_slice()) {
+    let machine = match replay_and_write(alloc, image, &script, wanted.model, out) {
         Ok(machine) => machine,
-        Err(error) => return Err(Fault::replay(wanted.script, error)),
+        Err(CompositionError::Replay(error)) => return Err(Fault::replay(wanted.script, error)),
+        Err(CompositionError::Writing(error)) => return Err(Fault::writing(error)),
     };
-    let (trace, outputs) = machine.into_parts(alloc)?;
-    if let Err(error) = print(&trace, out) {
+    if let Err(error) = out.flush() {
         return Err(Fault::writing(error));
     }
-    for (hart, output) in outputs.iter().enumerate() {
-        if let Some(status) = trace.statuses().get(hart) {
-            // Standard error has no other place to tell that it takes no more.
-            let _ = print_end(hart, *status, output.as_slice(), err);
-        }
-    }
+    // Standard error has no other place to tell that it takes no more.
+    let _ = print_ends(&machine, err);
     Ok(())
 }
 
@@ -91,19 +85,14 @@ fn image_in<'a, F: Files>(
     }
 }
 
-fn config_of(script: &Script, model: Model) -> Config {
-    Config {
-        harts: script.harts,
-        sets: script.sets,
-        ways: script.ways,
-        line: script.line,
-        model,
+fn print_ends<E: Write>(machine: &Machine, err: &mut E) -> io::Result<()> {
+    let views = machine.views();
+    for (hart, status) in machine.trace().statuses().iter().enumerate() {
+        if hart < views.harts() {
+            print_end(hart, *status, views.output(hart), err)?;
+        }
     }
-}
-
-fn print<O: Write>(trace: &Trace, out: &mut O) -> io::Result<()> {
-    write_trace(trace, out)?;
-    out.flush()
+    Ok(())
 }
 
 fn print_end<E: Write>(hart: usize, status: Status, output: &[u32], err: &mut E) -> io::Result<()> {

@@ -1,5 +1,5 @@
 -- What a machine of numbers of fixed widths and queues of fixed rooms rests on: how large everything is, and what the act of an event finds.
-use Rattle.std.specs.Prelude.{ℕ, ◌≡◌, ◌≢◌, ◌<◌, ◌≤◌, ◌/◌, ◌%◌, Bool, false, List, length, Contains, IsTrue, Option, Some}
+use Rattle.std.specs.Prelude.{ℕ, ◌≡◌, ◌≢◌, ◌<◌, ◌≤◌, ◌/◌, ◌%◌, Bool, false, List, length, Contains, IsTrue, Some}
 use Rattle.std.specs.FinSet as set
 use Rattle.backing_memory.specs.Memory.{line_at}
 use Rattle.client_cache.specs.declared.shape.Shape.{Shape}

@@ -1,0 +1,54 @@
+//! A replay and its text.
+
+ghost use Rattle.std.specs.Prelude.{◌≡◌, IfOk};
+ghost use Rattle.command_line.specs.Composition.{IsComposition, config_of};
+
+use coherent_machine::{Machine, ReplayError, replay};
+use elf_loader::Image;
+use machine_model::{Config, Model};
+use std::alloc::Global;
+use std::io::{self, Write};
+use trace_text::{Script, write_trace};
+
+/// Why a replay is not printed.
+#[derive(Debug, Drop)]
+pub enum CompositionError {
+    /// No machine was made, or an event was refused: nothing was written.
+    Replay(ReplayError),
+    /// The writer's fault: a beginning of the text went out.
+    Writing(io::Error),
+}
+
+/// The machine that a script is for.
+fn config_of(script: &Script, model: Model) -> Config
+    ensures { result ≡ config_of script.now model }
+{
+    Config {
+        harts: script.harts,
+        sets: script.sets,
+        ways: script.ways,
+        line: script.line,
+        model,
+    }
+}
+
+/// Replays a script's events from reset, and writes the trace.
+pub fn replay_and_write<W: Write>(
+    alloc: Global,
+    image: Image,
+    script: &Script,
+    model: Model,
+    out: &mut W,
+) -> Result<Machine, CompositionError>
+    ensures { IfOk result (λ machine. IsComposition image script.now model (W.contents out.old) (W.contents out.new) machine) }
+{
+    let config = config_of(script, model);
+    let machine = match replay(alloc, image, config, script.events.as_slice()) {
+        Ok(machine) => machine,
+        Err(error) => return Err(CompositionError::Replay(error)),
+    };
+    match write_trace(machine.trace(), out) {
+        Ok(()) => Ok(machine),
+        Err(error) => Err(CompositionError::Writing(error)),
+    }
+}
