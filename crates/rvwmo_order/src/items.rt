@@ -1,11 +1,13 @@
 //! A hart's retired instructions with their memory operations (chapter 14.1, "Memory Model
 //! Primitives").
-ghost use Rattle.std.specs.Prelude.{◌≡◌, ◌≤◌, ◌*◌, ◌%◌, ◌^◌, IfOk, Some, false, length, slice_index};
+ghost use Rattle.std.specs.Prelude.{◌≡◌, ◌≤◌, ◌*◌, ◌%◌, ◌^◌, IfOk, Some, false, length, map, slice_index};
 ghost use Rattle.hart.specs.Run as run;
 ghost use Rattle.rv32_decode.specs.Rows.{decoded};
 ghost use Rattle.rv32_exec.specs.Arithmetic as arithmetic;
 ghost use Rattle.rv32_exec.specs.Meaning as meaning;
 ghost use Rattle.memory_model.specs.Items as spec;
+ghost use Rattle.memory_model.specs.Traces as traces;
+ghost use Rattle.rvwmo_order.specs.Limits.{IsWithinLimits};
 
 use crate::runs::{after, number_read};
 use amo_unit::combine;
@@ -14,6 +16,7 @@ use memory_model::{Kind, Operation};
 use rv32_decode::{Annotations, Instr, LoadOp, Register, StoreOp, decode};
 use std::alloc::{AllocError, Global};
 use std::marker::Model;
+use trace_recorder::Trace;
 
 /// An instruction of a hart's list: its place, what it is, and its memory operation, where it has one.
 #[derive(Drop)]
@@ -83,6 +86,20 @@ pub(crate) fn items_of(
         hart = after(&hart, entry);
     }
     Ok(items)
+}
+
+/// Each hart's instructions.
+pub(crate) fn instructions(alloc: Global, trace: &Trace) -> Result<Vec<Vec<Item>>, AllocError>
+    requires { IsWithinLimits trace.now.history }
+    ensures { IfOk result (λ harts. map (λ v. v.items) harts.items ≡ traces.instructions trace.now.history) }
+{
+    let count = trace.harts();
+    let mut harts = Vec::new(alloc);
+    for id in 0..count {
+        let reset = Hart::at_reset(id as u8, trace.image().entry(), count as u32);
+        harts.push(items_of(alloc, &reset, trace.entries(id))?)?;
+    }
+    Ok(harts)
 }
 
 /// Whether an entry has a memory operation.

@@ -6,19 +6,17 @@ ghost use Rattle.memory_model.specs.Order as orders;
 ghost use Rattle.elf_loader.specs.Image.{byte_at};
 ghost use Rattle.memory_model.specs.Legal as legal;
 ghost use Rattle.memory_model.specs.Rules as rules;
-ghost use Rattle.memory_model.specs.Verdict as verdict;
 ghost use Rattle.rvwmo_order.specs.Codes.{rule_of};
 ghost use Rattle.rvwmo_order.specs.Scans as scans;
 ghost use Rattle.rvwmo_order.specs.Scans.{all_rules, first_broken_pair, first_broken_rule, judged};
 
-use crate::accesses::{end_of, is_same, precedes, read_at, reads, stores_to};
+use crate::accesses::{end_of, is_same, name_of, precedes, read_at, reads, stores_to};
 use crate::items::Item;
 use crate::rules::{are_paired, asks};
 use crate::sources::{byte_from, source};
 use crate::verdict::{Code, RULES, Rule, Verdict};
 use elf_loader::Image;
 use memory_model::{Model, Operation};
-use trace_recorder::OpId;
 
 /// The verdict on an order of the operations of these lists, one a hart.
 pub(crate) fn judge(
@@ -39,15 +37,6 @@ pub(crate) fn judge(
         return Verdict::Fault(Code::Atomicity, name_of(&r), name_of(&w));
     }
     Verdict::Legal
-}
-
-fn name_of(a: &Operation) -> OpId
-    ensures { result ≡ verdict.name_of a.now }
-{
-    OpId {
-        hart: a.hart,
-        place: a.place,
-    }
 }
 
 fn items_of(harts: &[Vec<Item>], hart: u8) -> &[Item]
