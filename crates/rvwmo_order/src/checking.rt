@@ -8,6 +8,7 @@ ghost use Rattle.rvwmo_order.specs.Limits.{IsWithinLimits};
 ghost use Rattle.rvwmo_order.specs.Scans.{judged};
 
 use crate::error::CheckError;
+use crate::index::Index;
 use crate::items::instructions;
 use crate::judging::judge;
 use crate::orders::{has_too_many, is_order, names_in, operations_at};
@@ -65,6 +66,6 @@ fn verdict_on(
     ensures { IfOk result (λ v. v ≡ judged model (traces.image_of trace.now.history) (traces.instructions trace.now.history) (traces.operations_at (traces.instructions trace.now.history) order.now)) }
 {
     let harts = instructions(alloc, trace)?;
-    let operations = operations_at(alloc, &harts, order)?;
-    Ok(judge(model, trace.image(), &harts, &operations))
+    let index = Index::of(alloc, operations_at(alloc, &harts, order)?)?;
+    Ok(judge(model, trace.image(), &harts, &index))
 }

@@ -8,5 +8,5 @@ returns c =
     let t = c.args.trace.now.history in
     let first : map (λ v. v.items) c.deref.result.now ≡ instructions t = ap (λ vs. map (λ v. v.items) vs) c.deref.ensures.value ∙ c.in_ok-harts.ensures in
     let lists : map (λ v. v.items) c.deref-2.result.now ≡ instructions t = ap (λ vs. map (λ v. v.items) vs) c.deref-2.ensures.value ∙ c.in_ok-harts.ensures in
-    let listed : c.deref-3.result.now ≡ operations_at (instructions t) c.args.order.now = c.deref-3.ensures.value ∙ (c.in_ok-operations.ensures ∙ ap (λ hs. operations_at hs c.args.order.now) first) in
-    c.judge.ensures ∙ same_judged c.args.model c.image.result.now t.image (map (λ v. v.items) c.deref-2.result.now) (instructions t) c.deref-3.result.now (operations_at (instructions t) c.args.order.now) c.image.ensures lists listed
+    let listed : c.in_ok-index.field-0 ≡ operations_at (instructions t) c.args.order.now = c.in_ok-index.ensures ∙ (c.in_ok-operations_at.ensures ∙ ap (λ hs. operations_at hs c.args.order.now) first) in
+    c.judge.ensures ∙ same_judged c.args.model c.image.result.now t.image (map (λ v. v.items) c.deref-2.result.now) (instructions t) c.in_ok-index.field-0 (operations_at (instructions t) c.args.order.now) c.image.ensures lists listed

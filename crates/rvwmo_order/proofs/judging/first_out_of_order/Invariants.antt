@@ -5,7 +5,7 @@ use Rattle.memory_model.specs.Rules.{asked_by}
 use Rattle.rvwmo_order.proofs.judging.first_out_of_order.Given as goal
 
 abbrev pub invariant-loop-rest : goal.invariant-loop-rest
-invariant-loop-rest l = first_out_of_order (asked_by l.model (map (λ v. v.items) l.harts) l.order (rule_of l.rule)) l.order ≡ first_out_of_order (asked_by l.model (map (λ v. v.items) l.harts) l.order (rule_of l.rule)) l.rest
+invariant-loop-rest l = first_out_of_order (asked_by l.model (map (λ v. v.items) l.harts) l.index (rule_of l.rule)) l.index ≡ first_out_of_order (asked_by l.model (map (λ v. v.items) l.harts) l.index (rule_of l.rule)) l.rest
 
 abbrev pub decreases-loop-rest : goal.decreases-loop-rest
 decreases-loop-rest l = length l.rest
