@@ -6,5 +6,6 @@ pub mod First
 pub mod Harts
 pub mod Indexed
 pub mod Judged
+pub mod Placed
 pub mod Seen
 pub mod Verdicts

@@ -3,3 +3,4 @@ pub mod Limits
 pub mod Scans
 pub mod Answers
 pub mod Indexed
+pub mod Placed

@@ -9,7 +9,7 @@ ghost use Rattle.rvwmo_order.specs.Scans.{judged};
 
 use crate::error::CheckError;
 use crate::index::Index;
-use crate::items::instructions;
+use crate::items::Harts;
 use crate::judging::judge;
 use crate::orders::{has_too_many, is_order, names_in, operations_at};
 use crate::runs::are_runs;
@@ -65,7 +65,7 @@ fn verdict_on(
     requires { IsWithinLimits trace.now.history }
     ensures { IfOk result (λ v. v ≡ judged model (traces.image_of trace.now.history) (traces.instructions trace.now.history) (traces.operations_at (traces.instructions trace.now.history) order.now)) }
 {
-    let harts = instructions(alloc, trace)?;
+    let harts = Harts::of(alloc, trace)?;
     let index = Index::of(alloc, operations_at(alloc, &harts, order)?)?;
     Ok(judge(model, trace.image(), &harts, &index))
 }

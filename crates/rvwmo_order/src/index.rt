@@ -15,7 +15,7 @@ ghost use Rattle.rvwmo_order.specs.Indexed.{name_cmp, place_from, stored_from};
 ghost use Rattle.rvwmo_order.specs.Limits.{IsWithinLimits};
 
 use crate::accesses::{end_of, name_of, writes};
-use crate::items::instructions;
+use crate::items::Harts;
 use crate::orders::operations_at;
 use crate::stored::Stored;
 use memory_model::Operation;
@@ -58,7 +58,7 @@ impl Index {
         requires { IsWithinLimits trace.now.history }
         ensures { IfOk result (λ index. index ≡ traces.operations_at (traces.instructions trace.now.history) order.now) }
     {
-        let harts = instructions(alloc, trace)?;
+        let harts = Harts::of(alloc, trace)?;
         Index::of(alloc, operations_at(alloc, &harts, order)?)
     }
 

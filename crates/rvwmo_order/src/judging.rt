@@ -1,5 +1,5 @@
 //! Judging an order of operations by comparing all pairs: each definition as it stands.
-ghost use Rattle.std.specs.Prelude.{◌≡◌, ◌==◌, Some, find, map};
+ghost use Rattle.std.specs.Prelude.{◌≡◌, ◌==◌, Some, find};
 ghost use Rattle.std.specs.List.{list_all};
 ghost use Rattle.memory_model.specs.Operations as operations;
 ghost use Rattle.memory_model.specs.Order as orders;
@@ -12,7 +12,7 @@ ghost use Rattle.rvwmo_order.specs.Scans.{all_rules, first_broken_pair, first_br
 
 use crate::accesses::{end_of, is_same, name_of, precedes, read_at, reads, stores_to};
 use crate::index::Index;
-use crate::items::Item;
+use crate::items::Harts;
 use crate::rules::{are_paired, asks};
 use crate::sources::byte_from;
 use crate::verdict::{Code, RULES, Rule, Verdict};
@@ -23,10 +23,10 @@ use memory_model::{Model, Operation};
 pub(crate) fn judge(
     model: Model,
     image: &Image,
-    harts: &[Vec<Item>],
+    harts: &Harts,
     index: &Index,
 ) -> Verdict
-    ensures { result ≡ judged model (byte_at image.now) (map (λ v. v.items) harts.now) index.now }
+    ensures { result ≡ judged model (byte_at image.now) harts.now index.now }
 {
     if let Some((rule, a, b)) = broken_rule(model, harts, index) {
         return Verdict::Fault(Code::Order(rule), name_of(&a), name_of(&b));
@@ -40,37 +40,28 @@ pub(crate) fn judge(
     Verdict::Legal
 }
 
-fn items_of(harts: &[Vec<Item>], hart: u8) -> &[Item]
-    ensures { result.now ≡ rules.items_of (map (λ v. v.items) harts.now) hart }
-{
-    match harts.get(usize::from(hart)) {
-        Some(items) => items.as_slice(),
-        None => &[],
-    }
-}
-
 // Whether the rule says that `a` must come before `b`.
 fn is_asked(
     rule: Rule,
     model: Model,
-    harts: &[Vec<Item>],
+    harts: &Harts,
     index: &Index,
     a: &Operation,
     b: &Operation,
 ) -> bool
     ensures { result
-        ≡ rules.asked_by model (map (λ v. v.items) harts.now) index.now (rule_of rule) a.now b.now }
+        ≡ rules.asked_by model harts.now index.now (rule_of rule) a.now b.now }
 {
-    precedes(a, b) && asks(rule, model, items_of(harts, a.hart), index, a, b)
+    precedes(a, b) && asks(rule, model, harts.items_of(a.hart), index, a, b)
 }
 
 // The first rule by which an operation must come before one that stands before it, with the two.
 fn broken_rule(
     model: Model,
-    harts: &[Vec<Item>],
+    harts: &Harts,
     index: &Index,
 ) -> Option<(Rule, Operation, Operation)>
-    ensures { result ≡ first_broken_rule model (map (λ v. v.items) harts.now) index.now all_rules }
+    ensures { result ≡ first_broken_rule model harts.now index.now all_rules }
 {
     let mut left = RULES.as_slice();
     while let [rule, rest @ ..] = left {
@@ -86,11 +77,11 @@ fn broken_rule(
 fn first_out_of_order(
     rule: Rule,
     model: Model,
-    harts: &[Vec<Item>],
+    harts: &Harts,
     index: &Index,
 ) -> Option<(Operation, Operation)>
     ensures { result
-        ≡ scans.first_out_of_order (rules.asked_by model (map (λ v. v.items) harts.now) index.now (rule_of rule)) index.now }
+        ≡ scans.first_out_of_order (rules.asked_by model harts.now index.now (rule_of rule)) index.now }
 {
     let mut rest = index.order();
     while let [b, behind @ ..] = rest {
@@ -106,13 +97,13 @@ fn first_out_of_order(
 fn first_asked(
     rule: Rule,
     model: Model,
-    harts: &[Vec<Item>],
+    harts: &Harts,
     index: &Index,
     behind: &[Operation],
     b: &Operation,
 ) -> Option<Operation>
     ensures { result
-        ≡ find (λ a. rules.asked_by model (map (λ v. v.items) harts.now) index.now (rule_of rule) a b.now) behind.now }
+        ≡ find (λ a. rules.asked_by model harts.now index.now (rule_of rule) a b.now) behind.now }
 {
     let mut rest = behind;
     while let [a, tail @ ..] = rest {
@@ -153,8 +144,8 @@ fn has_source_bytes(image: &Image, index: &Index, a: &Operation) -> bool
 }
 
 // The first LR and SC that are paired and not atomic.
-fn broken_pair(harts: &[Vec<Item>], index: &Index) -> Option<(Operation, Operation)>
-    ensures { result ≡ first_broken_pair (map (λ v. v.items) harts.now) index.now index.now }
+fn broken_pair(harts: &Harts, index: &Index) -> Option<(Operation, Operation)>
+    ensures { result ≡ first_broken_pair harts.now index.now index.now }
 {
     let mut rest = index.order();
     while let [w, tail @ ..] = rest {
@@ -167,9 +158,9 @@ fn broken_pair(harts: &[Vec<Item>], index: &Index) -> Option<(Operation, Operati
 }
 
 // The first LR that is paired with this SC and not atomic with it.
-fn first_broken_with(harts: &[Vec<Item>], index: &Index, w: &Operation) -> Option<Operation>
+fn first_broken_with(harts: &Harts, index: &Index, w: &Operation) -> Option<Operation>
     ensures { result
-        ≡ find (λ r. scans.is_broken_pair (map (λ v. v.items) harts.now) index.now r w.now) index.now }
+        ≡ find (λ r. scans.is_broken_pair harts.now index.now r w.now) index.now }
 {
     let mut rest = index.order();
     while let [r, tail @ ..] = rest {
@@ -182,10 +173,10 @@ fn first_broken_with(harts: &[Vec<Item>], index: &Index, w: &Operation) -> Optio
 }
 
 // Whether the LR and the SC are paired and not atomic.
-fn is_broken_pair(harts: &[Vec<Item>], index: &Index, r: &Operation, w: &Operation) -> bool
-    ensures { result ≡ scans.is_broken_pair (map (λ v. v.items) harts.now) index.now r.now w.now }
+fn is_broken_pair(harts: &Harts, index: &Index, r: &Operation, w: &Operation) -> bool
+    ensures { result ≡ scans.is_broken_pair harts.now index.now r.now w.now }
 {
-    are_paired(items_of(harts, r.hart), r, w) && !is_atomic(index, r, w)
+    are_paired(harts.items_of(r.hart), r, w) && !is_atomic(index, r, w)
 }
 
 fn is_atomic(index: &Index, r: &Operation, w: &Operation) -> bool
