@@ -3,7 +3,7 @@ use Rattle.std.specs.Prelude.{ℕ, ◌+◌, Bool, ◌&&◌, ◌||◌, ◌==◌, 
 use Rattle.std.specs.Ordering.{nat_cmp, ordering_then}
 use Rattle.std.specs.declared.cmp.Ordering.{Ordering}
 use Rattle.memory_model.specs.declared.operation.Operation.{Operation}
-use Rattle.memory_model.specs.Operations.{same, stores_to}
+use Rattle.memory_model.specs.Operations.{precedes, same, stores_to}
 use Rattle.trace_recorder.specs.declared.operation.OpId.{OpId}
 use Rattle.rvwmo_order.specs.declared.stored.Stored.{Stored}
 
@@ -28,3 +28,13 @@ stored_from position x order = filter (λ (s : Stored). stores_to x s.store) (nu
 -- a store stands before a load's place in the order, or precedes it in program order
 abbrev pub is_seen : ℕ → OpId → Stored → Bool
 is_seen position load s = nat_lt s.position position || (s.store.hart == load.hart && nat_lt s.store.place load.place)
+
+-- how many operations there are up to the last that precedes b in program order, with so many counted and so many reached
+abbrev pub reach_from : ℕ → ℕ → Operation → List Operation → ℕ
+reach_from count reach b [] = reach
+reach_from count reach b (a ∷ rest) = reach_from (count + 1) (if precedes a b then count + 1 else reach) b rest
+
+-- that of each operation, among those behind it
+abbrev pub reaches_of : List Operation → List ℕ
+reaches_of [] = []
+reaches_of (b ∷ rest) = reach_from 0 0 b rest ∷ reaches_of rest

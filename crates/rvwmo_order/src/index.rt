@@ -11,10 +11,10 @@ ghost use Rattle.memory_model.specs.Order as spec;
 ghost use Rattle.memory_model.specs.Traces as traces;
 ghost use Rattle.memory_model.specs.Verdict as verdict;
 ghost use Rattle.rvwmo_order.specs.Indexed as indexed;
-ghost use Rattle.rvwmo_order.specs.Indexed.{name_cmp, place_from, stored_from};
+ghost use Rattle.rvwmo_order.specs.Indexed.{name_cmp, place_from, reach_from, reaches_of, stored_from};
 ghost use Rattle.rvwmo_order.specs.Limits.{IsWithinLimits};
 
-use crate::accesses::{end_of, name_of, writes};
+use crate::accesses::{end_of, name_of, precedes, writes};
 use crate::items::Harts;
 use crate::orders::operations_at;
 use crate::stored::Stored;
@@ -32,6 +32,8 @@ pub struct Index {
     order: Vec<Operation>,
     /// The place of each operation in the order, by its hart and its place in the hart's list.
     places: BTreeMap<(u8, u32), usize>,
+    /// For each operation how far behind it the last one stands that precedes it in program order.
+    reaches: Vec<usize>,
     /// The stores to each byte, in the order's order.
     stores: BTreeMap<u64, Vec<Stored>>,
 }
@@ -42,13 +44,14 @@ impl Model for Index {
     ghost use Rattle.std.specs.BTreeMap as tree;
     ghost use Rattle.std.specs.Ordering.{nat_cmp};
     ghost use Rattle.memory_model.specs.declared.operation.Operation.{Operation as OperationValue};
-    ghost use Rattle.rvwmo_order.specs.Indexed.{name_cmp, place_from, stored_from};
+    ghost use Rattle.rvwmo_order.specs.Indexed.{name_cmp, place_from, reaches_of, stored_from};
 
     ghost Value = { List OperationValue };
 
     ghost view = { λ i. i.order.items };
 
     ghost invariant = { λ i. ((a : OperationValue) → tree.get name_cmp i.places (a.hart, a.place) ≡ place_from 0 a i.order.items)
+        × (i.reaches.items ≡ reaches_of i.order.items)
         × ((x : ℕ) → option_map_or (λ v. v.items) (tree.get nat_cmp i.stores x) [] ≡ stored_from 0 x i.order.items) };
 }
 
@@ -67,10 +70,12 @@ impl Index {
         ensures { IfOk result (λ index. index ≡ order.items) }
     {
         let places = places_in(alloc, &order)?;
+        let reaches = reaches_in(alloc, &order)?;
         let stores = stores_in(alloc, &order)?;
         Ok(Index {
             order,
             places,
+            reaches,
             stores,
         })
     }
@@ -79,6 +84,14 @@ impl Index {
         ensures { result.now ≡ self.now }
     {
         &self.order
+    }
+
+    /// How far behind each operation the last one stands that precedes it in program order; 0 where none
+    /// does.
+    pub(crate) fn reaches(&self) -> &[usize]
+        ensures { result.now ≡ reaches_of self.now }
+    {
+        &self.reaches
     }
 
     /// The store that a byte of a load comes from; none where it is the image's byte. A load that the
@@ -157,6 +170,31 @@ fn put_first(
     Ok(())
 }
 
+fn reaches_in(alloc: Global, order: &[Operation]) -> Result<Vec<usize>, AllocError>
+    ensures { IfOk result (λ reaches. reaches.items ≡ reaches_of order.now) }
+{
+    let mut reaches = Vec::new(alloc);
+    let mut rest = order;
+    while let [b, behind @ ..] = rest {
+        reaches.push(reach_of(b, behind))?;
+        rest = behind;
+    }
+    Ok(reaches)
+}
+
+// How many operations there are up to the last that precedes `b` in program order.
+fn reach_of(b: &Operation, behind: &[Operation]) -> usize
+    ensures { result ≡ reach_from 0 0 b.now behind.now }
+{
+    let mut reach = 0;
+    for (position, a) in behind.iter().enumerate() {
+        if precedes(a, b) {
+            reach = position + 1;
+        }
+    }
+    reach
+}
+
 // The stores of an order to each byte.
 fn stores_in(alloc: Global, order: &[Operation]) -> Result<BTreeMap<u64, Vec<Stored>>, AllocError>
     ensures { IfOk result (λ stores. (x : ℕ) → option_map_or (λ v. v.items) (tree.get nat_cmp stores x) [] ≡ stored_from 0 x order.now) }
@@ -180,7 +218,10 @@ fn push_bytes(
         ≡ option_map_or (λ v. v.items) (tree.get nat_cmp stores.old x) [] ++ (if operations.touches x a.now then record { position = position; store = a.now } ∷ [] else [])) }
 {
     for x in u64::from(a.address)..end_of(a) {
-        stores.entry(x)?.or_default().push(Stored::new(position, *a))?;
+        stores
+            .entry(x)?
+            .or_default()
+            .push(Stored::new(position, *a))?;
     }
     Ok(())
 }

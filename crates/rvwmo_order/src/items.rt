@@ -123,7 +123,10 @@ impl Items {
         ensures { result.now ≡ between self.now a.now b.now }
     {
         let start = a.place as usize + 1;
-        first_of(behind(&self.list, start), (b.place as usize).saturating_sub(start))
+        first_of(
+            behind(&self.list, start),
+            (b.place as usize).saturating_sub(start),
+        )
     }
 }
 

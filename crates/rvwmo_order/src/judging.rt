@@ -1,5 +1,5 @@
 //! Judging an order of operations by comparing all pairs: each definition as it stands.
-ghost use Rattle.std.specs.Prelude.{◌≡◌, ◌==◌, Some, find};
+ghost use Rattle.std.specs.Prelude.{◌≡◌, ◌==◌, Some, find, take};
 ghost use Rattle.std.specs.List.{list_all};
 ghost use Rattle.memory_model.specs.Operations as operations;
 ghost use Rattle.memory_model.specs.Order as orders;
@@ -7,6 +7,7 @@ ghost use Rattle.elf_loader.specs.Image.{byte_at};
 ghost use Rattle.memory_model.specs.Legal as legal;
 ghost use Rattle.memory_model.specs.Rules as rules;
 ghost use Rattle.rvwmo_order.specs.Codes.{rule_of};
+ghost use Rattle.rvwmo_order.specs.Indexed.{reach_from};
 ghost use Rattle.rvwmo_order.specs.Scans as scans;
 ghost use Rattle.rvwmo_order.specs.Scans.{all_rules, first_broken_pair, first_broken_rule, judged};
 
@@ -20,12 +21,7 @@ use elf_loader::Image;
 use memory_model::{Model, Operation};
 
 /// The verdict on an order of the operations of these lists, one a hart.
-pub(crate) fn judge(
-    model: Model,
-    image: &Image,
-    harts: &Harts,
-    index: &Index,
-) -> Verdict
+pub(crate) fn judge(model: Model, image: &Image, harts: &Harts, index: &Index) -> Verdict
     ensures { result ≡ judged model (byte_at image.now) harts.now index.now }
 {
     if let Some((rule, a, b)) = broken_rule(model, harts, index) {
@@ -56,11 +52,7 @@ fn is_asked(
 }
 
 // The first rule by which an operation must come before one that stands before it, with the two.
-fn broken_rule(
-    model: Model,
-    harts: &Harts,
-    index: &Index,
-) -> Option<(Rule, Operation, Operation)>
+fn broken_rule(model: Model, harts: &Harts, index: &Index) -> Option<(Rule, Operation, Operation)>
     ensures { result ≡ first_broken_rule model harts.now index.now all_rules }
 {
     let mut left = RULES.as_slice();
@@ -84,13 +76,47 @@ fn first_out_of_order(
         ≡ scans.first_out_of_order (rules.asked_by model harts.now index.now (rule_of rule)) index.now }
 {
     let mut rest = index.order();
+    let mut reaches = index.reaches();
     while let [b, behind @ ..] = rest {
-        if let Some(a) = first_asked(rule, model, harts, index, behind, b) {
+        let [reach, others @ ..] = reaches else {
+            return None;
+        };
+        if let Some(a) = first_in_reach(rule, model, harts, index, behind, *reach, b) {
             return Some((a, *b));
         }
         rest = behind;
+        reaches = others;
     }
     None
+}
+
+// The same, where it is known how far behind `b` the last operation stands that precedes it in program
+// order.
+fn first_in_reach(
+    rule: Rule,
+    model: Model,
+    harts: &Harts,
+    index: &Index,
+    behind: &[Operation],
+    reach: usize,
+    b: &Operation,
+) -> Option<Operation>
+    requires { reach ≡ reach_from 0 0 b.now behind.now }
+    ensures { result
+        ≡ find (λ a. rules.asked_by model harts.now index.now (rule_of rule) a b.now) behind.now }
+{
+    first_asked(rule, model, harts, index, first_of(behind, reach), b)
+}
+
+// The first so many.
+fn first_of(operations: &[Operation], count: usize) -> &[Operation]
+    ensures { result.now ≡ take count operations.now }
+{
+    if count <= operations.len() {
+        &operations[..count]
+    } else {
+        operations
+    }
 }
 
 // The first of the operations behind `b` that must come before it.

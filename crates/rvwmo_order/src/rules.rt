@@ -69,13 +69,7 @@ fn return_differently(items: &Items, index: &Index, a: &Operation, b: &Operation
     (u64::from(a.address)..end_of(a)).any(|x| returns_differently(x, items, index, a, b))
 }
 
-fn returns_differently(
-    x: u64,
-    items: &Items,
-    index: &Index,
-    a: &Operation,
-    b: &Operation,
-) -> bool
+fn returns_differently(x: u64, items: &Items, index: &Index, a: &Operation, b: &Operation) -> bool
     ensures { result ≡ scans.returns_differently x items.now index.now a.now b.now }
 {
     touches(x, b)
