@@ -3,7 +3,7 @@ ghost use Rattle.std.specs.Prelude.{◌≡◌, ◌<◌};
 ghost use Rattle.memory_model.specs.Order as spec;
 
 use crate::accesses::{is_same, name_of, precedes, stores_to};
-use crate::{Index, completed};
+use crate::{Index, completed, is_within_limits};
 use elf_loader::{raw, size_of_kib};
 use hart::{Retired, Status};
 use memory_model::Operation;
@@ -95,6 +95,7 @@ fn told<L: Ledger>(index: &Index, load: OpId, byte: u32, blank: Blank) -> Option
 #[test]
 fn exchanged_neighbours_have_the_same_sources(rt: HostRuntime) -> Result<(), Fail> {
     let trace = trace(rt.alloc())?;
+    assert!(rt; is_within_limits(&trace));
     let mut order = completed(rt.alloc(), &trace)?;
     assert_eq!(rt; order.len(), 14);
     for exchanged in 1..order.len() {
