@@ -4,6 +4,8 @@ pub mod Faults
 pub mod Fetches
 pub mod First
 pub mod Harts
+pub mod Indexed
 pub mod Judged
+pub mod Placed
 pub mod Seen
 pub mod Verdicts

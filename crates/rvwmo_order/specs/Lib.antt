@@ -2,3 +2,5 @@ pub mod Codes
 pub mod Limits
 pub mod Scans
 pub mod Answers
+pub mod Indexed
+pub mod Placed

@@ -1,10 +1,12 @@
 //! Operations and their bytes (chapter 14.1, "Memory Model Primitives").
 ghost use Rattle.std.specs.Prelude.{◌≡◌, ◌+◌, ◌/◌, ◌%◌, ◌^◌};
 ghost use Rattle.memory_model.specs.Operations as spec;
+ghost use Rattle.memory_model.specs.Verdict as verdict;
 ghost use Rattle.elf_loader.specs.Image as images;
 
 use elf_loader::{BASE, Image};
 use memory_model::{Kind, Model, Operation};
+use trace_recorder::OpId;
 
 pub(crate) fn reads(kind: Kind) -> bool
     ensures { result ≡ spec.reads kind }
@@ -28,6 +30,15 @@ pub(crate) fn is_same(a: &Operation, b: &Operation) -> bool
     ensures { result ≡ spec.same a.now b.now }
 {
     a.hart == b.hart && a.place == b.place
+}
+
+pub(crate) fn name_of(a: &Operation) -> OpId
+    ensures { result ≡ verdict.name_of a.now }
+{
+    OpId {
+        hart: a.hart,
+        place: a.place,
+    }
 }
 
 pub(crate) fn precedes(a: &Operation, b: &Operation) -> bool

@@ -1,5 +1,5 @@
 //! The checker: a trace and an order in, a verdict out.
-ghost use Rattle.std.specs.Prelude.{◌≡◌, ◌↔◌, IfOk, IsErrOf, map};
+ghost use Rattle.std.specs.Prelude.{◌≡◌, ◌↔◌, IfOk, IsErrOf};
 ghost use Rattle.memory_model.specs.Traces as traces;
 ghost use Rattle.memory_model.specs.Traces.{IsLegalOrder};
 ghost use Rattle.memory_model.specs.Verdict.{fault_in};
@@ -8,12 +8,12 @@ ghost use Rattle.rvwmo_order.specs.Limits.{IsWithinLimits};
 ghost use Rattle.rvwmo_order.specs.Scans.{judged};
 
 use crate::error::CheckError;
-use crate::items::{Item, items_of};
+use crate::index::Index;
+use crate::items::Harts;
 use crate::judging::judge;
 use crate::orders::{has_too_many, is_order, names_in, operations_at};
 use crate::runs::are_runs;
 use crate::verdict::Verdict;
-use hart::Hart;
 use memory_model::Model;
 use std::alloc::{AllocError, Global};
 use trace_recorder::{OpId, Trace};
@@ -65,21 +65,7 @@ fn verdict_on(
     requires { IsWithinLimits trace.now.history }
     ensures { IfOk result (λ v. v ≡ judged model (traces.image_of trace.now.history) (traces.instructions trace.now.history) (traces.operations_at (traces.instructions trace.now.history) order.now)) }
 {
-    let harts = instructions(alloc, trace)?;
-    let operations = operations_at(alloc, &harts, order)?;
-    Ok(judge(model, trace.image(), &harts, &operations))
-}
-
-// Each hart's instructions.
-fn instructions(alloc: Global, trace: &Trace) -> Result<Vec<Vec<Item>>, AllocError>
-    requires { IsWithinLimits trace.now.history }
-    ensures { IfOk result (λ harts. map (λ v. v.items) harts.items ≡ traces.instructions trace.now.history) }
-{
-    let count = trace.harts();
-    let mut harts = Vec::new(alloc);
-    for id in 0..count {
-        let reset = Hart::at_reset(id as u8, trace.image().entry(), count as u32);
-        harts.push(items_of(alloc, &reset, trace.entries(id))?)?;
-    }
-    Ok(harts)
+    let harts = Harts::of(alloc, trace)?;
+    let index = Index::of(alloc, operations_at(alloc, &harts, order)?)?;
+    Ok(judge(model, trace.image(), &harts, &index))
 }

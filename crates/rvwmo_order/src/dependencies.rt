@@ -1,21 +1,14 @@
 //! Dependencies through registers (chapter 14.1, "Syntactic Dependencies", and 14.3): what came from an
 //! operation is carried forward through the registers, one flag for each of x0 to x31.
-ghost use Rattle.std.specs.Prelude.{◌≡◌, ◌&&◌, Some, nat_lt, slice_get};
+ghost use Rattle.std.specs.Prelude.{◌≡◌, ◌&&◌, Some, slice_get};
 ghost use Rattle.rvwmo_order.specs.Scans.{written_to};
 ghost use Rattle.rv32_exec.specs.Uses.{named, uses_of};
 ghost use Rattle.memory_model.specs.Dependencies as spec;
 
 use crate::accesses::precedes;
-use crate::items::Item;
+use crate::items::Items;
 use memory_model::Operation;
 use rv32_decode::{Instr, Register};
-
-/// Whether an instruction stands between two operations of its hart in program order.
-pub(crate) fn is_between(item: &Item, a: &Operation, b: &Operation) -> bool
-    ensures { result ≡ (nat_lt a.now.place item.now.place && nat_lt item.now.place b.now.place) }
-{
-    a.place < item.place() && item.place() < b.place
-}
 
 fn is_held(held: &[bool; 32], register: Register) -> bool
     ensures { result ≡ spec.holds held.now (named register) }
@@ -144,17 +137,17 @@ fn pass(held: &mut [bool; 32], instr: Option<Instr>)
 }
 
 // The instruction that gave an operation.
-fn instr_at(items: &[Item], a: &Operation) -> Option<Instr>
+fn instr_at(items: &Items, a: &Operation) -> Option<Instr>
     ensures { result ≡ spec.instr_in (slice_get items.now a.now.place) }
 {
-    match items.get(a.place as usize) {
+    match items.get(a.place) {
         Some(item) => item.instr(),
         None => None,
     }
 }
 
 // Just behind an operation its destination alone holds it.
-fn held_first(items: &[Item], a: &Operation) -> [bool; 32]
+fn held_first(items: &Items, a: &Operation) -> [bool; 32]
     ensures { result ≡ spec.held_first (spec.uses_at items.now a.now) }
 {
     let mut held = [false; 32];
@@ -165,22 +158,20 @@ fn held_first(items: &[Item], a: &Operation) -> [bool; 32]
 }
 
 // Which registers hold what came from `a`, just before `b`.
-fn held_at(items: &[Item], a: &Operation, b: &Operation) -> [bool; 32]
+fn held_at(items: &Items, a: &Operation, b: &Operation) -> [bool; 32]
     ensures { result ≡ spec.held_at items.now a.now b.now }
 {
     let mut held = held_first(items, a);
-    let mut rest = items;
+    let mut rest = items.between(a, b);
     while let [item, tail @ ..] = rest {
-        if is_between(item, a, b) {
-            pass(&mut held, item.instr());
-        }
+        pass(&mut held, item.instr());
         rest = tail;
     }
     held
 }
 
 /// Whether what came from `a` is in the address of `b`.
-pub(crate) fn has_address_dependency(items: &[Item], a: &Operation, b: &Operation) -> bool
+pub(crate) fn has_address_dependency(items: &Items, a: &Operation, b: &Operation) -> bool
     ensures { result ≡ spec.has_address_dependency items.now a.now b.now }
 {
     if !precedes(a, b) {
@@ -193,7 +184,7 @@ pub(crate) fn has_address_dependency(items: &[Item], a: &Operation, b: &Operatio
 }
 
 /// Whether what came from `a` is in the number that `b` stores.
-pub(crate) fn has_data_dependency(items: &[Item], a: &Operation, b: &Operation) -> bool
+pub(crate) fn has_data_dependency(items: &Items, a: &Operation, b: &Operation) -> bool
     ensures { result ≡ spec.has_data_dependency items.now a.now b.now }
 {
     if !precedes(a, b) {
@@ -238,42 +229,38 @@ fn is_steering(instr: &Instr) -> bool
 }
 
 /// Whether a branch or a JALR between them depends on `a`.
-pub(crate) fn has_control_dependency(items: &[Item], a: &Operation, b: &Operation) -> bool
+pub(crate) fn has_control_dependency(items: &Items, a: &Operation, b: &Operation) -> bool
     ensures { result ≡ spec.has_control_dependency items.now a.now b.now }
 {
     if !precedes(a, b) {
         return false;
     }
     let mut held = held_first(items, a);
-    let mut rest = items;
+    let mut rest = items.between(a, b);
     while let [item, tail @ ..] = rest {
-        if is_between(item, a, b) {
-            if steers(&held, item.instr()) {
-                return true;
-            }
-            pass(&mut held, item.instr());
+        if steers(&held, item.instr()) {
+            return true;
         }
+        pass(&mut held, item.instr());
         rest = tail;
     }
     false
 }
 
 /// Whether an instruction between them has an address dependency on `a`; an SC that failed may have one.
-pub(crate) fn has_dependent_address_between(items: &[Item], a: &Operation, b: &Operation) -> bool
+pub(crate) fn has_dependent_address_between(items: &Items, a: &Operation, b: &Operation) -> bool
     ensures { result ≡ spec.has_dependent_address_between items.now a.now b.now }
 {
     if !precedes(a, b) {
         return false;
     }
     let mut held = held_first(items, a);
-    let mut rest = items;
+    let mut rest = items.between(a, b);
     while let [item, tail @ ..] = rest {
-        if is_between(item, a, b) {
-            if addresses(&held, item.instr()) {
-                return true;
-            }
-            pass(&mut held, item.instr());
+        if addresses(&held, item.instr()) {
+            return true;
         }
+        pass(&mut held, item.instr());
         rest = tail;
     }
     false

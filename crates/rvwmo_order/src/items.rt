@@ -1,11 +1,16 @@
 //! A hart's retired instructions with their memory operations (chapter 14.1, "Memory Model
 //! Primitives").
-ghost use Rattle.std.specs.Prelude.{◌≡◌, ◌≤◌, ◌*◌, ◌%◌, ◌^◌, IfOk, Some, false, length, slice_index};
+ghost use Rattle.std.specs.Prelude.{◌≡◌, ◌≤◌, ◌*◌, ◌%◌, ◌^◌, IfOk, Some, false, drop, length, slice_get, slice_index, take, []};
+ghost use Rattle.std.specs.Option.{option_copied};
+ghost use Rattle.memory_model.specs.Dependencies.{between};
+ghost use Rattle.memory_model.specs.Rules as rules;
 ghost use Rattle.hart.specs.Run as run;
 ghost use Rattle.rv32_decode.specs.Rows.{decoded};
 ghost use Rattle.rv32_exec.specs.Arithmetic as arithmetic;
 ghost use Rattle.rv32_exec.specs.Meaning as meaning;
 ghost use Rattle.memory_model.specs.Items as spec;
+ghost use Rattle.memory_model.specs.Traces as traces;
+ghost use Rattle.rvwmo_order.specs.Limits.{IsWithinLimits};
 
 use crate::runs::{after, number_read};
 use amo_unit::combine;
@@ -14,6 +19,7 @@ use memory_model::{Kind, Operation};
 use rv32_decode::{Annotations, Instr, LoadOp, Register, StoreOp, decode};
 use std::alloc::{AllocError, Global};
 use std::marker::Model;
+use trace_recorder::Trace;
 
 /// An instruction of a hart's list: its place, what it is, and its memory operation, where it has one.
 #[derive(Drop)]
@@ -67,12 +73,86 @@ impl Item {
     }
 }
 
-/// The items of a hart's list of at most 2^32 retired instructions.
-pub(crate) fn items_of(
-    alloc: Global,
-    reset: &Hart,
-    entries: &[Retired],
-) -> Result<Vec<Item>, AllocError>
+/// A hart's instructions in order, each at its place.
+#[derive(Drop)]
+pub(crate) struct Items {
+    list: Vec<Item>,
+}
+
+impl Model for Items {
+    ghost use Rattle.std.specs.Prelude.{List};
+    ghost use Rattle.memory_model.specs.Items as spec;
+    ghost use Rattle.rvwmo_order.specs.Placed.{IsPlaced};
+
+    ghost Value = { List spec.Item };
+
+    ghost view = { λ i. i.list.items };
+
+    ghost invariant = { λ i. IsPlaced 0 i.list.items };
+}
+
+impl Items {
+    /// The instructions of a hart's list of at most 2^32 retired ones.
+    #[tactic(auto, using(crate::proofs::Placed::placed_items))]
+    fn of(alloc: Global, reset: &Hart, entries: &[Retired]) -> Result<Items, AllocError>
+        requires { length entries.now ≤ 2 ^ 32 }
+        ensures { IfOk result (λ items. items ≡ spec.items_from 0 reset.now entries.now) }
+    {
+        let list = items_of(alloc, reset, entries)?;
+        Ok(Items { list })
+    }
+
+    fn none(alloc: Global) -> Items
+        ensures { result ≡ [] }
+    {
+        Items {
+            list: Vec::new(alloc),
+        }
+    }
+
+    /// The instruction at a place.
+    pub(crate) fn get(&self, place: u32) -> Option<&Item>
+        ensures { option_copied result ≡ slice_get self.now place }
+    {
+        self.list.get(place as usize)
+    }
+
+    /// The instructions that stand between two operations of the hart in program order.
+    #[tactic(auto, using(crate::proofs::Placed::between_cut))]
+    pub(crate) fn between(&self, a: &Operation, b: &Operation) -> &[Item]
+        ensures { result.now ≡ between self.now a.now b.now }
+    {
+        let start = a.place as usize + 1;
+        first_of(
+            behind(&self.list, start),
+            (b.place as usize).saturating_sub(start),
+        )
+    }
+}
+
+// What stands behind so many.
+fn behind(items: &[Item], count: usize) -> &[Item]
+    ensures { result.now ≡ drop count items.now }
+{
+    if count <= items.len() {
+        &items[count..]
+    } else {
+        &[]
+    }
+}
+
+// The first so many.
+fn first_of(items: &[Item], count: usize) -> &[Item]
+    ensures { result.now ≡ take count items.now }
+{
+    if count <= items.len() {
+        &items[..count]
+    } else {
+        items
+    }
+}
+
+fn items_of(alloc: Global, reset: &Hart, entries: &[Retired]) -> Result<Vec<Item>, AllocError>
     requires { length entries.now ≤ 2 ^ 32 }
     ensures { IfOk result (λ items. items.items ≡ spec.items_from 0 reset.now entries.now) }
 {
@@ -83,6 +163,66 @@ pub(crate) fn items_of(
         hart = after(&hart, entry);
     }
     Ok(items)
+}
+
+/// Each hart's instructions.
+#[derive(Drop)]
+pub(crate) struct Harts {
+    lists: Vec<Items>,
+    none: Items,
+}
+
+impl Model for Harts {
+    ghost use Rattle.std.specs.Prelude.{◌≡◌, List, []};
+    ghost use Rattle.memory_model.specs.Items as spec;
+
+    ghost Value = { List (List spec.Item) };
+
+    ghost view = { λ h. h.lists.items };
+
+    ghost invariant = { λ h. h.none ≡ [] };
+}
+
+impl Harts {
+    /// Those of a trace.
+    pub(crate) fn of(alloc: Global, trace: &Trace) -> Result<Harts, AllocError>
+        requires { IsWithinLimits trace.now.history }
+        ensures { IfOk result (λ harts. harts ≡ traces.instructions trace.now.history) }
+    {
+        Ok(Harts {
+            lists: instructions(alloc, trace)?,
+            none: Items::none(alloc),
+        })
+    }
+
+    pub(crate) fn get(&self, hart: u8) -> Option<&Items>
+        ensures { option_copied result ≡ slice_get self.now hart }
+    {
+        self.lists.get(usize::from(hart))
+    }
+
+    /// Those of a hart; none where there is no such hart.
+    pub(crate) fn items_of(&self, hart: u8) -> &Items
+        ensures { result.now ≡ rules.items_of self.now hart }
+    {
+        match self.lists.get(usize::from(hart)) {
+            Some(items) => items,
+            None => &self.none,
+        }
+    }
+}
+
+fn instructions(alloc: Global, trace: &Trace) -> Result<Vec<Items>, AllocError>
+    requires { IsWithinLimits trace.now.history }
+    ensures { IfOk result (λ lists. lists.items ≡ traces.instructions trace.now.history) }
+{
+    let count = trace.harts();
+    let mut lists = Vec::new(alloc);
+    for id in 0..count {
+        let reset = Hart::at_reset(id as u8, trace.image().entry(), count as u32);
+        lists.push(Items::of(alloc, &reset, trace.entries(id))?)?;
+    }
+    Ok(lists)
 }
 
 /// Whether an entry has a memory operation.

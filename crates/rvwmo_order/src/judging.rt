@@ -1,90 +1,63 @@
 //! Judging an order of operations by comparing all pairs: each definition as it stands.
-ghost use Rattle.std.specs.Prelude.{◌≡◌, ◌==◌, Some, find, map};
+ghost use Rattle.std.specs.Prelude.{◌≡◌, ◌==◌, Some, find, take};
 ghost use Rattle.std.specs.List.{list_all};
 ghost use Rattle.memory_model.specs.Operations as operations;
 ghost use Rattle.memory_model.specs.Order as orders;
 ghost use Rattle.elf_loader.specs.Image.{byte_at};
 ghost use Rattle.memory_model.specs.Legal as legal;
 ghost use Rattle.memory_model.specs.Rules as rules;
-ghost use Rattle.memory_model.specs.Verdict as verdict;
 ghost use Rattle.rvwmo_order.specs.Codes.{rule_of};
+ghost use Rattle.rvwmo_order.specs.Indexed.{reach_from};
 ghost use Rattle.rvwmo_order.specs.Scans as scans;
 ghost use Rattle.rvwmo_order.specs.Scans.{all_rules, first_broken_pair, first_broken_rule, judged};
 
-use crate::accesses::{end_of, is_same, precedes, read_at, reads, stores_to};
-use crate::items::Item;
+use crate::accesses::{end_of, is_same, name_of, precedes, read_at, reads, stores_to};
+use crate::index::Index;
+use crate::items::Harts;
 use crate::rules::{are_paired, asks};
-use crate::sources::{byte_from, source};
+use crate::sources::byte_from;
 use crate::verdict::{Code, RULES, Rule, Verdict};
 use elf_loader::Image;
 use memory_model::{Model, Operation};
-use trace_recorder::OpId;
 
 /// The verdict on an order of the operations of these lists, one a hart.
-pub(crate) fn judge(
-    model: Model,
-    image: &Image,
-    harts: &[Vec<Item>],
-    order: &[Operation],
-) -> Verdict
-    ensures { result ≡ judged model (byte_at image.now) (map (λ v. v.items) harts.now) order.now }
+pub(crate) fn judge(model: Model, image: &Image, harts: &Harts, index: &Index) -> Verdict
+    ensures { result ≡ judged model (byte_at image.now) harts.now index.now }
 {
-    if let Some((rule, a, b)) = broken_rule(model, harts, order) {
+    if let Some((rule, a, b)) = broken_rule(model, harts, index) {
         return Verdict::Fault(Code::Order(rule), name_of(&a), name_of(&b));
     }
-    if let Some(load) = wrong_load(image, order) {
+    if let Some(load) = wrong_load(image, index) {
         return Verdict::Fault(Code::LoadValue, name_of(&load), name_of(&load));
     }
-    if let Some((r, w)) = broken_pair(harts, order) {
+    if let Some((r, w)) = broken_pair(harts, index) {
         return Verdict::Fault(Code::Atomicity, name_of(&r), name_of(&w));
     }
     Verdict::Legal
-}
-
-fn name_of(a: &Operation) -> OpId
-    ensures { result ≡ verdict.name_of a.now }
-{
-    OpId {
-        hart: a.hart,
-        place: a.place,
-    }
-}
-
-fn items_of(harts: &[Vec<Item>], hart: u8) -> &[Item]
-    ensures { result.now ≡ rules.items_of (map (λ v. v.items) harts.now) hart }
-{
-    match harts.get(usize::from(hart)) {
-        Some(items) => items.as_slice(),
-        None => &[],
-    }
 }
 
 // Whether the rule says that `a` must come before `b`.
 fn is_asked(
     rule: Rule,
     model: Model,
-    harts: &[Vec<Item>],
-    order: &[Operation],
+    harts: &Harts,
+    index: &Index,
     a: &Operation,
     b: &Operation,
 ) -> bool
     ensures { result
-        ≡ rules.asked_by model (map (λ v. v.items) harts.now) order.now (rule_of rule) a.now b.now }
+        ≡ rules.asked_by model harts.now index.now (rule_of rule) a.now b.now }
 {
-    precedes(a, b) && asks(rule, model, items_of(harts, a.hart), order, a, b)
+    precedes(a, b) && asks(rule, model, harts.items_of(a.hart), index, a, b)
 }
 
 // The first rule by which an operation must come before one that stands before it, with the two.
-fn broken_rule(
-    model: Model,
-    harts: &[Vec<Item>],
-    order: &[Operation],
-) -> Option<(Rule, Operation, Operation)>
-    ensures { result ≡ first_broken_rule model (map (λ v. v.items) harts.now) order.now all_rules }
+fn broken_rule(model: Model, harts: &Harts, index: &Index) -> Option<(Rule, Operation, Operation)>
+    ensures { result ≡ first_broken_rule model harts.now index.now all_rules }
 {
     let mut left = RULES.as_slice();
     while let [rule, rest @ ..] = left {
-        if let Some((a, b)) = first_out_of_order(*rule, model, harts, order) {
+        if let Some((a, b)) = first_out_of_order(*rule, model, harts, index) {
             return Some((*rule, a, b));
         }
         left = rest;
@@ -96,37 +69,71 @@ fn broken_rule(
 fn first_out_of_order(
     rule: Rule,
     model: Model,
-    harts: &[Vec<Item>],
-    order: &[Operation],
+    harts: &Harts,
+    index: &Index,
 ) -> Option<(Operation, Operation)>
     ensures { result
-        ≡ scans.first_out_of_order (rules.asked_by model (map (λ v. v.items) harts.now) order.now (rule_of rule)) order.now }
+        ≡ scans.first_out_of_order (rules.asked_by model harts.now index.now (rule_of rule)) index.now }
 {
-    let mut rest = order;
+    let mut rest = index.order();
+    let mut reaches = index.reaches();
     while let [b, behind @ ..] = rest {
-        if let Some(a) = first_asked(rule, model, harts, order, behind, b) {
+        let [reach, others @ ..] = reaches else {
+            return None;
+        };
+        if let Some(a) = first_in_reach(rule, model, harts, index, behind, *reach, b) {
             return Some((a, *b));
         }
         rest = behind;
+        reaches = others;
     }
     None
+}
+
+// The same, where it is known how far behind `b` the last operation stands that precedes it in program
+// order.
+fn first_in_reach(
+    rule: Rule,
+    model: Model,
+    harts: &Harts,
+    index: &Index,
+    behind: &[Operation],
+    reach: usize,
+    b: &Operation,
+) -> Option<Operation>
+    requires { reach ≡ reach_from 0 0 b.now behind.now }
+    ensures { result
+        ≡ find (λ a. rules.asked_by model harts.now index.now (rule_of rule) a b.now) behind.now }
+{
+    first_asked(rule, model, harts, index, first_of(behind, reach), b)
+}
+
+// The first so many.
+fn first_of(operations: &[Operation], count: usize) -> &[Operation]
+    ensures { result.now ≡ take count operations.now }
+{
+    if count <= operations.len() {
+        &operations[..count]
+    } else {
+        operations
+    }
 }
 
 // The first of the operations behind `b` that must come before it.
 fn first_asked(
     rule: Rule,
     model: Model,
-    harts: &[Vec<Item>],
-    order: &[Operation],
+    harts: &Harts,
+    index: &Index,
     behind: &[Operation],
     b: &Operation,
 ) -> Option<Operation>
     ensures { result
-        ≡ find (λ a. rules.asked_by model (map (λ v. v.items) harts.now) order.now (rule_of rule) a b.now) behind.now }
+        ≡ find (λ a. rules.asked_by model harts.now index.now (rule_of rule) a b.now) behind.now }
 {
     let mut rest = behind;
     while let [a, tail @ ..] = rest {
-        if is_asked(rule, model, harts, order, a, b) {
+        if is_asked(rule, model, harts, index, a, b) {
             return Some(*a);
         }
         rest = tail;
@@ -135,12 +142,12 @@ fn first_asked(
 }
 
 // The first load that returns another byte than its source's.
-fn wrong_load(image: &Image, order: &[Operation]) -> Option<Operation>
-    ensures { result ≡ scans.wrong_load (byte_at image.now) order.now }
+fn wrong_load(image: &Image, index: &Index) -> Option<Operation>
+    ensures { result ≡ scans.wrong_load (byte_at image.now) index.now }
 {
-    let mut rest = order;
+    let mut rest = index.order();
     while let [a, tail @ ..] = rest {
-        if !returns_sources(image, order, a) {
+        if !returns_sources(image, index, a) {
             return Some(*a);
         }
         rest = tail;
@@ -148,27 +155,27 @@ fn wrong_load(image: &Image, order: &[Operation]) -> Option<Operation>
     None
 }
 
-fn returns_sources(image: &Image, order: &[Operation], a: &Operation) -> bool
-    ensures { result ≡ legal.returns_sources (byte_at image.now) order.now a.now }
+fn returns_sources(image: &Image, index: &Index, a: &Operation) -> bool
+    ensures { result ≡ legal.returns_sources (byte_at image.now) index.now a.now }
 {
-    !reads(a.kind) || has_source_bytes(image, order, a)
+    !reads(a.kind) || has_source_bytes(image, index, a)
 }
 
-fn has_source_bytes(image: &Image, order: &[Operation], a: &Operation) -> bool
+fn has_source_bytes(image: &Image, index: &Index, a: &Operation) -> bool
     ensures { result
-        ≡ list_all (λ x. operations.read_at a.now x == orders.byte_from (byte_at image.now) x (orders.source order.now a.now x)) (operations.bytes_of a.now) }
+        ≡ list_all (λ x. operations.read_at a.now x == orders.byte_from (byte_at image.now) x (orders.source index.now a.now x)) (operations.bytes_of a.now) }
 {
     (u64::from(a.address)..end_of(a)).all(|x| read_at(a, x)
-        == byte_from(image, x, source(order, a, x)))
+        == byte_from(image, x, index.source_of(a, x)))
 }
 
 // The first LR and SC that are paired and not atomic.
-fn broken_pair(harts: &[Vec<Item>], order: &[Operation]) -> Option<(Operation, Operation)>
-    ensures { result ≡ first_broken_pair (map (λ v. v.items) harts.now) order.now order.now }
+fn broken_pair(harts: &Harts, index: &Index) -> Option<(Operation, Operation)>
+    ensures { result ≡ first_broken_pair harts.now index.now index.now }
 {
-    let mut rest = order;
+    let mut rest = index.order();
     while let [w, tail @ ..] = rest {
-        if let Some(r) = first_broken_with(harts, order, w) {
+        if let Some(r) = first_broken_with(harts, index, w) {
             return Some((r, *w));
         }
         rest = tail;
@@ -177,13 +184,13 @@ fn broken_pair(harts: &[Vec<Item>], order: &[Operation]) -> Option<(Operation, O
 }
 
 // The first LR that is paired with this SC and not atomic with it.
-fn first_broken_with(harts: &[Vec<Item>], order: &[Operation], w: &Operation) -> Option<Operation>
+fn first_broken_with(harts: &Harts, index: &Index, w: &Operation) -> Option<Operation>
     ensures { result
-        ≡ find (λ r. scans.is_broken_pair (map (λ v. v.items) harts.now) order.now r w.now) order.now }
+        ≡ find (λ r. scans.is_broken_pair harts.now index.now r w.now) index.now }
 {
-    let mut rest = order;
+    let mut rest = index.order();
     while let [r, tail @ ..] = rest {
-        if is_broken_pair(harts, order, r, w) {
+        if is_broken_pair(harts, index, r, w) {
             return Some(*r);
         }
         rest = tail;
@@ -192,24 +199,24 @@ fn first_broken_with(harts: &[Vec<Item>], order: &[Operation], w: &Operation) ->
 }
 
 // Whether the LR and the SC are paired and not atomic.
-fn is_broken_pair(harts: &[Vec<Item>], order: &[Operation], r: &Operation, w: &Operation) -> bool
-    ensures { result ≡ scans.is_broken_pair (map (λ v. v.items) harts.now) order.now r.now w.now }
+fn is_broken_pair(harts: &Harts, index: &Index, r: &Operation, w: &Operation) -> bool
+    ensures { result ≡ scans.is_broken_pair harts.now index.now r.now w.now }
 {
-    are_paired(items_of(harts, r.hart), r, w) && !is_atomic(order, r, w)
+    are_paired(harts.items_of(r.hart), r, w) && !is_atomic(index, r, w)
 }
 
-fn is_atomic(order: &[Operation], r: &Operation, w: &Operation) -> bool
-    ensures { result ≡ legal.is_atomic order.now r.now w.now }
+fn is_atomic(index: &Index, r: &Operation, w: &Operation) -> bool
+    ensures { result ≡ legal.is_atomic index.now r.now w.now }
 {
-    (u64::from(r.address)..end_of(r)).all(|x| is_atomic_at(order, r, w, x))
+    (u64::from(r.address)..end_of(r)).all(|x| is_atomic_at(index, r, w, x))
 }
 
 // Whether the SC `w` stands behind the source of byte `x` of the LR `r`, with no other hart's store to it
 // between.
-fn is_atomic_at(order: &[Operation], r: &Operation, w: &Operation, x: u64) -> bool
-    ensures { result ≡ legal.is_atomic_at order.now r.now w.now x }
+fn is_atomic_at(index: &Index, r: &Operation, w: &Operation, x: u64) -> bool
+    ensures { result ≡ legal.is_atomic_at index.now r.now w.now x }
 {
-    let mut rest = behind(source(order, r, x), order);
+    let mut rest = behind(index.source_of(r, x), index.order());
     while let [t, tail @ ..] = rest {
         if is_same(t, w) {
             return true;

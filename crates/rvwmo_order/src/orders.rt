@@ -1,11 +1,11 @@
 //! The names of a trace's operations, and lists of them.
-ghost use Rattle.std.specs.Prelude.{◌≡◌, ◌≤◌, ◌^◌, ◌&&◌, ◌++◌, IfOk, OnOk, filter, length, map, nat_lt};
+ghost use Rattle.std.specs.Prelude.{◌≡◌, ◌≤◌, ◌^◌, ◌&&◌, ◌++◌, IfOk, OnOk, filter, length, nat_lt};
 ghost use Rattle.std.specs.List.{list_all};
 ghost use Rattle.memory_model.specs.Items as items;
 ghost use Rattle.memory_model.specs.Traces as spec;
 ghost use Rattle.rvwmo_order.specs.Limits.{IsWithinLimits};
 
-use crate::items::{Item, has_operation};
+use crate::items::{Harts, has_operation};
 use crate::limits::MAX_OPERATIONS;
 use hart::Retired;
 use memory_model::Operation;
@@ -113,10 +113,10 @@ fn is_distinct(order: &[OpId]) -> bool
 /// The operations of an order's names, in its order.
 pub(crate) fn operations_at(
     alloc: Global,
-    harts: &[Vec<Item>],
+    harts: &Harts,
     order: &[OpId],
 ) -> Result<Vec<Operation>, AllocError>
-    ensures { IfOk result (λ operations. operations.items ≡ spec.operations_at (map (λ v. v.items) harts.now) order.now) }
+    ensures { IfOk result (λ operations. operations.items ≡ spec.operations_at harts.now order.now) }
 {
     let mut operations = Vec::new(alloc);
     for name in order {
@@ -127,11 +127,8 @@ pub(crate) fn operations_at(
     Ok(operations)
 }
 
-fn operation_at(harts: &[Vec<Item>], name: OpId) -> Option<Operation>
-    ensures { result ≡ spec.operation_at (map (λ v. v.items) harts.now) name }
+fn operation_at(harts: &Harts, name: OpId) -> Option<Operation>
+    ensures { result ≡ spec.operation_at harts.now name }
 {
-    harts
-        .get(usize::from(name.hart))?
-        .get(name.place as usize)?
-        .operation()
+    harts.get(name.hart)?.get(name.place)?.operation()
 }

@@ -16,10 +16,11 @@ use crate::accesses::{
 };
 use crate::dependencies::{
     has_address_dependency, has_control_dependency, has_data_dependency,
-    has_dependent_address_between, is_between,
+    has_dependent_address_between,
 };
-use crate::items::Item;
-use crate::sources::{is_same_source, returns_from, source};
+use crate::index::Index;
+use crate::items::Items;
+use crate::sources::{is_same_source, returns_from};
 use crate::verdict::Rule;
 use bitflags::Flags;
 use memory_model::{Kind, Model, Operation};
@@ -29,18 +30,18 @@ use rv32_decode::{FenceSet, Instr};
 pub(crate) fn asks(
     rule: Rule,
     model: Model,
-    items: &[Item],
-    order: &[Operation],
+    items: &Items,
+    index: &Index,
     a: &Operation,
     b: &Operation,
 ) -> bool
-    ensures { result ≡ (rule_of rule).asks model items.now order.now a.now b.now }
+    ensures { result ≡ (rule_of rule).asks model items.now index.now a.now b.now }
 {
     match rule {
         Rule::OverlappingStore => writes(b.kind) && overlap(a, b),
-        Rule::SameByteLoads => are_same_byte_loads(items, order, a, b),
+        Rule::SameByteLoads => are_same_byte_loads(items, index, a, b),
         Rule::AtomicSource => {
-            (is_amo(a.kind) || is_conditional(a.kind)) && reads(b.kind) && returns_from(order, b, a)
+            (is_amo(a.kind) || is_conditional(a.kind)) && reads(b.kind) && returns_from(index, b, a)
         }
         Rule::Fence => is_fenced(items, a, b),
         Rule::Acquire => has_acquire(model, a),
@@ -50,45 +51,39 @@ pub(crate) fn asks(
         Rule::Address => has_address_dependency(items, a, b),
         Rule::Data => has_data_dependency(items, a, b),
         Rule::Control => writes(b.kind) && has_control_dependency(items, a, b),
-        Rule::DependentStore => returns_from_dependent(items, order, a, b),
+        Rule::DependentStore => returns_from_dependent(items, index, a, b),
         Rule::DependentAddress => writes(b.kind) && has_dependent_address_between(items, a, b),
     }
 }
 
 // Rule 2: both are loads and return a byte of both from different writes, with no store to it between.
-fn are_same_byte_loads(items: &[Item], order: &[Operation], a: &Operation, b: &Operation) -> bool
-    ensures { result ≡ spec.rule_2 Model.Rvwmo items.now order.now a.now b.now }
+fn are_same_byte_loads(items: &Items, index: &Index, a: &Operation, b: &Operation) -> bool
+    ensures { result ≡ spec.rule_2 Model.Rvwmo items.now index.now a.now b.now }
 {
-    reads(a.kind) && reads(b.kind) && return_differently(items, order, a, b)
+    reads(a.kind) && reads(b.kind) && return_differently(items, index, a, b)
 }
 
-fn return_differently(items: &[Item], order: &[Operation], a: &Operation, b: &Operation) -> bool
-    ensures { result ≡ list_any (λ x. scans.returns_differently x items.now order.now a.now b.now) (bytes_of a.now) }
+fn return_differently(items: &Items, index: &Index, a: &Operation, b: &Operation) -> bool
+    ensures { result ≡ list_any (λ x. scans.returns_differently x items.now index.now a.now b.now) (bytes_of a.now) }
 {
-    (u64::from(a.address)..end_of(a)).any(|x| returns_differently(x, items, order, a, b))
+    (u64::from(a.address)..end_of(a)).any(|x| returns_differently(x, items, index, a, b))
 }
 
-fn returns_differently(
-    x: u64,
-    items: &[Item],
-    order: &[Operation],
-    a: &Operation,
-    b: &Operation,
-) -> bool
-    ensures { result ≡ scans.returns_differently x items.now order.now a.now b.now }
+fn returns_differently(x: u64, items: &Items, index: &Index, a: &Operation, b: &Operation) -> bool
+    ensures { result ≡ scans.returns_differently x items.now index.now a.now b.now }
 {
     touches(x, b)
         && !has_store_between(items, a, b, x)
-        && !is_same_source(source(order, a, x), source(order, b, x))
+        && !is_same_source(index.source_of(a, x), index.source_of(b, x))
 }
 
 // Whether a store to `x` stands between them in program order.
-fn has_store_between(items: &[Item], a: &Operation, b: &Operation, x: u64) -> bool
+fn has_store_between(items: &Items, a: &Operation, b: &Operation, x: u64) -> bool
     ensures { result ≡ list_any (λ m. spec.has_store_to x m.operation) (between items.now a.now b.now) }
 {
     items
+        .between(a, b)
         .iter()
-        .filter(|item| is_between(item, a, b))
         .any(|item| has_store_to(x, item.operation()))
 }
 
@@ -102,12 +97,12 @@ fn has_store_to(x: u64, operation: Option<Operation>) -> bool
 }
 
 // Rule 4: a FENCE between them orders them.
-fn is_fenced(items: &[Item], a: &Operation, b: &Operation) -> bool
+fn is_fenced(items: &Items, a: &Operation, b: &Operation) -> bool
     ensures { result ≡ list_any (λ m. spec.fences m.instr a.now.kind b.now.kind) (between items.now a.now b.now) }
 {
     items
+        .between(a, b)
         .iter()
-        .filter(|item| is_between(item, a, b))
         .any(|item| fences(item.instr(), a.kind, b.kind))
 }
 
@@ -151,7 +146,7 @@ fn is_fencing(instr: &Instr, a: Kind, b: Kind) -> bool
 }
 
 /// Rule 8: `a` is an LR and `b` the SC that it is paired with.
-pub(crate) fn are_paired(items: &[Item], a: &Operation, b: &Operation) -> bool
+pub(crate) fn are_paired(items: &Items, a: &Operation, b: &Operation) -> bool
     ensures { result ≡ spec.paired items.now a.now b.now }
 {
     precedes(a, b)
@@ -160,12 +155,12 @@ pub(crate) fn are_paired(items: &[Item], a: &Operation, b: &Operation) -> bool
         && !has_lr_or_sc_between(items, a, b)
 }
 
-fn has_lr_or_sc_between(items: &[Item], a: &Operation, b: &Operation) -> bool
+fn has_lr_or_sc_between(items: &Items, a: &Operation, b: &Operation) -> bool
     ensures { result ≡ list_any (λ m. spec.is_lr_or_sc m.instr) (between items.now a.now b.now) }
 {
     items
+        .between(a, b)
         .iter()
-        .filter(|item| is_between(item, a, b))
         .any(|item| is_lr_or_sc(item.instr()))
 }
 
@@ -176,41 +171,41 @@ fn is_lr_or_sc(instr: Option<Instr>) -> bool
 }
 
 // Rule 12: a store between them depends on `a`, and the load `b` returns a value that it wrote.
-fn returns_from_dependent(items: &[Item], order: &[Operation], a: &Operation, b: &Operation) -> bool
-    ensures { result ≡ spec.rule_12 Model.Rvwmo items.now order.now a.now b.now }
+fn returns_from_dependent(items: &Items, index: &Index, a: &Operation, b: &Operation) -> bool
+    ensures { result ≡ spec.rule_12 Model.Rvwmo items.now index.now a.now b.now }
 {
-    reads(b.kind) && returns_from_between(items, order, a, b)
+    reads(b.kind) && returns_from_between(items, index, a, b)
 }
 
-fn returns_from_between(items: &[Item], order: &[Operation], a: &Operation, b: &Operation) -> bool
+fn returns_from_between(items: &Items, index: &Index, a: &Operation, b: &Operation) -> bool
     ensures { result
-        ≡ list_any (λ m. spec.passes_on items.now order.now a.now b.now m.operation) (between items.now a.now b.now) }
+        ≡ list_any (λ m. spec.passes_on items.now index.now a.now b.now m.operation) (between items.now a.now b.now) }
 {
     items
+        .between(a, b)
         .iter()
-        .filter(|item| is_between(item, a, b))
-        .any(|item| is_returned(items, order, a, b, item.operation()))
+        .any(|item| is_returned(items, index, a, b, item.operation()))
 }
 
 // Whether it is a store whose address or number depends on `a`, and `b` returns a value that it wrote.
 fn is_returned(
-    items: &[Item],
-    order: &[Operation],
+    items: &Items,
+    index: &Index,
     a: &Operation,
     b: &Operation,
     operation: Option<Operation>,
 ) -> bool
     ensures { result
-        ≡ spec.passes_on items.now order.now a.now b.now operation }
+        ≡ spec.passes_on items.now index.now a.now b.now operation }
 {
     match operation {
-        Some(store) => is_dependent_store(items, a, &store) && returns_from(order, b, &store),
+        Some(store) => is_dependent_store(items, a, &store) && returns_from(index, b, &store),
         None => false,
     }
 }
 
 // Whether it is a store whose address or number depends on `a`.
-fn is_dependent_store(items: &[Item], a: &Operation, store: &Operation) -> bool
+fn is_dependent_store(items: &Items, a: &Operation, store: &Operation) -> bool
     ensures { result ≡ (operations.writes store.now.kind && (dependencies.has_address_dependency items.now a.now store.now || dependencies.has_data_dependency items.now a.now store.now)) }
 {
     writes(store.kind)

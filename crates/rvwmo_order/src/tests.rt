@@ -1,4 +1,6 @@
-//! How many operations are judged.
+//! How many operations are judged, and where bytes come from.
+mod plain;
+
 use super::{CheckError, Verdict, check, completed, is_within_limits};
 use elf_loader::{raw, size_of_kib};
 use hart::{Retired, Status};

@@ -1,9 +1,9 @@
-use Rattle.std.proofs.Common.{◌≡◌, length, map}
+use Rattle.std.proofs.Common.{◌≡◌, length}
 use Rattle.rvwmo_order.specs.Scans.{all_rules, first_broken_rule}
 use Rattle.rvwmo_order.proofs.judging.broken_rule.Given as goal
 
 abbrev pub invariant-loop-left : goal.invariant-loop-left
-invariant-loop-left l = first_broken_rule l.model (map (λ v. v.items) l.harts) l.order all_rules ≡ first_broken_rule l.model (map (λ v. v.items) l.harts) l.order l.left
+invariant-loop-left l = first_broken_rule l.model l.harts l.index all_rules ≡ first_broken_rule l.model l.harts l.index l.left
 
 abbrev pub decreases-loop-left : goal.decreases-loop-left
 decreases-loop-left l = length l.left

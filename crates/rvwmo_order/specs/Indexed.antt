@@ -1,0 +1,40 @@
+-- What an index keeps of an order: where each operation stands, and the stores to each byte.
+use Rattle.std.specs.Prelude.{ℕ, ◌+◌, Bool, ◌&&◌, ◌||◌, ◌==◌, nat_lt, if◌then◌else◌, List, [], ◌∷◌, Option, Some, None, filter}
+use Rattle.std.specs.Ordering.{nat_cmp, ordering_then}
+use Rattle.std.specs.declared.cmp.Ordering.{Ordering}
+use Rattle.memory_model.specs.declared.operation.Operation.{Operation}
+use Rattle.memory_model.specs.Operations.{precedes, same, stores_to}
+use Rattle.trace_recorder.specs.declared.operation.OpId.{OpId}
+use Rattle.rvwmo_order.specs.declared.stored.Stored.{Stored}
+
+-- names by hart and then by place
+abbrev pub name_cmp : ℕ × ℕ → ℕ × ℕ → Ordering
+name_cmp a b = ordering_then (nat_cmp a.0 b.0) (nat_cmp a.1 b.1)
+
+-- the place of the first of these operations that is a, counted from a number
+abbrev pub place_from : ℕ → Operation → List Operation → Option ℕ
+place_from position a [] = None
+place_from position a (b ∷ rest) = if same a b then Some position else place_from (position + 1) a rest
+
+-- operations with their places, counted from a number
+abbrev pub numbered : ℕ → List Operation → List Stored
+numbered position [] = []
+numbered position (a ∷ rest) = record { position = position; store = a } ∷ numbered (position + 1) rest
+
+-- those of them that store to x
+abbrev pub stored_from : ℕ → ℕ → List Operation → List Stored
+stored_from position x order = filter (λ (s : Stored). stores_to x s.store) (numbered position order)
+
+-- a store stands before a load's place in the order, or precedes it in program order
+abbrev pub is_seen : ℕ → OpId → Stored → Bool
+is_seen position load s = nat_lt s.position position || (s.store.hart == load.hart && nat_lt s.store.place load.place)
+
+-- how many operations there are up to the last that precedes b in program order, with so many counted and so many reached
+abbrev pub reach_from : ℕ → ℕ → Operation → List Operation → ℕ
+reach_from count reach b [] = reach
+reach_from count reach b (a ∷ rest) = reach_from (count + 1) (if precedes a b then count + 1 else reach) b rest
+
+-- that of each operation, among those behind it
+abbrev pub reaches_of : List Operation → List ℕ
+reaches_of [] = []
+reaches_of (b ∷ rest) = reach_from 0 0 b rest ∷ reaches_of rest

@@ -1,0 +1,257 @@
+//! An order of a trace's operations, with the stores to each byte and the place of each operation found
+//! without a walk over the order.
+ghost use Rattle.std.specs.Prelude.{◌≡◌, ◌≤◌, ◌<◌, ◌+◌, ◌++◌, ℕ, None, [], ◌∷◌, IfOk, OnOk, Some, filter, if◌then◌else◌, length};
+ghost use Rattle.std.specs.List.{last_or};
+ghost use Rattle.std.specs.Option.{option_map, option_map_or, option_or};
+ghost use Rattle.std.specs.BTreeMap as tree;
+ghost use Rattle.std.specs.Ordering.{nat_cmp};
+ghost use Rattle.memory_model.specs.declared.operation.Operation.{Operation as OperationValue};
+ghost use Rattle.memory_model.specs.Operations as operations;
+ghost use Rattle.memory_model.specs.Order as spec;
+ghost use Rattle.memory_model.specs.Traces as traces;
+ghost use Rattle.memory_model.specs.Verdict as verdict;
+ghost use Rattle.rvwmo_order.specs.Indexed as indexed;
+ghost use Rattle.rvwmo_order.specs.Indexed.{name_cmp, place_from, reach_from, reaches_of, stored_from};
+ghost use Rattle.rvwmo_order.specs.Limits.{IsWithinLimits};
+
+use crate::accesses::{end_of, name_of, precedes, writes};
+use crate::items::Harts;
+use crate::orders::operations_at;
+use crate::stored::Stored;
+use memory_model::Operation;
+use std::alloc::{AllocError, Global};
+use std::collections::BTreeMap;
+use std::marker::{Brand, Model};
+use std::sync::ledger::{Blank, Ledger};
+use tl_types::Ticks;
+use trace_recorder::{OpId, Trace};
+
+/// An order of a trace's operations, made for finding the store that a byte comes from.
+#[derive(Drop)]
+pub struct Index {
+    order: Vec<Operation>,
+    /// The place of each operation in the order, by its hart and its place in the hart's list.
+    places: BTreeMap<(u8, u32), usize>,
+    /// For each operation how far behind it the last one stands that precedes it in program order.
+    reaches: Vec<usize>,
+    /// The stores to each byte, in the order's order.
+    stores: BTreeMap<u64, Vec<Stored>>,
+}
+
+impl Model for Index {
+    ghost use Rattle.std.specs.Prelude.{◌≡◌, ℕ, List, []};
+    ghost use Rattle.std.specs.Option.{option_map_or};
+    ghost use Rattle.std.specs.BTreeMap as tree;
+    ghost use Rattle.std.specs.Ordering.{nat_cmp};
+    ghost use Rattle.memory_model.specs.declared.operation.Operation.{Operation as OperationValue};
+    ghost use Rattle.rvwmo_order.specs.Indexed.{name_cmp, place_from, reaches_of, stored_from};
+
+    ghost Value = { List OperationValue };
+
+    ghost view = { λ i. i.order.items };
+
+    ghost invariant = { λ i. ((a : OperationValue) → tree.get name_cmp i.places (a.hart, a.place) ≡ place_from 0 a i.order.items)
+        × (i.reaches.items ≡ reaches_of i.order.items)
+        × ((x : ℕ) → option_map_or (λ v. v.items) (tree.get nat_cmp i.stores x) [] ≡ stored_from 0 x i.order.items) };
+}
+
+impl Index {
+    /// The operations of these names, in their order; a name that there isn't is passed over.
+    pub fn new(alloc: Global, trace: &Trace, order: &[OpId]) -> Result<Index, AllocError>
+        requires { IsWithinLimits trace.now.history }
+        ensures { IfOk result (λ index. index ≡ traces.operations_at (traces.instructions trace.now.history) order.now) }
+    {
+        let harts = Harts::of(alloc, trace)?;
+        Index::of(alloc, operations_at(alloc, &harts, order)?)
+    }
+
+    /// The index of an order.
+    pub(crate) fn of(alloc: Global, order: Vec<Operation>) -> Result<Index, AllocError>
+        ensures { IfOk result (λ index. index ≡ order.items) }
+    {
+        let places = places_in(alloc, &order)?;
+        let reaches = reaches_in(alloc, &order)?;
+        let stores = stores_in(alloc, &order)?;
+        Ok(Index {
+            order,
+            places,
+            reaches,
+            stores,
+        })
+    }
+
+    pub(crate) fn order(&self) -> &[Operation]
+        ensures { result.now ≡ self.now }
+    {
+        &self.order
+    }
+
+    /// How far behind each operation the last one stands that precedes it in program order; 0 where none
+    /// does.
+    pub(crate) fn reaches(&self) -> &[usize]
+        ensures { result.now ≡ reaches_of self.now }
+    {
+        &self.reaches
+    }
+
+    /// The store that a byte of a load comes from; none where it is the image's byte. A load that the
+    /// order has not is taken to stand behind all of it. Of the stores to the byte each is looked at once
+    /// at most, and no other.
+    pub fn source<L: Ledger>(&self, load: OpId, byte: u32, ticks: &mut Ticks<L>) -> Option<OpId>
+        ensures source { (a : OperationValue) → verdict.name_of a ≡ load → result ≡ option_map verdict.name_of (spec.source self.now a byte) }
+        ensures looks { ticks.new ≤ ticks.old + length (filter (operations.stores_to byte) self.now) }
+    {
+        let store = self.find(load, u64::from(byte), ticks)?;
+        Some(name_of(&store))
+    }
+
+    /// The store that byte `x` of a load comes from, with looks that nobody counts.
+    pub(crate) fn source_of(&self, load: &Operation, x: u64) -> Option<Operation>
+        ensures { result ≡ spec.source self.now load.now x }
+    {
+        self.find_on::<Brand>(name_of(load), x, Blank::new(1))
+    }
+
+    fn find_on<L: Ledger>(&self, load: OpId, x: u64, blank: Blank) -> Option<Operation>
+        requires name { blank.name ≡ L.name }
+        requires parts { blank.parts ≡ L.parts }
+        requires some { 0 < L.parts }
+        ensures { (a : OperationValue) → verdict.name_of a ≡ load → result ≡ spec.source self.now a x }
+    {
+        self.find(load, x, &mut Ticks::<L>::new(blank))
+    }
+
+    fn find<L: Ledger>(&self, load: OpId, x: u64, ticks: &mut Ticks<L>) -> Option<Operation>
+        ensures source { (a : OperationValue) → verdict.name_of a ≡ load → result ≡ spec.source self.now a x }
+        ensures looks { ticks.new ≤ ticks.old + length (filter (operations.stores_to x) self.now) }
+    {
+        let position = self.position(load);
+        match self.stores.get(&x) {
+            Some(stores) => last_seen(stores, position, load, ticks),
+            None => None,
+        }
+    }
+
+    // How many operations stand before the one of this name.
+    fn position(&self, name: OpId) -> usize
+        ensures { (a : OperationValue) → verdict.name_of a ≡ name → result ≡ spec.position_in self.now a }
+    {
+        match self.places.get(&(name.hart, name.place)) {
+            Some(position) => *position,
+            None => self.order().len(),
+        }
+    }
+}
+
+// The place of each operation in an order, the first where there are two of one name.
+fn places_in(alloc: Global, order: &[Operation]) -> Result<BTreeMap<(u8, u32), usize>, AllocError>
+    ensures { IfOk result (λ places. (a : OperationValue) → tree.get name_cmp places (a.hart, a.place) ≡ place_from 0 a order.now) }
+{
+    let mut places = BTreeMap::new(alloc);
+    for (position, a) in order.iter().enumerate() {
+        put_first(&mut places, position, a)?;
+    }
+    Ok(places)
+}
+
+// Puts the place of an operation where there is none of its name yet.
+fn put_first(
+    places: &mut BTreeMap<(u8, u32), usize>,
+    position: usize,
+    a: &Operation,
+) -> Result<(), AllocError>
+    ensures { OnOk result ((b : OperationValue) → tree.get name_cmp places.new (b.hart, b.place)
+        ≡ option_or (tree.get name_cmp places.old (b.hart, b.place)) (if operations.same b a.now then Some position else None)) }
+{
+    if places.contains_key(&(a.hart, a.place)) {
+        return Ok(());
+    }
+    places.insert((a.hart, a.place), position)?;
+    Ok(())
+}
+
+fn reaches_in(alloc: Global, order: &[Operation]) -> Result<Vec<usize>, AllocError>
+    ensures { IfOk result (λ reaches. reaches.items ≡ reaches_of order.now) }
+{
+    let mut reaches = Vec::new(alloc);
+    let mut rest = order;
+    while let [b, behind @ ..] = rest {
+        reaches.push(reach_of(b, behind))?;
+        rest = behind;
+    }
+    Ok(reaches)
+}
+
+// How many operations there are up to the last that precedes `b` in program order.
+fn reach_of(b: &Operation, behind: &[Operation]) -> usize
+    ensures { result ≡ reach_from 0 0 b.now behind.now }
+{
+    let mut reach = 0;
+    for (position, a) in behind.iter().enumerate() {
+        if precedes(a, b) {
+            reach = position + 1;
+        }
+    }
+    reach
+}
+
+// The stores of an order to each byte.
+fn stores_in(alloc: Global, order: &[Operation]) -> Result<BTreeMap<u64, Vec<Stored>>, AllocError>
+    ensures { IfOk result (λ stores. (x : ℕ) → option_map_or (λ v. v.items) (tree.get nat_cmp stores x) [] ≡ stored_from 0 x order.now) }
+{
+    let mut stores = BTreeMap::new(alloc);
+    for (position, a) in order.iter().enumerate() {
+        if writes(a.kind) {
+            push_bytes(&mut stores, position, a)?;
+        }
+    }
+    Ok(stores)
+}
+
+// Puts a store behind the others to each of its bytes.
+fn push_bytes(
+    stores: &mut BTreeMap<u64, Vec<Stored>>,
+    position: usize,
+    a: &Operation,
+) -> Result<(), AllocError>
+    ensures { OnOk result ((x : ℕ) → option_map_or (λ v. v.items) (tree.get nat_cmp stores.new x) []
+        ≡ option_map_or (λ v. v.items) (tree.get nat_cmp stores.old x) [] ++ (if operations.touches x a.now then record { position = position; store = a.now } ∷ [] else [])) }
+{
+    for x in u64::from(a.address)..end_of(a) {
+        stores
+            .entry(x)?
+            .or_default()
+            .push(Stored::new(position, *a))?;
+    }
+    Ok(())
+}
+
+// The last of these stores that stands before the load's place in the order, or precedes it in program
+// order.
+fn last_seen<L: Ledger>(
+    stores: &[Stored],
+    position: usize,
+    load: OpId,
+    ticks: &mut Ticks<L>,
+) -> Option<Operation>
+    ensures seen { result ≡ option_map (λ s. s.store) (last_or None (filter (indexed.is_seen position load) stores.now)) }
+    ensures looks { ticks.new ≤ ticks.old + length stores.now }
+{
+    let mut left = stores.len();
+    while left > 0 {
+        left -= 1;
+        let (place, store) = stores[left].look(ticks);
+        if is_seen(position, load, place, &store) {
+            return Some(store);
+        }
+    }
+    None
+}
+
+// Whether a store at this place of the order stands before the load's place there, or precedes it in
+// program order.
+fn is_seen(position: usize, load: OpId, place: usize, store: &Operation) -> bool
+    ensures { result ≡ indexed.is_seen position load (record { position = place; store = store.now }) }
+{
+    place < position || (store.hart == load.hart && store.place < load.place)
+}
