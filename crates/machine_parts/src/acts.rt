@@ -4,20 +4,20 @@ ghost use Rattle.std.specs.Prelude.{◌≡◌, ◌<◌, length};
 ghost use Rattle.client_cache.specs.Cache.{evicted, wanted};
 ghost use Rattle.machine_model.specs.declared.act.Act.TheVariants as act;
 ghost use Rattle.machine_model.specs.Changing.{given_up, missed, stopped, release_body as spec_release_body};
-ghost use Rattle.machine_model.specs.Deliveries.{kept_reservation, with_less};
+ghost use Rattle.machine_model.specs.Deliveries.{with_less};
 ghost use Rattle.machine_model.specs.Laws.{QueuesFit};
 ghost use Rattle.machine_model.specs.Ready.{IsSound};
 ghost use Rattle.machine_model.specs.Views.{node_at, with_node};
 ghost use Rattle.machine_parts.specs.Needs.{HasRoom, needs_of};
 ghost use Rattle.machine_parts.specs.Parts.{state_of};
 
-use crate::caches::{evict, perm, want};
+use crate::caches::{evict, want};
 use crate::messages::send;
 use crate::node::Node;
 use crate::parts::Parts;
 use client_cache::Evict;
 use hart::Status;
-use tl_types::{Body, Change, Grow, LineData, LineSize, Msg, Perm};
+use tl_types::{Body, Change, Grow, LineData, LineSize, Msg};
 
 /// The hart halts with a code.
 pub(crate) fn stop(parts: &mut Parts, hart: u8, code: u8)
@@ -97,17 +97,6 @@ fn lose_copy(node: &mut Node, size: LineSize, line: u32) -> Evict
     ensures node { node.new ≡ with_less (evicted node.old.cache line).1 line node.old }
 {
     let answer = evict(&mut node.cache, line);
-    keep_reservation(node, size, line);
+    node.keep_reservation(size, line);
     answer
-}
-
-// A reservation of one of the line's words lasts while the copy is Trunk.
-fn keep_reservation(node: &mut Node, size: LineSize, line: u32)
-    requires size { size ≡ node.old.cache.shape.size }
-    ensures { node.new ≡ record node.old { reserved = kept_reservation node.old.cache line node.old.reserved } }
-{
-    match perm(&node.cache, line) {
-        Perm::Trunk => {}
-        Perm::Branch | Perm::Nothing => node.reservation.lose_line(line, size),
-    }
 }
