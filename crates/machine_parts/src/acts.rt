@@ -4,21 +4,20 @@ ghost use Rattle.std.specs.Prelude.{◌≡◌, ◌<◌, length};
 ghost use Rattle.client_cache.specs.Cache.{evicted, wanted};
 ghost use Rattle.machine_model.specs.declared.act.Act.TheVariants as act;
 ghost use Rattle.machine_model.specs.Changing.{given_up, missed, stopped, release_body as spec_release_body};
-ghost use Rattle.machine_model.specs.Deliveries.{kept_reservation, with_less};
+ghost use Rattle.machine_model.specs.Deliveries.{with_less};
 ghost use Rattle.machine_model.specs.Laws.{QueuesFit};
 ghost use Rattle.machine_model.specs.Ready.{IsSound};
-ghost use Rattle.machine_model.specs.Views.{node_at, sent, with_node};
+ghost use Rattle.machine_model.specs.Views.{node_at, with_node};
 ghost use Rattle.machine_parts.specs.Needs.{HasRoom, needs_of};
 ghost use Rattle.machine_parts.specs.Parts.{state_of};
-ghost use Rattle.tilelink_channels.specs.Queues.{queue_of, room_of};
-ghost use Rattle.tl_types.specs.Message.{channel_of};
 
-use crate::caches::{evict, perm, want};
+use crate::caches::{evict, want};
+use crate::messages::send;
 use crate::node::Node;
 use crate::parts::Parts;
 use client_cache::Evict;
 use hart::Status;
-use tl_types::{Body, Change, Grow, LineData, LineSize, Msg, Perm};
+use tl_types::{Body, Change, Grow, LineData, LineSize, Msg};
 
 /// The hart halts with a code.
 pub(crate) fn stop(parts: &mut Parts, hart: u8, code: u8)
@@ -32,17 +31,6 @@ pub(crate) fn stop(parts: &mut Parts, hart: u8, code: u8)
     parts.trace.halt(hart as usize, status);
 }
 
-// A message goes into its queue of the hart, and into the log.
-fn send(parts: &mut Parts, hart: u8, message: Msg)
-    requires hart { hart < length parts.old.nodes.items }
-    requires queue { length (queue_of (node_at (state_of parts.old) hart).queues (channel_of message)) < room_of (channel_of message) }
-    requires log { 0 < parts.old.trace.room.log }
-    ensures { state_of parts.new ≡ sent hart message (state_of parts.old) }
-{
-    parts.nodes[hart as usize].queues.push(message);
-    parts.trace.send(hart, message);
-}
-
 /// An Acquire takes a tracker and a slot, and goes out.
 pub(crate) fn miss(parts: &mut Parts, hart: u8, line: u32, grow: Grow)
     requires sound { IsSound (state_of parts.old) }
@@ -53,7 +41,7 @@ pub(crate) fn miss(parts: &mut Parts, hart: u8, line: u32, grow: Grow)
 {
     ask(parts, hart, line, grow);
     let body = Body::AcquireBlock(grow);
-    send(parts, hart, Msg { line, body });
+    send(parts, hart, &Msg { line, body });
 }
 
 // The cache notes that an Acquire of the line is outstanding.
@@ -76,7 +64,7 @@ pub(crate) fn give_up(parts: &mut Parts, hart: u8, line: u32)
     match lose(parts, hart, line) {
         Evict::Evicted { change, bytes } => {
             let body = release_body(change, bytes);
-            send(parts, hart, Msg { line, body });
+            send(parts, hart, &Msg { line, body });
         }
         Evict::NotHeld | Evict::AcquirePending | Evict::ReleaseFull => {}
     }
@@ -109,17 +97,6 @@ fn lose_copy(node: &mut Node, size: LineSize, line: u32) -> Evict
     ensures node { node.new ≡ with_less (evicted node.old.cache line).1 line node.old }
 {
     let answer = evict(&mut node.cache, line);
-    keep_reservation(node, size, line);
+    node.keep_reservation(size, line);
     answer
-}
-
-// A reservation of one of the line's words lasts while the copy is Trunk.
-fn keep_reservation(node: &mut Node, size: LineSize, line: u32)
-    requires size { size ≡ node.old.cache.shape.size }
-    ensures { node.new ≡ record node.old { reserved = kept_reservation node.old.cache line node.old.reserved } }
-{
-    match perm(&node.cache, line) {
-        Perm::Trunk => {}
-        Perm::Branch | Perm::Nothing => node.reservation.lose_line(line, size),
-    }
 }

@@ -10,7 +10,6 @@ ghost use Rattle.machine_parts.specs.Needs.{HasRoom, needs_of};
 ghost use Rattle.machine_parts.specs.Parts.{state_of};
 
 use crate::acts::{give_up, miss, stop};
-use crate::alone::go_alone;
 use crate::deliveries::deliver;
 use crate::errors::ApplyError;
 use crate::limits::{is_limited, outcome_of, reserve};
@@ -18,6 +17,7 @@ use crate::parts::Parts;
 use crate::performing::drain;
 use crate::planning::hart_of;
 use crate::retiring::retire;
+use crate::retiring_rows::go_alone;
 use machine_model::{Act, Event, Outcome, Plan};
 use std::alloc::AllocError;
 

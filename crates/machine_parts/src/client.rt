@@ -3,19 +3,17 @@
 ghost use Rattle.std.specs.Prelude.{◌≡◌, ◌<◌, IsTrue, length};
 ghost use Rattle.std.specs.FinSet as set;
 ghost use Rattle.client_cache.specs.Cache.{probed};
-ghost use Rattle.client_cache.specs.Held.{perm_of};
-ghost use Rattle.machine_model.specs.Deliveries.{is_trunk, kept_reservation, on_grant, on_probe, on_release_ack, probe_ack_body, with_less};
+ghost use Rattle.machine_model.specs.Deliveries.{on_grant, on_probe, on_release_ack, probe_ack_body, with_less};
 ghost use Rattle.machine_model.specs.Laws.{QueuesFit};
 ghost use Rattle.machine_model.specs.Views.{line_size, node_at};
 ghost use Rattle.machine_parts.specs.Handled.{installed, shrunk};
 ghost use Rattle.machine_parts.specs.Parts.{state_of};
 
 use crate::messages::send;
-use crate::node::Node;
 use crate::parts::{Parts, line_size};
 use client_cache::Probed;
 use std::sync::ledger::Ledger;
-use tl_types::{Body, Cap, Change, LineData, LineSize, Msg, Perm, Ticks};
+use tl_types::{Body, Cap, Change, LineData, Msg, Ticks};
 
 /// A ReleaseAck answers the line's Release.
 pub(crate) fn on_release_ack(parts: &mut Parts, hart: u8, line: u32)
@@ -70,21 +68,6 @@ pub(crate) fn on_grant<L: Ledger>(
     );
 }
 
-/// A reservation of a word of the line lasts while the copy is Trunk.
-pub(crate) fn keep_reservation<L: Ledger>(
-    node: &mut Node,
-    line: u32,
-    size: LineSize,
-    ticks: &mut Ticks<L>,
-)
-    requires { size ≡ node.old.cache.shape.size }
-    ensures { node.new ≡ record node.old { reserved = kept_reservation node.old.cache line node.old.reserved } }
-{
-    if node.cache.perm(line, ticks) != Perm::Trunk {
-        node.reservation.lose_line(line, size);
-    }
-}
-
 /// The copy shrinks to what the Probe allows.
 fn shrink<L: Ledger>(
     parts: &mut Parts,
@@ -102,7 +85,7 @@ fn shrink<L: Ledger>(
     let size = line_size(&parts.config);
     let node = &mut parts.nodes[hart as usize];
     let answer = node.cache.on_probe(line, cap, ticks);
-    keep_reservation(node, line, size, ticks);
+    node.keep_reservation(size, line);
     answer
 }
 

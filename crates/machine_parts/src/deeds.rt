@@ -14,7 +14,7 @@ ghost use Rattle.trace_recorder.specs.History.{entries_of};
 
 use crate::caches::write_word;
 use crate::parts::Parts;
-use crate::performing::line_of;
+use crate::words::line_of;
 use machine_model::Deed;
 use memory_model::Model;
 use std::alloc::AllocError;

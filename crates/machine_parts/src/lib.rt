@@ -2,27 +2,27 @@
 //! the change.
 #![tactic(auto)]
 
-mod applying;
-mod errors;
+mod accesses;
 mod acts;
-mod alone;
+mod applying;
+mod arriving;
 mod caches;
-mod deeds;
-mod limits;
 mod client;
+mod deciding;
+mod deeds;
 mod deliveries;
+mod draining;
+mod errors;
+mod limits;
 mod manager;
 mod messages;
 mod node;
 mod parts;
 mod performing;
-mod retiring;
-mod accesses;
-mod arriving;
-mod deciding;
-mod draining;
-mod going_alone;
 mod planning;
+mod planning_rows;
+mod retiring;
+mod retiring_rows;
 mod stepping;
 mod words;
 

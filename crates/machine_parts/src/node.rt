@@ -1,9 +1,12 @@
 //! What belongs to one hart.
 
 ghost use Rattle.std.specs.Prelude.{◌≡◌, IfOk, IsTrue};
+ghost use Rattle.client_cache.specs.Held.{perm_of};
 ghost use Rattle.machine_model.specs.Config.{is_within_limits};
+ghost use Rattle.machine_model.specs.Deliveries.{is_trunk, kept_reservation};
 ghost use Rattle.machine_model.specs.Views.{opening_node, size_of_config};
 
+use crate::caches::perm;
 use client_cache::ClientCache;
 use elf_loader::Image;
 use hart::Hart;
@@ -13,7 +16,7 @@ use std::alloc::{AllocError, Global};
 use std::marker::Model;
 use store_buffer::StoreBuffer;
 use tilelink_channels::Queues;
-use tl_types::LineSize;
+use tl_types::{LineSize, Perm};
 
 /// A hart with the numbers that it put out, its reservation, store buffer and cache, and the messages
 /// between its cache and the manager.
@@ -67,5 +70,15 @@ impl Node {
             cache: ClientCache::new(alloc, config.sets, config.ways, size)?,
             queues: Queues::new(alloc)?,
         })
+    }
+
+    /// A reservation of a word of the line lasts while the copy is Trunk.
+    pub(crate) fn keep_reservation(&mut self, size: LineSize, line: u32)
+        requires { size ≡ self.old.cache.shape.size }
+        ensures { self.new ≡ record self.old { reserved = kept_reservation self.old.cache line self.old.reserved } }
+    {
+        if perm(&self.cache, line) != Perm::Trunk {
+            self.reservation.lose_line(line, size);
+        }
     }
 }

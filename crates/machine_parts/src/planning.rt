@@ -8,9 +8,9 @@ ghost use Rattle.machine_parts.specs.Parts.{state_of};
 
 use crate::arriving::plan_deliver;
 use crate::draining::{plan_drain, plan_evict};
-use crate::going_alone::plan_local;
 use crate::node::Node;
 use crate::parts::{Parts, line_size};
+use crate::planning_rows::plan_local;
 use crate::stepping::plan_step;
 use elf_loader::{BASE, Image};
 use machine_model::{Event, Plan};

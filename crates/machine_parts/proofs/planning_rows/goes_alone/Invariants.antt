@@ -1,6 +1,6 @@
 use Rattle.std.specs.Prelude.{◌≡◌, ◌==◌, length}
 use Rattle.hart.specs.Local.{private_row}
-use Rattle.machine_parts.proofs.going_alone.goes_alone.Given as goal
+use Rattle.machine_parts.proofs.planning_rows.goes_alone.Given as goal
 
 -- the rest of the row goes on from the last hart
 abbrev pub invariant-loop-left : goal.invariant-loop-left

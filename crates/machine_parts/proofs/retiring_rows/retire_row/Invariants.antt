@@ -2,7 +2,7 @@ use Rattle.std.proofs.Common.{◌≡◌, ◌<◌, ◌≤◌, length, slice_index
 use Rattle.hart.specs.Local.{private_row}
 use Rattle.hart.specs.Run.{reached}
 use Rattle.machine_model.specs.Changing.{with_entries}
-use Rattle.machine_parts.proofs.alone.retire_row.Given as goal
+use Rattle.machine_parts.proofs.retiring_rows.retire_row.Given as goal
 
 -- what is left of the row goes on from the last hart
 abbrev pub invariant-loop-left : goal.invariant-loop-left

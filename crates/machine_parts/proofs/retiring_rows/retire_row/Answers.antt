@@ -5,7 +5,7 @@ use Rattle.hart.specs.declared.retired.Retired.{Retired}
 use Rattle.machine_model.specs.Changing.{with_entries}
 use Rattle.trace_recorder.specs.History.{Recorded}
 use Rattle.machine_parts.proofs.RowsAlone.{ends, goes, room_left, row_goes, row_leads}
-use Rattle.machine_parts.proofs.alone.retire_row.Goals as goal
+use Rattle.machine_parts.proofs.retiring_rows.retire_row.Goals as goal
 
 pub loop-left-preserved : goal.loop-left-preserved
 loop-left-preserved c =

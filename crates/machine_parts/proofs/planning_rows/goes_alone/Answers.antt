@@ -1,7 +1,7 @@
 use Rattle.std.proofs.Common.{◌∙◌, sym}
 use Rattle.hart.proofs.Rows.{none_refused, step_taken}
 use Rattle.machine_parts.proofs.PrivateRows.{not_whole, whole_on}
-use Rattle.machine_parts.proofs.going_alone.goes_alone.Goals as goal
+use Rattle.machine_parts.proofs.planning_rows.goes_alone.Goals as goal
 
 pub returns-in_default : goal.returns-in_default
 returns-in_default c =

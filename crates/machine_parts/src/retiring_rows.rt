@@ -1,4 +1,4 @@
-//! Rows of private instructions.
+//! What a row of private instructions that retires changes.
 
 ghost use Rattle.std.specs.Prelude.{◌≡◌, ◌<◌, ◌≤◌, length, slice_index};
 ghost use Rattle.hart.specs.Local.{private_row};
