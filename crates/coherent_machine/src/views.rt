@@ -14,6 +14,7 @@ use store_buffer::StoreBuffer;
 use tilelink_channels::Queues;
 
 /// What a machine is at the moment, lent part by part. No call takes memory.
+#[derive(Drop)]
 pub struct Views<'a> {
     pub(crate) parts: &'a Parts,
 }
