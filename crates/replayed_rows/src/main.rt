@@ -1,13 +1,17 @@
-//! Plays kept scripts on kept images with the plain machine, and compares the outcome of each event, the
-//! trace and the harts' ends with the kept texts, which other implementations of the same rules have
-//! printed; those of `two-awaited` are written by hand. A line of the file `cases` has a case's name, the
-//! kind of its image and its memory model.
+//! Plays kept scripts on kept images with the plain machine and with the machine that is built of proved
+//! parts, and compares the outcome of each event, the trace and the harts' ends with the kept texts, which
+//! other implementations of the same rules have printed; those of `two-awaited` are written by hand. A line
+//! of the file `cases` has a case's name, the kind of its image and its memory model.
 #![tactic(auto)]
 
+mod machines;
 mod play;
 
 use anyhow::{Result, bail, ensure};
+use coherent_machine::Machine;
 use machine_model::Model;
+use machines::Playable;
+use plain_machine::PlainMachine;
 use play::{ImageKind, Played, play};
 use std::fs;
 use std::rt::Files;
@@ -43,19 +47,22 @@ fn kept<R: Files + AllocGlobal>(rt: &R, case: &Case<'_>, ending: &str) -> Result
     Ok(fs::read(rt, path.as_str())?)
 }
 
-fn played<R: Files + AllocGlobal>(rt: &R, case: &Case<'_>) -> Result<Played> {
+fn played<M: Playable + Drop, R: Files + AllocGlobal>(rt: &R, case: &Case<'_>) -> Result<Played> {
     let ending = match case.kind {
         ImageKind::Raw => "bin",
         ImageKind::Elf => "elf",
     };
     let image = kept(rt, case, ending)?;
     let script = kept(rt, case, "script")?;
-    play(rt.alloc(), case.kind, &image, &script, case.model)
+    play::<M>(rt.alloc(), case.kind, &image, &script, case.model)
 }
 
-/// What of a played case isn't as kept; the outcomes of programs from ELF files aren't kept.
-fn difference<R: Files + AllocGlobal>(rt: &R, case: &Case<'_>) -> Result<Option<&'static str>> {
-    let played = played(rt, case)?;
+/// What of a case played on a machine isn't as kept; the outcomes of programs from ELF files aren't kept.
+fn difference<M: Playable + Drop, R: Files + AllocGlobal>(
+    rt: &R,
+    case: &Case<'_>,
+) -> Result<Option<&'static str>> {
+    let played = played::<M, R>(rt, case)?;
     let trace = kept(rt, case, "trace")?;
     let ends = kept(rt, case, "err")?;
     if let ImageKind::Raw = case.kind {
@@ -81,10 +88,12 @@ fn main(rt: HostRuntime) -> Result<()> {
             bail!("no case: {line}");
         };
         let name = case.name;
-        let difference = difference(&rt, &case)?;
-        let verdict = difference.unwrap_or("as kept");
-        println!(rt; "{name}: {verdict}")?;
-        all_kept = all_kept && difference.is_none();
+        let plain = difference::<PlainMachine, _>(&rt, &case)?;
+        let coherent = difference::<Machine, _>(&rt, &case)?;
+        let plain_verdict = plain.unwrap_or("as kept");
+        let coherent_verdict = coherent.unwrap_or("as kept");
+        println!(rt; "{name}: plain {plain_verdict}, coherent {coherent_verdict}")?;
+        all_kept = all_kept && plain.is_none() && coherent.is_none();
     }
     ensure!(all_kept, "a case differs");
     Ok(())

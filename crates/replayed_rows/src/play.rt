@@ -1,10 +1,10 @@
 //! A script played on an image.
 
+use crate::machines::Playable;
 use anyhow::{Context, Result, bail};
 use elf_loader::{Image, load, raw, size_of_kib};
 use hart::Status;
 use machine_model::{Config, Model, Outcome};
-use plain_machine::PlainMachine;
 use std::alloc::Global;
 use std::io::{self, Write};
 use trace_text::{Script, read_script, write_trace};
@@ -48,7 +48,7 @@ fn config_of(script: &Script, model: Model) -> Config {
     }
 }
 
-pub fn play(
+pub fn play<M: Playable + Drop>(
     alloc: Global,
     kind: ImageKind,
     image: &[u8],
@@ -59,16 +59,13 @@ pub fn play(
         bail!("no script");
     };
     let image = image_of(alloc, kind, image, script.kib)?;
-    let machine = PlainMachine::new(alloc, image, config_of(&script, model))?;
-    let mut machine = machine.context("a configuration")?;
+    let mut machine = M::at_reset(alloc, image, config_of(&script, model))?;
     let mut outcomes = Vec::new(alloc);
     for event in script.events.as_slice() {
-        match machine.apply(*event) {
-            Ok(outcome) => write_outcome(&mut outcomes, outcome)?,
-            Err(refusal) => bail!("{refusal:?}"),
-        }
+        let outcome = machine.happen(*event)?;
+        write_outcome(&mut outcomes, outcome)?;
     }
-    let (history, outputs) = machine.into_parts()?;
+    let (history, outputs) = machine.ended(alloc)?;
     let mut trace = Vec::new(alloc);
     write_trace(&history, &mut trace)?;
     let mut ends = Vec::new(alloc);
