@@ -1,5 +1,5 @@
 -- A current row is what its hart does alone, so its event is good and changes the machine.
-use Rattle.std.proofs.Common.{ℕ, zero, suc, ◌≡◌, ◌≢◌, ◌∙◌, ◌↔◌, ◌+◌, ◌<◌, ◌≤◌, refl, sym, ap, subst, List, [], ◌∷◌, length, Bool, true, false, cond, Option, Some, None, Ok, Err, inl, inr, not, ◌&&◌, arith}
+use Rattle.std.proofs.Common.{ℕ, ◌≡◌, ◌≢◌, ◌∙◌, ◌↔◌, ◌+◌, ◌≤◌, refl, sym, ap, subst, List, [], ◌∷◌, length, Bool, true, false, cond, Option, Some, None, Ok, Err, inl, inr, not, ◌&&◌, arith}
 use Rattle.std.specs.declared.result.Result.{Result}
 use Rattle.std.specs.Prelude.{nat_eq, nat_le, is_none}
 use Rattle.std.proofs.lemmas.Bool.{and_from, and_parts, eq-eqb, eqb-true, le-leb, leb-true, lt-ltb, false≢true}
@@ -11,15 +11,13 @@ use Rattle.hart.specs.declared.state.Hart.{Hart}
 use Rattle.hart.specs.Local.{IsRow, Row, are_private_steps, can_go_alone, is_done_alone, is_private_step, next_entry, private_row}
 use Rattle.hart.specs.Run.{after, can_fetch, is_running}
 use Rattle.machine_model.specs.declared.act.Act.TheVariants as act
-use Rattle.machine_model.specs.declared.act.Plan.{Plan}
 use Rattle.machine_model.specs.declared.act.Plan.TheVariants.{Stays, Changes}
-use Rattle.machine_model.specs.declared.event.Event.{Event}
 use Rattle.machine_model.specs.declared.event.Event.TheVariants.{Local}
 use Rattle.machine_model.specs.declared.outcome.Outcome.{Outcome}
 use Rattle.machine_model.specs.declared.outcome.Outcome.TheVariants as outcome
 use Rattle.machine_model.specs.Changing.{acted}
-use Rattle.machine_model.specs.Events.{Verdict, counted, is_good, is_limited, plan_local, plan_of, verdict, verdict_by}
-use Rattle.machine_model.specs.Events.Verdict.{IsBad, Keeps, IsLimited, Moves}
+use Rattle.machine_model.specs.Events.{Verdict, counted, is_good, is_limited, plan_of, verdict, verdict_by}
+use Rattle.machine_model.specs.Events.Verdict.{IsBad, IsLimited, Moves}
 use Rattle.machine_model.specs.Views.{State, node_at}
 use Rattle.machine_parts.specs.Applying.{Answers}
 use Rattle.machine_parts.specs.declared.errors.ApplyError.{ApplyError}
