@@ -1,4 +1,7 @@
-//! Why a machine isn't made, or a list of events isn't replayed.
+//! Why a machine isn't made, a list of events isn't replayed, or a batch isn't adopted.
+
+ghost use Rattle.std.specs.Prelude.{◌≡◌};
+ghost use Rattle.coherent_machine.specs.Adopting.{number_of};
 
 use machine_parts::ApplyError;
 use std::alloc::AllocError;
@@ -42,5 +45,31 @@ impl From<NewError> for ReplayError {
 
     fn from(error: NewError) -> Self {
         ReplayError::New(error)
+    }
+}
+
+/// Why a batch isn't adopted.
+#[derive(Clone, Copy, Debug, PartialEq, Eq, Error)]
+pub enum AdoptError {
+    /// The machine has no such hart, the hart doesn't stand where the batch begins, or the batch's words
+    /// aren't the image's.
+    #[error("Stale")]
+    Stale = 1,
+    /// The batch has no instruction.
+    #[error("Empty")]
+    Empty = 2,
+    /// 4,000,000 events changed the machine, or the hart's list would pass 1,000,000 retired instructions.
+    #[error("Limit")]
+    Limit = 3,
+    #[error("NoMemory")]
+    NoMemory = 4,
+}
+
+impl AdoptError {
+    /// 1 to 4, in the order of testing.
+    pub fn number(self) -> u8
+        ensures { result ≡ number_of self }
+    {
+        self as u8
     }
 }

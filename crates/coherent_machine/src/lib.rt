@@ -1,11 +1,12 @@
 //! The machine: its calls, one event at a time.
 #![tactic(auto)]
 
+mod adopting;
 mod errors;
 mod machine;
 mod views;
 
-pub use errors::{NewError, ReplayError};
+pub use errors::{AdoptError, NewError, ReplayError};
 pub use machine::{Machine, replay};
 pub use machine_parts::ApplyError;
 pub use views::Views;

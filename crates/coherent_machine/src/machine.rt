@@ -1,17 +1,20 @@
 //! The machine, and the calls on it.
 
-ghost use Rattle.std.specs.Prelude.{◌≡◌, ◌↔◌, ◌<◌, Err, IfErr, IfOk, IsTrue, OnOk, OnErr, false, length, map};
+ghost use Rattle.std.specs.Prelude.{◌≡◌, ◌≢◌, ◌↔◌, ◌<◌, [], Err, IfErr, IfOk, IsTrue, OnOk, OnErr, false, length, map};
 ghost use Rattle.machine_model.specs.Config as limits;
-ghost use Rattle.machine_model.specs.Events.{happens, verdict};
+ghost use Rattle.machine_model.specs.Events.{Verdict, happens, verdict};
 ghost use Rattle.machine_model.specs.LawfulLog.{IsLawfulLog};
 ghost use Rattle.machine_model.specs.Laws.{Grows, KeepsImageAndConfig};
 ghost use Rattle.machine_model.specs.Views.{State, opening};
 ghost use Rattle.machine_parts.specs.Applying.{Answers};
+ghost use Rattle.coherent_machine.specs.Adopting.{IsCurrent, local_of};
 ghost use Rattle.coherent_machine.specs.Machine.{IsFirstRefusal, IsRefusedAt, KeepsHeadline, Replayed, replayed_from};
 
-use crate::errors::{NewError, ReplayError};
+use crate::adopting::is_current;
+use crate::errors::{AdoptError, NewError, ReplayError};
 use crate::views::Views;
 use elf_loader::Image;
+use hart::Batch;
 use machine_model::{
     Config, Event, Outcome, headline, image_and_config_stay, log_lawful_always, nothing_is_rewritten, ready_always, sound_always,
 };
@@ -29,7 +32,8 @@ pub struct Machine {
 
 impl Model for Machine {
     ghost use Rattle.machine_model.specs.Views.{State};
-    ghost use Rattle.coherent_machine.specs.Machine.{IsReached};
+    ghost use Rattle.coherent_machine.specs.Adopting.{IsCurrent, local_of};
+ghost use Rattle.coherent_machine.specs.Machine.{IsReached};
     ghost use Rattle.machine_parts.specs.Parts.{state_of};
     ghost use Rattle.std.specs.Coded.{codes};
     ghost use Rattle.machine_parts.specs.Codes.{cache_coded};
@@ -80,6 +84,39 @@ impl Machine {
         nothing_is_rewritten();
         image_and_config_stay();
         self.parts.apply(&event)
+    }
+
+    /// Adopts the private instructions that a hart has run by itself from where it stands, as the event
+    /// `Local` of as many instructions.
+    pub fn adopt(&mut self, hart: u8, batch: &Batch) -> Result<Outcome, AdoptError>
+        ensures stale { (result ≡ Err AdoptError.Stale) ↔ (IsCurrent hart batch.now self.old → ⊥) }
+        ensures empty { (result ≡ Err AdoptError.Empty) ↔ (IsCurrent hart batch.now self.old × (batch.now.entries ≡ [])) }
+        ensures limit { (result ≡ Err AdoptError.Limit)
+            ↔ (IsCurrent hart batch.now self.old × (batch.now.entries ≢ []) × (verdict self.old (local_of hart batch.now) ≡ Verdict.IsLimited)) }
+        ensures ok { OnOk result (self.new ≡ happens self.old (local_of hart batch.now)) }
+        ensures retired { IfOk result (λ outcome. verdict self.old (local_of hart batch.now) ≡ Verdict.Moves outcome self.new × (outcome ≡ Outcome.Retired)) }
+        ensures err { OnErr result (self.new ≡ self.old) }
+        ensures headline { KeepsHeadline self.new }
+        ensures log { IsLawfulLog self.new.trace.log }
+        ensures grows { Grows self.old.trace self.new.trace }
+        ensures stays { KeepsImageAndConfig self.old self.new }
+    {
+        headline();
+        log_lawful_always();
+        image_and_config_stay();
+        if !is_current(&self.parts, hart, batch) {
+            return Err(AdoptError::Stale);
+        }
+        let count = batch.entries().len() as u32;
+        if count == 0 {
+            return Err(AdoptError::Empty);
+        }
+        match self.apply(Event::Local { hart, count }) {
+            Ok(outcome) => Ok(outcome),
+            Err(ApplyError::Limit) => Err(AdoptError::Limit),
+            Err(ApplyError::NoMemory) => Err(AdoptError::NoMemory),
+            Err(ApplyError::BadEvent) => unreachable!(),
+        }
     }
 
     /// What the machine is at the moment.

@@ -1,4 +1,4 @@
-use Rattle.std.proofs.Common.{◌≡◌, map, List, ℕ, Vec, Global}
+use Rattle.std.proofs.Common.{◌≡◌, map, ℕ, Vec, Global}
 use Rattle.machine_model.specs.Views.{Node}
 use Rattle.coherent_machine.proofs.machine.outputs_of.Given as goal
 

@@ -1,9 +1,7 @@
 use Rattle.std.proofs.Common.{rules}
 use Rattle.std.proofs.lemmas.Bool.{not-false}
-use Rattle.std.proofs.Common.{subst, ap, ◌∙◌, sym, true}
 use Rattle.machine_model.specs.LawfulLog.{IsLawfulLog}
 use Rattle.coherent_machine.proofs.Reached.{headline_of, law_of, reached_opening}
-use Rattle.coherent_machine.specs.Machine.{IsReached}
 use Rattle.machine_parts.specs.Parts.{state_of}
 use Rattle.coherent_machine.proofs.machine.Machine.new.Goals as goal
 
