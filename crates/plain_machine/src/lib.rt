@@ -13,7 +13,10 @@ mod notes;
 mod queues;
 mod state;
 mod steps;
+mod views;
 mod words;
 
 pub use events::Refusal;
+pub use notes::Transaction;
 pub use state::PlainMachine;
+pub use views::NodeView;

@@ -12,9 +12,11 @@ pub(crate) struct Known {
     pub awaited: bool,
 }
 
+/// Where a line's transaction stands.
 #[derive(Clone, Copy, Debug, PartialEq, Eq)]
-pub(crate) enum Transaction {
+pub enum Transaction {
     Idle,
+    /// ProbeAcks are awaited before this requester's Grant.
     Probing { requester: u8, grow: Grow },
     /// A Grant was sent to this hart, and its GrantAck is awaited.
     Granted(u8),

@@ -24,7 +24,7 @@ impl Waiting {
         }
     }
 
-    fn queue_of(&self, channel: Channel) -> &Vec<Msg> {
+    pub fn queue_of(&self, channel: Channel) -> &Vec<Msg> {
         match channel {
             Channel::A => &self.a,
             Channel::B => &self.b,
