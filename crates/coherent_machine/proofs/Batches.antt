@@ -90,7 +90,7 @@ verdict_of_row h row s = cond (is_limited s h (act.Local (length row.entries))) 
 good : (h : ℕ) (row : Row) (s : State) → IsRow row → IsCurrent h row s → (row.entries ≢ []) → is_good s (local_of h row) ≡ true
 good h row s r c some =
     and_from _ _ (lt-ltb h (length s.views.nodes) c.there)
-      (and_from _ _ (le-leb 1 (length row.entries) (some_length row.entries some)) (le-leb (length row.entries) 256 r.few))
+    (and_from _ _ (le-leb 1 (length row.entries) (some_length row.entries some)) (le-leb (length row.entries) 256 r.few))
 
 planned : (h : ℕ) (row : Row) (s : State) → IsRow row → IsCurrent h row s → (row.entries ≢ []) → plan_of s (local_of h row) ≡ Changes (act.Local (length row.entries))
 planned h row s r c some =
@@ -126,7 +126,7 @@ moved_by : (b : Bool) (moved s new : State) (o : Outcome) (result : Result Outco
 moved_by true moved s new o result a e = absurd (cc (a.0, e))
 moved_by false moved s new o result a e =
     elim a [
-      inl x ↦ let same : o ≡ outcome.Retired = cc (x.0, e) in (ap (λ (p : Outcome). Moves p moved) (sym same) ∙ ap (Moves o) (sym x.1), same)
+      | inl x ↦ let same : o ≡ outcome.Retired = cc (x.0, e) in (ap (λ (p : Outcome). Moves p moved) (sym same) ∙ ap (Moves o) (sym x.1), same)
       | inr x ↦ absurd (cc (x.0, e))
     ]
 

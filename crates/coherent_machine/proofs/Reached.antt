@@ -71,7 +71,7 @@ grows_none s = record { performed = begins_itself s.trace.performed; entries = �
 pub grows_after : NothingIsRewritten → (s new : State) (e : Event) (result : Result Outcome ApplyError) → Answers (verdict s e) s result new → Grows s.trace new.trace
 grows_after law s new e result a =
     elim (left_by (verdict s e) s new result a) [
-      inl x ↦ subst (λ (n : State). Grows s.trace n.trace) (sym x) (grows_none s)
+      | inl x ↦ subst (λ (n : State). Grows s.trace n.trace) (sym x) (grows_none s)
       | inr x ↦ subst (λ (n : State). Grows s.trace n.trace) (sym x) (law s e)
     ]
 
@@ -81,7 +81,7 @@ stays_none s = record { image = refl; line = refl; config = refl }
 pub stays_after : ImageAndConfigStay → (s new : State) (e : Event) (result : Result Outcome ApplyError) → Answers (verdict s e) s result new → KeepsImageAndConfig s new
 stays_after law s new e result a =
     elim (left_by (verdict s e) s new result a) [
-      inl x ↦ subst (λ (n : State). KeepsImageAndConfig s n) (sym x) (stays_none s)
+      | inl x ↦ subst (λ (n : State). KeepsImageAndConfig s n) (sym x) (stays_none s)
       | inr x ↦ subst (λ (n : State). KeepsImageAndConfig s n) (sym x) (law s e)
     ]
 

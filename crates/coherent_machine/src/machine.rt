@@ -16,7 +16,8 @@ use crate::views::Views;
 use elf_loader::Image;
 use hart::Batch;
 use machine_model::{
-    Config, Event, Outcome, headline, image_and_config_stay, log_lawful_always, nothing_is_rewritten, ready_always, sound_always,
+    Config, Event, Outcome, headline, image_and_config_stay, log_lawful_always,
+    nothing_is_rewritten, ready_always, sound_always,
 };
 use machine_parts::{ApplyError, Node, Parts, is_within_limits};
 use std::alloc::{AllocError, Global};
@@ -32,8 +33,7 @@ pub struct Machine {
 
 impl Model for Machine {
     ghost use Rattle.machine_model.specs.Views.{State};
-    ghost use Rattle.coherent_machine.specs.Adopting.{IsCurrent, local_of};
-ghost use Rattle.coherent_machine.specs.Machine.{IsReached};
+    ghost use Rattle.coherent_machine.specs.Machine.{IsReached};
     ghost use Rattle.machine_parts.specs.Parts.{state_of};
     ghost use Rattle.std.specs.Coded.{codes};
     ghost use Rattle.machine_parts.specs.Codes.{cache_coded};

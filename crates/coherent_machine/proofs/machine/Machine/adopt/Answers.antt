@@ -22,20 +22,23 @@ fits-NoMemory c = fits_by c.args.hart c.args.batch.now c.args.self.now (state_of
 pub returns-in-Ok-clause-retired : goal.returns-in-Ok-clause-retired
 returns-in-Ok-clause-retired c =
     moved_when c.args.hart c.args.batch.now c.args.self.now c.apply.new.self c.in-Ok.outcome c.apply.result (fits-Ok c)
-      (answers_of c.args.hart c.args.batch.now c.args.self.now c.apply.new.self c.apply.result c.entries.result.now c.entries.ensures.entries c.apply.ensures.answers)
-      c.in-Ok.is
+    (answers_of c.args.hart c.args.batch.now c.args.self.now c.apply.new.self c.apply.result c.entries.result.now c.entries.ensures.entries c.apply.ensures.answers)
+    c.in-Ok.is
 
 pub returns-in-Err-Limit-clause-stale : goal.returns-in-Err-Limit-clause-stale
 returns-in-Err-Limit-clause-stale c = (λ e. absurd (cc (e)), λ n. absurd (n (fits-Limit c).current))
 
 pub returns-in-Err-Limit-clause-limit : goal.returns-in-Err-Limit-clause-limit
-returns-in-Err-Limit-clause-limit c =
-    ( λ e. ( (fits-Limit c).current,
-             (fits-Limit c).some,
-             limited_when c.args.hart c.args.batch.now c.args.self.now c.apply.new.self c.apply.result (fits-Limit c)
-               (answers_of c.args.hart c.args.batch.now c.args.self.now c.apply.new.self c.apply.result c.entries.result.now c.entries.ensures.entries c.apply.ensures.answers)
-               (cc (c.in-Err-Limit.is, c.in-Err-Limit.field-0-is)) ),
-      λ p. refl )
+returns-in-Err-Limit-clause-limit c = (
+  λ e. (
+    (fits-Limit c).current,
+    (fits-Limit c).some,
+    limited_when c.args.hart c.args.batch.now c.args.self.now c.apply.new.self c.apply.result (fits-Limit c)
+        (answers_of c.args.hart c.args.batch.now c.args.self.now c.apply.new.self c.apply.result c.entries.result.now c.entries.ensures.entries c.apply.ensures.answers)
+        (cc (c.in-Err-Limit.is, c.in-Err-Limit.field-0-is)),
+  ),
+  λ p. refl,
+)
 
 pub returns-in-Err-NoMemory-clause-stale : goal.returns-in-Err-NoMemory-clause-stale
 returns-in-Err-NoMemory-clause-stale c = (λ e. absurd (cc (e)), λ n. absurd (n (fits-NoMemory c).current))
