@@ -1,0 +1,66 @@
+//! Plays the examples of the repository, and prints how each ends: the trace's last lines, and what the
+//! harts put out.
+#![tactic(auto)]
+
+use command_line::{SystemFiles, run_line};
+use std::io::{self, Write};
+use std::rt::Files;
+
+/// Programs of two harts that the GNU toolchain built, each with a script.
+const EXAMPLES: [&str; 9] = [
+    "store_buffering",
+    "store_buffering_fenced",
+    "message_passing",
+    "message_passing_fenced",
+    "spin_lock",
+    "reserved_lock",
+    "dekker",
+    "dekker_fenced",
+    "treiber_stack",
+];
+
+/// How many lines of each trace are printed: the harts' statuses.
+const LAST_LINES: usize = 2;
+
+fn main(rt: HostRuntime) -> io::Result<()> {
+    let mut out = rt.stdout();
+    for name in EXAMPLES {
+        play(&rt, name, &mut out)?;
+    }
+    out.flush()
+}
+
+fn play<R: Files + AllocGlobal, W: Write>(rt: &R, name: &str, out: &mut W) -> io::Result<()> {
+    let alloc = rt.alloc();
+    let image = format!(in alloc; "{name}.elf")?;
+    let script = format!(in alloc; "{name}.script")?;
+    let words = ["rvtl", "replay", image.as_str(), script.as_str()];
+    let mut trace = Vec::new(alloc);
+    let mut ends = Vec::new(alloc);
+    run_line(
+        alloc,
+        &words,
+        &mut SystemFiles::new(rt),
+        &mut trace,
+        &mut ends,
+    );
+    writeln!(out, "{name}")?;
+    out.write_all(last_lines(trace.as_slice()))?;
+    out.write_all(ends.as_slice())
+}
+
+/// The last lines of a text.
+fn last_lines(text: &[u8]) -> &[u8] {
+    let mut start = text.len();
+    let mut lines = 0;
+    while start > 0 {
+        if start < text.len() && text[start - 1] == b'\n' {
+            lines += 1;
+            if lines == LAST_LINES {
+                break;
+            }
+        }
+        start -= 1;
+    }
+    &text[start..]
+}
