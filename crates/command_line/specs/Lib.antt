@@ -1,1 +1,2 @@
 pub mod Composition
+pub mod Status
