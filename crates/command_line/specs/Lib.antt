@@ -1,2 +1,3 @@
 pub mod Composition
 pub mod Status
+pub mod Settings
