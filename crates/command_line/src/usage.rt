@@ -11,10 +11,7 @@ use std::alloc::{AllocError, Global};
 use std::convert::AsStr;
 
 /// What the words ask for, of which the first is the program's name.
-pub fn settings<'a, S: AsStr>(
-    alloc: Global,
-    words: &'a [S],
-) -> Result<Settings<'a>, SettingsError>
+pub fn settings<'a, S: AsStr>(alloc: Global, words: &'a [S]) -> Result<Settings<'a>, SettingsError>
     ensures { IfOk result (IsNamed (map S.text words.entry.now)) }
 {
     let matches = command(alloc)?.try_get_matches_from(words)?;

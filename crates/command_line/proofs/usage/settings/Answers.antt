@@ -7,7 +7,7 @@ use Rattle.clap.specs.declared.parser.matches.Found.{Found}
 use Rattle.clap.proofs.CallerLemmas.{subcommand_required}
 use Rattle.clap.proofs.SimpleLemmas.{plain_fields}
 use Rattle.clap.proofs.WalkLemmas.{first_value-rows, one_text-rows}
-use Rattle.clap.specs.Words.{App, Row, Text, app_of, has_subcommand, first_value, found_of, is_simple, one_of, rows_of, subcommand_rows_of}
+use Rattle.clap.specs.Words.{App, Text, app_of, has_subcommand, first_value, found_of, is_simple, one_of, rows_of, subcommand_rows_of}
 use Rattle.command_line.specs.Settings.{IsFlag, IsUsage, model_named, model_option, text_of, usage}
 use Rattle.command_line.proofs.usage.settings.Goals as goal
 use Rattle.command_line.proofs.usage.settings.Goals.{in-Some-check-default, in-Some, in-None}
@@ -59,9 +59,14 @@ returns g c =
           let sub = sym read ∙ paired (subcommand_rows_of m) a.field-0-0.now (rows_of f) named (sym a.ensures.rows) in
           let model_text = read_text f (codes "model") w.get_str.result _ w.unwrap_or.result w.get_str.ensures w.unwrap_or.ensures refl in
           let trace_text = read_text f (codes "TRACE") w.get_str-in-Some-check-default.result _ w.unwrap_or-in-Some-check-default.result
-              w.get_str-in-Some-check-default.ensures w.unwrap_or-in-Some-check-default.ensures refl in
-          (app_of made, c.in_ok-command.ensures, a.field-0-0.now, rows_of f, sub,
-          rw w.result-is (is_check, w.model_of.ensures ∙ ap model_named model_text, trace_text))
+          w.get_str-in-Some-check-default.ensures w.unwrap_or-in-Some-check-default.ensures refl in (
+            app_of made,
+            c.in_ok-command.ensures,
+            a.field-0-0.now,
+            rows_of f,
+            sub,
+            rw w.result-is (is_check, w.model_of.ensures ∙ ap model_named model_text, trace_text),
+          )
       | in-Some w ↦
           let a = w.in-Some in
           let differ : a.field-0-0.now ≡ codes "check" → ⊥ = search rules in
@@ -70,18 +75,23 @@ returns g c =
           let sub = sym read ∙ paired (subcommand_rows_of m) a.field-0-0.now (rows_of f) named (sym a.ensures.rows) in
           let is_other = apart a.field-0-0.now (codes "check") differ in
           let model_text = read_text f (codes "model") w.get_str-in-Some.result _ w.unwrap_or-in-Some.result
-              w.get_str-in-Some.ensures w.unwrap_or-in-Some.ensures refl in
+          w.get_str-in-Some.ensures w.unwrap_or-in-Some.ensures refl in
           let image_text = read_text f (codes "IMAGE") w.get_str-in-Some-2.result _ w.unwrap_or-in-Some-2.result
-              w.get_str-in-Some-2.ensures w.unwrap_or-in-Some-2.ensures refl in
+          w.get_str-in-Some-2.ensures w.unwrap_or-in-Some-2.ensures refl in
           let script_text = read_text f (codes "SCRIPT") w.get_str-in-Some-3.result _ w.unwrap_or-in-Some-3.result
-              w.get_str-in-Some-3.ensures w.unwrap_or-in-Some-3.ensures refl in
+          w.get_str-in-Some-3.ensures w.unwrap_or-in-Some-3.ensures refl in
           let flag : IsFlag (one_of (codes "raw") (rows_of f)) w.get_flag.result = (
             λ h. w.get_flag.ensures.none (one_text-rows f (codes "raw") ∙ h),
             λ h. w.get_flag.ensures.value (one_text-rows f (codes "raw") ∙ h),
             λ h. w.get_flag.ensures.other (one_text-rows f (codes "raw") ∙ h),
-          ) in
-          (app_of made, c.in_ok-command.ensures, a.field-0-0.now, rows_of f, sub,
-          rw w.result-is (is_other, flag, w.model_of-in-Some.ensures ∙ ap model_named model_text, image_text, script_text))
+          ) in (
+            app_of made,
+            c.in_ok-command.ensures,
+            a.field-0-0.now,
+            rows_of f,
+            sub,
+            rw w.result-is (is_other, flag, w.model_of-in-Some.ensures ∙ ap model_named model_text, image_text, script_text),
+          )
       | in-None w ↦
           let none = w.in-None.ensures.variant ∙ met in
           absurd (true≢false (sym none))
