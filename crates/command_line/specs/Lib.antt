@@ -1,1 +1,3 @@
 pub mod Composition
+pub mod Status
+pub mod Settings

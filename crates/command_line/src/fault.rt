@@ -1,5 +1,8 @@
 //! Why the program ends with another status than 0.
 
+ghost use Rattle.std.specs.Prelude.{◌≡◌};
+ghost use Rattle.command_line.specs.Status.{status_of};
+
 use coherent_machine::{ApplyError, NewError, ReplayError};
 use elf_loader::LoadError;
 use rvwmo_order::CheckError;
@@ -51,7 +54,9 @@ pub enum Fault<'a> {
 impl Fault<'_> {
     /// The program's exit status: 1 for files, streams and what they hold, 2 for a configuration
     /// that no machine has, 4 for want of memory.
-    pub fn status(&self) -> u8 {
+    pub fn status(&self) -> u8
+        ensures { result ≡ status_of self.now }
+    {
         match self {
             Fault::CannotRead { .. }
             | Fault::CannotWrite

@@ -1,5 +1,9 @@
 //! The program's usage, and how its words are read.
 
+ghost use Rattle.std.specs.Prelude.{◌≡◌, IfOk, false, map};
+ghost use Rattle.clap.specs.Words.{Rule, app_of, rule_of};
+ghost use Rattle.command_line.specs.Settings.{IsModelOption, IsNamed, IsUsage, check_usage, model_named};
+
 use crate::wanted::{Replay, Settings, SettingsError};
 use clap::{Arg, ArgAction, Command};
 use machine_model::Model;
@@ -7,10 +11,9 @@ use std::alloc::{AllocError, Global};
 use std::convert::AsStr;
 
 /// What the words ask for, of which the first is the program's name.
-pub fn settings<'a, S: AsStr>(
-    alloc: Global,
-    words: &'a [S],
-) -> Result<Settings<'a>, SettingsError> {
+pub fn settings<'a, S: AsStr>(alloc: Global, words: &'a [S]) -> Result<Settings<'a>, SettingsError>
+    ensures { IfOk result (IsNamed (map S.text words.entry.now)) }
+{
     let matches = command(alloc)?.try_get_matches_from(words)?;
     // The usage asks for a subcommand and for its files, so each is there.
     Ok(match matches.subcommand() {
@@ -36,7 +39,9 @@ pub fn settings<'a, S: AsStr>(
 /// The models by their names, the first of which is meant where none is named.
 const MODELS: [&str; 2] = ["rvwmo", "ztso"];
 
-fn model_of(name: &str) -> Model {
+fn model_of(name: &str) -> Model
+    ensures { result ≡ model_named name.now }
+{
     if name == MODELS[1] {
         Model::Ztso
     } else {
@@ -44,7 +49,9 @@ fn model_of(name: &str) -> Model {
     }
 }
 
-fn command<'a>(alloc: Global) -> Result<Command<'a>, AllocError> {
+fn command<'a>(alloc: Global) -> Result<Command<'a>, AllocError>
+    ensures { IfOk result (λ made. IsUsage (app_of made)) }
+{
     let raw = Arg::new(alloc, "raw")
         .long("raw")
         .action(ArgAction::SetTrue)
@@ -69,7 +76,10 @@ fn command<'a>(alloc: Global) -> Result<Command<'a>, AllocError> {
         .subcommand(check_command(alloc)?)
 }
 
-fn model_argument<'a>(alloc: Global, help: &'a str) -> Arg<'a> {
+fn model_argument<'a>(alloc: Global, help: &'a str) -> Arg<'a>
+    ensures option { IsModelOption (rule_of result) }
+    ensures local { result.global ≡ false }
+{
     Arg::new(alloc, "model")
         .long("model")
         .value_parser(MODELS.as_slice())
@@ -77,7 +87,9 @@ fn model_argument<'a>(alloc: Global, help: &'a str) -> Arg<'a> {
         .help(help)
 }
 
-fn check_command<'a>(alloc: Global) -> Result<Command<'a>, AllocError> {
+fn check_command<'a>(alloc: Global) -> Result<Command<'a>, AllocError>
+    ensures { IfOk result (λ made. (model : Rule) × IsModelOption model × (app_of made ≡ check_usage model)) }
+{
     let model = model_argument(alloc, "the memory model that the order has to keep");
     let trace = Arg::new(alloc, "TRACE")
         .required(true)
