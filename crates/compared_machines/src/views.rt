@@ -169,16 +169,17 @@ fn coherent_line<L: Ledger>(
 /// None where there is no such hart or line.
 pub fn coherent_view(machine: &Machine, hart: u8, word: u32) -> Option<View> {
     let views = machine.views();
-    if usize::from(hart) >= views.harts() {
+    let place = usize::from(hart);
+    if place >= views.harts() {
         return None;
     }
-    let buffer = views.buffer(hart);
-    let queues = views.queues(hart);
+    let buffer = views.buffer(place);
+    let queues = views.queues(place);
     let (marks, bytes) = buffer.forward(word);
     Some(View {
         hart: HartView {
-            hart: *views.hart(hart),
-            reserved: views.reserved(hart),
+            hart: *views.hart(place),
+            reserved: views.reserved(place),
             is_buffer_empty: buffer.is_empty(),
             has_sealed: buffer.has_sealed(),
             forwarded: (marks.marks(), bytes),
@@ -190,7 +191,7 @@ pub fn coherent_view(machine: &Machine, hart: u8, word: u32) -> Option<View> {
             coherent_queue(queues, Channel::D),
             coherent_queue(queues, Channel::E),
         ],
-        cache: coherent_cache::<Brand>(views.cache(hart), word, Blank::new(1)),
+        cache: coherent_cache::<Brand>(views.cache(place), word, Blank::new(1)),
         line: coherent_line::<Brand>(&views, hart, word, Blank::new(1))?,
     })
 }
