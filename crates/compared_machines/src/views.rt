@@ -5,15 +5,13 @@ ghost use Rattle.std.specs.Prelude.{◌≡◌, ◌<◌, length};
 use crate::LINE_BYTES;
 use client_cache::{ClientCache, Held};
 use coherent_machine::{Machine, Views};
+use elf_loader::BASE;
 use hart::Hart;
 use plain_machine::{NodeView, PlainMachine, Transaction};
 use std::marker::Brand;
 use std::sync::ledger::{Blank, Ledger};
 use tilelink_channels::Queues;
 use tl_types::{Channel, LineData, Msg, Perm, Ticks};
-
-/// The first address of memory.
-const BASE: u32 = 0x8000_0000;
 
 /// A hart and its store buffer.
 #[derive(Clone, Copy, Debug, PartialEq, Eq)]

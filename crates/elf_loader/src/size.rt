@@ -5,12 +5,6 @@ ghost use Rattle.elf_loader.specs.Size.{IsMemoryKib, IsMemorySize};
 /// The first address of main memory.
 pub const BASE: u32 = 0x8000_0000;
 
-/// Memory's size is a multiple of this many bytes.
-pub const PAGE: u32 = 4096;
-
-/// The most bytes that memory may have.
-pub const MAX_SIZE: u32 = 1 << 20;
-
 /// The bytes in `kib` KiB, where memory may have that size: for a multiple of 4 from 4 to 1024.
 pub fn size_of_kib(kib: u32) -> Option<u32>
     ensures exact { MatchOption result (¬ IsMemoryKib kib) (λ size. IsMemoryKib kib × (size ≡ 1024 * kib)) }

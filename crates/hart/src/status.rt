@@ -13,6 +13,7 @@ pub enum Status {
 impl Status {
     ghost use Rattle.hart.specs.Run.{is_running};
 
+    /// Whether the hart goes on: neither stopped nor exited.
     pub fn is_running(self) -> bool
         ensures { result ≡ is_running self }
     {

@@ -7,6 +7,7 @@ pub mod Legal
 pub mod Traces
 pub mod Verdict
 pub mod Examples
+pub mod LitmusPrograms
 pub mod Litmus
 pub mod WorkedRows
 pub mod Laws

@@ -3,9 +3,10 @@
 use crate::cache::Evict;
 use crate::changing::outcome_of;
 use crate::deciding::{Act, Plan, writing};
-use crate::state::{BASE, Node, PlainMachine};
+use crate::state::{Node, PlainMachine};
 use crate::steps::{next_alone, plan_step};
 use crate::words::{line_of, word_of};
+use elf_loader::BASE;
 use machine_model::{Config, Event, Outcome};
 use std::alloc::AllocError;
 
@@ -22,6 +23,7 @@ pub enum Refusal {
     /// The event would change the machine, but 4,000,000 events did, or the hart's list would pass
     /// 1,000,000 retired instructions.
     Limit,
+    /// Memory was refused; what had changed by then stays.
     NoMemory,
 }
 

@@ -5,15 +5,12 @@ use crate::cache::Cache;
 use crate::events::is_within_limits;
 use crate::notes::Notes;
 use crate::queues::Waiting;
-use elf_loader::Image;
+use elf_loader::{BASE, Image};
 use hart::{Hart, Retired};
 use machine_model::Config;
 use std::alloc::{AllocError, Global};
 use tl_types::{LineData, LineSize, Msg};
 use trace_recorder::{Direction, Logged, OpId, Trace};
-
-/// The first address of memory.
-pub(crate) const BASE: u32 = 0x8000_0000;
 
 /// What belongs to one hart.
 #[derive(Debug, Drop)]

@@ -11,7 +11,7 @@ use elf_loader::Image;
 use hart::{Hart, Retired, Status};
 use machine_model::{Model, Outcome};
 use rv32_decode::{AmoOp, FenceSet, Instr, Register, SystemOp, decode};
-use rv32_exec::{Plan as Access, Regs, Width, finish, plan};
+use rv32_exec::{Plan as Access, Regs, Width, finish, plan, stop};
 
 /// An instruction that a hart is about to retire.
 #[derive(Clone, Copy, Debug)]
@@ -198,11 +198,11 @@ pub(crate) fn plan_step(model: Model, image: &Image, node: &Node) -> Plan {
         return Plan::Stays(Outcome::Halted);
     }
     if !image.has_word(hart.pc) {
-        return Plan::Changes(Act::Stop(1));
+        return Plan::Changes(Act::Stop(stop::FETCH_OUTSIDE));
     }
     let word = image.word(hart.pc);
     let Some(instr) = decode(word) else {
-        return Plan::Changes(Act::Stop(2));
+        return Plan::Changes(Act::Stop(stop::ILLEGAL));
     };
     let fetched = Fetched {
         word,

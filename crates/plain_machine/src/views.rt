@@ -14,6 +14,7 @@ pub struct NodeView<'a> {
 }
 
 impl<'a> NodeView<'a> {
+    /// The hart as it stands.
     pub fn hart(&self) -> Hart {
         self.node.hart
     }

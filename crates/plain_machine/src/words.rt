@@ -1,5 +1,5 @@
-//! Words of lines, and the bytes of an access in a word (RISC-V Unprivileged ISA 20191213, section 1.4,
-//! "Memory": little endian).
+//! Words of lines, and the bytes of an access in a word (RISC-V Unprivileged ISA 20191213, section 2.6; where
+//! it leaves the byte order open, this machine is little endian).
 
 use crate::buffer::Store;
 use rv32_exec::Width;

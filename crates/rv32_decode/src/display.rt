@@ -47,6 +47,9 @@ impl fmt::Display for JumpOffset {
 
 impl fmt::Display for FenceSet {
     fn fmt<W: fmt::Write>(&self, f: &mut fmt::Formatter<W>) -> fmt::Result {
+        if self.bits() == 0 {
+            return write!(f, "0");
+        }
         let input = if self.contains(FenceSet::I) { "i" } else { "" };
         let output = if self.contains(FenceSet::O) { "o" } else { "" };
         let read = if self.contains(FenceSet::R) { "r" } else { "" };

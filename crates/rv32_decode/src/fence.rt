@@ -60,6 +60,7 @@ impl Model for FenceSets {
 }
 
 impl FenceSets {
+    /// The sets before and after; neither has a bit but I, O, R and W.
     pub fn new(before: FenceSet, after: FenceSet) -> FenceSets
         requires before { before.0 < 16 }
         requires after { after.0 < 16 }

@@ -31,6 +31,7 @@ fn instructions_are_printed_as_the_assembler_spells_them(rt: HostRuntime) -> Res
         (0xffc6_2703, "lw a4, -4(a2)"),
         (0x10d6_00a3, "sb a3, 257(a2)"),
         (0x0110_000f, "fence w, w"),
+        (0x0010_000f, "fence 0, w"),
         (0x8330_000f, "fence.tso"),
         (0x18a5_a62f, "sc.w a2, a0, (a1)"),
         (0x0000_0073, "ecall"),

@@ -39,6 +39,7 @@ impl Regs {
         Regs { values }
     }
 
+    /// What a register holds; 0 for x0.
     pub fn get(&self, register: Register) -> u32
         ensures value { result ≡ slice_index self.now register }
         ensures registers { AreRegisters self.now }

@@ -1,4 +1,4 @@
-//! Why a hart stops.
+//! Why a hart stops. The codes are this project's own; an LR counts among the stores.
 
 /// The target of a taken jump or branch isn't a multiple of 4.
 pub const JUMP_MISALIGNED: u8 = 0;

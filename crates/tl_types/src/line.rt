@@ -29,6 +29,7 @@ pub enum LineData {
 }
 
 impl LineData {
+    /// Which size the line has.
     pub fn size(&self) -> LineSize
         ensures { result ≡ size_of self.now }
     {
@@ -38,6 +39,7 @@ impl LineData {
         }
     }
 
+    /// Its 16 or 64 bytes, the one at the lowest address first.
     pub fn as_slice(&self) -> &[u8]
         ensures { result.now ≡ bytes_of self.now }
     {

@@ -3,7 +3,8 @@ ghost use Rattle.std.specs.Prelude.{◌≡◌, ◌≢◌};
 ghost use Rattle.tl_types.specs.Permission.{granted_for, held_before, left_by, named_by};
 ghost use Rattle.tl_types.specs.Shrink.{shrunk_by};
 
-/// What a copy of a line allows: Nothing, reading (Branch), or reading and writing (Trunk).
+/// What a copy of a line allows: Nothing, reading (Branch), or reading and writing (Trunk; no client stands
+/// below a cache here, so that it is TileLink's tip).
 #[derive(Clone, Copy, Debug, PartialEq, Eq)]
 pub enum Perm {
     Nothing,

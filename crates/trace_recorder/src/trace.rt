@@ -78,12 +78,14 @@ impl Trace {
         }
     }
 
+    /// Main memory at reset, and the entry.
     pub fn image(&self) -> &Image
         ensures { result.now ≡ self.now.history.image }
     {
         &self.image
     }
 
+    /// The size of the machine's lines.
     pub fn line_size(&self) -> LineSize
         ensures { result ≡ self.now.history.line }
     {

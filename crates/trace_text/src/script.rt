@@ -28,6 +28,7 @@ impl Events {
         Events { items }
     }
 
+    /// The events, the first one first.
     pub fn as_slice(&self) -> &[Event]
         ensures { result.now ≡ self.now }
     {
