@@ -18,7 +18,7 @@ fn image_of(alloc: Global, words: &[u32]) -> Result<Image, Fail> {
     Ok(raw(alloc, &bytes, size)?)
 }
 
-fn machine_of(alloc: Global, words: &[u32], harts: u8) -> Result<Machine, Fail> {
+fn machine_of(alloc: Global, words: &[u32], harts: u32) -> Result<Machine, Fail> {
     let config = Config {
         harts,
         sets: 4,
@@ -86,17 +86,26 @@ fn row_39_of_an_ended_hart(rt: HostRuntime) -> Result<(), Fail> {
 fn row_47(rt: HostRuntime) -> Result<(), Fail> {
     let mut machine = machine_of(rt.alloc(), &[0x0000006f], 1)?;
     for _ in 0..3906 {
-        let row = Event::Local { hart: 0, count: 256 };
+        let row = Event::Local {
+            hart: 0,
+            count: 256,
+        };
         assert_eq!(rt; machine.apply(row)?, Outcome::Retired);
     }
     let too_many = Event::Local { hart: 0, count: 65 };
     assert_eq!(rt; machine.apply(too_many).err(), Some(ApplyError::Limit));
     let last = Event::Local { hart: 0, count: 64 };
     assert_eq!(rt; machine.apply(last)?, Outcome::Retired);
-    assert_eq!(rt; machine.apply(Event::Step { hart: 0 }).err(), Some(ApplyError::Limit));
+    assert_eq!(rt;
+        machine.apply(Event::Step { hart: 0 }).err(),
+        Some(ApplyError::Limit)
+    );
     let batch = batch_of(rt.alloc(), &machine)?;
     assert_eq!(rt; machine.adopt(0, &batch).err(), Some(AdoptError::Limit));
-    let drain = Event::Drain { hart: 0, word: 0x8000_0000 };
+    let drain = Event::Drain {
+        hart: 0,
+        word: 0x8000_0000,
+    };
     assert_eq!(rt; machine.apply(drain)?, Outcome::NoEntry);
     Ok(())
 }

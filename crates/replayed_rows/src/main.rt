@@ -1,6 +1,6 @@
 //! Plays kept scripts on kept images with the plain machine and with the machine that is built of proved
 //! parts, and compares the outcome of each event, the trace and the harts' ends with the kept texts, which
-//! other implementations of the same rules have printed; those of `two-awaited` are written by hand. A line
+//! other implementations of the same rules have printed; those of cases named by words are written by hand. A line
 //! of the file `cases` has a case's name, the kind of its image and its memory model.
 #![tactic(auto)]
 
