@@ -163,7 +163,7 @@ pub fn replay(
 ) -> Result<Machine, ReplayError>
     ensures ok { IfOk result (λ machine. replayed_from 0 (opening image config) events.now ≡ Replayed.Reached machine) }
     ensures config { (result ≡ Err (ReplayError.New NewError.Config)) ↔ (limits.is_within_limits config ≡ false) }
-    ensures refused { IfErr result (λ error. IsFirstRefusal (replayed_from 0 (opening image config) events.now) error) }
+    ensures refused { IfErr result (λ error. IsFirstRefusal (opening image config) events.now error) }
     ensures headline { IfOk result (λ machine. KeepsHeadline machine) }
     ensures log { IfOk result (λ machine. IsLawfulLog machine.trace.log) }
 {
@@ -178,7 +178,7 @@ fn apply_all(machine: &mut Machine, events: &[Event]) -> Result<(), (usize, Appl
     requires headline { KeepsHeadline machine.old }
     requires log { IsLawfulLog machine.old.trace.log }
     ensures ok { OnOk result (replayed_from 0 machine.old events.now ≡ Replayed.Reached machine.new) }
-    ensures refused { IfErr result (λ error. IsRefusedAt (replayed_from 0 machine.old events.now) error.0 error.1) }
+    ensures refused { IfErr result (λ error. IsRefusedAt machine.old events.now error.0 error.1) }
     ensures headline { KeepsHeadline machine.new }
     ensures log { IsLawfulLog machine.new.trace.log }
 {
