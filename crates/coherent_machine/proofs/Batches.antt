@@ -1,27 +1,26 @@
--- A current row is what its hart does alone, so its event is good and changes the machine.
-use Rattle.std.proofs.Common.{ℕ, ◌≡◌, ◌≢◌, ◌∙◌, ◌↔◌, ◌+◌, ◌≤◌, refl, sym, ap, subst, List, [], ◌∷◌, length, Bool, true, false, cond, Option, Some, None, Ok, Err, inl, inr, not, ◌&&◌, arith}
+-- A current row is what its hart does next, and how a machine answers to the event that it is.
+use Rattle.std.proofs.Common.{ℕ, ◌≡◌, ◌≢◌, ◌∙◌, refl, sym, ap, subst, List, [], ◌∷◌, length, Bool, true, false, cond, Option, None, Some, Ok, Err, inl, inr, ◌&&◌}
 use Rattle.std.specs.declared.result.Result.{Result}
-use Rattle.std.specs.Prelude.{nat_eq, nat_le, is_none}
-use Rattle.std.proofs.lemmas.Bool.{and_from, and_parts, eq-eqb, eqb-true, le-leb, leb-true, lt-ltb, false≢true}
-use Rattle.elf_loader.specs.Image.{HasWord, Initial, end_of, word_at}
-use Rattle.elf_loader.specs.Size.{base}
+use Rattle.std.specs.Prelude.{nat_eq, is_none}
+use Rattle.std.proofs.lemmas.Bool.{and_from, and_parts, eq-eqb, eqb-true, false≢true}
+use Rattle.elf_loader.specs.Image.{Initial, word_at}
 use Rattle.rv32_decode.specs.Rows.{decoded}
 use Rattle.hart.specs.declared.retired.Retired.{Retired}
 use Rattle.hart.specs.declared.state.Hart.{Hart}
-use Rattle.hart.specs.Local.{IsRow, Row, are_private_steps, can_go_alone, is_done_alone, is_private_step, next_entry, private_row}
-use Rattle.hart.specs.Run.{after, can_fetch, is_running}
+use Rattle.hart.specs.Local.{IsRow, Row, are_private_steps, can_go_alone, is_done_alone, is_private_step, next_entry, private_row, row_of}
+use Rattle.hart.specs.Run.{after, can_fetch, is_running, reached}
 use Rattle.machine_model.specs.declared.act.Act.TheVariants as act
-use Rattle.machine_model.specs.declared.act.Plan.TheVariants.{Stays, Changes}
 use Rattle.machine_model.specs.declared.event.Event.TheVariants.{Local}
 use Rattle.machine_model.specs.declared.outcome.Outcome.{Outcome}
 use Rattle.machine_model.specs.declared.outcome.Outcome.TheVariants as outcome
-use Rattle.machine_model.specs.Changing.{acted}
-use Rattle.machine_model.specs.Events.{Verdict, counted, is_good, is_limited, plan_of, verdict, verdict_by}
-use Rattle.machine_model.specs.Events.Verdict.{IsBad, IsLimited, Moves}
-use Rattle.machine_model.specs.Views.{State, node_at}
+use Rattle.machine_model.specs.Changing.{went_alone}
+use Rattle.machine_model.specs.Events.{Verdict, counted, is_limited, verdict}
+use Rattle.machine_model.specs.Events.Verdict.{IsLimited, Moves}
+use Rattle.machine_model.specs.Views.{State}
 use Rattle.machine_parts.specs.Applying.{Answers}
 use Rattle.machine_parts.specs.declared.errors.ApplyError.{ApplyError}
 use Rattle.machine_parts.specs.declared.errors.ApplyError.TheVariants.{BadEvent, Limit, NoMemory}
+use Rattle.machine_parts.proofs.Committed.{IsNext, verdict_is}
 use Rattle.coherent_machine.specs.Adopting.{IsCurrent, have_words, local_of}
 
 none_from : {A : Type 0} (o : Option A) → is_none o ≡ true → o ≡ None
@@ -72,38 +71,17 @@ row_is image hart (entry ∷ rest) a w =
     ∙ (sym (ap (λ (e : Retired). e ∷ private_row image (after hart e) (length rest)) same)
     ∙ ap (λ (r : List Retired). entry ∷ r) (row_is image (after hart entry) rest s.1 v.1))
 
-running_by : (hart : Hart) (entries : List Retired) → are_private_steps hart entries ≡ true → (entries ≢ []) → is_running hart.status ≡ true
-running_by hart [] a some = absurd (some refl)
-running_by hart (entry ∷ rest) a some = (private_parts hart entry (and_parts (is_private_step hart entry) (are_private_steps (after hart entry) rest) a).0).running
+abbrev row_by : Hart → Hart → List Retired → Row
+row_by first last entries = record { first = first; last = last; entries = entries }
 
-some_length : {A : Type 0} (xs : List A) → (xs ≢ []) → 1 ≤ length xs
-some_length [] some = absurd (some refl)
-some_length (x ∷ xs) some = omega arith
-
--- the machine after a row of a hart
-abbrev pub went : ℕ → Row → State → State
-went h row s = counted (acted h (act.Local (length row.entries)) s)
-
-abbrev pub verdict_of_row : ℕ → Row → State → Verdict
-verdict_of_row h row s = cond (is_limited s h (act.Local (length row.entries))) IsLimited (Moves outcome.Retired (went h row s))
-
-good : (h : ℕ) (row : Row) (s : State) → IsRow row → IsCurrent h row s → (row.entries ≢ []) → is_good s (local_of h row) ≡ true
-good h row s r c some =
-    and_from _ _ (lt-ltb h (length s.views.nodes) c.there)
-    (and_from _ _ (le-leb 1 (length row.entries) (some_length row.entries some)) (le-leb (length row.entries) 256 r.few))
-
-planned : (h : ℕ) (row : Row) (s : State) → IsRow row → IsCurrent h row s → (row.entries ≢ []) → plan_of s (local_of h row) ≡ Changes (act.Local (length row.entries))
-planned h row s r c some =
+-- a current row is what its hart does next
+pub next_row : (h : ℕ) (row : Row) (s : State) → IsRow row → IsCurrent h row s → IsNext h row s
+next_row h row s r c =
+    let image = s.trace.image in
     let n = length row.entries in
-    let first = (node_at s h).hart in
-    let whole : length (private_row s.trace.image first n) ≡ n = ap (λ (x : Hart). length (private_row s.trace.image x n)) c.stands ∙ ap (λ (x : List Retired). length x) (row_is s.trace.image row.first row.entries r.alone c.words) in
-    ap (λ (b : Bool). cond (not b) (Stays outcome.Halted) (cond (nat_eq (length (private_row s.trace.image first n)) n) (Changes (act.Local n)) (Stays outcome.NotLocal))) (ap (λ (x : Hart). is_running x.status) c.stands ∙ running_by row.first row.entries r.alone some)
-    ∙ ap (λ (b : Bool). cond b (Changes (act.Local n)) (Stays outcome.NotLocal)) (eq-eqb (length (private_row s.trace.image first n)) n whole)
-
-pub verdict_is : (h : ℕ) (row : Row) (s : State) → IsRow row → IsCurrent h row s → (row.entries ≢ []) → verdict s (local_of h row) ≡ verdict_of_row h row s
-verdict_is h row s r c some =
-    ap (λ (b : Bool). cond b (verdict_by s h (plan_of s (local_of h row))) IsBad) (good h row s r c some)
-    ∙ ap (verdict_by s h) (planned h row s r c some)
+    ap (λ (last : Hart). row_by row.first last row.entries) r.leads
+    ∙ (ap (λ (entries : List Retired). row_by row.first (reached row.first entries) entries) (sym (row_is image row.first row.entries r.alone c.words))
+    ∙ ap (λ (first : Hart). row_of image first n) (sym c.stands))
 
 -- ---- answers to the event
 
@@ -136,15 +114,19 @@ pub record Fits (h : ℕ) (row : Row) (s : State) : Type 0 where
   pub current : IsCurrent h row s
   pub some : row.entries ≢ []
 
-pub fits_by : (h : ℕ) (row : Row) (s t : State) (entries : List Retired) → IsRow row → entries ≡ row.entries → t ≡ s → IsCurrent h row t → (length entries ≡ 0 → ⊥) → Fits h row s
-fits_by h row s t entries r e v c n =
-    record { is_row = r; current = subst (IsCurrent h row) v c; some = λ (q : row.entries ≡ []). n (ap (λ (x : List Retired). length x) (e ∙ q)) }
+pub fits_by : (h : ℕ) (row : Row) (s t : State) (entries : List Retired) (b : Bool) → IsRow row → entries ≡ row.entries → t ≡ s → IsCurrent h row t → b ≡ nat_eq (length entries) 0 → b ≡ false → Fits h row s
+fits_by h row s t entries b r e v c l f = record {
+  is_row = r;
+  current = subst (IsCurrent h row) v c;
+  some = λ (q : row.entries ≡ []). false≢true (sym f ∙ (l ∙ eq-eqb (length entries) 0 (ap (λ (x : List Retired). length x) (e ∙ q))));
+}
 
-pub answers_of : (h : ℕ) (row : Row) (s new : State) (result : Result Outcome ApplyError) (entries : List Retired) → entries ≡ row.entries → Answers (verdict s (Local h (length entries))) s result new → Answers (verdict s (local_of h row)) s result new
-answers_of h row s new result entries e a = subst (λ (x : List Retired). Answers (verdict s (Local h (length x))) s result new) e a
+-- the machine after the row
+abbrev went : ℕ → Row → State → State
+went h row s = counted (went_alone h (length row.entries) s)
 
 verdict_fits : (h : ℕ) (row : Row) (s : State) → Fits h row s → verdict s (local_of h row) ≡ limits_or (is_limited s h (act.Local (length row.entries))) (went h row s)
-verdict_fits h row s f = verdict_is h row s f.is_row f.current f.some
+verdict_fits h row s f = verdict_is h row s f.current.there f.is_row.few f.some (next_row h row s f.is_row f.current)
 
 answers_by : (h : ℕ) (row : Row) (s new : State) (result : Result Outcome ApplyError) → Fits h row s → Answers (verdict s (local_of h row)) s result new → Answers (limits_or (is_limited s h (act.Local (length row.entries))) (went h row s)) s result new
 answers_by h row s new result f a = subst (λ (v : Verdict). Answers v s result new) (verdict_fits h row s f) a
@@ -162,13 +144,3 @@ pub moved_when : (h : ℕ) (row : Row) (s new : State) (o : Outcome) (result : R
 moved_when h row s new o result f a e =
     let m = moved_by (is_limited s h (act.Local (length row.entries))) (went h row s) s new o result (answers_by h row s new result f a) e in
     (verdict_fits h row s f ∙ m.0, m.1)
-
--- ---- where a word can be fetched
-
-pub fetches : (image : Initial) (pc : ℕ) (b : Bool) → (b ≡ true) ↔ HasWord image pc → b ≡ can_fetch image pc
-fetches image pc true h = let w = h.0 refl in sym (and_from _ _ (le-leb base pc w.0) (le-leb (pc + 4) (end_of image) w.1))
-fetches image pc false h = go (can_fetch image pc) refl
-  where
-    go : (c : Bool) → can_fetch image pc ≡ c → false ≡ can_fetch image pc
-    go false e = sym e
-    go true e = let p = and_parts (nat_le base pc) (nat_le (pc + 4) (end_of image)) e in absurd (false≢true (h.1 (leb-true base pc p.0, leb-true (pc + 4) (end_of image) p.1)))

@@ -1,5 +1,5 @@
 -- What holds of a state that some list of events leads to, by the laws of every list of events.
-use Rattle.std.proofs.Common.{◌≡◌, ◌∙◌, refl, sym, ap, subst, List, [], ◌∷◌, ◌++◌, ◌⊎◌, IsTrue, OnErr, Ok, Err, inl, inr}
+use Rattle.std.proofs.Common.{◌≡◌, ◌∙◌, refl, sym, ap, subst, List, [], ◌∷◌, ◌++◌, ◌⊎◌, IsTrue, OnErr, OnOk, Ok, Err, inl, inr}
 use Rattle.std.proofs.lemmas.List.{append-nil}
 use Rattle.std.specs.declared.result.Result.{Result}
 use Rattle.elf_loader.specs.Image.{Initial, IsImage}
@@ -61,6 +61,16 @@ kept_by (Moves o moved) s new (Err error) a = elim a [ inl x ↦ absurd (cc (x.0
 
 pub kept_on_error : (s new : State) (e : Event) (result : Result Outcome ApplyError) → Answers (verdict s e) s result new → OnErr result (new ≡ s)
 kept_on_error s new e result a = kept_by (verdict s e) s new result a
+
+happened_by : (v : Verdict) (s new : State) (result : Result Outcome ApplyError) → Answers v s result new → OnOk result (new ≡ state_by s v)
+happened_by v s new (Err error) a = tt
+happened_by IsBad s new (Ok o) a = absurd (cc (a.0))
+happened_by (Keeps p) s new (Ok o) a = a.1
+happened_by IsLimited s new (Ok o) a = absurd (cc (a.0))
+happened_by (Moves p moved) s new (Ok o) a = elim a [ inl x ↦ x.1 | inr x ↦ absurd (cc (x.0)) ]
+
+pub happened_on_ok : (s new : State) (e : Event) (result : Result Outcome ApplyError) → Answers (verdict s e) s result new → OnOk result (new ≡ happens s e)
+happened_on_ok s new e result a = happened_by (verdict s e) s new result a
 
 begins_itself : {A : Type 0} (xs : List A) → IsBeginningOf xs xs
 begins_itself xs = ([], append-nil xs)

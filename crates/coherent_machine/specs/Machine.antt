@@ -1,8 +1,9 @@
 -- What a machine is by its history, and what a list of events comes to from reset.
-use Rattle.std.specs.Prelude.{ℕ, ◌≡◌, ◌+◌, List, [], ◌∷◌, IsTrue}
+use Rattle.std.specs.Prelude.{ℕ, ◌≡◌, ◌≢◌, ◌+◌, List, [], ◌∷◌, ◌++◌, length, IsTrue}
 use Rattle.elf_loader.specs.Image.{Initial, IsImage}
 use Rattle.machine_model.specs.declared.config.Config.{Config}
 use Rattle.machine_model.specs.declared.event.Event.{Event as AnEvent}
+use Rattle.machine_model.specs.declared.outcome.Outcome.TheVariants.{Stopped}
 use Rattle.machine_model.specs.Config.{is_within_limits}
 use Rattle.machine_model.specs.Events.{Verdict, after_events, happens, verdict}
 use Rattle.machine_model.specs.Events.Verdict.{IsBad, Keeps, IsLimited, Moves}
@@ -43,12 +44,25 @@ abbrev pub replayed_from : ℕ → State → List AnEvent → Replayed
 replayed_from i s [] = Replayed.Reached s
 replayed_from i s (e ∷ events) = unless_refused (verdict s e) i (replayed_from (i + 1) (happens s e) events)
 
--- the event of this index is the first that is refused, with this error; want of memory says nothing of the events
-abbrev pub IsRefusedAt : Replayed → ℕ → ApplyError → Type 0
-IsRefusedAt r i BadEvent = r ≡ Replayed.Refused i BadEvent
-IsRefusedAt r i Limit = r ≡ Replayed.Refused i Limit
-IsRefusedAt r i NoMemory = Unit {0}
+-- the verdict of an event that is refused with this error; only an event that would change the machine by more than a stop wants memory
+abbrev pub Refuses : ApplyError → Verdict → Type 0
+Refuses BadEvent v = v ≡ IsBad
+Refuses Limit v = v ≡ IsLimited
+Refuses NoMemory (Moves o new) = (code : ℕ) → o ≢ Stopped code
+Refuses NoMemory _ = ⊥
 
-abbrev pub IsFirstRefusal : Replayed → ReplayError → Type 0
-IsFirstRefusal r (Event i error) = IsRefusedAt r i error
-IsFirstRefusal r (New error) = Unit {0}
+-- the events before this index are all accepted, and where they lead the event of this index is refused with this error
+pub record IsRefusedAt (s : State) (events : List AnEvent) (index : ℕ) (error : ApplyError) : Type 0 where
+  pub before : List AnEvent
+  pub event : AnEvent
+  pub later : List AnEvent
+  pub state : State
+  pub whole : before ++ event ∷ later ≡ events
+  pub place : length before ≡ index
+  pub leads : replayed_from 0 s before ≡ Replayed.Reached state
+  pub refused : Refuses error (verdict state event)
+
+-- why a list of events isn't replayed from here: one is refused, or no machine was made
+abbrev pub IsFirstRefusal : State → List AnEvent → ReplayError → Type 0
+IsFirstRefusal s events (Event index error) = IsRefusedAt s events index error
+IsFirstRefusal s events (New error) = Unit {0}

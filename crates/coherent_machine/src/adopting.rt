@@ -2,8 +2,6 @@
 
 ghost use Rattle.std.specs.Prelude.{◌≡◌, ◌↔◌, IsTrue};
 ghost use Rattle.coherent_machine.specs.Adopting.{IsCurrent, have_words};
-ghost use Rattle.hart.specs.Run.{can_fetch};
-ghost use Rattle.elf_loader.specs.Image.{HasWord};
 ghost use Rattle.machine_parts.specs.Parts.{state_of};
 
 use elf_loader::Image;
@@ -29,17 +27,10 @@ fn have_words(image: &Image, entries: &[Retired]) -> bool
 {
     let mut rest = entries;
     while let [entry, tail @ ..] = rest {
-        if !can_fetch(image, entry.pc) || entry.word != image.word(entry.pc) {
+        if !image.has_word(entry.pc) || entry.word != image.word(entry.pc) {
             return false;
         }
         rest = tail;
     }
     true
-}
-
-fn can_fetch(image: &Image, pc: u32) -> bool
-    ensures exact { result ≡ can_fetch image.now pc }
-    ensures word { IsTrue result → HasWord image.now pc }
-{
-    image.has_word(pc)
 }

@@ -1,6 +1,7 @@
 //! The machine, and the calls on it.
 
 ghost use Rattle.std.specs.Prelude.{◌≡◌, ◌≢◌, ◌↔◌, ◌<◌, [], Err, IfErr, IfOk, IsTrue, OnOk, OnErr, false, length, map};
+ghost use Rattle.hart.specs.Local.{IsRow};
 ghost use Rattle.machine_model.specs.Config as limits;
 ghost use Rattle.machine_model.specs.Events.{Verdict, happens, verdict};
 ghost use Rattle.machine_model.specs.LawfulLog.{IsLawfulLog};
@@ -107,16 +108,36 @@ impl Machine {
         if !is_current(&self.parts, hart, batch) {
             return Err(AdoptError::Stale);
         }
-        let count = batch.entries().len() as u32;
-        if count == 0 {
+        if batch.entries().is_empty() {
             return Err(AdoptError::Empty);
         }
-        match self.apply(Event::Local { hart, count }) {
+        match self.commit(hart, batch) {
             Ok(outcome) => Ok(outcome),
             Err(ApplyError::Limit) => Err(AdoptError::Limit),
             Err(ApplyError::NoMemory) => Err(AdoptError::NoMemory),
             Err(ApplyError::BadEvent) => unreachable!(),
         }
+    }
+
+    // Commits a current row as the event that it is.
+    fn commit(&mut self, hart: u8, batch: &Batch) -> Result<Outcome, ApplyError>
+        requires row { IsRow batch.now }
+        requires current { IsCurrent hart batch.now self.old }
+        requires some { batch.now.entries ≢ [] }
+        ensures answers { Answers (verdict self.old (local_of hart batch.now)) self.old result self.new }
+        ensures ok { OnOk result (self.new ≡ happens self.old (local_of hart batch.now)) }
+        ensures err { OnErr result (self.new ≡ self.old) }
+        ensures headline { KeepsHeadline self.new }
+        ensures log { IsLawfulLog self.new.trace.log }
+        ensures grows { Grows self.old.trace self.new.trace }
+        ensures stays { KeepsImageAndConfig self.old self.new }
+    {
+        headline();
+        log_lawful_always();
+        sound_always();
+        nothing_is_rewritten();
+        image_and_config_stay();
+        self.parts.commit(hart, batch)
     }
 
     /// What the machine is at the moment.
@@ -126,6 +147,8 @@ impl Machine {
         Views { parts: &self.parts }
     }
 
+    /// What is kept of the run so far: each hart's retired instructions and status, the performed order
+    /// and the message log.
     pub fn trace(&self) -> &Trace
         ensures { result.now.history ≡ self.now.trace }
     {
@@ -163,7 +186,7 @@ pub fn replay(
 ) -> Result<Machine, ReplayError>
     ensures ok { IfOk result (λ machine. replayed_from 0 (opening image config) events.now ≡ Replayed.Reached machine) }
     ensures config { (result ≡ Err (ReplayError.New NewError.Config)) ↔ (limits.is_within_limits config ≡ false) }
-    ensures refused { IfErr result (λ error. IsFirstRefusal (replayed_from 0 (opening image config) events.now) error) }
+    ensures refused { IfErr result (λ error. IsFirstRefusal (opening image config) events.now error) }
     ensures headline { IfOk result (λ machine. KeepsHeadline machine) }
     ensures log { IfOk result (λ machine. IsLawfulLog machine.trace.log) }
 {
@@ -178,7 +201,7 @@ fn apply_all(machine: &mut Machine, events: &[Event]) -> Result<(), (usize, Appl
     requires headline { KeepsHeadline machine.old }
     requires log { IsLawfulLog machine.old.trace.log }
     ensures ok { OnOk result (replayed_from 0 machine.old events.now ≡ Replayed.Reached machine.new) }
-    ensures refused { IfErr result (λ error. IsRefusedAt (replayed_from 0 machine.old events.now) error.0 error.1) }
+    ensures refused { IfErr result (λ error. IsRefusedAt machine.old events.now error.0 error.1) }
     ensures headline { KeepsHeadline machine.new }
     ensures log { IsLawfulLog machine.new.trace.log }
 {

@@ -10,3 +10,4 @@ mod Fronts
 mod PrivateRows
 mod FoundPlans
 mod Fetching
+pub mod Committed

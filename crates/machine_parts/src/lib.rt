@@ -8,6 +8,7 @@ mod applying;
 mod arriving;
 mod caches;
 mod client;
+mod committing;
 mod deciding;
 mod deeds;
 mod deliveries;

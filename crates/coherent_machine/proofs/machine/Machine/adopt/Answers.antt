@@ -1,28 +1,28 @@
 use Rattle.std.proofs.Common.{refl}
 use Rattle.machine_parts.specs.Parts.{state_of}
-use Rattle.coherent_machine.proofs.Batches.{Fits, answers_of, fits_by, limited_when, moved_when}
+use Rattle.coherent_machine.proofs.Batches.{Fits, fits_by, limited_when, moved_when}
 use Rattle.coherent_machine.proofs.Reached.{headline_of}
 use Rattle.coherent_machine.proofs.machine.Machine.adopt.Goals as goal
 
 pub returns-then-not-is_current-clause-headline : goal.returns-then-not-is_current-clause-headline
 returns-then-not-is_current-clause-headline c = rw (← c.self.view_is) (headline_of c.headline.ensures c.image_and_config_stay.ensures (state_of c.self.inside.parts) c.self.invariant)
 
-pub returns-then-count-eq0-clause-headline : goal.returns-then-count-eq0-clause-headline
-returns-then-count-eq0-clause-headline c = rw (← c.self.view_is) (headline_of c.headline.ensures c.image_and_config_stay.ensures (state_of c.self.inside.parts) c.self.invariant)
+pub returns-then-is_empty-clause-headline : goal.returns-then-is_empty-clause-headline
+returns-then-is_empty-clause-headline c = rw (← c.self.view_is) (headline_of c.headline.ensures c.image_and_config_stay.ensures (state_of c.self.inside.parts) c.self.invariant)
 
 fits-Ok : (c : goal.In-Ok) → Fits c.args.hart c.args.batch.now c.args.self.now
-fits-Ok c = fits_by c.args.hart c.args.batch.now c.args.self.now (state_of c.self.inside.parts) c.entries.result.now c.entries.ensures.row c.entries.ensures.entries c.self.view_is (c.is_current.ensures.0 c.if-not-is_current.false) c.if-count-eq0.false
+fits-Ok c = fits_by c.args.hart c.args.batch.now c.args.self.now (state_of c.self.inside.parts) c.entries.result.now c.is_empty.result c.entries.ensures.row c.entries.ensures.entries c.self.view_is (c.is_current.ensures.0 c.if-not-is_current.false) c.is_empty.ensures c.if-is_empty.false
 
 fits-Limit : (c : goal.In-Err-Limit) → Fits c.args.hart c.args.batch.now c.args.self.now
-fits-Limit c = fits_by c.args.hart c.args.batch.now c.args.self.now (state_of c.self.inside.parts) c.entries.result.now c.entries.ensures.row c.entries.ensures.entries c.self.view_is (c.is_current.ensures.0 c.if-not-is_current.false) c.if-count-eq0.false
+fits-Limit c = fits_by c.args.hart c.args.batch.now c.args.self.now (state_of c.self.inside.parts) c.entries.result.now c.is_empty.result c.entries.ensures.row c.entries.ensures.entries c.self.view_is (c.is_current.ensures.0 c.if-not-is_current.false) c.is_empty.ensures c.if-is_empty.false
 
 fits-NoMemory : (c : goal.In-Err-NoMemory) → Fits c.args.hart c.args.batch.now c.args.self.now
-fits-NoMemory c = fits_by c.args.hart c.args.batch.now c.args.self.now (state_of c.self.inside.parts) c.entries.result.now c.entries.ensures.row c.entries.ensures.entries c.self.view_is (c.is_current.ensures.0 c.if-not-is_current.false) c.if-count-eq0.false
+fits-NoMemory c = fits_by c.args.hart c.args.batch.now c.args.self.now (state_of c.self.inside.parts) c.entries.result.now c.is_empty.result c.entries.ensures.row c.entries.ensures.entries c.self.view_is (c.is_current.ensures.0 c.if-not-is_current.false) c.is_empty.ensures c.if-is_empty.false
 
 pub returns-in-Ok-clause-retired : goal.returns-in-Ok-clause-retired
 returns-in-Ok-clause-retired c =
-    moved_when c.args.hart c.args.batch.now c.args.self.now c.apply.new.self c.in-Ok.outcome c.apply.result (fits-Ok c)
-    (answers_of c.args.hart c.args.batch.now c.args.self.now c.apply.new.self c.apply.result c.entries.result.now c.entries.ensures.entries c.apply.ensures.answers)
+    moved_when c.args.hart c.args.batch.now c.args.self.now c.commit.new.self c.in-Ok.outcome c.commit.result (fits-Ok c)
+    c.commit.ensures.answers
     c.in-Ok.is
 
 pub returns-in-Err-Limit-clause-stale : goal.returns-in-Err-Limit-clause-stale
@@ -33,8 +33,8 @@ returns-in-Err-Limit-clause-limit c = (
   λ e. (
     (fits-Limit c).current,
     (fits-Limit c).some,
-    limited_when c.args.hart c.args.batch.now c.args.self.now c.apply.new.self c.apply.result (fits-Limit c)
-        (answers_of c.args.hart c.args.batch.now c.args.self.now c.apply.new.self c.apply.result c.entries.result.now c.entries.ensures.entries c.apply.ensures.answers)
+    limited_when c.args.hart c.args.batch.now c.args.self.now c.commit.new.self c.commit.result (fits-Limit c)
+        c.commit.ensures.answers
         (cc (c.in-Err-Limit.is, c.in-Err-Limit.field-0-is)),
   ),
   λ p. refl,

@@ -1,0 +1,38 @@
+use Rattle.std.proofs.Common.{subst, sym}
+use Rattle.machine_model.specs.LawfulLog.{IsLawfulLog}
+use Rattle.machine_model.specs.Ready.{IsSound}
+use Rattle.coherent_machine.specs.Adopting.{IsCurrent, local_of}
+use Rattle.coherent_machine.proofs.Batches.{next_row}
+use Rattle.coherent_machine.proofs.Reached.{grows_after, happened_on_ok, headline_of, kept_on_error, law_of, reached_after, stays_after}
+use Rattle.machine_parts.specs.Parts.{state_of}
+use Rattle.coherent_machine.proofs.machine.Machine.commit.Goals as goal
+
+pub commit-requires-clause-sound : goal.commit-requires-clause-sound
+commit-requires-clause-sound c = law_of (λ image config s. IsSound s) c.sound_always.ensures (state_of c.self.inside.parts) c.self.invariant
+
+pub commit-requires-clause-row : goal.commit-requires-clause-row
+commit-requires-clause-row c = next_row c.args.hart c.args.batch.now (state_of c.self.inside.parts) c.requires.row (subst (IsCurrent c.args.hart c.args.batch.now) (sym c.self.view_is) c.requires.current)
+
+pub commit-requires-clause-hart : goal.commit-requires-clause-hart
+commit-requires-clause-hart c = (subst (IsCurrent c.args.hart c.args.batch.now) (sym c.self.view_is) c.requires.current).there
+
+pub invariant_of-self : goal.invariant_of-self
+invariant_of-self c = reached_after (state_of c.self.inside.parts) (state_of c.commit.new.self) (local_of c.args.hart c.args.batch.now) c.commit.result c.commit.ensures c.self.invariant
+
+pub returns-clause-headline : goal.returns-clause-headline
+returns-clause-headline c = headline_of c.headline.ensures c.image_and_config_stay.ensures (state_of c.commit.new.self) (invariant_of-self c)
+
+pub returns-clause-err : goal.returns-clause-err
+returns-clause-err c = rw (← c.self.view_is) (kept_on_error (state_of c.self.inside.parts) (state_of c.commit.new.self) (local_of c.args.hart c.args.batch.now) c.commit.result c.commit.ensures)
+
+pub returns-clause-ok : goal.returns-clause-ok
+returns-clause-ok c = rw (← c.self.view_is) (happened_on_ok (state_of c.self.inside.parts) (state_of c.commit.new.self) (local_of c.args.hart c.args.batch.now) c.commit.result c.commit.ensures)
+
+pub returns-clause-grows : goal.returns-clause-grows
+returns-clause-grows c = rw (← c.self.view_is) (grows_after c.nothing_is_rewritten.ensures (state_of c.self.inside.parts) (state_of c.commit.new.self) (local_of c.args.hart c.args.batch.now) c.commit.result c.commit.ensures)
+
+pub returns-clause-stays : goal.returns-clause-stays
+returns-clause-stays c = rw (← c.self.view_is) (stays_after c.image_and_config_stay.ensures (state_of c.self.inside.parts) (state_of c.commit.new.self) (local_of c.args.hart c.args.batch.now) c.commit.result c.commit.ensures)
+
+pub returns-clause-log : goal.returns-clause-log
+returns-clause-log c = law_of (λ image config s. IsLawfulLog s.trace.log) c.log_lawful_always.ensures (state_of c.commit.new.self) (invariant_of-self c)

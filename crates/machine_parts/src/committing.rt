@@ -1,0 +1,62 @@
+//! A row of private instructions that a hart has run by itself, committed as it is.
+
+ghost use Rattle.std.specs.Prelude.{◌≡◌, ◌≢◌, ◌<◌, ◌≤◌, [], length, slice_index};
+ghost use Rattle.hart.specs.Local.{row_of};
+ghost use Rattle.machine_model.specs.Changing.{went_alone, with_entries};
+ghost use Rattle.machine_model.specs.Events.{verdict};
+ghost use Rattle.machine_model.specs.Ready.{IsSound};
+ghost use Rattle.machine_model.specs.Views.{node_at};
+ghost use Rattle.machine_parts.specs.Applying.{Answers};
+ghost use Rattle.machine_parts.specs.Parts.{state_of};
+
+use crate::errors::ApplyError;
+use crate::limits::{is_limited, reserve};
+use crate::parts::Parts;
+use hart::{Batch, Retired};
+use machine_model::{Act, Event, Outcome};
+use trace_recorder::Trace;
+
+impl Parts {
+    /// Commits the private instructions that a hart has run by itself from where it stands: its list goes
+    /// on with them, and it stands where they lead. None of them is run again.
+    pub fn commit(&mut self, hart: u8, batch: &Batch) -> Result<Outcome, ApplyError>
+        requires sound { IsSound (state_of self.old) }
+        requires hart { hart < length self.old.nodes.items }
+        requires some { batch.now.entries ≢ [] }
+        requires row { batch.now ≡ row_of self.old.trace.history.image (node_at (state_of self.old) hart).hart (length batch.now.entries) }
+        ensures { Answers (verdict (state_of self.old) (Event.Local hart (length batch.now.entries))) (state_of self.old) result (state_of self.new) }
+    {
+        let act = Act::Local(batch.entries().len() as u32);
+        if is_limited(self, hart, &act) {
+            return Err(ApplyError::Limit);
+        }
+        reserve(self, hart, &act)?;
+        take_over(self, hart, batch);
+        self.changes += 1;
+        Ok(Outcome::Retired)
+    }
+}
+
+// The hart's list goes on with the batch's entries, and the hart stands where they lead.
+fn take_over(parts: &mut Parts, hart: u8, batch: &Batch)
+    requires hart { hart < length parts.old.nodes.items }
+    requires entries { hart < length parts.old.trace.history.entries }
+    requires room { length batch.now.entries ≤ slice_index parts.old.trace.room.entries hart }
+    requires row { batch.now ≡ row_of parts.old.trace.history.image (node_at (state_of parts.old) hart).hart (length batch.now.entries) }
+    ensures { state_of parts.new ≡ went_alone hart (length batch.now.entries) (state_of parts.old) }
+{
+    parts.nodes[hart as usize].hart = *batch.last();
+    retire_all(&mut parts.trace, hart, batch.entries());
+}
+
+fn retire_all(trace: &mut Trace, hart: u8, entries: &[Retired])
+    requires hart { hart < length trace.old.history.entries }
+    requires room { length entries.now ≤ slice_index trace.old.room.entries hart }
+    ensures { trace.new.history ≡ with_entries hart entries.now trace.old.history }
+{
+    let mut rest = entries;
+    while let [entry, tail @ ..] = rest {
+        trace.retire(hart as usize, *entry);
+        rest = tail;
+    }
+}
