@@ -26,7 +26,7 @@ pub(crate) fn is_among(names: &[OpId], name: OpId) -> bool
 }
 
 /// The names of a trace's operations, by hart and then by place.
-pub(crate) fn names_in(alloc: Global, trace: &Trace) -> Result<Vec<OpId>, AllocError>
+pub fn names_in(alloc: Global, trace: &Trace) -> Result<Vec<OpId>, AllocError>
     requires { IsWithinLimits trace.now.history }
     ensures { IfOk result (λ names. names.items ≡ spec.names_in trace.now.history) }
 {
@@ -111,7 +111,7 @@ fn is_distinct(order: &[OpId]) -> bool
 }
 
 /// The operations of an order's names, in its order.
-pub(crate) fn operations_at(
+pub fn operations_at(
     alloc: Global,
     harts: &Harts,
     order: &[OpId],
