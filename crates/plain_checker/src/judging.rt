@@ -52,7 +52,11 @@ fn is_asked(
 }
 
 // The first rule by which an operation must come before one that stands before it, with the two.
-fn broken_rule(model: Model, harts: &Harts, order: &[Operation]) -> Option<(Rule, Operation, Operation)>
+fn broken_rule(
+    model: Model,
+    harts: &Harts,
+    order: &[Operation],
+) -> Option<(Rule, Operation, Operation)>
     ensures { result ≡ first_broken_rule model harts.now order.now all_rules }
 {
     let mut left = RULES.as_slice();

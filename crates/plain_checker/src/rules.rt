@@ -81,12 +81,7 @@ fn returns_differently(
 }
 
 // Rule 12: a store between them depends on `a`, and the load `b` returns a value that it wrote.
-fn returns_from_dependent(
-    items: &Items,
-    order: &[Operation],
-    a: &Operation,
-    b: &Operation,
-) -> bool
+fn returns_from_dependent(items: &Items, order: &[Operation], a: &Operation, b: &Operation) -> bool
     ensures { result ≡ spec.rule_12 Model.Rvwmo items.now order.now a.now b.now }
 {
     reads(b.kind) && returns_from_between(items, order, a, b)

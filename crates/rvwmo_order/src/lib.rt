@@ -11,6 +11,7 @@ mod index;
 pub mod items;
 mod judging;
 mod limits;
+mod names;
 pub mod orders;
 pub mod rules;
 pub mod runs;
