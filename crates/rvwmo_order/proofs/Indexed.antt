@@ -1,23 +1,26 @@
 -- The source of a byte is found among the stores to it, by where the load stands in the order.
-use Rattle.std.proofs.Common.{◌≡◌, ℕ, zero, suc, ◌+◌, ◌-◌, find, ⊎_elim, ◌++◌, ◌≤◌, ◌<◌, List, [], ◌∷◌, Bool, true, false, Option, Some, None, refl, cond, sym, ap, ◌∙◌, ◌&&◌, ◌||◌, arith, length, map, take, get_or}
+use Rattle.std.proofs.Common.{◌≡◌, ℕ, zero, suc, ◌+◌, ◌-◌, find, ⊎_elim, ◌++◌, ◌≤◌, ◌<◌, List, [], ◌∷◌, Bool, true, false, Option, Some, None, refl, cond, sym, ap, ◌∙◌, ◌&&◌, ◌||◌, arith, length, map, take, drop, get_or, not}
 use Rattle.std.specs.Prelude.{filter, is_some, nat_eq, nat_lt, unwrap_or}
-use Rattle.std.specs.List.{last_or}
+use Rattle.std.specs.List.{last_or, list_any}
 use Rattle.std.specs.Option.{option_map, option_map_or, option_or}
 use Rattle.std.specs.Ordering.{is_eq, nat_cmp, ordering_then}
 use Rattle.std.specs.BTreeMap.{is_at}
 use Rattle.std.proofs.lemmas.Bool.{cases_lt, eqb-true, le-ltb, lt-ltb, and_parts, true≢false}
 use Rattle.std.proofs.lemmas.Grind.{common_steps}
-use Rattle.std.proofs.lemmas.List.{take_more}
+use Rattle.std.proofs.lemmas.List.{drop_all, length-drop, take_all, take_more}
 use Rattle.memory_model.specs.declared.Model.{Model}
 use Rattle.memory_model.specs.declared.operation.Operation.{Operation}
 use Rattle.memory_model.specs.Items.{Item}
-use Rattle.memory_model.specs.Rules.{Rule, asked_by, items_of}
-use Rattle.memory_model.specs.Operations.{precedes, same, stores_to}
+use Rattle.memory_model.specs.Dependencies.{between}
+use Rattle.memory_model.specs.Legal.{behind, is_atomic}
+use Rattle.memory_model.specs.Rules.{Rule, asked_by, is_lr_or_sc, items_of}
+use Rattle.memory_model.specs.Operations.{is_conditional, is_reserve, precedes, same, stores_to}
 use Rattle.memory_model.specs.Order.{candidates, position_in, source}
 use Rattle.memory_model.specs.Verdict.{name_of}
 use Rattle.memory_model.proofs.Forms.{same-swap}
 use Rattle.trace_recorder.specs.declared.operation.OpId.{OpId}
-use Rattle.rvwmo_order.specs.Indexed.{is_seen, name_cmp, place_from, reach_from, stored_from}
+use Rattle.rvwmo_order.specs.Indexed.{is_reserve_of, is_seen, name_cmp, place_from, reach_from, stored_from}
+use Rattle.rvwmo_order.specs.Scans.{is_broken_pair}
 use Rattle.rvwmo_order.specs.declared.stored.Stored.{Stored}
 use Rattle.rvwmo_order.proofs.Judged.{place_head, place_tail}
 
@@ -255,3 +258,54 @@ pub reach_asked : (model : Model) (harts : List (List Item)) (order : List Opera
 reach_asked model harts order rule b reach behind front e f =
     ap (λ (xs : List Operation). find (λ a. asked_by model harts order rule a b) xs) (f ∙ ap (λ (n : ℕ). take n behind) e)
     ∙ sym (found_in_reach (asked_by model harts order rule) b (λ a g. ap (λ (c : Bool). c && rule.asks model (items_of harts a.hart) order a b) g) behind)
+
+-- ---- what stands behind an operation
+
+behind_placed : (order : List Operation) (a : Operation) → behind (Some a) order ≡ drop (position_in order a + 1) order
+behind_placed [] a = refl
+behind_placed (t ∷ rest) a = go (same a t) refl (behind_placed rest a)
+  where
+    go : (c : Bool) → same a t ≡ c → behind (Some a) rest ≡ drop (position_in rest a + 1) rest → cond c rest (behind (Some a) rest) ≡ drop (position_in (t ∷ rest) a + 1) (t ∷ rest)
+    go true e ih = rw (place_head a t rest e) refl
+    go false e ih = let n : 1 + position_in rest a + 1 ≡ suc (position_in rest a + 1) = omega arith in rw (place_tail a t rest e) (ih ∙ ap (λ (n : ℕ). drop n (t ∷ rest)) (sym n))
+
+pub behind_position : (order : List Operation) (a : Operation) (position : ℕ) → position ≡ position_in order a → drop (position + 1) order ≡ behind (Some a) order
+behind_position order a position e = sym (behind_placed order a ∙ ap (λ (n : ℕ). drop (n + 1) order) (sym e))
+
+pub behind_cut : (order xs : List Operation) (a : Operation) (position : ℕ) → xs ≡ order → position ≡ position_in order a → take (length xs - (position + 1)) (drop (position + 1) xs) ≡ behind (Some a) order
+behind_cut order xs a position e f = take_all (length xs - (position + 1)) (drop (position + 1) xs) (let h = length-drop (position + 1) xs in omega (arith, h)) ∙ (ap (drop (position + 1)) e ∙ behind_position order a position f)
+
+pub nothing_behind : (order : List Operation) (a : Operation) (position : ℕ) → position ≡ position_in order a → length order ≤ position → [] ≡ behind (Some a) order
+nothing_behind order a position e h = sym (drop_all (position + 1) order (omega (arith, h))) ∙ behind_position order a position e
+
+-- ---- the LRs of a hart are all that an SC of the hart can be paired with
+
+find_filtered : (p q : Operation → Bool) → ((a : Operation) → q a ≡ false → p a ≡ false) → (xs : List Operation) → find p (filter q xs) ≡ find p xs
+find_filtered p q f [] = refl
+find_filtered p q f (a ∷ rest) = go (q a) refl (find_filtered p q f rest)
+  where
+    go : (c : Bool) → q a ≡ c → find p (filter q rest) ≡ find p rest → find p (cond c (a ∷ filter q rest) (filter q rest)) ≡ cond (p a) (Some a) (find p rest)
+    go true e ih = ap (λ (o : Option Operation). cond (p a) (Some a) o) ih
+    go false e ih = ih ∙ ap (λ (c : Bool). cond c (Some a) (find p rest)) (sym (f a e))
+
+find_none : (p : Operation → Bool) → ((a : Operation) → p a ≡ false) → (xs : List Operation) → None ≡ find p xs
+find_none p f [] = refl
+find_none p f (a ∷ rest) = find_none p f rest ∙ ap (λ (c : Bool). cond c (Some a) (find p rest)) (sym (f a))
+
+not_paired : (h l r c n : Bool) → (r && h) ≡ false → (((h && l) && r && c && n)) ≡ false
+not_paired true l true c n e = absurd (true≢false e)
+not_paired true true false c n e = refl
+not_paired true false false c n e = refl
+not_paired false l r c n e = refl
+
+pub pairs_among_reserves : (harts : List (List Item)) (order : List Operation) (w : Operation) → find (λ r. is_broken_pair harts order r w) (filter (is_reserve_of w.hart) order) ≡ find (λ r. is_broken_pair harts order r w) order
+pairs_among_reserves harts order w = find_filtered (λ r. is_broken_pair harts order r w) (is_reserve_of w.hart) (λ a e. ap (λ (c : Bool). c && not (is_atomic order a w)) (not_paired (nat_eq a.hart w.hart) (nat_lt a.place w.place) (is_reserve a.kind) (is_conditional w.kind) (not (list_any (λ (m : Item). is_lr_or_sc m.instr) (between (items_of harts a.hart) a w))) e)) order
+
+pub no_pair_without_conditional : (harts : List (List Item)) (order : List Operation) (w : Operation) → is_conditional w.kind ≡ false → None ≡ find (λ r. is_broken_pair harts order r w) order
+no_pair_without_conditional harts order w e = find_none (λ r. is_broken_pair harts order r w) (λ a. go (precedes a w) (is_reserve a.kind) (is_conditional w.kind) (not (list_any (λ (m : Item). is_lr_or_sc m.instr) (between (items_of harts a.hart) a w))) (not (is_atomic order a w)) e) order
+  where
+    go : (p r c n a : Bool) → c ≡ false → ((p && r && c && n) && a) ≡ false
+    go true true true n a e = absurd (true≢false e)
+    go true true false n a e = refl
+    go true false c n a e = refl
+    go false r c n a e = refl

@@ -3,6 +3,7 @@ pub mod Counts
 pub mod Faults
 pub mod Fetches
 pub mod First
+pub mod Gathered
 pub mod Harts
 pub mod Indexed
 pub mod Judged

@@ -3,7 +3,7 @@ use Rattle.std.specs.Prelude.{ℕ, ◌+◌, Bool, ◌&&◌, ◌||◌, ◌==◌, 
 use Rattle.std.specs.Ordering.{nat_cmp, ordering_then}
 use Rattle.std.specs.declared.cmp.Ordering.{Ordering}
 use Rattle.memory_model.specs.declared.operation.Operation.{Operation}
-use Rattle.memory_model.specs.Operations.{precedes, same, stores_to}
+use Rattle.memory_model.specs.Operations.{is_reserve, precedes, same, stores_to}
 use Rattle.trace_recorder.specs.declared.operation.OpId.{OpId}
 use Rattle.rvwmo_order.specs.declared.stored.Stored.{Stored}
 
@@ -38,3 +38,7 @@ reach_from count reach b (a ∷ rest) = reach_from (count + 1) (if precedes a b 
 abbrev pub reaches_of : List Operation → List ℕ
 reaches_of [] = []
 reaches_of (b ∷ rest) = reach_from 0 0 b rest ∷ reaches_of rest
+
+-- a is an LR of a hart
+abbrev pub is_reserve_of : ℕ → Operation → Bool
+is_reserve_of hart a = is_reserve a.kind && a.hart == hart

@@ -49,7 +49,7 @@ pub fn check_model(
         return Err(CheckError::TooLong);
     }
     let names = names_in(alloc, trace)?;
-    if !is_order(&names, order) {
+    if !is_order(alloc, &names, order)? {
         return Err(CheckError::NotAnOrder);
     }
     Ok(verdict_on(alloc, trace, order, model)?)

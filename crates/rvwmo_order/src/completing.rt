@@ -3,7 +3,8 @@ ghost use Rattle.std.specs.Prelude.{◌≡◌, IfOk};
 ghost use Rattle.memory_model.specs.Traces as spec;
 ghost use Rattle.rvwmo_order.specs.Limits.{IsWithinLimits};
 
-use crate::orders::{is_among, names_in};
+use crate::names::{has, names_of};
+use crate::orders::names_in;
 use std::alloc::{AllocError, Global};
 use trace_recorder::{OpId, Trace};
 
@@ -14,9 +15,10 @@ pub fn completed(alloc: Global, trace: &Trace) -> Result<Vec<OpId>, AllocError>
     ensures { IfOk result (λ order. order.items ≡ spec.completed trace.now.history) }
 {
     let names = names_in(alloc, trace)?;
+    let performed = names_of(alloc, trace.performed())?;
     let mut order = trace.performed().to_vec(alloc)?;
     for name in &names {
-        if !is_among(trace.performed(), *name) {
+        if !has(&performed, *name) {
             order.push(*name)?;
         }
     }

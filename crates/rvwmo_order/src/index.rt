@@ -6,15 +6,16 @@ ghost use Rattle.std.specs.Option.{option_map, option_map_or, option_or};
 ghost use Rattle.std.specs.BTreeMap as tree;
 ghost use Rattle.std.specs.Ordering.{nat_cmp};
 ghost use Rattle.memory_model.specs.declared.operation.Operation.{Operation as OperationValue};
+ghost use Rattle.memory_model.specs.Legal as legal;
 ghost use Rattle.memory_model.specs.Operations as operations;
 ghost use Rattle.memory_model.specs.Order as spec;
 ghost use Rattle.memory_model.specs.Traces as traces;
 ghost use Rattle.memory_model.specs.Verdict as verdict;
 ghost use Rattle.rvwmo_order.specs.Indexed as indexed;
-ghost use Rattle.rvwmo_order.specs.Indexed.{name_cmp, place_from, reach_from, reaches_of, stored_from};
+ghost use Rattle.rvwmo_order.specs.Indexed.{is_reserve_of, name_cmp, place_from, reach_from, reaches_of, stored_from};
 ghost use Rattle.rvwmo_order.specs.Limits.{IsWithinLimits};
 
-use crate::accesses::{end_of, name_of, precedes, writes};
+use crate::accesses::{end_of, is_reserve, name_of, precedes, writes};
 use crate::items::Harts;
 use crate::orders::operations_at;
 use crate::stored::Stored;
@@ -36,15 +37,17 @@ pub struct Index {
     reaches: Vec<usize>,
     /// The stores to each byte, in the order's order.
     stores: BTreeMap<u64, Vec<Stored>>,
+    /// The LRs of each hart, in the order's order.
+    reserves: BTreeMap<u8, Vec<Operation>>,
 }
 
 impl Model for Index {
-    ghost use Rattle.std.specs.Prelude.{◌≡◌, ℕ, List, []};
+    ghost use Rattle.std.specs.Prelude.{◌≡◌, ℕ, List, [], filter};
     ghost use Rattle.std.specs.Option.{option_map_or};
     ghost use Rattle.std.specs.BTreeMap as tree;
     ghost use Rattle.std.specs.Ordering.{nat_cmp};
     ghost use Rattle.memory_model.specs.declared.operation.Operation.{Operation as OperationValue};
-    ghost use Rattle.rvwmo_order.specs.Indexed.{name_cmp, place_from, reaches_of, stored_from};
+    ghost use Rattle.rvwmo_order.specs.Indexed.{is_reserve_of, name_cmp, place_from, reaches_of, stored_from};
 
     ghost Value = { List OperationValue };
 
@@ -52,7 +55,8 @@ impl Model for Index {
 
     ghost invariant = { λ i. ((a : OperationValue) → tree.get name_cmp i.places (a.hart, a.place) ≡ place_from 0 a i.order.items)
         × (i.reaches.items ≡ reaches_of i.order.items)
-        × ((x : ℕ) → option_map_or (λ v. v.items) (tree.get nat_cmp i.stores x) [] ≡ stored_from 0 x i.order.items) };
+        × ((x : ℕ) → option_map_or (λ v. v.items) (tree.get nat_cmp i.stores x) [] ≡ stored_from 0 x i.order.items)
+        × ((h : ℕ) → option_map_or (λ v. v.items) (tree.get nat_cmp i.reserves h) [] ≡ filter (is_reserve_of h) i.order.items) };
 }
 
 impl Index {
@@ -72,11 +76,13 @@ impl Index {
         let places = places_in(alloc, &order)?;
         let reaches = reaches_in(alloc, &order)?;
         let stores = stores_in(alloc, &order)?;
+        let reserves = reserves_in(alloc, &order)?;
         Ok(Index {
             order,
             places,
             reaches,
             stores,
+            reserves,
         })
     }
 
@@ -92,6 +98,28 @@ impl Index {
         ensures { result.now ≡ reaches_of self.now }
     {
         &self.reaches
+    }
+
+    /// The LRs of a hart, in the order's order.
+    pub(crate) fn reserves(&self, hart: u8) -> &[Operation]
+        ensures { result.now ≡ filter (is_reserve_of hart) self.now }
+    {
+        match self.reserves.get(&hart) {
+            Some(reserves) => reserves,
+            None => &[],
+        }
+    }
+
+    /// What stands behind an operation of this name; nothing where there is none.
+    pub(crate) fn behind(&self, name: OpId) -> &[Operation]
+        ensures { (a : OperationValue) → verdict.name_of a ≡ name → result.now ≡ legal.behind (Some a) self.now }
+    {
+        let position = self.position(name);
+        if position < self.order().len() {
+            &self.order()[position + 1..]
+        } else {
+            &[]
+        }
     }
 
     /// The store that a byte of a load comes from; none where it is the image's byte. A load that the
@@ -206,6 +234,22 @@ fn stores_in(alloc: Global, order: &[Operation]) -> Result<BTreeMap<u64, Vec<Sto
         }
     }
     Ok(stores)
+}
+
+// The LRs of each hart.
+fn reserves_in(
+    alloc: Global,
+    order: &[Operation],
+) -> Result<BTreeMap<u8, Vec<Operation>>, AllocError>
+    ensures { IfOk result (λ reserves. (h : ℕ) → option_map_or (λ v. v.items) (tree.get nat_cmp reserves h) [] ≡ filter (is_reserve_of h) order.now) }
+{
+    let mut reserves: BTreeMap<u8, Vec<Operation>> = BTreeMap::new(alloc);
+    for a in order {
+        if is_reserve(a.kind) {
+            reserves.entry(a.hart)?.or_default().push(*a)?;
+        }
+    }
+    Ok(reserves)
 }
 
 // Puts a store behind the others to each of its bytes.

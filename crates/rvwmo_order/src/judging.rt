@@ -11,7 +11,9 @@ ghost use Rattle.rvwmo_order.specs.Indexed.{reach_from};
 ghost use Rattle.rvwmo_order.specs.Scans as scans;
 ghost use Rattle.rvwmo_order.specs.Scans.{all_rules, first_broken_pair, first_broken_rule, judged};
 
-use crate::accesses::{end_of, is_same, name_of, precedes, read_at, reads, stores_to};
+use crate::accesses::{
+    end_of, is_conditional, is_same, name_of, precedes, read_at, reads, stores_to,
+};
 use crate::index::Index;
 use crate::items::Harts;
 use crate::rules::{are_paired, asks};
@@ -188,7 +190,10 @@ fn first_broken_with(harts: &Harts, index: &Index, w: &Operation) -> Option<Oper
     ensures { result
         ≡ find (λ r. scans.is_broken_pair harts.now index.now r w.now) index.now }
 {
-    let mut rest = index.order();
+    if !is_conditional(w.kind) {
+        return None;
+    }
+    let mut rest = index.reserves(w.hart);
     while let [r, tail @ ..] = rest {
         if is_broken_pair(harts, index, r, w) {
             return Some(*r);
@@ -216,7 +221,7 @@ fn is_atomic(index: &Index, r: &Operation, w: &Operation) -> bool
 fn is_atomic_at(index: &Index, r: &Operation, w: &Operation, x: u64) -> bool
     ensures { result ≡ legal.is_atomic_at index.now r.now w.now x }
 {
-    let mut rest = behind(index.source_of(r, x), index.order());
+    let mut rest = behind(index.source_of(r, x), index);
     while let [t, tail @ ..] = rest {
         if is_same(t, w) {
             return true;
@@ -230,24 +235,11 @@ fn is_atomic_at(index: &Index, r: &Operation, w: &Operation, x: u64) -> bool
 }
 
 // What stands behind a source; the image stands before everything.
-fn behind(source: Option<Operation>, order: &[Operation]) -> &[Operation]
-    ensures { result.now ≡ legal.behind source order.now }
+fn behind(source: Option<Operation>, index: &Index) -> &[Operation]
+    ensures { result.now ≡ legal.behind source index.now }
 {
     match source {
-        Some(store) => behind_store(&store, order),
-        None => order,
+        Some(store) => index.behind(name_of(&store)),
+        None => index.order(),
     }
-}
-
-fn behind_store<'a>(store: &Operation, order: &'a [Operation]) -> &'a [Operation]
-    ensures { result.now ≡ legal.behind (Some store.now) order.now }
-{
-    let mut rest = order;
-    while let [t, tail @ ..] = rest {
-        if is_same(store, t) {
-            return tail;
-        }
-        rest = tail;
-    }
-    rest
 }

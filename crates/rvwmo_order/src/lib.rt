@@ -2,19 +2,20 @@
 //! (RISC-V Unprivileged ISA 20191213, chapters 14 and 23).
 #![tactic(auto)]
 
-mod accesses;
+pub mod accesses;
 mod checking;
 mod completing;
-mod dependencies;
+pub mod dependencies;
 mod error;
 mod index;
-mod items;
+pub mod items;
 mod judging;
 mod limits;
-mod orders;
-mod rules;
-mod runs;
-mod sources;
+mod names;
+pub mod orders;
+pub mod rules;
+pub mod runs;
+pub mod sources;
 mod stored;
 mod verdict;
 
@@ -25,7 +26,7 @@ pub use index::Index;
 pub use limits::{MAX_OPERATIONS, is_within_limits};
 pub use memory_model::Model;
 pub use orders::has_too_many;
-pub use verdict::{Code, Rule, Verdict};
+pub use verdict::{Code, RULES, Rule, Verdict};
 
 #[cfg(test)]
 mod tests;

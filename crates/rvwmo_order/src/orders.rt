@@ -7,26 +7,14 @@ ghost use Rattle.rvwmo_order.specs.Limits.{IsWithinLimits};
 
 use crate::items::{Harts, has_operation};
 use crate::limits::MAX_OPERATIONS;
+use crate::names::{has, is_distinct, names_of};
 use hart::Retired;
 use memory_model::Operation;
 use std::alloc::{AllocError, Global};
 use trace_recorder::{OpId, Trace};
 
-fn is_named(a: OpId, b: OpId) -> bool
-    ensures { result ≡ spec.is_named a b }
-{
-    a.hart == b.hart && a.place == b.place
-}
-
-/// Whether a name is one of the list.
-pub(crate) fn is_among(names: &[OpId], name: OpId) -> bool
-    ensures { result ≡ spec.is_among names.now name }
-{
-    names.iter().any(|other| is_named(name, *other))
-}
-
 /// The names of a trace's operations, by hart and then by place.
-pub(crate) fn names_in(alloc: Global, trace: &Trace) -> Result<Vec<OpId>, AllocError>
+pub fn names_in(alloc: Global, trace: &Trace) -> Result<Vec<OpId>, AllocError>
     requires { IsWithinLimits trace.now.history }
     ensures { IfOk result (λ names. names.items ≡ spec.names_in trace.now.history) }
 {
@@ -82,36 +70,33 @@ fn count_of(entries: &[Retired]) -> usize
 }
 
 /// Whether a list has each of these names exactly once, and no other.
-pub(crate) fn is_order(names: &[OpId], order: &[OpId]) -> bool
-    ensures { result
+pub(crate) fn is_order(alloc: Global, names: &[OpId], order: &[OpId]) -> Result<bool, AllocError>
+    ensures { IfOk result (λ answer. answer
         ≡ (list_all (spec.is_among names.now) order.now
         && spec.is_distinct order.now
-        && list_all (spec.is_among order.now) names.now) }
+        && list_all (spec.is_among order.now) names.now)) }
 {
-    are_all_among(names, order) && is_distinct(order) && are_all_among(order, names)
+    Ok(
+        are_all_among(alloc, names, order)?
+            && is_distinct(alloc, order)?
+            && are_all_among(alloc, order, names)?,
+    )
 }
 
-fn are_all_among(names: &[OpId], list: &[OpId]) -> bool
-    ensures { result ≡ list_all (spec.is_among names.now) list.now }
+fn are_all_among(alloc: Global, names: &[OpId], list: &[OpId]) -> Result<bool, AllocError>
+    ensures { IfOk result (λ answer. answer ≡ list_all (spec.is_among names.now) list.now) }
 {
-    list.iter().all(|name| is_among(names, *name))
-}
-
-fn is_distinct(order: &[OpId]) -> bool
-    ensures { result ≡ spec.is_distinct order.now }
-{
-    let mut rest = order;
-    while let [name, tail @ ..] = rest {
-        if is_among(tail, *name) {
-            return false;
+    let known = names_of(alloc, names)?;
+    for name in list {
+        if !has(&known, *name) {
+            return Ok(false);
         }
-        rest = tail;
     }
-    true
+    Ok(true)
 }
 
 /// The operations of an order's names, in its order.
-pub(crate) fn operations_at(
+pub fn operations_at(
     alloc: Global,
     harts: &Harts,
     order: &[OpId],

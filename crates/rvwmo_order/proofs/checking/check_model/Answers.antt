@@ -9,11 +9,11 @@ returns-clause-legal c = legal_verdict c.args.model c.args.trace.now.history c.a
 pub returns-clause-sound : goal.returns-clause-sound
 returns-clause-sound c =
     let t = c.args.trace.now.history in
-    let tested : has_each_operation_once t c.args.order.now ≡ true = sym (tested_order t c.args.order.now c.deref.result.now (c.deref.ensures.value ∙ c.in_ok-names.ensures)) ∙ (sym c.is_order.ensures ∙ c.if-not-is_order.false) in
+    let tested : has_each_operation_once t c.args.order.now ≡ true = sym (tested_order t c.args.order.now c.deref.result.now (c.deref.ensures.value ∙ c.in_ok-names.ensures)) ∙ (sym c.in_ok-is_order.ensures ∙ c.if-not-branch.false) in
     sound_verdict c.args.model t c.args.order.now c.in_ok-verdict_on.field-0 tested c.in_ok-verdict_on.ensures
 
 pub returns-clause-first : goal.returns-clause-first
 returns-clause-first c =
     let t = c.args.trace.now.history in
-    let tested : has_each_operation_once t c.args.order.now ≡ true = sym (tested_order t c.args.order.now c.deref.result.now (c.deref.ensures.value ∙ c.in_ok-names.ensures)) ∙ (sym c.is_order.ensures ∙ c.if-not-is_order.false) in
+    let tested : has_each_operation_once t c.args.order.now ≡ true = sym (tested_order t c.args.order.now c.deref.result.now (c.deref.ensures.value ∙ c.in_ok-names.ensures)) ∙ (sym c.in_ok-is_order.ensures ∙ c.if-not-branch.false) in
     first_verdict c.args.model t c.args.order.now c.in_ok-verdict_on.field-0 tested c.in_ok-verdict_on.ensures

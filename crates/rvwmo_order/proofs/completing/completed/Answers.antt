@@ -1,0 +1,21 @@
+use Rattle.std.proofs.Common.{◌+◌, ◌++◌, ◌∙◌, ap, arith, drop, not, sym}
+use Rattle.std.specs.List.{filter}
+use Rattle.std.proofs.lemmas.Grind.{common_steps}
+use Rattle.rvwmo_order.proofs.Gathered.{has_name, kept_next, kept_same, passed_next}
+use Rattle.rvwmo_order.proofs.completing.completed.Goals as goal
+use Rattle.rvwmo_order.proofs.completing.completed.Goals.{then-not-has+in_ok-push, else-not-has}
+
+pub loop-name-preserved : goal.loop-name-preserved
+loop-name-preserved c =
+    let known = c.in_ok-performed.performed in
+    let names = c.deref-name-items.result.now in
+    let all = c.args.trace.now.history.performed ++ filter (λ n. not (has_name known n)) names in
+    elim c.if-not-has.branch [
+      | then-not-has+in_ok-push w ↦ kept_next known names c.loop-name.order.items c.if-not-has.order.items all c.loop-name.name-index _ c.has.result (omega arith) c.has.ensures w.if-not-has.true (ap (λ v. v.items) w.order-is ∙ w.in_ok-push.ensures.items) c.loop-name.invariant
+      | else-not-has w ↦ passed_next known names c.loop-name.order.items all c.loop-name.name-index _ c.has.result (omega arith) c.has.ensures w.if-not-has.false c.loop-name.invariant ∙ ap (λ v. v.items ++ filter (λ n. not (has_name known n)) (drop (c.loop-name.name-index + 1) names)) (sym w.order-is)
+    ]
+
+pub returns : goal.returns
+returns c =
+    let same = kept_same c.in_ok-performed.performed c.performed.result.now c.deref-name-items.result.now c.in_ok-performed.ensures in
+    grind (arith, common_steps, same, c.loop-name.invariant, c.performed.ensures, c.deref-name-items.ensures.value, c.in_ok-names.ensures)
