@@ -4,6 +4,7 @@
 mod adopting;
 mod errors;
 mod machine;
+mod outputs;
 mod views;
 
 pub use errors::{AdoptError, NewError, ReplayError};

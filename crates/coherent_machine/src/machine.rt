@@ -13,6 +13,7 @@ ghost use Rattle.coherent_machine.specs.Machine.{IsFirstRefusal, IsRefusedAt, Ke
 
 use crate::adopting::is_current;
 use crate::errors::{AdoptError, NewError, ReplayError};
+use crate::outputs::Outputs;
 use crate::views::Views;
 use elf_loader::Image;
 use hart::Batch;
@@ -20,8 +21,8 @@ use machine_model::{
     Config, Event, Outcome, headline, image_and_config_stay, log_lawful_always,
     nothing_is_rewritten, ready_always, sound_always,
 };
-use machine_parts::{ApplyError, Node, Parts, is_within_limits};
-use std::alloc::{AllocError, Global};
+use machine_parts::{ApplyError, Parts, is_within_limits};
+use std::alloc::Global;
 use std::marker::Model;
 use trace_recorder::Trace;
 
@@ -30,6 +31,7 @@ use trace_recorder::Trace;
 #[derive(Drop)]
 pub struct Machine {
     parts: Parts,
+    outputs: Outputs,
 }
 
 impl Model for Machine {
@@ -63,8 +65,9 @@ impl Machine {
         if !is_within_limits(&config) {
             return Err(NewError::Config);
         }
+        let outputs = Outputs::new(alloc)?;
         let parts = Parts::new(alloc, image, config)?;
-        Ok(Machine { parts })
+        Ok(Machine { parts, outputs })
     }
 
     /// Applies one event. Where it can't change anything its outcome says why, and where it is refused the
@@ -155,26 +158,16 @@ impl Machine {
         &self.parts.trace
     }
 
-    /// The trace, and the numbers that each hart put out, by hart. Only the list of lists may find no
-    /// memory.
-    pub fn into_parts(self, alloc: Global) -> Result<(Trace, Vec<Vec<u32>>), AllocError>
-        ensures trace { IfOk result (λ parts. parts.0.history ≡ self.trace) }
-        ensures outputs { IfOk result (λ parts. map (λ output. output.items) parts.1.items ≡ map (λ node. node.output) self.views.nodes) }
+    /// The trace, and the numbers that each hart put out, by hart. It takes no memory.
+    pub fn into_parts(self) -> (Trace, Vec<Vec<u32>>)
+        ensures trace { result.0.history ≡ self.trace }
+        ensures outputs { map (λ output. output.items) result.1.items ≡ map (λ node. node.output) self.views.nodes }
     {
-        let Machine { parts } = self;
-        let outputs = outputs_of(alloc, parts.nodes)?;
-        Ok((parts.trace, outputs))
+        sound_always();
+        let Machine { parts, outputs } = self;
+        let outputs = outputs.of(parts.nodes);
+        (parts.trace, outputs)
     }
-}
-
-fn outputs_of(alloc: Global, nodes: Vec<Node>) -> Result<Vec<Vec<u32>>, AllocError>
-    ensures { IfOk result (λ outputs. map (λ output. output.items) outputs.items ≡ map (λ node. node.output) nodes.items) }
-{
-    let mut outputs = Vec::new(alloc);
-    for node in nodes {
-        outputs.push(node.output)?;
-    }
-    Ok(outputs)
 }
 
 /// Applies the events in their order to a machine at reset. Where one is refused the answer has its index.

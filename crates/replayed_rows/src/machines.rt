@@ -15,7 +15,7 @@ pub trait Playable: Sized {
     fn happen(&mut self, event: Event) -> Result<Outcome>;
 
     /// The trace, and what each hart put out.
-    fn ended(self, alloc: Global) -> Result<(Trace, Vec<Vec<u32>>)>;
+    fn ended(self) -> Result<(Trace, Vec<Vec<u32>>)>;
 }
 
 impl Playable for PlainMachine {
@@ -30,7 +30,7 @@ impl Playable for PlainMachine {
         }
     }
 
-    fn ended(self, _alloc: Global) -> Result<(Trace, Vec<Vec<u32>>)> {
+    fn ended(self) -> Result<(Trace, Vec<Vec<u32>>)> {
         Ok(self.into_parts()?)
     }
 }
@@ -44,7 +44,7 @@ impl Playable for Machine {
         Ok(self.apply(event)?)
     }
 
-    fn ended(self, alloc: Global) -> Result<(Trace, Vec<Vec<u32>>)> {
-        Ok(self.into_parts(alloc)?)
+    fn ended(self) -> Result<(Trace, Vec<Vec<u32>>)> {
+        Ok(self.into_parts())
     }
 }

@@ -65,7 +65,7 @@ pub fn play<M: Playable + Drop>(
         let outcome = machine.happen(*event)?;
         write_outcome(&mut outcomes, outcome)?;
     }
-    let (history, outputs) = machine.ended(alloc)?;
+    let (history, outputs) = machine.ended()?;
     let mut trace = Vec::new(alloc);
     write_trace(&history, &mut trace)?;
     let mut ends = Vec::new(alloc);

@@ -1,6 +1,0 @@
-use Rattle.std.proofs.Common.{◌≡◌, map, ℕ, Vec, Global}
-use Rattle.machine_model.specs.Views.{Node}
-use Rattle.coherent_machine.proofs.machine.outputs_of.Given as goal
-
-abbrev pub invariant-loop-node : goal.invariant-loop-node
-invariant-loop-node l = map (λ (output : Vec ℕ Global). output.items) l.outputs.items ≡ map (λ (node : Node). node.output) l.yielded

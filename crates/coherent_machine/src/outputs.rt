@@ -1,0 +1,38 @@
+//! What each hart put out, handed over where a machine is taken apart.
+
+ghost use Rattle.std.specs.Prelude.{◌≡◌, ◌≤◌, [], IfOk, length, map};
+ghost use Rattle.std.specs.Vec.{vec_capacity};
+
+use machine_parts::Node;
+use std::alloc::{AllocError, Global};
+
+/// The most harts that a machine has.
+const MOST_HARTS: usize = 8;
+
+/// Room for one list a hart, asked for when the machine is made, so that taking it apart wants no memory.
+#[derive(Drop)]
+pub(crate) struct Outputs {
+    lists: Vec<Vec<u32>>,
+    ghost empty: { lists.items ≡ [] },
+    ghost room: { 8 ≤ vec_capacity lists },
+}
+
+impl Outputs {
+    pub(crate) fn new(alloc: Global) -> Result<Outputs, AllocError> {
+        let mut lists = Vec::new(alloc);
+        lists.reserve(MOST_HARTS)?;
+        Ok(Outputs { lists })
+    }
+
+    /// The numbers that each hart put out, by hart.
+    pub(crate) fn of(self, nodes: Vec<Node>) -> Vec<Vec<u32>>
+        requires { length nodes.items ≤ 8 }
+        ensures { map (λ output. output.items) result.items ≡ map (λ node. node.output) nodes.items }
+    {
+        let Outputs { mut lists } = self;
+        for node in nodes {
+            lists.push_reserved(node.output);
+        }
+        lists
+    }
+}
