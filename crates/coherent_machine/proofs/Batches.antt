@@ -10,7 +10,6 @@ use Rattle.hart.specs.declared.state.Hart.{Hart}
 use Rattle.hart.specs.Local.{IsRow, Row, are_private_steps, can_go_alone, is_done_alone, is_private_step, next_entry, private_row, row_of}
 use Rattle.hart.specs.Run.{after, can_fetch, is_running, reached}
 use Rattle.machine_model.specs.declared.act.Act.TheVariants as act
-use Rattle.machine_model.specs.declared.event.Event.TheVariants.{Local}
 use Rattle.machine_model.specs.declared.outcome.Outcome.{Outcome}
 use Rattle.machine_model.specs.declared.outcome.Outcome.TheVariants as outcome
 use Rattle.machine_model.specs.Changing.{went_alone}
@@ -19,7 +18,7 @@ use Rattle.machine_model.specs.Events.Verdict.{IsLimited, Moves}
 use Rattle.machine_model.specs.Views.{State}
 use Rattle.machine_parts.specs.Applying.{Answers}
 use Rattle.machine_parts.specs.declared.errors.ApplyError.{ApplyError}
-use Rattle.machine_parts.specs.declared.errors.ApplyError.TheVariants.{BadEvent, Limit, NoMemory}
+use Rattle.machine_parts.specs.declared.errors.ApplyError.TheVariants.{Limit}
 use Rattle.machine_parts.proofs.Committed.{IsNext, verdict_is}
 use Rattle.coherent_machine.specs.Adopting.{IsCurrent, have_words, local_of}
 
@@ -88,17 +87,9 @@ next_row h row s r c =
 abbrev pub limits_or : Bool → State → Verdict
 limits_or b moved = cond b IsLimited (Moves outcome.Retired moved)
 
-bad_by : (b : Bool) (moved s new : State) (result : Result Outcome ApplyError) → Answers (limits_or b moved) s result new → result ≡ Err BadEvent → ⊥
-bad_by true moved s new result a e = cc (a.0, e)
-bad_by false moved s new result a e = elim a [ inl x ↦ cc (x.0, e) | inr x ↦ cc (x.0, e) ]
-
 limited_by : (b : Bool) (moved s new : State) (result : Result Outcome ApplyError) → Answers (limits_or b moved) s result new → result ≡ Err Limit → limits_or b moved ≡ IsLimited
 limited_by true moved s new result a e = refl
 limited_by false moved s new result a e = elim a [ inl x ↦ absurd (cc (x.0, e)) | inr x ↦ absurd (cc (x.0, e)) ]
-
-unlimited_by : (b : Bool) (moved s new : State) (result : Result Outcome ApplyError) → Answers (limits_or b moved) s result new → result ≡ Err NoMemory → limits_or b moved ≡ IsLimited → ⊥
-unlimited_by true moved s new result a e v = cc (a.0, e)
-unlimited_by false moved s new result a e v = cc (v)
 
 moved_by : (b : Bool) (moved s new : State) (o : Outcome) (result : Result Outcome ApplyError) → Answers (limits_or b moved) s result new → result ≡ Ok o → (limits_or b moved ≡ Moves o new) × (o ≡ outcome.Retired)
 moved_by true moved s new o result a e = absurd (cc (a.0, e))
@@ -131,14 +122,8 @@ verdict_fits h row s f = verdict_is h row s f.current.there f.is_row.few f.some 
 answers_by : (h : ℕ) (row : Row) (s new : State) (result : Result Outcome ApplyError) → Fits h row s → Answers (verdict s (local_of h row)) s result new → Answers (limits_or (is_limited s h (act.Local (length row.entries))) (went h row s)) s result new
 answers_by h row s new result f a = subst (λ (v : Verdict). Answers v s result new) (verdict_fits h row s f) a
 
-pub never_bad : (h : ℕ) (row : Row) (s new : State) (result : Result Outcome ApplyError) → Fits h row s → Answers (verdict s (local_of h row)) s result new → result ≡ Err BadEvent → ⊥
-never_bad h row s new result f a e = bad_by (is_limited s h (act.Local (length row.entries))) (went h row s) s new result (answers_by h row s new result f a) e
-
 pub limited_when : (h : ℕ) (row : Row) (s new : State) (result : Result Outcome ApplyError) → Fits h row s → Answers (verdict s (local_of h row)) s result new → result ≡ Err Limit → verdict s (local_of h row) ≡ IsLimited
 limited_when h row s new result f a e = verdict_fits h row s f ∙ limited_by (is_limited s h (act.Local (length row.entries))) (went h row s) s new result (answers_by h row s new result f a) e
-
-pub unlimited_when : (h : ℕ) (row : Row) (s new : State) (result : Result Outcome ApplyError) → Fits h row s → Answers (verdict s (local_of h row)) s result new → result ≡ Err NoMemory → verdict s (local_of h row) ≡ IsLimited → ⊥
-unlimited_when h row s new result f a e v = unlimited_by (is_limited s h (act.Local (length row.entries))) (went h row s) s new result (answers_by h row s new result f a) e (sym (verdict_fits h row s f) ∙ v)
 
 pub moved_when : (h : ℕ) (row : Row) (s new : State) (o : Outcome) (result : Result Outcome ApplyError) → Fits h row s → Answers (verdict s (local_of h row)) s result new → result ≡ Ok o → (verdict s (local_of h row) ≡ Moves o new) × (o ≡ outcome.Retired)
 moved_when h row s new o result f a e =

@@ -1,5 +1,5 @@
 use Rattle.machine_parts.specs.Parts.{state_of}
-use Rattle.machine_parts.proofs.Committed.{Fits, committed, limited, wanting}
+use Rattle.machine_parts.proofs.Committed.{committed, limited, wanting}
 use Rattle.machine_parts.proofs.parts.Parts.commit.Goals as goal
 
 pub returns-then-is_limited : goal.returns-then-is_limited
