@@ -67,6 +67,8 @@ impl Entry {
 }
 
 impl MadeWith<Global> for Entry {
+    ghost is_made_with = { λ e. e ≡ blank_entry 0 };
+
     fn made_with(alloc: Global) -> Self {
         Entry::blank(alloc, 0)
     }
