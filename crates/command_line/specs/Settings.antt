@@ -1,10 +1,10 @@
 -- What the program's words ask for, as the kit reads the words for the program's usage.
-use Rattle.std.specs.Prelude.{◌≡◌, ◌∷◌, [], Bool, true, false, List, Option, Some, None, codes, map, unwrap_or, if◌then◌else◌}
+use Rattle.std.specs.Prelude.{◌≡◌, ◌∷◌, [], Bool, true, false, List, Option, Some, None, codes, map}
 use Rattle.std.specs.Borrow.{Bor}
-use Rattle.std.specs.Str.{bytes_eq}
 use Rattle.clap.specs.Words.{App, Row, Rule, Text, first_of, new_app, new_rule, one_of, subcommand_of, with_rule, with_subcommand}
 use Rattle.clap.specs.declared.builder.action.ArgAction.TheVariants.{SetTrue}
 use Rattle.clap.specs.declared.builder.value_parser.ValueParser.TheVariants.{Names}
+use Rattle.command_line.specs.declared.wanted.Replay.{Replay}
 use Rattle.command_line.specs.declared.wanted.Settings.{Settings}
 use Rattle.command_line.specs.declared.wanted.Settings.TheVariants as settings
 use Rattle.memory_model.specs.declared.Model.{Model}
@@ -62,28 +62,29 @@ IsUsage app = (replay_model : Rule) × (check_model : Rule) × IsModelOption rep
 
 -- ---- the settings
 
-abbrev pub model_named : Text → Model
-model_named name = if bytes_eq name (codes "ztso") then Ztso else Rvwmo
-
--- the text given for an argument, or its default
-abbrev pub text_of : Text → List Row → Text
-text_of id rows = unwrap_or (first_of id rows) []
+abbrev pub name_of : Model → Text
+name_of Rvwmo = codes "rvwmo"
+name_of Ztso = codes "ztso"
 
 -- a flag is set where its text is `true`, and not where it is `false` or there is none
 abbrev pub IsFlag : Option Text → Bool → Type 0
 IsFlag given flag = (given ≡ None → flag ≡ false) × (given ≡ Some (codes "true") → flag ≡ true)
     × (given ≡ Some (codes "false") → flag ≡ false)
 
+-- the arguments of `replay` have these texts
+abbrev pub IsReplayMeant : List Row → Replay → Type 0
+IsReplayMeant rows replay =
+    IsFlag (one_of (codes "raw") rows) replay.raw
+    × (first_of (codes "model") rows ≡ Some (name_of replay.model))
+    × (first_of (codes "IMAGE") rows ≡ Some replay.image.now)
+    × (first_of (codes "SCRIPT") rows ≡ Some replay.script.now)
+
 -- the settings are those of the subcommand of this name, whose arguments have these texts
 abbrev pub IsMeant : Text → List Row → Settings → Type 0
-IsMeant name rows (settings.Replay replay) =
-    (bytes_eq name (codes "check") ≡ false) × IsFlag (one_of (codes "raw") rows) replay.raw
-    × (replay.model ≡ model_named (text_of (codes "model") rows))
-    × (replay.image.now ≡ text_of (codes "IMAGE") rows)
-    × (replay.script.now ≡ text_of (codes "SCRIPT") rows)
+IsMeant name rows (settings.Replay replay) = (name ≡ codes "replay") × IsReplayMeant rows replay
 IsMeant name rows (settings.Check model trace) =
-    (bytes_eq name (codes "check") ≡ true) × (model ≡ model_named (text_of (codes "model") rows))
-    × (trace.now ≡ text_of (codes "TRACE") rows)
+    (name ≡ codes "check") × (first_of (codes "model") rows ≡ Some (name_of model))
+    × (first_of (codes "TRACE") rows ≡ Some trace.now)
 
 -- the settings are what the words, the first of which is the program's name, say by the usage
 abbrev pub IsNamed : List Text → Settings → Type 0

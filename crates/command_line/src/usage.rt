@@ -1,11 +1,12 @@
 //! The program's usage, and how its words are read.
 
-ghost use Rattle.std.specs.Prelude.{◌≡◌, IfOk, false, map};
-ghost use Rattle.clap.specs.Words.{Rule, app_of, rule_of};
-ghost use Rattle.command_line.specs.Settings.{IsModelOption, IsNamed, IsUsage, check_usage, model_named};
+ghost use Rattle.std.specs.Prelude.{◌≡◌, IfOk, IfSome, List, false, map};
+ghost use Rattle.clap.specs.Words.{Row, Rule, Text, app_of, found_of, rows_of, rule_of, subcommand_rows_of};
+ghost use Rattle.command_line.specs.Settings.{IsMeant, IsModelOption, IsNamed, IsReplayMeant, IsUsage, check_usage, name_of};
 
 use crate::wanted::{Replay, Settings, SettingsError};
-use clap::{Arg, ArgAction, Command};
+use clap::error::ErrorKind;
+use clap::{Arg, ArgAction, ArgMatches, Command};
 use machine_model::Model;
 use std::alloc::{AllocError, Global};
 use std::convert::AsStr;
@@ -14,38 +15,53 @@ use std::convert::AsStr;
 pub fn settings<'a, S: AsStr>(alloc: Global, words: &'a [S]) -> Result<Settings<'a>, SettingsError>
     ensures { IfOk result (IsNamed (map S.text words.entry.now)) }
 {
-    let matches = command(alloc)?.try_get_matches_from(words)?;
-    // The usage asks for a subcommand and for its files, so each is there.
-    Ok(match matches.subcommand() {
-        Some(("check", check)) => Settings::Check {
-            model: model_of(check.get_str("model").unwrap_or("")),
-            trace: check.get_str("TRACE").unwrap_or(""),
-        },
-        Some((_, replay)) => Settings::Replay(Replay {
-            raw: replay.get_flag("raw"),
-            model: model_of(replay.get_str("model").unwrap_or("")),
-            image: replay.get_str("IMAGE").unwrap_or(""),
-            script: replay.get_str("SCRIPT").unwrap_or(""),
+    let mut command = command(alloc)?;
+    let matches = command.try_get_matches_from_mut(words)?;
+    match settings_of(&matches) {
+        Some(settings) => Ok(settings),
+        // The usage asks for a subcommand and its files, so that the parse has refused such words.
+        None => {
+            let missing = command.error(ErrorKind::MissingSubcommand, "replay or check is wanted")?;
+            Err(SettingsError::Usage(missing))
+        }
+    }
+}
+
+fn settings_of<'a>(matches: &ArgMatches<'a>) -> Option<Settings<'a>>
+    ensures { IfSome result (λ settings. (name : Text) × (rows : List Row)
+        × (subcommand_rows_of matches.now ≡ Some (name, rows)) × IsMeant name rows settings) }
+{
+    match matches.subcommand()? {
+        ("replay", replay) => Some(Settings::Replay(replay_of(replay)?)),
+        ("check", check) => Some(Settings::Check {
+            model: model_of(check.get_str("model")?)?,
+            trace: check.get_str("TRACE")?,
         }),
-        None => Settings::Replay(Replay {
-            raw: false,
-            model: Model::Rvwmo,
-            image: "",
-            script: "",
-        }),
+        _ => None,
+    }
+}
+
+fn replay_of<'a>(matches: &ArgMatches<'a>) -> Option<Replay<'a>>
+    ensures { IfSome result (IsReplayMeant (rows_of (found_of matches.now))) }
+{
+    Some(Replay {
+        raw: matches.get_flag("raw"),
+        model: model_of(matches.get_str("model")?)?,
+        image: matches.get_str("IMAGE")?,
+        script: matches.get_str("SCRIPT")?,
     })
 }
 
 /// The models by their names, the first of which is meant where none is named.
 const MODELS: [&str; 2] = ["rvwmo", "ztso"];
 
-fn model_of(name: &str) -> Model
-    ensures { result ≡ model_named name.now }
+fn model_of(name: &str) -> Option<Model>
+    ensures { IfSome result (λ model. name.now ≡ name_of model) }
 {
-    if name == MODELS[1] {
-        Model::Ztso
-    } else {
-        Model::Rvwmo
+    match name {
+        "rvwmo" => Some(Model::Rvwmo),
+        "ztso" => Some(Model::Ztso),
+        _ => None,
     }
 }
 
@@ -71,6 +87,7 @@ fn command<'a>(alloc: Global) -> Result<Command<'a>, AllocError>
         .arg(script)?;
     Command::new(alloc, "rvtl")
         .about("Runs RISC-V harts with private caches, one event at a time")
+        .after_help(PROGRAM_HELP)
         .subcommand_required(true)
         .subcommand(replay)?
         .subcommand(check_command(alloc)?)
@@ -101,8 +118,29 @@ fn check_command<'a>(alloc: Global) -> Result<Command<'a>, AllocError>
         .arg(trace)
 }
 
-const CHECK_HELP: &str =
-    "Prints legal, or a fault's code with the two operations that show it (status 3).\nExample: rvtl check examples/legal.trace";
+const PROGRAM_HELP: &str =
+    "A replay takes a program and a script of events, and prints the trace of what happened:
+each instruction, each memory operation and each message between caches and memory.
+A check takes a trace and tells whether the memory model allows its order.
+
+Example: rvtl replay --raw examples/exit.bin examples/exit.script";
 
 const REPLAY_HELP: &str =
-    "The trace goes to standard output, one line a hart to standard error.\nExample: rvtl replay --raw examples/exit.bin examples/exit.script";
+    "The script's first line is rvtl-script 1 HARTS KIB SETS WAYS, then comes an event a line:
+  step HART              the hart retires its next instruction, or asks for what it lacks
+  drain HART ADDRESS     a store leaves the store buffer for the cache
+  evict HART ADDRESS     the cache gives a line up
+  deliver CHANNEL HART   the oldest message on channel A, B, C, D or E arrives
+  local HART COUNT       so many instructions at once that touch no memory
+
+The trace goes to standard output. Of each hart how it ended (run, stop CODE or exit CODE) and what
+it put out go to standard error. Where something is wrong, standard error tells it in one line.
+
+Example: rvtl replay --raw examples/exit.bin examples/exit.script";
+
+const CHECK_HELP: &str =
+    "Prints legal, or with status 3 a fault: its code and two operations, as HART:PLACE, that show it.
+Codes 1 to 13 are the rules of preserved program order, which the two break, 14 is the load value
+axiom and 15 the atomicity axiom.
+
+Example: rvtl check examples/legal.trace";

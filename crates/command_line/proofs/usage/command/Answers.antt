@@ -41,7 +41,8 @@ returns c =
     c.in_ok-replay.ensures.shape script_local ∙ ap₂ with_rule third_is script_is in
     let bare_is : app_of c.subcommand_required.result ≡ bare_usage =
     ap app_of_fields c.subcommand_required.ensures
-    ∙ ap (λ (a : App). record { top = record a.top { subcommand_required = true }; subs = a.subs }) (ap app_of_fields c.about-2.ensures ∙ c.new-5.ensures.app) in
+    ∙ ap (λ (a : App). record { top = record a.top { subcommand_required = true }; subs = a.subs }) (ap app_of_fields c.after_help-2.ensures
+    ∙ (ap app_of_fields c.about-2.ensures ∙ c.new-5.ensures.app)) in
     let replay_local = (plain_fields c.in_ok-replay.replay (ap (λ (a : App). a.top.is_plain) replay_is)).globals in
     let check_local = (plain_fields c.in_ok-check_command.field-0 (ap (λ (a : App). a.top.is_plain) checked.2)).globals in
     let one_is = c.in_ok-subcommand.ensures.shape replay_local ∙ ap₂ with_subcommand bare_is (ap (λ (a : App). a.top) replay_is) in
