@@ -4,8 +4,10 @@ ghost use Rattle.client_cache.specs.Cache.{probed};
 ghost use Rattle.directory.specs.Directory.{acquired, line_at};
 ghost use Rattle.elf_loader.specs.Size.{base};
 ghost use Rattle.machine_model.specs.Deliveries.{plan_body, plan_deliver, unless_acks_full, unless_busy, unless_releasing};
+ghost use Rattle.machine_model.specs.declared.act.Plan.{Plan as AnyPlan};
 ghost use Rattle.machine_model.specs.Ready.{IsSound};
 ghost use Rattle.machine_model.specs.Views.{line_size, node_at, place_of};
+ghost use Rattle.machine_parts.specs.Deciding.{unless_stalled};
 ghost use Rattle.machine_parts.specs.Parts.{state_of};
 ghost use Rattle.tilelink_channels.specs.Queues.{front_of, queue_of};
 ghost use Rattle.tl_types.specs.declared.permission.Cap.{Cap as AnyCap};
@@ -41,59 +43,59 @@ fn transaction_on<L: Ledger>(directory: &Directory, place: u32, blank: Blank) ->
 }
 
 /// An Acquire waits while its line has a transaction.
-fn unless_busy(directory: &Directory, place: u32, go: Plan) -> Plan
+fn stalled_acquire(directory: &Directory, place: u32) -> Option<Outcome>
     requires { place < length directory.now.lines }
-    ensures { (hart : ℕ) (grow : AnyGrow) → result ≡ unless_busy (acquired directory.now place hart grow).0 go }
+    ensures { (hart : ℕ) (grow : AnyGrow) (go : AnyPlan) → unless_busy (acquired directory.now place hart grow).0 go ≡ unless_stalled result go }
 {
     match transaction_on::<Brand>(directory, place, Blank::new(1)) {
-        Transaction::Idle => go,
-        Transaction::Probing(..) | Transaction::Granted(_) => Plan::Stays(Outcome::Busy),
+        Transaction::Idle => None,
+        Transaction::Probing(..) | Transaction::Granted(_) => Some(Outcome::Busy),
     }
 }
 
 /// A Probe waits while the cache's Release of its line is unanswered.
-fn unless_releasing(cache: &ClientCache, line: u32, go: Plan) -> Plan
-    ensures { (cap : AnyCap) → result ≡ unless_releasing (probed cache.now line cap).0 go }
+fn stalled_probe(cache: &ClientCache, line: u32) -> Option<Outcome>
+    ensures { (cap : AnyCap) (go : AnyPlan) → unless_releasing (probed cache.now line cap).0 go ≡ unless_stalled result go }
 {
     if cache.is_releasing(line) {
-        Plan::Stays(Outcome::Releasing)
+        Some(Outcome::Releasing)
     } else {
-        go
+        None
     }
 }
 
 /// A Grant waits for room for its GrantAck.
-fn unless_acks_full(node: &Node, go: Plan) -> Plan
-    ensures { result ≡ unless_acks_full node.now go }
+fn stalled_grant(node: &Node) -> Option<Outcome>
+    ensures { (go : AnyPlan) → unless_acks_full node.now go ≡ unless_stalled result go }
 {
     if node.queues.has_room(Channel::E) {
-        go
+        None
     } else {
-        Plan::Stays(Outcome::AckFull)
+        Some(Outcome::AckFull)
     }
 }
 
-fn plan_body(parts: &Parts, hart: u8, message: Msg) -> Plan
+/// Why a message that stands in front can't be handled yet.
+fn stalled(parts: &Parts, hart: u8, message: &Msg) -> Option<Outcome>
     requires hart { hart < length parts.now.nodes.items }
-    requires from { base ≤ message.line }
-    requires line { place_of (line_size (state_of parts.now)) message.line < length parts.now.directory.lines }
-    ensures { result ≡ plan_body (state_of parts.now) hart (node_at (state_of parts.now) hart) message.line message.body (Plan.Changes (Act.Deliver message)) }
+    requires from { base ≤ message.now.line }
+    requires line { place_of (line_size (state_of parts.now)) message.now.line < length parts.now.directory.lines }
+    ensures { (go : AnyPlan) → plan_body (state_of parts.now) hart (node_at (state_of parts.now) hart) message.now.line message.now.body go ≡ unless_stalled result go }
 {
     let node = &parts.nodes[hart as usize];
-    let go = Plan::Changes(Act::Deliver(message));
     match message.body {
         Body::AcquireBlock(_) => {
             let place = place_of(line_size(&parts.config), message.line);
-            unless_busy(&parts.directory, place, go)
+            stalled_acquire(&parts.directory, place)
         }
-        Body::ProbeBlock(_) => unless_releasing(&node.cache, message.line, go),
-        Body::Grant(_) | Body::GrantData { .. } => unless_acks_full(node, go),
+        Body::ProbeBlock(_) => stalled_probe(&node.cache, message.line),
+        Body::Grant(_) | Body::GrantData { .. } => stalled_grant(node),
         Body::ProbeAck(_)
         | Body::ProbeAckData { .. }
         | Body::Release(_)
         | Body::ReleaseData { .. }
         | Body::ReleaseAck
-        | Body::GrantAck => go,
+        | Body::GrantAck => None,
     }
 }
 
@@ -110,8 +112,11 @@ pub(crate) fn plan_deliver(parts: &Parts, hart: u8, channel: Channel) -> Plan
     requires hart { hart < length parts.now.nodes.items }
     ensures { result ≡ plan_deliver (state_of parts.now) hart (node_at (state_of parts.now) hart) channel }
 {
-    match front(parts, hart, channel) {
-        None => Plan::Stays(Outcome::Empty),
-        Some(message) => plan_body(parts, hart, message),
+    let Some(message) = front(parts, hart, channel) else {
+        return Plan::Stays(Outcome::Empty);
+    };
+    match stalled(parts, hart, &message) {
+        None => Plan::Changes(Act::Deliver(message)),
+        Some(outcome) => Plan::Stays(outcome),
     }
 }

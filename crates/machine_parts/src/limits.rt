@@ -13,7 +13,7 @@ ghost use Rattle.store_buffer.specs.Entry.{entry_of};
 ghost use Rattle.store_buffer.specs.Groups.{drainable, oldest};
 
 use crate::parts::Parts;
-use crate::retiring::after_instr;
+use crate::retiring::status_after;
 use hart::Status;
 use machine_model::{Act, Outcome};
 use std::alloc::AllocError;
@@ -53,9 +53,8 @@ pub(crate) fn outcome_of(parts: &Parts, hart: u8, act: &Act) -> Outcome
 {
     match act {
         Act::Stop(code) => Outcome::Stopped(*code),
-        Act::Retire { entry, instr, .. } => {
-            let next = after_instr(&parts.nodes[hart as usize].hart, entry, instr);
-            outcome_by(next.status)
+        Act::Retire { instr, .. } => {
+            outcome_by(status_after(instr, &parts.nodes[hart as usize].hart.regs))
         }
         Act::Miss { line, .. } => Outcome::Missed(*line),
         Act::Drain(_) => Outcome::Drained,

@@ -51,9 +51,7 @@ fn move_on(parts: &mut Parts, hart: u8, entry: &Retired, instr: &Instr)
     requires room { 0 < slice_index parts.old.trace.room.entries hart }
     ensures { state_of parts.new ≡ retired hart entry.now instr.now (state_of parts.old) }
 {
-    let next = after_instr(&parts.nodes[hart as usize].hart, entry, instr);
-    let status = next.status;
-    parts.nodes[hart as usize].hart = next;
+    let status = pass(&mut parts.nodes[hart as usize].hart, entry, instr);
     parts.trace.retire(hart as usize, *entry);
     halt(&mut parts.trace, hart, status);
 }
@@ -69,14 +67,15 @@ fn halt(trace: &mut Trace, hart: u8, status: Status)
     }
 }
 
-/// The hart after it retired an entry.
-pub(crate) fn after_instr(hart: &Hart, entry: &Retired, instr: &Instr) -> Hart
-    ensures { result ≡ spec.after_instr hart.now entry.now (Some instr.now) }
+// The hart retires an entry, and has this status from then on.
+fn pass(hart: &mut Hart, entry: &Retired, instr: &Instr) -> Status
+    ensures hart { hart.new ≡ spec.after_instr hart.old entry.now (Some instr.now) }
+    ensures status { result ≡ (spec.after_instr hart.old entry.now (Some instr.now)).status }
 {
-    let mut next = *hart;
-    next.status = status_after(instr, &hart.regs);
-    next.pc = finish(instr, hart.pc, &mut next.regs, Some(number_read(entry)));
-    next
+    let status = status_after(instr, &hart.regs);
+    hart.status = status;
+    hart.pc = finish(instr, hart.pc, &mut hart.regs, Some(number_read(entry)));
+    status
 }
 
 // The number that an entry's instruction read; for an SC 0 where it succeeded, else 1.
@@ -90,8 +89,8 @@ fn number_read(entry: &Retired) -> u32
     }
 }
 
-// An environment call of number 0 ends its hart.
-fn status_after(instr: &Instr, regs: &Regs) -> Status
+/// The status that an instruction leaves: an environment call of number 0 ends its hart.
+pub(crate) fn status_after(instr: &Instr, regs: &Regs) -> Status
     ensures { result ≡ spec.status_after (access_of instr.now regs.now) }
 {
     match *instr {

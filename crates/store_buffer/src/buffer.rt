@@ -4,7 +4,7 @@ ghost use Rattle.store_buffer.specs.Entry.{blank_entry, joined, has_word, entry_
 ghost use Rattle.store_buffer.specs.Groups.{Groups, IsLawful, no_groups, groups_of, has_sealed, is_empty, entry_count, has, fits, after_put, after_put_single, after_seal, forwarded, oldest, drainable, after_take};
 ghost use Rattle.store_buffer.specs.Layout.{place_of, overlaid, one_less};
 
-use crate::{ByteMask, Entry, Store};
+use crate::{ByteMask, Entry, Ops, Store};
 use arrayvec::ArrayVec;
 use std::alloc::{AllocError, Global};
 use std::marker::Model;
@@ -40,6 +40,8 @@ pub struct StoreBuffer {
     entries: ArrayVec<Entry, ENTRIES, Global>,
     // how many entries each sealed group has; those behind are the open group's
     sealed: ArrayVec<usize, ENTRIES>,
+    // lists that entries had that are gone, so that those to come take no memory for theirs
+    spare: ArrayVec<Ops, ENTRIES, Global>,
 }
 
 impl Model for StoreBuffer {
@@ -98,10 +100,24 @@ fn overlaid(entries: &[Entry], word: u32) -> (ByteMask, [u8; 4])
     (mask, bytes)
 }
 
+/// An empty list: a spare one, or a new one, which takes no memory.
+fn empty_list(alloc: Global, spare: &mut ArrayVec<Ops, ENTRIES, Global>) -> Ops
+    ensures { result ≡ [] }
+{
+    match spare.pop() {
+        Some(mut ops) => {
+            ops.clear();
+            ops
+        }
+        None => Ops::new(alloc),
+    }
+}
+
 /// Takes a store into the entries from `start` on.
 fn put_behind(
     alloc: Global,
     entries: &mut ArrayVec<Entry, ENTRIES, Global>,
+    spare: &mut ArrayVec<Ops, ENTRIES, Global>,
     start: usize,
     store: Store,
 ) -> Result<(), PutError>
@@ -116,7 +132,8 @@ fn put_behind(
             if entries.is_full() {
                 return Err(PutError::Full);
             }
-            entries.push(Entry::of_store(alloc, store)?);
+            let ops = empty_list(alloc, spare);
+            entries.push(Entry::of_store(ops, store)?);
         }
     }
     Ok(())
@@ -145,6 +162,7 @@ impl StoreBuffer {
             alloc,
             entries: ArrayVec::new_in(alloc),
             sealed: ArrayVec::new(),
+            spare: ArrayVec::new_in(alloc),
         }
     }
 
@@ -284,7 +302,7 @@ impl StoreBuffer {
             op,
         };
         let start = total(&self.sealed);
-        put_behind(self.alloc, &mut self.entries, start, store)?;
+        put_behind(self.alloc, &mut self.entries, &mut self.spare, start, store)?;
         Ok(())
     }
 
@@ -308,7 +326,7 @@ impl StoreBuffer {
         };
         let start = total(&self.sealed);
         let count = self.entries.len();
-        put_behind(self.alloc, &mut self.entries, start, store)?;
+        put_behind(self.alloc, &mut self.entries, &mut self.spare, start, store)?;
         let is_new = self.entries.len() > count;
         if is_new && count > start {
             self.sealed.push(count - start);
@@ -338,5 +356,14 @@ impl StoreBuffer {
         };
         forget_one(&mut self.sealed);
         self.entries.remove(place)
+    }
+
+    /// Keeps the list of an entry that was taken out: a later store's entry takes no memory for its own.
+    pub fn keep(&mut self, ops: Ops)
+        ensures { self.new ≡ self.old }
+    {
+        if !self.spare.is_full() {
+            self.spare.push(ops);
+        }
     }
 }

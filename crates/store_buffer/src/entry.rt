@@ -1,5 +1,5 @@
 //! Stores, and what those of a hart to one word leave.
-ghost use Rattle.std.specs.Prelude.{◌≡◌, IfOk, OnOk, OnErr};
+ghost use Rattle.std.specs.Prelude.{◌≡◌, [], IfOk, OnOk, OnErr};
 ghost use Rattle.store_buffer.specs.Entry.{blank_entry, joined};
 
 use crate::{ByteMask, Ops};
@@ -45,11 +45,17 @@ impl Entry {
         }
     }
 
-    /// The entry that a first store makes.
-    pub(crate) fn of_store(alloc: Global, store: Store) -> Result<Self, AllocError>
+    /// The entry that a first store makes, with an empty list for the places.
+    pub(crate) fn of_store(ops: Ops, store: Store) -> Result<Self, AllocError>
+        requires { ops ≡ [] }
         ensures { IfOk result (λ e. e ≡ joined store (blank_entry store.word)) }
     {
-        let mut entry = Entry::blank(alloc, store.word);
+        let mut entry = Entry {
+            word: store.word,
+            mask: ByteMask::none(),
+            bytes: [0; 4],
+            ops,
+        };
         entry.join(store)?;
         Ok(entry)
     }

@@ -2,6 +2,7 @@
 ghost use Rattle.std.specs.Prelude.{◌≡◌, [], ◌∷◌, ◌++◌, length, OnOk, OnErr};
 
 use std::alloc::{AllocError, Global};
+use std::default::MadeWith;
 use std::marker::Model;
 
 /// Places in a hart's list of retired instructions, in program order.
@@ -53,6 +54,13 @@ impl Ops {
         self.places.len()
     }
 
+    /// Drops all places, and keeps their memory.
+    pub(crate) fn clear(&mut self)
+        ensures { self.new ≡ [] }
+    {
+        self.places.clear();
+    }
+
     /// Appends a place. The only error is want of memory, and leaves the list as it was.
     pub fn push(&mut self, place: u32) -> Result<(), AllocError>
         ensures ok { OnOk result (self.new ≡ self.old ++ place ∷ []) }
@@ -60,5 +68,11 @@ impl Ops {
     {
         self.places.push(place)?;
         Ok(())
+    }
+}
+
+impl MadeWith<Global> for Ops {
+    fn made_with(alloc: Global) -> Self {
+        Ops::new(alloc)
     }
 }
