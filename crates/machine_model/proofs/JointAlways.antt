@@ -81,7 +81,7 @@ events_joint (e ∷ events) s st k j = events_joint events (happens s e) (happen
 opening_joint : (image : Initial) (config : Config) → length image.bytes % 4096 ≡ 0 → Joint (opening image config)
 opening_joint image config pages = (opening_last image config, record { fit = opening_is_fit image config pages; agrees = λ q on. image_line (size_of_config config) image q on })
 
-joint_always : Always (λ image config s. Joint s)
+pub joint_always : Always (λ image config s. Joint s)
 joint_always image config events is within = events_joint events (opening image config) (opening_stand image config) (opening_kept image config) (opening_joint image config is.legal_size.whole_pages)
 
 -- ---- copies

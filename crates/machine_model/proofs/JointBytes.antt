@@ -3,7 +3,7 @@ use Rattle.std.proofs.Common.{◌≡◌, ◌≢◌, ℕ, zero, suc, ◌+◌, ◌
 use Rattle.std.specs.Prelude.{nat_eq, slice_get, slice_index, slice_set}
 use Rattle.std.proofs.lemmas.Bool.{cases_lt, eq-eqb}
 use Rattle.std.proofs.lemmas.Bool.Decides.{eqb_tells}
-use Rattle.std.proofs.lemmas.List.{get_or-drop, get_or-take, length-drop, length-take-le}
+use Rattle.std.proofs.lemmas.List.{get_or-drop, get_or-take, length-drop, length-set, length-take-le}
 use Rattle.std.proofs.lemmas.Option.{slice_get-get_or}
 use Rattle.backing_memory.specs.Memory.{line_at, lines_of}
 use Rattle.backing_memory.specs.Places.{bytes-line_at, size-line_at}
@@ -24,10 +24,11 @@ use Rattle.tl_types.specs.declared.line.LineSize.TheVariants.{Bytes16, Bytes64}
 
 pub record IsOf (size : LineSize) (memory : ℕ → ℕ) (l : ℕ) (line : LineData) : Type 0 where
   pub sized : size_of line ≡ size
+  pub whole : length (bytes_of line) ≡ length_of size
   pub bytes : (k : ℕ) → k < length_of size → slice_get (bytes_of line) k ≡ Some (memory (l + k))
 
 pub same_bytes : (size : LineSize) (memory later : ℕ → ℕ) (l : ℕ) (line : LineData) → ((x : ℕ) → later x ≡ memory x) → IsOf size memory l line → IsOf size later l line
-same_bytes size memory later l line f o = record { sized = o.sized; bytes = λ k b. o.bytes k b ∙ ap Some (sym (f (l + k))) }
+same_bytes size memory later l line f o = record { sized = o.sized; whole = o.whole; bytes = λ k b. o.bytes k b ∙ ap Some (sym (f (l + k))) }
 
 -- ---- marked bytes
 
@@ -64,6 +65,15 @@ marked_get : (line : List ℕ) (at : ℕ) (marks : List Bool) (bytes : List ℕ)
 marked_get line at [] bytes j v e = e
 marked_get line at (mark ∷ marks) [] j v e = e
 marked_get line at (mark ∷ marks) (byte ∷ bytes) j v e = marked_get (cond mark (slice_set line at byte) line) (at + 1) marks bytes j (cond (mark && nat_eq j at) byte v) (set_get line at byte j v mark e)
+
+length-marked : (line : List ℕ) (at : ℕ) (marks : List Bool) (bytes : List ℕ) → length (with_marked line at marks bytes) ≡ length line
+length-marked line at [] bytes = refl
+length-marked line at (mark ∷ marks) [] = refl
+length-marked line at (mark ∷ marks) (byte ∷ bytes) = length-marked (cond mark (slice_set line at byte) line) (at + 1) marks bytes ∙ go mark
+  where
+    go : (b : Bool) → length (cond b (slice_set line at byte) line) ≡ length line
+    go true = length-set line at byte
+    go false = refl
 
 not_there : (mark : Bool) (j at byte v : ℕ) → j ≢ at → cond (mark && nat_eq j at) byte v ≡ v
 not_there true j at byte v ne = ap (λ b. cond b byte v) (not_eq j at ne)
@@ -154,12 +164,13 @@ module _ (size : LineSize) (memory later : ℕ → ℕ) (word : ℕ) (marks : Li
   wrote_own : (line : LineData) → IsOf size memory l line → IsOf size later l (with_word line word marks bytes)
   wrote_own line o = record {
     sized = word_size line word marks bytes ∙ o.sized;
+    whole = ap length (word_bytes line word marks bytes) ∙ (length-marked (bytes_of line) (word % length_of (size_of line)) marks bytes ∙ o.whole);
     bytes = λ k b. ap (λ xs. slice_get xs k) (word_bytes line word marks bytes ∙ ap (λ z. with_marked (bytes_of line) (word % length_of z) marks bytes) o.sized)
         ∙ (marked_get (bytes_of line) at marks bytes k (memory (l + k)) (o.bytes k b) ∙ ap Some (by_place k (places k)));
   }
 
   wrote_other : (q : ℕ) (line : LineData) → q ≢ l → q % length_of size ≡ 0 → IsOf size memory q line → IsOf size later q line
-  wrote_other q line ne a o = record { sized = o.sized; bytes = λ k b. o.bytes k b ∙ ap Some (sym (w.there (q + k) (elsewhere size q word k a b ne))) }
+  wrote_other q line ne a o = record { sized = o.sized; whole = o.whole; bytes = λ k b. o.bytes k b ∙ ap Some (sym (w.there (q + k) (elsewhere size q word k a b ne))) }
 
   pub wrote : (last : ℕ → LineData) (q : ℕ) → q % length_of size ≡ 0 → IsOf size memory q (last q) → IsOf size later q (wrote_word size last word marks bytes q)
   wrote last q = split (λ q. q % length_of size ≡ 0 → IsOf size memory q (last q) → IsOf size later q (wrote_word size last word marks bytes q)) l
@@ -180,13 +191,24 @@ in_image Bytes64 l n k a low high = record { room = omega (arith, a, low, high);
 pub image_line : (size : LineSize) (image : Initial) (l : ℕ) → is_piece image l (length_of size) ≡ true → IsOf size (byte_at image) l (line_at (lines_of size image.bytes) (place_of size l))
 image_line size image l on = record {
   sized = size-line_at size image.bytes (place_of size l) (place_inside image size l on);
+  whole = ap length (bytes-line_at size image.bytes (place_of size l) (place_inside image size l on)) ∙ counted;
   bytes = λ k b.
-      let p : IsPiece image l (length_of size) = piece image l (length_of size) on in
-      let is_in : InImage size l (length image.bytes) k = in_image size l (length image.bytes) k p.aligned p.low p.high in
-      let start : ℕ = place_of size l * length_of size in
-      let room : start + length_of size ≤ length image.bytes = is_in.room in
-      let counted : length (take (length_of size) (drop start image.bytes)) ≡ length_of size = length-take-le (length_of size) (drop start image.bytes) (subst (λ n. length_of size ≤ n) (sym (length-drop start image.bytes)) (omega (arith, room))) in
       ap (λ xs. slice_get xs k) (bytes-line_at size image.bytes (place_of size l) (place_inside image size l on))
       ∙ (slice_get-get_or (take (length_of size) (drop start image.bytes)) k 0 (subst (λ n. k < n) (sym counted) b)
-      ∙ ap Some (get_or-take (length_of size) (drop start image.bytes) k 0 b ∙ (get_or-drop start image.bytes k 0 ∙ ap (slice_index image.bytes) is_in.place)));
+      ∙ ap Some (get_or-take (length_of size) (drop start image.bytes) k 0 b ∙ (get_or-drop start image.bytes k 0 ∙ ap (slice_index image.bytes) (is_in k).place)));
 }
+  where
+    p : IsPiece image l (length_of size)
+    p = piece image l (length_of size) on
+
+    is_in : (k : ℕ) → InImage size l (length image.bytes) k
+    is_in k = in_image size l (length image.bytes) k p.aligned p.low p.high
+
+    start : ℕ
+    start = place_of size l * length_of size
+
+    room : start + length_of size ≤ length image.bytes
+    room = (is_in 0).room
+
+    counted : length (take (length_of size) (drop start image.bytes)) ≡ length_of size
+    counted = length-take-le (length_of size) (drop start image.bytes) (subst (λ n. length_of size ≤ n) (sym (length-drop start image.bytes)) (omega (arith, room)))

@@ -84,3 +84,6 @@ pub mod LogManagerKept
 pub mod LogManagerProbes
 pub mod LogManagerAcks
 pub mod LogManagerAlways
+pub mod RangeRuns
+pub mod RangeLines
+pub mod RangeLog

@@ -6,6 +6,7 @@ use Rattle.elf_loader.specs.Image.{Initial}
 use Rattle.machine_model.specs.Changing.{acted}
 use Rattle.machine_model.specs.Deliveries.{taken}
 use Rattle.machine_model.specs.Events.{counted, happens, hart_of, plan_of}
+use Rattle.machine_model.specs.Laws.{Always}
 use Rattle.machine_model.specs.LogLaws.{LogInOrderAlways}
 use Rattle.machine_model.specs.Views.{Node, State, node_at, opening, opening_node}
 use Rattle.machine_model.specs.declared.act.Act.{Act}
@@ -62,6 +63,8 @@ opening_order image config = record {
         let within : k < config.harts = subst (λ n. k < n) (length-map-range_with_len (opening_node image config) 0 config.harts) l in
         ap (λ (n : Node). queue_of n.queues c) (get_or-map-range_with_len (opening_node image config) 0 config.harts k k d within (omega arith)) ∙ nothing image config k c
 
+pub in_order_always : Always (λ image config s. IsInOrder s)
+in_order_always image config events is within = events_keep Anything IsInOrder (λ s e g. tt) counted_order (λ s e a is in_h g i. acts s e a is in_h i) events (opening image config) tt (opening_order image config)
+
 pub log_in_order_always : LogInOrderAlways
-log_in_order_always image config events is within c h before rest e =
-    (events_keep Anything IsInOrder (λ s e g. tt) counted_order (λ s e a is in_h g i. acts s e a is in_h i) events (opening image config) tt (opening_order image config)).moments before rest e c h
+log_in_order_always image config events is within c h before rest e = (in_order_always image config events is within).moments before rest e c h

@@ -9,7 +9,7 @@ use Rattle.machine_model.specs.Changing.{acted}
 use Rattle.machine_model.specs.Deliveries.{handled, taken}
 use Rattle.machine_model.specs.Events.{after_events, counted, happens, hart_of, plan_of}
 use Rattle.machine_model.specs.LawfulLog.{may_send}
-use Rattle.machine_model.specs.Laws.{LogLawfulAlways}
+use Rattle.machine_model.specs.Laws.{Always, LogLawfulAlways}
 use Rattle.machine_model.specs.LogLaws.{is_probe_or_grant}
 use Rattle.machine_model.specs.Views.{State, line_size, node_at, opening, place_of, size_of_config}
 use Rattle.machine_model.specs.declared.act.Act.{Act}
@@ -101,6 +101,9 @@ opening_governed image config = record {
 
 -- ---- the law
 
+pub governed_always : Always (λ image config s. IsGoverned s)
+governed_always image config events is within = events_keep IsPlain IsGoverned happens_plain counted_governed acts events (opening image config) (opening_plain image config is.legal_size.whole_pages) (opening_governed image config)
+
 pub log_lawful_always : LogLawfulAlways
 log_lawful_always image config events is within = record {
   in_order = log_in_order_always image config events is within;
@@ -108,7 +111,7 @@ log_lawful_always image config events is within = record {
 }
   where
     all : IsGoverned (after_events (opening image config) events)
-    all = events_keep IsPlain IsGoverned happens_plain counted_governed acts events (opening image config) (opening_plain image config is.legal_size.whole_pages) (opening_governed image config)
+    all = governed_always image config events is within
 
     go : (h : ℕ) (m : Msg) (before rest : List Logged) → before ++ goes_in h m ∷ rest ≡ (after_events (opening image config) events).trace.log → (b : Bool) → is_probe_or_grant m.body ≡ b → IsTrue (may_send m.body h m.line before)
     go h m before rest e true kind = all.each h m before rest e kind

@@ -22,7 +22,7 @@ stays (e ∷ events) s =
     record { image = rest.image ∙ first.image; line = rest.line ∙ first.line; config = rest.config ∙ first.config }
 
 -- one more event
-after_one_more : (events : List Event) (s : State) (e : Event) → after_events s (events ++ e ∷ []) ≡ happens (after_events s events) e
+pub after_one_more : (events : List Event) (s : State) (e : Event) → after_events s (events ++ e ∷ []) ≡ happens (after_events s events) e
 after_one_more [] s e = refl
 after_one_more (first ∷ events) s e = after_one_more events (happens s first) e
 

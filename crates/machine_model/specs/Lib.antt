@@ -15,3 +15,4 @@ pub mod JointLaws
 pub mod LogLaws
 pub mod HeadlineLaws
 pub mod Ready
+pub mod Ranges

@@ -10,6 +10,7 @@ mod laws;
 mod log_laws;
 mod order_laws;
 mod outcome;
+mod range_laws;
 mod ready_laws;
 mod room_laws;
 
@@ -25,5 +26,6 @@ pub use log_laws::{
 pub use memory_model::Model;
 pub use order_laws::{order_always, performed_once_always, preserved_always};
 pub use outcome::Outcome;
+pub use range_laws::in_range_always;
 pub use ready_laws::{ready_always, sound_always};
 pub use room_laws::{queues_fit_always, room_always};

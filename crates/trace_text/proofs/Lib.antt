@@ -7,3 +7,4 @@ mod ImageLaws
 mod WholeTraces
 mod TraceLoops
 mod ImageLoops
+mod MachineTraces

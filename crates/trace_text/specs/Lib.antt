@@ -11,3 +11,4 @@ pub mod TraceLines
 pub mod TraceHeads
 pub mod TraceLimits
 pub mod TraceSections
+pub mod MachineTraces

@@ -4,6 +4,7 @@
 
 mod fault;
 mod head;
+mod laws;
 mod message_reading;
 mod script;
 mod script_faults;
@@ -18,6 +19,7 @@ mod trace_reading;
 mod trace_writing;
 
 pub use fault::{TextCode, TextError};
+pub use laws::every_trace_has_a_text;
 pub use script::{Events, Script};
 pub use script_reading::read_script;
 pub use script_writing::write_script;
