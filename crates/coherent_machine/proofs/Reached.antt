@@ -1,5 +1,5 @@
 -- What holds of a state that some list of events leads to, by the laws of every list of events.
-use Rattle.std.proofs.Common.{◌≡◌, ◌∙◌, refl, sym, ap, subst, List, [], ◌∷◌, ◌++◌, ◌⊎◌, IsTrue, OnErr, OnOk, Ok, Err, inl, inr}
+use Rattle.std.proofs.Common.{◌≡◌, ◌∙◌, refl, sym, ap, subst, ℕ, ◌+◌, List, [], ◌∷◌, ◌++◌, ◌⊎◌, IsTrue, OnErr, OnOk, Ok, Err, inl, inr}
 use Rattle.std.proofs.lemmas.List.{append-nil}
 use Rattle.std.specs.declared.result.Result.{Result}
 use Rattle.elf_loader.specs.Image.{Initial, IsImage}
@@ -13,7 +13,7 @@ use Rattle.machine_model.specs.Laws.{Always, Grows, Headline, ImageAndConfigStay
 use Rattle.machine_model.specs.LawfulLog.{IsBeginningOf}
 use Rattle.machine_model.specs.Views.{State, opening}
 use Rattle.machine_parts.specs.Applying.{Answers}
-use Rattle.coherent_machine.specs.Machine.{IsReached, KeepsHeadline}
+use Rattle.coherent_machine.specs.Machine.{IsReached, KeepsHeadline, Replayed, replayed_from, unless_refused}
 use Rattle.machine_parts.specs.declared.errors.ApplyError.{ApplyError}
 use Rattle.trace_recorder.specs.History.{entries_of}
 
@@ -118,3 +118,22 @@ pub headline_of : Headline → ImageAndConfigStay → (s : State) → IsReached 
 headline_of law stay s r =
     subst (λ (x : Config). IsHeadline s.trace.image x s) (config_of stay s r)
     (subst (λ (x : Initial). IsHeadline x r.config s) (image_of stay s r) (law_of IsHeadline law s r))
+
+-- a replay that refuses nothing leads where its events lead
+goes_on : (v : Verdict) (i : ℕ) (rest : Replayed) (t : State) → unless_refused v i rest ≡ Replayed.Reached t → rest ≡ Replayed.Reached t
+goes_on IsBad i rest t p = absurd (cc p)
+goes_on (Keeps o) i rest t p = p
+goes_on IsLimited i rest t p = absurd (cc p)
+goes_on (Moves o new) i rest t p = p
+
+leads_to : (s t : State) (i : ℕ) (events : List Event) → replayed_from i s events ≡ Replayed.Reached t → after_events s events ≡ t
+leads_to s t i [] p = cc p
+leads_to s t i (e ∷ events) p = leads_to (happens s e) t (i + 1) events (goes_on (verdict s e) i (replayed_from (i + 1) (happens s e) events) t p)
+
+-- so the headline holds there of the image and the configuration at reset
+pub headline_from : ImageAndConfigStay → (image : Initial) (config : Config) (events : List Event) (t : State)
+    → replayed_from 0 (opening image config) events ≡ Replayed.Reached t → KeepsHeadline t → IsHeadline image config t
+headline_from stay image config events t p h =
+    let leads = leads_to (opening image config) t 0 events p in
+    subst (λ (x : Config). IsHeadline image x t) (sym (ap (λ (x : State). x.views.config) leads) ∙ config_stays stay (opening image config) events)
+    (subst (λ (x : Initial). IsHeadline x t.views.config t) (sym (ap (λ (x : State). x.trace.image) leads) ∙ image_stays stay (opening image config) events) h)

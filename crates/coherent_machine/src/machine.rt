@@ -5,7 +5,7 @@ ghost use Rattle.hart.specs.Local.{IsRow};
 ghost use Rattle.machine_model.specs.Config as limits;
 ghost use Rattle.machine_model.specs.Events.{Verdict, happens, verdict};
 ghost use Rattle.machine_model.specs.LawfulLog.{IsLawfulLog};
-ghost use Rattle.machine_model.specs.Laws.{Grows, KeepsImageAndConfig};
+ghost use Rattle.machine_model.specs.Laws.{Grows, IsHeadline, KeepsImageAndConfig};
 ghost use Rattle.machine_model.specs.Views.{State, opening};
 ghost use Rattle.machine_parts.specs.Applying.{Answers};
 ghost use Rattle.coherent_machine.specs.Adopting.{IsCurrent, local_of};
@@ -56,7 +56,7 @@ impl Machine {
     pub fn new(alloc: Global, image: Image, config: Config) -> Result<Machine, NewError>
         ensures ok { IfOk result (λ machine. machine ≡ opening image config) }
         ensures config { (result ≡ Err NewError.Config) ↔ (limits.is_within_limits config ≡ false) }
-        ensures headline { IfOk result (λ machine. KeepsHeadline machine) }
+        ensures headline { IfOk result (λ machine. IsHeadline image config machine) }
         ensures log { IfOk result (λ machine. IsLawfulLog machine.trace.log) }
     {
         headline();
@@ -180,9 +180,10 @@ pub fn replay(
     ensures ok { IfOk result (λ machine. replayed_from 0 (opening image config) events.now ≡ Replayed.Reached machine) }
     ensures config { (result ≡ Err (ReplayError.New NewError.Config)) ↔ (limits.is_within_limits config ≡ false) }
     ensures refused { IfErr result (λ error. IsFirstRefusal (opening image config) events.now error) }
-    ensures headline { IfOk result (λ machine. KeepsHeadline machine) }
+    ensures headline { IfOk result (λ machine. IsHeadline image config machine) }
     ensures log { IfOk result (λ machine. IsLawfulLog machine.trace.log) }
 {
+    image_and_config_stay();
     let mut machine = Machine::new(alloc, image, config)?;
     match apply_all(&mut machine, events) {
         Ok(()) => Ok(machine),

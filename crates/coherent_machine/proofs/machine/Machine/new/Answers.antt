@@ -1,7 +1,9 @@
-use Rattle.std.proofs.Common.{rules}
+use Rattle.std.proofs.Common.{rules, [], ap, sym}
 use Rattle.std.proofs.lemmas.Bool.{not-false}
 use Rattle.machine_model.specs.LawfulLog.{IsLawfulLog}
-use Rattle.coherent_machine.proofs.Reached.{headline_of, law_of, reached_opening}
+use Rattle.machine_model.specs.Views.{State}
+use Rattle.coherent_machine.specs.Machine.{Replayed}
+use Rattle.coherent_machine.proofs.Reached.{headline_from, headline_of, law_of, reached_opening}
 use Rattle.machine_parts.specs.Parts.{state_of}
 use Rattle.coherent_machine.proofs.machine.Machine.new.Goals as goal
 
@@ -9,7 +11,10 @@ pub invariant_of-result : goal.invariant_of-result
 invariant_of-result c = rw c.in_ok-parts.ensures (reached_opening c.args.image c.args.config (rw (← c.image.view_is) c.image.invariant) (search (rules, not-false)))
 
 pub returns-clause-headline : goal.returns-clause-headline
-returns-clause-headline c = headline_of c.headline.ensures c.image_and_config_stay.ensures (state_of c.in_ok-parts.parts) (invariant_of-result c)
+returns-clause-headline c =
+    headline_from c.image_and_config_stay.ensures c.args.image c.args.config [] (state_of c.in_ok-parts.parts)
+    (ap (λ (s : State). Replayed.Reached s) (sym c.in_ok-parts.ensures))
+    (headline_of c.headline.ensures c.image_and_config_stay.ensures (state_of c.in_ok-parts.parts) (invariant_of-result c))
 
 pub returns-clause-log : goal.returns-clause-log
 returns-clause-log c = law_of (λ image config s. IsLawfulLog s.trace.log) c.log_lawful_always.ensures (state_of c.in_ok-parts.parts) (invariant_of-result c)
