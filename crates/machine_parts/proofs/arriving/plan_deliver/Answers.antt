@@ -1,8 +1,7 @@
-use Rattle.std.proofs.Common.{Option, Some, None, ◌≡◌, ap, ◌∙◌, sym}
+use Rattle.std.proofs.Common.{Option, ap, ◌∙◌, sym}
 use Rattle.machine_model.specs.Deliveries.{plan_front}
 use Rattle.machine_model.specs.Views.{node_at}
 use Rattle.machine_model.specs.declared.act.Act.TheVariants as act
-use Rattle.machine_model.specs.declared.act.Plan.{Plan}
 use Rattle.machine_model.specs.declared.act.Plan.TheVariants.{Changes}
 use Rattle.machine_model.specs.declared.outcome.Outcome.{Outcome}
 use Rattle.machine_parts.specs.Deciding.{unless_stalled}
