@@ -1,6 +1,9 @@
 //! `rvtl check`: the order of a trace's memory operations is judged, and the verdict printed.
 
+ghost use Rattle.std.specs.Prelude.{IfOk, OnOk};
+ghost use Rattle.std.specs.Io.KnownBytes.{Appends};
 ghost use Rattle.rvwmo_order.specs.Limits.{IsWithinLimits};
+ghost use Rattle.command_line.specs.Lines.{IsJudged, IsVerdict, verdict_text};
 
 use crate::fault::Fault;
 use crate::files::Files;
@@ -19,7 +22,9 @@ pub(crate) fn check_file<'a, F: Files, O: Write>(
     file: &'a str,
     model: Model,
     out: &mut O,
-) -> Result<Verdict, Fault<'a>> {
+) -> Result<Verdict, Fault<'a>>
+    ensures { IfOk result (λ verdict. IsJudged (F.held files.old) file.entry.now model verdict (O.contents out.old) (O.contents out.new)) }
+{
     let bytes = contents(alloc, files, file)?;
     let (trace, length) = match read_trace(alloc, bytes.as_slice()) {
         Ok(read) => read,
@@ -44,17 +49,19 @@ pub(crate) fn check_file<'a, F: Files, O: Write>(
 
 fn judged(alloc: Global, trace: &Trace, model: Model) -> Result<Verdict, CheckError>
     requires { IsWithinLimits trace.now.history }
+    ensures { IfOk result (IsVerdict model trace.now.history) }
 {
-    // The order of too many operations isn't looked at.
-    let order = if has_too_many(trace) {
-        Vec::new(alloc)
-    } else {
-        completed(alloc, trace)?
-    };
+    if has_too_many(trace) {
+        // An order of so many isn't looked at.
+        return check_model(alloc, trace, &[], model);
+    }
+    let order = completed(alloc, trace)?;
     check_model(alloc, trace, order.as_slice(), model)
 }
 
-fn print<O: Write>(verdict: Verdict, out: &mut O) -> io::Result<()> {
+fn print<O: Write>(verdict: Verdict, out: &mut O) -> io::Result<()>
+    ensures { OnOk result (Appends (O.contents out.old) (O.contents out.new) (verdict_text verdict)) }
+{
     match verdict {
         Verdict::Legal => writeln!(out, "legal")?,
         Verdict::Fault(code, a, b) => {

@@ -1,11 +1,19 @@
 //! Where the program's files come from.
 
+ghost use Rattle.std.specs.Prelude.{◌≡◌, ℕ, IfOk, List, None, Option};
+ghost use Rattle.command_line.specs.Held.{Gives};
+
 use std::io::{self, Read};
 
 /// Files by their names: those of the system, or some that are kept in memory.
 pub trait Files {
     type Reader: Read + Drop;
 
+    // The bytes of the file of each name, where they are known.
+    ghost held: { Self → List ℕ → Option (List ℕ) } = { λ _ _. None };
+
     /// Opens a file for reading.
-    fn open(&mut self, name: &str) -> io::Result<Self::Reader>;
+    fn open(&mut self, name: &str) -> io::Result<Self::Reader>
+        ensures reader { IfOk result (λ reader. Gives (held self.old name.now) (Self.Reader.remaining reader)) }
+        ensures stays { held self.new ≡ held self.old };
 }

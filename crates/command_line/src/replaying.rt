@@ -1,5 +1,10 @@
 //! `rvtl replay`: a script of events is applied to a machine, and the trace printed.
 
+ghost use Rattle.std.specs.Prelude.{◌≡◌, IfOk, OnOk};
+ghost use Rattle.command_line.specs.Files.{HoldsImage, HoldsScript};
+ghost use Rattle.command_line.specs.Held.{HoldsBytes};
+ghost use Rattle.command_line.specs.Lines.{IsReplayed};
+
 use crate::composing::{CompositionError, replay_and_write};
 use crate::fault::Fault;
 use crate::files::Files;
@@ -19,7 +24,9 @@ pub(crate) fn replay_files<'a, F: Files, O: Write, E: Write>(
     wanted: Replay<'a>,
     out: &mut O,
     err: &mut E,
-) -> Result<(), Fault<'a>> {
+) -> Result<(), Fault<'a>>
+    ensures { OnOk result (IsReplayed (F.held files.old) wanted.entry (O.contents out.old) (O.contents out.new)) }
+{
     let script = script_in(alloc, files, wanted.script)?;
     let image = image_in(alloc, files, &wanted, script.kib)?;
     let machine = match replay_and_write(alloc, image, &script, wanted.model, out) {
@@ -40,7 +47,10 @@ pub(crate) fn contents<'a, F: Files>(
     alloc: Global,
     files: &mut F,
     name: &'a str,
-) -> Result<Vec<u8>, Fault<'a>> {
+) -> Result<Vec<u8>, Fault<'a>>
+    ensures bytes { IfOk result (λ bytes. HoldsBytes (F.held files.old) name.entry.now bytes.items) }
+    ensures stays { F.held files.new ≡ F.held files.old }
+{
     let mut reader = match files.open(name) {
         Ok(reader) => reader,
         Err(error) => return Err(Fault::reading(name, error)),
@@ -52,11 +62,10 @@ pub(crate) fn contents<'a, F: Files>(
     }
 }
 
-fn script_in<'a, F: Files>(
-    alloc: Global,
-    files: &mut F,
-    name: &'a str,
-) -> Result<Script, Fault<'a>> {
+fn script_in<'a, F: Files>(alloc: Global, files: &mut F, name: &'a str) -> Result<Script, Fault<'a>>
+    ensures script { IfOk result (HoldsScript (F.held files.old) name.entry.now) }
+    ensures stays { F.held files.new ≡ F.held files.old }
+{
     let bytes = contents(alloc, files, name)?;
     match read_script(alloc, bytes.as_slice()) {
         Ok(script) => Ok(script),
@@ -69,7 +78,9 @@ fn image_in<'a, F: Files>(
     files: &mut F,
     wanted: &Replay<'a>,
     kib: u32,
-) -> Result<Image, Fault<'a>> {
+) -> Result<Image, Fault<'a>>
+    ensures { IfOk result (HoldsImage (F.held files.old) wanted.now.raw wanted.now.image.now kib) }
+{
     let bytes = contents(alloc, files, wanted.image)?;
     let Some(size) = size_of_kib(kib) else {
         return Err(Fault::Configuration);

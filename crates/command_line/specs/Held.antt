@@ -1,0 +1,15 @@
+-- The bytes of files, where they are known.
+use Rattle.std.specs.Prelude.{◌≡◌, ℕ, List, Option, Some, None, IfSome}
+
+-- the bytes of the file of each name, where they are known
+abbrev pub Held : Type 0
+Held = List ℕ → Option (List ℕ)
+
+-- a reader of the file still has all of it to read
+abbrev pub Gives : Option (List ℕ) → Option (List ℕ) → Type 0
+Gives None left = Unit {0}
+Gives (Some bytes) left = left ≡ Some bytes
+
+-- a file of these bytes, where they are known
+abbrev pub HoldsBytes : Held → List ℕ → List ℕ → Type 0
+HoldsBytes held name bytes = IfSome (held name) (λ known. known ≡ bytes)
