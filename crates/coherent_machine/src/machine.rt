@@ -9,7 +9,7 @@ ghost use Rattle.machine_model.specs.Laws.{Grows, IsHeadline, KeepsImageAndConfi
 ghost use Rattle.machine_model.specs.Views.{State, opening};
 ghost use Rattle.machine_parts.specs.Applying.{Answers};
 ghost use Rattle.coherent_machine.specs.Adopting.{IsCurrent, local_of};
-ghost use Rattle.coherent_machine.specs.Machine.{IsFirstRefusal, IsRefusedAt, KeepsHeadline, Replayed, replayed_from};
+ghost use Rattle.coherent_machine.specs.Machine.{IsFirstRefusal, IsReached, IsRefusedAt, KeepsHeadline, Replayed, replayed_from};
 
 use crate::adopting::is_current;
 use crate::errors::{AdoptError, NewError, ReplayError};
@@ -56,6 +56,7 @@ impl Machine {
     pub fn new(alloc: Global, image: Image, config: Config) -> Result<Machine, NewError>
         ensures ok { IfOk result (λ machine. machine ≡ opening image config) }
         ensures config { (result ≡ Err NewError.Config) ↔ (limits.is_within_limits config ≡ false) }
+        ensures reached { IfOk result (λ machine. IsReached machine) }
         ensures headline { IfOk result (λ machine. IsHeadline image config machine) }
         ensures log { IfOk result (λ machine. IsLawfulLog machine.trace.log) }
     {
@@ -76,6 +77,7 @@ impl Machine {
         ensures answers { Answers (verdict self.old event) self.old result self.new }
         ensures ok { OnOk result (self.new ≡ happens self.old event) }
         ensures err { OnErr result (self.new ≡ self.old) }
+        ensures reached { IsReached self.new }
         ensures headline { KeepsHeadline self.new }
         ensures log { IsLawfulLog self.new.trace.log }
         ensures grows { Grows self.old.trace self.new.trace }
@@ -180,6 +182,7 @@ pub fn replay(
     ensures ok { IfOk result (λ machine. replayed_from 0 (opening image config) events.now ≡ Replayed.Reached machine) }
     ensures config { (result ≡ Err (ReplayError.New NewError.Config)) ↔ (limits.is_within_limits config ≡ false) }
     ensures refused { IfErr result (λ error. IsFirstRefusal (opening image config) events.now error) }
+    ensures reached { IfOk result (λ machine. IsReached machine) }
     ensures headline { IfOk result (λ machine. IsHeadline image config machine) }
     ensures log { IfOk result (λ machine. IsLawfulLog machine.trace.log) }
 {
@@ -192,10 +195,12 @@ pub fn replay(
 }
 
 fn apply_all(machine: &mut Machine, events: &[Event]) -> Result<(), (usize, ApplyError)>
+    requires reached { IsReached machine.old }
     requires headline { KeepsHeadline machine.old }
     requires log { IsLawfulLog machine.old.trace.log }
     ensures ok { OnOk result (replayed_from 0 machine.old events.now ≡ Replayed.Reached machine.new) }
     ensures refused { IfErr result (λ error. IsRefusedAt machine.old events.now error.0 error.1) }
+    ensures reached { IsReached machine.new }
     ensures headline { KeepsHeadline machine.new }
     ensures log { IsLawfulLog machine.new.trace.log }
 {

@@ -1,12 +1,17 @@
 -- What a replay prints: the text of the trace that the script's events lead to.
 use Rattle.std.specs.Prelude.{ℕ, ◌≡◌, List, Option}
-use Rattle.coherent_machine.specs.Machine.{KeepsHeadline, Replayed, replayed_from}
+use Rattle.coherent_machine.specs.Machine.{IsFirstRefusal, Replayed, replayed_from}
+use Rattle.command_line.specs.declared.composing.CompositionError.{CompositionError}
+use Rattle.command_line.specs.declared.composing.CompositionError.TheVariants as errors
 use Rattle.elf_loader.specs.Image.{Initial}
 use Rattle.machine_model.specs.LawfulLog.{IsLawfulLog}
+use Rattle.machine_model.specs.Laws.{IsHeadline}
 use Rattle.machine_model.specs.Views.{State, opening}
 use Rattle.machine_model.specs.declared.config.Config.{Config}
 use Rattle.memory_model.specs.declared.Model.{Model}
 use Rattle.std.specs.Io.KnownBytes.{Appends}
+use Rattle.text_fields.specs.Writing.{Begins}
+use Rattle.trace_text.specs.TraceLimits.{IsTrace}
 use Rattle.trace_text.specs.Traces.{text}
 use Rattle.trace_text.specs.declared.script.Script.{Script}
 
@@ -14,9 +19,19 @@ use Rattle.trace_text.specs.declared.script.Script.{Script}
 abbrev pub config_of : Script → Model → Config
 config_of s model = record { harts = s.harts; sets = s.sets; ways = s.ways; line = s.line; model = model }
 
--- the script's events lead from reset to this state, whose trace's text was appended; each hart's list is a run of the image, all lists have one legal global order, the caches are coherent, and the log is lawful
+-- the script's events lead from reset to this state
+abbrev pub Leads : Initial → Script → Model → State → Type 0
+Leads image script model s = replayed_from 0 (opening image (config_of script model)) script.events ≡ Replayed.Reached s
+
+-- there the script leads, and the text of the trace was appended, which is read back as this trace; each hart's list is a run of the image, all lists have one legal global order, the caches are coherent, and the log is lawful
 pub record IsComposition (image : Initial) (script : Script) (model : Model) (old new : Option (List ℕ)) (s : State) : Type 0 where
-  pub replayed : replayed_from 0 (opening image (config_of script model)) script.events ≡ Replayed.Reached s
+  pub replayed : Leads image script model s
   pub printed : Appends old new (text s.trace)
-  pub headline : KeepsHeadline s
+  pub readable : IsTrace s.trace
+  pub headline : IsHeadline image (config_of script model) s
   pub log : IsLawfulLog s.trace.log
+
+-- why the text isn't there: an event is refused or no machine was made, and nothing went out; or the writer had a fault, and a beginning of the text did
+abbrev pub IsUnfinished : Initial → Script → Model → Option (List ℕ) → Option (List ℕ) → CompositionError → Type 0
+IsUnfinished image script model old new (errors.Replay error) = (new ≡ old) × IsFirstRefusal (opening image (config_of script model)) script.events error
+IsUnfinished image script model old new (errors.Writing fault) = (s : State) × Leads image script model s × Begins old new (text s.trace)

@@ -1,14 +1,14 @@
 //! A replay and its text.
 
-ghost use Rattle.std.specs.Prelude.{◌≡◌, IfOk};
-ghost use Rattle.command_line.specs.Composition.{IsComposition, config_of};
+ghost use Rattle.std.specs.Prelude.{◌≡◌, IfErr, IfOk};
+ghost use Rattle.command_line.specs.Composition.{IsComposition, IsUnfinished, config_of};
 
 use coherent_machine::{Machine, ReplayError, replay};
 use elf_loader::Image;
 use machine_model::{Config, Model};
 use std::alloc::Global;
 use std::io::{self, Write};
-use trace_text::{Script, write_trace};
+use trace_text::{Script, every_trace_has_a_text, write_trace};
 
 /// Why a replay is not printed.
 #[derive(Debug, Drop)]
@@ -40,8 +40,10 @@ pub fn replay_and_write<W: Write>(
     model: Model,
     out: &mut W,
 ) -> Result<Machine, CompositionError>
-    ensures { IfOk result (λ machine. IsComposition image script.now model (W.contents out.old) (W.contents out.new) machine) }
+    ensures written { IfOk result (λ machine. IsComposition image script.now model (W.contents out.old) (W.contents out.new) machine) }
+    ensures unfinished { IfErr result (λ error. IsUnfinished image script.now model (W.contents out.old) (W.contents out.new) error) }
 {
+    every_trace_has_a_text();
     let config = config_of(script, model);
     let machine = match replay(alloc, image, config, script.events.as_slice()) {
         Ok(machine) => machine,

@@ -258,3 +258,21 @@ fn a_refused_growth_changes_nothing(rt: HostRuntime) {
     assert_eq!(rt; copy.group_count(), 4);
     assert_eq!(rt; copy.entry_count(), 5);
 }
+
+/// Meant for runs in which one allocation fails: an entry takes no memory where the buffer kept a list.
+#[test]
+fn a_kept_list_serves_the_next_entry(rt: HostRuntime) {
+    let mut buffer = StoreBuffer::new(rt.alloc());
+    if put_word(&mut buffer, X, 1, 1).is_err() {
+        assert_eq!(rt; put_word(&mut buffer, X, 1, 1), Ok(()));
+    }
+    for op in 2..50u32 {
+        assert!(rt; buffer.drainable(X));
+        let Entry { ops, .. } = buffer.take(X);
+        buffer.keep(ops);
+        assert_eq!(rt; put_word(&mut buffer, X, op, op), Ok(()));
+    }
+    let (value, ops) = drain(&rt, &mut buffer, X);
+    assert_eq!(rt; value, 49);
+    assert_eq!(rt; ops.as_slice(), [49].as_slice());
+}

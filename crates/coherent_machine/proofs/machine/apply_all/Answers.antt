@@ -14,6 +14,7 @@ loop-rest-preserved c = record {
       c.in_default-apply.ensures.answers
       c.in_default-apply.ensures.ok;
   place = rest_place c.loop-rest.rest.now _ _ c.in-len1-up.len_at_least c.loop-rest.invariant.place;
+  reached = c.apply.ensures.reached;
   headline = c.apply.ensures.headline;
   log = c.apply.ensures.log;
 }

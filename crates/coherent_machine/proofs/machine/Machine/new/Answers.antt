@@ -18,3 +18,6 @@ returns-clause-headline c =
 
 pub returns-clause-log : goal.returns-clause-log
 returns-clause-log c = law_of (λ image config s. IsLawfulLog s.trace.log) c.log_lawful_always.ensures (state_of c.in_ok-parts.parts) (invariant_of-result c)
+
+pub returns-clause-reached : goal.returns-clause-reached
+returns-clause-reached c = invariant_of-result c
