@@ -58,6 +58,7 @@ fn replays(
     Ok(())
 }
 
+/// It also refuses a program that always tells want of memory, as each contract allows.
 #[test]
 fn row_1(rt: HostRuntime) -> Result<(), Fail> {
     replays(
@@ -299,5 +300,35 @@ fn usage_and_help(rt: HostRuntime) {
         assert_eq!(rt; ran.status, status, "{words:?}");
         assert!(rt; ran.out.is_empty() == (status == 2), "{words:?}");
         assert!(rt; ran.err.is_empty() == (status == 0), "{words:?}");
+    }
+}
+
+/// Each help says how the words go, and has an example.
+#[test]
+fn help_teaches(rt: HostRuntime) {
+    for (words, usage, example) in [
+        (
+            ["rvtl", "--help"].as_slice(),
+            "Usage: rvtl <COMMAND>\n",
+            "Example: rvtl replay --raw examples/exit.bin examples/exit.script\n",
+        ),
+        (
+            &["rvtl", "replay", "--help"],
+            "Usage: rvtl replay [OPTIONS] <IMAGE> <SCRIPT>\n",
+            "Example: rvtl replay --raw examples/exit.bin examples/exit.script\n",
+        ),
+        (
+            &["rvtl", "check", "--help"],
+            "Usage: rvtl check [OPTIONS] <TRACE>\n",
+            "Example: rvtl check examples/legal.trace\n",
+        ),
+    ] {
+        let ran = line(rt.alloc(), words, &[]);
+        let Ok(text) = std::str::from_utf8(ran.out.as_slice()) else {
+            assert!(rt; false, "{words:?}");
+            return;
+        };
+        assert!(rt; text.contains(usage), "{words:?}");
+        assert!(rt; text.ends_with(example), "{words:?}");
     }
 }

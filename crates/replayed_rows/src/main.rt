@@ -1,7 +1,8 @@
-//! Plays kept scripts on kept images with the plain machine and with the machine that is built of proved
-//! parts, and compares the outcome of each event, the trace and the harts' ends with the kept texts, which
-//! other implementations of the same rules have printed; those of cases named by words are written by hand. A line
-//! of the file `cases` has a case's name, the kind of its image and its memory model.
+//! Plays kept scripts on kept images with the plain machine, with the machine that is built of proved parts
+//! and with the program's command line, and compares the outcome of each event, the trace and the harts'
+//! ends with the kept texts, which other implementations of the same rules have printed; those of cases
+//! named by words are written by hand. A line of the file `cases` has a case's name, the kind of its image
+//! and its memory model.
 #![tactic(auto)]
 
 mod machines;
@@ -9,12 +10,14 @@ mod play;
 
 use anyhow::{Result, bail, ensure};
 use coherent_machine::Machine;
+use command_line::{SystemFiles, run_line};
 use machine_model::Model;
 use machines::Playable;
 use plain_machine::PlainMachine;
 use play::{ImageKind, Played, play};
-use std::fs;
+use std::alloc::Global;
 use std::rt::Files;
+use std::{fmt, fs};
 
 /// What a line of `cases` says.
 #[derive(Clone, Copy)]
@@ -40,19 +43,27 @@ fn case_of(line: &str) -> Option<Case<'_>> {
     Some(Case { name, kind, model })
 }
 
+/// The name of the file of a case with this ending.
+fn path_of(alloc: Global, case: &Case<'_>, ending: &str) -> Result<String> {
+    let name = case.name;
+    Ok(format!(in alloc; "{name}.{ending}")?)
+}
+
+fn image_path(alloc: Global, case: &Case<'_>) -> Result<String> {
+    match case.kind {
+        ImageKind::Raw => path_of(alloc, case, "bin"),
+        ImageKind::Elf => path_of(alloc, case, "elf"),
+    }
+}
+
 /// The kept file of a case with this ending.
 fn kept<R: Files + AllocGlobal>(rt: &R, case: &Case<'_>, ending: &str) -> Result<Vec<u8>> {
-    let name = case.name;
-    let path = format!(in rt.alloc(); "{name}.{ending}")?;
+    let path = path_of(rt.alloc(), case, ending)?;
     Ok(fs::read(rt, path.as_str())?)
 }
 
 fn played<M: Playable + Drop, R: Files + AllocGlobal>(rt: &R, case: &Case<'_>) -> Result<Played> {
-    let ending = match case.kind {
-        ImageKind::Raw => "bin",
-        ImageKind::Elf => "elf",
-    };
-    let image = kept(rt, case, ending)?;
+    let image = fs::read(rt, image_path(rt.alloc(), case)?.as_str())?;
     let script = kept(rt, case, "script")?;
     play::<M>(rt.alloc(), case.kind, &image, &script, case.model)
 }
@@ -80,6 +91,76 @@ fn difference<M: Playable + Drop, R: Files + AllocGlobal>(
     Ok(None)
 }
 
+/// What of a case replayed by the command line isn't as kept.
+fn printed_difference<R: Files + AllocGlobal>(
+    rt: &R,
+    case: &Case<'_>,
+) -> Result<Option<&'static str>> {
+    let alloc = rt.alloc();
+    let image = image_path(alloc, case)?;
+    let script = path_of(alloc, case, "script")?;
+    let model = match case.model {
+        Model::Rvwmo => "rvwmo",
+        Model::Ztso => "ztso",
+    };
+    let mut words = vec![in alloc; "rvtl", "replay", "--model", model]?;
+    if let ImageKind::Raw = case.kind {
+        words.push("--raw")?;
+    }
+    words.push(image.as_str())?;
+    words.push(script.as_str())?;
+    let mut out = Vec::new(alloc);
+    let mut err = Vec::new(alloc);
+    let status = run_line(
+        alloc,
+        words.as_slice(),
+        &mut SystemFiles::new(rt),
+        &mut out,
+        &mut err,
+    );
+    if status != 0 {
+        return Ok(Some("status differs"));
+    }
+    if out.as_slice() != kept(rt, case, "trace")?.as_slice() {
+        return Ok(Some("standard output differs"));
+    }
+    if err.as_slice() != kept(rt, case, "err")?.as_slice() {
+        return Ok(Some("standard error differs"));
+    }
+    Ok(None)
+}
+
+/// What of one case isn't as kept, where it was played by each.
+#[derive(Clone, Copy)]
+struct Differences {
+    plain: Option<&'static str>,
+    coherent: Option<&'static str>,
+    program: Option<&'static str>,
+}
+
+impl Differences {
+    fn of<R: Files + AllocGlobal>(rt: &R, case: &Case<'_>) -> Result<Differences> {
+        Ok(Differences {
+            plain: difference::<PlainMachine, _>(rt, case)?,
+            coherent: difference::<Machine, _>(rt, case)?,
+            program: printed_difference(rt, case)?,
+        })
+    }
+
+    fn is_as_kept(&self) -> bool {
+        self.plain.is_none() && self.coherent.is_none() && self.program.is_none()
+    }
+}
+
+impl fmt::Display for Differences {
+    fn fmt<W: fmt::Write>(&self, f: &mut fmt::Formatter<W>) -> fmt::Result {
+        let plain = self.plain.unwrap_or("as kept");
+        let coherent = self.coherent.unwrap_or("as kept");
+        let program = self.program.unwrap_or("as kept");
+        write!(f, "plain {plain}, coherent {coherent}, program {program}")
+    }
+}
+
 fn main(rt: HostRuntime) -> Result<()> {
     let cases = fs::read_to_string(&rt, "cases")?;
     let mut all_kept = true;
@@ -87,13 +168,10 @@ fn main(rt: HostRuntime) -> Result<()> {
         let Some(case) = case_of(line) else {
             bail!("no case: {line}");
         };
+        let differences = Differences::of(&rt, &case)?;
         let name = case.name;
-        let plain = difference::<PlainMachine, _>(&rt, &case)?;
-        let coherent = difference::<Machine, _>(&rt, &case)?;
-        let plain_verdict = plain.unwrap_or("as kept");
-        let coherent_verdict = coherent.unwrap_or("as kept");
-        println!(rt; "{name}: plain {plain_verdict}, coherent {coherent_verdict}")?;
-        all_kept = all_kept && plain.is_none() && coherent.is_none();
+        println!(rt; "{name}: {differences}")?;
+        all_kept = all_kept && differences.is_as_kept();
     }
     ensure!(all_kept, "a case differs");
     Ok(())
