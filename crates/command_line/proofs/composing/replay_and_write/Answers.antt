@@ -15,6 +15,7 @@ returns-in-Ok-write_trace-clause-written c = λ c'. record {
 
 pub returns-in-Err-write_trace-clause-unfinished : goal.returns-in-Err-write_trace-clause-unfinished
 returns-in-Err-write_trace-clause-unfinished c = λ c'. (
-    c'.in-Ok.machine,
-    led c'.args.image c'.args.script.now c'.args.model c'.config_of-config.result c'.as_slice.result.now c'.in-Ok.machine c'.config_of-config.ensures c'.as_slice.ensures c'.in-Ok.ensures.ok,
-    rw (← c'.trace.ensures) c'.in-Err-write_trace.ensures)
+  c'.in-Ok.machine,
+  led c'.args.image c'.args.script.now c'.args.model c'.config_of-config.result c'.as_slice.result.now c'.in-Ok.machine c'.config_of-config.ensures c'.as_slice.ensures c'.in-Ok.ensures.ok,
+  rw (← c'.trace.ensures) c'.in-Err-write_trace.ensures,
+)

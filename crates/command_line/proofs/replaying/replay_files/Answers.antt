@@ -12,7 +12,7 @@ kept_on (Some xs) (Some ys) (Some zs) bytes appended kept = kept ∙ appended
 
 pub returns : goal.returns
 returns g c =
-    let composed = c.in-Ok.ensures in
+    let composed = c.in-Ok.ensures.written in
     record {
       script = c.in_ok-script.script;
       image = c.in_ok-image.image;
@@ -24,6 +24,7 @@ returns g c =
       composed = record {
         replayed = composed.replayed;
         printed = kept_on _ _ _ _ composed.printed c.flush.ensures.bytes;
+        readable = composed.readable;
         headline = composed.headline;
         log = composed.log;
       };
