@@ -91,33 +91,71 @@ fn difference<M: Playable + Drop, R: Files + AllocGlobal>(
     Ok(None)
 }
 
+fn model_name(model: Model) -> &'static str {
+    match model {
+        Model::Rvwmo => "rvwmo",
+        Model::Ztso => "ztso",
+    }
+}
+
 /// What of a case replayed by the command line isn't as kept.
 fn printed_difference<R: Files + AllocGlobal>(
     rt: &R,
     case: &Case<'_>,
 ) -> Result<Option<&'static str>> {
-    let alloc = rt.alloc();
-    let image = image_path(alloc, case)?;
-    let script = path_of(alloc, case, "script")?;
-    let model = match case.model {
-        Model::Rvwmo => "rvwmo",
-        Model::Ztso => "ztso",
-    };
-    let mut words = vec![in alloc; "rvtl", "replay", "--model", model]?;
-    if let ImageKind::Raw = case.kind {
-        words.push("--raw")?;
+    match case.kind {
+        ImageKind::Raw => bare_difference(rt, case),
+        ImageKind::Elf => program_difference(rt, case),
     }
-    words.push(image.as_str())?;
-    words.push(script.as_str())?;
+}
+
+fn bare_difference<R: Files + AllocGlobal>(
+    rt: &R,
+    case: &Case<'_>,
+) -> Result<Option<&'static str>> {
+    let model = model_name(case.model);
+    let image = image_path(rt.alloc(), case)?;
+    let script = path_of(rt.alloc(), case, "script")?;
+    let words = [
+        "rvtl",
+        "replay",
+        "--raw",
+        "--model",
+        model,
+        image.as_str(),
+        script.as_str(),
+    ];
+    line_difference(rt, case, &words)
+}
+
+fn program_difference<R: Files + AllocGlobal>(
+    rt: &R,
+    case: &Case<'_>,
+) -> Result<Option<&'static str>> {
+    let model = model_name(case.model);
+    let image = image_path(rt.alloc(), case)?;
+    let script = path_of(rt.alloc(), case, "script")?;
+    let words = [
+        "rvtl",
+        "replay",
+        "--model",
+        model,
+        image.as_str(),
+        script.as_str(),
+    ];
+    line_difference(rt, case, &words)
+}
+
+/// What of a case isn't as kept where the command line has these words.
+fn line_difference<R: Files + AllocGlobal>(
+    rt: &R,
+    case: &Case<'_>,
+    words: &[&str],
+) -> Result<Option<&'static str>> {
+    let alloc = rt.alloc();
     let mut out = Vec::new(alloc);
     let mut err = Vec::new(alloc);
-    let status = run_line(
-        alloc,
-        words.as_slice(),
-        &mut SystemFiles::new(rt),
-        &mut out,
-        &mut err,
-    );
+    let status = run_line(alloc, words, &mut SystemFiles::new(rt), &mut out, &mut err);
     if status != 0 {
         return Ok(Some("status differs"));
     }
