@@ -1,4 +1,4 @@
-//! Judging an order of operations by comparing all pairs: each definition as it stands.
+//! Judging an order of operations, over its index: each definition as it stands.
 ghost use Rattle.std.specs.Prelude.{◌≡◌, ◌==◌, Some, find, take};
 ghost use Rattle.std.specs.List.{list_all};
 ghost use Rattle.memory_model.specs.Operations as operations;
