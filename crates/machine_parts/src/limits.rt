@@ -13,7 +13,6 @@ ghost use Rattle.store_buffer.specs.Entry.{entry_of};
 ghost use Rattle.store_buffer.specs.Groups.{drainable, oldest};
 
 use crate::parts::Parts;
-use crate::retiring::status_after;
 use hart::Status;
 use machine_model::{Act, Outcome};
 use std::alloc::AllocError;
@@ -54,7 +53,7 @@ pub(crate) fn outcome_of(parts: &Parts, hart: u8, act: &Act) -> Outcome
     match act {
         Act::Stop(code) => Outcome::Stopped(*code),
         Act::Retire { instr, .. } => {
-            outcome_by(status_after(instr, &parts.nodes[hart as usize].hart.regs))
+            outcome_by(Status::after(instr, &parts.nodes[hart as usize].hart.regs))
         }
         Act::Miss { line, .. } => Outcome::Missed(*line),
         Act::Drain(_) => Outcome::Drained,

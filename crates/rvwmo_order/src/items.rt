@@ -12,7 +12,7 @@ ghost use Rattle.memory_model.specs.Items as spec;
 ghost use Rattle.memory_model.specs.Traces as traces;
 ghost use Rattle.rvwmo_order.specs.Limits.{IsWithinLimits};
 
-use crate::runs::{after, number_read};
+use crate::runs::after;
 use amo_unit::combine;
 use hart::{Hart, Retired};
 use memory_model::{Kind, Operation};
@@ -280,7 +280,7 @@ fn operation_of(place: u32, hart: &Hart, entry: &Retired, instr: &Instr) -> Opti
             bits,
             ..
         } => {
-            let written = combine(op, number_read(entry), hart.regs.get(rs2));
+            let written = combine(op, entry.number_read(), hart.regs.get(rs2));
             Some(update(place, hart, entry, rs1, bits, written))
         }
         _ => None,
@@ -296,7 +296,7 @@ fn load(place: u32, hart: u8, entry: &Retired, op: LoadOp, address: u32) -> Oper
         kind: Kind::Load,
         address,
         size: bytes_loaded(op),
-        read: number_read(entry),
+        read: entry.number_read(),
         written: 0,
         aq: false,
         rl: false,
@@ -330,7 +330,7 @@ fn reserve(place: u32, hart: &Hart, entry: &Retired, rs1: Register, bits: Annota
         bits,
         Kind::Reserve,
         address,
-        number_read(entry),
+        entry.number_read(),
         0,
     )
 }
@@ -370,7 +370,7 @@ fn update(
         bits,
         Kind::Amo,
         address,
-        number_read(entry),
+        entry.number_read(),
         written,
     )
 }

@@ -1,6 +1,6 @@
 //! Whether lists of retired instructions are runs: each hart's own meaning of its instructions, whatever
 //! the other harts do (chapters 2, 7 and 8).
-ghost use Rattle.std.specs.Prelude.{◌≡◌, ◌^◌, ◌&&◌, ℕ, IsTrue, List, Some};
+ghost use Rattle.std.specs.Prelude.{◌≡◌, ◌^◌, ◌&&◌, ℕ, IsTrue, List};
 ghost use Rattle.elf_loader.specs.Image.{HasWord};
 ghost use Rattle.elf_loader.specs.Size.{IsMemorySize};
 ghost use Rattle.hart.specs.Run as spec;
@@ -12,14 +12,9 @@ ghost use Rattle.rvwmo_order.specs.Limits.{IsWithinLimits};
 
 use elf_loader::Image;
 use hart::{Hart, Retired, Status};
-use rv32_decode::{Instr, LoadOp, Register, SystemOp, decode};
-use rv32_exec::{Plan, Regs, finish, plan, stop};
+use rv32_decode::{Instr, LoadOp, decode};
+use rv32_exec::{Plan, plan, stop};
 use trace_recorder::Trace;
-
-/// The number and the argument of an ECALL.
-const CALL_NUMBER: u8 = 17;
-
-const CALL_ARGUMENT: u8 = 10;
 
 /// Whether each hart's list and status are those of a run.
 pub fn are_runs(trace: &Trace) -> bool
@@ -145,64 +140,15 @@ fn fits(op: LoadOp, loaded: Option<u32>) -> bool
     }
 }
 
-/// The number that an entry's instruction read; for an SC 0 where it succeeded, else 1.
-pub fn number_read(entry: &Retired) -> u32
-    ensures { result ≡ spec.number_read entry.now }
-{
-    match entry.sc_ok {
-        Some(true) => 0,
-        Some(false) => 1,
-        None => entry.loaded.unwrap_or(0),
-    }
-}
-
 /// The hart after it retired an entry.
 pub fn after(hart: &Hart, entry: &Retired) -> Hart
     ensures { result ≡ spec.after hart.now entry.now }
 {
-    match decode(entry.word) {
-        Some(instr) => moved(hart, entry, &instr),
-        None => *hart,
-    }
-}
-
-fn moved(hart: &Hart, entry: &Retired, instr: &Instr) -> Hart
-    ensures { result ≡ spec.after_instr hart.now entry.now (Some instr.now) }
-{
     let mut next = *hart;
-    next.status = status_after(instr, &hart.regs);
-    next.pc = finish(instr, hart.pc, &mut next.regs, Some(number_read(entry)));
-    next
-}
-
-// An environment call of number 0 ends its hart.
-fn status_after(instr: &Instr, regs: &Regs) -> Status
-    ensures { result ≡ spec.status_after (meaning.access_of instr.now regs.now) }
-{
-    match *instr {
-        Instr::System(SystemOp::Ecall) => {
-            if regs.get(Register::new(CALL_NUMBER)) == 0 {
-                Status::Exited((regs.get(Register::new(CALL_ARGUMENT)) % 256) as u8)
-            } else {
-                Status::Running
-            }
-        }
-        Instr::System(SystemOp::Ebreak)
-        | Instr::Load { .. }
-        | Instr::Lr { .. }
-        | Instr::Amo { .. }
-        | Instr::Sc { .. }
-        | Instr::Store { .. }
-        | Instr::Upper { .. }
-        | Instr::Jal { .. }
-        | Instr::Jalr { .. }
-        | Instr::Branch { .. }
-        | Instr::Immediate { .. }
-        | Instr::Shift { .. }
-        | Instr::Register { .. }
-        | Instr::Fence(_)
-        | Instr::FenceTso => Status::Running,
+    if let Some(instr) = decode(entry.word) {
+        next.retire(entry, &instr);
     }
+    next
 }
 
 // Whether a hart whose entries lead here may have this status.
