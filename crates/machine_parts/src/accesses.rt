@@ -4,7 +4,7 @@ ghost use Rattle.machine_model.specs.Steps as spec;
 ghost use Rattle.machine_model.specs.Views.{size_of_config};
 ghost use Rattle.memory_model.specs.declared.operation.Kind.TheVariants.{Load, Store};
 ghost use Rattle.memory_model.specs.Items.{annotations_of};
-ghost use Rattle.memory_model.specs.Rules.{fences, has_read, has_write};
+ghost use Rattle.memory_model.specs.Rules.{fences};
 ghost use Rattle.machine_parts.specs.Accesses.{fetched_of};
 ghost use Rattle.rv32_exec.specs.Width.{bytes_of};
 
@@ -13,10 +13,9 @@ use crate::node::Node;
 use crate::parts::line_size;
 use crate::words::{line_of, marks_of, read_from, store_of, word_in, word_of};
 use amo_unit::combine;
-use bitflags::Flags;
 use hart::Retired;
 use machine_model::{Act, Config, Deed, Model, Outcome, Plan};
-use rv32_decode::{AmoOp, FenceSet, Instr, Register};
+use rv32_decode::{AmoOp, Instr, Register};
 use rv32_exec::Width;
 
 /// An instruction that a hart is about to retire.
@@ -207,30 +206,16 @@ pub(crate) fn plan_amo(
     }
 }
 
-/// A set of a FENCE has the memory reads.
-fn has_read(set: FenceSet) -> bool
-    ensures { result ≡ has_read set.0 }
-{
-    set.bits() / 2 % 2 == 1
-}
-
-/// A set of a FENCE has the memory writes.
-fn has_write(set: FenceSet) -> bool
-    ensures { result ≡ has_write set.0 }
-{
-    set.bits() % 2 == 1
-}
-
 /// Whether an instruction orders stores before loads, and whether it orders stores before stores.
 fn orders_after_stores(instr: &Instr) -> (bool, bool)
     ensures { result ≡ (fences (Some instr.now) Store Load, fences (Some instr.now) Store Store) }
 {
     match instr {
         Instr::Fence(sets) => {
-            let writes_before = has_write(sets.before());
+            let (before, after) = (sets.before(), sets.after());
             (
-                writes_before && has_read(sets.after()),
-                writes_before && has_write(sets.after()),
+                before.has_writes() && after.has_reads(),
+                before.has_writes() && after.has_writes(),
             )
         }
         Instr::FenceTso => (false, true),

@@ -1,6 +1,8 @@
 -- The rows' masks, in terms of fields.
-use Rattle.std.proofs.Common.{◌≡◌, ℕ, ◌+◌, ◌*◌, ◌/◌, ◌%◌, ◌^◌, ◌<◌, arith, bit_and}
+use Rattle.std.proofs.Common.{◌≡◌, ℕ, zero, suc, ◌+◌, ◌*◌, ◌/◌, ◌%◌, ◌^◌, ◌<◌, refl, ap, ◌∙◌, arith, bit_and}
+use Rattle.std.specs.Prelude.{◌==◌}
 use Rattle.std.proofs.lemmas.Nat.{and_shr, and_mod, and_mask}
+use Rattle.std.proofs.lemmas.Nat.Bits.{and_pow}
 
 pub mask_opcode : (w : ℕ) → bit_and w 0x7f ≡ w % 128
 mask_opcode w = and_mask w 7
@@ -47,3 +49,15 @@ mask_reserved w =
 
 pub mask_whole : (w : ℕ) → w < 2 ^ 32 → bit_and w 0xffffffff ≡ w
 mask_whole w h = let a : bit_and w 0xffffffff ≡ w % 4294967296 = and_mask w 32 in omega arith
+
+-- ---- one bit
+
+bit_counted : (m : ℕ) → m < 2 → (m * 2 == 2) ≡ (m == 1)
+bit_counted zero l = refl
+bit_counted (suc zero) l = refl
+bit_counted (suc (suc m)) l = absurd (omega (arith, l))
+
+pub has_second_bit : (n : ℕ) → (bit_and n 2 == 2) ≡ (n / 2 ^ 1 % 2 ^ 1 == 1)
+has_second_bit n =
+    let e : bit_and n 2 ≡ n / 2 % 2 * 2 = and_pow n 1 in
+    ap (λ x. x == 2) e ∙ bit_counted (n / 2 % 2) (omega arith)

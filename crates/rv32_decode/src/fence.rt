@@ -39,6 +39,25 @@ impl Flags for FenceSet {
     }
 }
 
+impl FenceSet {
+    ghost use Rattle.std.specs.Prelude.{◌==◌};
+    ghost use Rattle.rv32_decode.specs.Fields.{bits_of};
+
+    /// Whether memory reads are in it.
+    pub fn has_reads(self) -> bool
+        ensures { result ≡ (bits_of self.0 1 1 == 1) }
+    {
+        self.contains(FenceSet::R)
+    }
+
+    /// Whether memory writes are in it.
+    pub fn has_writes(self) -> bool
+        ensures { result ≡ (bits_of self.0 0 1 == 1) }
+    {
+        self.contains(FenceSet::W)
+    }
+}
+
 /// The sets before and after a FENCE, of the bits I, O, R and W alone.
 #[derive(Clone, Copy, Debug, PartialEq, Eq)]
 pub struct FenceSets {

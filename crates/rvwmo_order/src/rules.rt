@@ -22,7 +22,6 @@ use crate::index::Index;
 use crate::items::Items;
 use crate::sources::{is_same_source, returns_from};
 use crate::verdict::Rule;
-use bitflags::Flags;
 use memory_model::{Kind, Model, Operation};
 use rv32_decode::{FenceSet, Instr};
 
@@ -106,11 +105,11 @@ pub fn is_fenced(items: &Items, a: &Operation, b: &Operation) -> bool
         .any(|item| fences(item.instr(), a.kind, b.kind))
 }
 
-// A load is in a set by its bit R, which is 2, a store by its bit W, which is 1, an AMO by either.
+// An AMO is in a set as a load or as a store.
 fn is_in_set(set: FenceSet, kind: Kind) -> bool
     ensures { result ≡ spec.is_in_set set.0 kind }
 {
-    (reads(kind) && set.bits() / 2 % 2 == 1) || (writes(kind) && set.bits() % 2 == 1)
+    (reads(kind) && set.has_reads()) || (writes(kind) && set.has_writes())
 }
 
 // Whether an instruction orders an operation of the first kind before one of the second.
