@@ -74,8 +74,8 @@ pub(crate) fn fence_sets(word: u32) -> FenceSets
     FenceSets::new(before, after)
 }
 
-// A number whose highest bit has the weight `sign`, its sign extended to 32 bits.
-fn sign_extended(number: u32, sign: u32) -> u32
+/// A number whose highest bit has the weight `sign`, a power of two, its sign extended to 32 bits.
+pub fn sign_extended(number: u32, sign: u32) -> u32
     requires sign { sign ≤ 2 ^ 30 }
     requires number { number < 2 * sign }
     ensures { result ≡ extended_by sign number }

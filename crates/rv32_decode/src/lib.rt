@@ -15,6 +15,7 @@ mod registers;
 pub use decoding::decode;
 pub use encoding::encode;
 pub use fence::{FenceSet, FenceSets};
+pub use fields::sign_extended;
 pub use immediates::{BranchOffset, Immediate12, JumpOffset, ShiftAmount, UpperImmediate};
 pub use instruction::{
     AmoOp, Annotations, BranchOp, ImmediateOp, Instr, LoadOp, RegisterOp, ShiftOp, StoreOp,

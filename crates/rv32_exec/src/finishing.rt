@@ -1,14 +1,13 @@
 //! What an instruction does to its hart: the next pc, and the register that it writes.
 
-ghost use Rattle.std.specs.Prelude.{◌≡◌, ◌<◌, ◌≤◌, ◌*◌, ◌^◌, unwrap_or};
+ghost use Rattle.std.specs.Prelude.{◌≡◌, unwrap_or};
 ghost use Rattle.rv32_exec.specs.Arithmetic as spec;
 ghost use Rattle.rv32_exec.specs.Meaning.{effect_of};
 ghost use Rattle.rv32_exec.specs.Registers.{after_write};
-ghost use Rattle.rv32_decode.specs.Fields.{extended_by};
 
 use crate::arithmetic::{computed, computed_immediate, is_taken, shifted};
 use crate::registers::Regs;
-use rv32_decode::{Instr, LoadOp, UpperOp};
+use rv32_decode::{Instr, LoadOp, UpperOp, sign_extended};
 
 /// The next pc after an instruction at `pc` that doesn't stop, which writes its register, if it has one.
 /// `value` is what a load, LR or AMO read, before any extension of its sign; for an SC it is 0 where the SC
@@ -63,18 +62,5 @@ fn loaded(op: LoadOp, value: u32) -> u32
         LoadOp::Lw => value,
         LoadOp::Lbu => value & 0xff,
         LoadOp::Lhu => value & 0xffff,
-    }
-}
-
-// A number whose highest bit has the weight `sign`, its sign extended to 32 bits.
-fn sign_extended(number: u32, sign: u32) -> u32
-    requires sign { sign ≤ 2 ^ 30 }
-    requires number { number < 2 * sign }
-    ensures { result ≡ extended_by sign number }
-{
-    if number < sign {
-        number
-    } else {
-        number.wrapping_sub(2 * sign)
     }
 }

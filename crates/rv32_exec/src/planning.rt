@@ -93,7 +93,7 @@ fn plan_load(op: LoadOp, addr: u32, memory_size: u32) -> Plan
     let size = load_width(op);
     if addr % size.bytes() != 0 {
         Plan::Stop(stop::LOAD_MISALIGNED)
-    } else if is_outside(addr, size, memory_size) {
+    } else if is_outside(addr, memory_size) {
         Plan::Stop(stop::LOAD_OUTSIDE)
     } else {
         Plan::Load { addr, size }
@@ -128,7 +128,7 @@ fn plan_write(addr: u32, size: Width, memory_size: u32, plan: Plan) -> Plan
 {
     if addr % size.bytes() != 0 {
         Plan::Stop(stop::STORE_MISALIGNED)
-    } else if is_outside(addr, size, memory_size) {
+    } else if is_outside(addr, memory_size) {
         Plan::Stop(stop::STORE_OUTSIDE)
     } else {
         plan
@@ -137,12 +137,10 @@ fn plan_write(addr: u32, size: Width, memory_size: u32, plan: Plan) -> Plan
 
 // Whether a part of an aligned access is outside memory. Memory's size is a multiple of each width, so that
 // the first byte decides.
-fn is_outside(addr: u32, size: Width, memory_size: u32) -> bool
-    requires aligned { addr % bytes_of size ≡ 0 }
-    requires memory { IsMemorySize memory_size }
-    ensures { result ≡ spec.is_outside memory_size addr (bytes_of size) }
+fn is_outside(addr: u32, memory_size: u32) -> bool
+    requires { IsMemorySize memory_size }
+    ensures { (size : Width) → addr % bytes_of size ≡ 0 → result ≡ spec.is_outside memory_size addr (bytes_of size) }
 {
-    let _ = size;
     addr.wrapping_sub(MEMORY) >= memory_size
 }
 
