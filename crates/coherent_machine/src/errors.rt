@@ -13,6 +13,7 @@ pub enum NewError {
     /// The configuration is outside the limits.
     #[error("Config")]
     Config = 1,
+    /// Memory was refused.
     #[error("NoMemory")]
     NoMemory = 2,
 }
@@ -61,6 +62,7 @@ pub enum AdoptError {
     /// 4,000,000 events changed the machine, or the hart's list would pass 1,000,000 retired instructions.
     #[error("Limit")]
     Limit = 3,
+    /// Memory was refused; nothing has changed.
     #[error("NoMemory")]
     NoMemory = 4,
 }

@@ -11,6 +11,7 @@ pub struct SystemFiles<'r, R> {
 }
 
 impl<'r, R> SystemFiles<'r, R> {
+    /// The files that the process sees, by their paths.
     pub fn new(rt: &'r R) -> SystemFiles<'r, R> {
         SystemFiles { rt }
     }

@@ -35,12 +35,14 @@ impl HartSet {
         HartSet { bits: 0 }
     }
 
+    /// Whether no hart is in it.
     pub fn is_empty(self) -> bool
         ensures { IsTrue result ↔ (self ≡ []) }
     {
         self.bits == 0
     }
 
+    /// Whether the hart, 0 to 7, is in it.
     pub fn contains(self, hart: u8) -> bool
         requires { hart < 8 }
         ensures { result ≡ has self hart }

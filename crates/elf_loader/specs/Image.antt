@@ -18,7 +18,7 @@ HasWord image address = (base ≤ address) × (address + 4 ≤ end_of image)
 abbrev pub byte_at : Initial → ℕ → ℕ
 byte_at image address = slice_index image.bytes (address - base)
 
--- memory is little endian (Unprivileged ISA 20191213, section 1.4)
+-- a word, little endian: instructions are by section 1.5 of the Unprivileged ISA 20191213, data by this machine's choice, which section 2.6 leaves open
 abbrev pub word_at : Initial → ℕ → ℕ
 word_at image address =
     byte_at image address

@@ -16,6 +16,7 @@ pub enum ApplyError {
     /// 1,000,000 retired instructions.
     #[error("Limit")]
     Limit = 2,
+    /// Memory was refused; nothing has changed.
     #[error("NoMemory")]
     NoMemory = 3,
 }

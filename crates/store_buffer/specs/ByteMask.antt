@@ -1,5 +1,5 @@
 -- Marks of the four bytes of a word: the byte at place k is the one at the word's address and k more,
--- as a little-endian memory has it (RISC-V Unprivileged ISA 20191213, section 1.4, "Memory").
+-- as a little-endian memory has it (RISC-V Unprivileged ISA 20191213, section 2.6, leaves the choice to the machine).
 use Rattle.std.specs.Prelude.{ℕ, ◌+◌, Bool, false, ◌||◌, ◌&&◌, not, List, [], ◌∷◌, nat_le, nat_lt, slice_index, slice_index_or, if◌then◌else◌}
 
 -- one of each place
