@@ -22,7 +22,7 @@ const CALL_NUMBER: u8 = 17;
 const CALL_ARGUMENT: u8 = 10;
 
 /// Whether each hart's list and status are those of a run.
-pub fn are_runs(trace: &Trace) -> bool
+pub(crate) fn are_runs(trace: &Trace) -> bool
     requires { IsWithinLimits trace.now.history }
     ensures { result ≡ spec_are_runs trace.now.history }
 {
@@ -146,7 +146,7 @@ fn fits(op: LoadOp, loaded: Option<u32>) -> bool
 }
 
 /// The number that an entry's instruction read; for an SC 0 where it succeeded, else 1.
-pub fn number_read(entry: &Retired) -> u32
+pub(crate) fn number_read(entry: &Retired) -> u32
     ensures { result ≡ spec.number_read entry.now }
 {
     match entry.sc_ok {
@@ -157,7 +157,7 @@ pub fn number_read(entry: &Retired) -> u32
 }
 
 /// The hart after it retired an entry.
-pub fn after(hart: &Hart, entry: &Retired) -> Hart
+pub(crate) fn after(hart: &Hart, entry: &Retired) -> Hart
     ensures { result ≡ spec.after hart.now entry.now }
 {
     match decode(entry.word) {
