@@ -6,7 +6,7 @@
 ghost use Rattle.rvwmo_order.specs.Limits.{IsWithinLimits};
 
 use anyhow::{Context, Result, bail, ensure};
-use rvwmo_order::{Model, is_within_limits};
+use rvwmo_order::{Model, is_within_limits, plain};
 use std::alloc::Global;
 use std::fs;
 use std::rt::Files;
@@ -51,7 +51,7 @@ fn judge_trace(alloc: Global, trace: &Trace, model: Model) -> Result<usize> {
         bail!("a trace beyond the limits");
     }
     let mut order = rvwmo_order::completed(alloc, trace)?;
-    let plain = plain_checker::completed(alloc, trace)?;
+    let plain = plain::completed(alloc, trace)?;
     ensure!(order == plain, "completed orders differ");
     let performed = trace.performed().len();
     compare(alloc, trace, &order, model)?;
@@ -68,7 +68,7 @@ fn compare(alloc: Global, trace: &Trace, order: &[OpId], model: Model) -> Result
     requires { IsWithinLimits trace.now.history }
 {
     let indexed = rvwmo_order::check_model(alloc, trace, order, model);
-    let plain = plain_checker::check_model(alloc, trace, order, model);
+    let plain = plain::check_model(alloc, trace, order, model);
     ensure!(indexed == plain, "{indexed:?} and {plain:?}");
     Ok(())
 }

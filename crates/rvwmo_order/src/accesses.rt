@@ -8,7 +8,7 @@ use elf_loader::{BASE, Image};
 use memory_model::{Kind, Model, Operation};
 use trace_recorder::OpId;
 
-pub fn reads(kind: Kind) -> bool
+pub(crate) fn reads(kind: Kind) -> bool
     ensures { result ≡ spec.reads kind }
 {
     match kind {
@@ -17,7 +17,7 @@ pub fn reads(kind: Kind) -> bool
     }
 }
 
-pub fn writes(kind: Kind) -> bool
+pub(crate) fn writes(kind: Kind) -> bool
     ensures { result ≡ spec.writes kind }
 {
     match kind {
@@ -26,13 +26,13 @@ pub fn writes(kind: Kind) -> bool
     }
 }
 
-pub fn is_same(a: &Operation, b: &Operation) -> bool
+pub(crate) fn is_same(a: &Operation, b: &Operation) -> bool
     ensures { result ≡ spec.same a.now b.now }
 {
     a.hart == b.hart && a.place == b.place
 }
 
-pub fn name_of(a: &Operation) -> OpId
+pub(crate) fn name_of(a: &Operation) -> OpId
     ensures { result ≡ verdict.name_of a.now }
 {
     OpId {
@@ -41,32 +41,32 @@ pub fn name_of(a: &Operation) -> OpId
     }
 }
 
-pub fn precedes(a: &Operation, b: &Operation) -> bool
+pub(crate) fn precedes(a: &Operation, b: &Operation) -> bool
     ensures { result ≡ spec.precedes a.now b.now }
 {
     a.hart == b.hart && a.place < b.place
 }
 
 /// The address behind the last byte.
-pub fn end_of(a: &Operation) -> u64
+pub(crate) fn end_of(a: &Operation) -> u64
     ensures { result ≡ a.now.address + a.now.size }
 {
     u64::from(a.address) + u64::from(a.size)
 }
 
-pub fn overlap(a: &Operation, b: &Operation) -> bool
+pub(crate) fn overlap(a: &Operation, b: &Operation) -> bool
     ensures { result ≡ spec.overlap a.now b.now }
 {
     u64::from(a.address) < end_of(b) && u64::from(b.address) < end_of(a)
 }
 
-pub fn touches(x: u64, a: &Operation) -> bool
+pub(crate) fn touches(x: u64, a: &Operation) -> bool
     ensures { result ≡ spec.touches x a.now }
 {
     u64::from(a.address) <= x && x < end_of(a)
 }
 
-pub fn stores_to(x: u64, a: &Operation) -> bool
+pub(crate) fn stores_to(x: u64, a: &Operation) -> bool
     ensures { result ≡ spec.stores_to x a.now }
 {
     writes(a.kind) && touches(x, a)
@@ -85,20 +85,20 @@ fn byte_of(word: u32, index: u64) -> u32
     }
 }
 
-pub fn read_at(a: &Operation, x: u64) -> u32
+pub(crate) fn read_at(a: &Operation, x: u64) -> u32
     ensures { result ≡ spec.read_at a.now x }
 {
     byte_of(a.read, x.saturating_sub(u64::from(a.address)))
 }
 
-pub fn written_at(a: &Operation, x: u64) -> u32
+pub(crate) fn written_at(a: &Operation, x: u64) -> u32
     ensures { result ≡ spec.written_at a.now x }
 {
     byte_of(a.written, x.saturating_sub(u64::from(a.address)))
 }
 
 // The image's byte; 0 outside memory.
-pub fn image_byte(image: &Image, x: u64) -> u32
+pub(crate) fn image_byte(image: &Image, x: u64) -> u32
     ensures { result ≡ images.byte_at image.now x }
 {
     let index = x.saturating_sub(u64::from(BASE)) as usize;
@@ -108,7 +108,7 @@ pub fn image_byte(image: &Image, x: u64) -> u32
     }
 }
 
-pub fn has_acquire(model: Model, a: &Operation) -> bool
+pub(crate) fn has_acquire(model: Model, a: &Operation) -> bool
     ensures { result ≡ spec.has_acquire model a.now }
 {
     match model {
@@ -117,7 +117,7 @@ pub fn has_acquire(model: Model, a: &Operation) -> bool
     }
 }
 
-pub fn has_release(model: Model, a: &Operation) -> bool
+pub(crate) fn has_release(model: Model, a: &Operation) -> bool
     ensures { result ≡ spec.has_release model a.now }
 {
     match model {
@@ -126,7 +126,7 @@ pub fn has_release(model: Model, a: &Operation) -> bool
     }
 }
 
-pub fn has_rcsc(model: Model, a: &Operation) -> bool
+pub(crate) fn has_rcsc(model: Model, a: &Operation) -> bool
     ensures { result ≡ spec.has_rcsc model a.now }
 {
     match model {
@@ -135,7 +135,7 @@ pub fn has_rcsc(model: Model, a: &Operation) -> bool
     }
 }
 
-pub fn is_amo(kind: Kind) -> bool
+pub(crate) fn is_amo(kind: Kind) -> bool
     ensures { result ≡ spec.is_amo kind }
 {
     match kind {
@@ -144,7 +144,7 @@ pub fn is_amo(kind: Kind) -> bool
     }
 }
 
-pub fn is_reserve(kind: Kind) -> bool
+pub(crate) fn is_reserve(kind: Kind) -> bool
     ensures { result ≡ spec.is_reserve kind }
 {
     match kind {
@@ -153,7 +153,7 @@ pub fn is_reserve(kind: Kind) -> bool
     }
 }
 
-pub fn is_conditional(kind: Kind) -> bool
+pub(crate) fn is_conditional(kind: Kind) -> bool
     ensures { result ≡ spec.is_conditional kind }
 {
     match kind {

@@ -171,7 +171,7 @@ fn held_at(items: &Items, a: &Operation, b: &Operation) -> [bool; 32]
 }
 
 /// Whether what came from `a` is in the address of `b`.
-pub fn has_address_dependency(items: &Items, a: &Operation, b: &Operation) -> bool
+pub(crate) fn has_address_dependency(items: &Items, a: &Operation, b: &Operation) -> bool
     ensures { result ≡ spec.has_address_dependency items.now a.now b.now }
 {
     if !precedes(a, b) {
@@ -184,7 +184,7 @@ pub fn has_address_dependency(items: &Items, a: &Operation, b: &Operation) -> bo
 }
 
 /// Whether what came from `a` is in the number that `b` stores.
-pub fn has_data_dependency(items: &Items, a: &Operation, b: &Operation) -> bool
+pub(crate) fn has_data_dependency(items: &Items, a: &Operation, b: &Operation) -> bool
     ensures { result ≡ spec.has_data_dependency items.now a.now b.now }
 {
     if !precedes(a, b) {
@@ -229,7 +229,7 @@ fn is_steering(instr: &Instr) -> bool
 }
 
 /// Whether a branch or a JALR between them depends on `a`.
-pub fn has_control_dependency(items: &Items, a: &Operation, b: &Operation) -> bool
+pub(crate) fn has_control_dependency(items: &Items, a: &Operation, b: &Operation) -> bool
     ensures { result ≡ spec.has_control_dependency items.now a.now b.now }
 {
     if !precedes(a, b) {
@@ -248,7 +248,7 @@ pub fn has_control_dependency(items: &Items, a: &Operation, b: &Operation) -> bo
 }
 
 /// Whether an instruction between them has an address dependency on `a`; an SC that failed may have one.
-pub fn has_dependent_address_between(items: &Items, a: &Operation, b: &Operation) -> bool
+pub(crate) fn has_dependent_address_between(items: &Items, a: &Operation, b: &Operation) -> bool
     ensures { result ≡ spec.has_dependent_address_between items.now a.now b.now }
 {
     if !precedes(a, b) {

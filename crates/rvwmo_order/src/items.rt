@@ -23,7 +23,7 @@ use trace_recorder::Trace;
 
 /// An instruction of a hart's list: its place, what it is, and its memory operation, where it has one.
 #[derive(Drop)]
-pub struct Item {
+pub(crate) struct Item {
     place: u32,
     instr: Option<Instr>,
     operation: Option<Operation>,
@@ -38,19 +38,19 @@ impl Model for Item {
 }
 
 impl Item {
-    pub fn place(&self) -> u32
+    pub(crate) fn place(&self) -> u32
         ensures { result ≡ self.now.place }
     {
         self.place
     }
 
-    pub fn instr(&self) -> Option<Instr>
+    pub(crate) fn instr(&self) -> Option<Instr>
         ensures { result ≡ self.now.instr }
     {
         self.instr
     }
 
-    pub fn operation(&self) -> Option<Operation>
+    pub(crate) fn operation(&self) -> Option<Operation>
         ensures { result ≡ self.now.operation }
     {
         self.operation
@@ -75,7 +75,7 @@ impl Item {
 
 /// A hart's instructions in order, each at its place.
 #[derive(Drop)]
-pub struct Items {
+pub(crate) struct Items {
     list: Vec<Item>,
 }
 
@@ -111,7 +111,7 @@ impl Items {
     }
 
     /// The instruction at a place.
-    pub fn get(&self, place: u32) -> Option<&Item>
+    pub(crate) fn get(&self, place: u32) -> Option<&Item>
         ensures { option_copied result ≡ slice_get self.now place }
     {
         self.list.get(place as usize)
@@ -119,7 +119,7 @@ impl Items {
 
     /// The instructions that stand between two operations of the hart in program order.
     #[tactic(auto, using(crate::proofs::Placed::between_cut))]
-    pub fn between(&self, a: &Operation, b: &Operation) -> &[Item]
+    pub(crate) fn between(&self, a: &Operation, b: &Operation) -> &[Item]
         ensures { result.now ≡ between self.now a.now b.now }
     {
         let start = a.place as usize + 1;
@@ -167,7 +167,7 @@ fn items_of(alloc: Global, reset: &Hart, entries: &[Retired]) -> Result<Vec<Item
 
 /// Each hart's instructions.
 #[derive(Drop)]
-pub struct Harts {
+pub(crate) struct Harts {
     lists: Vec<Items>,
     none: Items,
 }
@@ -185,7 +185,7 @@ impl Model for Harts {
 
 impl Harts {
     /// Those of a trace.
-    pub fn of(alloc: Global, trace: &Trace) -> Result<Harts, AllocError>
+    pub(crate) fn of(alloc: Global, trace: &Trace) -> Result<Harts, AllocError>
         requires { IsWithinLimits trace.now.history }
         ensures { IfOk result (λ harts. harts ≡ traces.instructions trace.now.history) }
     {
@@ -195,14 +195,14 @@ impl Harts {
         })
     }
 
-    pub fn get(&self, hart: u8) -> Option<&Items>
+    pub(crate) fn get(&self, hart: u8) -> Option<&Items>
         ensures { option_copied result ≡ slice_get self.now hart }
     {
         self.lists.get(usize::from(hart))
     }
 
     /// Those of a hart; none where there is no such hart.
-    pub fn items_of(&self, hart: u8) -> &Items
+    pub(crate) fn items_of(&self, hart: u8) -> &Items
         ensures { result.now ≡ rules.items_of self.now hart }
     {
         match self.lists.get(usize::from(hart)) {
@@ -226,7 +226,7 @@ fn instructions(alloc: Global, trace: &Trace) -> Result<Vec<Items>, AllocError>
 }
 
 /// Whether an entry has a memory operation.
-pub fn has_operation(entry: &Retired) -> bool
+pub(crate) fn has_operation(entry: &Retired) -> bool
     ensures { result ≡ spec.has_operation entry.now }
 {
     match decode(entry.word) {

@@ -2,20 +2,21 @@
 //! (RISC-V Unprivileged ISA 20191213, chapters 14 and 23).
 #![tactic(auto)]
 
-pub mod accesses;
+mod accesses;
 mod checking;
 mod completing;
-pub mod dependencies;
+mod dependencies;
 mod error;
 mod index;
-pub mod items;
+mod items;
 mod judging;
 mod limits;
 mod names;
-pub mod orders;
-pub mod rules;
-pub mod runs;
-pub mod sources;
+mod orders;
+pub mod plain;
+mod rules;
+mod runs;
+mod sources;
 mod stored;
 mod verdict;
 
@@ -26,7 +27,7 @@ pub use index::Index;
 pub use limits::{MAX_OPERATIONS, is_within_limits};
 pub use memory_model::Model;
 pub use orders::has_too_many;
-pub use verdict::{Code, RULES, Rule, Verdict};
+pub use verdict::{Code, Rule, Verdict};
 
 #[cfg(test)]
 mod tests;

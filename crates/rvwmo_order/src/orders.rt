@@ -14,7 +14,7 @@ use std::alloc::{AllocError, Global};
 use trace_recorder::{OpId, Trace};
 
 /// The names of a trace's operations, by hart and then by place.
-pub fn names_in(alloc: Global, trace: &Trace) -> Result<Vec<OpId>, AllocError>
+pub(crate) fn names_in(alloc: Global, trace: &Trace) -> Result<Vec<OpId>, AllocError>
     requires { IsWithinLimits trace.now.history }
     ensures { IfOk result (λ names. names.items ≡ spec.names_in trace.now.history) }
 {
@@ -96,7 +96,7 @@ fn are_all_among(alloc: Global, names: &[OpId], list: &[OpId]) -> Result<bool, A
 }
 
 /// The operations of an order's names, in its order.
-pub fn operations_at(
+pub(crate) fn operations_at(
     alloc: Global,
     harts: &Harts,
     order: &[OpId],

@@ -77,7 +77,7 @@ fn returns_differently(x: u64, items: &Items, index: &Index, a: &Operation, b: &
 }
 
 /// Whether a store to `x` stands between them in program order.
-pub fn has_store_between(items: &Items, a: &Operation, b: &Operation, x: u64) -> bool
+pub(crate) fn has_store_between(items: &Items, a: &Operation, b: &Operation, x: u64) -> bool
     ensures { result ≡ list_any (λ m. spec.has_store_to x m.operation) (between items.now a.now b.now) }
 {
     items
@@ -96,7 +96,7 @@ fn has_store_to(x: u64, operation: Option<Operation>) -> bool
 }
 
 /// Rule 4: a FENCE between them orders them.
-pub fn is_fenced(items: &Items, a: &Operation, b: &Operation) -> bool
+pub(crate) fn is_fenced(items: &Items, a: &Operation, b: &Operation) -> bool
     ensures { result ≡ list_any (λ m. spec.fences m.instr a.now.kind b.now.kind) (between items.now a.now b.now) }
 {
     items
@@ -145,7 +145,7 @@ fn is_fencing(instr: &Instr, a: Kind, b: Kind) -> bool
 }
 
 /// Rule 8: `a` is an LR and `b` the SC that it is paired with.
-pub fn are_paired(items: &Items, a: &Operation, b: &Operation) -> bool
+pub(crate) fn are_paired(items: &Items, a: &Operation, b: &Operation) -> bool
     ensures { result ≡ spec.paired items.now a.now b.now }
 {
     precedes(a, b)
@@ -204,7 +204,7 @@ fn is_returned(
 }
 
 /// Whether it is a store whose address or number depends on `a`.
-pub fn is_dependent_store(items: &Items, a: &Operation, store: &Operation) -> bool
+pub(crate) fn is_dependent_store(items: &Items, a: &Operation, store: &Operation) -> bool
     ensures { result ≡ (operations.writes store.now.kind && (dependencies.has_address_dependency items.now a.now store.now || dependencies.has_data_dependency items.now a.now store.now)) }
 {
     writes(store.kind)

@@ -17,7 +17,7 @@ use rv32_exec::{Plan, plan, stop};
 use trace_recorder::Trace;
 
 /// Whether each hart's list and status are those of a run.
-pub fn are_runs(trace: &Trace) -> bool
+pub(crate) fn are_runs(trace: &Trace) -> bool
     requires { IsWithinLimits trace.now.history }
     ensures { result ≡ spec_are_runs trace.now.history }
 {
@@ -141,7 +141,7 @@ fn fits(op: LoadOp, loaded: Option<u32>) -> bool
 }
 
 /// The hart after it retired an entry.
-pub fn after(hart: &Hart, entry: &Retired) -> Hart
+pub(crate) fn after(hart: &Hart, entry: &Retired) -> Hart
     ensures { result ≡ spec.after hart.now entry.now }
 {
     let mut next = *hart;

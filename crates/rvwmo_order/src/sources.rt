@@ -9,7 +9,7 @@ use crate::index::Index;
 use elf_loader::Image;
 use memory_model::Operation;
 
-pub fn is_same_source(a: Option<Operation>, b: Option<Operation>) -> bool
+pub(crate) fn is_same_source(a: Option<Operation>, b: Option<Operation>) -> bool
     ensures { result ≡ spec.same_source a b }
 {
     match (a, b) {
@@ -20,7 +20,7 @@ pub fn is_same_source(a: Option<Operation>, b: Option<Operation>) -> bool
 }
 
 /// The byte that a source gives.
-pub fn byte_from(image: &Image, x: u64, source: Option<Operation>) -> u32
+pub(crate) fn byte_from(image: &Image, x: u64, source: Option<Operation>) -> u32
     ensures { result ≡ spec.byte_from (byte_at image.now) x source }
 {
     match source {

@@ -37,7 +37,7 @@ pub enum Rule {
 }
 
 /// All of them, in the order of their numbers.
-pub const RULES: [Rule; 13] = [
+pub(crate) const RULES: [Rule; 13] = [
     Rule::OverlappingStore,
     Rule::SameByteLoads,
     Rule::AtomicSource,

@@ -1,12 +1,11 @@
 //! The store that a byte comes from, by the index and by a walk over the whole order as it is defined.
 ghost use Rattle.std.specs.Prelude.{◌≡◌, ◌<◌};
-ghost use Rattle.memory_model.specs.Order as spec;
 
-use crate::accesses::{is_same, name_of, precedes, stores_to};
+use crate::accesses::name_of;
+use crate::plain::sources::source;
 use crate::{Index, completed, is_within_limits};
 use elf_loader::{raw, size_of_kib};
 use hart::{Retired, Status};
-use memory_model::Operation;
 use std::alloc::Global;
 use std::marker::Brand;
 use std::sync::ledger::{Blank, Ledger};
@@ -28,25 +27,6 @@ const PROGRAM: [u32; 8] = [
 ];
 
 const WORD: u32 = 0x8000_1000;
-
-/// The last of the stores that byte `x` of a load may come from; none where it is the image's byte. The
-/// load itself is never one, also where it is an AMO.
-fn source(order: &[Operation], load: &Operation, x: u64) -> Option<Operation>
-    ensures { result ≡ spec.source order.now load.now x }
-{
-    let mut last = None;
-    let mut is_behind = false;
-    let mut rest = order;
-    while let [store, tail @ ..] = rest {
-        if !is_behind && is_same(store, load) {
-            is_behind = true;
-        } else if stores_to(x, store) && (!is_behind || precedes(store, load)) {
-            last = Some(*store);
-        }
-        rest = tail;
-    }
-    last
-}
 
 /// Both harts run the program once; of each only the load at place 2 is performed.
 fn trace(alloc: Global) -> Result<Trace, Fail> {

@@ -1,0 +1,12 @@
+//! The checker as a plain and slow program over lists, to compare the checker with: it compares all pairs of
+//! operations, and finds the store that a byte comes from by a walk over the whole order, each definition as
+//! it stands (RISC-V Unprivileged ISA 20191213, chapters 14 and 23).
+
+mod checking;
+mod judging;
+mod orders;
+mod rules;
+pub(crate) mod sources;
+
+pub use checking::check_model;
+pub use orders::completed;
