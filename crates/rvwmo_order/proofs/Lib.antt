@@ -9,4 +9,5 @@ pub mod Indexed
 pub mod Judged
 pub mod Placed
 pub mod Seen
+pub mod Sweeps
 pub mod Verdicts

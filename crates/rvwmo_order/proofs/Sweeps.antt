@@ -1,0 +1,98 @@
+-- The registers that are wanted, carried back, tell what the flags tell, carried forward.
+use Rattle.std.proofs.Common.{◌≡◌, ℕ, zero, suc, ◌+◌, ◌-◌, ◌<◌, ◌≤◌, List, [], ◌∷◌, ◌++◌, Bool, true, false, Option, Some, None, refl, cond, sym, ap, ◌∙◌, not, ◌&&◌, ◌||◌, ⊎_elim, arith, drop, take, length, get_or, set, replicate}
+use Rattle.std.specs.Prelude.{filter, nat_eq, nat_lt, slice_get, slice_index_or}
+use Rattle.std.specs.List.{list_any}
+use Rattle.std.proofs.lemmas.Bool.{cases_eq, cases_lt, le-ltb, lt-ltb, ne_eqb, eq-eqb, or_parts}
+use Rattle.std.proofs.lemmas.List.{get_or-set_same, get_or-set_other, get_or-replicate, get_or_past, length-set, length-replicate}
+use Rattle.std.proofs.lemmas.List.Folds.{list_any-append}
+use Rattle.rv32_exec.specs.Uses.{Uses}
+use Rattle.memory_model.specs.declared.operation.Operation.{Operation}
+use Rattle.memory_model.specs.Dependencies.{held_after, held_first, holds, sources, with_flags}
+use Rattle.memory_model.specs.Items.{Item}
+use Rattle.rvwmo_order.specs.Sweeps.{gives_wanted, is_written, wanted_before}
+
+-- ---- flags
+
+length-with_flags : (held : List Bool) (flag : Bool) (written : List ℕ) → length (with_flags held flag written) ≡ length held
+length-with_flags held flag [] = refl
+length-with_flags held flag (w ∷ rest) = length-with_flags (set held w flag) flag rest ∙ length-set held w flag
+
+and_false : (a : Bool) → (a && false) ≡ false
+and_false true = refl
+and_false false = refl
+
+flag_set : (held : List Bool) (flag : Bool) (w r : ℕ) → length held ≡ 32 → slice_index_or (set held w flag) r false ≡ cond (nat_lt r 32 && nat_eq w r) flag (slice_index_or held r false)
+flag_set held flag w r h = ⊎_elim same other (cases_eq w r)
+  where
+    inside : w ≡ r → r < 32 → slice_index_or (set held w flag) r false ≡ cond (nat_lt r 32 && nat_eq w r) flag (slice_index_or held r false)
+    inside e l = rw (e, lt-ltb r 32 l, eq-eqb r r refl) (get_or-set_same held r flag false (omega (arith, h, l)))
+
+    outside : 32 ≤ r → slice_index_or (set held w flag) r false ≡ cond (nat_lt r 32 && nat_eq w r) flag (slice_index_or held r false)
+    outside l = let k = length-set held w flag in rw (le-ltb r 32 l) (get_or_past (set held w flag) r false (omega (arith, h, k, l)) ∙ sym (get_or_past held r false (omega (arith, h, l))))
+
+    same : w ≡ r → slice_index_or (set held w flag) r false ≡ cond (nat_lt r 32 && nat_eq w r) flag (slice_index_or held r false)
+    same e = ⊎_elim (λ l. inside e l) (λ l. outside l) (cases_lt r 32)
+
+    other : (w ≡ r → ⊥) → slice_index_or (set held w flag) r false ≡ cond (nat_lt r 32 && nat_eq w r) flag (slice_index_or held r false)
+    other f = rw (ne_eqb w r f, and_false (nat_lt r 32)) (get_or-set_other held w r flag false (λ e. f (sym e)))
+
+-- a register that is written has the flag, another what it had
+flag_at : (held : List Bool) (flag : Bool) (written : List ℕ) (r : ℕ) → length held ≡ 32 → slice_index_or (with_flags held flag written) r false ≡ cond (is_written written r) flag (slice_index_or held r false)
+flag_at held flag [] r h = rw (and_false (nat_lt r 32)) refl
+flag_at held flag (w ∷ rest) r h =
+    flag_at (set held w flag) flag rest r (length-set held w flag ∙ h) ∙ (ap (cond (is_written rest r) flag) (flag_set held flag w r h) ∙ either (nat_lt r 32) (nat_eq w r) (list_any (λ v. nat_eq v r) rest))
+  where
+    either : (l e o : Bool) → cond (l && o) flag (cond (l && e) flag (slice_index_or held r false)) ≡ cond (l && (e || o)) flag (slice_index_or held r false)
+    either false e o = refl
+    either true true true = refl
+    either true true false = refl
+    either true false o = refl
+
+-- ---- one instruction
+
+any_same : (p q : ℕ → Bool) → ((r : ℕ) → p r ≡ q r) → (wanted : List ℕ) → list_any p wanted ≡ list_any q wanted
+any_same p q f [] = refl
+any_same p q f (r ∷ rest) = rw (f r, any_same p q f rest) refl
+
+any_parted : (written held : ℕ → Bool) (flag : Bool) (wanted : List ℕ) → list_any (λ r. cond (written r) flag (held r)) wanted ≡ ((list_any written wanted && flag) || list_any held (filter (λ r. not (written r)) wanted))
+any_parted written held flag [] = refl
+any_parted written held flag (r ∷ rest) = ap (λ (b : Bool). cond (written r) flag (held r) || b) (any_parted written held flag rest) ∙ go (written r)
+  where
+    told : (f a b : Bool) → (f || ((a && f) || b)) ≡ (f || b)
+    told true a b = refl
+    told false true b = refl
+    told false false b = refl
+
+    swapped : (h a b : Bool) → (h || (a || b)) ≡ (a || (h || b))
+    swapped true true b = refl
+    swapped true false b = refl
+    swapped false a b = refl
+
+    go : (w : Bool) → (cond w flag (held r) || ((list_any written rest && flag) || list_any held (filter (λ r. not (written r)) rest))) ≡ (((w || list_any written rest) && flag) || list_any held (cond (not w) (r ∷ filter (λ r. not (written r)) rest) (filter (λ r. not (written r)) rest)))
+    go true = told flag (list_any written rest) (list_any held (filter (λ r. not (written r)) rest))
+    go false = swapped (held r) (list_any written rest && flag) (list_any held (filter (λ r. not (written r)) rest))
+
+all_kept : (written : ℕ → Bool) (wanted : List ℕ) → list_any written wanted ≡ false → filter (λ r. not (written r)) wanted ≡ wanted
+all_kept written [] e = refl
+all_kept written (r ∷ rest) e = let s = or_parts (written r) (list_any written rest) e in rw (s.0, all_kept written rest s.1) refl
+
+pub before_after : (held : List Bool) (u : Uses) (wanted : List ℕ) → length held ≡ 32 → holds (held_after held u) wanted ≡ holds held (wanted_before u wanted)
+before_after held u wanted h =
+    any_same (λ r. slice_index_or (held_after held u) r false) (λ r. cond (is_written u.written r) flag (slice_index_or held r false)) (λ r. flag_at held flag u.written r h) wanted
+    ∙ (any_parted (is_written u.written) (λ r. slice_index_or held r false) flag wanted ∙ go (gives_wanted u wanted) refl)
+  where
+    flag : Bool
+    flag = holds held (sources u)
+
+    kept : List ℕ
+    kept = filter (λ r. not (is_written u.written r)) wanted
+
+    swapped : (a b : Bool) → (a || b) ≡ (b || a)
+    swapped true true = refl
+    swapped true false = refl
+    swapped false true = refl
+    swapped false false = refl
+
+    go : (g : Bool) → gives_wanted u wanted ≡ g → ((g && flag) || holds held kept) ≡ holds held (cond g (kept ++ sources u) wanted)
+    go true e = swapped flag (holds held kept) ∙ sym (list_any-append (λ r. slice_index_or held r false) kept (sources u))
+    go false e = ap (holds held) (all_kept (is_written u.written) wanted e)
