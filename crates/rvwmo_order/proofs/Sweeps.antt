@@ -7,9 +7,10 @@ use Rattle.std.proofs.lemmas.List.{get_or-set_same, get_or-set_other, get_or-rep
 use Rattle.std.proofs.lemmas.List.Folds.{list_any-append}
 use Rattle.rv32_exec.specs.Uses.{Uses}
 use Rattle.memory_model.specs.declared.operation.Operation.{Operation}
-use Rattle.memory_model.specs.Dependencies.{held_after, held_first, holds, sources, with_flags}
+use Rattle.memory_model.specs.Dependencies.{any_addresses, any_steers, between, has_address_dependency, has_control_dependency, has_data_dependency, has_dependent_address_between, held_after, held_behind, held_first, holds, sources, steers, uses_at, uses_in, with_flags}
 use Rattle.memory_model.specs.Items.{Item}
-use Rattle.rvwmo_order.specs.Sweeps.{gives_wanted, is_written, wanted_before}
+use Rattle.memory_model.specs.Operations.{precedes}
+use Rattle.rvwmo_order.specs.Sweeps.{addressing, carries, gives_wanted, is_written, nothing, steering, wanted_before, wanted_from}
 
 -- ---- flags
 
@@ -96,3 +97,63 @@ before_after held u wanted h =
     go : (g : Bool) → gives_wanted u wanted ≡ g → ((g && flag) || holds held kept) ≡ holds held (cond g (kept ++ sources u) wanted)
     go true e = swapped flag (holds held kept) ∙ sym (list_any-append (λ r. slice_index_or held r false) kept (sources u))
     go false e = ap (holds held) (all_kept (is_written u.written) wanted e)
+
+-- ---- a list of instructions
+
+length-held_after : (held : List Bool) (u : Uses) → length held ≡ 32 → length (held_after held u) ≡ 32
+length-held_after held u h = length-with_flags held (holds held (sources u)) u.written ∙ h
+
+pub carried : (asks : Item → List ℕ) (last : List ℕ) (held : List Bool) (ms : List Item) → length held ≡ 32 → carries asks last held ms ≡ holds held (wanted_from asks last ms)
+carried asks last held [] h = refl
+carried asks last held (m ∷ rest) h =
+    ap (λ (b : Bool). holds held (asks m) || b) (carried asks last (held_after held (uses_in m.instr)) rest (length-held_after held (uses_in m.instr) h) ∙ before_after held (uses_in m.instr) (wanted_from asks last rest) h)
+    ∙ sym (list_any-append (λ r. slice_index_or held r false) (asks m) (wanted_before (uses_in m.instr) (wanted_from asks last rest)))
+
+pub length-held_first : (u : Uses) → length (held_first u) ≡ 32
+length-held_first u = length-with_flags (replicate 32 false) true u.written ∙ length-replicate 32 false
+
+no_flag : (r : ℕ) → get_or (replicate 32 false) r false ≡ false
+no_flag r = ⊎_elim (λ l. get_or-replicate 32 r false false l) (λ l. get_or_past (replicate 32 false) r false (let k = length-replicate 32 false in omega (arith, k, l))) (cases_lt r 32)
+
+first_flag : (u : Uses) (r : ℕ) → slice_index_or (held_first u) r false ≡ is_written u.written r
+first_flag u r = flag_at (replicate 32 false) true u.written r (length-replicate 32 false) ∙ (ap (cond (is_written u.written r) true) (no_flag r) ∙ go (is_written u.written r))
+  where
+    go : (b : Bool) → cond b true false ≡ b
+    go true = refl
+    go false = refl
+
+pub first_carried : (asks : Item → List ℕ) (last : List ℕ) (u : Uses) (ms : List Item) → carries asks last (held_first u) ms ≡ gives_wanted u (wanted_from asks last ms)
+first_carried asks last u ms =
+    carried asks last (held_first u) ms (length-held_first u) ∙ any_same (λ r. slice_index_or (held_first u) r false) (is_written u.written) (first_flag u) (wanted_from asks last ms)
+
+-- ---- the rules
+
+last_carried : (last : List ℕ) (held : List Bool) (ms : List Item) → holds (held_behind held ms) last ≡ carries nothing last held ms
+last_carried last held [] = refl
+last_carried last held (m ∷ rest) = last_carried last (held_after held (uses_in m.instr)) rest
+
+steering_carried : (held : List Bool) (ms : List Item) → any_steers held ms ≡ carries steering [] held ms
+steering_carried held [] = refl
+steering_carried held (m ∷ rest) = ap (λ (b : Bool). (steers m.instr && holds held (sources (uses_in m.instr))) || b) (steering_carried (held_after held (uses_in m.instr)) rest) ∙ go (steers m.instr)
+  where
+    go : (s : Bool) → ((s && holds held (sources (uses_in m.instr))) || carries steering [] (held_after held (uses_in m.instr)) rest) ≡ (holds held (cond s (sources (uses_in m.instr)) []) || carries steering [] (held_after held (uses_in m.instr)) rest)
+    go true = refl
+    go false = refl
+
+addressing_carried : (held : List Bool) (ms : List Item) → any_addresses held ms ≡ carries addressing [] held ms
+addressing_carried held [] = refl
+addressing_carried held (m ∷ rest) = ap (λ (b : Bool). holds held (uses_in m.instr).address || b) (addressing_carried (held_after held (uses_in m.instr)) rest)
+
+pub address_swept : (items : List Item) (a b : Operation) → has_address_dependency items a b ≡ (precedes a b && gives_wanted (uses_at items a) (wanted_from nothing (uses_at items b).address (between items a b)))
+address_swept items a b =
+    ap (λ (c : Bool). precedes a b && c) (last_carried (uses_at items b).address (held_first (uses_at items a)) (between items a b) ∙ first_carried nothing (uses_at items b).address (uses_at items a) (between items a b))
+
+pub data_swept : (items : List Item) (a b : Operation) → has_data_dependency items a b ≡ (precedes a b && gives_wanted (uses_at items a) (wanted_from nothing (uses_at items b).stored (between items a b)))
+data_swept items a b =
+    ap (λ (c : Bool). precedes a b && c) (last_carried (uses_at items b).stored (held_first (uses_at items a)) (between items a b) ∙ first_carried nothing (uses_at items b).stored (uses_at items a) (between items a b))
+
+pub control_swept : (items : List Item) (a b : Operation) → has_control_dependency items a b ≡ (precedes a b && gives_wanted (uses_at items a) (wanted_from steering [] (between items a b)))
+control_swept items a b = ap (λ (c : Bool). precedes a b && c) (steering_carried (held_first (uses_at items a)) (between items a b) ∙ first_carried steering [] (uses_at items a) (between items a b))
+
+pub dependent_address_swept : (items : List Item) (a b : Operation) → has_dependent_address_between items a b ≡ (precedes a b && gives_wanted (uses_at items a) (wanted_from addressing [] (between items a b)))
+dependent_address_swept items a b = ap (λ (c : Bool). precedes a b && c) (addressing_carried (held_first (uses_at items a)) (between items a b) ∙ first_carried addressing [] (uses_at items a) (between items a b))
