@@ -3,14 +3,17 @@ use Rattle.std.proofs.Common.{◌≡◌, ℕ, zero, suc, ◌+◌, ◌-◌, ◌<�
 use Rattle.std.specs.Prelude.{filter, nat_eq, nat_lt, slice_get, slice_index_or}
 use Rattle.std.specs.List.{list_any}
 use Rattle.std.proofs.lemmas.Bool.{cases_eq, cases_lt, le-ltb, lt-ltb, ne_eqb, eq-eqb, or_parts}
-use Rattle.std.proofs.lemmas.List.{get_or-set_same, get_or-set_other, get_or-replicate, get_or_past, length-set, length-replicate}
+use Rattle.std.proofs.lemmas.List.{drop-drop, drop-take, get_or-set_same, get_or-set_other, get_or-replicate, get_or_past, length-drop, length-set, length-replicate, length-take}
 use Rattle.std.proofs.lemmas.List.Folds.{list_any-append}
+use Rattle.std.proofs.lemmas.Option.{get_or_from_slice_get, same_Some, slice_get-get_or, slice_get_past}
 use Rattle.rv32_exec.specs.Uses.{Uses}
 use Rattle.memory_model.specs.declared.operation.Operation.{Operation}
-use Rattle.memory_model.specs.Dependencies.{any_addresses, any_steers, between, has_address_dependency, has_control_dependency, has_data_dependency, has_dependent_address_between, held_after, held_behind, held_first, holds, sources, steers, uses_at, uses_in, with_flags}
+use Rattle.memory_model.specs.Dependencies.{any_addresses, any_steers, between, has_address_dependency, has_control_dependency, has_data_dependency, has_dependent_address_between, held_after, held_behind, held_first, holds, instr_in, sources, steers, uses_at, uses_in, with_flags}
 use Rattle.memory_model.specs.Items.{Item}
 use Rattle.memory_model.specs.Operations.{precedes}
-use Rattle.rvwmo_order.specs.Sweeps.{addressing, carries, gives_wanted, is_written, nothing, steering, wanted_before, wanted_from}
+use Rattle.rvwmo_order.specs.Placed.{IsPlaced}
+use Rattle.rvwmo_order.specs.Sweeps.{addressing, carries, gives_wanted, is_written, marks_of, nothing, steering, wanted_before, wanted_from}
+use Rattle.rvwmo_order.proofs.Placed.{between_cut}
 
 -- ---- flags
 
@@ -157,3 +160,82 @@ control_swept items a b = ap (λ (c : Bool). precedes a b && c) (steering_carrie
 
 pub dependent_address_swept : (items : List Item) (a b : Operation) → has_dependent_address_between items a b ≡ (precedes a b && gives_wanted (uses_at items a) (wanted_from addressing [] (between items a b)))
 dependent_address_swept items a b = ap (λ (c : Bool). precedes a b && c) (addressing_carried (held_first (uses_at items a)) (between items a b) ∙ first_carried addressing [] (uses_at items a) (between items a b))
+
+-- ---- marks
+
+pub marks_count : (asks : Item → List ℕ) (last : List ℕ) (ms : List Item) → length (marks_of asks last ms) ≡ length ms
+marks_count asks last [] = refl
+marks_count asks last (m ∷ rest) = ap suc (marks_count asks last rest)
+
+none_is_not : {X : Type 0} (x : X) → None ≡ Some x → ⊥
+none_is_not x e = cc
+
+pub mark_at : (asks : Item → List ℕ) (last : List ℕ) (ms : List Item) (k : ℕ) (m : Item) → slice_get ms k ≡ Some m → slice_get (marks_of asks last ms) k ≡ Some (gives_wanted (uses_in m.instr) (wanted_from asks last (drop (k + 1) ms)))
+mark_at asks last [] k m e = absurd (none_is_not m e)
+mark_at asks last (n ∷ rest) zero m e = ap (λ (i : Item). Some (gives_wanted (uses_in i.instr) (wanted_from asks last rest))) (same_Some n m e)
+mark_at asks last (n ∷ rest) (suc k) m e =
+    let skipped : suc k + 1 ≡ suc (k + 1) = omega arith in
+    mark_at asks last rest k m e ∙ ap (λ (j : ℕ). Some (gives_wanted (uses_in m.instr) (wanted_from asks last (drop j (n ∷ rest))))) (sym skipped)
+
+-- ---- an operation's mark among those of a stretch of its hart's list
+
+slice_get-drop : (n : ℕ) (items : List Item) (k : ℕ) → slice_get (drop n items) k ≡ slice_get items (n + k)
+slice_get-drop zero items k = ap (slice_get items) (omega arith)
+slice_get-drop (suc n) [] k = refl
+slice_get-drop (suc n) (m ∷ rest) k =
+    let next : suc n + k ≡ suc (n + k) = omega arith in
+    slice_get-drop n rest k ∙ ap (slice_get (m ∷ rest)) (sym next)
+
+slice_get-take : (n : ℕ) (items : List Item) (k : ℕ) → k < n → slice_get (take n items) k ≡ slice_get items k
+slice_get-take zero items k h = absurd (omega (arith, h))
+slice_get-take (suc n) [] k h = refl
+slice_get-take (suc n) (m ∷ rest) zero h = refl
+slice_get-take (suc n) (m ∷ rest) (suc k) h = slice_get-take n rest k (omega (arith, h))
+
+rest_of_stretch : (items : List Item) (low : ℕ) (a b : Operation) → IsPlaced 0 items → low ≤ a.place → a.place < b.place → drop (a.place - low + 1) (take (b.place - low) (drop low items)) ≡ between items a b
+rest_of_stretch items low a b p h k =
+    let count : b.place - low ≡ a.place - low + 1 + (b.place - (a.place + 1)) = omega (arith, h, k) in
+    let skipped : low + (a.place - low + 1) ≡ a.place + 1 = omega (arith, h) in
+    ap (λ (n : ℕ). drop (a.place - low + 1) (take n (drop low items))) count
+    ∙ (drop-take (a.place - low + 1) (b.place - (a.place + 1)) (drop low items)
+    ∙ (ap (take (b.place - (a.place + 1))) (drop-drop (a.place - low + 1) low items ∙ ap (λ (n : ℕ). drop n items) skipped) ∙ between_cut items a b p))
+
+item_in_stretch : (items : List Item) (low high place : ℕ) → low ≤ place → place < high → slice_get (take (high - low) (drop low items)) (place - low) ≡ slice_get items place
+item_in_stretch items low high place h k =
+    let inside : low + (place - low) ≡ place = omega (arith, h) in
+    slice_get-take (high - low) (drop low items) (place - low) (omega (arith, h, k)) ∙ (slice_get-drop low items (place - low) ∙ ap (slice_get items) inside)
+
+pub mark_of : (asks : Item → List ℕ) (last : List ℕ) (items : List Item) (low : ℕ) (a b : Operation) → IsPlaced 0 items → low ≤ a.place → a.place < b.place → a.place < length items
+    → slice_get (marks_of asks last (take (b.place - low) (drop low items))) (a.place - low) ≡ Some (gives_wanted (uses_at items a) (wanted_from asks last (between items a b)))
+mark_of asks last items low a b p h k l = go (slice_get items a.place) refl
+  where
+    go : (o : Option Item) → slice_get items a.place ≡ o → slice_get (marks_of asks last (take (b.place - low) (drop low items))) (a.place - low) ≡ Some (gives_wanted (uses_in (instr_in o)) (wanted_from asks last (between items a b)))
+    go None e = absurd (none_is_not (get_or items a.place nobody) (sym e ∙ slice_get-get_or items a.place nobody l))
+      where
+        nobody : Item
+        nobody = record { place = 0; instr = None; operation = None }
+    go (Some m) e =
+        mark_at asks last (take (b.place - low) (drop low items)) (a.place - low) m (item_in_stretch items low b.place a.place h k ∙ e)
+        ∙ ap (λ (ms : List Item). Some (gives_wanted (uses_in m.instr) (wanted_from asks last ms))) (rest_of_stretch items low a b p h k)
+
+nothing_given : (wanted : List ℕ) → list_any (is_written []) wanted ≡ false
+nothing_given [] = refl
+nothing_given (r ∷ rest) = rw (and_false (nat_lt r 32)) (nothing_given rest)
+
+pub mark_or : (asks : Item → List ℕ) (last : List ℕ) (items : List Item) (low : ℕ) (a b : Operation) → IsPlaced 0 items → low ≤ a.place → a.place < b.place
+    → slice_index_or (marks_of asks last (take (b.place - low) (drop low items))) (a.place - low) false ≡ gives_wanted (uses_at items a) (wanted_from asks last (between items a b))
+mark_or asks last items low a b p h k = ⊎_elim inside past (cases_lt a.place (length items))
+  where
+    marks : List Bool
+    marks = marks_of asks last (take (b.place - low) (drop low items))
+
+    inside : a.place < length items → slice_index_or marks (a.place - low) false ≡ gives_wanted (uses_at items a) (wanted_from asks last (between items a b))
+    inside l = get_or_from_slice_get marks (a.place - low) (gives_wanted (uses_at items a) (wanted_from asks last (between items a b))) false (mark_of asks last items low a b p h k l)
+
+    past : length items ≤ a.place → slice_index_or marks (a.place - low) false ≡ gives_wanted (uses_at items a) (wanted_from asks last (between items a b))
+    past l =
+        let counted = marks_count asks last (take (b.place - low) (drop low items)) in
+        let taken = length-take (b.place - low) (drop low items) in
+        let dropped = length-drop low items in
+        get_or_past marks (a.place - low) false (omega (arith, counted, taken, dropped, l))
+        ∙ sym (ap (λ (o : Option Item). gives_wanted (uses_in (instr_in o)) (wanted_from asks last (between items a b))) (slice_get_past items a.place l) ∙ nothing_given (wanted_from asks last (between items a b)))
