@@ -179,14 +179,14 @@ mark_at asks last (n ∷ rest) (suc k) m e =
 
 -- ---- an operation's mark among those of a stretch of its hart's list
 
-slice_get-drop : (n : ℕ) (items : List Item) (k : ℕ) → slice_get (drop n items) k ≡ slice_get items (n + k)
+pub slice_get-drop : (n : ℕ) (items : List Item) (k : ℕ) → slice_get (drop n items) k ≡ slice_get items (n + k)
 slice_get-drop zero items k = ap (slice_get items) (omega arith)
 slice_get-drop (suc n) [] k = refl
 slice_get-drop (suc n) (m ∷ rest) k =
     let next : suc n + k ≡ suc (n + k) = omega arith in
     slice_get-drop n rest k ∙ ap (slice_get (m ∷ rest)) (sym next)
 
-slice_get-take : (n : ℕ) (items : List Item) (k : ℕ) → k < n → slice_get (take n items) k ≡ slice_get items k
+pub slice_get-take : (n : ℕ) (items : List Item) (k : ℕ) → k < n → slice_get (take n items) k ≡ slice_get items k
 slice_get-take zero items k h = absurd (omega (arith, h))
 slice_get-take (suc n) [] k h = refl
 slice_get-take (suc n) (m ∷ rest) zero h = refl
