@@ -2,7 +2,7 @@
 use Rattle.std.proofs.Common.{◌≡◌, ℕ, zero, suc, ◌+◌, ◌-◌, ◌<◌, List, [], ◌∷◌, ◌++◌, Bool, true, false, Option, Some, None, refl, cond, sym, ap, ◌∙◌, subst, ◌&&◌, ◌||◌, arith, drop, take, length}
 use Rattle.std.specs.Prelude.{slice_get, slice_index_or}
 use Rattle.std.specs.List.{list_any}
-use Rattle.std.proofs.lemmas.Bool.{and_from, eq-eqb, lt-ltb}
+use Rattle.std.proofs.lemmas.Bool.{and_from, and_right, eq-eqb, lt-ltb}
 use Rattle.std.proofs.lemmas.List.{append_assoc, length-append, length-take, take-take, take_at}
 use Rattle.std.proofs.lemmas.List.Folds.{list_any-append}
 use Rattle.std.proofs.lemmas.Option.{none-some}
@@ -10,12 +10,14 @@ use Rattle.elf_loader.specs.Image.{Initial}
 use Rattle.hart.specs.declared.retired.Retired.{Retired}
 use Rattle.hart.specs.declared.state.Hart.{Hart}
 use Rattle.hart.specs.Run.{at_reset}
+use Rattle.trace_recorder.specs.History.{History}
 use Rattle.memory_model.specs.declared.Model.{Model}
 use Rattle.memory_model.specs.declared.operation.Operation.{Operation}
 use Rattle.memory_model.specs.Dependencies.{between, has_address_dependency, has_data_dependency, held_after, held_behind, held_first, holds, instr_in, uses_at, uses_in}
 use Rattle.memory_model.specs.Items.{Item, items_from, items_of_harts}
 use Rattle.memory_model.specs.Operations.{precedes, reads, writes}
-use Rattle.memory_model.specs.Rules.{passes_on, returns_from, rule_12}
+use Rattle.memory_model.specs.Rules.{items_of, passes_on, returns_from, rule_12}
+use Rattle.memory_model.specs.Traces.{instructions}
 use Rattle.memory_model.proofs.Named.{listed_bears}
 use Rattle.rvwmo_order.specs.Placed.{GivesOwn, IsPlaced}
 use Rattle.rvwmo_order.specs.Sweeps.{carries, gives_wanted, is_returned, passing, wanted_from}
@@ -68,11 +70,7 @@ store_asks items front m order a b s e f g = rw (e, f, g) (go (writes s.kind) (r
         and_true : (c : Bool) → (c && true) ≡ c
         and_true true = refl
         and_true false = refl
-    go true false h = and_false (holds held (uses_in m.instr).address || holds held (uses_in m.instr).stored)
-      where
-        and_false : (c : Bool) → (c && false) ≡ false
-        and_false true = refl
-        and_false false = refl
+    go true false h = and_right (holds held (uses_in m.instr).address || holds held (uses_in m.instr).stored) false refl
 
 passes : (items front back : List Item) (m : Item) (order : List Operation) (a b : Operation) → IsPlaced 0 items → GivesOwn a.hart items → between items a b ≡ front ++ m ∷ back
     → passes_on items order a b m.operation ≡ holds (held_behind (held_first (uses_at items a)) front) (passing order b m)
@@ -128,3 +126,9 @@ gives_own image harts id (entries ∷ rest) zero =
 gives_own image harts id (entries ∷ rest) (suc h) =
     let own : id + 1 + h ≡ id + suc h = omega arith in
     subst (λ (n : ℕ). GivesOwn n (slice_index_or (items_of_harts image harts (id + 1) rest) h [])) own (gives_own image harts (id + 1) rest h)
+
+-- of a trace
+pub instructions_own : (t : History) (hart : ℕ) → GivesOwn hart (items_of (instructions t) hart)
+instructions_own t hart =
+    let own : 0 + hart ≡ hart = omega arith in
+    subst (λ (n : ℕ). GivesOwn n (items_of (instructions t) hart)) own (gives_own t.image (length t.entries) 0 t.entries hart)
