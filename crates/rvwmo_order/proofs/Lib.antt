@@ -7,6 +7,8 @@ pub mod Gathered
 pub mod Harts
 pub mod Indexed
 pub mod Judged
+pub mod Passing
 pub mod Placed
 pub mod Seen
+pub mod Sweeps
 pub mod Verdicts
