@@ -12,9 +12,10 @@ use Rattle.tl_types.specs.declared.message.Channel.{Channel}
 use Rattle.tl_types.specs.declared.message.Channel.TheVariants.{A, B, C, D, E}
 use Rattle.machine_model.specs.declared.event.Event.{Event}
 use Rattle.machine_model.specs.declared.event.Event.TheVariants.{Step, Drain, Evict, Deliver, Local}
+use Rattle.machine_model.specs.Config.{is_power_to_64}
 use Rattle.trace_text.specs.declared.script.Head.{Head}
 use Rattle.trace_text.specs.Words.{channel}
-use Rattle.trace_text.specs.Scripts.{event, IsEvent, is_first_version, head, is_power, is_head, head_of, text, IsScript}
+use Rattle.trace_text.specs.Scripts.{event, IsEvent, is_first_version, head, is_head, head_of, text, IsScript}
 use Rattle.trace_text.specs.declared.script.Script.{Script}
 use Rattle.trace_text.specs.declared.fault.TextError.{TextError}
 use Rattle.std.specs.Prelude.{IfOk}
@@ -194,7 +195,7 @@ head_takes bytes h rest e =
       | inr n ↦ second_takes bytes h rest n.1
     ]
 
-power_le : (n : ℕ) → is_power n ≡ true → n ≤ 64
+power_le : (n : ℕ) → is_power_to_64 n ≡ true → n ≤ 64
 power_le n e = grind (arith, nat_tests)
 
 record Bounds (h : Head) : Type 0 where
@@ -212,9 +213,9 @@ bounds h e =
     let kib = leb 4 h.kib && leb h.kib 1024 && eqb (h.kib % 4) 0 in
     let ways = leb 1 h.ways && leb h.ways 4 in
     let line = eqb h.line 16 || eqb h.line 64 in
-    let a = both_true (leb 1 h.harts && leb h.harts 8 && kib && is_power h.sets && ways) line e in
-    let b = both_true (leb 1 h.harts && leb h.harts 8 && kib && is_power h.sets) ways a.0 in
-    let c = both_true (leb 1 h.harts && leb h.harts 8 && kib) (is_power h.sets) b.0 in
+    let a = both_true (leb 1 h.harts && leb h.harts 8 && kib && is_power_to_64 h.sets && ways) line e in
+    let b = both_true (leb 1 h.harts && leb h.harts 8 && kib && is_power_to_64 h.sets) ways a.0 in
+    let c = both_true (leb 1 h.harts && leb h.harts 8 && kib) (is_power_to_64 h.sets) b.0 in
     let d = both_true (leb 1 h.harts && leb h.harts 8) kib c.0 in
     let k = both_true (leb 4 h.kib && leb h.kib 1024) (eqb (h.kib % 4) 0) d.1 in
     record {

@@ -2,6 +2,7 @@
 use Rattle.std.specs.Prelude.{◌≡◌, ℕ, ◌%◌, ◌<◌, ◌≤◌, ◌^◌, Bool, true, List, [], ◌∷◌, ◌++◌, ◌&&◌, ◌||◌, ◌==◌, nat_le, if◌then◌else◌, codes}
 use Rattle.std.specs.List.{flat_map, AllByRecursion}
 use Rattle.text_fields.specs.Fields.{number, word}
+use Rattle.machine_model.specs.Config.{is_power_to_64}
 use Rattle.machine_model.specs.declared.event.Event.{Event}
 use Rattle.machine_model.specs.declared.event.Event.TheVariants.{Step, Drain, Evict, Deliver, Local}
 use Rattle.trace_text.specs.declared.script.Head.{Head}
@@ -34,14 +35,11 @@ head h =
     if is_first_version h.harts h.line then codes "rvtl-script 1 " ++ (number 32 h.harts ++ (number 32 h.kib ++ (number 32 h.sets ++ number 10 h.ways)))
     else codes "rvtl-script 2 " ++ (number 32 h.harts ++ (number 32 h.kib ++ (number 32 h.sets ++ (number 32 h.ways ++ number 10 h.line))))
 
-abbrev pub is_power : ℕ → Bool
-is_power n = n == 1 || n == 2 || n == 4 || n == 8 || n == 16 || n == 32 || n == 64
-
 -- the limits of a machine
 abbrev pub is_head : Head → Bool
 is_head h =
     nat_le 1 h.harts && nat_le h.harts 8 && (nat_le 4 h.kib && nat_le h.kib 1024 && h.kib % 4 == 0)
-    && is_power h.sets && (nat_le 1 h.ways && nat_le h.ways 4) && (h.line == 16 || h.line == 64)
+    && is_power_to_64 h.sets && (nat_le 1 h.ways && nat_le h.ways 4) && (h.line == 16 || h.line == 64)
 
 abbrev pub head_of : Script → Head
 head_of s = record { harts = s.harts; kib = s.kib; sets = s.sets; ways = s.ways; line = s.line }

@@ -2,7 +2,8 @@
 ghost use Rattle.std.specs.Prelude.{◌≡◌, length, IfOk};
 ghost use Rattle.std.specs.Option.{option_map};
 ghost use Rattle.text_fields.specs.Reading.{all_at};
-ghost use Rattle.trace_text.specs.Scripts.{is_power, is_head, text, IsScript};
+ghost use Rattle.trace_text.specs.Scripts.{is_head, text, IsScript};
+ghost use Rattle.machine_model.specs.Config.{is_power_to_64};
 ghost use Rattle.trace_text.specs.ScriptReading as reads;
 ghost use Rattle.trace_text.specs.Reading.{Gives, Answers, IsNoMemory};
 
@@ -115,8 +116,8 @@ fn event_at(bytes: &[u8]) -> Option<(Event, &[u8])>
     local_at(bytes)
 }
 
-fn is_power(n: u32) -> bool
-    ensures { result ≡ is_power n }
+fn is_power_to_64(n: u32) -> bool
+    ensures { result ≡ is_power_to_64 n }
 {
     n == 1 || n == 2 || n == 4 || n == 8 || n == 16 || n == 32 || n == 64
 }
@@ -127,7 +128,7 @@ fn is_head(head: &Head) -> bool
     let harts = 1 <= head.harts && head.harts <= 8;
     let kib = 4 <= head.kib && head.kib <= 1024 && head.kib % 4 == 0;
     let ways = 1 <= head.ways && head.ways <= 4;
-    harts && kib && is_power(head.sets) && ways && (head.line == 16 || head.line == 64)
+    harts && kib && is_power_to_64(head.sets) && ways && (head.line == 16 || head.line == 64)
 }
 
 #[tactic(auto, unfolding(crate::specs::ScriptReading::first_head_at))]
