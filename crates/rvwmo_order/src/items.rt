@@ -1,6 +1,6 @@
 //! A hart's retired instructions with their memory operations (chapter 14.1, "Memory Model
 //! Primitives").
-ghost use Rattle.std.specs.Prelude.{◌≡◌, ◌≤◌, ◌*◌, ◌%◌, ◌^◌, IfOk, Some, false, drop, length, slice_get, slice_index, take, []};
+ghost use Rattle.std.specs.Prelude.{◌≡◌, ◌≤◌, ◌-◌, ◌*◌, ◌%◌, ◌^◌, IfOk, Some, false, drop, length, slice_get, slice_index, take, []};
 ghost use Rattle.std.specs.Option.{option_copied};
 ghost use Rattle.memory_model.specs.Dependencies.{between};
 ghost use Rattle.memory_model.specs.Rules as rules;
@@ -11,6 +11,7 @@ ghost use Rattle.rv32_exec.specs.Meaning as meaning;
 ghost use Rattle.memory_model.specs.Items as spec;
 ghost use Rattle.memory_model.specs.Traces as traces;
 ghost use Rattle.rvwmo_order.specs.Limits.{IsWithinLimits};
+ghost use Rattle.rvwmo_order.specs.Placed.{IsPlaced};
 
 use crate::runs::{after, number_read};
 use amo_unit::combine;
@@ -115,6 +116,17 @@ impl Items {
         ensures { option_copied result ≡ slice_get self.now place }
     {
         self.list.get(place as usize)
+    }
+
+    /// The instructions from a place on, up to another.
+    pub(crate) fn stretch(&self, from: u32, to: u32) -> &[Item]
+        ensures cut { result.now ≡ take (to - from) (drop from self.now) }
+        ensures placed { IsPlaced 0 self.now }
+    {
+        first_of(
+            behind(&self.list, from as usize),
+            to.saturating_sub(from) as usize,
+        )
     }
 
     /// The instructions that stand between two operations of the hart in program order.

@@ -17,6 +17,7 @@ pub mod rules;
 pub mod runs;
 pub mod sources;
 mod stored;
+mod sweeping;
 mod verdict;
 
 pub use checking::{check, check_model};

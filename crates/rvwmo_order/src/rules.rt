@@ -9,32 +9,34 @@ ghost use Rattle.memory_model.specs.Operations as operations;
 ghost use Rattle.memory_model.specs.Operations.{bytes_of};
 ghost use Rattle.rvwmo_order.specs.Scans as scans;
 ghost use Rattle.rvwmo_order.specs.Codes.{rule_of};
+ghost use Rattle.rvwmo_order.specs.Marks.{Tells};
 
 use crate::accesses::{
     end_of, has_acquire, has_rcsc, has_release, is_amo, is_conditional, is_reserve, overlap,
     precedes, reads, stores_to, touches, writes,
 };
-use crate::dependencies::{
-    has_address_dependency, has_control_dependency, has_data_dependency,
-    has_dependent_address_between,
-};
+use crate::dependencies::{has_address_dependency, has_data_dependency};
 use crate::index::Index;
 use crate::items::Items;
 use crate::sources::{is_same_source, returns_from};
+use crate::sweeping::Sweep;
 use crate::verdict::Rule;
 use bitflags::Flags;
 use memory_model::{Kind, Model, Operation};
 use rv32_decode::{FenceSet, Instr};
 
-/// Whether the rule holds of two operations, of which the first precedes the second in program order.
+/// Whether the rule holds of two operations, of which the first precedes the second in program order;
+/// a rule on dependencies where the sweep back from the second marked the first.
 pub(crate) fn asks(
     rule: Rule,
     model: Model,
     items: &Items,
     index: &Index,
+    sweep: &Sweep,
     a: &Operation,
     b: &Operation,
 ) -> bool
+    requires { Tells rule items.now index.now b.now sweep.now.low sweep.now.marks.items a.now }
     ensures { result ≡ (rule_of rule).asks model items.now index.now a.now b.now }
 {
     match rule {
@@ -48,11 +50,8 @@ pub(crate) fn asks(
         Rule::Release => has_release(model, b),
         Rule::Annotations => has_rcsc(model, a) && has_rcsc(model, b),
         Rule::Pair => are_paired(items, a, b),
-        Rule::Address => has_address_dependency(items, a, b),
-        Rule::Data => has_data_dependency(items, a, b),
-        Rule::Control => writes(b.kind) && has_control_dependency(items, a, b),
         Rule::DependentStore => returns_from_dependent(items, index, a, b),
-        Rule::DependentAddress => writes(b.kind) && has_dependent_address_between(items, a, b),
+        Rule::Address | Rule::Data | Rule::Control | Rule::DependentAddress => sweep.is_marked(a),
     }
 }
 
