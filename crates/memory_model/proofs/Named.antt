@@ -71,6 +71,11 @@ item_bears place hart (entry ∷ rest) zero a e = let b = given_bears place hart
 item_bears place hart (entry ∷ rest) (suc k) a e =
     let b = item_bears (place + 1) (after hart entry) rest k a e in record { hart_is = b.hart_is ∙ id-after hart entry; place_is = b.place_is ∙ omega arith }
 
+-- of an instruction of a hart's list
+pub listed_bears : (place : ℕ) (hart : Hart) (entries : List Retired) (k : ℕ) (m : Item) (a : Operation) → slice_get (items_from place hart entries) k ≡ Some m → m.operation ≡ Some a → Bears hart.id (place + k) a
+unfolding gave_at
+listed_bears place hart entries k m a e f = item_bears place hart entries k a (ap gave_at e ∙ f)
+
 found_bears : (image : Initial) (harts id : ℕ) (lists : List (List Retired)) (k place : ℕ) (a : Operation) → gave_at (option_and_then (λ (items : List Item). slice_get items place) (slice_get (items_of_harts image harts id lists) k)) ≡ Some a → Bears (id + k) place a
 unfolding gave_at
 found_bears image harts id [] k place a e = absurd (none_is_not a e)

@@ -8,6 +8,7 @@ pub mod Harts
 pub mod Indexed
 pub mod Judged
 pub mod Marks
+pub mod Passing
 pub mod Placed
 pub mod Seen
 pub mod Sweeps

@@ -2,7 +2,7 @@
 use Rattle.std.proofs.Common.{◌≡◌, ℕ, zero, suc, ◌+◌, ◌-◌, ◌<◌, ◌≤◌, List, [], ◌∷◌, ◌++◌, Bool, true, false, Option, Some, None, refl, cond, sym, ap, ◌∙◌, not, ◌&&◌, ◌||◌, ⊎_elim, arith, drop, take, length, get_or, set, replicate}
 use Rattle.std.specs.Prelude.{filter, nat_eq, nat_lt, slice_get, slice_index_or}
 use Rattle.std.specs.List.{list_any}
-use Rattle.std.proofs.lemmas.Bool.{cases_eq, cases_lt, le-ltb, lt-ltb, ne_eqb, eq-eqb, or_parts}
+use Rattle.std.proofs.lemmas.Bool.{and_right, cases_eq, cases_lt, le-ltb, lt-ltb, ne_eqb, eq-eqb, or_parts}
 use Rattle.std.proofs.lemmas.List.{drop-drop, drop-take, get_or-set_same, get_or-set_other, get_or-replicate, get_or_past, length-drop, length-set, length-replicate, length-take}
 use Rattle.std.proofs.lemmas.List.Folds.{list_any-append}
 use Rattle.std.proofs.lemmas.Option.{get_or_from_slice_get, same_Some, slice_get-get_or, slice_get_past}
@@ -21,10 +21,6 @@ pub length-with_flags : (held : List Bool) (flag : Bool) (written : List ℕ) �
 length-with_flags held flag [] = refl
 length-with_flags held flag (w ∷ rest) = length-with_flags (set held w flag) flag rest ∙ length-set held w flag
 
-and_false : (a : Bool) → (a && false) ≡ false
-and_false true = refl
-and_false false = refl
-
 flag_set : (held : List Bool) (flag : Bool) (w r : ℕ) → length held ≡ 32 → slice_index_or (set held w flag) r false ≡ cond (nat_lt r 32 && nat_eq w r) flag (slice_index_or held r false)
 flag_set held flag w r h = ⊎_elim same other (cases_eq w r)
   where
@@ -38,11 +34,11 @@ flag_set held flag w r h = ⊎_elim same other (cases_eq w r)
     same e = ⊎_elim (λ l. inside e l) (λ l. outside l) (cases_lt r 32)
 
     other : (w ≡ r → ⊥) → slice_index_or (set held w flag) r false ≡ cond (nat_lt r 32 && nat_eq w r) flag (slice_index_or held r false)
-    other f = rw (ne_eqb w r f, and_false (nat_lt r 32)) (get_or-set_other held w r flag false (λ e. f (sym e)))
+    other f = rw (ne_eqb w r f, and_right (nat_lt r 32) false refl) (get_or-set_other held w r flag false (λ e. f (sym e)))
 
 -- a register that is written has the flag, another what it had
 pub flag_at : (held : List Bool) (flag : Bool) (written : List ℕ) (r : ℕ) → length held ≡ 32 → slice_index_or (with_flags held flag written) r false ≡ cond (is_written written r) flag (slice_index_or held r false)
-flag_at held flag [] r h = rw (and_false (nat_lt r 32)) refl
+flag_at held flag [] r h = rw (and_right (nat_lt r 32) false refl) refl
 flag_at held flag (w ∷ rest) r h =
     flag_at (set held w flag) flag rest r (length-set held w flag ∙ h) ∙ (ap (cond (is_written rest r) flag) (flag_set held flag w r h) ∙ either (nat_lt r 32) (nat_eq w r) (list_any (λ v. nat_eq v r) rest))
   where
@@ -179,14 +175,14 @@ mark_at asks last (n ∷ rest) (suc k) m e =
 
 -- ---- an operation's mark among those of a stretch of its hart's list
 
-slice_get-drop : (n : ℕ) (items : List Item) (k : ℕ) → slice_get (drop n items) k ≡ slice_get items (n + k)
+pub slice_get-drop : (n : ℕ) (items : List Item) (k : ℕ) → slice_get (drop n items) k ≡ slice_get items (n + k)
 slice_get-drop zero items k = ap (slice_get items) (omega arith)
 slice_get-drop (suc n) [] k = refl
 slice_get-drop (suc n) (m ∷ rest) k =
     let next : suc n + k ≡ suc (n + k) = omega arith in
     slice_get-drop n rest k ∙ ap (slice_get (m ∷ rest)) (sym next)
 
-slice_get-take : (n : ℕ) (items : List Item) (k : ℕ) → k < n → slice_get (take n items) k ≡ slice_get items k
+pub slice_get-take : (n : ℕ) (items : List Item) (k : ℕ) → k < n → slice_get (take n items) k ≡ slice_get items k
 slice_get-take zero items k h = absurd (omega (arith, h))
 slice_get-take (suc n) [] k h = refl
 slice_get-take (suc n) (m ∷ rest) zero h = refl
@@ -220,7 +216,7 @@ mark_of asks last items low a b p h k l = go (slice_get items a.place) refl
 
 nothing_given : (wanted : List ℕ) → list_any (is_written []) wanted ≡ false
 nothing_given [] = refl
-nothing_given (r ∷ rest) = rw (and_false (nat_lt r 32)) (nothing_given rest)
+nothing_given (r ∷ rest) = rw (and_right (nat_lt r 32) false refl) (nothing_given rest)
 
 pub mark_or : (asks : Item → List ℕ) (last : List ℕ) (items : List Item) (low : ℕ) (a b : Operation) → IsPlaced 0 items → low ≤ a.place → a.place < b.place
     → slice_index_or (marks_of asks last (take (b.place - low) (drop low items))) (a.place - low) false ≡ gives_wanted (uses_at items a) (wanted_from asks last (between items a b))
