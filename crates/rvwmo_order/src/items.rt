@@ -11,7 +11,7 @@ ghost use Rattle.rv32_exec.specs.Meaning as meaning;
 ghost use Rattle.memory_model.specs.Items as spec;
 ghost use Rattle.memory_model.specs.Traces as traces;
 ghost use Rattle.rvwmo_order.specs.Limits.{IsWithinLimits};
-ghost use Rattle.rvwmo_order.specs.Placed.{IsPlaced};
+ghost use Rattle.rvwmo_order.specs.Placed.{GivesOwn, IsPlaced};
 
 use crate::runs::{after, number_read};
 use amo_unit::combine;
@@ -185,14 +185,16 @@ pub struct Harts {
 }
 
 impl Model for Harts {
-    ghost use Rattle.std.specs.Prelude.{◌≡◌, List, []};
+    ghost use Rattle.std.specs.Prelude.{◌≡◌, ℕ, List, []};
     ghost use Rattle.memory_model.specs.Items as spec;
+    ghost use Rattle.memory_model.specs.Rules as rules;
+    ghost use Rattle.rvwmo_order.specs.Placed.{GivesOwn};
 
     ghost Value = { List (List spec.Item) };
 
     ghost view = { λ h. h.lists.items };
 
-    ghost invariant = { λ h. h.none ≡ [] };
+    ghost invariant = { λ h. (h.none ≡ []) × ((hart : ℕ) → GivesOwn hart (rules.items_of h.lists.items hart)) };
 }
 
 impl Harts {
@@ -215,7 +217,8 @@ impl Harts {
 
     /// Those of a hart; none where there is no such hart.
     pub fn items_of(&self, hart: u8) -> &Items
-        ensures { result.now ≡ rules.items_of self.now hart }
+        ensures list { result.now ≡ rules.items_of self.now hart }
+        ensures own { GivesOwn hart (rules.items_of self.now hart) }
     {
         match self.lists.get(usize::from(hart)) {
             Some(items) => items,

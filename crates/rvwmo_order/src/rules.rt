@@ -50,8 +50,11 @@ pub(crate) fn asks(
         Rule::Release => has_release(model, b),
         Rule::Annotations => has_rcsc(model, a) && has_rcsc(model, b),
         Rule::Pair => are_paired(items, a, b),
-        Rule::DependentStore => returns_from_dependent(items, index, a, b),
-        Rule::Address | Rule::Data | Rule::Control | Rule::DependentAddress => sweep.is_marked(a),
+        Rule::Address
+        | Rule::Data
+        | Rule::Control
+        | Rule::DependentStore
+        | Rule::DependentAddress => sweep.is_marked(a),
     }
 }
 
@@ -167,40 +170,6 @@ fn is_lr_or_sc(instr: Option<Instr>) -> bool
     ensures { result ≡ spec.is_lr_or_sc instr }
 {
     matches!(instr, Some(Instr::Lr { .. } | Instr::Sc { .. }))
-}
-
-// Rule 12: a store between them depends on `a`, and the load `b` returns a value that it wrote.
-fn returns_from_dependent(items: &Items, index: &Index, a: &Operation, b: &Operation) -> bool
-    ensures { result ≡ spec.rule_12 Model.Rvwmo items.now index.now a.now b.now }
-{
-    reads(b.kind) && returns_from_between(items, index, a, b)
-}
-
-fn returns_from_between(items: &Items, index: &Index, a: &Operation, b: &Operation) -> bool
-    ensures { result
-        ≡ list_any (λ m. spec.passes_on items.now index.now a.now b.now m.operation) (between items.now a.now b.now) }
-{
-    items
-        .between(a, b)
-        .iter()
-        .any(|item| is_returned(items, index, a, b, item.operation()))
-}
-
-// Whether it is a store whose address or number depends on `a`, and `b` returns a value that it wrote.
-fn is_returned(
-    items: &Items,
-    index: &Index,
-    a: &Operation,
-    b: &Operation,
-    operation: Option<Operation>,
-) -> bool
-    ensures { result
-        ≡ spec.passes_on items.now index.now a.now b.now operation }
-{
-    match operation {
-        Some(store) => is_dependent_store(items, a, &store) && returns_from(index, b, &store),
-        None => false,
-    }
 }
 
 /// Whether it is a store whose address or number depends on `a`.

@@ -1,17 +1,21 @@
 //! Dependencies through registers, found by one sweep back over a hart's list: the registers that an
 //! operation wants are carried towards the list's front, one flag for each of x0 to x31, and each
 //! instruction is marked where it writes one of them.
-ghost use Rattle.std.specs.Prelude.{◌≡◌, ◌≤◌, ◌-◌, OnOk, Some, if◌then◌else◌, drop, false, length, replicate, slice_index_or, take, true, []};
+ghost use Rattle.std.specs.Prelude.{◌≡◌, ◌≤◌, ◌-◌, ◌++◌, OnOk, Some, if◌then◌else◌, false, length, replicate, slice_index_or, true, []};
+ghost use Rattle.std.specs.List.{list_any};
+ghost use Rattle.memory_model.specs.Order as orders;
 ghost use Rattle.rv32_exec.specs.Uses.{named, uses_of};
 ghost use Rattle.memory_model.specs.Dependencies as dependencies;
 ghost use Rattle.memory_model.specs.Dependencies.{holds, uses_at, uses_in, with_flags};
 ghost use Rattle.rvwmo_order.specs.Marks as spec;
 ghost use Rattle.rvwmo_order.specs.Marks.{IsBelow, TellsEach};
+ghost use Rattle.rvwmo_order.specs.Placed.{GivesOwn};
 
-use crate::accesses::{precedes, writes};
+use crate::accesses::{end_of, precedes, reads, writes};
 use crate::dependencies::{destination, instr_at, is_steering};
 use crate::index::Index;
 use crate::items::{Item, Items};
+use crate::sources::is_same_source;
 use crate::verdict::Rule;
 use memory_model::Operation;
 use rv32_decode::{Instr, Register};
@@ -23,6 +27,8 @@ pub(crate) struct Sweep {
     /// The place of the first instruction that has a mark.
     low: u32,
     marks: Vec<bool>,
+    /// The stores that the bytes of the second operation come from, where the rule asks for them.
+    sources: Vec<Option<Operation>>,
 }
 
 impl Sweep {
@@ -30,6 +36,7 @@ impl Sweep {
         Sweep {
             low: 0,
             marks: Vec::new(alloc),
+            sources: Vec::new(alloc),
         }
     }
 
@@ -43,6 +50,7 @@ impl Sweep {
         among: &[Operation],
         b: &Operation,
     ) -> Result<(), AllocError>
+        requires { GivesOwn b.now.hart items.now }
         ensures { OnOk result (TellsEach rule items.now index.now b.now self.new.low self.new.marks.items among.now) }
     {
         self.low = lowest(among, b);
@@ -50,10 +58,11 @@ impl Sweep {
         if !is_swept(rule, b) {
             return Ok(());
         }
+        find_sources(&mut self.sources, rule, index, b)?;
         let stretch = items.stretch(self.low, b.place);
         self.marks.resize(stretch.len(), false)?;
         let mut wanted = wanted_at(rule, items, b);
-        mark_back(rule, stretch, &mut wanted, &mut self.marks);
+        mark_back(rule, &self.sources, stretch, &mut wanted, &mut self.marks);
         Ok(())
     }
 
@@ -76,8 +85,28 @@ fn is_swept(rule: Rule, b: &Operation) -> bool
     match rule {
         Rule::Address | Rule::Data => true,
         Rule::Control | Rule::DependentAddress => writes(b.kind),
+        Rule::DependentStore => reads(b.kind),
         _ => false,
     }
+}
+
+// The stores that the bytes of `b` come from, where the rule asks for them.
+fn find_sources(
+    sources: &mut Vec<Option<Operation>>,
+    rule: Rule,
+    index: &Index,
+    b: &Operation,
+) -> Result<(), AllocError>
+    ensures { OnOk result (sources.new.items ≡ spec.sources_of rule index.now b.now) }
+{
+    sources.clear();
+    if !matches!(rule, Rule::DependentStore) {
+        return Ok(());
+    }
+    for x in u64::from(b.address)..end_of(b) {
+        sources.push(index.source_of(b, x))?;
+    }
+    Ok(())
 }
 
 // The first place of those that precede `b`; its own where none does.
@@ -110,16 +139,22 @@ fn wanted_at(rule: Rule, items: &Items, b: &Operation) -> [bool; 32]
 
 // Marks each of these instructions, from the last to the first, where it writes a register that is wanted
 // behind it.
-fn mark_back(rule: Rule, stretch: &[Item], wanted: &mut [bool; 32], marks: &mut [bool])
+fn mark_back(
+    rule: Rule,
+    sources: &[Option<Operation>],
+    stretch: &[Item],
+    wanted: &mut [bool; 32],
+    marks: &mut [bool],
+)
     requires { length marks.old ≡ length stretch.now }
-    ensures { marks.new ≡ spec.flagged rule wanted.old stretch.now }
+    ensures { marks.new ≡ spec.flagged rule sources.now wanted.old stretch.now }
 {
     let mut left = stretch.len();
     while left > 0 {
         left -= 1;
         let item = &stretch[left];
         marks[left] = replace_written(wanted, item.instr());
-        want_asked(wanted, rule, item);
+        want_asked(wanted, rule, sources, item);
     }
 }
 
@@ -144,17 +179,51 @@ fn replace_written(wanted: &mut [bool; 32], instr: Option<Instr>) -> bool
 }
 
 // What an instruction before the operation asks for, by the rule.
-fn want_asked(wanted: &mut [bool; 32], rule: Rule, item: &Item)
-    ensures { wanted.new ≡ with_flags wanted.old true (spec.asked_before rule item.now) }
+fn want_asked(wanted: &mut [bool; 32], rule: Rule, sources: &[Option<Operation>], item: &Item)
+    ensures { wanted.new ≡ with_flags wanted.old true (spec.asked_before rule sources.now item.now) }
 {
     let Some(instr) = item.instr() else {
         return;
     };
     match rule {
         Rule::Control => want_steering(wanted, &instr),
+        Rule::DependentStore => want_passed(wanted, sources, item.operation(), &instr),
         Rule::DependentAddress => want_address(wanted, &instr),
         _ => {}
     }
+}
+
+// A store that a byte comes from asks for its address and its number.
+fn want_passed(
+    wanted: &mut [bool; 32],
+    sources: &[Option<Operation>],
+    operation: Option<Operation>,
+    instr: &Instr,
+)
+    ensures { wanted.new ≡ with_flags wanted.old true (if spec.is_among sources.now operation then (uses_of instr.now).address ++ (uses_of instr.now).stored else []) }
+{
+    if is_among(sources, operation) {
+        want_address(wanted, instr);
+        want_stored(wanted, instr);
+    }
+}
+
+// Whether it is a store, and one of these.
+fn is_among(sources: &[Option<Operation>], operation: Option<Operation>) -> bool
+    ensures { result ≡ spec.is_among sources.now operation }
+{
+    match operation {
+        Some(store) => writes(store.kind) && has_source(sources, &store),
+        None => false,
+    }
+}
+
+fn has_source(sources: &[Option<Operation>], store: &Operation) -> bool
+    ensures { result ≡ list_any (λ source. orders.same_source source (Some store.now)) sources.now }
+{
+    sources
+        .iter()
+        .any(|source| is_same_source(*source, Some(*store)))
 }
 
 fn want_steering(wanted: &mut [bool; 32], instr: &Instr)

@@ -4,8 +4,8 @@ use Rattle.rvwmo_order.proofs.sweeping.mark_back.Given as goal
 
 abbrev pub invariant-loop-left : goal.invariant-loop-left
 invariant-loop-left l = record {
-  wanted : l.wanted ≡ flags_from l.rule l.fn.wanted (drop l.left l.stretch);
-  marked : drop l.left l.marks ≡ flagged l.rule l.fn.wanted (drop l.left l.stretch);
+  wanted : l.wanted ≡ flags_from l.rule l.sources l.fn.wanted (drop l.left l.stretch);
+  marked : drop l.left l.marks ≡ flagged l.rule l.sources l.fn.wanted (drop l.left l.stretch);
   long : length l.marks ≡ length l.stretch;
   within : l.left ≤ length l.stretch;
 }
