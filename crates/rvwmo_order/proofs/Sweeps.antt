@@ -17,7 +17,7 @@ use Rattle.rvwmo_order.proofs.Placed.{between_cut}
 
 -- ---- flags
 
-length-with_flags : (held : List Bool) (flag : Bool) (written : List ℕ) → length (with_flags held flag written) ≡ length held
+pub length-with_flags : (held : List Bool) (flag : Bool) (written : List ℕ) → length (with_flags held flag written) ≡ length held
 length-with_flags held flag [] = refl
 length-with_flags held flag (w ∷ rest) = length-with_flags (set held w flag) flag rest ∙ length-set held w flag
 
@@ -37,7 +37,7 @@ flag_set held flag w r h = ⊎_elim same other (cases_eq w r)
     other f = rw (ne_eqb w r f, and_right (nat_lt r 32) false refl) (get_or-set_other held w r flag false (λ e. f (sym e)))
 
 -- a register that is written has the flag, another what it had
-flag_at : (held : List Bool) (flag : Bool) (written : List ℕ) (r : ℕ) → length held ≡ 32 → slice_index_or (with_flags held flag written) r false ≡ cond (is_written written r) flag (slice_index_or held r false)
+pub flag_at : (held : List Bool) (flag : Bool) (written : List ℕ) (r : ℕ) → length held ≡ 32 → slice_index_or (with_flags held flag written) r false ≡ cond (is_written written r) flag (slice_index_or held r false)
 flag_at held flag [] r h = rw (and_right (nat_lt r 32) false refl) refl
 flag_at held flag (w ∷ rest) r h =
     flag_at (set held w flag) flag rest r (length-set held w flag ∙ h) ∙ (ap (cond (is_written rest r) flag) (flag_set held flag w r h) ∙ either (nat_lt r 32) (nat_eq w r) (list_any (λ v. nat_eq v r) rest))

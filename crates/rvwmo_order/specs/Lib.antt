@@ -5,3 +5,4 @@ pub mod Answers
 pub mod Indexed
 pub mod Placed
 pub mod Sweeps
+pub mod Marks

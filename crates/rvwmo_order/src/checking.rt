@@ -67,5 +67,5 @@ fn verdict_on(
 {
     let harts = Harts::of(alloc, trace)?;
     let index = Index::of(alloc, operations_at(alloc, &harts, order)?)?;
-    Ok(judge(model, trace.image(), &harts, &index))
+    judge(alloc, model, trace.image(), &harts, &index)
 }

@@ -94,7 +94,7 @@ fn is_in_source(held: &[bool; 32], instr: &Instr) -> bool
 }
 
 // The register that an instruction writes; none where it names x0 or has none.
-fn destination(instr: &Instr) -> Option<Register>
+pub(crate) fn destination(instr: &Instr) -> Option<Register>
     ensures { (uses_of instr.now).written ≡ written_to result }
 {
     let rd = match *instr {
@@ -137,7 +137,7 @@ fn pass(held: &mut [bool; 32], instr: Option<Instr>)
 }
 
 // The instruction that gave an operation.
-fn instr_at(items: &Items, a: &Operation) -> Option<Instr>
+pub(crate) fn instr_at(items: &Items, a: &Operation) -> Option<Instr>
     ensures { result ≡ spec.instr_in (slice_get items.now a.now.place) }
 {
     match items.get(a.place) {
@@ -207,7 +207,7 @@ fn steers(held: &[bool; 32], instr: Option<Instr>) -> bool
     }
 }
 
-fn is_steering(instr: &Instr) -> bool
+pub(crate) fn is_steering(instr: &Instr) -> bool
     ensures { result ≡ spec.steers (Some instr.now) }
 {
     match instr {

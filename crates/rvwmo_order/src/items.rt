@@ -1,6 +1,6 @@
 //! A hart's retired instructions with their memory operations (chapter 14.1, "Memory Model
 //! Primitives").
-ghost use Rattle.std.specs.Prelude.{◌≡◌, ◌≤◌, ◌*◌, ◌%◌, ◌^◌, IfOk, Some, false, drop, length, slice_get, slice_index, take, []};
+ghost use Rattle.std.specs.Prelude.{◌≡◌, ◌≤◌, ◌-◌, ◌*◌, ◌%◌, ◌^◌, IfOk, Some, false, drop, length, slice_get, slice_index, take, []};
 ghost use Rattle.std.specs.Option.{option_copied};
 ghost use Rattle.memory_model.specs.Dependencies.{between};
 ghost use Rattle.memory_model.specs.Rules as rules;
@@ -11,6 +11,7 @@ ghost use Rattle.rv32_exec.specs.Meaning as meaning;
 ghost use Rattle.memory_model.specs.Items as spec;
 ghost use Rattle.memory_model.specs.Traces as traces;
 ghost use Rattle.rvwmo_order.specs.Limits.{IsWithinLimits};
+ghost use Rattle.rvwmo_order.specs.Placed.{GivesOwn, IsPlaced};
 
 use crate::runs::after;
 use amo_unit::combine;
@@ -117,6 +118,17 @@ impl Items {
         self.list.get(place as usize)
     }
 
+    /// The instructions from a place on, up to another.
+    pub(crate) fn stretch(&self, from: u32, to: u32) -> &[Item]
+        ensures cut { result.now ≡ take (to - from) (drop from self.now) }
+        ensures placed { IsPlaced 0 self.now }
+    {
+        first_of(
+            behind(&self.list, from as usize),
+            to.saturating_sub(from) as usize,
+        )
+    }
+
     /// The instructions that stand between two operations of the hart in program order.
     #[tactic(auto, using(crate::proofs::Placed::between_cut))]
     pub(crate) fn between(&self, a: &Operation, b: &Operation) -> &[Item]
@@ -173,14 +185,16 @@ pub(crate) struct Harts {
 }
 
 impl Model for Harts {
-    ghost use Rattle.std.specs.Prelude.{◌≡◌, List, []};
+    ghost use Rattle.std.specs.Prelude.{◌≡◌, ℕ, List, []};
     ghost use Rattle.memory_model.specs.Items as spec;
+    ghost use Rattle.memory_model.specs.Rules as rules;
+    ghost use Rattle.rvwmo_order.specs.Placed.{GivesOwn};
 
     ghost Value = { List (List spec.Item) };
 
     ghost view = { λ h. h.lists.items };
 
-    ghost invariant = { λ h. h.none ≡ [] };
+    ghost invariant = { λ h. (h.none ≡ []) × ((hart : ℕ) → GivesOwn hart (rules.items_of h.lists.items hart)) };
 }
 
 impl Harts {
@@ -203,7 +217,8 @@ impl Harts {
 
     /// Those of a hart; none where there is no such hart.
     pub(crate) fn items_of(&self, hart: u8) -> &Items
-        ensures { result.now ≡ rules.items_of self.now hart }
+        ensures list { result.now ≡ rules.items_of self.now hart }
+        ensures own { GivesOwn hart (rules.items_of self.now hart) }
     {
         match self.lists.get(usize::from(hart)) {
             Some(items) => items,

@@ -1,5 +1,5 @@
 //! Judging an order of operations, over its index: each definition as it stands.
-ghost use Rattle.std.specs.Prelude.{◌≡◌, ◌==◌, Some, find, take};
+ghost use Rattle.std.specs.Prelude.{◌≡◌, ◌==◌, IfOk, Some, find, take, true};
 ghost use Rattle.std.specs.List.{list_all};
 ghost use Rattle.memory_model.specs.Operations as operations;
 ghost use Rattle.memory_model.specs.Order as orders;
@@ -8,6 +8,7 @@ ghost use Rattle.memory_model.specs.Legal as legal;
 ghost use Rattle.memory_model.specs.Rules as rules;
 ghost use Rattle.rvwmo_order.specs.Codes.{rule_of};
 ghost use Rattle.rvwmo_order.specs.Indexed.{reach_from};
+ghost use Rattle.rvwmo_order.specs.Marks.{Tells, TellsEach};
 ghost use Rattle.rvwmo_order.specs.Scans as scans;
 ghost use Rattle.rvwmo_order.specs.Scans.{all_rules, first_broken_pair, first_broken_rule, judged};
 
@@ -18,83 +19,84 @@ use crate::index::Index;
 use crate::items::Harts;
 use crate::rules::{are_paired, asks};
 use crate::sources::byte_from;
+use crate::sweeping::Sweep;
 use crate::verdict::{Code, RULES, Rule, Verdict};
 use elf_loader::Image;
 use memory_model::{Model, Operation};
+use std::alloc::{AllocError, Global};
 
 /// The verdict on an order of the operations of these lists, one a hart.
-pub(crate) fn judge(model: Model, image: &Image, harts: &Harts, index: &Index) -> Verdict
-    ensures { result ≡ judged model (byte_at image.now) harts.now index.now }
-{
-    if let Some((rule, a, b)) = broken_rule(model, harts, index) {
-        return Verdict::Fault(Code::Order(rule), name_of(&a), name_of(&b));
-    }
-    if let Some(load) = wrong_load(image, index) {
-        return Verdict::Fault(Code::LoadValue, name_of(&load), name_of(&load));
-    }
-    if let Some((r, w)) = broken_pair(harts, index) {
-        return Verdict::Fault(Code::Atomicity, name_of(&r), name_of(&w));
-    }
-    Verdict::Legal
-}
-
-// Whether the rule says that `a` must come before `b`.
-fn is_asked(
-    rule: Rule,
+pub(crate) fn judge(
+    alloc: Global,
     model: Model,
+    image: &Image,
     harts: &Harts,
     index: &Index,
-    a: &Operation,
-    b: &Operation,
-) -> bool
-    ensures { result
-        ≡ rules.asked_by model harts.now index.now (rule_of rule) a.now b.now }
+) -> Result<Verdict, AllocError>
+    ensures { IfOk result (λ verdict. verdict ≡ judged model (byte_at image.now) harts.now index.now) }
 {
-    precedes(a, b) && asks(rule, model, harts.items_of(a.hart), index, a, b)
+    if let Some((rule, a, b)) = broken_rule(alloc, model, harts, index)? {
+        return Ok(Verdict::Fault(Code::Order(rule), name_of(&a), name_of(&b)));
+    }
+    if let Some(load) = wrong_load(image, index) {
+        return Ok(Verdict::Fault(Code::LoadValue, name_of(&load), name_of(&load)));
+    }
+    if let Some((r, w)) = broken_pair(harts, index) {
+        return Ok(Verdict::Fault(Code::Atomicity, name_of(&r), name_of(&w)));
+    }
+    Ok(Verdict::Legal)
 }
 
 // The first rule by which an operation must come before one that stands before it, with the two.
-fn broken_rule(model: Model, harts: &Harts, index: &Index) -> Option<(Rule, Operation, Operation)>
-    ensures { result ≡ first_broken_rule model harts.now index.now all_rules }
+fn broken_rule(
+    alloc: Global,
+    model: Model,
+    harts: &Harts,
+    index: &Index,
+) -> Result<Option<(Rule, Operation, Operation)>, AllocError>
+    ensures { IfOk result (λ broken. broken ≡ first_broken_rule model harts.now index.now all_rules) }
 {
+    let mut sweep = Sweep::new(alloc);
     let mut left = RULES.as_slice();
     while let [rule, rest @ ..] = left {
-        if let Some((a, b)) = first_out_of_order(*rule, model, harts, index) {
-            return Some((*rule, a, b));
+        if let Some((a, b)) = first_out_of_order(&mut sweep, *rule, model, harts, index)? {
+            return Ok(Some((*rule, a, b)));
         }
         left = rest;
     }
-    None
+    Ok(None)
 }
 
 // Two operations of which the one behind must come first by this rule.
 fn first_out_of_order(
+    sweep: &mut Sweep,
     rule: Rule,
     model: Model,
     harts: &Harts,
     index: &Index,
-) -> Option<(Operation, Operation)>
-    ensures { result
-        ≡ scans.first_out_of_order (rules.asked_by model harts.now index.now (rule_of rule)) index.now }
+) -> Result<Option<(Operation, Operation)>, AllocError>
+    ensures { IfOk result (λ found. found
+        ≡ scans.first_out_of_order (rules.asked_by model harts.now index.now (rule_of rule)) index.now) }
 {
     let mut rest = index.order();
     let mut reaches = index.reaches();
     while let [b, behind @ ..] = rest {
         let [reach, others @ ..] = reaches else {
-            return None;
+            return Ok(None);
         };
-        if let Some(a) = first_in_reach(rule, model, harts, index, behind, *reach, b) {
-            return Some((a, *b));
+        if let Some(a) = first_in_reach(sweep, rule, model, harts, index, behind, *reach, b)? {
+            return Ok(Some((a, *b)));
         }
         rest = behind;
         reaches = others;
     }
-    None
+    Ok(None)
 }
 
-// The same, where it is known how far behind `b` the last operation stands that precedes it in program
-// order.
+// The first of the operations behind `b` that must come before it, where it is known how far behind it the
+// last one stands that precedes it in program order.
 fn first_in_reach(
+    sweep: &mut Sweep,
     rule: Rule,
     model: Model,
     harts: &Harts,
@@ -102,12 +104,14 @@ fn first_in_reach(
     behind: &[Operation],
     reach: usize,
     b: &Operation,
-) -> Option<Operation>
+) -> Result<Option<Operation>, AllocError>
     requires { reach ≡ reach_from 0 0 b.now behind.now }
-    ensures { result
-        ≡ find (λ a. rules.asked_by model harts.now index.now (rule_of rule) a b.now) behind.now }
+    ensures { IfOk result (λ found. found
+        ≡ find (λ a. rules.asked_by model harts.now index.now (rule_of rule) a b.now) behind.now) }
 {
-    first_asked(rule, model, harts, index, first_of(behind, reach), b)
+    let among = first_of(behind, reach);
+    sweep.mark(rule, harts.items_of(b.hart), index, among, b)?;
+    Ok(first_asked(rule, model, harts, index, sweep, among, b))
 }
 
 // The first so many.
@@ -121,26 +125,44 @@ fn first_of(operations: &[Operation], count: usize) -> &[Operation]
     }
 }
 
-// The first of the operations behind `b` that must come before it.
+// The first of these operations that must come before `b`, by the marks where the rule is one on
+// dependencies.
 fn first_asked(
     rule: Rule,
     model: Model,
     harts: &Harts,
     index: &Index,
-    behind: &[Operation],
+    sweep: &Sweep,
+    among: &[Operation],
     b: &Operation,
 ) -> Option<Operation>
+    requires { TellsEach rule (rules.items_of harts.now b.now.hart) index.now b.now sweep.now.low sweep.now.marks.items among.now }
     ensures { result
-        ≡ find (λ a. rules.asked_by model harts.now index.now (rule_of rule) a b.now) behind.now }
+        ≡ find (λ a. rules.asked_by model harts.now index.now (rule_of rule) a b.now) among.now }
 {
-    let mut rest = behind;
-    while let [a, tail @ ..] = rest {
-        if is_asked(rule, model, harts, index, a, b) {
+    for a in among {
+        if is_asked(rule, model, harts, index, sweep, a, b) {
             return Some(*a);
         }
-        rest = tail;
     }
     None
+}
+
+// Whether the rule says that `a` must come before `b`.
+fn is_asked(
+    rule: Rule,
+    model: Model,
+    harts: &Harts,
+    index: &Index,
+    sweep: &Sweep,
+    a: &Operation,
+    b: &Operation,
+) -> bool
+    requires { operations.precedes a.now b.now ≡ true → Tells rule (rules.items_of harts.now b.now.hart) index.now b.now sweep.now.low sweep.now.marks.items a.now }
+    ensures { result
+        ≡ rules.asked_by model harts.now index.now (rule_of rule) a.now b.now }
+{
+    precedes(a, b) && asks(rule, model, harts.items_of(a.hart), index, sweep, a, b)
 }
 
 // The first load that returns another byte than its source's.

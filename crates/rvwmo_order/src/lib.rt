@@ -18,6 +18,7 @@ mod rules;
 mod runs;
 mod sources;
 mod stored;
+mod sweeping;
 mod verdict;
 
 pub use checking::{check, check_model};

@@ -9,31 +9,33 @@ ghost use Rattle.memory_model.specs.Operations as operations;
 ghost use Rattle.memory_model.specs.Operations.{bytes_of};
 ghost use Rattle.rvwmo_order.specs.Scans as scans;
 ghost use Rattle.rvwmo_order.specs.Codes.{rule_of};
+ghost use Rattle.rvwmo_order.specs.Marks.{Tells};
 
 use crate::accesses::{
     end_of, has_acquire, has_rcsc, has_release, is_amo, is_conditional, is_reserve, overlap,
     precedes, reads, stores_to, touches, writes,
 };
-use crate::dependencies::{
-    has_address_dependency, has_control_dependency, has_data_dependency,
-    has_dependent_address_between,
-};
+use crate::dependencies::{has_address_dependency, has_data_dependency};
 use crate::index::Index;
 use crate::items::Items;
 use crate::sources::{is_same_source, returns_from};
+use crate::sweeping::Sweep;
 use crate::verdict::Rule;
 use memory_model::{Kind, Model, Operation};
 use rv32_decode::{FenceSet, Instr};
 
-/// Whether the rule holds of two operations, of which the first precedes the second in program order.
+/// Whether the rule holds of two operations, of which the first precedes the second in program order;
+/// a rule on dependencies where the sweep back from the second marked the first.
 pub(crate) fn asks(
     rule: Rule,
     model: Model,
     items: &Items,
     index: &Index,
+    sweep: &Sweep,
     a: &Operation,
     b: &Operation,
 ) -> bool
+    requires { Tells rule items.now index.now b.now sweep.now.low sweep.now.marks.items a.now }
     ensures { result ≡ (rule_of rule).asks model items.now index.now a.now b.now }
 {
     match rule {
@@ -47,11 +49,11 @@ pub(crate) fn asks(
         Rule::Release => has_release(model, b),
         Rule::Annotations => has_rcsc(model, a) && has_rcsc(model, b),
         Rule::Pair => are_paired(items, a, b),
-        Rule::Address => has_address_dependency(items, a, b),
-        Rule::Data => has_data_dependency(items, a, b),
-        Rule::Control => writes(b.kind) && has_control_dependency(items, a, b),
-        Rule::DependentStore => returns_from_dependent(items, index, a, b),
-        Rule::DependentAddress => writes(b.kind) && has_dependent_address_between(items, a, b),
+        Rule::Address
+        | Rule::Data
+        | Rule::Control
+        | Rule::DependentStore
+        | Rule::DependentAddress => sweep.is_marked(a),
     }
 }
 
@@ -167,40 +169,6 @@ fn is_lr_or_sc(instr: Option<Instr>) -> bool
     ensures { result ≡ spec.is_lr_or_sc instr }
 {
     matches!(instr, Some(Instr::Lr { .. } | Instr::Sc { .. }))
-}
-
-// Rule 12: a store between them depends on `a`, and the load `b` returns a value that it wrote.
-fn returns_from_dependent(items: &Items, index: &Index, a: &Operation, b: &Operation) -> bool
-    ensures { result ≡ spec.rule_12 Model.Rvwmo items.now index.now a.now b.now }
-{
-    reads(b.kind) && returns_from_between(items, index, a, b)
-}
-
-fn returns_from_between(items: &Items, index: &Index, a: &Operation, b: &Operation) -> bool
-    ensures { result
-        ≡ list_any (λ m. spec.passes_on items.now index.now a.now b.now m.operation) (between items.now a.now b.now) }
-{
-    items
-        .between(a, b)
-        .iter()
-        .any(|item| is_returned(items, index, a, b, item.operation()))
-}
-
-// Whether it is a store whose address or number depends on `a`, and `b` returns a value that it wrote.
-fn is_returned(
-    items: &Items,
-    index: &Index,
-    a: &Operation,
-    b: &Operation,
-    operation: Option<Operation>,
-) -> bool
-    ensures { result
-        ≡ spec.passes_on items.now index.now a.now b.now operation }
-{
-    match operation {
-        Some(store) => is_dependent_store(items, a, &store) && returns_from(index, b, &store),
-        None => false,
-    }
 }
 
 /// Whether it is a store whose address or number depends on `a`.

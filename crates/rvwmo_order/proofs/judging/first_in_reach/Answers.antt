@@ -4,4 +4,4 @@ use Rattle.rvwmo_order.proofs.Indexed.{reach_asked}
 use Rattle.rvwmo_order.proofs.judging.first_in_reach.Goals as goal
 
 pub returns : goal.returns
-returns c = c.first_asked.ensures ∙ reach_asked c.args.model c.args.harts.now c.args.index.now (rule_of c.args.rule) c.args.b.now c.args.reach c.args.behind.now c.first_of.result.now c.requires c.first_of.ensures
+returns c = c.first_asked.ensures ∙ reach_asked c.args.model c.args.harts.now c.args.index.now (rule_of c.args.rule) c.args.b.now c.args.reach c.args.behind.now c.first_of-among.result.now c.requires c.first_of-among.ensures

@@ -1,0 +1,320 @@
+//! Dependencies through registers, found by one sweep back over a hart's list: the registers that an
+//! operation wants are carried towards the list's front, one flag for each of x0 to x31, and each
+//! instruction is marked where it writes one of them.
+ghost use Rattle.std.specs.Prelude.{◌≡◌, ◌≤◌, ◌-◌, ◌++◌, OnOk, Some, if◌then◌else◌, false, length, replicate, slice_index_or, true, []};
+ghost use Rattle.std.specs.List.{list_any};
+ghost use Rattle.memory_model.specs.Order as orders;
+ghost use Rattle.rv32_exec.specs.Uses.{named, uses_of};
+ghost use Rattle.memory_model.specs.Dependencies as dependencies;
+ghost use Rattle.memory_model.specs.Dependencies.{holds, uses_at, uses_in, with_flags};
+ghost use Rattle.rvwmo_order.specs.Marks as spec;
+ghost use Rattle.rvwmo_order.specs.Marks.{IsBelow, TellsEach};
+ghost use Rattle.rvwmo_order.specs.Placed.{GivesOwn};
+
+use crate::accesses::{end_of, precedes, reads, writes};
+use crate::dependencies::{destination, instr_at, is_steering};
+use crate::index::Index;
+use crate::items::{Item, Items};
+use crate::sources::is_same_source;
+use crate::verdict::Rule;
+use memory_model::Operation;
+use rv32_decode::{Instr, Register};
+use std::alloc::{AllocError, Global};
+
+/// The marks of a sweep, kept from one to the next for their memory.
+#[derive(Drop)]
+pub(crate) struct Sweep {
+    /// The place of the first instruction that has a mark.
+    low: u32,
+    marks: Vec<bool>,
+    /// The stores that the bytes of the second operation come from, where the rule asks for them.
+    sources: Vec<Option<Operation>>,
+}
+
+impl Sweep {
+    pub(crate) fn new(alloc: Global) -> Sweep {
+        Sweep {
+            low: 0,
+            marks: Vec::new(alloc),
+            sources: Vec::new(alloc),
+        }
+    }
+
+    /// Sweeps back from `b`, as far as to the first of these operations that precedes it; not at all where
+    /// the rule is not one on dependencies, or says nothing of `b`.
+    pub(crate) fn mark(
+        &mut self,
+        rule: Rule,
+        items: &Items,
+        index: &Index,
+        among: &[Operation],
+        b: &Operation,
+    ) -> Result<(), AllocError>
+        requires { GivesOwn b.now.hart items.now }
+        ensures { OnOk result (TellsEach rule items.now index.now b.now self.new.low self.new.marks.items among.now) }
+    {
+        self.low = lowest(among, b);
+        self.marks.clear();
+        if !is_swept(rule, b) {
+            return Ok(());
+        }
+        find_sources(&mut self.sources, rule, index, b)?;
+        let stretch = items.stretch(self.low, b.place);
+        self.marks.resize(stretch.len(), false)?;
+        let mut wanted = wanted_at(rule, items, b);
+        mark_back(rule, &self.sources, stretch, &mut wanted, &mut self.marks);
+        Ok(())
+    }
+
+    /// Whether the instruction of an operation has a mark.
+    pub(crate) fn is_marked(&self, a: &Operation) -> bool
+        requires { self.now.low ≤ a.now.place }
+        ensures { result ≡ slice_index_or self.now.marks.items (a.now.place - self.now.low) false }
+    {
+        match self.marks.get((a.place - self.low) as usize) {
+            Some(mark) => *mark,
+            None => false,
+        }
+    }
+}
+
+// Whether the rule is one on dependencies that may ask for an operation before `b`.
+fn is_swept(rule: Rule, b: &Operation) -> bool
+    ensures { result ≡ spec.is_swept rule b.now }
+{
+    match rule {
+        Rule::Address | Rule::Data => true,
+        Rule::Control | Rule::DependentAddress => writes(b.kind),
+        Rule::DependentStore => reads(b.kind),
+        _ => false,
+    }
+}
+
+// The stores that the bytes of `b` come from, where the rule asks for them.
+fn find_sources(
+    sources: &mut Vec<Option<Operation>>,
+    rule: Rule,
+    index: &Index,
+    b: &Operation,
+) -> Result<(), AllocError>
+    ensures { OnOk result (sources.new.items ≡ spec.sources_of rule index.now b.now) }
+{
+    sources.clear();
+    if !matches!(rule, Rule::DependentStore) {
+        return Ok(());
+    }
+    for x in u64::from(b.address)..end_of(b) {
+        sources.push(index.source_of(b, x))?;
+    }
+    Ok(())
+}
+
+// The first place of those that precede `b`; its own where none does.
+fn lowest(among: &[Operation], b: &Operation) -> u32
+    ensures { IsBelow result b.now among.now }
+{
+    let mut low = b.place;
+    for a in among {
+        if precedes(a, b) {
+            low = low.min(a.place);
+        }
+    }
+    low
+}
+
+// The registers that `b` itself asks for, by the rule.
+fn wanted_at(rule: Rule, items: &Items, b: &Operation) -> [bool; 32]
+    ensures { result ≡ with_flags (replicate 32 false) true (spec.asked_at rule (uses_at items.now b.now)) }
+{
+    let mut wanted = [false; 32];
+    if let Some(instr) = instr_at(items, b) {
+        match rule {
+            Rule::Address => want_address(&mut wanted, &instr),
+            Rule::Data => want_stored(&mut wanted, &instr),
+            _ => {}
+        }
+    }
+    wanted
+}
+
+// Marks each of these instructions, from the last to the first, where it writes a register that is wanted
+// behind it.
+fn mark_back(
+    rule: Rule,
+    sources: &[Option<Operation>],
+    stretch: &[Item],
+    wanted: &mut [bool; 32],
+    marks: &mut [bool],
+)
+    requires { length marks.old ≡ length stretch.now }
+    ensures { marks.new ≡ spec.flagged rule sources.now wanted.old stretch.now }
+{
+    let mut left = stretch.len();
+    while left > 0 {
+        left -= 1;
+        let item = &stretch[left];
+        marks[left] = replace_written(wanted, item.instr());
+        want_asked(wanted, rule, sources, item);
+    }
+}
+
+// Whether an instruction writes a wanted register; before it its sources are wanted in place of that.
+fn replace_written(wanted: &mut [bool; 32], instr: Option<Instr>) -> bool
+    ensures mark { result ≡ holds wanted.old (uses_in instr).written }
+    ensures before { wanted.new ≡ spec.flags_before wanted.old (uses_in instr) }
+{
+    let Some(instr) = instr else {
+        return false;
+    };
+    let Some(register) = destination(&instr) else {
+        return false;
+    };
+    let number = register.number() as usize;
+    if !wanted[number] {
+        return false;
+    }
+    wanted[number] = false;
+    want_sources(wanted, &instr);
+    true
+}
+
+// What an instruction before the operation asks for, by the rule.
+fn want_asked(wanted: &mut [bool; 32], rule: Rule, sources: &[Option<Operation>], item: &Item)
+    ensures { wanted.new ≡ with_flags wanted.old true (spec.asked_before rule sources.now item.now) }
+{
+    let Some(instr) = item.instr() else {
+        return;
+    };
+    match rule {
+        Rule::Control => want_steering(wanted, &instr),
+        Rule::DependentStore => want_passed(wanted, sources, item.operation(), &instr),
+        Rule::DependentAddress => want_address(wanted, &instr),
+        _ => {}
+    }
+}
+
+// A store that a byte comes from asks for its address and its number.
+fn want_passed(
+    wanted: &mut [bool; 32],
+    sources: &[Option<Operation>],
+    operation: Option<Operation>,
+    instr: &Instr,
+)
+    ensures { wanted.new ≡ with_flags wanted.old true (if spec.is_among sources.now operation then (uses_of instr.now).address ++ (uses_of instr.now).stored else []) }
+{
+    if is_among(sources, operation) {
+        want_address(wanted, instr);
+        want_stored(wanted, instr);
+    }
+}
+
+// Whether it is a store, and one of these.
+fn is_among(sources: &[Option<Operation>], operation: Option<Operation>) -> bool
+    ensures { result ≡ spec.is_among sources.now operation }
+{
+    match operation {
+        Some(store) => writes(store.kind) && has_source(sources, &store),
+        None => false,
+    }
+}
+
+fn has_source(sources: &[Option<Operation>], store: &Operation) -> bool
+    ensures { result ≡ list_any (λ source. orders.same_source source (Some store.now)) sources.now }
+{
+    sources
+        .iter()
+        .any(|source| is_same_source(*source, Some(*store)))
+}
+
+fn want_steering(wanted: &mut [bool; 32], instr: &Instr)
+    ensures { wanted.new ≡ with_flags wanted.old true (if dependencies.steers (Some instr.now) then dependencies.sources (uses_of instr.now) else []) }
+{
+    if is_steering(instr) {
+        want_sources(wanted, instr);
+    }
+}
+
+fn want_sources(wanted: &mut [bool; 32], instr: &Instr)
+    ensures { wanted.new ≡ with_flags wanted.old true (dependencies.sources (uses_of instr.now)) }
+{
+    want_address(wanted, instr);
+    want_stored(wanted, instr);
+    want_other(wanted, instr);
+}
+
+fn want_address(wanted: &mut [bool; 32], instr: &Instr)
+    ensures { wanted.new ≡ with_flags wanted.old true (uses_of instr.now).address }
+{
+    match *instr {
+        Instr::Load { rs1, .. }
+        | Instr::Store { rs1, .. }
+        | Instr::Lr { rs1, .. }
+        | Instr::Sc { rs1, .. }
+        | Instr::Amo { rs1, .. } => want(wanted, rs1),
+        Instr::Upper { .. }
+        | Instr::Jal { .. }
+        | Instr::Jalr { .. }
+        | Instr::Branch { .. }
+        | Instr::Immediate { .. }
+        | Instr::Shift { .. }
+        | Instr::Register { .. }
+        | Instr::Fence(_)
+        | Instr::FenceTso
+        | Instr::System(_) => {}
+    }
+}
+
+fn want_stored(wanted: &mut [bool; 32], instr: &Instr)
+    ensures { wanted.new ≡ with_flags wanted.old true (uses_of instr.now).stored }
+{
+    match *instr {
+        Instr::Store { rs2, .. } | Instr::Sc { rs2, .. } | Instr::Amo { rs2, .. } => {
+            want(wanted, rs2);
+        }
+        Instr::Load { .. }
+        | Instr::Lr { .. }
+        | Instr::Upper { .. }
+        | Instr::Jal { .. }
+        | Instr::Jalr { .. }
+        | Instr::Branch { .. }
+        | Instr::Immediate { .. }
+        | Instr::Shift { .. }
+        | Instr::Register { .. }
+        | Instr::Fence(_)
+        | Instr::FenceTso
+        | Instr::System(_) => {}
+    }
+}
+
+fn want_other(wanted: &mut [bool; 32], instr: &Instr)
+    ensures { wanted.new ≡ with_flags wanted.old true (uses_of instr.now).other }
+{
+    match *instr {
+        Instr::Jalr { rs1, .. } | Instr::Immediate { rs1, .. } | Instr::Shift { rs1, .. } => {
+            want(wanted, rs1);
+        }
+        Instr::Branch { rs1, rs2, .. } | Instr::Register { rs1, rs2, .. } => {
+            want(wanted, rs1);
+            want(wanted, rs2);
+        }
+        Instr::Load { .. }
+        | Instr::Store { .. }
+        | Instr::Lr { .. }
+        | Instr::Sc { .. }
+        | Instr::Amo { .. }
+        | Instr::Upper { .. }
+        | Instr::Jal { .. }
+        | Instr::Fence(_)
+        | Instr::FenceTso
+        | Instr::System(_) => {}
+    }
+}
+
+// x0 is never wanted, since nothing comes from it.
+fn want(wanted: &mut [bool; 32], register: Register)
+    ensures { wanted.new ≡ with_flags wanted.old true (named register) }
+{
+    if register.number() != 0 {
+        wanted[register.number() as usize] = true;
+    }
+}
