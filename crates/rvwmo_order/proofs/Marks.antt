@@ -230,8 +230,8 @@ unasked DependentStore model items order a b s t = ap (λ (r : Bool). r && list_
 no_marks : (marks : List Bool) (k : ℕ) → marks ≡ [] → slice_index_or marks k false ≡ false
 no_marks marks k e = rw e refl
 
-pub tells_none : (rule : Rule) (items : List Item) (order : List Operation) (b : Operation) (low : ℕ) (marks : List Bool) (among : List Operation) → is_swept rule b ≡ false → IsBelow low b among → marks ≡ [] → TellsEach rule items order b low marks among
-tells_none rule items order b low marks among s below e = λ k d l before. record {
-  within = below k d l before;
-  told = λ model t. let a = slice_index_or among k d in no_marks marks (a.place - low) e ∙ unasked rule model items order a b s t;
+pub tells_none : (rule : Rule) (items : List Item) (order : List Operation) (b : Operation) (marks : List Bool) (among : List Operation) → is_swept rule b ≡ false → marks ≡ [] → TellsEach rule items order b 0 marks among
+tells_none rule items order b marks among s e = λ k d l before. record {
+  within = omega arith;
+  told = λ model t. let a = slice_index_or among k d in no_marks marks (a.place - 0) e ∙ unasked rule model items order a b s t;
 }

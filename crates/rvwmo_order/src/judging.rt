@@ -109,6 +109,9 @@ fn first_in_reach(
     ensures { IfOk result (λ found. found
         ≡ find (λ a. rules.asked_by model harts.now index.now (rule_of rule) a b.now) behind.now) }
 {
+    if reach == 0 {
+        return Ok(None);
+    }
     let among = first_of(behind, reach);
     sweep.mark(rule, harts.items_of(b.hart), index, among, b)?;
     Ok(first_asked(rule, model, harts, index, sweep, among, b))

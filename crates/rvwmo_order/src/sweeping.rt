@@ -53,11 +53,12 @@ impl Sweep {
         requires { GivesOwn b.now.hart items.now }
         ensures { OnOk result (TellsEach rule items.now index.now b.now self.new.low self.new.marks.items among.now) }
     {
-        self.low = lowest(among, b);
+        self.low = 0;
         self.marks.clear();
         if !is_swept(rule, b) {
             return Ok(());
         }
+        self.low = lowest(among, b);
         find_sources(&mut self.sources, rule, index, b)?;
         let stretch = items.stretch(self.low, b.place);
         self.marks.resize(stretch.len(), false)?;
