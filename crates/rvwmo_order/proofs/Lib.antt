@@ -7,6 +7,7 @@ pub mod Gathered
 pub mod Harts
 pub mod Indexed
 pub mod Judged
+pub mod Lowest
 pub mod Placed
 pub mod Seen
 pub mod Verdicts

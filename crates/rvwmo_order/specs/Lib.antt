@@ -4,3 +4,4 @@ pub mod Scans
 pub mod Answers
 pub mod Indexed
 pub mod Placed
+pub mod Lowest
