@@ -7,6 +7,7 @@ pub mod Gathered
 pub mod Harts
 pub mod Indexed
 pub mod Judged
+pub mod Lowest
 pub mod Marks
 pub mod Passing
 pub mod Placed

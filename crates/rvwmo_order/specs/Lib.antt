@@ -6,3 +6,4 @@ pub mod Indexed
 pub mod Placed
 pub mod Sweeps
 pub mod Marks
+pub mod Lowest

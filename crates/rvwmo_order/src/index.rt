@@ -12,12 +12,13 @@ ghost use Rattle.memory_model.specs.Order as spec;
 ghost use Rattle.memory_model.specs.Traces as traces;
 ghost use Rattle.memory_model.specs.Verdict as verdict;
 ghost use Rattle.rvwmo_order.specs.Indexed as indexed;
-ghost use Rattle.rvwmo_order.specs.Indexed.{is_reserve_of, name_cmp, place_from, reach_from, reaches_of, stored_from};
+ghost use Rattle.rvwmo_order.specs.Indexed.{is_reserve_of, name_cmp, place_from, reaches_of, stored_from};
 ghost use Rattle.rvwmo_order.specs.Limits.{IsWithinLimits};
 
-use crate::accesses::{end_of, is_reserve, name_of, precedes, writes};
+use crate::accesses::{end_of, is_reserve, name_of, writes};
 use crate::items::Harts;
 use crate::orders::operations_at;
+use crate::reaches::reaches_in;
 use crate::stored::Stored;
 use memory_model::Operation;
 use std::alloc::{AllocError, Global};
@@ -196,31 +197,6 @@ fn put_first(
     }
     places.insert((a.hart, a.place), position)?;
     Ok(())
-}
-
-fn reaches_in(alloc: Global, order: &[Operation]) -> Result<Vec<usize>, AllocError>
-    ensures { IfOk result (λ reaches. reaches.items ≡ reaches_of order.now) }
-{
-    let mut reaches = Vec::new(alloc);
-    let mut rest = order;
-    while let [b, behind @ ..] = rest {
-        reaches.push(reach_of(b, behind))?;
-        rest = behind;
-    }
-    Ok(reaches)
-}
-
-// How many operations there are up to the last that precedes `b` in program order.
-fn reach_of(b: &Operation, behind: &[Operation]) -> usize
-    ensures { result ≡ reach_from 0 0 b.now behind.now }
-{
-    let mut reach = 0;
-    for (position, a) in behind.iter().enumerate() {
-        if precedes(a, b) {
-            reach = position + 1;
-        }
-    }
-    reach
 }
 
 // The stores of an order to each byte.

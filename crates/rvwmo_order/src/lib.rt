@@ -14,6 +14,7 @@ mod limits;
 mod names;
 mod orders;
 pub mod plain;
+mod reaches;
 mod rules;
 mod runs;
 mod sources;
