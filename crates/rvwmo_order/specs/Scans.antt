@@ -17,10 +17,10 @@ use Rattle.rvwmo_order.specs.declared.verdict.Code.TheVariants.{Order, LoadValue
 use Rattle.rvwmo_order.specs.declared.verdict.Verdict.{Verdict}
 use Rattle.rvwmo_order.specs.declared.verdict.Verdict.TheVariants.{Legal, Fault}
 
--- the registers that an instruction writes, where it writes at most one
-abbrev pub written_to : Option ℕ → List ℕ
-written_to None = []
-written_to (Some r) = r ∷ []
+-- a register, where there is one
+abbrev pub registers_in : Option ℕ → List ℕ
+registers_in None = []
+registers_in (Some r) = r ∷ []
 
 -- a and b return byte x from different writes, with no store to it between them in program order
 abbrev pub returns_differently : ℕ → List Item → List Operation → Operation → Operation → Bool

@@ -5,7 +5,6 @@
 mod accesses;
 mod checking;
 mod completing;
-mod dependencies;
 mod error;
 mod index;
 mod items;
@@ -20,6 +19,7 @@ mod runs;
 mod sources;
 mod stored;
 mod sweeping;
+mod uses;
 mod verdict;
 
 pub use checking::{check, check_model};

@@ -3,6 +3,7 @@
 //! it stands (RISC-V Unprivileged ISA 20191213, chapters 14 and 23).
 
 mod checking;
+mod dependencies;
 mod judging;
 mod orders;
 mod rules;

@@ -3,7 +3,6 @@
 ghost use Rattle.std.specs.Prelude.{◌≡◌, ◌&&◌, ◌||◌, Some};
 ghost use Rattle.std.specs.List.{list_any};
 ghost use Rattle.memory_model.specs.Rules as spec;
-ghost use Rattle.memory_model.specs.Dependencies as dependencies;
 ghost use Rattle.memory_model.specs.Dependencies.{between};
 ghost use Rattle.memory_model.specs.Operations as operations;
 ghost use Rattle.memory_model.specs.Operations.{bytes_of};
@@ -15,7 +14,6 @@ use crate::accesses::{
     end_of, has_acquire, has_rcsc, has_release, is_amo, is_conditional, is_reserve, overlap,
     precedes, reads, stores_to, touches, writes,
 };
-use crate::dependencies::{has_address_dependency, has_data_dependency};
 use crate::index::Index;
 use crate::items::Items;
 use crate::sources::{is_same_source, returns_from};
@@ -169,12 +167,4 @@ fn is_lr_or_sc(instr: Option<Instr>) -> bool
     ensures { result ≡ spec.is_lr_or_sc instr }
 {
     matches!(instr, Some(Instr::Lr { .. } | Instr::Sc { .. }))
-}
-
-/// Whether it is a store whose address or number depends on `a`.
-pub(crate) fn is_dependent_store(items: &Items, a: &Operation, store: &Operation) -> bool
-    ensures { result ≡ (operations.writes store.now.kind && (dependencies.has_address_dependency items.now a.now store.now || dependencies.has_data_dependency items.now a.now store.now)) }
-{
-    writes(store.kind)
-        && (has_address_dependency(items, a, store) || has_data_dependency(items, a, store))
 }

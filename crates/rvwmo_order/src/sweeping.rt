@@ -4,18 +4,21 @@
 ghost use Rattle.std.specs.Prelude.{◌≡◌, ◌≤◌, ◌-◌, ◌++◌, OnOk, Some, if◌then◌else◌, false, length, replicate, slice_index_or, true, []};
 ghost use Rattle.std.specs.List.{list_any};
 ghost use Rattle.memory_model.specs.Order as orders;
-ghost use Rattle.rv32_exec.specs.Uses.{named, uses_of};
+ghost use Rattle.rv32_exec.specs.Uses.{uses_of};
 ghost use Rattle.memory_model.specs.Dependencies as dependencies;
 ghost use Rattle.memory_model.specs.Dependencies.{holds, uses_at, uses_in, with_flags};
 ghost use Rattle.rvwmo_order.specs.Marks as spec;
 ghost use Rattle.rvwmo_order.specs.Marks.{IsBelow, TellsEach};
 ghost use Rattle.rvwmo_order.specs.Placed.{GivesOwn};
+ghost use Rattle.rvwmo_order.specs.Scans.{registers_in};
 
 use crate::accesses::{end_of, precedes, reads, writes};
-use crate::dependencies::{destination, instr_at, is_steering};
 use crate::index::Index;
 use crate::items::{Item, Items};
 use crate::sources::is_same_source;
+use crate::uses::{
+    address_register, destination, instr_at, is_steering, other_registers, stored_register,
+};
 use crate::verdict::Rule;
 use memory_model::Operation;
 use rv32_decode::{Instr, Register};
@@ -130,8 +133,8 @@ fn wanted_at(rule: Rule, items: &Items, b: &Operation) -> [bool; 32]
     let mut wanted = [false; 32];
     if let Some(instr) = instr_at(items, b) {
         match rule {
-            Rule::Address => want_address(&mut wanted, &instr),
-            Rule::Data => want_stored(&mut wanted, &instr),
+            Rule::Address => want(&mut wanted, address_register(&instr)),
+            Rule::Data => want(&mut wanted, stored_register(&instr)),
             _ => {}
         }
     }
@@ -189,7 +192,7 @@ fn want_asked(wanted: &mut [bool; 32], rule: Rule, sources: &[Option<Operation>]
     match rule {
         Rule::Control => want_steering(wanted, &instr),
         Rule::DependentStore => want_passed(wanted, sources, item.operation(), &instr),
-        Rule::DependentAddress => want_address(wanted, &instr),
+        Rule::DependentAddress => want(wanted, address_register(&instr)),
         _ => {}
     }
 }
@@ -204,8 +207,8 @@ fn want_passed(
     ensures { wanted.new ≡ with_flags wanted.old true (if spec.is_among sources.now operation then (uses_of instr.now).address ++ (uses_of instr.now).stored else []) }
 {
     if is_among(sources, operation) {
-        want_address(wanted, instr);
-        want_stored(wanted, instr);
+        want(wanted, address_register(instr));
+        want(wanted, stored_register(instr));
     }
 }
 
@@ -238,84 +241,17 @@ fn want_steering(wanted: &mut [bool; 32], instr: &Instr)
 fn want_sources(wanted: &mut [bool; 32], instr: &Instr)
     ensures { wanted.new ≡ with_flags wanted.old true (dependencies.sources (uses_of instr.now)) }
 {
-    want_address(wanted, instr);
-    want_stored(wanted, instr);
-    want_other(wanted, instr);
+    let (first, second) = other_registers(instr);
+    want(wanted, address_register(instr));
+    want(wanted, stored_register(instr));
+    want(wanted, first);
+    want(wanted, second);
 }
 
-fn want_address(wanted: &mut [bool; 32], instr: &Instr)
-    ensures { wanted.new ≡ with_flags wanted.old true (uses_of instr.now).address }
+fn want(wanted: &mut [bool; 32], register: Option<Register>)
+    ensures { wanted.new ≡ with_flags wanted.old true (registers_in register) }
 {
-    match *instr {
-        Instr::Load { rs1, .. }
-        | Instr::Store { rs1, .. }
-        | Instr::Lr { rs1, .. }
-        | Instr::Sc { rs1, .. }
-        | Instr::Amo { rs1, .. } => want(wanted, rs1),
-        Instr::Upper { .. }
-        | Instr::Jal { .. }
-        | Instr::Jalr { .. }
-        | Instr::Branch { .. }
-        | Instr::Immediate { .. }
-        | Instr::Shift { .. }
-        | Instr::Register { .. }
-        | Instr::Fence(_)
-        | Instr::FenceTso
-        | Instr::System(_) => {}
-    }
-}
-
-fn want_stored(wanted: &mut [bool; 32], instr: &Instr)
-    ensures { wanted.new ≡ with_flags wanted.old true (uses_of instr.now).stored }
-{
-    match *instr {
-        Instr::Store { rs2, .. } | Instr::Sc { rs2, .. } | Instr::Amo { rs2, .. } => {
-            want(wanted, rs2);
-        }
-        Instr::Load { .. }
-        | Instr::Lr { .. }
-        | Instr::Upper { .. }
-        | Instr::Jal { .. }
-        | Instr::Jalr { .. }
-        | Instr::Branch { .. }
-        | Instr::Immediate { .. }
-        | Instr::Shift { .. }
-        | Instr::Register { .. }
-        | Instr::Fence(_)
-        | Instr::FenceTso
-        | Instr::System(_) => {}
-    }
-}
-
-fn want_other(wanted: &mut [bool; 32], instr: &Instr)
-    ensures { wanted.new ≡ with_flags wanted.old true (uses_of instr.now).other }
-{
-    match *instr {
-        Instr::Jalr { rs1, .. } | Instr::Immediate { rs1, .. } | Instr::Shift { rs1, .. } => {
-            want(wanted, rs1);
-        }
-        Instr::Branch { rs1, rs2, .. } | Instr::Register { rs1, rs2, .. } => {
-            want(wanted, rs1);
-            want(wanted, rs2);
-        }
-        Instr::Load { .. }
-        | Instr::Store { .. }
-        | Instr::Lr { .. }
-        | Instr::Sc { .. }
-        | Instr::Amo { .. }
-        | Instr::Upper { .. }
-        | Instr::Jal { .. }
-        | Instr::Fence(_)
-        | Instr::FenceTso
-        | Instr::System(_) => {}
-    }
-}
-
-// x0 is never wanted, since nothing comes from it.
-fn want(wanted: &mut [bool; 32], register: Register)
-    ensures { wanted.new ≡ with_flags wanted.old true (named register) }
-{
-    if register.number() != 0 {
+    if let Some(register) = register {
         wanted[register.number() as usize] = true;
     }
 }

@@ -1,10 +1,12 @@
 //! The rules of preserved program order (chapter 14.1, "Preserved Program Order"): those that ask which store
 //! a load returns by walks over the order, those that ask for a dependency by a walk over the instructions
 //! between the two. Fences and pairs are judged as the checker judges them.
-ghost use Rattle.std.specs.Prelude.{◌≡◌, ◌&&◌};
+ghost use Rattle.std.specs.Prelude.{◌≡◌, ◌&&◌, ◌||◌};
 ghost use Rattle.std.specs.List.{list_any};
 ghost use Rattle.memory_model.specs.Rules as spec;
+ghost use Rattle.memory_model.specs.Dependencies as dependencies;
 ghost use Rattle.memory_model.specs.Dependencies.{between};
+ghost use Rattle.memory_model.specs.Operations as operations;
 ghost use Rattle.memory_model.specs.Operations.{bytes_of};
 ghost use Rattle.rvwmo_order.specs.Scans as scans;
 ghost use Rattle.rvwmo_order.specs.Codes.{rule_of};
@@ -13,13 +15,13 @@ use crate::accesses::{
     end_of, has_acquire, has_rcsc, has_release, is_amo, is_conditional, overlap, reads, touches,
     writes,
 };
-use crate::dependencies::{
+use crate::items::Items;
+use crate::plain::dependencies::{
     has_address_dependency, has_control_dependency, has_data_dependency,
     has_dependent_address_between,
 };
-use crate::items::Items;
 use crate::plain::sources::{returns_from, source};
-use crate::rules::{are_paired, has_store_between, is_dependent_store, is_fenced};
+use crate::rules::{are_paired, has_store_between, is_fenced};
 use crate::sources::is_same_source;
 use crate::verdict::Rule;
 use memory_model::{Model, Operation};
@@ -113,4 +115,12 @@ fn is_returned(
         Some(store) => is_dependent_store(items, a, &store) && returns_from(order, b, &store),
         None => false,
     }
+}
+
+// Whether it is a store whose address or number depends on `a`.
+fn is_dependent_store(items: &Items, a: &Operation, store: &Operation) -> bool
+    ensures { result ≡ (operations.writes store.now.kind && (dependencies.has_address_dependency items.now a.now store.now || dependencies.has_data_dependency items.now a.now store.now)) }
+{
+    writes(store.kind)
+        && (has_address_dependency(items, a, store) || has_data_dependency(items, a, store))
 }

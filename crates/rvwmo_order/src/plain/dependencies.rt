@@ -1,89 +1,48 @@
 //! Dependencies through registers (chapter 14.1, "Syntactic Dependencies", and 14.3): what came from an
 //! operation is carried forward through the registers, one flag for each of x0 to x31.
-ghost use Rattle.std.specs.Prelude.{◌≡◌, ◌&&◌, Some, slice_get};
-ghost use Rattle.rvwmo_order.specs.Scans.{written_to};
-ghost use Rattle.rv32_exec.specs.Uses.{named, uses_of};
+ghost use Rattle.std.specs.Prelude.{◌≡◌, ◌&&◌};
+ghost use Rattle.rvwmo_order.specs.Scans.{registers_in};
+ghost use Rattle.rv32_exec.specs.Uses.{uses_of};
 ghost use Rattle.memory_model.specs.Dependencies as spec;
 
 use crate::accesses::precedes;
 use crate::items::Items;
+use crate::uses::{
+    address_register, destination, instr_at, is_steering, other_registers, stored_register,
+};
 use memory_model::Operation;
 use rv32_decode::{Instr, Register};
 
-fn is_held(held: &[bool; 32], register: Register) -> bool
-    ensures { result ≡ spec.holds held.now (named register) }
+// Whether a register, where there is one, holds it.
+fn is_held(held: &[bool; 32], register: Option<Register>) -> bool
+    ensures { result ≡ spec.holds held.now (registers_in register) }
 {
-    register.number() != 0 && held[register.number() as usize]
+    match register {
+        Some(register) => held[register.number() as usize],
+        None => false,
+    }
 }
 
 // Whether the address of an access holds it.
 fn is_in_address(held: &[bool; 32], instr: &Instr) -> bool
     ensures { result ≡ spec.holds held.now (uses_of instr.now).address }
 {
-    match *instr {
-        Instr::Load { rs1, .. }
-        | Instr::Store { rs1, .. }
-        | Instr::Lr { rs1, .. }
-        | Instr::Sc { rs1, .. }
-        | Instr::Amo { rs1, .. } => is_held(held, rs1),
-        Instr::Upper { .. }
-        | Instr::Jal { .. }
-        | Instr::Jalr { .. }
-        | Instr::Branch { .. }
-        | Instr::Immediate { .. }
-        | Instr::Shift { .. }
-        | Instr::Register { .. }
-        | Instr::Fence(_)
-        | Instr::FenceTso
-        | Instr::System(_) => false,
-    }
+    is_held(held, address_register(instr))
 }
 
 // Whether the number that is stored holds it.
 fn is_in_stored(held: &[bool; 32], instr: &Instr) -> bool
     ensures { result ≡ spec.holds held.now (uses_of instr.now).stored }
 {
-    match *instr {
-        Instr::Store { rs2, .. } | Instr::Sc { rs2, .. } | Instr::Amo { rs2, .. } => {
-            is_held(held, rs2)
-        }
-        Instr::Load { .. }
-        | Instr::Lr { .. }
-        | Instr::Upper { .. }
-        | Instr::Jal { .. }
-        | Instr::Jalr { .. }
-        | Instr::Branch { .. }
-        | Instr::Immediate { .. }
-        | Instr::Shift { .. }
-        | Instr::Register { .. }
-        | Instr::Fence(_)
-        | Instr::FenceTso
-        | Instr::System(_) => false,
-    }
+    is_held(held, stored_register(instr))
 }
 
 // Whether a register that the instruction reads otherwise holds it.
 fn is_in_other(held: &[bool; 32], instr: &Instr) -> bool
     ensures { result ≡ spec.holds held.now (uses_of instr.now).other }
 {
-    match *instr {
-        Instr::Jalr { rs1, .. } | Instr::Immediate { rs1, .. } | Instr::Shift { rs1, .. } => {
-            is_held(held, rs1)
-        }
-        Instr::Branch { rs1, rs2, .. } | Instr::Register { rs1, rs2, .. } => {
-            is_held(held, rs1) || is_held(held, rs2)
-        }
-        Instr::Load { .. }
-        | Instr::Store { .. }
-        | Instr::Lr { .. }
-        | Instr::Sc { .. }
-        | Instr::Amo { .. }
-        | Instr::Upper { .. }
-        | Instr::Jal { .. }
-        | Instr::Fence(_)
-        | Instr::FenceTso
-        | Instr::System(_) => false,
-    }
+    let (first, second) = other_registers(instr);
+    is_held(held, first) || is_held(held, second)
 }
 
 // Whether one of the instruction's sources holds it.
@@ -91,30 +50,6 @@ fn is_in_source(held: &[bool; 32], instr: &Instr) -> bool
     ensures { result ≡ spec.holds held.now (spec.sources (uses_of instr.now)) }
 {
     is_in_address(held, instr) || is_in_stored(held, instr) || is_in_other(held, instr)
-}
-
-// The register that an instruction writes; none where it names x0 or has none.
-pub(crate) fn destination(instr: &Instr) -> Option<Register>
-    ensures { (uses_of instr.now).written ≡ written_to result }
-{
-    let rd = match *instr {
-        Instr::Upper { rd, .. }
-        | Instr::Jal { rd, .. }
-        | Instr::Jalr { rd, .. }
-        | Instr::Load { rd, .. }
-        | Instr::Immediate { rd, .. }
-        | Instr::Shift { rd, .. }
-        | Instr::Register { rd, .. }
-        | Instr::Lr { rd, .. }
-        | Instr::Sc { rd, .. }
-        | Instr::Amo { rd, .. } => rd,
-        Instr::Store { .. }
-        | Instr::Branch { .. }
-        | Instr::Fence(_)
-        | Instr::FenceTso
-        | Instr::System(_) => return None,
-    };
-    if rd.number() == 0 { None } else { Some(rd) }
 }
 
 // Behind an instruction its destination holds what the flag says.
@@ -133,16 +68,6 @@ fn pass(held: &mut [bool; 32], instr: Option<Instr>)
     if let Some(instr) = instr {
         let flag = is_in_source(held, &instr);
         mark(held, flag, &instr);
-    }
-}
-
-// The instruction that gave an operation.
-pub(crate) fn instr_at(items: &Items, a: &Operation) -> Option<Instr>
-    ensures { result ≡ spec.instr_in (slice_get items.now a.now.place) }
-{
-    match items.get(a.place) {
-        Some(item) => item.instr(),
-        None => None,
     }
 }
 
@@ -204,27 +129,6 @@ fn steers(held: &[bool; 32], instr: Option<Instr>) -> bool
     match instr {
         Some(instr) => is_steering(&instr) && is_in_source(held, &instr),
         None => false,
-    }
-}
-
-pub(crate) fn is_steering(instr: &Instr) -> bool
-    ensures { result ≡ spec.steers (Some instr.now) }
-{
-    match instr {
-        Instr::Branch { .. } | Instr::Jalr { .. } => true,
-        Instr::Load { .. }
-        | Instr::Store { .. }
-        | Instr::Lr { .. }
-        | Instr::Sc { .. }
-        | Instr::Amo { .. }
-        | Instr::Upper { .. }
-        | Instr::Jal { .. }
-        | Instr::Immediate { .. }
-        | Instr::Shift { .. }
-        | Instr::Register { .. }
-        | Instr::Fence(_)
-        | Instr::FenceTso
-        | Instr::System(_) => false,
     }
 }
 
