@@ -18,7 +18,7 @@ use Rattle.machine_model.specs.Events.Verdict.{IsLimited, Moves}
 use Rattle.machine_model.specs.Views.{State}
 use Rattle.machine_parts.specs.Applying.{Answers}
 use Rattle.machine_parts.specs.declared.errors.ApplyError.{ApplyError}
-use Rattle.machine_parts.specs.declared.errors.ApplyError.TheVariants.{Limit}
+use Rattle.machine_parts.specs.declared.errors.ApplyError.TheVariants.{BadEvent, Limit}
 use Rattle.machine_parts.proofs.Committed.{IsNext, verdict_is}
 use Rattle.coherent_machine.specs.Adopting.{IsCurrent, have_words, local_of}
 
@@ -99,6 +99,10 @@ moved_by false moved s new o result a e =
       | inr x ↦ absurd (cc (x.0, e))
     ]
 
+never_bad_by : (b : Bool) (moved s new : State) (result : Result Outcome ApplyError) → Answers (limits_or b moved) s result new → result ≡ Err BadEvent → ⊥
+never_bad_by true moved s new result a e = absurd (cc (a.0, e))
+never_bad_by false moved s new result a e = elim a [ inl x ↦ absurd (cc (x.0, e)) | inr x ↦ absurd (cc (x.0, e)) ]
+
 -- a current row that isn't empty
 pub record Fits (h : ℕ) (row : Row) (s : State) : Type 0 where
   pub is_row : IsRow row
@@ -129,3 +133,6 @@ pub moved_when : (h : ℕ) (row : Row) (s new : State) (o : Outcome) (result : R
 moved_when h row s new o result f a e =
     let m = moved_by (is_limited s h (act.Local (length row.entries))) (went h row s) s new o result (answers_by h row s new result f a) e in
     (verdict_fits h row s f ∙ m.0, m.1)
+
+pub never_bad : (h : ℕ) (row : Row) (s new : State) (result : Result Outcome ApplyError) → Fits h row s → Answers (verdict s (local_of h row)) s result new → result ≡ Err BadEvent → ⊥
+never_bad h row s new result f a e = never_bad_by (is_limited s h (act.Local (length row.entries))) (went h row s) s new result (answers_by h row s new result f a) e

@@ -102,6 +102,7 @@ impl Machine {
         ensures ok { OnOk result (self.new ≡ happens self.old (local_of hart batch.now)) }
         ensures retired { IfOk result (λ outcome. verdict self.old (local_of hart batch.now) ≡ Verdict.Moves outcome self.new × (outcome ≡ Outcome.Retired)) }
         ensures err { OnErr result (self.new ≡ self.old) }
+        ensures reached { IsReached self.new }
         ensures headline { KeepsHeadline self.new }
         ensures log { IsLawfulLog self.new.trace.log }
         ensures grows { Grows self.old.trace self.new.trace }
@@ -132,6 +133,7 @@ impl Machine {
         ensures answers { Answers (verdict self.old (local_of hart batch.now)) self.old result self.new }
         ensures ok { OnOk result (self.new ≡ happens self.old (local_of hart batch.now)) }
         ensures err { OnErr result (self.new ≡ self.old) }
+        ensures reached { IsReached self.new }
         ensures headline { KeepsHeadline self.new }
         ensures log { IsLawfulLog self.new.trace.log }
         ensures grows { Grows self.old.trace self.new.trace }

@@ -1,6 +1,6 @@
 use Rattle.std.proofs.Common.{refl}
 use Rattle.machine_parts.specs.Parts.{state_of}
-use Rattle.coherent_machine.proofs.Batches.{Fits, fits_by, limited_when, moved_when}
+use Rattle.coherent_machine.proofs.Batches.{Fits, fits_by, limited_when, moved_when, never_bad}
 use Rattle.coherent_machine.proofs.Reached.{headline_of}
 use Rattle.coherent_machine.proofs.machine.Machine.adopt.Goals as goal
 
@@ -18,6 +18,9 @@ fits-Limit c = fits_by c.args.hart c.args.batch.now c.args.self.now (state_of c.
 
 fits-NoMemory : (c : goal.In-Err-NoMemory) → Fits c.args.hart c.args.batch.now c.args.self.now
 fits-NoMemory c = fits_by c.args.hart c.args.batch.now c.args.self.now (state_of c.self.inside.parts) c.entries.result.now c.is_empty.result c.entries.ensures.row c.entries.ensures.entries c.self.view_is (c.is_current.ensures.0 c.if-not-is_current.false) c.is_empty.ensures c.if-is_empty.false
+
+fits-BadEvent : (c : goal.In-Err-BadEvent) → Fits c.args.hart c.args.batch.now c.args.self.now
+fits-BadEvent c = fits_by c.args.hart c.args.batch.now c.args.self.now (state_of c.self.inside.parts) c.entries.result.now c.is_empty.result c.entries.ensures.row c.entries.ensures.entries c.self.view_is (c.is_current.ensures.0 c.if-not-is_current.false) c.is_empty.ensures c.if-is_empty.false
 
 pub returns-in-Ok-clause-retired : goal.returns-in-Ok-clause-retired
 returns-in-Ok-clause-retired c =
@@ -42,3 +45,9 @@ returns-in-Err-Limit-clause-limit c = (
 
 pub returns-in-Err-NoMemory-clause-stale : goal.returns-in-Err-NoMemory-clause-stale
 returns-in-Err-NoMemory-clause-stale c = (λ e. absurd (cc (e)), λ n. absurd (n (fits-NoMemory c).current))
+
+pub unreachable-requires : goal.unreachable-requires
+unreachable-requires c =
+    never_bad c.args.hart c.args.batch.now c.args.self.now c.commit.new.self c.commit.result (fits-BadEvent c)
+    c.commit.ensures.answers
+    (cc (c.in-Err-BadEvent.is, c.in-Err-BadEvent.field-0-is))

@@ -36,3 +36,6 @@ returns-clause-stays c = rw (← c.self.view_is) (stays_after c.image_and_config
 
 pub returns-clause-log : goal.returns-clause-log
 returns-clause-log c = law_of (λ image config s. IsLawfulLog s.trace.log) c.log_lawful_always.ensures (state_of c.commit.new.self) (invariant_of-self c)
+
+pub returns-clause-reached : goal.returns-clause-reached
+returns-clause-reached c = invariant_of-self c
