@@ -1,1 +1,5 @@
+mod Fitting
+mod Left
+mod Missing
 mod Replays
+mod Walked
