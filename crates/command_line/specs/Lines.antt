@@ -21,7 +21,7 @@ use Rattle.command_line.specs.Composition.{IsComposition, Leads}
 use Rattle.command_line.specs.Files.{HoldsImage, HoldsScript, HoldsTrace}
 use Rattle.command_line.specs.Held.{Held}
 use Rattle.command_line.specs.declared.fault.Fault.{Fault as Trouble}
-use Rattle.command_line.specs.declared.fault.Fault.TheVariants.{CannotWrite, OutOfMemory}
+use Rattle.command_line.specs.declared.fault.Fault.TheVariants.{CannotWrite, Configuration, OutOfMemory}
 use Rattle.command_line.specs.declared.wanted.Replay.{Replay}
 
 -- what was appended is the text of the trace that the script in the one file means for the image in the other
@@ -73,8 +73,15 @@ pub record HasVerdict (held : Held) (name : List ℕ) (model : Model) : Type 0 w
   pub file : HoldsTrace held name trace
   pub judged : IsVerdict model trace verdict
 
--- what a fault has left on the output: nothing, but where the output itself had the fault or memory ran out
+-- something is wrong with a file or with what it holds, or memory ran out
+abbrev pub IsOfFile : Trouble → Type 0
+IsOfFile CannotWrite = ⊥
+IsOfFile Configuration = ⊥
+IsOfFile _ = Unit {0}
+
+-- what a fault has left on the output: nothing, but where the output itself had the fault or memory ran out. What the files hold is never beyond the limits of a machine
 abbrev pub Leaves : Trouble → Option (List ℕ) → Option (List ℕ) → Type 0 → Type 0
 Leaves CannotWrite old new broken = broken
 Leaves OutOfMemory old new broken = (new ≡ old) ⊎ broken
+Leaves Configuration old new broken = ⊥
 Leaves _ old new broken = new ≡ old

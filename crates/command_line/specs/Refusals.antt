@@ -2,6 +2,7 @@
 use Rattle.std.specs.Prelude.{◌≡◌, ◌≢◌, ◌⊎◌, [], List}
 use Rattle.clap.specs.Words.{App, IsAmong, Kinds, Text, fault_of, kind_of}
 use Rattle.clap.specs.declared.error.Error.{Error}
+use Rattle.clap.specs.declared.error.kind.ErrorKind.{ErrorKind}
 use Rattle.clap.specs.declared.error.kind.ErrorKind.TheVariants.{DisplayHelp, DisplayVersion, OutOfMemory}
 use Rattle.command_line.specs.Settings.{IsUsage}
 use Rattle.command_line.specs.declared.wanted.SettingsError.{SettingsError}
@@ -24,6 +25,13 @@ abbrev pub IsRefused : List Text → SettingsError → Type 0
 IsRefused words NoMemory = Unit {0}
 IsRefused words (Usage error) = HasFaults words (IsAmong (kind_of error))
 
+abbrev pub IsHelp : ErrorKind → Type 0
+IsHelp kind = (kind ≡ DisplayHelp) ⊎ (kind ≡ DisplayVersion)
+
 -- the words ask for a text about the program
 abbrev pub IsForHelp : List Text → Type 0
-IsForHelp words = HasFaults words (λ kinds. IsAmong DisplayHelp kinds ⊎ IsAmong DisplayVersion kinds)
+IsForHelp words = HasFaults words (λ kinds. (kind : ErrorKind) × IsAmong kind kinds × IsHelp kind)
+
+-- the words don't fit the usage, and don't only ask for help
+abbrev pub IsUnfit : List Text → Type 0
+IsUnfit words = HasFaults words (λ kinds. (kind : ErrorKind) × IsAmong kind kinds × (¬ IsHelp kind))

@@ -1,6 +1,7 @@
 //! Why the program ends with another status than 0.
 
 ghost use Rattle.std.specs.Prelude.{◌≡◌, ◌≢◌, ◌⊎◌};
+ghost use Rattle.command_line.specs.Lines.{IsOfFile};
 ghost use Rattle.command_line.specs.Status.{status_of};
 
 use coherent_machine::{ApplyError, NewError, ReplayError};
@@ -121,7 +122,7 @@ impl<'a> Fault<'a> {
 
     /// The script's first event stands on line 2.
     pub(crate) fn replay(script: &'a str, error: ReplayError) -> Fault<'a>
-        ensures { result ≢ Fault.CannotWrite }
+        ensures { error ≢ ReplayError.New NewError.Config → IsOfFile result }
     {
         match error {
             ReplayError::New(NewError::Config) => Fault::Configuration,

@@ -1,9 +1,10 @@
 //! `rvtl replay`: a script of events is applied to a machine, and the trace printed.
 
-ghost use Rattle.std.specs.Prelude.{◌≡◌, ◌≢◌, IfErr, IfOk, OnOk};
+ghost use Rattle.std.specs.Prelude.{◌≡◌, IfErr, IfOk, OnOk};
+ghost use Rattle.elf_loader.specs.Size.{IsMemoryKib};
 ghost use Rattle.command_line.specs.Files.{HoldsImage, HoldsScript};
 ghost use Rattle.command_line.specs.Held.{HoldsBytes};
-ghost use Rattle.command_line.specs.Lines.{IsCutOff, IsReplayed, Leaves};
+ghost use Rattle.command_line.specs.Lines.{IsCutOff, IsOfFile, IsReplayed, Leaves};
 
 use crate::composing::{CompositionError, replay_and_write};
 use crate::fault::Fault;
@@ -50,7 +51,7 @@ pub(crate) fn contents<'a, F: Files>(
     files: &mut F,
     name: &'a str,
 ) -> Result<Vec<u8>, Fault<'a>>
-    ensures fault { IfErr result (λ fault. fault ≢ Fault.CannotWrite) }
+    ensures fault { IfErr result IsOfFile }
     ensures bytes { IfOk result (λ bytes. HoldsBytes (F.held files.old) name.entry.now bytes.items) }
     ensures stays { F.held files.new ≡ F.held files.old }
 {
@@ -66,7 +67,7 @@ pub(crate) fn contents<'a, F: Files>(
 }
 
 fn script_in<'a, F: Files>(alloc: Global, files: &mut F, name: &'a str) -> Result<Script, Fault<'a>>
-    ensures fault { IfErr result (λ fault. fault ≢ Fault.CannotWrite) }
+    ensures fault { IfErr result IsOfFile }
     ensures script { IfOk result (HoldsScript (F.held files.old) name.entry.now) }
     ensures stays { F.held files.new ≡ F.held files.old }
 {
@@ -83,7 +84,8 @@ fn image_in<'a, F: Files>(
     wanted: &Replay<'a>,
     kib: u32,
 ) -> Result<Image, Fault<'a>>
-    ensures fault { IfErr result (λ fault. fault ≢ Fault.CannotWrite) }
+    requires { IsMemoryKib kib }
+    ensures fault { IfErr result IsOfFile }
     ensures image { IfOk result (HoldsImage (F.held files.old) wanted.now.raw wanted.now.image.now kib) }
 {
     let bytes = contents(alloc, files, wanted.image)?;
