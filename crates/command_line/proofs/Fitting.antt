@@ -1,6 +1,6 @@
 -- Words that have no fault name a subcommand with all that it asks for.
-use Rattle.std.proofs.Common.{◌≡◌, ◌∙◌, ◌⊎◌, ◌&&◌, ◌||◌, ℕ, Bor, Bool, true, false, cond, codes, List, [], ◌∷◌, ◌++◌, Option, Some, None, ap, drop, fold, inl, inr, is_some, length, map, not, option_map, refl, subst, sym}
-use Rattle.std.specs.Prelude.{find, slice_get}
+use Rattle.std.proofs.Common.{◌≡◌, ◌∙◌, ◌⊎◌, ◌&&◌, ◌||◌, ℕ, Bor, Bool, true, false, cond, codes, List, [], ◌∷◌, ◌++◌, Option, Some, None, ap, drop, inl, inr, is_some, map, not, option_map, refl, subst, sym}
+use Rattle.std.specs.Prelude.{find}
 use Rattle.std.specs.List.{list_any}
 use Rattle.std.specs.Option.{option_map_or}
 use Rattle.std.specs.Str.{bytes_eq}
@@ -9,20 +9,19 @@ use Rattle.std.proofs.lemmas.Slice.Eq.{bytes_eq-Decides}
 use Rattle.clap.proofs.WalkLemmas.{list_any-map}
 use Rattle.clap.specs.Facts.{explicit_source, parser_of_value}
 use Rattle.clap.specs.Faults.{check_fault, defaults_fault, entered_fault, fault_of, level_fault, repeat_fault, set_fault, settle_fault, use_fault, values_fault, walk_fault}
-use Rattle.clap.specs.Kinds.{Kinds, or_else, range_kinds, value_kinds, values_kinds}
-use Rattle.clap.specs.Simple.{App, Shape, built, built_leaf, entered, filled, filled_from, help_rule, help_shape, inherited, marked_built, names_of, rows_at, subcommand_of, with_index, with_leaf_noted}
+use Rattle.clap.specs.Kinds.{Kinds, or_else, value_kinds, values_kinds}
+use Rattle.clap.specs.Simple.{Shape, built, built_leaf, entered, filled, help_rule, help_shape, inherited, marked_built, names_of, rows_at, subcommand_of, with_index, with_leaf_noted}
 use Rattle.clap.specs.Takes.{is_given}
 use Rattle.clap.specs.ValueTests.{accepts}
 use Rattle.clap.specs.Values.{same_text}
-use Rattle.clap.specs.Walk.{Row, Rule, Text, answers_to, at_row, default_rows, finished, first_of, has_row, more_values, nothing_held, one_of, reading_by, rows_after, settled, used, walk, walk_from, with_default, with_values, without}
+use Rattle.clap.specs.Walk.{Row, Rule, Text, default_rows, finished, first_of, has_row, more_values, nothing_held, one_of, reading_by, rows_after, settled, used, walk, walk_from, with_default, with_values, without}
 use Rattle.clap.specs.declared.builder.value_parser.Reading.{Reading}
 use Rattle.clap.specs.declared.builder.value_parser.Reading.TheVariants.{AsWritten}
 use Rattle.clap.specs.declared.builder.value_parser.ValueParser.TheVariants as parser
 use Rattle.clap.specs.declared.error.kind.ErrorKind.{ErrorKind}
 use Rattle.clap.specs.declared.error.kind.ErrorKind.TheVariants as kind
 use Rattle.clap.specs.declared.parser.matches.ValueSource.{ValueSource}
-use Rattle.command_line.specs.Settings.{HasText, IsComplete, IsReplayComplete, NamesModel, check_usage, file_argument, flag_text, model_option, name_of, raw_flag, replay_usage, usage}
-use Rattle.memory_model.specs.declared.Model.{Model}
+use Rattle.command_line.specs.Settings.{HasText, IsComplete, IsReplayComplete, NamesModel, check_usage, file_argument, flag_text, model_option, raw_flag, replay_usage, usage}
 use Rattle.memory_model.specs.declared.Model.TheVariants.{Rvwmo, Ztso}
 use Rattle.command_line.proofs.Walked.{Among, IsNoHelp, no_kinds, settles, walk_is_none, walks}
 

@@ -1,5 +1,5 @@
 -- What a fault has left on the output.
-use Rattle.std.proofs.Common.{◌≡◌, ◌⊎◌, ℕ, Err, IfErr, IsErrAnd, List, None, Ok, Option, Result, Some, inl, inr, refl, subst, sym}
+use Rattle.std.proofs.Common.{◌≡◌, ◌⊎◌, ℕ, Err, IfErr, IsErrAnd, List, Ok, Option, Result, inl, inr, subst, sym}
 use Rattle.command_line.specs.Lines.{IsOfFile, Leaves}
 use Rattle.command_line.specs.Status.{status_of}
 use Rattle.command_line.specs.declared.fault.Fault.{Fault}

@@ -9,7 +9,6 @@ use Rattle.memory_model.specs.Verdict.{fault_in}
 use Rattle.memory_model.specs.declared.Model.{Model}
 use Rattle.rvwmo_order.specs.Answers.{fault_told}
 use Rattle.rvwmo_order.specs.Codes.{number_of}
-use Rattle.rvwmo_order.specs.declared.verdict.Code.{Code}
 use Rattle.rvwmo_order.specs.declared.verdict.Verdict.{Verdict}
 use Rattle.rvwmo_order.specs.declared.verdict.Verdict.TheVariants.{Legal, Fault}
 use Rattle.trace_recorder.specs.History.{History}

@@ -7,7 +7,6 @@ use Rattle.command_line.specs.Refusals.{IsForHelp}
 use Rattle.command_line.specs.Settings.{IsNamed}
 use Rattle.command_line.specs.declared.wanted.Settings.{Settings}
 use Rattle.command_line.specs.declared.wanted.Settings.TheVariants.{Check, Replay}
-use Rattle.memory_model.specs.declared.Model.{Model}
 use Rattle.rvwmo_order.specs.declared.verdict.Code.{Code}
 use Rattle.rvwmo_order.specs.declared.verdict.Verdict.TheVariants.{Fault, Legal}
 use Rattle.trace_recorder.specs.declared.operation.OpId.{OpId}

@@ -1,4 +1,4 @@
-use Rattle.std.proofs.Common.{◌≡◌, ◌∙◌, Bool, None, Option, Some, ap, codes, false, refl, sym, true}
+use Rattle.std.proofs.Common.{◌≡◌, ◌∙◌, Bool, Option, Some, ap, codes, false, refl, sym, true}
 use Rattle.clap.proofs.WalkLemmas.{first_value-rows, one_text-rows}
 use Rattle.clap.specs.Words.{Text, found_of}
 use Rattle.command_line.specs.Settings.{flag_text}

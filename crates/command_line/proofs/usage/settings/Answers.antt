@@ -1,4 +1,4 @@
-use Rattle.std.proofs.Common.{◌≡◌, ◌∙◌, Bor, Err, IfErr, IsErrAnd, List, Ok, Option, Result, Some, [], ap, ap₂, inl, inr, refl, subst, sym, true}
+use Rattle.std.proofs.Common.{◌≡◌, ◌∙◌, Bor, Err, IfErr, IsErrAnd, List, Ok, Result, Some, [], ap, ap₂, inl, inr, refl, subst, sym, true}
 use Rattle.clap.specs.Kinds.{HasKind}
 use Rattle.clap.specs.Words.{App, IsAmong, Row, Text, app_of, fault_of, is_simple, is_simple_and_free, kind_of, subcommand_of}
 use Rattle.clap.specs.declared.error.Error.{Error}
