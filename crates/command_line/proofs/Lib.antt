@@ -1,1 +1,6 @@
+mod Fitting
+mod Left
+mod Limits
+mod Missing
 mod Replays
+mod Walked

@@ -2,5 +2,7 @@ pub mod Composition
 pub mod Files
 pub mod Held
 pub mod Lines
-pub mod Status
+pub mod Refusals
+pub mod Running
 pub mod Settings
+pub mod Status

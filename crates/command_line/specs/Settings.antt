@@ -1,5 +1,5 @@
 -- What the program's words ask for, as the kit reads the words for the program's usage.
-use Rattle.std.specs.Prelude.{◌≡◌, ◌∷◌, [], Bool, true, false, List, Option, Some, None, codes, map}
+use Rattle.std.specs.Prelude.{◌≡◌, ◌⊎◌, ◌∷◌, [], Bool, true, false, List, Some, codes, map}
 use Rattle.std.specs.Borrow.{Bor}
 use Rattle.clap.specs.Words.{App, Row, Rule, Text, first_of, new_app, new_rule, one_of, subcommand_of, with_rule, with_subcommand}
 use Rattle.clap.specs.declared.builder.action.ArgAction.TheVariants.{SetTrue}
@@ -66,15 +66,14 @@ abbrev pub name_of : Model → Text
 name_of Rvwmo = codes "rvwmo"
 name_of Ztso = codes "ztso"
 
--- a flag is set where its text is `true`, and not where it is `false` or there is none
-abbrev pub IsFlag : Option Text → Bool → Type 0
-IsFlag given flag = (given ≡ None → flag ≡ false) × (given ≡ Some (codes "true") → flag ≡ true)
-    × (given ≡ Some (codes "false") → flag ≡ false)
+abbrev pub flag_text : Bool → Text
+flag_text true = codes "true"
+flag_text false = codes "false"
 
 -- the arguments of `replay` have these texts
 abbrev pub IsReplayMeant : List Row → Replay → Type 0
 IsReplayMeant rows replay =
-    IsFlag (one_of (codes "raw") rows) replay.raw
+    (one_of (codes "raw") rows ≡ Some (flag_text replay.raw))
     × (first_of (codes "model") rows ≡ Some (name_of replay.model))
     × (first_of (codes "IMAGE") rows ≡ Some replay.image.now)
     × (first_of (codes "SCRIPT") rows ≡ Some replay.script.now)
@@ -90,3 +89,24 @@ IsMeant name rows (settings.Check model trace) =
 abbrev pub IsNamed : List Text → Settings → Type 0
 IsNamed words wanted = (app : App) × IsUsage app × (name : Text) × (rows : List Row)
     × (subcommand_of app words ≡ Some (name, rows)) × IsMeant name rows wanted
+
+-- ---- what words without a fault have given
+
+abbrev pub NamesModel : List Row → Type 0
+NamesModel rows = (model : Model) × (first_of (codes "model") rows ≡ Some (name_of model))
+
+abbrev pub HasText : Text → List Row → Type 0
+HasText id rows = (text : Text) × (first_of id rows ≡ Some text)
+
+abbrev pub HasFlag : Text → List Row → Type 0
+HasFlag id rows = (flag : Bool) × (one_of id rows ≡ Some (flag_text flag))
+
+abbrev pub IsReplayComplete : List Row → Type 0
+IsReplayComplete rows = HasFlag (codes "raw") rows × NamesModel rows × HasText (codes "IMAGE") rows × HasText (codes "SCRIPT") rows
+
+abbrev pub IsCheckComplete : List Row → Type 0
+IsCheckComplete rows = NamesModel rows × HasText (codes "TRACE") rows
+
+-- the subcommand of this name has each argument that it asks for
+abbrev pub IsComplete : Text → List Row → Type 0
+IsComplete name rows = ((name ≡ codes "replay") × IsReplayComplete rows) ⊎ ((name ≡ codes "check") × IsCheckComplete rows)

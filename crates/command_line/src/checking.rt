@@ -1,9 +1,9 @@
 //! `rvtl check`: the order of a trace's memory operations is judged, and the verdict printed.
 
-ghost use Rattle.std.specs.Prelude.{IfOk, OnOk};
+ghost use Rattle.std.specs.Prelude.{IfErr, IfOk, OnOk};
 ghost use Rattle.std.specs.Io.KnownBytes.{Appends};
 ghost use Rattle.rvwmo_order.specs.Limits.{IsWithinLimits};
-ghost use Rattle.command_line.specs.Lines.{IsJudged, IsVerdict, verdict_text};
+ghost use Rattle.command_line.specs.Lines.{HasVerdict, IsJudged, IsVerdict, Leaves, verdict_text};
 
 use crate::fault::Fault;
 use crate::files::Files;
@@ -23,7 +23,9 @@ pub(crate) fn check_file<'a, F: Files, O: Write>(
     model: Model,
     out: &mut O,
 ) -> Result<Verdict, Fault<'a>>
-    ensures { IfOk result (λ verdict. IsJudged (F.held files.old) file.entry.now model verdict (O.contents out.old) (O.contents out.new)) }
+    ensures judged { IfOk result (λ verdict. IsJudged (F.held files.old) file.entry.now model verdict (O.contents out.old) (O.contents out.new)) }
+    ensures unfinished { IfErr result (λ fault. Leaves fault (O.contents out.old) (O.contents out.new)
+        (HasVerdict (F.held files.old) file.entry.now model)) }
 {
     let bytes = contents(alloc, files, file)?;
     let (trace, length) = match read_trace(alloc, bytes.as_slice()) {

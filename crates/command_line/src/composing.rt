@@ -1,6 +1,9 @@
 //! A replay and its text.
 
-ghost use Rattle.std.specs.Prelude.{◌≡◌, IfErr, IfOk};
+ghost use Rattle.std.specs.Prelude.{◌≡◌, ◌↔◌, Err, IfErr, IfOk, false};
+ghost use Rattle.coherent_machine.specs.declared.errors.NewError.TheVariants as making;
+ghost use Rattle.coherent_machine.specs.declared.errors.ReplayError.TheVariants as refusal;
+ghost use Rattle.machine_model.specs.Config.{is_within_limits};
 ghost use Rattle.command_line.specs.Composition.{IsComposition, IsUnfinished, config_of};
 
 use coherent_machine::{Machine, ReplayError, replay};
@@ -41,6 +44,7 @@ pub fn replay_and_write<W: Write>(
     out: &mut W,
 ) -> Result<Machine, CompositionError>
     ensures written { IfOk result (λ machine. IsComposition image script.now model (W.contents out.old) (W.contents out.new) machine) }
+    ensures limits { (result ≡ Err (CompositionError.Replay (refusal.New making.Config))) ↔ (is_within_limits (config_of script.now model) ≡ false) }
     ensures unfinished { IfErr result (λ error. IsUnfinished image script.now model (W.contents out.old) (W.contents out.new) error) }
 {
     every_trace_has_a_text();

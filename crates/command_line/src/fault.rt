@@ -1,6 +1,7 @@
 //! Why the program ends with another status than 0.
 
-ghost use Rattle.std.specs.Prelude.{◌≡◌};
+ghost use Rattle.std.specs.Prelude.{◌≡◌, ◌≢◌, ◌⊎◌};
+ghost use Rattle.command_line.specs.Lines.{IsOfFile};
 ghost use Rattle.command_line.specs.Status.{status_of};
 
 use coherent_machine::{ApplyError, NewError, ReplayError};
@@ -73,7 +74,9 @@ impl Fault<'_> {
 
 impl<'a> Fault<'a> {
     /// A file could not be opened or read.
-    pub(crate) fn reading(file: &'a str, error: io::Error) -> Fault<'a> {
+    pub(crate) fn reading(file: &'a str, error: io::Error) -> Fault<'a>
+        ensures { (result ≡ Fault.CannotRead file.entry) ⊎ (result ≡ Fault.OutOfMemory) }
+    {
         match error.kind() {
             io::ErrorKind::OutOfMemory => Fault::OutOfMemory,
             _ => Fault::CannotRead { file },
@@ -81,28 +84,36 @@ impl<'a> Fault<'a> {
     }
 
     /// Standard output took no more.
-    pub(crate) fn writing(error: io::Error) -> Fault<'a> {
+    pub(crate) fn writing(error: io::Error) -> Fault<'a>
+        ensures { (result ≡ Fault.CannotWrite) ⊎ (result ≡ Fault.OutOfMemory) }
+    {
         match error.kind() {
             io::ErrorKind::OutOfMemory => Fault::OutOfMemory,
             _ => Fault::CannotWrite,
         }
     }
 
-    pub(crate) fn text(file: &'a str, error: TextError) -> Fault<'a> {
+    pub(crate) fn text(file: &'a str, error: TextError) -> Fault<'a>
+        ensures { (result ≡ Fault.Text file.entry error) ⊎ (result ≡ Fault.OutOfMemory) }
+    {
         match error.code {
             TextCode::NoMemory => Fault::OutOfMemory,
             _ => Fault::Text { file, error },
         }
     }
 
-    pub(crate) fn image(file: &'a str, error: LoadError) -> Fault<'a> {
+    pub(crate) fn image(file: &'a str, error: LoadError) -> Fault<'a>
+        ensures { (result ≡ Fault.Image file.entry error) ⊎ (result ≡ Fault.OutOfMemory) }
+    {
         match error {
             LoadError::NoMemory => Fault::OutOfMemory,
             _ => Fault::Image { file, error },
         }
     }
 
-    pub(crate) fn check(file: &'a str, error: CheckError) -> Fault<'a> {
+    pub(crate) fn check(file: &'a str, error: CheckError) -> Fault<'a>
+        ensures { (result ≡ Fault.Check file.entry error) ⊎ (result ≡ Fault.OutOfMemory) }
+    {
         match error {
             CheckError::NoMemory => Fault::OutOfMemory,
             _ => Fault::Check { file, error },
@@ -110,7 +121,9 @@ impl<'a> Fault<'a> {
     }
 
     /// The script's first event stands on line 2.
-    pub(crate) fn replay(script: &'a str, error: ReplayError) -> Fault<'a> {
+    pub(crate) fn replay(script: &'a str, error: ReplayError) -> Fault<'a>
+        ensures { error ≢ ReplayError.New NewError.Config → IsOfFile result }
+    {
         match error {
             ReplayError::New(NewError::Config) => Fault::Configuration,
             ReplayError::New(NewError::NoMemory) | ReplayError::Event(_, ApplyError::NoMemory) => {

@@ -1,9 +1,10 @@
 //! `rvtl replay`: a script of events is applied to a machine, and the trace printed.
 
-ghost use Rattle.std.specs.Prelude.{◌≡◌, IfOk, OnOk};
+ghost use Rattle.std.specs.Prelude.{◌≡◌, IfErr, IfOk, OnOk};
+ghost use Rattle.elf_loader.specs.Size.{IsMemoryKib};
 ghost use Rattle.command_line.specs.Files.{HoldsImage, HoldsScript};
 ghost use Rattle.command_line.specs.Held.{HoldsBytes};
-ghost use Rattle.command_line.specs.Lines.{IsReplayed};
+ghost use Rattle.command_line.specs.Lines.{IsCutOff, IsOfFile, IsReplayed, Leaves};
 
 use crate::composing::{CompositionError, replay_and_write};
 use crate::fault::Fault;
@@ -25,7 +26,9 @@ pub(crate) fn replay_files<'a, F: Files, O: Write, E: Write>(
     out: &mut O,
     err: &mut E,
 ) -> Result<(), Fault<'a>>
-    ensures { OnOk result (IsReplayed (F.held files.old) wanted.entry (O.contents out.old) (O.contents out.new)) }
+    ensures replayed { OnOk result (IsReplayed (F.held files.old) wanted.entry (O.contents out.old) (O.contents out.new)) }
+    ensures unfinished { IfErr result (λ fault. Leaves fault (O.contents out.old) (O.contents out.new)
+        (IsCutOff (F.held files.old) wanted.entry (O.contents out.old) (O.contents out.new))) }
 {
     let script = script_in(alloc, files, wanted.script)?;
     let image = image_in(alloc, files, &wanted, script.kib)?;
@@ -48,6 +51,7 @@ pub(crate) fn contents<'a, F: Files>(
     files: &mut F,
     name: &'a str,
 ) -> Result<Vec<u8>, Fault<'a>>
+    ensures fault { IfErr result IsOfFile }
     ensures bytes { IfOk result (λ bytes. HoldsBytes (F.held files.old) name.entry.now bytes.items) }
     ensures stays { F.held files.new ≡ F.held files.old }
 {
@@ -63,6 +67,7 @@ pub(crate) fn contents<'a, F: Files>(
 }
 
 fn script_in<'a, F: Files>(alloc: Global, files: &mut F, name: &'a str) -> Result<Script, Fault<'a>>
+    ensures fault { IfErr result IsOfFile }
     ensures script { IfOk result (HoldsScript (F.held files.old) name.entry.now) }
     ensures stays { F.held files.new ≡ F.held files.old }
 {
@@ -79,7 +84,9 @@ fn image_in<'a, F: Files>(
     wanted: &Replay<'a>,
     kib: u32,
 ) -> Result<Image, Fault<'a>>
-    ensures { IfOk result (HoldsImage (F.held files.old) wanted.now.raw wanted.now.image.now kib) }
+    requires { IsMemoryKib kib }
+    ensures fault { IfErr result IsOfFile }
+    ensures image { IfOk result (HoldsImage (F.held files.old) wanted.now.raw wanted.now.image.now kib) }
 {
     let bytes = contents(alloc, files, wanted.image)?;
     let Some(size) = size_of_kib(kib) else {

@@ -1,5 +1,10 @@
 //! The whole program, over what the caller hands in.
 
+ghost use Rattle.std.specs.Prelude.{◌≡◌, ◌≢◌, ◌⊎◌, ◌≤◌, ◌<◌, map};
+ghost use Rattle.clap.specs.Words.{kind_of};
+ghost use Rattle.command_line.specs.Refusals.{IsHelp, IsUnfit};
+ghost use Rattle.command_line.specs.Running.{IsCarriedOut, IsNotLegal, IsUnprinted};
+
 use crate::checking::check_file;
 use crate::fault::Fault;
 use crate::files::Files;
@@ -23,7 +28,13 @@ pub fn run_line<S: AsStr, F: Files, O: Write, E: Write>(
     files: &mut F,
     out: &mut O,
     err: &mut E,
-) -> u8 {
+) -> u8
+    ensures status { result ≤ 4 }
+    ensures carried_out { result ≡ 0 → IsCarriedOut (map S.text words.now) (F.held files.old) (O.contents out.old) (O.contents out.new) }
+    ensures not_legal { result ≡ 3 → IsNotLegal (map S.text words.now) (F.held files.old) (O.contents out.old) (O.contents out.new) }
+    ensures unprinted { 0 < result → result ≢ 3 → IsUnprinted (map S.text words.now) (F.held files.old) (O.contents out.old) (O.contents out.new) }
+    ensures misused { result ≡ 2 → IsUnfit (map S.text words.now) × (O.contents out.new ≡ O.contents out.old) }
+{
     let fault = match settings(alloc, words) {
         Ok(Settings::Replay(wanted)) => match replay_files(alloc, files, wanted, out, err) {
             Ok(()) => return 0,
@@ -44,7 +55,11 @@ pub fn run_line<S: AsStr, F: Files, O: Write, E: Write>(
 }
 
 /// Help goes to standard output with status 0, a usage fault to standard error with status 2.
-fn explain<O: Write, E: Write>(usage: &clap::Error, out: &mut O, err: &mut E) -> u8 {
+fn explain<O: Write, E: Write>(usage: &clap::Error, out: &mut O, err: &mut E) -> u8
+    ensures status { (result ≤ 4) × (result ≢ 3) }
+    ensures help { (result ≡ 2) ⊎ IsHelp (kind_of usage.now) }
+    ensures misused { result ≡ 2 → (¬ IsHelp (kind_of usage.now)) × (O.contents out.new ≡ O.contents out.old) }
+{
     if usage.use_stderr() {
         let _ = write!(err, "{usage}");
         return 2;

@@ -1,8 +1,9 @@
 //! The program's usage, and how its words are read.
 
-ghost use Rattle.std.specs.Prelude.{◌≡◌, IfOk, IfSome, List, false, map};
+ghost use Rattle.std.specs.Prelude.{◌≡◌, ◌≢◌, IfErr, IfOk, IfSome, IsNone, List, OnOk, Some, false, map};
 ghost use Rattle.clap.specs.Words.{Row, Rule, Text, app_of, found_of, rows_of, rule_of, subcommand_rows_of};
-ghost use Rattle.command_line.specs.Settings.{IsMeant, IsModelOption, IsNamed, IsReplayMeant, IsUsage, check_usage, name_of};
+ghost use Rattle.command_line.specs.Refusals.{IsFitting, IsRefused};
+ghost use Rattle.command_line.specs.Settings.{IsComplete, IsMeant, IsModelOption, IsNamed, IsReplayComplete, IsReplayMeant, IsUsage, check_usage, name_of};
 
 use crate::wanted::{Replay, Settings, SettingsError};
 use clap::error::ErrorKind;
@@ -13,7 +14,9 @@ use std::convert::AsStr;
 
 /// What the words ask for, of which the first is the program's name.
 pub fn settings<'a, S: AsStr>(alloc: Global, words: &'a [S]) -> Result<Settings<'a>, SettingsError>
-    ensures { IfOk result (IsNamed (map S.text words.entry.now)) }
+    ensures named { IfOk result (IsNamed (map S.text words.entry.now)) }
+    ensures fitting { OnOk result (IsFitting (map S.text words.entry.now)) }
+    ensures refused { IfErr result (IsRefused (map S.text words.entry.now)) }
 {
     let mut command = command(alloc)?;
     let matches = command.try_get_matches_from_mut(words)?;
@@ -28,8 +31,10 @@ pub fn settings<'a, S: AsStr>(alloc: Global, words: &'a [S]) -> Result<Settings<
 }
 
 fn settings_of<'a>(matches: &ArgMatches<'a>) -> Option<Settings<'a>>
-    ensures { IfSome result (λ settings. (name : Text) × (rows : List Row)
-        × (subcommand_rows_of matches.now ≡ Some (name, rows)) × IsMeant name rows settings) }
+    ensures meant { IfSome result (λ settings. (name : Text) × (rows : List Row)
+        × (subcommand_rows_of matches.now ≡ Some (name, rows)) × (IsComplete name rows → IsMeant name rows settings)) }
+    ensures missing { IsNone result → (name : Text) → (rows : List Row)
+        → subcommand_rows_of matches.now ≡ Some (name, rows) → IsComplete name rows → ⊥ }
 {
     match matches.subcommand()? {
         ("replay", replay) => Some(Settings::Replay(replay_of(replay)?)),
@@ -42,7 +47,9 @@ fn settings_of<'a>(matches: &ArgMatches<'a>) -> Option<Settings<'a>>
 }
 
 fn replay_of<'a>(matches: &ArgMatches<'a>) -> Option<Replay<'a>>
-    ensures { IfSome result (IsReplayMeant (rows_of (found_of matches.now))) }
+    ensures meant { IfSome result (λ replay. IsReplayComplete (rows_of (found_of matches.now))
+        → IsReplayMeant (rows_of (found_of matches.now)) replay) }
+    ensures missing { IsNone result → IsReplayComplete (rows_of (found_of matches.now)) → ⊥ }
 {
     Some(Replay {
         raw: matches.get_flag("raw"),
@@ -56,7 +63,8 @@ fn replay_of<'a>(matches: &ArgMatches<'a>) -> Option<Replay<'a>>
 const MODELS: [&str; 2] = ["rvwmo", "ztso"];
 
 fn model_of(name: &str) -> Option<Model>
-    ensures { IfSome result (λ model. name.now ≡ name_of model) }
+    ensures known { IfSome result (λ model. name.now ≡ name_of model) }
+    ensures unknown { IsNone result → (model : Model) → name.now ≢ name_of model }
 {
     match name {
         "rvwmo" => Some(Model::Rvwmo),

@@ -35,12 +35,21 @@ pub enum SettingsError {
 }
 
 impl From<AllocError> for SettingsError {
+    ghost use Rattle.std.specs.Prelude.{◌≡◌};
+    ghost use Rattle.command_line.specs.declared.wanted.SettingsError.TheVariants.{NoMemory};
+
+    ghost from_gives = { λ _ error. error ≡ NoMemory };
+
     fn from(_error: AllocError) -> Self {
         SettingsError::NoMemory
     }
 }
 
 impl From<clap::Error> for SettingsError {
+    ghost use Rattle.command_line.specs.Refusals.{Tells};
+
+    ghost from_gives = { Tells };
+
     fn from(error: clap::Error) -> Self {
         match error.kind() {
             ErrorKind::OutOfMemory => SettingsError::NoMemory,

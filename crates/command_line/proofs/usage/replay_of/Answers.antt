@@ -1,14 +1,34 @@
-use Rattle.std.proofs.Common.{◌≡◌, ◌∙◌, Some, ap, codes, sym}
+use Rattle.std.proofs.Common.{◌≡◌, ◌∙◌, Bool, Option, Some, ap, codes, false, refl, sym, true}
 use Rattle.clap.proofs.WalkLemmas.{first_value-rows, one_text-rows}
-use Rattle.clap.specs.Words.{found_of}
+use Rattle.clap.specs.Words.{Text, found_of}
+use Rattle.command_line.specs.Settings.{flag_text}
+use Rattle.command_line.proofs.Missing.{known_name, none_some}
 use Rattle.command_line.proofs.usage.replay_of.Goals as goal
 
-pub returns : goal.returns
-returns c =
+flag_read : (given : Option Text) (wanted flag : Bool) → given ≡ Some (flag_text wanted) → (given ≡ Some (codes "true") → flag ≡ true) → (given ≡ Some (codes "false") → flag ≡ false)
+    → given ≡ Some (flag_text flag)
+flag_read given true flag is on off = is ∙ ap (λ f. Some (flag_text f)) (sym (on is))
+flag_read given false flag is on off = is ∙ ap (λ f. Some (flag_text f)) (sym (off is))
+
+pub returns-clause-meant : goal.returns-clause-meant
+returns-clause-meant c = λ whole.
     let f = found_of c.args.matches.now in
     let flag = one_text-rows f (codes "raw") in (
-      (λ h. c.get_flag.ensures.none (flag ∙ h), λ h. c.get_flag.ensures.value (flag ∙ h), λ h. c.get_flag.ensures.other (flag ∙ h)),
-      sym (c.in_ok-get_str.ensures ∙ first_value-rows f (codes "model")) ∙ ap Some c.in_ok-model_of.ensures,
+      flag_read _ whole.0.0 _ whole.0.1 (λ h. c.get_flag.ensures.value (flag ∙ h)) (λ h. c.get_flag.ensures.other (flag ∙ h)),
+      sym (c.in_ok-get_str.ensures ∙ first_value-rows f (codes "model")) ∙ ap Some c.in_ok-model_of.ensures.known,
       sym (c.in_ok-get_str-2.ensures ∙ first_value-rows f (codes "IMAGE")),
       sym (c.in_ok-get_str-3.ensures ∙ first_value-rows f (codes "SCRIPT")),
     )
+
+pub returns-in_err-get_str-clause-missing : goal.returns-in_err-get_str-clause-missing
+returns-in_err-get_str-clause-missing c = λ none whole. none_some _ _ (c.in_err-get_str.ensures ∙ first_value-rows (found_of c.args.matches.now) (codes "model")) whole.1.1
+
+pub returns-in_err-model_of-clause-missing : goal.returns-in_err-model_of-clause-missing
+returns-in_err-model_of-clause-missing c = λ none whole.
+    c.in_err-model_of.ensures.unknown refl whole.1.0 (known_name _ _ _ (c.in_ok-get_str.ensures ∙ first_value-rows (found_of c.args.matches.now) (codes "model")) whole.1.1)
+
+pub returns-in_err-get_str-2-clause-missing : goal.returns-in_err-get_str-2-clause-missing
+returns-in_err-get_str-2-clause-missing c = λ none whole. none_some _ _ (c.in_err-get_str-2.ensures ∙ first_value-rows (found_of c.args.matches.now) (codes "IMAGE")) whole.2.1
+
+pub returns-in_err-get_str-3-clause-missing : goal.returns-in_err-get_str-3-clause-missing
+returns-in_err-get_str-3-clause-missing c = λ none whole. none_some _ _ (c.in_err-get_str-3.ensures ∙ first_value-rows (found_of c.args.matches.now) (codes "SCRIPT")) whole.3.1

@@ -1,19 +1,72 @@
-use Rattle.std.proofs.Common.{◌≡◌, ◌∙◌, Bor, List, ap, ap₂, refl, sym, true}
-use Rattle.clap.specs.Words.{App, Text, app_of, is_simple}
-use Rattle.command_line.specs.Settings.{IsUsage, model_option, usage}
+use Rattle.std.proofs.Common.{◌≡◌, ◌∙◌, Bor, Err, IfErr, IsErrAnd, List, Ok, Result, Some, [], ap, ap₂, inl, inr, refl, subst, sym, true}
+use Rattle.clap.specs.Kinds.{HasKind}
+use Rattle.clap.specs.Words.{App, IsAmong, Row, Text, app_of, fault_of, is_simple, is_simple_and_free, kind_of, subcommand_of}
+use Rattle.clap.specs.declared.error.Error.{Error}
+use Rattle.command_line.specs.Refusals.{IsRefused, Tells}
+use Rattle.command_line.specs.declared.wanted.SettingsError.{SettingsError}
+use Rattle.command_line.specs.declared.wanted.SettingsError.TheVariants.{NoMemory, Usage}
+use Rattle.command_line.specs.Settings.{IsComplete, IsUsage, model_option, usage}
+use Rattle.command_line.proofs.Fitting.{fitting}
+use Rattle.command_line.proofs.Missing.{same_complete}
 use Rattle.command_line.proofs.usage.settings.Goals as goal
 
 is_simple_usage : (names other : Bor (List (Bor Text))) → is_simple (usage (model_option names) (model_option other)) ≡ true
 is_simple_usage names other = refl
 
+is_free_usage : (names other : Bor (List (Bor Text))) → is_simple_and_free (usage (model_option names) (model_option other)) ≡ true
+is_free_usage names other = refl
+
 written_out : (app : App) (u : IsUsage app) → app ≡ usage (model_option u.2.0) (model_option u.3.0)
 written_out app u = u.4 ∙ ap₂ usage u.2.2 u.3.2
 
-pub returns-in-Some : goal.returns-in-Some
-returns-in-Some g c =
+free : (app : App) (u : IsUsage app) → is_simple_and_free app ≡ true
+free app u = ap is_simple_and_free (written_out app u) ∙ is_free_usage u.2.0 u.3.0
+
+refused : {X : Type 0} (words : List Text) (r : Result X SettingsError) (error : Error) (app : App) → IsUsage app → IsErrAnd r (Tells error) → HasKind (fault_of app words) error
+    → IfErr r (IsRefused words)
+refused words (Ok x) error app is told kind = tt
+refused words (Err NoMemory) error app is told kind = tt
+refused words (Err (Usage e)) error app is told kind = (
+  app,
+  is,
+  elim kind [
+    | inl memory ↦ absurd (told.0 memory)
+    | inr among ↦ subst (λ x. IsAmong (kind_of x) (fault_of app words)) (sym told.1) among
+  ],
+)
+
+pub returns-in_err-matches-clause-refused : goal.returns-in_err-matches-clause-refused
+returns-in_err-matches-clause-refused g c =
+    refused _ c.from_residual-in_err-matches.result _ (app_of c.in_ok-command.command) c.in_ok-command.ensures c.from_residual-in_err-matches.ensures.1
+    (c.in_err-matches.ensures.kinds (free _ c.in_ok-command.ensures))
+
+-- words without a fault name a subcommand with all that it asks for
+complete : (app : App) (words : List Text) → IsUsage app → fault_of app words ≡ [] → (name : Text) × (rows : List Row) × (subcommand_of app words ≡ Some (name, rows)) × IsComplete name rows
+complete app words u none =
+    let is = written_out app u in
+    subst (λ a. (name : Text) × (rows : List Row) × (subcommand_of a words ≡ Some (name, rows)) × IsComplete name rows) (sym is)
+    (fitting u.2.0 u.3.0 words u.2.1 u.3.1 (subst (λ a. fault_of a words ≡ []) is none))
+
+simple_usage : (app : App) → IsUsage app → is_simple app ≡ true
+simple_usage app u = ap is_simple (written_out app u) ∙ is_simple_usage u.2.0 u.3.0
+
+pub returns-in-Some-clause-named : goal.returns-in-Some-clause-named
+returns-in-Some-clause-named g c =
     let app = app_of c.in_ok-command.command in
     let is_usage = c.in_ok-command.ensures in
-    let simple : is_simple app ≡ true = ap is_simple (written_out app is_usage) ∙ is_simple_usage is_usage.2.0 is_usage.3.0 in
-    let read = (c.in_ok-matches.ensures.ok.2 simple).1 in
-    let meant = c.in-Some.ensures in
-    (app, is_usage, meant.0, meant.1, sym read ∙ meant.2, meant.3)
+    let read = (c.in_ok-matches.ensures.ok.2 (simple_usage app is_usage)).1 in
+    let meant = c.in-Some.ensures.meant in
+    let whole = complete app _ is_usage (c.in_ok-matches.ensures.kinds (free _ is_usage)) in
+    (app, is_usage, meant.0, meant.1, sym read ∙ meant.2, meant.3 (same_complete _ _ _ _ _ whole.2 (sym read ∙ meant.2) whole.3))
+
+pub returns-in-Some-clause-fitting : goal.returns-in-Some-clause-fitting
+returns-in-Some-clause-fitting g c =
+    (app_of c.in_ok-command.command, c.in_ok-command.ensures, c.in_ok-matches.ensures.kinds (free _ c.in_ok-command.ensures))
+
+pub returns-clause-refused : goal.returns-clause-refused
+returns-clause-refused g c =
+    let app = app_of c.in_ok-command.command in
+    let is_usage = c.in_ok-command.ensures in
+    let read = (c.in_ok-matches.ensures.ok.2 (simple_usage app is_usage)).1 in
+    let whole = complete app _ is_usage (c.in_ok-matches.ensures.kinds (free _ is_usage)) in
+    absurd (c.in-None.ensures.missing refl whole.0 whole.1 (read ∙ whole.2) whole.3)

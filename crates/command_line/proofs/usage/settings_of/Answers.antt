@@ -1,7 +1,9 @@
-use Rattle.std.proofs.Common.{◌≡◌, ◌∙◌, Option, None, Some, ap, ap₂, codes, option_map, refl, rules, sym}
+use Rattle.std.proofs.Common.{◌≡◌, ◌∙◌, List, Option, None, Some, ap, ap₂, codes, inl, inr, option_map, refl, rules, sym}
 use Rattle.std.specs.Prelude.{unwrap_or}
 use Rattle.clap.proofs.WalkLemmas.{first_value-rows}
-use Rattle.clap.specs.Words.{found_of, rows_of, subcommand_rows_of}
+use Rattle.clap.specs.Words.{Row, Text, found_of, rows_of, subcommand_rows_of}
+use Rattle.command_line.specs.Settings.{IsCheckComplete, IsComplete, IsReplayComplete}
+use Rattle.command_line.proofs.Missing.{known_name, none_some, same_complete}
 use Rattle.command_line.proofs.usage.settings_of.Goals as goal
 
 fused : {A B C : Type 0} (f : A → B) (g : B → C) (o : Option A) → option_map g (option_map f o) ≡ option_map (λ x. g (f x)) o
@@ -15,17 +17,73 @@ paired (Some p) a b left right =
     let second : p.1 ≡ b = ap (λ o. unwrap_or o b) right in
     ap₂ (λ x y. Some (x, y)) first second
 
-pub returns-in_ok-get_str-in-check-default-2 : goal.returns-in_ok-get_str-in-check-default-2
-returns-in_ok-get_str-in-check-default-2 c =
+at_replay : (name : Text) (rows : List Row) → name ≡ codes "replay" → IsComplete name rows → IsReplayComplete rows
+at_replay name rows is whole = elim whole [
+  | inl replay ↦ replay.1
+  | inr check ↦ let bad : codes "replay" ≡ codes "check" = sym is ∙ check.0 in cc
+]
+
+at_check : (name : Text) (rows : List Row) → name ≡ codes "check" → IsComplete name rows → IsCheckComplete rows
+at_check name rows is whole = elim whole [
+  | inl replay ↦ let bad : codes "check" ≡ codes "replay" = sym is ∙ replay.0 in cc
+  | inr check ↦ check.1
+]
+
+pub returns-in_ok-replay_of-in-replay-default-clause-meant : goal.returns-in_ok-replay_of-in-replay-default-clause-meant
+returns-in_ok-replay_of-in-replay-default-clause-meant c =
+    let s = c.in_ok-replay in
+    let f = found_of s.field-0.1.now in
+    let is_replay : s.field-0.0.now ≡ codes "replay" = search rules in (
+      s.field-0.0.now,
+      rows_of f,
+      paired (subcommand_rows_of c.args.matches.now) s.field-0.0.now (rows_of f) (fused _ (λ p. p.0) _ ∙ sym s.ensures.name) (sym s.ensures.rows),
+      λ whole. (is_replay, c.in_ok-replay_of-in-replay-default.ensures.meant (at_replay s.field-0.0.now (rows_of f) is_replay whole)),
+    )
+
+pub returns-in_ok-get_str-in-check-default-2-clause-meant : goal.returns-in_ok-get_str-in-check-default-2-clause-meant
+returns-in_ok-get_str-in-check-default-2-clause-meant c =
     let s = c.in_ok-replay in
     let f = found_of s.field-0.1.now in
     let is_check : s.field-0.0.now ≡ codes "check" = search rules in (
       s.field-0.0.now,
       rows_of f,
       paired (subcommand_rows_of c.args.matches.now) s.field-0.0.now (rows_of f) (fused _ (λ p. p.0) _ ∙ sym s.ensures.name) (sym s.ensures.rows),
-      (
+      λ whole. (
         is_check,
-        sym (c.in_ok-get_str-in-check-default.ensures ∙ first_value-rows f (codes "model")) ∙ ap Some c.in_ok-model_of-in-check-default.ensures,
+        sym (c.in_ok-get_str-in-check-default.ensures ∙ first_value-rows f (codes "model")) ∙ ap Some c.in_ok-model_of-in-check-default.ensures.known,
         sym (c.in_ok-get_str-in-check-default-2.ensures ∙ first_value-rows f (codes "TRACE")),
       ),
     )
+
+pub returns-in_err-replay_of-in-replay-default-clause-missing : goal.returns-in_err-replay_of-in-replay-default-clause-missing
+returns-in_err-replay_of-in-replay-default-clause-missing c = λ none name rows is whole.
+    let s = c.in_ok-replay in
+    let f = found_of s.field-0.1.now in
+    let is_replay : s.field-0.0.now ≡ codes "replay" = search rules in
+    let here = paired (subcommand_rows_of c.args.matches.now) s.field-0.0.now (rows_of f) (fused _ (λ p. p.0) _ ∙ sym s.ensures.name) (sym s.ensures.rows) in
+    c.in_err-replay_of-in-replay-default.ensures.missing refl (at_replay s.field-0.0.now (rows_of f) is_replay (same_complete _ name s.field-0.0.now rows (rows_of f) is here whole))
+
+pub returns-in_err-get_str-in-check-default-clause-missing : goal.returns-in_err-get_str-in-check-default-clause-missing
+returns-in_err-get_str-in-check-default-clause-missing c = λ none name rows is whole.
+    let s = c.in_ok-replay in
+    let f = found_of s.field-0.1.now in
+    let here = paired (subcommand_rows_of c.args.matches.now) s.field-0.0.now (rows_of f) (fused _ (λ p. p.0) _ ∙ sym s.ensures.name) (sym s.ensures.rows) in
+    let asked = at_check s.field-0.0.now (rows_of f) (search rules) (same_complete _ name s.field-0.0.now rows (rows_of f) is here whole) in
+    none_some _ _ (c.in_err-get_str-in-check-default.ensures ∙ first_value-rows f (codes "model")) asked.0.1
+
+pub returns-in_err-model_of-in-check-default-clause-missing : goal.returns-in_err-model_of-in-check-default-clause-missing
+returns-in_err-model_of-in-check-default-clause-missing c = λ none name rows is whole.
+    let s = c.in_ok-replay in
+    let f = found_of s.field-0.1.now in
+    let here = paired (subcommand_rows_of c.args.matches.now) s.field-0.0.now (rows_of f) (fused _ (λ p. p.0) _ ∙ sym s.ensures.name) (sym s.ensures.rows) in
+    let asked = at_check s.field-0.0.now (rows_of f) (search rules) (same_complete _ name s.field-0.0.now rows (rows_of f) is here whole) in
+    c.in_err-model_of-in-check-default.ensures.unknown refl asked.0.0
+    (known_name _ _ _ (c.in_ok-get_str-in-check-default.ensures ∙ first_value-rows f (codes "model")) asked.0.1)
+
+pub returns-in_err-get_str-in-check-default-2-clause-missing : goal.returns-in_err-get_str-in-check-default-2-clause-missing
+returns-in_err-get_str-in-check-default-2-clause-missing c = λ none name rows is whole.
+    let s = c.in_ok-replay in
+    let f = found_of s.field-0.1.now in
+    let here = paired (subcommand_rows_of c.args.matches.now) s.field-0.0.now (rows_of f) (fused _ (λ p. p.0) _ ∙ sym s.ensures.name) (sym s.ensures.rows) in
+    let asked = at_check s.field-0.0.now (rows_of f) (search rules) (same_complete _ name s.field-0.0.now rows (rows_of f) is here whole) in
+    none_some _ _ (c.in_err-get_str-in-check-default-2.ensures ∙ first_value-rows f (codes "TRACE")) asked.1.1
