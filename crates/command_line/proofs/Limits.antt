@@ -5,12 +5,12 @@ use Rattle.std.proofs.lemmas.Bool.{false≢true}
 use Rattle.std.proofs.lemmas.Bool.Decides.{nat_tests}
 use Rattle.command_line.specs.Composition.{config_of}
 use Rattle.elf_loader.specs.Size.{IsMemoryKib}
-use Rattle.machine_model.specs.Config.{is_within_limits}
+use Rattle.machine_model.specs.Config.{is_power_to_64, is_within_limits}
 use Rattle.memory_model.specs.declared.Model.{Model}
 use Rattle.rvwmo_order.specs.Limits.{IsWithinLimits}
 use Rattle.trace_recorder.specs.History.{History}
 use Rattle.hart.specs.declared.retired.Retired.{Retired}
-use Rattle.trace_text.specs.Scripts.{IsScript, is_power}
+use Rattle.trace_text.specs.Scripts.{IsScript}
 use Rattle.trace_text.specs.TraceLimits.{IsHart, IsTrace}
 use Rattle.trace_text.specs.declared.script.Script.{Script}
 use Rattle.std.specs.Prelude.{nat_le, ◌==◌, ◌||◌, ◌%◌}
@@ -32,7 +32,7 @@ size_alone false b k p w v l is = absurd (false≢true is)
 
 pub machine_within : (s : Script) (model : Model) → IsScript s → is_within_limits (config_of s model) ≡ true
 machine_within s model is =
-    without_size (nat_le 1 s.harts) (nat_le s.harts 8) (nat_le 4 s.kib && nat_le s.kib 1024 && s.kib % 4 == 0) (is_power s.sets) (nat_le 1 s.ways) (nat_le s.ways 4) (s.line == 16 || s.line == 64) is.head
+    without_size (nat_le 1 s.harts) (nat_le s.harts 8) (nat_le 4 s.kib && nat_le s.kib 1024 && s.kib % 4 == 0) (is_power_to_64 s.sets) (nat_le 1 s.ways) (nat_le s.ways 4) (s.line == 16 || s.line == 64) is.head
 
 kib_within : (kib : ℕ) → (nat_le 4 kib && nat_le kib 1024 && kib % 4 == 0) ≡ true → IsMemoryKib kib
 kib_within kib is = record { whole_pages = grind (arith, nat_tests); at_least = grind (arith, nat_tests); at_most = grind (arith, nat_tests) }
@@ -40,7 +40,7 @@ kib_within kib is = record { whole_pages = grind (arith, nat_tests); at_least = 
 pub memory_within : (s : Script) → IsScript s → IsMemoryKib s.kib
 memory_within s is =
     kib_within s.kib
-    (size_alone (nat_le 1 s.harts) (nat_le s.harts 8) (nat_le 4 s.kib && nat_le s.kib 1024 && s.kib % 4 == 0) (is_power s.sets) (nat_le 1 s.ways) (nat_le s.ways 4) (s.line == 16 || s.line == 64) is.head)
+    (size_alone (nat_le 1 s.harts) (nat_le s.harts 8) (nat_le 4 s.kib && nat_le s.kib 1024 && s.kib % 4 == 0) (is_power_to_64 s.sets) (nat_le 1 s.ways) (nat_le s.ways 4) (s.line == 16 || s.line == 64) is.head)
 
 places : (lists : List (List Retired)) → AllByRecursion IsHart lists → (k : ℕ) (d : List Retired) → k < length lists → length (slice_index_or lists k d) ≤ 1000000
 places [] all k d lt = absurd (omega arith)
