@@ -37,7 +37,7 @@ pub fn apply<R: Eprint + AllocGlobal>(
     Ok(machine.apply(event)?)
 }
 
-/// Whether an outcome is as kept, which is without its number where that is no line's address.
+/// Whether an outcome is spelt as its kept line.
 fn is_as_kept(alloc: Global, outcome: Outcome, kept: &str) -> Result<bool> {
     let text = match outcome {
         Outcome::Missed(line) => format!(in alloc; "Missed(0x{line:08x})")?,
