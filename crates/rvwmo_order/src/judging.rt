@@ -56,10 +56,9 @@ fn broken_rule(
 ) -> Result<Option<(Rule, Operation, Operation)>, AllocError>
     ensures { IfOk result (λ broken. broken ≡ first_broken_rule model harts.now index.now all_rules) }
 {
-    let mut sweep = Sweep::new(alloc);
     let mut left = RULES.as_slice();
     while let [rule, rest @ ..] = left {
-        if let Some((a, b)) = first_out_of_order(&mut sweep, *rule, model, harts, index)? {
+        if let Some((a, b)) = first_out_of_order(alloc, *rule, model, harts, index)? {
             return Ok(Some((*rule, a, b)));
         }
         left = rest;
@@ -69,7 +68,7 @@ fn broken_rule(
 
 // Two operations of which the one behind must come first by this rule.
 fn first_out_of_order(
-    sweep: &mut Sweep,
+    alloc: Global,
     rule: Rule,
     model: Model,
     harts: &Harts,
@@ -78,13 +77,14 @@ fn first_out_of_order(
     ensures { IfOk result (λ found. found
         ≡ scans.first_out_of_order (rules.asked_by model harts.now index.now (rule_of rule)) index.now) }
 {
+    let mut sweep = Sweep::new(alloc, rule);
     let mut rest = index.order();
     let mut reaches = index.reaches();
     while let [b, behind @ ..] = rest {
         let [reach, others @ ..] = reaches else {
             return Ok(None);
         };
-        if let Some(a) = first_in_reach(sweep, rule, model, harts, index, behind, *reach, b)? {
+        if let Some(a) = first_in_reach(&mut sweep, model, harts, index, behind, *reach, b)? {
             return Ok(Some((a, *b)));
         }
         rest = behind;
@@ -97,7 +97,6 @@ fn first_out_of_order(
 // last one stands that precedes it in program order.
 fn first_in_reach(
     sweep: &mut Sweep,
-    rule: Rule,
     model: Model,
     harts: &Harts,
     index: &Index,
@@ -106,15 +105,16 @@ fn first_in_reach(
     b: &Operation,
 ) -> Result<Option<Operation>, AllocError>
     requires { reach ≡ reach_from 0 0 b.now behind.now }
-    ensures { IfOk result (λ found. found
-        ≡ find (λ a. rules.asked_by model harts.now index.now (rule_of rule) a b.now) behind.now) }
+    ensures rule { sweep.new.rule ≡ sweep.old.rule }
+    ensures first { IfOk result (λ found. found
+        ≡ find (λ a. rules.asked_by model harts.now index.now (rule_of sweep.old.rule) a b.now) behind.now) }
 {
     if reach == 0 {
         return Ok(None);
     }
     let among = first_of(behind, reach);
-    sweep.mark(rule, harts.items_of(b.hart), index, among, b)?;
-    Ok(first_asked(rule, model, harts, index, sweep, among, b))
+    sweep.mark(harts.items_of(b.hart), index, among, b)?;
+    Ok(first_asked(sweep, model, harts, index, among, b))
 }
 
 // The first so many.
@@ -131,20 +131,19 @@ fn first_of(operations: &[Operation], count: usize) -> &[Operation]
 // The first of these operations that must come before `b`, by the marks where the rule is one on
 // dependencies.
 fn first_asked(
-    rule: Rule,
+    sweep: &Sweep,
     model: Model,
     harts: &Harts,
     index: &Index,
-    sweep: &Sweep,
     among: &[Operation],
     b: &Operation,
 ) -> Option<Operation>
-    requires { TellsEach rule (rules.items_of harts.now b.now.hart) index.now b.now sweep.now.low sweep.now.marks.items among.now }
+    requires { TellsEach sweep.now.rule (rules.items_of harts.now b.now.hart) index.now b.now sweep.now.low sweep.now.marks.items among.now }
     ensures { result
-        ≡ find (λ a. rules.asked_by model harts.now index.now (rule_of rule) a b.now) among.now }
+        ≡ find (λ a. rules.asked_by model harts.now index.now (rule_of sweep.now.rule) a b.now) among.now }
 {
     for a in among {
-        if is_asked(rule, model, harts, index, sweep, a, b) {
+        if is_asked(sweep, model, harts, index, a, b) {
             return Some(*a);
         }
     }
@@ -153,19 +152,18 @@ fn first_asked(
 
 // Whether the rule says that `a` must come before `b`.
 fn is_asked(
-    rule: Rule,
+    sweep: &Sweep,
     model: Model,
     harts: &Harts,
     index: &Index,
-    sweep: &Sweep,
     a: &Operation,
     b: &Operation,
 ) -> bool
-    requires { operations.precedes a.now b.now ≡ true → Tells rule (rules.items_of harts.now b.now.hart) index.now b.now sweep.now.low sweep.now.marks.items a.now }
+    requires { operations.precedes a.now b.now ≡ true → Tells sweep.now.rule (rules.items_of harts.now b.now.hart) index.now b.now sweep.now.low sweep.now.marks.items a.now }
     ensures { result
-        ≡ rules.asked_by model harts.now index.now (rule_of rule) a.now b.now }
+        ≡ rules.asked_by model harts.now index.now (rule_of sweep.now.rule) a.now b.now }
 {
-    precedes(a, b) && asks(rule, model, harts.items_of(a.hart), index, sweep, a, b)
+    precedes(a, b) && asks(sweep, model, harts.items_of(a.hart), index, a, b)
 }
 
 // The first load that returns another byte than its source's.

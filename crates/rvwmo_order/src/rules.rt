@@ -22,21 +22,20 @@ use crate::verdict::Rule;
 use memory_model::{Kind, Model, Operation};
 use rv32_decode::{FenceSet, Instr};
 
-/// Whether the rule holds of two operations, of which the first precedes the second in program order;
-/// a rule on dependencies where the sweep back from the second marked the first.
+/// Whether the sweep's rule holds of two operations, of which the first precedes the second in program
+/// order; a rule on dependencies where the sweep back from the second marked the first.
 pub(crate) fn asks(
-    rule: Rule,
+    sweep: &Sweep,
     model: Model,
     items: &Items,
     index: &Index,
-    sweep: &Sweep,
     a: &Operation,
     b: &Operation,
 ) -> bool
-    requires { Tells rule items.now index.now b.now sweep.now.low sweep.now.marks.items a.now }
-    ensures { result ≡ (rule_of rule).asks model items.now index.now a.now b.now }
+    requires { Tells sweep.now.rule items.now index.now b.now sweep.now.low sweep.now.marks.items a.now }
+    ensures { result ≡ (rule_of sweep.now.rule).asks model items.now index.now a.now b.now }
 {
-    match rule {
+    match sweep.rule() {
         Rule::OverlappingStore => writes(b.kind) && overlap(a, b),
         Rule::SameByteLoads => are_same_byte_loads(items, index, a, b),
         Rule::AtomicSource => {

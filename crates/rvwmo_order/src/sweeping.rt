@@ -24,9 +24,10 @@ use memory_model::Operation;
 use rv32_decode::{Instr, Register};
 use std::alloc::{AllocError, Global};
 
-/// The marks of a sweep, kept from one to the next for their memory.
+/// The sweeps for a rule, and the marks of the last one.
 #[derive(Drop)]
 pub(crate) struct Sweep {
+    rule: Rule,
     /// The place of the first instruction that has a mark.
     low: u32,
     marks: Vec<bool>,
@@ -35,27 +36,37 @@ pub(crate) struct Sweep {
 }
 
 impl Sweep {
-    pub(crate) fn new(alloc: Global) -> Sweep {
+    pub(crate) fn new(alloc: Global, rule: Rule) -> Sweep
+        ensures { result.rule ≡ rule }
+    {
         Sweep {
+            rule,
             low: 0,
             marks: Vec::new(alloc),
             sources: Vec::new(alloc),
         }
     }
 
+    pub(crate) fn rule(&self) -> Rule
+        ensures { result ≡ self.now.rule }
+    {
+        self.rule
+    }
+
     /// Sweeps back from `b`, as far as to the first of these operations that precedes it; not at all where
     /// the rule is not one on dependencies, or says nothing of `b`.
     pub(crate) fn mark(
         &mut self,
-        rule: Rule,
         items: &Items,
         index: &Index,
         among: &[Operation],
         b: &Operation,
     ) -> Result<(), AllocError>
         requires { GivesOwn b.now.hart items.now }
-        ensures { OnOk result (TellsEach rule items.now index.now b.now self.new.low self.new.marks.items among.now) }
+        ensures rule { self.new.rule ≡ self.old.rule }
+        ensures told { OnOk result (TellsEach self.old.rule items.now index.now b.now self.new.low self.new.marks.items among.now) }
     {
+        let rule = self.rule;
         self.low = 0;
         self.marks.clear();
         if !is_swept(rule, b) {

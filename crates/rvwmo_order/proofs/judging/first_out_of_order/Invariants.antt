@@ -7,7 +7,8 @@ use Rattle.rvwmo_order.proofs.judging.first_out_of_order.Given as goal
 
 abbrev pub invariant-loop-rest : goal.invariant-loop-rest
 invariant-loop-rest l = record {
-  same : first_out_of_order (asked_by l.model l.harts l.index (rule_of l.rule)) l.index ≡ first_out_of_order (asked_by l.model l.harts l.index (rule_of l.rule)) l.rest;
+  same : first_out_of_order (asked_by l.model l.harts l.index (rule_of l.fn.rule)) l.index ≡ first_out_of_order (asked_by l.model l.harts l.index (rule_of l.sweep.rule)) l.rest;
+  rule : l.sweep.rule ≡ l.fn.rule;
   reaches : l.reaches ≡ reaches_of l.rest;
 }
 
