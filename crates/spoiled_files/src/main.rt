@@ -1,0 +1,131 @@
+//! Spoils kept images, scripts and traces, by cutting them short and by setting bytes, and runs the program
+//! over each. A run may still succeed; one that doesn't prints nothing and tells why in one line.
+#![tactic(auto)]
+
+mod files;
+mod spoiling;
+
+use anyhow::{Result, ensure};
+use command_line::run_line;
+use files::{File, MemoryFiles};
+use spoiling::{Stream, cut, reset};
+use std::alloc::Global;
+use std::fs;
+
+/// Images of bare words and ELF files, with the scripts that they are played by.
+const REPLAYS: [(&str, &str, Kind); 5] = [
+    ("row-10-1.bin", "row-10-1.script", Kind::Raw),
+    ("row-48-2.bin", "row-48-2.script", Kind::Raw),
+    ("case-005.bin", "case-005.script", Kind::Raw),
+    ("cas.elf", "cas.script", Kind::Elf),
+    ("sum.elf", "sum.script", Kind::Elf),
+];
+
+const TRACES: [&str; 3] = [
+    "random-11-00115.trace",
+    "random-11-00156.trace",
+    "random-11-00173.trace",
+];
+
+/// How often bytes of a file are set.
+const RESETS: usize = 40;
+
+#[derive(Clone, Copy)]
+enum Kind {
+    Raw,
+    Elf,
+}
+
+impl Kind {
+    fn words(self) -> &'static [&'static str] {
+        match self {
+            Kind::Raw => &["rvtl", "replay", "--raw", "image", "script"],
+            Kind::Elf => &["rvtl", "replay", "image", "script"],
+        }
+    }
+}
+
+fn main(rt: HostRuntime) -> Result<()> {
+    let alloc = rt.alloc();
+    let mut stream = Stream::new();
+    for (image, script, kind) in REPLAYS {
+        let image = fs::read(&rt, image)?;
+        let script = fs::read(&rt, script)?;
+        let image = File {
+            name: "image",
+            bytes: image.as_slice(),
+        };
+        let script = File {
+            name: "script",
+            bytes: script.as_slice(),
+        };
+        spoil(alloc, kind.words(), image, script, &mut stream)?;
+        spoil(alloc, kind.words(), script, image, &mut stream)?;
+    }
+    for trace in TRACES {
+        let bytes = fs::read(&rt, trace)?;
+        let trace = File {
+            name: "trace",
+            bytes: bytes.as_slice(),
+        };
+        spoil(
+            alloc,
+            &["rvtl", "check", "trace"],
+            trace,
+            trace,
+            &mut stream,
+        )?;
+    }
+    println!(rt; "every spoiled file ended in a named line")?;
+    Ok(())
+}
+
+/// Spoils a file in each way beside one that stays as it is.
+fn spoil(
+    alloc: Global,
+    words: &[&str],
+    file: File<'_>,
+    other: File<'_>,
+    stream: &mut Stream,
+) -> Result<()> {
+    for tenths in 0..10 {
+        ends_well(alloc, words, file.name, cut(file.bytes, tenths), other)?;
+    }
+    for _ in 0..RESETS {
+        let spoiled = reset(alloc, file.bytes, stream)?;
+        ends_well(alloc, words, file.name, spoiled.as_slice(), other)?;
+    }
+    Ok(())
+}
+
+/// The program's status is one of its five. Where it is no success, the one line that it tells is its own,
+/// and nothing else is printed.
+fn ends_well(
+    alloc: Global,
+    words: &[&str],
+    name: &str,
+    bytes: &[u8],
+    other: File<'_>,
+) -> Result<()> {
+    let spoiled = [File { name, bytes }, other];
+    let mut files = MemoryFiles { files: &spoiled };
+    let mut out = Vec::new(alloc);
+    let mut err = Vec::new(alloc);
+    let status = run_line(alloc, words, &mut files, &mut out, &mut err);
+    match status {
+        0 => ensure!(!out.is_empty(), "a success printed nothing"),
+        3 => ensure!(out.starts_with(b"fault "), "no fault was printed"),
+        1 | 2 | 4 => {
+            ensure!(is_named_line(err.as_slice()), "no line of the program's");
+            ensure!(out.is_empty(), "something was printed before a failure");
+        }
+        _ => ensure!(false, "no such status: {status}"),
+    }
+    Ok(())
+}
+
+/// One line, which begins with the program's name.
+fn is_named_line(text: &[u8]) -> bool {
+    let newlines = text.iter().filter(|byte| **byte == b'\n').count();
+    text.starts_with(b"rvtl: ") && text.ends_with(b"\n") && newlines == 1
+}
