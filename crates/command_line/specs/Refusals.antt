@@ -32,6 +32,6 @@ IsHelp kind = (kind ≡ DisplayHelp) ⊎ (kind ≡ DisplayVersion)
 abbrev pub IsForHelp : List Text → Type 0
 IsForHelp words = HasFaults words (λ kinds. (kind : ErrorKind) × IsAmong kind kinds × IsHelp kind)
 
--- the words don't fit the usage, and don't only ask for help
+-- the words may be refused by the usage: another kind than help is listed (after the word `help` both are)
 abbrev pub IsUnfit : List Text → Type 0
 IsUnfit words = HasFaults words (λ kinds. (kind : ErrorKind) × IsAmong kind kinds × (¬ IsHelp kind))

@@ -33,11 +33,11 @@ IsFaulty held old new (Check model trace) =
 abbrev pub IsNotLegal : List Text → Held → Option (List ℕ) → Option (List ℕ) → Type 0
 IsNotLegal words held old new = HasNamed words (IsFaulty held old new)
 
--- it was all there to print, and the output took no more
+-- a beginning of the trace's text was printed, or there is a verdict to print
 abbrev pub IsBroken : Held → Option (List ℕ) → Option (List ℕ) → Settings → Type 0
 IsBroken held old new (Replay replay) = IsCutOff held replay old new
 IsBroken held old new (Check model trace) = HasVerdict held trace.now model
 
--- nothing was printed, or what was there to print only in part: help, the trace of events that were all replayed, or a verdict
+-- nothing was printed, or a beginning of the trace of events that were all replayed; or there was help or a verdict to print, whatever of it went out
 abbrev pub IsUnprinted : List Text → Held → Option (List ℕ) → Option (List ℕ) → Type 0
 IsUnprinted words held old new = (new ≡ old) ⊎ (IsForHelp words ⊎ HasNamed words (IsBroken held old new))

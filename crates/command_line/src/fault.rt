@@ -46,6 +46,7 @@ pub enum Fault<'a> {
         file: &'a str,
         error: CheckError,
     },
+    /// No machine is of this size. A script can't name one, so `run_line` never tells it.
     #[error("rvtl: bad configuration")]
     Configuration,
     #[error("rvtl: out of memory")]

@@ -20,8 +20,8 @@ use std::io::Write;
 const NOT_LEGAL: u8 = 3;
 
 /// Does what the words ask for, the first of which is the program's name, and answers the exit status:
-/// 0 done or legal, 1 for files, streams and what they hold, 2 for usage and configuration, 3 for an order
-/// that is not legal, 4 out of memory. A message that standard error does not take is lost.
+/// 0 done or legal, 1 for files, streams and what they hold, 2 for words that don't fit the usage, 3 for an
+/// order that is not legal, 4 out of memory. A message that standard error does not take is lost.
 pub fn run_line<S: AsStr, F: Files, O: Write, E: Write>(
     alloc: Global,
     words: &[S],

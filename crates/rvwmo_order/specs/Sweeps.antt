@@ -20,7 +20,7 @@ carries asks last held (m ∷ rest) = holds held (asks m) || carries asks last (
 abbrev pub is_written : List ℕ → ℕ → Bool
 is_written written r = nat_lt r 32 && list_any (λ w. w == r) written
 
--- one of the wanted registers is
+-- an instruction writes one of the wanted registers
 abbrev pub gives_wanted : Uses → List ℕ → Bool
 gives_wanted u wanted = list_any (is_written u.written) wanted
 

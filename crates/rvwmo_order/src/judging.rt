@@ -1,4 +1,5 @@
-//! Judging an order of operations, over its index: each definition as it stands.
+//! Judging an order of operations, over its index: each definition as it stands, but dependencies by the
+//! marks of sweeps.
 ghost use Rattle.std.specs.Prelude.{◌≡◌, ◌==◌, IfOk, Some, find, take, true};
 ghost use Rattle.std.specs.List.{list_all};
 ghost use Rattle.memory_model.specs.Operations as operations;

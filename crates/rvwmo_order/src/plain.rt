@@ -1,6 +1,7 @@
 //! The checker as a plain and slow program over lists, to compare the checker with: it compares all pairs of
-//! operations, and finds the store that a byte comes from by a walk over the whole order, each definition as
-//! it stands (RISC-V Unprivileged ISA 20191213, chapters 14 and 23).
+//! operations, carries what came from each forward for each pair, and finds the store that a byte comes from
+//! by a walk over the whole order, each definition as it stands (RISC-V Unprivileged ISA 20191213, chapters
+//! 14 and 23).
 
 mod checking;
 mod dependencies;

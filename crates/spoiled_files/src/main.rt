@@ -1,5 +1,6 @@
 //! Spoils kept images, scripts and traces, by cutting them short and by setting bytes, and runs the program
-//! over each. A run may still succeed; one that doesn't prints nothing and tells why in one line.
+//! over each. A run may still succeed, or judge what a trace still says; any other prints nothing and tells
+//! why in one line.
 #![tactic(auto)]
 
 mod files;
@@ -76,7 +77,7 @@ fn main(rt: HostRuntime) -> Result<()> {
             &mut stream,
         )?;
     }
-    println!(rt; "every spoiled file ended in a named line")?;
+    println!(rt; "every spoiled file was taken, judged or refused in one line")?;
     Ok(())
 }
 
@@ -98,8 +99,8 @@ fn spoil(
     Ok(())
 }
 
-/// The program's status is one of its five. Where it is no success, the one line that it tells is its own,
-/// and nothing else is printed.
+/// The program's status is one of its five. Where it is neither a success nor a verdict, the one line that it
+/// tells is its own, and nothing else is printed.
 fn ends_well(
     alloc: Global,
     words: &[&str],
