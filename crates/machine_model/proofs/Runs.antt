@@ -42,7 +42,7 @@ use Rattle.machine_model.specs.Deliveries.{plan_body, plan_front, unless_acks_fu
 use Rattle.machine_model.specs.Events.{counted, evict_by, plan_drain, Verdict, verdict_by, state_by, happens, after_events, is_good, is_limited, plan_of, hart_of}
 use Rattle.machine_model.specs.Laws.{RunsAlways}
 use Rattle.machine_model.specs.Views.{Node, State, line_of, line_size, place_of, node_at, no_node, opening, opening_node}
-use Rattle.machine_model.proofs.Growth.{Follows, follows_not, follows_then, happens_follows}
+use Rattle.machine_model.proofs.Growth.{Happens, happens_follows, happens_not, happens_then}
 use Rattle.machine_model.proofs.Nodes.{KeepsHarts, does_keeps, drained_keeps, given_up_keeps, missed_keeps, delivered_keeps}
 use Rattle.machine_model.proofs.Retiring.{IsNext, step_is_next}
 use Rattle.memory_model.specs.Traces.{are_runs, are_runs_from}
@@ -447,9 +447,9 @@ runs_of s a =
 
 -- ---- the law
 
-kept_always : (events : List Event) (s : State) → Follows s (after_events s events)
-kept_always [] s = follows_not s
-kept_always (e ∷ events) s = follows_then _ _ _ (happens_follows s e) (kept_always events (happens s e))
+kept_always : (events : List Event) (s : State) → Happens s (after_events s events)
+kept_always [] s = happens_not s
+kept_always (e ∷ events) s = happens_then _ _ _ (happens_follows s e) (kept_always events (happens s e))
 
 pub runs_always : RunsAlways
 runs_always image config events i c =

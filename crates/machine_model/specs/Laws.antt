@@ -108,6 +108,10 @@ pub record KeepsImageAndConfig (old new : State) : Type 0 where
 abbrev pub ImageAndConfigStay : Type 0
 ImageAndConfigStay = (s : State) (e : Event) → KeepsImageAndConfig s (happens s e)
 
+-- an event that changes the machine counts once
+abbrev pub ChangesAreCounted : Type 0
+ChangesAreCounted = (s : State) (e : Event) (o : Outcome) (new : State) → verdict s e ≡ Verdict.Moves o new → new.views.changes ≡ s.views.changes + 1
+
 -- ---- batches: a Local event that retires is as many single steps, each Retired, but for the count of events, which grows by one; so the steps are counted from 0
 
 abbrev pub with_changes : ℕ → State → State

@@ -1,5 +1,5 @@
 //! Laws of the event meaning, each the contract of a function that does nothing.
-ghost use Rattle.machine_model.specs.Laws.{ImageAndConfigStay, LocalIsSteps, NothingIsRewritten, RunsAlways};
+ghost use Rattle.machine_model.specs.Laws.{ChangesAreCounted, ImageAndConfigStay, LocalIsSteps, NothingIsRewritten, RunsAlways};
 
 /// An event only adds to the performed order, to the harts' lists and to the message log.
 pub fn nothing_is_rewritten()
@@ -9,6 +9,11 @@ pub fn nothing_is_rewritten()
 /// No event changes the image or the configuration.
 pub fn image_and_config_stay()
     ensures { ImageAndConfigStay }
+{}
+
+/// An event that changes the machine adds one to the number of changes.
+pub fn changes_are_counted()
+    ensures { ChangesAreCounted }
 {}
 
 /// Whatever events come in whatever order, each hart's list is a run of the loaded image, with its
