@@ -1,0 +1,12 @@
+pub mod Sees
+pub mod Plans
+pub mod Memory
+pub mod OneWay
+pub mod Quiet
+pub mod Local
+pub mod Accesses
+pub mod Acts
+pub mod Always
+pub mod Bare
+pub mod Projections
+pub mod WorkedPlays
