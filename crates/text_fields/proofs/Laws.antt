@@ -68,6 +68,15 @@ after_takes (t ∷ ts) (b ∷ bytes) rest e = go (after_takes ts bytes rest) (eq
     go more true is h = let same = eqb-true b t is in let others = more h in cc
     go more false is h = absurd cc
 
+none_either_way : {A : Type 0} (test : Bool) (x : Option A) → x ≡ None → cond test x None ≡ None
+none_either_way true x e = e
+none_either_way false x e = refl
+
+pub after_short : (text bytes : List ℕ) → length bytes < length text → None ≡ after text bytes
+after_short [] bytes lt = absurd (omega arith)
+after_short (t ∷ ts) [] lt = refl
+after_short (t ∷ ts) (b ∷ bytes) lt = sym (none_either_way (eqb b t) (after ts bytes) (sym (after_short ts bytes (omega arith))))
+
 pub after_again : (text rest : List ℕ) → after text (text ++ rest) ≡ Some rest
 after_again [] rest = refl
 after_again (t ∷ ts) rest = rw (eq-eqb t t refl) (after_again ts rest)
@@ -205,7 +214,7 @@ number_reads end most low small = record { takes = number_takes end most small; 
 
 -- ---- hexadecimal digits
 
-nibble_takes : (b n : ℕ) → nibble_of b ≡ Some n → (n < 16) × (digit_glyph false n ≡ b)
+pub nibble_takes : (b n : ℕ) → nibble_of b ≡ Some n → (n < 16) × (digit_glyph false n ≡ b)
 unfolding nibble_of
 nibble_takes b n e =
     elim (chosen (is_digit b) (Some (b - 48)) (cond (leb 97 b && leb b 102) (Some (b - 87)) None) (Some n) e) [

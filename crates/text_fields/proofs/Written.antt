@@ -33,6 +33,12 @@ put_more old mid new bytes rest others n (front, e, before) now is = (
   appends_then old mid new front (take n rest) before now,
 )
 
+-- a turn that was interrupted
+pub put_again : (old mid new : Option (List ℕ)) (bytes rest others : List ℕ) → (front : List ℕ) × (bytes ≡ front ++ rest) × Appends old mid front → Keeps mid new → others ≡ rest
+    → (front : List ℕ) × (bytes ≡ front ++ others) × Appends old new front
+put_again old mid new bytes rest others (front, e, before) now is =
+    (front, e ∙ ap (λ (r : List ℕ). front ++ r) (sym is), subst (Appends old new) (append-nil front) (appends_then old mid new front [] before (appends_kept mid new now)))
+
 pub begins_first : (a b : Option (List ℕ)) (x y : List ℕ) → Begins a b x → Begins a b (x ++ y)
 begins_first a b x y h = record { front = h.front; rest = h.rest ++ y; parts = ap (λ (t : List ℕ). t ++ y) h.parts ∙ append_assoc h.front h.rest y; sent = h.sent }
 

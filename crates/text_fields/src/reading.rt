@@ -1,12 +1,20 @@
 //! Readers of fields: each answers the value and the bytes after it.
-ghost use Rattle.std.specs.Prelude.{◌≡◌, ◌<◌, ◌≤◌, length, IfSome};
+ghost use Rattle.std.specs.Prelude.{◌≡◌, ◌≤◌, length, IfSome};
 ghost use Rattle.std.specs.Option.{option_map};
 ghost use Rattle.text_fields.specs.Reading as reads;
 
+use crate::digits::nibble_of;
+
 /// What stands after this text.
+#[inline(always)]
+#[tactic(auto, using(crate::proofs::Laws::after_short))]
 pub fn after<'a>(text: &[u8], bytes: &'a [u8]) -> Option<&'a [u8]>
     ensures { option_map (λ x. x.now) result ≡ reads.after text.now bytes.now }
 {
+    // So that no byte of the text asks again whether one is left.
+    if bytes.len() < text.len() {
+        return None;
+    }
     let mut wanted = text;
     let mut rest = bytes;
     while let [first, others @ ..] = wanted {
@@ -20,6 +28,7 @@ pub fn after<'a>(text: &[u8], bytes: &'a [u8]) -> Option<&'a [u8]>
 }
 
 /// A number up to `most` with no leading zero, and the byte that ends it.
+#[inline(always)]
 #[tactic(auto, unfolding(crate::specs::Reading::number_at))]
 pub fn number_at(bytes: &[u8], end: u8, most: u32) -> Option<(u32, &[u8])>
     ensures value { option_map (λ x. (x.0, x.1.now)) result ≡ reads.number_at end most bytes.now }
@@ -62,18 +71,6 @@ fn number_on(bytes: &[u8], end: u8, most: u32, first: u32) -> Option<(u32, &[u8]
     None
 }
 
-#[tactic(auto, unfolding(crate::specs::Reading::nibble_of))]
-fn nibble_of(byte: u8) -> Option<u8>
-    ensures value { result ≡ reads.nibble_of byte }
-    ensures below { IfSome result (λ n. n < 16) }
-{
-    match byte {
-        b'0'..=b'9' => Some(byte - b'0'),
-        b'a'..=b'f' => Some(byte - b'a' + 10),
-        _ => None,
-    }
-}
-
 #[tactic(auto, unfolding(crate::specs::Reading::hex_byte_at))]
 fn hex_byte_at(bytes: &[u8]) -> Option<(u8, &[u8])>
     ensures { option_map (λ x. (x.0, x.1.now)) result ≡ reads.hex_byte_at bytes.now }
@@ -102,6 +99,7 @@ pub fn hex_into<'a>(out: &mut [u8], bytes: &'a [u8]) -> Option<&'a [u8]>
 }
 
 /// An address or a word.
+#[inline(always)]
 #[tactic(auto, unfolding(crate::specs::Reading::word_at))]
 pub fn word_at(bytes: &[u8]) -> Option<(u32, &[u8])>
     ensures { option_map (λ x. (x.0, x.1.now)) result ≡ reads.word_at bytes.now }

@@ -1,9 +1,8 @@
 //! Writers of pieces of a text, to any `Write`.
-ghost use Rattle.std.specs.Prelude.{◌≡◌, ◌<◌, false};
-ghost use Rattle.std.specs.Fmt.{digit_glyph};
 ghost use Rattle.text_fields.specs.Fields.{hex_byte, hex};
 ghost use Rattle.text_fields.specs.Writing.{piece, pieces, Writes};
 
+use crate::digits::{digit, word_text};
 use itoa::Buffer;
 use std::io::{Error, ErrorKind, Write};
 
@@ -16,37 +15,35 @@ pub enum Piece<'a> {
     Hex(&'a [u8]),
 }
 
-/// All of the bytes. A write that takes no byte is a fault.
+/// All of the bytes. A write that takes no byte is a fault, and one that was interrupted is tried again.
 pub fn put<W: Write>(out: &mut W, bytes: &[u8]) -> Result<(), Error>
     ensures { Writes (W.contents out.old) (W.contents out.new) bytes.now result }
 {
     let mut rest = bytes;
-    while !rest.is_empty() {
-        let taken = out.write(rest)?;
-        if taken == 0 {
-            return Err(Error::from(ErrorKind::WriteZero));
+    for _ in 0..u64::MAX {
+        if rest.is_empty() {
+            return Ok(());
         }
-        let (_, others) = rest.split_at(taken);
-        rest = others;
+        match out.write(rest) {
+            Ok(0) => return Err(Error::from(ErrorKind::WriteZero)),
+            Ok(taken) => {
+                let (_, others) = rest.split_at(taken);
+                rest = others;
+            }
+            Err(error) => {
+                if error.kind() != ErrorKind::Interrupted {
+                    return Err(error);
+                }
+            }
+        }
     }
-    Ok(())
-}
-
-fn glyph(nibble: u8) -> u8
-    requires { nibble < 16 }
-    ensures { result ≡ digit_glyph false nibble }
-{
-    if nibble < 10 {
-        b'0' + nibble
-    } else {
-        b'a' + (nibble - 10)
-    }
+    Err(Error::from(ErrorKind::Interrupted))
 }
 
 fn put_hex_byte<W: Write>(out: &mut W, byte: u8) -> Result<(), Error>
     ensures { Writes (W.contents out.old) (W.contents out.new) (hex_byte byte) result }
 {
-    put(out, &[glyph(byte / 16), glyph(byte % 16)])
+    put(out, &[digit(byte / 16), digit(byte % 16)])
 }
 
 fn put_hex<W: Write>(out: &mut W, bytes: &[u8]) -> Result<(), Error>
@@ -67,24 +64,7 @@ fn put_piece<W: Write>(out: &mut W, part: Piece<'_>) -> Result<(), Error>
             let mut digits = Buffer::new();
             put(out, digits.format(n).as_bytes())
         }
-        Piece::Word(n) => {
-            let [a, b, c, d] = n.to_be_bytes();
-            put(
-                out,
-                &[
-                    b'0',
-                    b'x',
-                    glyph(a / 16),
-                    glyph(a % 16),
-                    glyph(b / 16),
-                    glyph(b % 16),
-                    glyph(c / 16),
-                    glyph(c % 16),
-                    glyph(d / 16),
-                    glyph(d % 16),
-                ],
-            )
-        }
+        Piece::Word(n) => put(out, &word_text(n)),
         Piece::Hex(bytes) => put_hex(out, bytes),
     }
 }

@@ -1,9 +1,8 @@
 -- How a trace's parts stand in its text.
 use Rattle.std.proofs.Common.{◌≡◌, ℕ, suc, ◌+◌, ◌-◌, ◌/◌, ◌<◌, ◌≤◌, List, [], ◌∷◌, ◌++◌, length, take, drop, refl, sym, ap, subst, ◌∙◌, append_assoc, arith, inl, inr}
-use Rattle.std.specs.Prelude.{decimal}
 use Rattle.std.proofs.lemmas.List.{append-nil, length-drop, take_all}
 use Rattle.elf_loader.specs.Size.{base}
-use Rattle.text_fields.specs.Fields.{word, numbered}
+use Rattle.text_fields.specs.Fields.{number, word, numbered}
 use Rattle.tl_types.specs.Line.{length_of}
 use Rattle.tl_types.specs.Message.{channel_of}
 use Rattle.tl_types.specs.declared.line.LineSize.{LineSize}
@@ -62,22 +61,11 @@ carried_parts (GrantData c bytes) = refl
 carried_parts ReleaseAck = refl
 carried_parts GrantAck = refl
 
--- a message's line up to the bytes that it carries
-abbrev pub logged_front : List ℕ → List ℕ → List ℕ → List ℕ → List ℕ → List ℕ → List ℕ
-logged_front d c n m w p = 77 ∷ 32 ∷ (d ++ (c ++ (n ++ (32 ∷ (m ++ (w ++ (p ++ [])))))))
+regrouped : (s d c n m w p q : List ℕ) → ((((((((s ++ 77 ∷ 32 ∷ []) ++ d) ++ c) ++ n) ++ m) ++ w) ++ p) ++ q) ++ 10 ∷ [] ≡ s ++ (77 ∷ 32 ∷ (d ++ (c ++ (n ++ ((m ++ (w ++ (p ++ q))) ++ 10 ∷ [])))))
+regrouped s d c n m w p q = simp append_assoc
 
-regrouped : (d c n m w p q : List ℕ) → 77 ∷ 32 ∷ (d ++ (c ++ ((n ++ 32 ∷ []) ++ ((m ++ (w ++ (p ++ q))) ++ 10 ∷ [])))) ≡ logged_front d c n m w p ++ (q ++ 10 ∷ [])
-regrouped d c n m w p q = simp (append_assoc, append-nil)
-
-pub front_of : Logged → List ℕ
-front_of l = logged_front (words.direction l.direction) (words.channel (channel_of l.message)) (decimal l.hart) (words.name l.message.body) (word l.message.line) (permissions l.message.body)
-
-pub front_is : (l : Logged) (d c m p : List ℕ) → d ≡ words.direction l.direction → c ≡ words.channel (channel_of l.message) → m ≡ words.name l.message.body → p ≡ permissions l.message.body → logged_front d c (decimal l.hart) m (word l.message.line) p ≡ front_of l
-unfolding front_of
-front_is l d c m p ed ec em ep = rw (ed, ec, em, ep) refl
-
-pub logged_parts : (l : Logged) → logged l ≡ front_of l ++ (payload_of (data_of l.message.body) ++ 10 ∷ [])
-unfolding front_of
-logged_parts l =
-    ap (λ t. 77 ∷ 32 ∷ (words.direction l.direction ++ (words.channel (channel_of l.message) ++ ((decimal l.hart ++ 32 ∷ []) ++ ((words.name l.message.body ++ (word l.message.line ++ t)) ++ 10 ∷ []))))) (carried_parts l.message.body)
-    ∙ regrouped (words.direction l.direction) (words.channel (channel_of l.message)) (decimal l.hart) (words.name l.message.body) (word l.message.line) (permissions l.message.body) (payload_of (data_of l.message.body))
+-- a message's words, one after another
+pub logged_spelled : (l : Logged) (s : List ℕ) → ((((((((s ++ 77 ∷ 32 ∷ []) ++ words.direction l.direction) ++ words.channel (channel_of l.message)) ++ number 32 l.hart) ++ words.name l.message.body) ++ word l.message.line) ++ permissions l.message.body) ++ payload_of (data_of l.message.body)) ++ 10 ∷ [] ≡ s ++ logged l
+logged_spelled l s =
+    regrouped s (words.direction l.direction) (words.channel (channel_of l.message)) (number 32 l.hart) (words.name l.message.body) (word l.message.line) (permissions l.message.body) (payload_of (data_of l.message.body))
+    ∙ ap (λ t. s ++ (77 ∷ 32 ∷ (words.direction l.direction ++ (words.channel (channel_of l.message) ++ (number 32 l.hart ++ ((words.name l.message.body ++ (word l.message.line ++ t)) ++ 10 ∷ [])))))) (sym (carried_parts l.message.body))

@@ -66,6 +66,16 @@ all_names =
     ∷ (codes "ProbeAckData ", names.ProbeAckData) ∷ (codes "Release ", names.Release) ∷ (codes "ReleaseData ", names.ReleaseData)
     ∷ (codes "Grant ", names.Grant) ∷ (codes "GrantData ", names.GrantData) ∷ (codes "ReleaseAck ", names.ReleaseAck) ∷ (codes "GrantAck ", names.GrantAck) ∷ []
 
+-- what follows Probe, Release and Grant in a name
+abbrev pub probe_endings : List (List ℕ × Name)
+probe_endings = (codes "Block ", names.ProbeBlock) ∷ (codes "Ack ", names.ProbeAck) ∷ (codes "AckData ", names.ProbeAckData) ∷ []
+
+abbrev pub release_endings : List (List ℕ × Name)
+release_endings = (codes " ", names.Release) ∷ (codes "Data ", names.ReleaseData) ∷ (codes "Ack ", names.ReleaseAck) ∷ []
+
+abbrev pub grant_endings : List (List ℕ × Name)
+grant_endings = (codes " ", names.Grant) ∷ (codes "Data ", names.GrantData) ∷ (codes "Ack ", names.GrantAck) ∷ []
+
 unfoldable pub name_at : List ℕ → Option (Name × List ℕ)
 name_at bytes = table_at all_names bytes
 

@@ -1,6 +1,7 @@
 //! Reading the words of messages.
 ghost use Rattle.std.specs.Prelude.{◌≡◌};
 ghost use Rattle.std.specs.Option.{option_map};
+ghost use Rattle.text_fields.specs.Reading.{table_at};
 ghost use Rattle.trace_text.specs.TraceReading as reads;
 
 use text_fields::{after, hex_into, word_at};
@@ -65,6 +66,7 @@ fn cap_at(bytes: &[u8]) -> Option<(Cap, &[u8])>
 }
 
 /// What a copy gave up.
+#[inline(always)]
 #[tactic(auto, unfolding(crate::specs::TraceReading::change_at))]
 fn change_at(bytes: &[u8]) -> Option<(Change, &[u8])>
     ensures { option_map (λ x. (x.0, x.1.now)) result ≡ reads.change_at bytes.now }
@@ -88,43 +90,69 @@ fn change_at(bytes: &[u8]) -> Option<(Change, &[u8])>
     Some((Change::NtoN, rest))
 }
 
-/// A message's name.
-#[tactic(auto, unfolding(crate::specs::TraceReading::name_at))]
-fn name_at(bytes: &[u8]) -> Option<(Name, &[u8])>
-    ensures { option_map (λ x. (x.0, x.1.now)) result ≡ reads.name_at bytes.now }
+/// What follows Probe in a message's name.
+fn probe_name_at(bytes: &[u8]) -> Option<(Name, &[u8])>
+    ensures { option_map (λ x. (x.0, x.1.now)) result ≡ table_at reads.probe_endings bytes.now }
 {
-    if let Some(rest) = after(b"AcquireBlock ", bytes) {
-        return Some((Name::AcquireBlock, rest));
-    }
-    if let Some(rest) = after(b"ProbeBlock ", bytes) {
+    if let Some(rest) = after(b"Block ", bytes) {
         return Some((Name::ProbeBlock, rest));
     }
-    if let Some(rest) = after(b"ProbeAck ", bytes) {
+    if let Some(rest) = after(b"Ack ", bytes) {
         return Some((Name::ProbeAck, rest));
     }
-    if let Some(rest) = after(b"ProbeAckData ", bytes) {
-        return Some((Name::ProbeAckData, rest));
-    }
-    if let Some(rest) = after(b"Release ", bytes) {
+    let rest = after(b"AckData ", bytes)?;
+    Some((Name::ProbeAckData, rest))
+}
+
+/// What follows Release in a message's name.
+fn release_name_at(bytes: &[u8]) -> Option<(Name, &[u8])>
+    ensures { option_map (λ x. (x.0, x.1.now)) result ≡ table_at reads.release_endings bytes.now }
+{
+    if let Some(rest) = after(b" ", bytes) {
         return Some((Name::Release, rest));
     }
-    if let Some(rest) = after(b"ReleaseData ", bytes) {
+    if let Some(rest) = after(b"Data ", bytes) {
         return Some((Name::ReleaseData, rest));
     }
-    if let Some(rest) = after(b"Grant ", bytes) {
+    let rest = after(b"Ack ", bytes)?;
+    Some((Name::ReleaseAck, rest))
+}
+
+/// What follows Grant in a message's name.
+fn grant_name_at(bytes: &[u8]) -> Option<(Name, &[u8])>
+    ensures { option_map (λ x. (x.0, x.1.now)) result ≡ table_at reads.grant_endings bytes.now }
+{
+    if let Some(rest) = after(b" ", bytes) {
         return Some((Name::Grant, rest));
     }
-    if let Some(rest) = after(b"GrantData ", bytes) {
+    if let Some(rest) = after(b"Data ", bytes) {
         return Some((Name::GrantData, rest));
     }
-    if let Some(rest) = after(b"ReleaseAck ", bytes) {
-        return Some((Name::ReleaseAck, rest));
-    }
-    let rest = after(b"GrantAck ", bytes)?;
+    let rest = after(b"Ack ", bytes)?;
     Some((Name::GrantAck, rest))
 }
 
+/// A message's name.
+#[inline(always)]
+#[tactic(auto, using(crate::proofs::NameLaws::probe_led, crate::proofs::NameLaws::release_led, crate::proofs::NameLaws::grant_led, crate::proofs::NameLaws::not_led), unfolding(crate::specs::TraceReading::name_at))]
+pub(crate) fn name_at(bytes: &[u8]) -> Option<(Name, &[u8])>
+    ensures { option_map (λ x. (x.0, x.1.now)) result ≡ reads.name_at bytes.now }
+{
+    if let Some(rest) = after(b"Probe", bytes) {
+        return probe_name_at(rest);
+    }
+    if let Some(rest) = after(b"Release", bytes) {
+        return release_name_at(rest);
+    }
+    if let Some(rest) = after(b"Grant", bytes) {
+        return grant_name_at(rest);
+    }
+    let rest = after(b"AcquireBlock ", bytes)?;
+    Some((Name::AcquireBlock, rest))
+}
+
 /// A line's bytes.
+#[inline(always)]
 #[tactic(auto, unfolding(crate::specs::TraceReading::data_at))]
 pub(crate) fn data_at(bytes: &[u8], size: LineSize) -> Option<(LineData, &[u8])>
     ensures { option_map (λ x. (x.0, x.1.now)) result ≡ reads.data_at size bytes.now }
@@ -164,6 +192,7 @@ fn cap_data_at(bytes: &[u8], size: LineSize) -> Option<((Cap, LineData), &[u8])>
 }
 
 /// What a message of this name says of its line.
+#[inline(always)]
 #[tactic(auto, unfolding(crate::specs::TraceReading::carried_at))]
 fn carried_at(bytes: &[u8], size: LineSize, name: Name) -> Option<(Body, &[u8])>
     ensures { option_map (λ x. (x.0, x.1.now)) result ≡ reads.carried_at size name bytes.now }
@@ -207,6 +236,7 @@ fn carried_at(bytes: &[u8], size: LineSize, name: Name) -> Option<(Body, &[u8])>
 }
 
 /// A message: its name, its line, and what it says of it.
+#[inline(always)]
 #[tactic(auto, unfolding(crate::specs::TraceReading::message_at))]
 pub(crate) fn message_at(bytes: &[u8], size: LineSize) -> Option<(Msg, &[u8])>
     ensures { option_map (λ x. (x.0, x.1.now)) result ≡ reads.message_at size bytes.now }

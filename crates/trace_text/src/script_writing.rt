@@ -1,111 +1,83 @@
 //! Writing a script.
-ghost use Rattle.std.specs.Prelude.{◌≡◌, ◌∷◌, ◌++◌, []};
+ghost use Rattle.std.specs.Prelude.{◌≡◌, ◌+◌, ◌≤◌, ◌∷◌, ◌++◌, [], length};
 ghost use Rattle.std.specs.List.{flat_map};
 ghost use Rattle.text_fields.specs.Fields.{number, word};
+ghost use Rattle.text_fields.specs.Pages.{size, HasRoom, Spells};
 ghost use Rattle.text_fields.specs.Writing.{Writes};
 ghost use Rattle.trace_text.specs.Scripts.{event as event_text, head as head_text, head_of, text};
 
 use crate::script::{Script, is_first_version};
-use crate::spellings::letter;
+use crate::spellings::spell_channel;
 use machine_model::Event;
 use std::io::{Result, Write};
-use text_fields::{Piece, put_pieces};
+use text_fields::Page;
 
-/// A hart and an address behind the line's first word.
-fn put_place<W: Write>(out: &mut W, first: &[u8], hart: u8, address: u32) -> Result<()>
-    ensures { Writes (W.contents out.old) (W.contents out.new) (first.now ++ (number 32 hart ++ (word address ++ 10 ∷ []))) result }
+/// A hart and an address, which end the line.
+fn spell_place(page: &mut Page, hart: u8, address: u32)
+    requires { length page.old + 32 ≤ size }
+    ensures { page.new ≡ page.old ++ (number 32 hart ++ (word address ++ 10 ∷ [])) }
 {
-    put_pieces(
-        out,
-        &[
-            Piece::Text(first),
-            Piece::Number(hart as u64),
-            Piece::Text(b" "),
-            Piece::Word(address),
-            Piece::Text(b"\n"),
-        ],
-    )
+    page.number(hart as u64, b' ');
+    page.word(address);
+    page.text(b"\n");
 }
 
-fn put_event<W: Write>(out: &mut W, event: Event) -> Result<()>
-    ensures { Writes (W.contents out.old) (W.contents out.new) (event_text event) result }
+fn spell_event(page: &mut Page, event: Event)
+    requires { HasRoom page.old }
+    ensures { page.new ≡ page.old ++ event_text event }
 {
     match event {
-        Event::Step { hart } => put_pieces(
-            out,
-            &[
-                Piece::Text(b"step "),
-                Piece::Number(hart as u64),
-                Piece::Text(b"\n"),
-            ],
-        ),
-        Event::Drain { hart, word } => put_place(out, b"drain ", hart, word),
-        Event::Evict { hart, line } => put_place(out, b"evict ", hart, line),
-        Event::Deliver { channel, hart } => put_pieces(
-            out,
-            &[
-                Piece::Text(b"deliver "),
-                letter(channel),
-                Piece::Number(hart as u64),
-                Piece::Text(b"\n"),
-            ],
-        ),
-        Event::Local { hart, count } => put_pieces(
-            out,
-            &[
-                Piece::Text(b"local "),
-                Piece::Number(hart as u64),
-                Piece::Text(b" "),
-                Piece::Number(count as u64),
-                Piece::Text(b"\n"),
-            ],
-        ),
+        Event::Step { hart } => {
+            page.text(b"step ");
+            page.number(hart as u64, b'\n');
+        }
+        Event::Drain { hart, word } => {
+            page.text(b"drain ");
+            spell_place(page, hart, word);
+        }
+        Event::Evict { hart, line } => {
+            page.text(b"evict ");
+            spell_place(page, hart, line);
+        }
+        Event::Deliver { channel, hart } => {
+            page.text(b"deliver ");
+            spell_channel(page, channel);
+            page.number(hart as u64, b'\n');
+        }
+        Event::Local { hart, count } => {
+            page.text(b"local ");
+            page.number(hart as u64, b' ');
+            page.number(count as u64, b'\n');
+        }
     }
 }
 
-fn put_head<W: Write>(out: &mut W, script: &Script) -> Result<()>
-    ensures { Writes (W.contents out.old) (W.contents out.new) (head_text (head_of script.now)) result }
+fn spell_head(page: &mut Page, script: &Script)
+    requires { HasRoom page.old }
+    ensures { page.new ≡ page.old ++ head_text (head_of script.now) }
 {
     if is_first_version(script.harts as u64, script.line) {
-        put_pieces(
-            out,
-            &[
-                Piece::Text(b"rvtl-script 1 "),
-                Piece::Number(script.harts as u64),
-                Piece::Text(b" "),
-                Piece::Number(script.kib as u64),
-                Piece::Text(b" "),
-                Piece::Number(script.sets as u64),
-                Piece::Text(b" "),
-                Piece::Number(script.ways as u64),
-                Piece::Text(b"\n"),
-            ],
-        )
+        page.text(b"rvtl-script 1 ");
+        page.number(script.harts as u64, b' ');
+        page.number(script.kib as u64, b' ');
+        page.number(script.sets as u64, b' ');
+        page.number(script.ways as u64, b'\n');
     } else {
-        put_pieces(
-            out,
-            &[
-                Piece::Text(b"rvtl-script 2 "),
-                Piece::Number(script.harts as u64),
-                Piece::Text(b" "),
-                Piece::Number(script.kib as u64),
-                Piece::Text(b" "),
-                Piece::Number(script.sets as u64),
-                Piece::Text(b" "),
-                Piece::Number(script.ways as u64),
-                Piece::Text(b" "),
-                Piece::Number(script.line as u64),
-                Piece::Text(b"\n"),
-            ],
-        )
+        page.text(b"rvtl-script 2 ");
+        page.number(script.harts as u64, b' ');
+        page.number(script.kib as u64, b' ');
+        page.number(script.sets as u64, b' ');
+        page.number(script.ways as u64, b' ');
+        page.number(script.line as u64, b'\n');
     }
 }
 
-fn put_events<W: Write>(out: &mut W, events: &[Event]) -> Result<()>
-    ensures { Writes (W.contents out.old) (W.contents out.new) (flat_map event_text events.now) result }
+fn put_events<W: Write>(page: &mut Page, out: &mut W, events: &[Event]) -> Result<()>
+    ensures { Spells (W.contents out.old) (W.contents out.new) page.old page.new (flat_map event_text events.now) result }
 {
     for event in events {
-        put_event(out, *event)?;
+        page.make_room(out)?;
+        spell_event(page, *event);
     }
     Ok(())
 }
@@ -115,6 +87,8 @@ fn put_events<W: Write>(out: &mut W, events: &[Event]) -> Result<()>
 pub fn write_script<W: Write>(script: &Script, out: &mut W) -> Result<()>
     ensures { Writes (W.contents out.old) (W.contents out.new) (text script.now) result }
 {
-    put_head(out, script)?;
-    put_events(out, script.events.as_slice())
+    let mut page = Page::new();
+    spell_head(&mut page, script);
+    put_events(&mut page, out, script.events.as_slice())?;
+    page.hand_on(out)
 }

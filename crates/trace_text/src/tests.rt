@@ -228,3 +228,78 @@ fn a_beginning_of_a_script_goes_out_before_a_fault(rt: HostRuntime) -> Result<()
     }
     Ok(())
 }
+
+/// Takes one byte at a time, and is interrupted before each.
+#[derive(Drop)]
+struct Interrupted {
+    now: bool,
+    taken: Vec<u8>,
+}
+
+impl Write for Interrupted {
+    fn write(&mut self, buf: &[u8]) -> IoResult<usize> {
+        self.now = !self.now;
+        if self.now {
+            return Err(Error::from(ErrorKind::Interrupted));
+        }
+        let [byte, ..] = buf else {
+            return Ok(0);
+        };
+        if self.taken.push(*byte).is_err() {
+            return Err(Error::from(ErrorKind::OutOfMemory));
+        }
+        Ok(1)
+    }
+
+    fn flush(&mut self) -> IoResult<()> {
+        Ok(())
+    }
+}
+
+#[test]
+fn an_interrupted_write_is_tried_again(rt: HostRuntime) -> Result<(), Fail> {
+    let (trace, _) = read_trace(rt.alloc(), texts::ROW_18)?;
+    let taken = Vec::new(rt.alloc());
+    let mut out = Interrupted { now: false, taken };
+    write_trace(&trace, &mut out)?;
+    assert_eq!(rt; out.taken.as_slice(), texts::ROW_18);
+    Ok(())
+}
+
+/// A script of every kind of line, of some 10,000 bytes.
+fn long_script(alloc: Global) -> Result<Vec<u8>, Fail> {
+    let mut text = b"rvtl-script 2 8 1024 64 4 64\n".to_vec(alloc)?;
+    for _ in 0..100 {
+        text.extend_from_slice(b"step 7\ndeliver E 200\ndrain 0 0x89abcdef\n")?;
+        text.extend_from_slice(b"evict 255 0xffffffff\nlocal 10 4294967295\nlocal 99 100\n")?;
+    }
+    Ok(text)
+}
+
+#[test]
+fn a_text_of_many_pages_goes_out_whole(rt: HostRuntime) -> Result<(), Fail> {
+    let text = long_script(rt.alloc())?;
+    let script = read_script(rt.alloc(), &text)?;
+    let taken = Vec::new(rt.alloc());
+    let mut out = Interrupted { now: false, taken };
+    write_script(&script, &mut out)?;
+    assert_eq!(rt; out.taken.as_slice(), text.as_slice());
+    Ok(())
+}
+
+#[test]
+fn a_beginning_of_many_pages_goes_out_before_a_fault(rt: HostRuntime) -> Result<(), Fail> {
+    let text = long_script(rt.alloc())?;
+    let script = read_script(rt.alloc(), &text)?;
+    for room in 0..text.len() {
+        if room % 61 == 0 {
+            let taken = Vec::new(rt.alloc());
+            let fails = room % 2 == 0;
+            let mut out = Narrow { room, fails, taken };
+            assert!(rt; write_script(&script, &mut out).is_err());
+            let (front, _) = text.split_at(room);
+            assert_eq!(rt; out.taken.as_slice(), front);
+        }
+    }
+    Ok(())
+}

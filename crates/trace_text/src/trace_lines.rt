@@ -1,6 +1,5 @@
 //! Reading the lines of a trace.
-ghost use Rattle.std.specs.Prelude.{◌≡◌, ◌<◌, length, false, IfSome};
-ghost use Rattle.std.specs.Fmt.{digit_glyph};
+ghost use Rattle.std.specs.Prelude.{◌≡◌, ◌<◌, length, IfSome};
 ghost use Rattle.std.specs.Option.{option_map};
 ghost use Rattle.tl_types.specs.Line.{length_of};
 ghost use Rattle.trace_text.specs.TraceHeads.{IsTraceHead};
@@ -13,7 +12,7 @@ use crate::script::is_first_version;
 use crate::trace_writing::any_set;
 use elf_loader::BASE;
 use hart::{Retired, Status};
-use text_fields::{after, hex_into, number_at, word_at};
+use text_fields::{after, hex_into, number_at, word_at, word_text};
 use tl_types::{Channel, LineSize};
 use trace_recorder::{Logged, OpId};
 
@@ -111,37 +110,12 @@ pub(crate) fn head_at(bytes: &[u8]) -> Option<(TraceHead, &[u8])>
     second_numbers_at(rest)
 }
 
-fn glyph(nibble: u8) -> u8
-    requires { nibble < 16 }
-    ensures { result ≡ digit_glyph false nibble }
-{
-    if nibble < 10 {
-        b'0' + nibble
-    } else {
-        b'a' + (nibble - 10)
-    }
-}
-
 /// What the line of the image at an address begins with.
 fn image_lead(address: u32) -> [u8; 13]
     ensures { result ≡ reads.image_lead address }
 {
-    let [a, b, c, d] = address.to_be_bytes();
-    [
-        b'I',
-        b' ',
-        b'0',
-        b'x',
-        glyph(a / 16),
-        glyph(a % 16),
-        glyph(b / 16),
-        glyph(b % 16),
-        glyph(c / 16),
-        glyph(c % 16),
-        glyph(d / 16),
-        glyph(d % 16),
-        b' ',
-    ]
+    let [zero, x, a, b, c, d, e, f, g, h] = word_text(address);
+    [b'I', b' ', zero, x, a, b, c, d, e, f, g, h, b' ']
 }
 
 /// The bytes of a line of the image, which are not all zero.
@@ -175,6 +149,7 @@ pub(crate) fn image_line_into<'a>(
     }
 }
 
+#[inline(always)]
 #[tactic(auto, unfolding(crate::specs::TraceReading::loaded_at))]
 fn loaded_at(bytes: &[u8]) -> Option<(Option<u32>, &[u8])>
     ensures { option_map (λ x. (x.0, x.1.now)) result ≡ words_at.loaded_at bytes.now }
@@ -186,6 +161,7 @@ fn loaded_at(bytes: &[u8]) -> Option<(Option<u32>, &[u8])>
     Some((Some(word), rest))
 }
 
+#[inline(always)]
 #[tactic(auto, unfolding(crate::specs::TraceReading::answer_at))]
 fn answer_at(bytes: &[u8]) -> Option<(Option<bool>, &[u8])>
     ensures { option_map (λ x. (x.0, x.1.now)) result ≡ words_at.answer_at bytes.now }
@@ -201,6 +177,7 @@ fn answer_at(bytes: &[u8]) -> Option<(Option<bool>, &[u8])>
 }
 
 /// A retired instruction, behind its hart.
+#[inline(always)]
 #[tactic(auto, unfolding(crate::specs::TraceLines::retired_at))]
 pub(crate) fn retired_at(bytes: &[u8]) -> Option<(Retired, &[u8])>
     ensures { option_map (λ x. (x.0, x.1.now)) result ≡ reads.retired_at bytes.now }
@@ -223,6 +200,7 @@ pub(crate) fn retired_at(bytes: &[u8]) -> Option<(Retired, &[u8])>
 }
 
 /// A performed operation of one of these harts, behind the line's first word.
+#[inline(always)]
 #[tactic(auto, unfolding(crate::specs::TraceLines::operation_at))]
 pub(crate) fn operation_at(bytes: &[u8], harts: u8) -> Option<(OpId, &[u8])>
     requires { 0 < harts }
@@ -267,6 +245,7 @@ fn letter_at(bytes: &[u8]) -> Option<(u8, &[u8])>
 }
 
 /// A message that was sent or taken, behind the line's first word. It stands on its own channel.
+#[inline(always)]
 #[tactic(auto, unfolding(crate::specs::TraceLines::logged_at))]
 pub(crate) fn logged_at(
     bytes: &[u8],

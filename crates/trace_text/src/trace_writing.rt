@@ -1,56 +1,41 @@
 //! Writing a trace.
-ghost use Rattle.std.specs.Prelude.{◌≡◌, ◌≤◌, ◌++◌, ◌/◌, length};
+ghost use Rattle.std.specs.Prelude.{◌≡◌, ◌+◌, ◌≤◌, ◌∷◌, ◌++◌, ◌/◌, [], codes, length};
 ghost use Rattle.elf_loader.specs.Size.{base};
 ghost use Rattle.trace_text.specs.Widths.{IsWidth};
 ghost use Rattle.std.specs.List.{flat_map};
-ghost use Rattle.text_fields.specs.Fields.{numbered};
-ghost use Rattle.text_fields.specs.Writing.{Writes, piece};
-ghost use Rattle.trace_text.specs.MessageParts.{data_of, payload_of};
+ghost use Rattle.text_fields.specs.Fields.{numbered, word, hex};
+ghost use Rattle.text_fields.specs.Pages.{size, HasRoom, Spells};
+ghost use Rattle.text_fields.specs.Writing.{Writes};
 ghost use Rattle.trace_text.specs.Traces as spelled;
 ghost use Rattle.trace_text.specs.Words as words;
 
 use crate::head::TraceHead;
 use crate::script::is_first_version;
-use crate::spellings::{data, direction, letter, name, permissions};
+use crate::spellings::{spell_channel, spell_data, spell_direction, spell_name, spell_permissions};
 use elf_loader::BASE;
 use hart::{Retired, Status};
 use std::io::{Result, Write};
-use text_fields::{Piece, put_pieces};
-use tl_types::Msg;
+use text_fields::Page;
 use trace_recorder::{Logged, OpId, Trace};
 
-fn put_head<W: Write>(out: &mut W, head: TraceHead) -> Result<()>
-    ensures { Writes (W.contents out.old) (W.contents out.new) (spelled.head head) result }
+fn spell_head(page: &mut Page, head: TraceHead)
+    requires { HasRoom page.old }
+    ensures { page.new ≡ page.old ++ spelled.head head }
 {
     let line = head.line.bytes();
     if is_first_version(head.harts as u64, line) {
-        put_pieces(
-            out,
-            &[
-                Piece::Text(b"rvtl-trace 1\nT "),
-                Piece::Number(head.harts as u64),
-                Piece::Text(b" "),
-                Piece::Number(head.kib as u64),
-                Piece::Text(b" "),
-                Piece::Word(head.entry),
-                Piece::Text(b"\n"),
-            ],
-        )
+        page.text(b"rvtl-trace 1\nT ");
+        page.number(head.harts as u64, b' ');
+        page.number(head.kib as u64, b' ');
+        page.word(head.entry);
+        page.text(b"\n");
     } else {
-        put_pieces(
-            out,
-            &[
-                Piece::Text(b"rvtl-trace 2\nT "),
-                Piece::Number(head.harts as u64),
-                Piece::Text(b" "),
-                Piece::Number(head.kib as u64),
-                Piece::Text(b" "),
-                Piece::Word(head.entry),
-                Piece::Text(b" "),
-                Piece::Number(line as u64),
-                Piece::Text(b"\n"),
-            ],
-        )
+        page.text(b"rvtl-trace 2\nT ");
+        page.number(head.harts as u64, b' ');
+        page.number(head.kib as u64, b' ');
+        page.word(head.entry);
+        page.text(b" ");
+        page.number(line as u64, b'\n');
     }
 }
 
@@ -67,204 +52,178 @@ pub(crate) fn any_set(bytes: &[u8]) -> bool
     false
 }
 
-fn put_image_line<W: Write>(out: &mut W, address: u32, bytes: &[u8]) -> Result<()>
-    ensures { Writes (W.contents out.old) (W.contents out.new) (spelled.image_line address bytes.now) result }
+/// A line of the image that isn't all zero.
+fn spell_set_line(page: &mut Page, address: u32, bytes: &[u8])
+    requires room { HasRoom page.old }
+    requires width { length bytes.now ≤ 64 }
+    ensures { page.new ≡ page.old ++ (codes "I " ++ (word address ++ (32 ∷ (hex bytes.now ++ 10 ∷ [])))) }
+{
+    page.text(b"I ");
+    page.word(address);
+    page.text(b" ");
+    page.hex(bytes);
+    page.text(b"\n");
+}
+
+fn spell_image_line(page: &mut Page, address: u32, bytes: &[u8])
+    requires room { HasRoom page.old }
+    requires width { length bytes.now ≤ 64 }
+    ensures { page.new ≡ page.old ++ spelled.image_line address bytes.now }
 {
     if any_set(bytes) {
-        put_pieces(
-            out,
-            &[
-                Piece::Text(b"I "),
-                Piece::Word(address),
-                Piece::Text(b" "),
-                Piece::Hex(bytes),
-                Piece::Text(b"\n"),
-            ],
-        )
-    } else {
-        Ok(())
+        spell_set_line(page, address, bytes);
     }
 }
 
-fn put_image<W: Write>(out: &mut W, bytes: &[u8], width: u32) -> Result<()>
+fn put_image<W: Write>(page: &mut Page, out: &mut W, bytes: &[u8], width: u32) -> Result<()>
     requires fits { length bytes.now ≤ 1048576 }
     requires width { IsWidth width }
-    ensures { Writes (W.contents out.old) (W.contents out.new) (spelled.image_lines width (length bytes.now / width) base bytes.now) result }
+    ensures { Spells (W.contents out.old) (W.contents out.new) page.old page.new (spelled.image_lines width (length bytes.now / width) base bytes.now) result }
 {
     let mut address = BASE;
     let mut rest = bytes;
     while rest.len() >= width as usize {
         let (line, others) = rest.split_at(width as usize);
-        put_image_line(out, address, line)?;
+        page.make_room(out)?;
+        spell_image_line(page, address, line);
         address += width;
         rest = others;
     }
     Ok(())
 }
 
-fn loaded_piece(word: Option<u32>) -> Piece<'static>
-    ensures { piece result ≡ words.loaded word }
+/// What a load, an LR or an AMO read.
+fn spell_loaded(page: &mut Page, word: Option<u32>)
+    requires { length page.old + 10 ≤ size }
+    ensures value { page.new ≡ page.old ++ words.loaded word }
+    ensures len { length page.new ≤ length page.old + 10 }
 {
     match word {
-        None => Piece::Text(b"-"),
-        Some(value) => Piece::Word(value),
+        None => page.text(b"-"),
+        Some(value) => page.word(value),
     }
 }
 
-fn answer_piece(sc_ok: Option<bool>) -> Piece<'static>
-    ensures { piece result ≡ words.answer sc_ok }
+/// Whether an SC wrote.
+fn spell_answer(page: &mut Page, sc_ok: Option<bool>)
+    requires { length page.old + 4 ≤ size }
+    ensures value { page.new ≡ page.old ++ words.answer sc_ok }
+    ensures len { length page.new ≤ length page.old + 4 }
 {
     match sc_ok {
-        None => Piece::Text(b"-"),
-        Some(true) => Piece::Text(b"ok"),
-        Some(false) => Piece::Text(b"fail"),
+        None => page.text(b"-"),
+        Some(true) => page.text(b"ok"),
+        Some(false) => page.text(b"fail"),
     }
 }
 
-fn put_retired<W: Write>(out: &mut W, hart: u64, entry: &Retired) -> Result<()>
-    ensures { Writes (W.contents out.old) (W.contents out.new) (spelled.retired_lead hart ++ spelled.retired entry.now) result }
+fn spell_retired(page: &mut Page, hart: u64, entry: &Retired)
+    requires { HasRoom page.old }
+    ensures { page.new ≡ page.old ++ (spelled.retired_lead hart ++ spelled.retired entry.now) }
 {
-    put_pieces(
-        out,
-        &[
-            Piece::Text(b"R "),
-            Piece::Number(hart),
-            Piece::Text(b" "),
-            Piece::Word(entry.pc),
-            Piece::Text(b" "),
-            Piece::Word(entry.word),
-            Piece::Text(b" "),
-            loaded_piece(entry.loaded),
-            Piece::Text(b" "),
-            answer_piece(entry.sc_ok),
-            Piece::Text(b"\n"),
-        ],
-    )
+    page.text(b"R ");
+    page.number(hart, b' ');
+    page.word(entry.pc);
+    page.text(b" ");
+    page.word(entry.word);
+    page.text(b" ");
+    spell_loaded(page, entry.loaded);
+    page.text(b" ");
+    spell_answer(page, entry.sc_ok);
+    page.text(b"\n");
 }
 
-fn put_list<W: Write>(out: &mut W, hart: u64, entries: &[Retired]) -> Result<()>
-    ensures { Writes (W.contents out.old) (W.contents out.new) (spelled.entries hart entries.now) result }
+fn put_list<W: Write>(page: &mut Page, out: &mut W, hart: u64, entries: &[Retired]) -> Result<()>
+    ensures { Spells (W.contents out.old) (W.contents out.new) page.old page.new (spelled.entries hart entries.now) result }
 {
     for entry in entries {
-        put_retired(out, hart, entry)?;
+        page.make_room(out)?;
+        spell_retired(page, hart, entry);
     }
     Ok(())
 }
 
-fn put_entries<W: Write>(out: &mut W, trace: &Trace) -> Result<()>
-    ensures { Writes (W.contents out.old) (W.contents out.new) (numbered spelled.entries 0 trace.now.history.entries) result }
+fn put_entries<W: Write>(page: &mut Page, out: &mut W, trace: &Trace) -> Result<()>
+    ensures { Spells (W.contents out.old) (W.contents out.new) page.old page.new (numbered spelled.entries 0 trace.now.history.entries) result }
 {
     for hart in 0..trace.harts() {
-        put_list(out, hart as u64, trace.entries(hart))?;
+        put_list(page, out, hart as u64, trace.entries(hart))?;
     }
     Ok(())
 }
 
-fn put_operation<W: Write>(out: &mut W, operation: OpId) -> Result<()>
-    ensures { Writes (W.contents out.old) (W.contents out.new) (spelled.operation operation) result }
+fn spell_operation(page: &mut Page, operation: OpId)
+    requires { HasRoom page.old }
+    ensures { page.new ≡ page.old ++ spelled.operation operation }
 {
-    put_pieces(
-        out,
-        &[
-            Piece::Text(b"P "),
-            Piece::Number(operation.hart as u64),
-            Piece::Text(b" "),
-            Piece::Number(operation.place as u64),
-            Piece::Text(b"\n"),
-        ],
-    )
+    page.text(b"P ");
+    page.number(operation.hart as u64, b' ');
+    page.number(operation.place as u64, b'\n');
 }
 
-fn put_performed<W: Write>(out: &mut W, performed: &[OpId]) -> Result<()>
-    ensures { Writes (W.contents out.old) (W.contents out.new) (flat_map spelled.operation performed.now) result }
+fn put_performed<W: Write>(page: &mut Page, out: &mut W, performed: &[OpId]) -> Result<()>
+    ensures { Spells (W.contents out.old) (W.contents out.new) page.old page.new (flat_map spelled.operation performed.now) result }
 {
     for operation in performed {
-        put_operation(out, *operation)?;
+        page.make_room(out)?;
+        spell_operation(page, *operation);
     }
     Ok(())
 }
 
-fn put_data<W: Write>(out: &mut W, message: &Msg) -> Result<()>
-    ensures { Writes (W.contents out.old) (W.contents out.new) (payload_of (data_of message.now.body)) result }
-{
-    match data(message) {
-        Some(bytes) => put_pieces(out, &[Piece::Text(b" "), Piece::Hex(bytes.as_slice())]),
-        None => Ok(()),
-    }
-}
-
-fn put_message<W: Write>(out: &mut W, entry: &Logged) -> Result<()>
-    ensures { Writes (W.contents out.old) (W.contents out.new) (spelled.logged entry.now) result }
+fn spell_logged(page: &mut Page, entry: &Logged)
+    requires { HasRoom page.old }
+    ensures { page.new ≡ page.old ++ spelled.logged entry.now }
 {
     let message = &entry.message;
-    put_pieces(
-        out,
-        &[
-            Piece::Text(b"M "),
-            direction(entry.direction),
-            letter(message.channel()),
-            Piece::Number(entry.hart as u64),
-            Piece::Text(b" "),
-            name(message),
-            Piece::Word(message.line),
-            permissions(message),
-        ],
-    )?;
-    put_data(out, message)?;
-    put_pieces(out, &[Piece::Text(b"\n")])
+    page.text(b"M ");
+    spell_direction(page, entry.direction);
+    spell_channel(page, message.channel());
+    page.number(entry.hart as u64, b' ');
+    spell_name(page, message);
+    page.word(message.line);
+    spell_permissions(page, message);
+    spell_data(page, message);
+    page.text(b"\n");
 }
 
-fn put_log<W: Write>(out: &mut W, log: &[Logged]) -> Result<()>
-    ensures { Writes (W.contents out.old) (W.contents out.new) (flat_map spelled.logged log.now) result }
+fn put_log<W: Write>(page: &mut Page, out: &mut W, log: &[Logged]) -> Result<()>
+    ensures { Spells (W.contents out.old) (W.contents out.new) page.old page.new (flat_map spelled.logged log.now) result }
 {
     for entry in log {
-        put_message(out, entry)?;
+        page.make_room(out)?;
+        spell_logged(page, entry);
     }
     Ok(())
 }
 
-fn put_status<W: Write>(out: &mut W, hart: u64, status: Status) -> Result<()>
-    ensures { Writes (W.contents out.old) (W.contents out.new) (spelled.status hart status) result }
+fn spell_status(page: &mut Page, hart: u64, status: Status)
+    requires { HasRoom page.old }
+    ensures { page.new ≡ page.old ++ spelled.status hart status }
 {
+    page.text(b"H ");
+    page.number(hart, b' ');
     match status {
-        Status::Running => put_pieces(
-            out,
-            &[
-                Piece::Text(b"H "),
-                Piece::Number(hart),
-                Piece::Text(b" run\n"),
-            ],
-        ),
-        Status::Stopped(code) => put_pieces(
-            out,
-            &[
-                Piece::Text(b"H "),
-                Piece::Number(hart),
-                Piece::Text(b" stop "),
-                Piece::Number(code as u64),
-                Piece::Text(b"\n"),
-            ],
-        ),
-        Status::Exited(code) => put_pieces(
-            out,
-            &[
-                Piece::Text(b"H "),
-                Piece::Number(hart),
-                Piece::Text(b" exit "),
-                Piece::Number(code as u64),
-                Piece::Text(b"\n"),
-            ],
-        ),
+        Status::Running => page.text(b"run\n"),
+        Status::Stopped(code) => {
+            page.text(b"stop ");
+            page.number(code as u64, b'\n');
+        }
+        Status::Exited(code) => {
+            page.text(b"exit ");
+            page.number(code as u64, b'\n');
+        }
     }
 }
 
-fn put_statuses<W: Write>(out: &mut W, statuses: &[Status]) -> Result<()>
-    ensures { Writes (W.contents out.old) (W.contents out.new) (numbered spelled.status 0 statuses.now) result }
+fn put_statuses<W: Write>(page: &mut Page, out: &mut W, statuses: &[Status]) -> Result<()>
+    ensures { Spells (W.contents out.old) (W.contents out.new) page.old page.new (numbered spelled.status 0 statuses.now) result }
 {
     let mut hart: u64 = 0;
     let mut rest = statuses;
     while let [status, others @ ..] = rest {
-        put_status(out, hart, *status)?;
+        page.make_room(out)?;
+        spell_status(page, hart, *status);
         hart += 1;
         rest = others;
     }
@@ -277,13 +236,14 @@ fn put_statuses<W: Write>(out: &mut W, statuses: &[Status]) -> Result<()>
 pub fn write_trace<W: Write>(trace: &Trace, out: &mut W) -> Result<()>
     ensures { Writes (W.contents out.old) (W.contents out.new) (spelled.text trace.now.history) result }
 {
-    let head = TraceHead::of(trace);
-    put_head(out, head)?;
+    let mut page = Page::new();
+    spell_head(&mut page, TraceHead::of(trace));
     let memory = trace.image().bytes();
     let width = trace.line_size().bytes();
-    put_image(out, memory, width)?;
-    put_entries(out, trace)?;
-    put_performed(out, trace.performed())?;
-    put_log(out, trace.log())?;
-    put_statuses(out, trace.statuses())
+    put_image(&mut page, out, memory, width)?;
+    put_entries(&mut page, out, trace)?;
+    put_performed(&mut page, out, trace.performed())?;
+    put_log(&mut page, out, trace.log())?;
+    put_statuses(&mut page, out, trace.statuses())?;
+    page.hand_on(out)
 }

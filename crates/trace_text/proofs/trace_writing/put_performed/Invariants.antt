@@ -1,8 +1,9 @@
-use Rattle.std.proofs.Common.{take}
+use Rattle.std.proofs.Common.{◌++◌, drop}
 use Rattle.std.specs.List.{flat_map}
-use Rattle.std.specs.Io.KnownBytes.{Appends}
 use Rattle.trace_text.specs.Traces.{operation}
+use Rattle.text_fields.proofs.Pages.{Spelling}
 use Rattle.trace_text.proofs.trace_writing.put_performed.Given as goal
 
 abbrev pub invariant-loop-operation : goal.invariant-loop-operation
-invariant-loop-operation g l = Appends (g.W.Write.contents l.initial.out) (g.W.Write.contents l.out) (flat_map operation (take l.operation-index l.performed))
+invariant-loop-operation g l =
+    Spelling (g.W.Write.contents l.initial.out) (g.W.Write.contents l.out) l.page (flat_map operation (drop l.operation-index l.performed)) (l.initial.page ++ flat_map operation l.performed)
