@@ -1,0 +1,11 @@
+//! Instructions as an assembler writes them, as `lw a4, 0(a2)`.
+#![tactic(auto)]
+
+mod mnemonics;
+mod operands;
+mod writing;
+
+pub use writing::write_assembly;
+
+#[cfg(test)]
+mod tests;

@@ -1,0 +1,184 @@
+-- How a list of events is told one event at a time.
+use Rattle.std.proofs.Common.{ℕ, ◌≡◌, ◌∙◌, ◌+◌, refl, sym, ap, List, [], ◌∷◌, ◌++◌, length, Bool, true, false, ◌==◌, Option, Ok, Err, inl, inr, arith, ◌-◌, ◌≤◌, get_or, take, drop, subst}
+use Rattle.std.proofs.lemmas.Bool.{eq-eqb, eqb-true}
+use Rattle.std.proofs.lemmas.List.{append-nil, append_assoc, length-append, length-drop, take_all}
+use Rattle.std.specs.Io.KnownBytes.{Appends}
+use Rattle.coherent_machine.specs.Machine.{Refuses}
+use Rattle.machine_model.specs.declared.event.Event.{Event}
+use Rattle.machine_model.specs.declared.outcome.Outcome.{Outcome}
+use Rattle.machine_model.specs.Events.{Verdict, happens, hart_of, verdict}
+use Rattle.machine_model.specs.Events.Verdict.{IsBad, Keeps, IsLimited, Moves}
+use Rattle.machine_model.specs.Laws.{ChangesAreCounted}
+use Rattle.machine_model.specs.Views.{State}
+use Rattle.machine_parts.specs.Applying.{Answers}
+use Rattle.machine_parts.specs.declared.errors.ApplyError.{ApplyError}
+use Rattle.machine_parts.specs.declared.errors.ApplyError.TheVariants.{BadEvent, Limit, NoMemory}
+use Rattle.text_fields.specs.Writing.{Begins}
+use Rattle.text_fields.proofs.Written.{appends_none, appends_then, begins_first, begins_then}
+use Rattle.event_stream.specs.declared.report.Lengths.{Lengths}
+use Rattle.event_stream.specs.declared.strictness.Strictness.{Strictness}
+use Rattle.event_stream.specs.declared.strictness.Strictness.TheVariants.{Lenient, Strict}
+use Rattle.event_stream.specs.Lines.{report_lines}
+use Rattle.event_stream.specs.Reports.{Report, Ending, ending, ending_by, report, reports, reports_by}
+use Rattle.event_stream.specs.Streams.{lines}
+use Rattle.event_stream.specs.Telling.{ends_at, lengths_of, report_behind}
+use Rattle.event_stream.specs.Writing.{IsCut}
+
+-- the events before the rest are told, as many as the index says, and lead here
+pub record Told (m : Strictness) (s : State) (events : List Event) (index : ℕ) (here : State) (rest : List Event) (old now : Option (List ℕ)) : Type 0 where
+  pub before : List Event
+  pub front : List ℕ
+  pub whole : before ++ rest ≡ events
+  pub place : length before ≡ index
+  pub ends : (more : List Event) → ending m 0 s (before ++ more) ≡ ending m index here more
+  pub lines_are : (more : List Event) → lines m 0 s (before ++ more) ≡ front ++ lines m index here more
+  pub sent : Appends old now front
+
+pub none_told : (m : Strictness) (s : State) (events : List Event) (old : Option (List ℕ)) → Told m s events 0 s events old old
+none_told m s events old = record { before = []; front = []; whole = refl; place = refl; ends = λ more. refl; lines_are = λ more. refl; sent = appends_none old }
+
+-- the first event and the others
+rest_is : {A : Type 0} (xs : List A) (d : A) → 1 ≤ length xs → xs ≡ get_or xs 0 d ∷ take (length xs - 1) (drop 1 xs)
+rest_is {A = A} [] d some = absurd (omega (arith, some))
+rest_is {A = A} (x ∷ xs) d some = ap (λ (r : List A). x ∷ r) (sym (take_all (length (x ∷ xs) - 1) (drop 1 (x ∷ xs)) (omega (arith, length-drop 1 (x ∷ xs)))))
+
+pub rest_place : {A : Type 0} (xs : List A) (index count : ℕ) → 1 ≤ length xs → index + length xs ≡ count → index + 1 + length (take (length xs - 1) (drop 1 xs)) ≡ count
+rest_place {A = A} xs index count some p =
+    let same = ap (λ (r : List A). length r) (take_all (length xs - 1) (drop 1 xs) (omega (arith, length-drop 1 xs))) in
+    omega (arith, some, p, same, length-drop 1 xs)
+
+pub next_of : (m : Strictness) (s : State) (events : List Event) (index : ℕ) (here : State) (rest : List Event) (d : Event) (old now : Option (List ℕ)) → 1 ≤ length rest
+    → Told m s events index here rest old now → Told m s events index here (get_or rest 0 d ∷ take (length rest - 1) (drop 1 rest)) old now
+next_of m s events index here rest d old now some p = subst (λ (r : List Event). Told m s events index here r old now) (rest_is rest d some) p
+
+-- ---- an event that is told
+
+changes_stay : (s new : State) → new ≡ s → (s.views.changes == new.views.changes) ≡ false → ⊥
+changes_stay s new e h = let same : (s.views.changes == new.views.changes) ≡ true = eq-eqb _ _ (sym (ap (λ (t : State). t.views.changes) e)) in cc
+
+goes_on : (v : Verdict) (m : Strictness) (s new : State) (o : Outcome) (i : ℕ) (rest : Ending) → Answers v s (Ok o) new → ends_at m s.views.changes new.views.changes ≡ false → ending_by v m i rest ≡ rest
+goes_on IsBad m s new o i rest a h = absurd (cc (a.0))
+goes_on (Keeps p) Lenient s new o i rest a h = refl
+goes_on (Keeps p) Strict s new o i rest a h = absurd (changes_stay s new a.1 h)
+goes_on IsLimited m s new o i rest a h = absurd (cc (a.0))
+goes_on (Moves p moved) m s new o i rest a h = refl
+
+is_reported : (v : Verdict) (m : Strictness) (s new : State) (e : Event) (o : Outcome) (i : ℕ) (rest : List Report) → Answers v s (Ok o) new → ends_at m s.views.changes new.views.changes ≡ false → reports_by v m i s e rest ≡ report i s e o ∷ rest
+is_reported IsBad m s new e o i rest a h = absurd (cc (a.0))
+is_reported (Keeps p) Lenient s new e o i rest a h = let same : p ≡ o = cc (a.0) in ap (λ (q : Outcome). report i s e q ∷ rest) same
+is_reported (Keeps p) Strict s new e o i rest a h = absurd (changes_stay s new a.1 h)
+is_reported IsLimited m s new e o i rest a h = absurd (cc (a.0))
+is_reported (Moves p moved) m s new e o i rest a h =
+    elim a [ inl x ↦ (let same : p ≡ o = cc (x.0) in ap (λ (q : Outcome). report i s e q ∷ rest) same) | inr x ↦ absurd (cc (x.0)) ]
+
+lines_more : (m : Strictness) (i : ℕ) (s new : State) (e : Event) (o : Outcome) (more : List Event) → Answers (verdict s e) s (Ok o) new → ends_at m s.views.changes new.views.changes ≡ false
+    → lines m i s (e ∷ more) ≡ report_lines (report i s e o) ++ lines m (i + 1) (happens s e) more
+lines_more m i s new e o more a h = rw (is_reported (verdict s e) m s new e o i (reports m (i + 1) (happens s e) more) a h) refl
+
+-- what is told of an event, from the lengths before it
+pub behind : (b : Lengths) (h : ℕ) (x : Report) (here new : State) (index : ℕ) (e : Event) (o : Outcome) → b ≡ lengths_of here h → h ≡ hart_of e → new ≡ happens here e → x ≡ report_behind b new index e o → x ≡ report index here e o
+behind b h x here new index e o eb eh en ex =
+    ex
+    ∙ ap (λ (c : Lengths). report_behind c new index e o) (eb ∙ ap (lengths_of here) eh)
+    ∙ ap (λ (s : State). report_behind (lengths_of here (hart_of e)) s index e o) en
+
+pub one_told : (m : Strictness) (s : State) (events : List Event) (index : ℕ) (here new : State) (event : Event) (rest : List Event) (o : Outcome) (old now then : Option (List ℕ))
+    → Told m s events index here (event ∷ rest) old now → Answers (verdict here event) here (Ok o) new → new ≡ happens here event
+    → ends_at m here.views.changes new.views.changes ≡ false → Appends now then (report_lines (report index here event o))
+    → Told m s events (index + 1) new rest old then
+one_told m s events index here new event rest o old now then p a n h w = record {
+  before = p.before ++ event ∷ [];
+  front = p.front ++ report_lines (report index here event o);
+  whole = append_assoc p.before (event ∷ []) rest ∙ p.whole;
+  place = length-append p.before (event ∷ []) ∙ ap (λ (k : ℕ). k + 1) p.place;
+  ends = λ more.
+      ap (ending m 0 s) (append_assoc p.before (event ∷ []) more)
+      ∙ (p.ends (event ∷ more)
+      ∙ (goes_on (verdict here event) m here new o index (ending m (index + 1) (happens here event) more) a h
+      ∙ ap (λ (t : State). ending m (index + 1) t more) (sym n)));
+  lines_are = λ more.
+      ap (lines m 0 s) (append_assoc p.before (event ∷ []) more)
+      ∙ (p.lines_are (event ∷ more)
+      ∙ (ap (λ (t : List ℕ). p.front ++ t) (lines_more m index here new event o more a h)
+      ∙ (sym (append_assoc p.front (report_lines (report index here event o)) (lines m (index + 1) (happens here event) more))
+      ∙ ap (λ (t : State). (p.front ++ report_lines (report index here event o)) ++ lines m (index + 1) t more) (sym n))));
+  sent = appends_then old now then p.front (report_lines (report index here event o)) p.sent w;
+}
+
+pub fails_next : (m : Strictness) (s : State) (events : List Event) (index : ℕ) (here new : State) (event : Event) (rest : List Event) (o : Outcome) (old now then : Option (List ℕ))
+    → Told m s events index here (event ∷ rest) old now → Answers (verdict here event) here (Ok o) new
+    → ends_at m here.views.changes new.views.changes ≡ false → Begins now then (report_lines (report index here event o))
+    → Begins old then (lines m 0 s events)
+fails_next m s events index here new event rest o old now then p a h w =
+    let told = report_lines (report index here event o) in
+    let later = lines m (index + 1) (happens here event) rest in
+    let whole : lines m 0 s events ≡ p.front ++ (told ++ later) =
+    ap (lines m 0 s) (sym p.whole) ∙ (p.lines_are (event ∷ rest) ∙ ap (λ (t : List ℕ). p.front ++ t) (lines_more m index here new event o rest a h)) in
+    subst (Begins old then) (sym whole) (begins_then old now then p.front (told ++ later) p.sent (begins_first now then told later w))
+
+pub all_told : (m : Strictness) (s : State) (events : List Event) (index : ℕ) (here : State) (old now : Option (List ℕ)) → Told m s events index here [] old now
+    → (ending m 0 s events ≡ Ending.Reached here) × Appends old now (lines m 0 s events)
+all_told m s events index here old now p = (
+  ap (ending m 0 s) (sym p.whole) ∙ p.ends [],
+  subst (Appends old now) (sym (ap (lines m 0 s) (sym p.whole) ∙ (p.lines_are [] ∙ append-nil p.front))) p.sent,
+)
+
+-- ---- an event at which the stream ends
+
+cut_at : (m : Strictness) (s : State) (events : List Event) (index : ℕ) (here : State) (event : Event) (rest : List Event) (old now : Option (List ℕ)) (IsSuch : Verdict → Type 0)
+    → Told m s events index here (event ∷ rest) old now → IsSuch (verdict here event) → IsCut m s events index IsSuch (lines m 0 s) old now
+cut_at m s events index here event rest old now IsSuch p h = record {
+  before = p.before;
+  event = event;
+  later = rest;
+  state = here;
+  whole = p.whole;
+  place = p.place;
+  leads = ap (ending m 0 s) (sym (append-nil p.before)) ∙ p.ends [];
+  such = h;
+  sent = subst (Appends old now) (sym (ap (lines m 0 s) (sym (append-nil p.before)) ∙ (p.lines_are [] ∙ append-nil p.front))) p.sent;
+}
+
+refuses : (v : Verdict) (s new : State) (error : ApplyError) → Answers v s (Err error) new → Refuses error v
+refuses IsBad s new BadEvent a = refl
+refuses IsBad s new Limit a = absurd (cc (a.0))
+refuses IsBad s new NoMemory a = absurd (cc (a.0))
+refuses (Keeps o) s new error a = absurd (cc (a.0))
+refuses IsLimited s new BadEvent a = absurd (cc (a.0))
+refuses IsLimited s new Limit a = refl
+refuses IsLimited s new NoMemory a = absurd (cc (a.0))
+refuses (Moves o moved) s new BadEvent a = elim a [ inl x ↦ absurd (cc (x.0)) | inr x ↦ absurd (cc (x.0)) ]
+refuses (Moves o moved) s new Limit a = elim a [ inl x ↦ absurd (cc (x.0)) | inr x ↦ absurd (cc (x.0)) ]
+refuses (Moves o moved) s new NoMemory a = elim a [ inl x ↦ absurd (cc (x.0)) | inr x ↦ x.2 ]
+
+pub refused_next : (m : Strictness) (s : State) (events : List Event) (index : ℕ) (here new : State) (event : Event) (rest : List Event) (error : ApplyError) (old now : Option (List ℕ))
+    → Told m s events index here (event ∷ rest) old now → Answers (verdict here event) here (Err error) new
+    → IsCut m s events index (Refuses error) (lines m 0 s) old now
+refused_next m s events index here new event rest error old now p a = cut_at m s events index here event rest old now (Refuses error) p (refuses (verdict here event) here new error a)
+
+is_strict : (m : Strictness) (before now : ℕ) → ends_at m before now ≡ true → m ≡ Strict
+is_strict Lenient before now h = absurd (cc (h))
+is_strict Strict before now h = refl
+
+unchanged : (m : Strictness) (before now : ℕ) → ends_at m before now ≡ true → before ≡ now
+unchanged Lenient before now h = absurd (cc (h))
+unchanged Strict before now h = eqb-true before now h
+
+keeps : (v : Verdict) (s new : State) (o : Outcome) → Answers v s (Ok o) new → ((p : Outcome) (moved : State) → v ≡ Moves p moved → moved.views.changes ≡ s.views.changes + 1) → s.views.changes ≡ new.views.changes → v ≡ Keeps o
+keeps IsBad s new o a counted same = absurd (cc (a.0))
+keeps (Keeps p) s new o a counted same = let q : p ≡ o = cc (a.0) in ap Keeps q
+keeps IsLimited s new o a counted same = absurd (cc (a.0))
+keeps (Moves p moved) s new o a counted same =
+    elim a [ inl x ↦ (let more = counted p moved refl in let here = ap (λ (t : State). t.views.changes) x.1 in absurd (omega (arith, more, here, same))) | inr x ↦ absurd (cc (x.0)) ]
+
+pub idle_next : ChangesAreCounted → (m : Strictness) (s : State) (events : List Event) (index : ℕ) (here new : State) (event : Event) (rest : List Event) (o : Outcome) (old now : Option (List ℕ))
+    → Told m s events index here (event ∷ rest) old now → Answers (verdict here event) here (Ok o) new → ends_at m here.views.changes new.views.changes ≡ true
+    → (m ≡ Strict) × IsCut m s events index (λ v. v ≡ Keeps o) (lines m 0 s) old now
+idle_next counted m s events index here new event rest o old now p a h = (
+  is_strict m _ _ h,
+  cut_at m s events index here event rest old now (λ v. v ≡ Keeps o) p (keeps (verdict here event) here new o a (counted here event) (unchanged m _ _ h)),
+)
+
+-- whether a stream ends, by numbers that are a state's
+pub ends_is : (m : Strictness) (before now : ℕ) (result wanted : Bool) (here new : State) → result ≡ ends_at m before now → result ≡ wanted → before ≡ here.views.changes → now ≡ new.views.changes → ends_at m here.views.changes new.views.changes ≡ wanted
+ends_is m before now result wanted here new e w eb en = sym (e ∙ (ap (λ (n : ℕ). ends_at m n now) eb ∙ ap (ends_at m here.views.changes) en)) ∙ w

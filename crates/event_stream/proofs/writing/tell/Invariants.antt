@@ -1,0 +1,12 @@
+use Rattle.std.proofs.Common.{◌≡◌, ◌+◌, length}
+use Rattle.event_stream.proofs.Telling.{Told}
+use Rattle.event_stream.proofs.writing.tell.Given as goal
+
+abbrev pub invariant-loop-rest : goal.invariant-loop-rest
+invariant-loop-rest g l = record {
+  told : Told l.fn.strictness l.fn.machine l.fn.events l.index l.machine l.rest (g.W.Write.contents l.initial.out) (g.W.Write.contents l.out);
+  place : l.index + length l.rest ≡ length l.fn.events;
+}
+
+abbrev pub decreases-loop-rest : goal.decreases-loop-rest
+decreases-loop-rest g l = length l.rest

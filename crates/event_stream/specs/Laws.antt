@@ -1,0 +1,29 @@
+-- What the lines of a stream are together: a trace's.
+use Rattle.std.specs.Prelude.{ℕ, ◌≡◌, ◌==◌, List, [], if◌then◌else◌}
+use Rattle.std.specs.List.{flat_map}
+use Rattle.coherent_machine.specs.Machine.{Replayed, replayed_from}
+use Rattle.elf_loader.specs.Image.{Initial}
+use Rattle.hart.specs.declared.retired.Retired.{Retired}
+use Rattle.machine_model.specs.declared.config.Config.{Config}
+use Rattle.machine_model.specs.declared.event.Event.{Event}
+use Rattle.machine_model.specs.Events.{hart_of}
+use Rattle.machine_model.specs.Views.{State, opening}
+use Rattle.trace_recorder.specs.History.{History, entries_of}
+use Rattle.event_stream.specs.declared.strictness.Strictness.{Strictness}
+use Rattle.event_stream.specs.Reports.{Report, Ending, ending, reports}
+
+-- what a report tells of a hart's instructions
+abbrev pub entries_in : ℕ → Report → List Retired
+entries_in h r = if hart_of r.event == h then r.entries else []
+
+-- the instructions of each hart, the performed operations and the messages of all reports, in their order, are the trace's
+pub record AreOfTrace (told : List Report) (t : History) : Type 0 where
+  pub entries : (h : ℕ) → flat_map (entries_in h) told ≡ entries_of t h
+  pub performed : flat_map (λ r. r.performed) told ≡ t.performed
+  pub log : flat_map (λ r. r.log) told ≡ t.log
+
+-- a stream that tells all events ends where a replay of them does, and tells the whole trace and nothing else
+abbrev pub StreamIsTheTrace : Type 0
+StreamIsTheTrace = (strictness : Strictness) (image : Initial) (config : Config) (events : List Event) (s : State)
+    → ending strictness 0 (opening image config) events ≡ Ending.Reached s
+    → (replayed_from 0 (opening image config) events ≡ Replayed.Reached s) × AreOfTrace (reports strictness 0 (opening image config) events) s.trace

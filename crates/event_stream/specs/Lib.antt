@@ -1,0 +1,7 @@
+pub mod Outcomes
+pub mod Reports
+pub mod Lines
+pub mod Streams
+pub mod Writing
+pub mod Telling
+pub mod Laws

@@ -1,0 +1,46 @@
+-- The lines of a report.
+use Rattle.std.specs.Prelude.{ℕ, ◌+◌, ◌-◌, List, [], ◌∷◌, ◌++◌, Option, Some, None, length, take, codes, decimal}
+use Rattle.std.specs.List.{flat_map}
+use Rattle.assembly.specs.Assembly.{assembly}
+use Rattle.hart.specs.declared.retired.Retired.{Retired}
+use Rattle.machine_model.specs.declared.event.Event.{Event}
+use Rattle.machine_model.specs.declared.outcome.Outcome.{Outcome}
+use Rattle.machine_model.specs.Events.{hart_of}
+use Rattle.rv32_decode.specs.Rows.{decoded}
+use Rattle.rv32_decode.specs.declared.instruction.Instr.{Instr}
+use Rattle.text_fields.specs.Fields.{number}
+use Rattle.trace_text.specs.Scripts as script
+use Rattle.trace_text.specs.Traces as trace
+use Rattle.event_stream.specs.Outcomes.{outcome}
+use Rattle.event_stream.specs.Reports.{Report}
+
+-- a line without the line feed that ends it
+abbrev pub unended : List ℕ → List ℕ
+unended line = take (length line - 1) line
+
+-- the event as its script spells it, behind the number of its line there; and its outcome
+abbrev pub line_of : List ℕ → Event → Outcome → List ℕ
+line_of line e o = codes "E " ++ (line ++ (32 ∷ (unended (script.event e) ++ (32 ∷ (outcome o ++ 10 ∷ [])))))
+
+-- lines are counted from 1, and the script's first line is its head
+abbrev pub event_line : ℕ → Event → Outcome → List ℕ
+event_line index e o = line_of (decimal (index + 2)) e o
+
+-- the instruction as an assembler writes it
+abbrev pub disassembled : ℕ → Option Instr → List ℕ
+disassembled pc None = []
+disassembled pc (Some i) = codes " ; " ++ assembly (Some pc) i
+
+-- a trace's R line, and the instruction behind it
+abbrev pub retired_line : ℕ → Retired → List ℕ
+retired_line h r = unended (trace.retired_lead h ++ trace.retired r) ++ (disassembled r.pc (decoded r.word) ++ 10 ∷ [])
+
+-- a number that a hart put out
+abbrev pub output_line : ℕ → ℕ → List ℕ
+output_line h n = codes "O " ++ (number 32 h ++ number 10 n)
+
+-- an event's line, and the lines of what it made longer
+abbrev pub report_lines : Report → List ℕ
+report_lines r =
+    event_line r.index r.event r.outcome ++ (flat_map (retired_line (hart_of r.event)) r.entries
+    ++ (flat_map trace.operation r.performed ++ (flat_map trace.logged r.log ++ flat_map (output_line (hart_of r.event)) r.output)))

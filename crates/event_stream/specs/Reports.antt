@@ -1,0 +1,77 @@
+-- What each event of a script came to, and how a script's events end.
+use Rattle.std.specs.Prelude.{ℕ, ◌+◌, List, [], ◌∷◌, length, drop}
+use Rattle.hart.specs.declared.retired.Retired.{Retired}
+use Rattle.machine_model.specs.declared.event.Event.{Event}
+use Rattle.machine_model.specs.declared.outcome.Outcome.{Outcome}
+use Rattle.machine_model.specs.Events.{Verdict, happens, hart_of, verdict}
+use Rattle.machine_model.specs.Events.Verdict.{IsBad, Keeps, IsLimited, Moves}
+use Rattle.machine_model.specs.Views.{State, node_at}
+use Rattle.machine_parts.specs.declared.errors.ApplyError.{ApplyError}
+use Rattle.machine_parts.specs.declared.errors.ApplyError.TheVariants.{BadEvent, Limit}
+use Rattle.trace_recorder.specs.declared.operation.OpId.{OpId}
+use Rattle.trace_recorder.specs.declared.logged.Logged.{Logged}
+use Rattle.trace_recorder.specs.History.{entries_of}
+use Rattle.event_stream.specs.declared.strictness.Strictness.{Strictness}
+use Rattle.event_stream.specs.declared.strictness.Strictness.TheVariants.{Lenient, Strict}
+
+-- an event, counted from 0 in its script, and its outcome; and by what it made longer its hart's list of retired instructions, the performed order, the log, and what its hart put out
+pub record Report : Type 0 where
+  pub index : ℕ
+  pub event : Event
+  pub outcome : Outcome
+  pub entries : List Retired
+  pub performed : List OpId
+  pub log : List Logged
+  pub output : List ℕ
+
+-- what a list has that it had not before
+abbrev pub grown : {A : Type 0} → List A → List A → List A
+grown old new = drop (length old) new
+
+abbrev pub outputs_of : State → ℕ → List ℕ
+outputs_of s h = (node_at s h).output
+
+-- the report of an event of this outcome that leads from one state to another
+abbrev pub report_between : State → State → ℕ → Event → Outcome → Report
+report_between old new index e o = record {
+  index = index;
+  event = e;
+  outcome = o;
+  entries = grown (entries_of old.trace (hart_of e)) (entries_of new.trace (hart_of e));
+  performed = grown old.trace.performed new.trace.performed;
+  log = grown old.trace.log new.trace.log;
+  output = grown (outputs_of old (hart_of e)) (outputs_of new (hart_of e));
+}
+
+abbrev pub report : ℕ → State → Event → Outcome → Report
+report index s e o = report_between s (happens s e) index e o
+
+-- a stream has no report of an event that is refused, nor of what stands behind it; a strict one ends likewise at an event that changes nothing
+abbrev pub reports_by : Verdict → Strictness → ℕ → State → Event → List Report → List Report
+reports_by IsBad strictness index s e rest = []
+reports_by IsLimited strictness index s e rest = []
+reports_by (Keeps o) Lenient index s e rest = report index s e o ∷ rest
+reports_by (Keeps o) Strict index s e rest = []
+reports_by (Moves o new) strictness index s e rest = report index s e o ∷ rest
+
+-- the reports of events, the first of which has this index
+abbrev pub reports : Strictness → ℕ → State → List Event → List Report
+reports strictness index s [] = []
+reports strictness index s (e ∷ events) = reports_by (verdict s e) strictness index s e (reports strictness (index + 1) (happens s e) events)
+
+-- how events end: all were told, and led to a state; or the one of this index is refused; or under Strict it changes nothing
+pub data Ending : Type 0 where
+  Reached : (state : State) → Ending
+  Refused : (index : ℕ) (error : ApplyError) → Ending
+  Idle : (index : ℕ) (outcome : Outcome) → Ending
+
+abbrev pub ending_by : Verdict → Strictness → ℕ → Ending → Ending
+ending_by IsBad strictness index rest = Ending.Refused index BadEvent
+ending_by IsLimited strictness index rest = Ending.Refused index Limit
+ending_by (Keeps o) Lenient index rest = rest
+ending_by (Keeps o) Strict index rest = Ending.Idle index o
+ending_by (Moves o new) strictness index rest = rest
+
+abbrev pub ending : Strictness → ℕ → State → List Event → Ending
+ending strictness index s [] = Ending.Reached s
+ending strictness index s (e ∷ events) = ending_by (verdict s e) strictness index (ending strictness (index + 1) (happens s e) events)

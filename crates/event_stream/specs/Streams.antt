@@ -1,0 +1,43 @@
+-- The stream of a script: what each event did, in event order.
+use Rattle.std.specs.Prelude.{ℕ, ◌/◌, List, [], ◌∷◌, ◌++◌, if◌then◌else◌, codes, length}
+use Rattle.std.specs.List.{flat_map}
+use Rattle.elf_loader.specs.Image.{Initial}
+use Rattle.machine_model.specs.declared.config.Config.{Config}
+use Rattle.machine_model.specs.declared.event.Event.{Event}
+use Rattle.machine_model.specs.Views.{State, opening}
+use Rattle.text_fields.specs.Fields.{number, word, numbered}
+use Rattle.tl_types.specs.Line.{length_of}
+use Rattle.trace_recorder.specs.History.{History}
+use Rattle.trace_text.specs.Scripts.{is_first_version}
+use Rattle.trace_text.specs.Traces.{image, status}
+use Rattle.event_stream.specs.declared.strictness.Strictness.{Strictness}
+use Rattle.event_stream.specs.Lines.{report_lines}
+use Rattle.event_stream.specs.Reports.{Ending, ending, reports}
+use Rattle.event_stream.specs.Reports.Ending.{Reached, Refused, Idle}
+
+-- the first two lines, of a machine's harts, its memory in KiB, the address at which the harts begin and how many bytes a line has: as in a trace, but for the first word
+abbrev pub head : ℕ → ℕ → ℕ → ℕ → List ℕ
+head harts kib entry line =
+    if is_first_version harts line then codes "rvtl-stream 1\nT " ++ (number 32 harts ++ (number 32 kib ++ (word entry ++ 10 ∷ [])))
+    else codes "rvtl-stream 2\nT " ++ (number 32 harts ++ (number 32 kib ++ ((word entry ++ 32 ∷ []) ++ number 10 line)))
+
+-- the head, and memory at reset as in a trace
+abbrev pub opening_lines : History → List ℕ
+opening_lines t = head (length t.statuses) (length t.image.bytes / 1024) t.image.entry (length_of t.line) ++ image t.line t.image.bytes
+
+-- the lines of events, the first of which has this index
+abbrev pub lines : Strictness → ℕ → State → List Event → List ℕ
+lines strictness index s events = flat_map report_lines (reports strictness index s events)
+
+-- each hart's H line, where all events were told
+abbrev pub closing_lines : Ending → List ℕ
+closing_lines (Reached s) = numbered status 0 s.trace.statuses
+closing_lines (Refused index error) = []
+closing_lines (Idle index o) = []
+
+-- a stream up to here: its head, and the lines of these events
+abbrev pub stream_up_to : Strictness → Initial → Config → List Event → List ℕ
+stream_up_to strictness i config events = opening_lines (opening i config).trace ++ lines strictness 0 (opening i config) events
+
+abbrev pub stream_of : Strictness → Initial → Config → List Event → List ℕ
+stream_of strictness i config events = stream_up_to strictness i config events ++ closing_lines (ending strictness 0 (opening i config) events)

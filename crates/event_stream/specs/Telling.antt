@@ -1,0 +1,52 @@
+-- How the writer of events sees a report and the events that it told.
+use Rattle.std.specs.Prelude.{ℕ, ◌≡◌, Bool, false, ◌==◌, List, length, drop, Option, Result, Ok, Err}
+use Rattle.std.specs.Io.KnownBytes.{Appends}
+use Rattle.coherent_machine.specs.Machine.{Refuses}
+use Rattle.machine_model.specs.declared.event.Event.{Event}
+use Rattle.machine_model.specs.declared.outcome.Outcome.{Outcome}
+use Rattle.machine_model.specs.Events.{hart_of}
+use Rattle.machine_model.specs.Events.Verdict.{Keeps}
+use Rattle.machine_model.specs.Views.{State}
+use Rattle.text_fields.specs.Writing.{Begins}
+use Rattle.trace_recorder.specs.History.{entries_of}
+use Rattle.event_stream.specs.declared.errors.StreamError.{StreamError}
+use Rattle.event_stream.specs.declared.errors.StreamError.TheVariants as errors
+use Rattle.event_stream.specs.declared.report.Lengths.{Lengths}
+use Rattle.event_stream.specs.declared.report.Report.{Report as Borrowed}
+use Rattle.event_stream.specs.declared.strictness.Strictness.{Strictness}
+use Rattle.event_stream.specs.declared.strictness.Strictness.TheVariants.{Lenient, Strict}
+use Rattle.event_stream.specs.Reports.{Report, Ending, ending, outputs_of}
+use Rattle.event_stream.specs.Streams.{lines}
+use Rattle.event_stream.specs.Writing.{IsCut}
+
+abbrev pub report_of : Borrowed → Report
+report_of r = record { index = r.index; event = r.event; outcome = r.outcome; entries = r.entries.now; performed = r.performed.now; log = r.log.now; output = r.output.now }
+
+-- how long the lists of a hart and of all are, and how many events changed the machine
+abbrev pub lengths_of : State → ℕ → Lengths
+lengths_of s h = record { entries = length (entries_of s.trace h); performed = length s.trace.performed; log = length s.trace.log; output = length (outputs_of s h); changes = s.views.changes }
+
+-- what stands behind these lengths
+abbrev pub report_behind : Lengths → State → ℕ → Event → Outcome → Report
+report_behind before new index e o = record {
+  index = index;
+  event = e;
+  outcome = o;
+  entries = drop before.entries (entries_of new.trace (hart_of e));
+  performed = drop before.performed new.trace.performed;
+  log = drop before.log new.trace.log;
+  output = drop before.output (outputs_of new (hart_of e));
+}
+
+-- a stream ends behind as many changes as before
+abbrev pub ends_at : Strictness → ℕ → ℕ → Bool
+ends_at Strict before now = before == now
+ends_at Lenient before now = false
+
+-- what became of telling events
+abbrev pub IsTold : Strictness → State → List Event → Option (List ℕ) → Option (List ℕ) → Result (Unit {0}) StreamError → State → Type 0
+IsTold strictness s events old new (Ok _) reached = (ending strictness 0 s events ≡ Ending.Reached reached) × Appends old new (lines strictness 0 s events)
+IsTold strictness s events old new (Err (errors.New error)) reached = ⊥
+IsTold strictness s events old new (Err (errors.Refused index error)) reached = IsCut strictness s events index (Refuses error) (lines strictness 0 s) old new
+IsTold strictness s events old new (Err (errors.Idle index o)) reached = (strictness ≡ Strict) × IsCut strictness s events index (λ v. v ≡ Keeps o) (lines strictness 0 s) old new
+IsTold strictness s events old new (Err (errors.Writing fault)) reached = Begins old new (lines strictness 0 s events)

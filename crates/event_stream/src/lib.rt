@@ -1,0 +1,20 @@
+//! What each event of a script did, in event order: a stream of lines, those of a trace below the event
+//! that made the trace longer by them.
+#![tactic(auto)]
+
+mod errors;
+mod laws;
+mod report;
+mod report_writing;
+mod spellings;
+mod strictness;
+mod trace_lines;
+mod writing;
+
+pub use errors::StreamError;
+pub use laws::stream_is_the_trace;
+pub use strictness::Strictness;
+pub use writing::write_stream;
+
+#[cfg(test)]
+mod tests;
