@@ -1,0 +1,9 @@
+/* What a C program can ask of the machine. */
+
+/* Puts a number out. */
+static inline void put_out(unsigned number)
+{
+    register unsigned a0 __asm__("a0") = number;
+    register unsigned a7 __asm__("a7") = 1;
+    __asm__ volatile("ecall" : : "r"(a0), "r"(a7) : "memory");
+}

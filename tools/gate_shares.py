@@ -1,0 +1,80 @@
+#!/usr/bin/env python3
+"""Runs the gate, and tells how many processor seconds each crate's proof, tests and edits took.
+
+usage: tools/gate_shares.py [COMMAND..]     (from the top of the repository; COMMAND is `rt ci` where none is given)
+
+It looks twice a second at the processes of the toolchain that run below the command, by Linux's /proc, and
+adds up the processor time that each had taken when it was last seen. So a process's last half second isn't
+counted, and what runs beside the toolchain's own program (the linker, the tests) stands under `other`.
+The command's output goes to standard output; the shares follow it.
+"""
+import collections
+import os
+import subprocess
+import sys
+import time
+
+TICK = os.sysconf("SC_CLK_TCK")
+
+
+def children_of():
+    """Returns each process's parent, by /proc."""
+    parents = {}
+    for name in filter(str.isdigit, os.listdir("/proc")):
+        try:
+            with open(f"/proc/{name}/stat") as file:
+                fields = file.read().rpartition(")")[2].split()
+        except OSError:
+            continue
+        parents[int(name)] = (int(fields[1]), (int(fields[11]) + int(fields[12])) / TICK)
+    return parents
+
+
+def below(top, parents):
+    """Returns the processes that the one at the top started, directly or not, with their seconds."""
+    found, grown = {top}, True
+    while grown:
+        more = {pid for pid, (parent, _) in parents.items() if parent in found and pid not in found}
+        found, grown = found | more, bool(more)
+    return {pid: parents[pid][1] for pid in found if pid in parents}
+
+
+def share_of(pid):
+    """Returns the crate and the kind of work that a process is at."""
+    try:
+        with open(f"/proc/{pid}/cmdline", "rb") as file:
+            words = file.read().decode(errors="replace").split("\0")
+        folder = os.readlink(f"/proc/{pid}/cwd")
+    except OSError:
+        return None
+    if not words[0].endswith("/rattle"):
+        return ("other", "other")
+    crate = words[words.index("--crate-name") + 1] if "--crate-name" in words else "other"
+    if "/rt-edit-" in folder:
+        return (crate, "edits")
+    return (crate, "tests" if "--test" in words else "proof")
+
+
+def main():
+    started = time.time()
+    run = subprocess.Popen(sys.argv[1:] or ["rt", "ci"])
+    seen = {}
+    while run.poll() is None:
+        for pid, seconds in below(run.pid, children_of()).items():
+            share = share_of(pid)
+            if share and pid != run.pid:
+                seen[pid, share] = max(seconds, seen.get((pid, share), 0))
+        time.sleep(0.5)
+    shares = collections.defaultdict(lambda: collections.Counter())
+    for (_, (crate, kind)), seconds in seen.items():
+        shares[crate][kind] += seconds
+    total = sum(sum(kinds.values()) for kinds in shares.values())
+    print(f"\nprocessor minutes {total / 60:.1f}, wall minutes {(time.time() - started) / 60:.1f}")
+    print(f"{'crate':24}{'proof':>8}{'tests':>8}{'edits':>8}{'other':>8}   processor seconds")
+    for crate, kinds in sorted(shares.items(), key=lambda it: -sum(it[1].values())):
+        print(f"{crate:24}" + "".join(f"{kinds[kind]:8.0f}" for kind in ("proof", "tests", "edits", "other")))
+    return run.returncode
+
+
+if __name__ == "__main__":
+    sys.exit(main())
