@@ -43,6 +43,3 @@ fn signed_max(a: u32, b: u32) -> u32
         a
     }
 }
-
-#[cfg(test)]
-mod tests;

@@ -4,6 +4,3 @@
 mod memory;
 
 pub use memory::Memory;
-
-#[cfg(test)]
-mod tests;

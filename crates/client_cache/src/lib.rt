@@ -12,8 +12,6 @@ mod held;
 mod laws;
 mod shape;
 mod slot;
-#[cfg(test)]
-mod tests;
 mod trackers;
 mod word;
 

@@ -9,6 +9,3 @@ mod harts;
 pub use answer::{Acquired, Grant, Known, Sent, Transaction};
 pub use directory::Directory;
 pub use harts::{HartSet, Harts};
-
-#[cfg(test)]
-mod tests;

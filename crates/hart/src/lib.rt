@@ -12,6 +12,3 @@ pub use laws::runs_end_as_their_lists;
 pub use retired::Retired;
 pub use state::Hart;
 pub use status::Status;
-
-#[cfg(test)]
-mod tests;

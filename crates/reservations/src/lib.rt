@@ -5,6 +5,3 @@
 mod reservation;
 
 pub use reservation::Reservation;
-
-#[cfg(test)]
-mod tests;

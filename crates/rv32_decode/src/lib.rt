@@ -23,6 +23,3 @@ pub use instruction::{
 };
 pub use laws::rows_are_apart;
 pub use registers::Register;
-
-#[cfg(test)]
-mod tests;

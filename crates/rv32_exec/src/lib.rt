@@ -11,10 +11,7 @@ mod registers;
 pub mod stop;
 
 pub use finishing::finish;
-pub use laws::{reads_are_as_named, stops_change_nothing, writes_are_as_named};
+pub use laws::{reads_are_as_named, stops_are_decided_first, writes_are_as_named};
 pub use planning::plan;
 pub use plans::{Plan, Width};
 pub use registers::Regs;
-
-#[cfg(test)]
-mod tests;

@@ -14,6 +14,3 @@ pub use byte_mask::ByteMask;
 pub use entry::{Entry, Store};
 pub use laws::{buffer_of_stores, group_of_stores, single_groups_stay};
 pub use ops::Ops;
-
-#[cfg(test)]
-mod tests;

@@ -4,6 +4,3 @@
 mod queues;
 
 pub use queues::{Queues, room};
-
-#[cfg(test)]
-mod tests;

@@ -11,6 +11,3 @@ pub use line::{LineData, LineSize};
 pub use message::{Body, Channel, Msg};
 pub use permission::{Cap, Change, Grow, Perm, shrink, shrink_names_both_ends};
 pub use ticks::Ticks;
-
-#[cfg(test)]
-mod tests;

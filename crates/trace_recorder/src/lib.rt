@@ -8,6 +8,3 @@ mod trace;
 pub use logged::{Direction, Logged};
 pub use operation::OpId;
 pub use trace::Trace;
-
-#[cfg(test)]
-mod tests;

@@ -2,7 +2,7 @@
 ghost use Rattle.std.specs.Prelude.{◌≡◌, ◌≢◌, ◌<◌, length};
 ghost use Rattle.tl_types.specs.Permission.{left_by};
 
-use crate::{Acquired, Directory, Grant, HartSet, Known, Sent, Transaction};
+use directory::{Acquired, Directory, Grant, HartSet, Known, Sent, Transaction};
 use std::alloc::Global;
 use std::marker::Brand;
 use std::process::Abort;

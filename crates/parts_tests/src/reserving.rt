@@ -1,4 +1,4 @@
-use super::*;
+use reservations::*;
 use tl_types::LineSize;
 
 /// A reservation goes with its line, whose size decides which words it has.

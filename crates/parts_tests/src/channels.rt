@@ -1,7 +1,7 @@
 //! Queues in the order of sending, and how many messages each holds in the worked rows.
-use crate::{Queues, room};
 use std::process::Abort;
 use std::test::Fail;
+use tilelink_channels::{Queues, room};
 use tl_types::{Body, Cap, Change, Channel, Grow, LineData, Msg};
 
 const X: u32 = 0x8000_0100;

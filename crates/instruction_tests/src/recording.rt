@@ -1,9 +1,9 @@
 //! Each call of a trace at least once.
-use super::{Direction, Logged, OpId, Trace};
 use elf_loader::{raw, size_of_kib};
 use hart::{Retired, Status};
 use std::test::Fail;
 use tl_types::{Body, LineSize, Msg};
+use trace_recorder::{Direction, Logged, OpId, Trace};
 
 const ENTRY: Retired = Retired {
     pc: 0x8000_0000,

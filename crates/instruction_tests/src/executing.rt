@@ -1,6 +1,6 @@
 //! Worked rows, with the values that the manual and other implementations give.
-use super::*;
 use rv32_decode::{Instr, Register, RegisterOp, decode};
+use rv32_exec::*;
 use std::test::Fail;
 
 const PC: u32 = 0x8000_0000;

@@ -5,7 +5,7 @@ mod sets;
 
 ghost use Rattle.std.specs.Prelude.{◌≡◌, ◌<◌};
 
-use crate::{ClientCache, Evict, Held, Probed, Want};
+use client_cache::{ClientCache, Evict, Held, Probed, Want};
 use std::marker::Brand;
 use std::process::Abort;
 use std::sync::ledger::{Blank, Ledger};

@@ -1,6 +1,6 @@
 //! Rows of private instructions, worked by hand.
-use super::{Hart, Status, run_local};
 use elf_loader::{Image, raw, size_of_kib};
+use hart::{Hart, Status, run_local};
 use std::alloc::Global;
 use std::test::Fail;
 

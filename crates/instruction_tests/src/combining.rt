@@ -1,5 +1,5 @@
 //! A worked row.
-use super::*;
+use amo_unit::*;
 
 #[test]
 fn row_36(rt: HostRuntime) {

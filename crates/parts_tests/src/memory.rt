@@ -1,6 +1,6 @@
 //! Lines of both sizes, read and written.
 
-use crate::Memory;
+use backing_memory::Memory;
 use elf_loader::raw;
 use std::process::Abort;
 use std::test::Fail;

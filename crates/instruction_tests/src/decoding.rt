@@ -1,5 +1,5 @@
 //! Worked rows, and printing.
-use super::*;
+use rv32_decode::*;
 use std::test::Fail;
 
 // A word's one spelling.

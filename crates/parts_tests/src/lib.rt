@@ -1,0 +1,18 @@
+//! Tests of the machine's parts, apart from them, so that no part is proved a second time for its
+//! tests.
+#![tactic(auto)]
+
+#[cfg(test)]
+mod buffer;
+#[cfg(test)]
+mod cache;
+#[cfg(test)]
+mod channels;
+#[cfg(test)]
+mod memory;
+#[cfg(test)]
+mod messages;
+#[cfg(test)]
+mod notes;
+#[cfg(test)]
+mod reserving;
