@@ -18,21 +18,25 @@ use Rattle.machine_parts.specs.declared.errors.ApplyError.{ApplyError}
 use Rattle.trace_recorder.specs.History.{entries_of}
 
 pub reached_opening : (image : Initial) (config : Config) → IsImage image → IsTrue (is_within_limits config) → IsReached (opening image config)
-reached_opening image config loaded within = record { image = image; config = config; events = []; loaded = loaded; within = within; leads = refl }
+reached_opening image config loaded within = record { events = []; loaded = loaded; within = within; leads = refl }
 
 one_more : (s : State) (events : List Event) (e : Event) → after_events s (events ++ e ∷ []) ≡ happens (after_events s events) e
 one_more s [] e = refl
 one_more s (x ∷ events) e = one_more (happens s x) events e
 
-pub reached_more : (s : State) (e : Event) → IsReached s → IsReached (happens s e)
-reached_more s e r = record {
-  image = r.image;
-  config = r.config;
-  events = r.events ++ e ∷ [];
-  loaded = r.loaded;
-  within = r.within;
-  leads = one_more (opening r.image r.config) r.events e ∙ ap (λ (x : State). happens x e) r.leads;
+pub reached_more : ImageAndConfigStay → (s : State) (e : Event) → IsReached s → IsReached (happens s e)
+reached_more stay s e r = record {
+  events = more;
+  loaded = subst IsImage (sym (stay s e).image) r.loaded;
+  within = subst (λ (c : Config). IsTrue (is_within_limits c)) (sym (stay s e).config) r.within;
+  leads =
+      subst (λ (c : Config). after_events (opening (happens s e).trace.image c) more ≡ happens s e) (sym (stay s e).config)
+      (subst (λ (i : Initial). after_events (opening i s.views.config) more ≡ happens s e) (sym (stay s e).image)
+      (one_more (opening s.trace.image s.views.config) r.events e ∙ ap (λ (x : State). happens x e) r.leads));
 }
+  where
+    more : List Event
+    more = r.events ++ e ∷ []
 
 -- an answer leaves the old state or the meaning's
 reached_by : (v : Verdict) (s new : State) (result : Result Outcome ApplyError) → Answers v s result new → IsReached s → IsReached (state_by s v) → IsReached new
@@ -42,8 +46,8 @@ reached_by IsLimited s new result a r next = subst IsReached (sym a.1) r
 reached_by (Moves o moved) s new result a r next =
     elim a [ inl x ↦ subst IsReached (sym x.1) next | inr x ↦ subst IsReached (sym x.1) r ]
 
-pub reached_after : (s new : State) (e : Event) (result : Result Outcome ApplyError) → Answers (verdict s e) s result new → IsReached s → IsReached new
-reached_after s new e result a r = reached_by (verdict s e) s new result a r (reached_more s e r)
+pub reached_after : ImageAndConfigStay → (s new : State) (e : Event) (result : Result Outcome ApplyError) → Answers (verdict s e) s result new → IsReached s → IsReached new
+reached_after stay s new e result a r = reached_by (verdict s e) s new result a r (reached_more stay s e r)
 
 -- what an answer leaves is what it found, or what the event's meaning gives
 left_by : (v : Verdict) (s new : State) (result : Result Outcome ApplyError) → Answers v s result new → (new ≡ s) ⊎ (new ≡ state_by s v)
@@ -95,11 +99,14 @@ stays_after law s new e result a =
       | inr x ↦ subst (λ (n : State). KeepsImageAndConfig s n) (sym x) (law s e)
     ]
 
--- a law of every list of events holds here, of the image and the configuration at reset
-pub law_of : (P : Initial → Config → State → Type 0) → Always P → (s : State) (r : IsReached s) → P r.image r.config s
-law_of P law s r = subst (P r.image r.config) r.leads (law r.image r.config r.events r.loaded r.within)
+-- a law of every list of events holds here
+pub law_of : (P : Initial → Config → State → Type 0) → Always P → (s : State) → IsReached s → P s.trace.image s.views.config s
+law_of P law s r = subst (P s.trace.image s.views.config) r.leads (law s.trace.image s.views.config r.events r.loaded r.within)
 
--- which are the machine's own
+pub headline_of : Headline → (s : State) → IsReached s → KeepsHeadline s
+headline_of law s r = law_of IsHeadline law s r
+
+-- image and configuration are those at reset
 image_stays : ImageAndConfigStay → (s : State) (events : List Event) → (after_events s events).trace.image ≡ s.trace.image
 image_stays stay s [] = refl
 image_stays stay s (e ∷ events) = image_stays stay (happens s e) events ∙ (stay s e).image
@@ -107,17 +114,6 @@ image_stays stay s (e ∷ events) = image_stays stay (happens s e) events ∙ (s
 config_stays : ImageAndConfigStay → (s : State) (events : List Event) → (after_events s events).views.config ≡ s.views.config
 config_stays stay s [] = refl
 config_stays stay s (e ∷ events) = config_stays stay (happens s e) events ∙ (stay s e).config
-
-image_of : ImageAndConfigStay → (s : State) (r : IsReached s) → r.image ≡ s.trace.image
-image_of stay s r = sym (image_stays stay (opening r.image r.config) r.events) ∙ ap (λ (x : State). x.trace.image) r.leads
-
-config_of : ImageAndConfigStay → (s : State) (r : IsReached s) → r.config ≡ s.views.config
-config_of stay s r = sym (config_stays stay (opening r.image r.config) r.events) ∙ ap (λ (x : State). x.views.config) r.leads
-
-pub headline_of : Headline → ImageAndConfigStay → (s : State) → IsReached s → KeepsHeadline s
-headline_of law stay s r =
-    subst (λ (x : Config). IsHeadline s.trace.image x s) (config_of stay s r)
-    (subst (λ (x : Initial). IsHeadline x r.config s) (image_of stay s r) (law_of IsHeadline law s r))
 
 -- a replay that refuses nothing leads where its events lead
 goes_on : (v : Verdict) (i : ℕ) (rest : Replayed) (t : State) → unless_refused v i rest ≡ Replayed.Reached t → rest ≡ Replayed.Reached t

@@ -1,7 +1,6 @@
 -- What a machine is by its history, and what a list of events comes to from reset.
 use Rattle.std.specs.Prelude.{ℕ, ◌≡◌, ◌≢◌, ◌+◌, List, [], ◌∷◌, ◌++◌, length, IsTrue}
-use Rattle.elf_loader.specs.Image.{Initial, IsImage}
-use Rattle.machine_model.specs.declared.config.Config.{Config}
+use Rattle.elf_loader.specs.Image.{IsImage}
 use Rattle.machine_model.specs.declared.event.Event.{Event as AnEvent}
 use Rattle.machine_model.specs.declared.outcome.Outcome.TheVariants.{Stopped}
 use Rattle.machine_model.specs.Config.{is_within_limits}
@@ -14,14 +13,12 @@ use Rattle.machine_parts.specs.declared.errors.ApplyError.TheVariants.{BadEvent,
 use Rattle.coherent_machine.specs.declared.errors.ReplayError.{ReplayError}
 use Rattle.coherent_machine.specs.declared.errors.ReplayError.TheVariants.{Event, New}
 
--- some list of events leads here from reset
+-- some list of events leads here from reset of the state's own image and configuration
 pub record IsReached (s : State) : Type 0 where
-  pub image : Initial
-  pub config : Config
   pub events : List AnEvent
-  pub loaded : IsImage image
-  pub within : IsTrue (is_within_limits config)
-  pub leads : after_events (opening image config) events ≡ s
+  pub loaded : IsImage s.trace.image
+  pub within : IsTrue (is_within_limits s.views.config)
+  pub leads : after_events (opening s.trace.image s.views.config) events ≡ s
 
 -- the headline, by the machine's own image and configuration
 abbrev pub KeepsHeadline : State → Type 0

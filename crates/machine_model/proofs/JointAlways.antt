@@ -1,11 +1,12 @@
 -- In every state that a list of events leads to, each copy of a line has the bytes that were performed last, and so the completed order keeps load values.
 use Rattle.std.proofs.Common.{◌≡◌, ℕ, ◌-◌, ◌%◌, ◌<◌, Bool, true, false, List, [], ◌∷◌, Some, None, refl, ap, sym, ◌∙◌, subst, arith, length, cond}
-use Rattle.std.specs.Prelude.{◌&&◌, nat_lt}
-use Rattle.std.proofs.lemmas.Bool.{ltb-true}
+use Rattle.std.specs.Prelude.{◌+◌, ◌&&◌, ◌==◌, nat_le, nat_lt}
+use Rattle.std.proofs.lemmas.Bool.{and_parts, eqb-true, ltb-true}
 use Rattle.client_cache.specs.Cache.{copy_at}
 use Rattle.client_cache.specs.Held.{bytes_in}
 use Rattle.client_cache.specs.declared.held.Held.{Held}
-use Rattle.elf_loader.specs.Image.{Initial}
+use Rattle.elf_loader.specs.Image.{Initial, end_of}
+use Rattle.elf_loader.specs.Size.{base}
 use Rattle.machine_model.specs.declared.act.Plan.{Plan}
 use Rattle.machine_model.specs.declared.act.Plan.TheVariants.{Stays, Changes}
 use Rattle.machine_model.specs.declared.config.Config.{Config}
@@ -99,8 +100,20 @@ copy_is s j h line held e = go (is_piece s.trace.image line (length_of (line_siz
         subst (IsOf (line_size s) (last_performed s.trace) line) (sym is_newest) (j.1.agrees line on)
     go false off = absurd (no_copy held (sym e ∙ ap (λ (x : Side). x.copy) (j.1.fit.well.outside line off h)))
 
+-- a copy is of a line of memory
+line_is : (s : State) → Joint s → (h line : ℕ) (held : Held) → copy_at (node_at s h).cache line ≡ Some held → line % length_of (line_size s) ≡ 0
+line_is s j h line held e = go (is_piece s.trace.image line (length_of (line_size s))) refl
+  where
+    go : (b : Bool) → is_piece s.trace.image line (length_of (line_size s)) ≡ b → line % length_of (line_size s) ≡ 0
+    go true on =
+        let bytes = length_of (line_size s) in
+        let inside = and_parts (line % bytes == 0 && nat_le base line) (nat_le (line + bytes) (end_of s.trace.image)) on in
+        eqb-true (line % bytes) 0 (and_parts (line % bytes == 0) (nat_le base line) inside.0).0
+    go false off = absurd (no_copy held (sym e ∙ ap (λ (x : Side). x.copy) (j.1.fit.well.outside line off h)))
+
 coherent : (s : State) → Joint s → IsCoherent s
 coherent s j = record {
+  aligned = line_is s j;
   one_writer = one_writer s (j.0, j.1.fit);
   last_write = λ h line x held e low high. (copy_is s j h line held e).bytes (x - line) (omega (arith, low, high)) ∙ ap (λ y. Some (last_performed s.trace y)) (omega (arith, low));
 }

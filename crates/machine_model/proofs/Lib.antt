@@ -87,3 +87,4 @@ pub mod LogManagerAlways
 pub mod RangeRuns
 pub mod RangeLines
 pub mod RangeLog
+pub mod Stopping

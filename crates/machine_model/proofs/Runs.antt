@@ -95,7 +95,7 @@ retire_fits image hart (Stopped code) e n = absurd (n code refl)
 retire_fits image hart (Exited code) e n = (rw e (eq-eqb code code refl), refl)
 
 -- no instruction that retires stops its hart
-retired_stops_not : (image : Initial) (hart : Hart) (entry : Retired) (i : Instr) (code : ℕ) → (after_instr hart entry (Some i)).status ≡ Stopped code → ⊥
+pub retired_stops_not : (image : Initial) (hart : Hart) (entry : Retired) (i : Instr) (code : ℕ) → (after_instr hart entry (Some i)).status ≡ Stopped code → ⊥
 retired_stops_not image hart entry i code e = access_stops_not (access_of i hart.regs) code e
   where
     cond_stops_not : (b : Bool) (n code : ℕ) → cond b (Exited n) Running ≡ Stopped code → ⊥

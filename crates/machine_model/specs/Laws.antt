@@ -12,7 +12,8 @@ use Rattle.machine_model.specs.declared.outcome.Outcome.{Outcome}
 use Rattle.machine_model.specs.declared.outcome.Outcome.TheVariants as outcome
 use Rattle.machine_model.specs.Coherent.{IsCoherent, perm_at}
 use Rattle.machine_model.specs.Config.{is_within_limits}
-use Rattle.machine_model.specs.Events.{Verdict, verdict, after_events, happens}
+use Rattle.machine_model.specs.Changing.{stopped}
+use Rattle.machine_model.specs.Events.{Verdict, after_events, counted, happens, verdict}
 use Rattle.machine_model.specs.LawfulLog.{IsBeginningOf, IsLawfulLog, is_grant}
 use Rattle.machine_model.specs.Views.{State, line_of, line_size, node_at, opening}
 use Rattle.memory_model.specs.Traces.{IsLegalOrder, IsOrder, are_runs, completed, is_among, is_distinct, names_in}
@@ -111,6 +112,11 @@ ImageAndConfigStay = (s : State) (e : Event) → KeepsImageAndConfig s (happens 
 -- an event that changes the machine counts once
 abbrev pub ChangesAreCounted : Type 0
 ChangesAreCounted = (s : State) (e : Event) (o : Outcome) (new : State) → verdict s e ≡ Verdict.Moves o new → new.views.changes ≡ s.views.changes + 1
+
+-- ---- stops: registers, pc, memory, buffers, copies, lists and messages are left as they were, and the hart's status alone is another
+
+abbrev pub StopsChangeStatusAlone : Type 0
+StopsChangeStatusAlone = (s : State) (h code : ℕ) (new : State) → verdict s (event.Step h) ≡ Verdict.Moves (outcome.Stopped code) new → new ≡ counted (stopped h code s)
 
 -- ---- batches: a Local event that retires is as many single steps, each Retired, but for the count of events, which grows by one; so the steps are counted from 0
 

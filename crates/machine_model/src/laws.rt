@@ -1,5 +1,5 @@
 //! Laws of the event meaning, each the contract of a function that does nothing.
-ghost use Rattle.machine_model.specs.Laws.{ChangesAreCounted, ImageAndConfigStay, LocalIsSteps, NothingIsRewritten, RunsAlways};
+ghost use Rattle.machine_model.specs.Laws.{ChangesAreCounted, ImageAndConfigStay, LocalIsSteps, NothingIsRewritten, RunsAlways, StopsChangeStatusAlone};
 
 /// An event only adds to the performed order, to the harts' lists and to the message log.
 pub fn nothing_is_rewritten()
@@ -26,4 +26,10 @@ pub fn runs_always()
 /// the count of events, which grows by one.
 pub fn local_is_steps()
     ensures { LocalIsSteps }
+{}
+
+/// A step that stops leaves registers, pc, memory, buffers, copies, lists and messages as they were: its
+/// hart's status alone is another, and the count of events grows by one.
+pub fn stops_change_status_alone()
+    ensures { StopsChangeStatusAlone }
 {}

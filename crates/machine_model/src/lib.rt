@@ -21,6 +21,7 @@ pub use headline_laws::{atomicity_always, headline, legal_always};
 pub use joint_laws::{coherent_always, load_values_always};
 pub use laws::{
     changes_are_counted, image_and_config_stay, local_is_steps, nothing_is_rewritten, runs_always,
+    stops_change_status_alone,
 };
 pub use log_laws::{
     answers_due_always, log_in_order_always, log_lawful_always, others_lawful_always,

@@ -1,12 +1,9 @@
--- What stops a hart is decided before anything is read, and changes nothing.
-use Rattle.std.proofs.Common.{◌≡◌, ℕ, List, Option, Some, None, ap}
+-- What stops a hart is decided before anything is read.
+use Rattle.std.proofs.Common.{◌≡◌, ℕ, List, Option, Some, None}
 use Rattle.rv32_decode.specs.Rows.{decoded}
 use Rattle.rv32_decode.specs.declared.instruction.Instr.{Instr}
-use Rattle.rv32_exec.specs.Laws.{after, StopChangesNothing, StopIsDecidedFirst}
+use Rattle.rv32_exec.specs.Laws.{StopIsDecidedFirst}
 use Rattle.rv32_exec.specs.Meaning.{Meaning, Stops, Does, Effect, effect_of, stop_of, meaning}
-
-pub unchanged_by_stop : StopChangesNothing
-unchanged_by_stop word pc size read code x e = ap (λ m. after m pc x) e
 
 -- the meaning of a stop code, if there is one
 abbrev outcome : Option ℕ → Effect → Meaning

@@ -58,11 +58,6 @@ abbrev pub after : Meaning → ℕ → List ℕ → After
 after (Stops code) pc x = unchanged pc x
 after (Does effect) pc x = record { pc = effect.next; registers = after_write x effect.written; access = effect.access }
 
--- a hart whose word stops it keeps its pc and its registers, and accesses nothing
-abbrev pub StopChangesNothing : Type 0
-StopChangesNothing =
-    (word pc size read code : ℕ) (x : List ℕ) → meaning_of_word word pc x size read ≡ Stops code → after (meaning_of_word word pc x size read) pc x ≡ unchanged pc x
-
 -- whether a word stops its hart, and why, is decided before anything is read
 abbrev pub StopIsDecidedFirst : Type 0
 StopIsDecidedFirst =

@@ -5,10 +5,10 @@ use Rattle.coherent_machine.proofs.Reached.{headline_of}
 use Rattle.coherent_machine.proofs.machine.Machine.adopt.Goals as goal
 
 pub returns-then-not-is_current-clause-headline : goal.returns-then-not-is_current-clause-headline
-returns-then-not-is_current-clause-headline c = rw (← c.self.view_is) (headline_of c.headline.ensures c.image_and_config_stay.ensures (state_of c.self.inside.parts) c.self.invariant)
+returns-then-not-is_current-clause-headline c = rw (← c.self.view_is) (headline_of c.headline.ensures (state_of c.self.inside.parts) c.self.invariant)
 
 pub returns-then-is_empty-clause-headline : goal.returns-then-is_empty-clause-headline
-returns-then-is_empty-clause-headline c = rw (← c.self.view_is) (headline_of c.headline.ensures c.image_and_config_stay.ensures (state_of c.self.inside.parts) c.self.invariant)
+returns-then-is_empty-clause-headline c = rw (← c.self.view_is) (headline_of c.headline.ensures (state_of c.self.inside.parts) c.self.invariant)
 
 fits-Ok : (c : goal.In-Ok) → Fits c.args.hart c.args.batch.now c.args.self.now
 fits-Ok c = fits_by c.args.hart c.args.batch.now c.args.self.now (state_of c.self.inside.parts) c.entries.result.now c.is_empty.result c.entries.ensures.row c.entries.ensures.entries c.self.view_is (c.is_current.ensures.0 c.if-not-is_current.false) c.is_empty.ensures c.if-is_empty.false

@@ -17,10 +17,10 @@ pub commit-requires-clause-hart : goal.commit-requires-clause-hart
 commit-requires-clause-hart c = (subst (IsCurrent c.args.hart c.args.batch.now) (sym c.self.view_is) c.requires.current).there
 
 pub invariant_of-self : goal.invariant_of-self
-invariant_of-self c = reached_after (state_of c.self.inside.parts) (state_of c.commit.new.self) (local_of c.args.hart c.args.batch.now) c.commit.result c.commit.ensures c.self.invariant
+invariant_of-self c = reached_after c.image_and_config_stay.ensures (state_of c.self.inside.parts) (state_of c.commit.new.self) (local_of c.args.hart c.args.batch.now) c.commit.result c.commit.ensures c.self.invariant
 
 pub returns-clause-headline : goal.returns-clause-headline
-returns-clause-headline c = headline_of c.headline.ensures c.image_and_config_stay.ensures (state_of c.commit.new.self) (invariant_of-self c)
+returns-clause-headline c = headline_of c.headline.ensures (state_of c.commit.new.self) (invariant_of-self c)
 
 pub returns-clause-err : goal.returns-clause-err
 returns-clause-err c = rw (← c.self.view_is) (kept_on_error (state_of c.self.inside.parts) (state_of c.commit.new.self) (local_of c.args.hart c.args.batch.now) c.commit.result c.commit.ensures)

@@ -14,7 +14,7 @@ pub returns-clause-headline : goal.returns-clause-headline
 returns-clause-headline c =
     headline_from c.image_and_config_stay.ensures c.args.image c.args.config [] (state_of c.in_ok-parts.parts)
     (ap (λ (s : State). Replayed.Reached s) (sym c.in_ok-parts.ensures))
-    (headline_of c.headline.ensures c.image_and_config_stay.ensures (state_of c.in_ok-parts.parts) (invariant_of-result c))
+    (headline_of c.headline.ensures (state_of c.in_ok-parts.parts) (invariant_of-result c))
 
 pub returns-clause-log : goal.returns-clause-log
 returns-clause-log c = law_of (λ image config s. IsLawfulLog s.trace.log) c.log_lawful_always.ensures (state_of c.in_ok-parts.parts) (invariant_of-result c)
