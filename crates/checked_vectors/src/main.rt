@@ -5,6 +5,8 @@
 use command_line::{SystemFiles, run_line};
 use std::io::{self, Write};
 use std::rt::Files;
+use std::sync::Wait;
+use std::thread::Threads;
 
 /// A trace by its name, and the model that it is judged under.
 const CASES: [(&str, &str); 55] = [
@@ -73,7 +75,7 @@ fn main(rt: HostRuntime) -> io::Result<()> {
     Ok(())
 }
 
-fn print_verdict<R: Files + AllocGlobal, W: Write>(
+fn print_verdict<R: Files + Threads + Wait + Sync + AllocGlobal, W: Write>(
     rt: &R,
     name: &str,
     model: &str,
@@ -85,7 +87,7 @@ fn print_verdict<R: Files + AllocGlobal, W: Write>(
     let mut said = Vec::new(alloc);
     let mut err = Vec::new(alloc);
     let mut files = SystemFiles::new(rt);
-    let status = run_line(alloc, &words, &mut files, &mut said, &mut err);
+    let status = run_line(rt, alloc, &words, &mut files, &mut said, &mut err);
     write!(out, "{name}: status {status}: ")?;
     out.write_all(said.as_slice())?;
     out.write_all(err.as_slice())

@@ -1,19 +1,21 @@
 -- Words that have no fault name a subcommand with all that it asks for.
-use Rattle.std.proofs.Common.{◌≡◌, ◌∙◌, ◌⊎◌, ◌&&◌, ◌||◌, ℕ, Bor, Bool, true, false, cond, codes, List, [], ◌∷◌, ◌++◌, Option, Some, None, ap, drop, inl, inr, is_some, map, not, option_map, refl, subst, sym}
+use Rattle.std.proofs.Common.{◌≡◌, ◌∙◌, ◌⊎◌, ◌&&◌, ◌||◌, ℕ, fold, Bor, Bool, true, false, cond, codes, List, [], ◌∷◌, ◌++◌, Option, Some, None, ap, drop, inl, inr, is_some, map, not, option_map, refl, subst, sym}
 use Rattle.std.specs.Prelude.{find}
 use Rattle.std.specs.List.{list_any}
 use Rattle.std.specs.Option.{option_map_or}
 use Rattle.std.specs.Str.{bytes_eq}
 use Rattle.std.proofs.lemmas.Bool.{false≢true}
 use Rattle.std.proofs.lemmas.Slice.Eq.{bytes_eq-Decides}
+use Rattle.clap.proofs.ValueTestLemmas.{accepts-Accepts}
 use Rattle.clap.proofs.WalkLemmas.{list_any-map}
 use Rattle.clap.specs.Facts.{explicit_source, parser_of_value}
 use Rattle.clap.specs.Faults.{check_fault, defaults_fault, entered_fault, fault_of, level_fault, repeat_fault, set_fault, settle_fault, use_fault, values_fault, walk_fault}
-use Rattle.clap.specs.Kinds.{Kinds, or_else, value_kinds, values_kinds}
-use Rattle.clap.specs.Simple.{Shape, built, built_leaf, entered, filled, help_rule, help_shape, inherited, marked_built, names_of, rows_at, subcommand_of, with_index, with_leaf_noted}
+use Rattle.clap.specs.Kinds.{Kinds, check_kinds, or_else, value_kinds, values_kinds}
+use Rattle.clap.specs.Simple.{App, Shape, built, built_leaf, entered, filled, help_rule, help_shape, inherited, marked_built, names_of, rows_at, subcommand_of, with_index, with_leaf_noted}
 use Rattle.clap.specs.Takes.{is_given}
 use Rattle.clap.specs.ValueTests.{accepts}
-use Rattle.clap.specs.Values.{same_text}
+use Rattle.clap.specs.Values.{IsUnsignedIn, read_as, same_text}
+use Rattle.clap.specs.Words.{is_simple, is_simple_and_free}
 use Rattle.clap.specs.Walk.{Row, Rule, Text, default_rows, finished, first_of, has_row, more_values, nothing_held, one_of, reading_by, rows_after, settled, used, walk, walk_from, with_default, with_values, without}
 use Rattle.clap.specs.declared.builder.value_parser.Reading.{Reading}
 use Rattle.clap.specs.declared.builder.value_parser.Reading.TheVariants.{AsWritten}
@@ -21,7 +23,7 @@ use Rattle.clap.specs.declared.builder.value_parser.ValueParser.TheVariants as p
 use Rattle.clap.specs.declared.error.kind.ErrorKind.{ErrorKind}
 use Rattle.clap.specs.declared.error.kind.ErrorKind.TheVariants as kind
 use Rattle.clap.specs.declared.parser.matches.ValueSource.{ValueSource}
-use Rattle.command_line.specs.Settings.{HasText, IsComplete, IsReplayComplete, NamesModel, check_usage, file_argument, flag_text, model_option, raw_flag, replay_usage, usage}
+use Rattle.command_line.specs.Settings.{HasFlag, HasNumber, HasText, IsComplete, IsUsage, NamesModel, check_usage, file_argument, journal_option, least_limit, model_option, most_limit, most_size, number_option, raw_flag, replay_usage, run_usage, usage}
 use Rattle.memory_model.specs.declared.Model.TheVariants.{Rvwmo, Ztso}
 use Rattle.command_line.proofs.Walked.{Among, IsNoHelp, no_kinds, settles, walk_is_none, walks}
 
@@ -58,8 +60,22 @@ IsModelName v = (v ≡ codes "rvwmo") ⊎ (v ≡ codes "ztso")
 abbrev pub IsTruth : Text → Type 0
 IsTruth v = (v ≡ codes "true") ⊎ (v ≡ codes "false")
 
-abbrev Fine : Text → Reading → Text → Type 0
-Fine id how v = (bytes_eq id (codes "model") ≡ true → IsModelName v) × (bytes_eq id (codes "raw") ≡ true → (how ≡ AsWritten) × IsTruth v)
+-- a number of a machine's size
+abbrev is_size : Text → Bool
+is_size id =
+    bytes_eq id (codes "harts") || (bytes_eq id (codes "memory") || (bytes_eq id (codes "sets") || (bytes_eq id (codes "ways") || bytes_eq id (codes "line"))))
+
+abbrev IsNumeric : ℕ → ℕ → Reading → Text → Type 0
+IsNumeric low high how v = (how ≡ AsWritten) × IsUnsignedIn low high v
+
+record Fine (id : Text) (how : Reading) (v : Text) : Type 0 where
+  model : bytes_eq id (codes "model") ≡ true → IsModelName v
+  raw : bytes_eq id (codes "raw") ≡ true → (how ≡ AsWritten) × IsTruth v
+  size : is_size id ≡ true → IsNumeric 0 most_size how v
+  limit : bytes_eq id (codes "limit") ≡ true → IsNumeric least_limit most_limit how v
+
+not_so : {A : Type 0} → false ≡ true → A
+not_so never = absurd (false≢true never)
 
 abbrev FineFirst : Text → Reading → List Text → Type 0
 FineFirst id how [] = Unit {0}
@@ -135,6 +151,25 @@ default_adds rows a v vs is = go (has_row a.id rows) refl a.defaults is
     go false has [] is = cc
     go false has (x ∷ xs) is = values_add a.id (reading_by a) _ (x ∷ xs) rows
 
+-- each rule's default is fine
+abbrev FineDefaults : List Rule → Type 0
+FineDefaults [] = Unit {0}
+FineDefaults (a ∷ rest) = FineFirst a.id (reading_by a) a.defaults × FineDefaults rest
+
+defaults_good : (rules : List Rule) (rows : List Row) → FineDefaults rules → Good rows → Good (fold with_default rows rules)
+defaults_good [] rows fine good = good
+defaults_good (a ∷ rest) rows fine good = defaults_good rest (with_default rows a) fine.1 (default_good rows a fine.0 good)
+
+defaults_keep : (other : Text) (rules : List Rule) (rows : List Row) → has_row other rows ≡ true → has_row other (fold with_default rows rules) ≡ true
+defaults_keep other [] rows has = has
+defaults_keep other (a ∷ rest) rows has = defaults_keep other rest (with_default rows a) (default_keeps other rows a has)
+
+defaults_add : (rules : List Rule) (rows : List Row) (a : Rule) (v : Text) (vs : List Text) → Among rules a → a.defaults ≡ v ∷ vs → has_row a.id (fold with_default rows rules) ≡ true
+defaults_add [] rows a v vs among is = absurd among
+defaults_add (x ∷ rest) rows a v vs (inl same) is =
+    defaults_keep a.id rest (with_default rows x) (subst (λ (y : Rule). has_row a.id (with_default rows y) ≡ true) (sym same) (default_adds rows a v vs is))
+defaults_add (x ∷ rest) rows a v vs (inr later) is = defaults_add rest (with_default rows x) a v vs later is
+
 given_has : (id : Text) (rows : List Row) → is_given id rows ≡ true → has_row id rows ≡ true
 given_has id [] given = given
 given_has id (r ∷ rs) given = go (bytes_eq r.id id) given (λ later. given_has id rs later)
@@ -155,20 +190,52 @@ chosen id (r ∷ rs) good has = go (bytes_eq r.id id) refl has (λ later. chosen
     go true is has rest = (r, refl, is, good.0)
     go false is has rest = rest has
 
-first_value : (id : Text) (rows : List Row) → Good rows → has_row id rows ≡ true → (v : Text) × (first_of id rows ≡ Some v) × (bytes_eq id (codes "model") ≡ true → IsModelName v)
-first_value id rows good has =
+fine_at : (id : Text) (rows : List Row) → Good rows → has_row id rows ≡ true
+    → (v : Text) × (how : Reading) × (first_of id rows ≡ Some v) × (one_of id rows ≡ Some (read_as how v)) × Fine id how v
+fine_at id rows good has =
     let it = chosen id rows good has in
     let right = it.3 in (
       right.0,
+      it.0.reading,
       rw (it.1, right.2) refl,
-      λ is. (fine_id it.0.id id it.0.reading right.0 right.3 (rw (same_bytes it.0.id id it.2) ((bytes_eq-Decides id id).1 refl))).0 is,
+      rw (it.1, right.2) refl,
+      fine_id it.0.id id it.0.reading right.0 right.3 (rw (same_bytes it.0.id id it.2) ((bytes_eq-Decides id id).1 refl)),
     )
 
-truth : (rows : List Row) → Good rows → has_row (codes "raw") rows ≡ true → (v : Text) × (one_of (codes "raw") rows ≡ Some v) × IsTruth v
-truth rows good has =
-    let it = chosen (codes "raw") rows good has in
-    let right = it.3 in
-    let fine = right.3.1 it.2 in (right.0, rw (it.1, right.2, fine.0) refl, fine.1)
+as_written : (id : Text) (rows : List Row) (how : Reading) (v : Text) → one_of id rows ≡ Some (read_as how v) → how ≡ AsWritten → one_of id rows ≡ Some v
+as_written id rows how v is written = is ∙ ap (λ h. Some (read_as h v)) written
+
+has_number : (id : Text) (low high : ℕ) (rows : List Row) → ((how : Reading) (v : Text) → Fine id how v → IsNumeric low high how v) → Good rows → has_row id rows ≡ true → HasNumber id low high rows
+has_number id low high rows numeric good has =
+    let it = fine_at id rows good has in
+    let is = numeric it.1 it.0 it.4 in (it.0, as_written id rows it.1 it.0 it.3 is.0, is.1)
+
+has_size : (id : Text) (rows : List Row) → is_size id ≡ true → Good rows → has_row id rows ≡ true → HasNumber id 0 most_size rows
+has_size id rows is good has = has_number id 0 most_size rows (λ how v fine. fine.size is) good has
+
+names_model : (rows : List Row) (v : Text) → first_of (codes "model") rows ≡ Some v → IsModelName v → NamesModel rows
+names_model rows v is named = elim named [
+  | inl rvwmo ↦ (Rvwmo, is ∙ ap (λ t. Some t) rvwmo)
+  | inr ztso ↦ (Ztso, is ∙ ap (λ t. Some t) ztso)
+]
+
+has_model : (rows : List Row) → Good rows → has_row (codes "model") rows ≡ true → NamesModel rows
+has_model rows good has =
+    let it = fine_at (codes "model") rows good has in names_model rows it.0 it.2 (it.4.model refl)
+
+has_text : (id : Text) (rows : List Row) → Good rows → is_given id rows ≡ true → HasText id rows
+has_text id rows good given =
+    let it = fine_at id rows good (given_has id rows given) in (it.0, it.2)
+
+has_flag : (rows : List Row) → Good rows → has_row (codes "raw") rows ≡ true → HasFlag (codes "raw") rows
+has_flag rows good has =
+    let it = fine_at (codes "raw") rows good has in
+    let raw = it.4.raw refl in
+    let is = as_written (codes "raw") rows it.1 it.0 it.3 raw.0 in
+    elim raw.1 [
+      | inl on ↦ (true, is ∙ ap (λ t. Some t) on)
+      | inr off ↦ (false, is ∙ ap (λ t. Some t) off)
+    ]
 
 -- ---- the rules of the usage, as they are built
 
@@ -180,6 +247,12 @@ raw_built i = with_index i (filled raw_flag)
 
 abbrev model_built : ℕ → Bor (List (Bor Text)) → Rule
 model_built i names = with_index i (filled (model_option names))
+
+abbrev number_built : ℕ → Text → Text → ℕ → ℕ → Rule
+number_built i id default low high = with_index i (filled (number_option id default low high))
+
+abbrev journal_built : ℕ → Rule
+journal_built i = with_index i (filled journal_option)
 
 abbrev file_built : ℕ → Text → Rule
 file_built i id = with_index i (filled (file_argument id))
@@ -195,21 +268,23 @@ first_passes a v vs rows range none =
     let second = no_kinds (repeat_fault false a.id rows) (values_fault a (v ∷ vs)) first.1 in
     (no_kinds (value_kinds a.ignore_case (parser_of_value a.parser) v) (values_kinds a.ignore_case (parser_of_value a.parser) vs) second.1).0
 
+raw_fine : (v : Text) → IsTruth v → Fine (codes "raw") AsWritten v
+raw_fine v is = record {
+  model = not_so;
+  raw = λ _. (refl, is);
+  size = not_so;
+  limit = not_so;
+}
+
 raw_keeps : (i : ℕ) → Keeps (raw_built i)
-raw_keeps i [] rows none good = values_good _ _ _ (codes "true") [] _ (λ no. absurd (false≢true no), λ _. (refl, inl refl)) (without_good _ rows good)
+raw_keeps i [] rows none good = values_good _ _ _ (codes "true") [] _ (raw_fine _ (inl refl)) (without_good _ rows good)
 raw_keeps i (v ∷ vs) rows none good =
     let accepted = passed (bytes_eq v (codes "true") || bytes_eq v (codes "false")) _ (first_passes (raw_built i) v vs rows _ none) in
-    values_good _ _ _ v vs _ (
-      λ no. absurd (false≢true no),
-      λ _. (
-        refl,
-        elim (either_true (bytes_eq v (codes "true")) (bytes_eq v (codes "false")) accepted) [
-          | inl is ↦ inl (same_bytes v (codes "true") is)
-          | inr is ↦ inr (same_bytes v (codes "false") is)
-        ],
-      ),
-    )
-    (without_good _ rows good)
+    let is : IsTruth v = elim (either_true (bytes_eq v (codes "true")) (bytes_eq v (codes "false")) accepted) [
+      | inl is ↦ inl (same_bytes v (codes "true") is)
+      | inr is ↦ inr (same_bytes v (codes "false") is)
+    ] in
+    values_good _ _ _ v vs _ (raw_fine v is) (without_good _ rows good)
 
 abbrev pub NamesModels : Bor (List (Bor Text)) → Type 0
 NamesModels names = map (λ name. name.now) names.now ≡ codes "rvwmo" ∷ codes "ztso" ∷ []
@@ -226,18 +301,73 @@ named_model names v are accepted =
       ]
     ]
 
+model_fine : (how : Reading) (v : Text) → IsModelName v → Fine (codes "model") how v
+model_fine how v named = record {
+  model = λ _. named;
+  raw = not_so;
+  size = not_so;
+  limit = not_so;
+}
+
 model_keeps : (i : ℕ) (names : Bor (List (Bor Text))) → NamesModels names → Keeps (model_built i names)
 model_keeps i names are [] rows none good =
     let bad : kind.InvalidValue ∷ [] ≡ [] = none in cc
 model_keeps i names are (v ∷ vs) rows none good =
     let accepted = passed (accepts false (parser.Names names) v) _ (first_passes (model_built i names) v vs rows _ none) in
-    values_good _ _ _ v vs _ (λ _. named_model names v are accepted, λ no. absurd (false≢true no)) (without_good _ rows good)
+    values_good _ _ _ v vs _ (model_fine _ v (named_model names v are accepted)) (without_good _ rows good)
 
-file_keeps : (i : ℕ) (id : Text) → bytes_eq id (codes "model") ≡ false → bytes_eq id (codes "raw") ≡ false → Keeps (file_built i id)
-file_keeps i id no_model no_raw [] rows none good =
+-- an argument with a number: of a size, or the limit
+abbrev IsBound : Text → ℕ → ℕ → Type 0
+IsBound id low high = (v : Text) → IsUnsignedIn low high v → Fine id AsWritten v
+
+size_bound : (id : Text) → bytes_eq id (codes "model") ≡ false → bytes_eq id (codes "raw") ≡ false → bytes_eq id (codes "limit") ≡ false → IsBound id 0 most_size
+size_bound id no_model no_raw no_limit v within = record {
+  model = λ is. not_so (sym no_model ∙ is);
+  raw = λ is. not_so (sym no_raw ∙ is);
+  size = λ _. (refl, within);
+  limit = λ is. not_so (sym no_limit ∙ is);
+}
+
+limit_bound : IsBound (codes "limit") least_limit most_limit
+limit_bound v within = record {
+  model = not_so;
+  raw = not_so;
+  size = not_so;
+  limit = λ _. (refl, within);
+}
+
+number_keeps : (i : ℕ) (id default : Text) (low high : ℕ) → IsBound id low high → Keeps (number_built i id default low high)
+number_keeps i id default low high bound [] rows none good =
     let bad : kind.InvalidValue ∷ [] ≡ [] = none in cc
-file_keeps i id no_model no_raw (v ∷ vs) rows none good =
-    values_good _ _ _ v vs _ (λ is. absurd (false≢true (sym no_model ∙ is)), λ is. absurd (false≢true (sym no_raw ∙ is))) (without_good _ rows good)
+number_keeps i id default low high bound (v ∷ vs) rows none good =
+    let accepted = passed (accepts false (parser.Unsigned low high) v) _ (first_passes (number_built i id default low high) v vs rows _ none) in
+    values_good _ _ _ v vs _ (bound v (accepts-Accepts false (parser.Unsigned low high) v accepted)) (without_good _ rows good)
+
+-- a name that stands for a file alone
+record IsFileId (id : Text) : Type 0 where
+  model : bytes_eq id (codes "model") ≡ false
+  raw : bytes_eq id (codes "raw") ≡ false
+  size : is_size id ≡ false
+  limit : bytes_eq id (codes "limit") ≡ false
+
+file_fine : (id : Text) (how : Reading) (v : Text) → IsFileId id → Fine id how v
+file_fine id how v plain = record {
+  model = λ is. not_so (sym plain.model ∙ is);
+  raw = λ is. not_so (sym plain.raw ∙ is);
+  size = λ is. not_so (sym plain.size ∙ is);
+  limit = λ is. not_so (sym plain.limit ∙ is);
+}
+
+file_keeps : (i : ℕ) (id : Text) → IsFileId id → Keeps (file_built i id)
+file_keeps i id plain [] rows none good =
+    let bad : kind.InvalidValue ∷ [] ≡ [] = none in cc
+file_keeps i id plain (v ∷ vs) rows none good = values_good _ _ _ v vs _ (file_fine id _ v plain) (without_good _ rows good)
+
+journal_keeps : (i : ℕ) → Keeps (journal_built i)
+journal_keeps i [] rows none good =
+    let bad : kind.InvalidValue ∷ [] ≡ [] = none in cc
+journal_keeps i (v ∷ vs) rows none good =
+    values_good _ _ _ v vs _ (file_fine (codes "journal") _ v (record { model = refl; raw = refl; size = refl; limit = refl })) (without_good _ rows good)
 
 help_keeps : (i : ℕ) → Keeps (help_built i)
 help_keeps i values rows none good = good
@@ -253,113 +383,203 @@ of_each P (x ∷ rest) each a (inr later) = of_each P rest each.1 a later
 
 -- ---- one level
 
-level : (s : Shape) (words : List Text)
-    → ((a : Rule) (values : List Text) (rows : List Row) → Among s.rules a → use_fault s.args_override_self a values rows ≡ [] → Good rows → Good (used a values rows))
-    → level_fault s [] nothing_held words false [] ≡ []
-    → Good (settled s.rules (walk s.rules [] nothing_held words).held).rows × (check_fault s (finished s.rules (walk s.rules [] nothing_held words).held) false ≡ [])
-level s words keeps none =
+no_argument_wanted : (a b c : Bool) → check_kinds a b c ≡ [] → c ≡ false
+no_argument_wanted true b c none = cc
+no_argument_wanted false true c none = cc
+no_argument_wanted false false true none = cc
+no_argument_wanted false false false none = refl
+
+all_given : (rules : List Rule) (rows : List Row) → list_any (λ a. a.required && not (is_given a.id rows)) rules ≡ false
+    → (a : Rule) → Among rules a → a.required ≡ true → is_given a.id rows ≡ true
+all_given [] rows none a among wanted = absurd among
+all_given (x ∷ rest) rows none a (inl same) wanted =
+    let first = (neither (x.required && not (is_given x.id rows)) (list_any (λ r. r.required && not (is_given r.id rows)) rest) none).0 in
+    let at_a : (a.required && not (is_given a.id rows)) ≡ false = subst (λ (r : Rule). (r.required && not (is_given r.id rows)) ≡ false) same first in
+    not_not (is_given a.id rows) (ap (λ b. b && not (is_given a.id rows)) (sym wanted) ∙ at_a)
+all_given (x ∷ rest) rows none a (inr later) wanted =
+    all_given rest rows (neither (x.required && not (is_given x.id rows)) (list_any (λ r. r.required && not (is_given r.id rows)) rest) none).1 a later wanted
+
+-- the rows at the end of a level: each argument with a default has one, and each that is required was given
+record IsWhole (rules : List Rule) (rows : List Row) : Type 0 where
+  good : Good rows
+  chosen : (a : Rule) (v : Text) (vs : List Text) → Among rules a → a.defaults ≡ v ∷ vs → has_row a.id rows ≡ true
+  given : (a : Rule) → Among rules a → a.required ≡ true → is_given a.id rows ≡ true
+
+level : (s : Shape) (words : List Text) → Each Keeps s.rules → FineDefaults s.rules → s.args_override_self ≡ false → s.subcommand_negates_reqs ≡ false
+    → level_fault s [] nothing_held words false [] ≡ [] → IsWhole s.rules (rows_after s.rules [] words)
+level s words each fine no_override no_negation none =
+    let keeps : (a : Rule) (values : List Text) (rows : List Row) → Among s.rules a → use_fault s.args_override_self a values rows ≡ [] → Good rows → Good (used a values rows) =
+    λ a values rows among faultless. of_each Keeps s.rules each a among values rows (subst (λ b. use_fault b a values rows ≡ []) no_override faultless) in
     let end = (walk s.rules [] nothing_held words).held in
-    let checks = or_else (defaults_fault (settled s.rules end).rows s.rules) (check_fault s (finished s.rules end) false) in
+    let rows = finished s.rules end in
+    let checks = or_else (defaults_fault (settled s.rules end).rows s.rules) (check_fault s rows false) in
     let first = no_kinds (walk_fault s [] (walk_from nothing_held) words) (or_else (settle_fault s.rules s.args_override_self end) checks) none in
     let second = no_kinds (settle_fault s.rules s.args_override_self end) checks first.1 in
-    let third = no_kinds (defaults_fault (settled s.rules end).rows s.rules) (check_fault s (finished s.rules end) false) second.1 in
-    (settles s Good keeps end second.0 (walks s Good keeps [] (walk_from nothing_held) words first.0 tt), third.1)
-
-names_model : (rows : List Row) (v : Text) → first_of (codes "model") rows ≡ Some v → IsModelName v → NamesModel rows
-names_model rows v is named = elim named [
-  | inl rvwmo ↦ (Rvwmo, is ∙ ap (λ t. Some t) rvwmo)
-  | inr ztso ↦ (Ztso, is ∙ ap (λ t. Some t) ztso)
-]
-
-has_model : (rows : List Row) → Good rows → has_row (codes "model") rows ≡ true → NamesModel rows
-has_model rows good has =
-    let it = first_value (codes "model") rows good has in names_model rows it.0 it.1 (it.2 refl)
-
-has_text : (id : Text) (rows : List Row) → Good rows → is_given id rows ≡ true → HasText id rows
-has_text id rows good given =
-    let it = first_value id rows good (given_has id rows given) in (it.0, it.1)
-
-has_flag : (rows : List Row) → Good rows → has_row (codes "raw") rows ≡ true → (flag : Bool) × (one_of (codes "raw") rows ≡ Some (flag_text flag))
-has_flag rows good has =
-    let it = truth rows good has in
-    elim it.2 [
-      | inl on ↦ (true, it.1 ∙ ap (λ t. Some t) on)
-      | inr off ↦ (false, it.1 ∙ ap (λ t. Some t) off)
-    ]
+    let third = no_kinds (defaults_fault (settled s.rules end).rows s.rules) (check_fault s rows false) second.1 in
+    let wanted = list_any (λ a. a.required && not (is_given a.id rows)) s.rules in
+    let none_wanted : wanted ≡ false =
+    ap (λ b. not (b && false) && wanted) (sym no_negation) ∙ no_argument_wanted _ _ (not (s.subcommand_negates_reqs && false) && wanted) third.1 in
+    let good = settles s Good keeps end second.0 (walks s Good keeps [] (walk_from nothing_held) words first.0 tt) in
+    record {
+      good = defaults_good s.rules (settled s.rules end).rows fine good;
+      chosen = λ a v vs among is. defaults_add s.rules (settled s.rules end).rows a v vs among is;
+      given = all_given s.rules rows none_wanted;
+    }
 
 abbrev above : Shape
-above = with_leaf_noted (marked_built (usage raw_flag raw_flag).top)
+above = with_leaf_noted (marked_built (usage raw_flag raw_flag raw_flag).top)
 
 abbrev replay_built : Bor (List (Bor Text)) → Shape
 replay_built names = built_leaf (inherited above (replay_usage (model_option names)).top)
 
+abbrev run_built : Bor (List (Bor Text)) → Shape
+run_built names = built_leaf (inherited above (run_usage (model_option names)).top)
+
 abbrev check_built : Bor (List (Bor Text)) → Shape
 check_built names = built_leaf (inherited above (check_usage (model_option names)).top)
+
+raw_default : Fine (codes "raw") AsWritten (codes "false")
+raw_default = raw_fine (codes "false") (inr refl)
+
+model_default : (how : Reading) → Fine (codes "model") how (codes "rvwmo")
+model_default how = model_fine how (codes "rvwmo") (inl refl)
+
+file_id : (id : Text) → bytes_eq id (codes "model") ≡ false → bytes_eq id (codes "raw") ≡ false → is_size id ≡ false → bytes_eq id (codes "limit") ≡ false → IsFileId id
+file_id id model raw size limit = record { model = model; raw = raw; size = size; limit = limit }
 
 replay_whole : (names : Bor (List (Bor Text))) (words : List Text) → NamesModels names → level_fault (replay_built names) [] nothing_held words false [] ≡ []
     → IsComplete (codes "replay") (rows_after (replay_built names).rules [] words)
 replay_whole names words are none =
     let s = replay_built names in
-    let each : Each Keeps s.rules =
-    (raw_keeps 1, (model_keeps 1 names are, (file_keeps 1 (codes "IMAGE") refl refl, (file_keeps 2 (codes "SCRIPT") refl refl, (help_keeps 3, tt))))) in
-    let at_end = level s words (λ a values rows among. of_each Keeps s.rules each a among values rows) none in
-    let r0 = (settled s.rules (walk s.rules [] nothing_held words).held).rows in
-    let r1 = with_default r0 (raw_built 1) in
-    let r2 = with_default r1 (model_built 1 names) in
-    let r3 = with_default r2 (file_built 1 (codes "IMAGE")) in
-    let r4 = with_default r3 (file_built 2 (codes "SCRIPT")) in
-    let r5 = with_default r4 (help_built 3) in
-    let good1 = default_good r0 (raw_built 1) (λ never. absurd (false≢true never), λ _. (refl, inr refl)) at_end.0 in
-    let good2 = default_good r1 (model_built 1 names) (λ _. inl refl, λ never. absurd (false≢true never)) good1 in
-    let good5 = default_good r4 (help_built 3) tt (default_good r3 (file_built 2 (codes "SCRIPT")) tt (default_good r2 (file_built 1 (codes "IMAGE")) tt good2)) in
-    let later : (id : Text) → has_row id r2 ≡ true → has_row id r5 ≡ true =
-    λ id has. default_keeps id r4 (help_built 3) (default_keeps id r3 (file_built 2 (codes "SCRIPT")) (default_keeps id r2 (file_built 1 (codes "IMAGE")) has)) in
-    let raw_has = later (codes "raw") (default_keeps (codes "raw") r1 (model_built 1 names) (default_adds r0 (raw_built 1) (codes "false") [] refl)) in
-    let model_has = later (codes "model") (default_adds r1 (model_built 1 names) (codes "rvwmo") [] refl) in
-    let missing = no_kind (not (is_given (codes "IMAGE") r5) || (not (is_given (codes "SCRIPT") r5) || false)) kind.MissingRequiredArgument at_end.1 in
-    let image = neither (not (is_given (codes "IMAGE") r5)) (not (is_given (codes "SCRIPT") r5) || false) missing in
-    let script = neither (not (is_given (codes "SCRIPT") r5)) false image.1 in
-    let has_all : IsReplayComplete r5 = (
-      has_flag r5 good5 raw_has,
-      has_model r5 good5 model_has,
-      has_text (codes "IMAGE") r5 good5 (not_not _ image.0),
-      has_text (codes "SCRIPT") r5 good5 (not_not _ script.0),
+    let rows = rows_after s.rules [] words in
+    let each : Each Keeps s.rules = (
+      raw_keeps 1,
+      (model_keeps 1 names are, (file_keeps 1 (codes "IMAGE") (file_id _ refl refl refl refl), (file_keeps 2 (codes "SCRIPT") (file_id _ refl refl refl refl), (help_keeps 3, tt)))),
     ) in
-    inl (refl, has_all)
+    let it = level s words each (raw_default, (model_default _, (tt, (tt, (tt, tt))))) refl refl none in
+    inl (
+      refl,
+      (
+        has_flag rows it.good (it.chosen (raw_built 1) (codes "false") [] (inl refl) refl),
+        has_model rows it.good (it.chosen (model_built 1 names) (codes "rvwmo") [] (inr (inl refl)) refl),
+        has_text (codes "IMAGE") rows it.good (it.given (file_built 1 (codes "IMAGE")) (inr (inr (inl refl))) refl),
+        has_text (codes "SCRIPT") rows it.good (it.given (file_built 2 (codes "SCRIPT")) (inr (inr (inr (inl refl)))) refl),
+      ),
+    )
+
+abbrev size_built : Text → Text → Rule
+size_built id default = number_built 1 id default 0 most_size
+
+size_keeps : (id default : Text) → bytes_eq id (codes "model") ≡ false → bytes_eq id (codes "raw") ≡ false → bytes_eq id (codes "limit") ≡ false → Keeps (size_built id default)
+size_keeps id default no_model no_raw no_limit = number_keeps 1 id default 0 most_size (size_bound id no_model no_raw no_limit)
+
+size_default : (id default : Text) → bytes_eq id (codes "model") ≡ false → bytes_eq id (codes "raw") ≡ false → bytes_eq id (codes "limit") ≡ false
+    → accepts false (parser.Unsigned 0 most_size) default ≡ true → Fine id AsWritten default
+size_default id default no_model no_raw no_limit fits = size_bound id no_model no_raw no_limit default (accepts-Accepts false (parser.Unsigned 0 most_size) default fits)
+
+limit_default : Fine (codes "limit") AsWritten (codes "1000000")
+limit_default = limit_bound (codes "1000000") (accepts-Accepts false (parser.Unsigned least_limit most_limit) (codes "1000000") refl)
+
+run_whole : (names : Bor (List (Bor Text))) (words : List Text) → NamesModels names → level_fault (run_built names) [] nothing_held words false [] ≡ []
+    → IsComplete (codes "run") (rows_after (run_built names).rules [] words)
+run_whole names words are none =
+    let s = run_built names in
+    let rows = rows_after s.rules [] words in
+    let ends : Each Keeps (number_built 1 (codes "limit") (codes "1000000") least_limit most_limit ∷ journal_built 1 ∷ file_built 1 (codes "IMAGE") ∷ help_built 2 ∷ []) = (
+      number_keeps 1 (codes "limit") (codes "1000000") least_limit most_limit limit_bound,
+      (journal_keeps 1, (file_keeps 1 (codes "IMAGE") (file_id _ refl refl refl refl), (help_keeps 2, tt))),
+    ) in
+    let each : Each Keeps s.rules = (
+      raw_keeps 1,
+      (
+        size_keeps (codes "harts") (codes "1") refl refl refl,
+        (
+          size_keeps (codes "memory") (codes "64") refl refl refl,
+          (
+            size_keeps (codes "sets") (codes "4") refl refl refl,
+            (size_keeps (codes "ways") (codes "2") refl refl refl, (size_keeps (codes "line") (codes "16") refl refl refl, (model_keeps 1 names are, ends))),
+          ),
+        ),
+      ),
+    ) in
+    let fine : FineDefaults s.rules = (
+      raw_default,
+      (
+        size_default (codes "harts") (codes "1") refl refl refl refl,
+        (
+          size_default (codes "memory") (codes "64") refl refl refl refl,
+          (
+            size_default (codes "sets") (codes "4") refl refl refl refl,
+            (
+              size_default (codes "ways") (codes "2") refl refl refl refl,
+              (size_default (codes "line") (codes "16") refl refl refl refl, (model_default _, (limit_default, (tt, (tt, (tt, tt)))))),
+            ),
+          ),
+        ),
+      ),
+    ) in
+    let it = level s words each fine refl refl none in
+    inr (inl (
+      refl,
+      record {
+        raw = has_flag rows it.good (it.chosen (raw_built 1) (codes "false") [] (inl refl) refl);
+        harts = has_size (codes "harts") rows refl it.good (it.chosen (size_built (codes "harts") (codes "1")) (codes "1") [] (inr (inl refl)) refl);
+        memory = has_size (codes "memory") rows refl it.good (it.chosen (size_built (codes "memory") (codes "64")) (codes "64") [] (inr (inr (inl refl))) refl);
+        sets = has_size (codes "sets") rows refl it.good (it.chosen (size_built (codes "sets") (codes "4")) (codes "4") [] (inr (inr (inr (inl refl)))) refl);
+        ways = has_size (codes "ways") rows refl it.good (it.chosen (size_built (codes "ways") (codes "2")) (codes "2") [] (inr (inr (inr (inr (inl refl))))) refl);
+        line = has_size (codes "line") rows refl it.good (it.chosen (size_built (codes "line") (codes "16")) (codes "16") [] (inr (inr (inr (inr (inr (inl refl)))))) refl);
+        model = has_model rows it.good (it.chosen (model_built 1 names) (codes "rvwmo") [] (inr (inr (inr (inr (inr (inr (inl refl))))))) refl);
+        limit = has_number (codes "limit") least_limit most_limit rows (λ how v is. is.limit refl) it.good
+            (it.chosen (number_built 1 (codes "limit") (codes "1000000") least_limit most_limit) (codes "1000000") [] (inr (inr (inr (inr (inr (inr (inr (inl refl)))))))) refl);
+        journal = has_text (codes "journal") rows it.good (it.given (journal_built 1) (inr (inr (inr (inr (inr (inr (inr (inr (inl refl))))))))) refl);
+        image = has_text (codes "IMAGE") rows it.good (it.given (file_built 1 (codes "IMAGE")) (inr (inr (inr (inr (inr (inr (inr (inr (inr (inl refl)))))))))) refl);
+      },
+    ))
 
 check_whole : (names : Bor (List (Bor Text))) (words : List Text) → NamesModels names → level_fault (check_built names) [] nothing_held words false [] ≡ []
     → IsComplete (codes "check") (rows_after (check_built names).rules [] words)
 check_whole names words are none =
     let s = check_built names in
-    let each : Each Keeps s.rules = (model_keeps 1 names are, (file_keeps 1 (codes "TRACE") refl refl, (help_keeps 2, tt))) in
-    let at_end = level s words (λ a values rows among. of_each Keeps s.rules each a among values rows) none in
-    let r0 = (settled s.rules (walk s.rules [] nothing_held words).held).rows in
-    let r1 = with_default r0 (model_built 1 names) in
-    let r2 = with_default r1 (file_built 1 (codes "TRACE")) in
-    let r3 = with_default r2 (help_built 2) in
-    let good1 = default_good r0 (model_built 1 names) (λ _. inl refl, λ never. absurd (false≢true never)) at_end.0 in
-    let good3 = default_good r2 (help_built 2) tt (default_good r1 (file_built 1 (codes "TRACE")) tt good1) in
-    let model_has = default_keeps (codes "model") r2 (help_built 2) (default_keeps (codes "model") r1 (file_built 1 (codes "TRACE"))
-    (default_adds r0 (model_built 1 names) (codes "rvwmo") [] refl)) in
-    let missing = no_kind (not (is_given (codes "TRACE") r3) || false) kind.MissingRequiredArgument at_end.1 in
-    let trace = neither (not (is_given (codes "TRACE") r3)) false missing in
-    inr (refl, (has_model r3 good3 model_has, has_text (codes "TRACE") r3 good3 (not_not _ trace.0)))
+    let rows = rows_after s.rules [] words in
+    let each : Each Keeps s.rules = (model_keeps 1 names are, (file_keeps 1 (codes "TRACE") (file_id _ refl refl refl refl), (help_keeps 2, tt))) in
+    let it = level s words each (model_default _, (tt, (tt, tt))) refl refl none in
+    inr (inr (
+      refl,
+      (
+        has_model rows it.good (it.chosen (model_built 1 names) (codes "rvwmo") [] (inl refl) refl),
+        has_text (codes "TRACE") rows it.good (it.given (file_built 1 (codes "TRACE")) (inr (inl refl)) refl),
+      ),
+    ))
 
 -- ---- the whole usage
 
-entered_by : (replay_names check_names : Bor (List (Bor Text))) (given : List Row) (p : Text × List Text) (help : Shape) (x y z : Bool) → NamesModels replay_names → NamesModels check_names
-    → (z ≡ true → ⊥)
-    → option_map_or (λ s. level_fault s [] nothing_held p.1 false []) (cond x (Some (replay_built replay_names)) (cond y (Some (check_built check_names)) (cond z (Some help) None))) [] ≡ []
-    → check_fault (built (usage raw_flag raw_flag)).top given
-    (is_some (option_map (λ s. rows_at s p.1) (cond x (Some (replay_built replay_names)) (cond y (Some (check_built check_names)) (cond z (Some help) None))))) ≡ []
-    → (name : Text) × (rows : List Row)
-    × (option_map (λ s. rows_at s p.1) (cond x (Some (replay_built replay_names)) (cond y (Some (check_built check_names)) (cond z (Some help) None))) ≡ Some (name, rows)) × IsComplete name rows
-entered_by replay_names check_names given p help true y z replay_are check_are no_help none checked =
-    (codes "replay", rows_after (replay_built replay_names).rules [] p.1, refl, replay_whole replay_names p.1 replay_are none)
-entered_by replay_names check_names given p help false true z replay_are check_are no_help none checked =
-    (codes "check", rows_after (check_built check_names).rules [] p.1, refl, check_whole check_names p.1 check_are none)
-entered_by replay_names check_names given p help false false true replay_are check_are no_help none checked = absurd (no_help refl)
-entered_by replay_names check_names given p help false false false replay_are check_are no_help none checked =
+-- the models that the three subcommands' options name
+record Names3 : Type 0 where
+  replay : Bor (List (Bor Text))
+  run : Bor (List (Bor Text))
+  check : Bor (List (Bor Text))
+  replay_are : NamesModels replay
+  run_are : NamesModels run
+  check_are : NamesModels check
+
+abbrev usage_of : Names3 → App
+usage_of names = usage (model_option names.replay) (model_option names.run) (model_option names.check)
+
+abbrev met : Names3 → Shape → (x y w z : Bool) → Option Shape
+met names help x y w z = cond x (Some (replay_built names.replay)) (cond y (Some (run_built names.run)) (cond w (Some (check_built names.check)) (cond z (Some help) None)))
+
+entered_by : (names : Names3) (given : List Row) (p : Text × List Text) (help : Shape) (x y w z : Bool) → (z ≡ true → ⊥)
+    → option_map_or (λ s. level_fault s [] nothing_held p.1 false []) (met names help x y w z) [] ≡ []
+    → check_fault (built (usage raw_flag raw_flag raw_flag)).top given (is_some (option_map (λ s. rows_at s p.1) (met names help x y w z))) ≡ []
+    → (name : Text) × (rows : List Row) × (option_map (λ s. rows_at s p.1) (met names help x y w z) ≡ Some (name, rows)) × IsComplete name rows
+entered_by names given p help true y w z no_help none checked =
+    (codes "replay", rows_after (replay_built names.replay).rules [] p.1, refl, replay_whole names.replay p.1 names.replay_are none)
+entered_by names given p help false true w z no_help none checked =
+    (codes "run", rows_after (run_built names.run).rules [] p.1, refl, run_whole names.run p.1 names.run_are none)
+entered_by names given p help false false true z no_help none checked =
+    (codes "check", rows_after (check_built names.check).rules [] p.1, refl, check_whole names.check p.1 names.check_are none)
+entered_by names given p help false false false true no_help none checked = absurd (no_help refl)
+entered_by names given p help false false false false no_help none checked =
     let bad : kind.MissingSubcommand ∷ [] ≡ [] = checked in cc
 
 no_call : (name : Text) → (bytes_eq name (codes "help") && true) ≡ false → (bytes_eq (codes "help") name || false) ≡ true → ⊥
@@ -369,21 +589,20 @@ no_call name not_help asks = elim (either_true (bytes_eq (codes "help") name) fa
   | inr never ↦ false≢true never
 ]
 
-entered_whole : (replay_names check_names : Bor (List (Bor Text))) (given : List Row) (stop : Option (Text × List Text)) → NamesModels replay_names → NamesModels check_names
-    → IsNoHelp (built (usage raw_flag raw_flag)).top stop → entered_fault (built (usage (model_option replay_names) (model_option check_names))) stop ≡ []
-    → check_fault (built (usage raw_flag raw_flag)).top given (is_some (entered (built (usage (model_option replay_names) (model_option check_names))) stop)) ≡ []
-    → (name : Text) × (rows : List Row) × (entered (built (usage (model_option replay_names) (model_option check_names))) stop ≡ Some (name, rows)) × IsComplete name rows
-entered_whole replay_names check_names given None replay_are check_are no_help none checked =
+entered_whole : (names : Names3) (given : List Row) (stop : Option (Text × List Text)) → IsNoHelp (built (usage raw_flag raw_flag raw_flag)).top stop
+    → entered_fault (built (usage_of names)) stop ≡ []
+    → check_fault (built (usage raw_flag raw_flag raw_flag)).top given (is_some (entered (built (usage_of names)) stop)) ≡ []
+    → (name : Text) × (rows : List Row) × (entered (built (usage_of names)) stop ≡ Some (name, rows)) × IsComplete name rows
+entered_whole names given None no_help none checked =
     let bad : kind.MissingSubcommand ∷ [] ≡ [] = checked in cc
-entered_whole replay_names check_names given (Some p) replay_are check_are no_help none checked =
-    entered_by replay_names check_names given p (built_leaf help_shape) (bytes_eq (codes "replay") p.0 || false) (bytes_eq (codes "check") p.0 || false) (bytes_eq (codes "help") p.0 || false)
-    replay_are check_are (no_call p.0 no_help) none checked
+entered_whole names given (Some p) no_help none checked =
+    entered_by names given p (built_leaf help_shape) (bytes_eq (codes "replay") p.0 || false) (bytes_eq (codes "run") p.0 || false) (bytes_eq (codes "check") p.0 || false)
+    (bytes_eq (codes "help") p.0 || false) (no_call p.0 no_help) none checked
 
-pub fitting : (replay_names check_names : Bor (List (Bor Text))) (words : List Text) → NamesModels replay_names → NamesModels check_names
-    → fault_of (usage (model_option replay_names) (model_option check_names)) words ≡ []
-    → (name : Text) × (rows : List Row) × (subcommand_of (usage (model_option replay_names) (model_option check_names)) words ≡ Some (name, rows)) × IsComplete name rows
-fitting replay_names check_names words replay_are check_are none =
-    let a = built (usage (model_option replay_names) (model_option check_names)) in
+fits : (names : Names3) (words : List Text) → fault_of (usage_of names) words ≡ []
+    → (name : Text) × (rows : List Row) × (subcommand_of (usage_of names) words ≡ Some (name, rows)) × IsComplete name rows
+fits names words none =
+    let a = built (usage_of names) in
     let args = drop 1 words in
     let end = walk a.top.rules (names_of a) nothing_held args in
     let rows = finished a.top.rules end.held in
@@ -395,4 +614,32 @@ fitting replay_names check_names words replay_are check_are none =
     let second = no_kinds below (or_else settling (or_else defaults checks)) first.1 in
     let third = no_kinds settling (or_else defaults checks) second.1 in
     let fourth = no_kinds defaults checks third.1 in
-    entered_whole replay_names check_names rows end.stopped replay_are check_are (walk_is_none a.top (names_of a) (walk_from nothing_held) args first.0 tt) second.0 fourth.1
+    entered_whole names rows end.stopped (walk_is_none a.top (names_of a) (walk_from nothing_held) args first.0 tt) second.0 fourth.1
+
+-- ---- whatever model options the usage has
+
+written_out : (app : App) (u : IsUsage app) → app ≡ usage (model_option u.replay_option.0) (model_option u.run_option.0) (model_option u.check_option.0)
+written_out app u = u.whole ∙ (λ i. usage (u.replay_option.2 i) (u.run_option.2 i) (u.check_option.2 i))
+
+is_simple_usage : (a b c : Bor (List (Bor Text))) → is_simple_and_free (usage (model_option a) (model_option b) (model_option c)) ≡ true
+is_simple_usage a b c = refl
+
+pub free : (app : App) → IsUsage app → is_simple_and_free app ≡ true
+free app u = ap is_simple_and_free (written_out app u) ∙ is_simple_usage u.replay_option.0 u.run_option.0 u.check_option.0
+
+pub simple : (app : App) → IsUsage app → is_simple app ≡ true
+simple app u = ap is_simple (written_out app u) ∙ refl
+
+pub fitting : (app : App) (words : List Text) → IsUsage app → fault_of app words ≡ [] → (name : Text) × (rows : List Row) × (subcommand_of app words ≡ Some (name, rows)) × IsComplete name rows
+fitting app words u none =
+    let is = written_out app u in
+    let names : Names3 = record {
+      replay = u.replay_option.0;
+      run = u.run_option.0;
+      check = u.check_option.0;
+      replay_are = u.replay_option.1;
+      run_are = u.run_option.1;
+      check_are = u.check_option.1;
+    } in
+    subst (λ a. (name : Text) × (rows : List Row) × (subcommand_of a words ≡ Some (name, rows)) × IsComplete name rows) (sym is)
+    (fits names words (subst (λ a. fault_of a words ≡ []) is none))

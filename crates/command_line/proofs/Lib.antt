@@ -1,6 +1,9 @@
+mod Again
 mod Fitting
 mod Left
 mod Limits
 mod Missing
+mod Numbers
 mod Replays
 mod Walked
+mod Written

@@ -1,7 +1,7 @@
 -- What a text holds is within the limits of a machine and of an order.
 use Rattle.std.proofs.Common.{◌≡◌, ◌≤◌, ◌<◌, ◌&&◌, ℕ, Bool, List, [], ◌∷◌, arith, false, length, suc, true, zero, refl}
 use Rattle.std.specs.List.{AllByRecursion, slice_index_or}
-use Rattle.std.proofs.lemmas.Bool.{false≢true}
+use Rattle.std.proofs.lemmas.Bool.{eq-eqb, false≢true, le-leb}
 use Rattle.std.proofs.lemmas.Bool.Decides.{nat_tests}
 use Rattle.command_line.specs.Composition.{config_of}
 use Rattle.elf_loader.specs.Size.{IsMemoryKib}
@@ -10,7 +10,7 @@ use Rattle.memory_model.specs.declared.Model.{Model}
 use Rattle.rvwmo_order.specs.Limits.{IsWithinLimits}
 use Rattle.trace_recorder.specs.History.{History}
 use Rattle.hart.specs.declared.retired.Retired.{Retired}
-use Rattle.trace_text.specs.Scripts.{IsScript}
+use Rattle.trace_text.specs.Scripts.{IsScript, head_of, is_head}
 use Rattle.trace_text.specs.TraceLimits.{IsHart, IsTrace}
 use Rattle.trace_text.specs.declared.script.Script.{Script}
 use Rattle.std.specs.Prelude.{nat_le, ◌==◌, ◌||◌, ◌%◌}
@@ -52,3 +52,22 @@ order_within t is = record {
   harts = let most : length t.statuses ≤ 8 = is.head.at_most_8 in omega (arith, is.lists);
   places = places t.entries is.entries;
 }
+
+-- ---- and back: a machine within the limits, and its memory, have a head
+
+with_size : (a b k p w v l : Bool) → (a && b && p && w && v && l) ≡ true → k ≡ true → (a && b && k && p && (w && v) && l) ≡ true
+with_size true true true true true true l is sized = is
+with_size false b k p w v l is sized = absurd (false≢true is)
+with_size true false k p w v l is sized = absurd (false≢true is)
+with_size true true false p w v l is sized = absurd (false≢true sized)
+with_size true true true false w v l is sized = absurd (false≢true is)
+with_size true true true true false v l is sized = absurd (false≢true is)
+with_size true true true true true false l is sized = absurd (false≢true is)
+
+kib_test : (kib : ℕ) → IsMemoryKib kib → (nat_le 4 kib && nat_le kib 1024 && kib % 4 == 0) ≡ true
+kib_test kib is = rw (le-leb 4 kib is.at_least, le-leb kib 1024 is.at_most, eq-eqb (kib % 4) 0 is.whole_pages) refl
+
+pub script_within : (s : Script) (model : Model) → is_within_limits (config_of s model) ≡ true → IsMemoryKib s.kib → is_head (head_of s) ≡ true
+script_within s model is sized =
+    with_size (nat_le 1 s.harts) (nat_le s.harts 8) (nat_le 4 s.kib && nat_le s.kib 1024 && s.kib % 4 == 0) (is_power_to_64 s.sets) (nat_le 1 s.ways) (nat_le s.ways 4) (s.line == 16 || s.line == 64) is
+    (kib_test s.kib sized)

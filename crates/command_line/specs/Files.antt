@@ -1,5 +1,5 @@
 -- What the program's files are read as.
-use Rattle.std.specs.Prelude.{◌≡◌, ℕ, ◌*◌, Bool, List, Ok, Result, if◌then◌else◌}
+use Rattle.std.specs.Prelude.{◌≡◌, ℕ, ◌*◌, Bool, List, Ok, Result, Some, if◌then◌else◌}
 use Rattle.elf_loader.specs.Load.{load_answer}
 use Rattle.elf_loader.specs.Raw.{raw_answer}
 use Rattle.elf_loader.specs.Image.{Initial}
@@ -16,6 +16,10 @@ use Rattle.command_line.specs.Held.{Held, HoldsBytes}
 pub record HoldsScript (held : Held) (name : List ℕ) (script : Script) : Type 0 where
   pub is_script : IsScript script
   pub bytes : HoldsBytes held name (scripts.text script)
+
+-- whatever script has the bytes of the file as its text, it is this one
+abbrev pub IsTheScriptIn : Held → List ℕ → Script → Type 0
+IsTheScriptIn held name script = (other : Script) → IsScript other → held name ≡ Some (scripts.text other) → script ≡ other
 
 abbrev pub image_answer : Bool → List ℕ → ℕ → Result Initial LoadError
 image_answer is_raw bytes size = if is_raw then raw_answer bytes size else load_answer bytes size

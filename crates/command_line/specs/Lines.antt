@@ -1,5 +1,5 @@
--- What a replay and a check have done.
-use Rattle.std.specs.Prelude.{◌≡◌, ◌↔◌, ◌⊎◌, ℕ, List, ◌++◌, Option, codes}
+-- What a replay, a run and a check have done.
+use Rattle.std.specs.Prelude.{◌≡◌, ◌↔◌, ◌⊎◌, ℕ, List, ◌++◌, None, Option, codes}
 use Rattle.std.specs.Io.KnownBytes.{Appends}
 use Rattle.std.specs.Fmt.{decimal}
 use Rattle.elf_loader.specs.Image.{Initial}
@@ -7,7 +7,7 @@ use Rattle.machine_model.specs.Views.{State}
 use Rattle.memory_model.specs.Traces.{IsLegalOrder, completed}
 use Rattle.memory_model.specs.Verdict.{fault_in}
 use Rattle.memory_model.specs.declared.Model.{Model}
-use Rattle.rvwmo_order.specs.Answers.{fault_told}
+use Rattle.rvwmo_order.specs.Answers.{fault_told, refusal}
 use Rattle.rvwmo_order.specs.Codes.{number_of}
 use Rattle.rvwmo_order.specs.declared.verdict.Verdict.{Verdict}
 use Rattle.rvwmo_order.specs.declared.verdict.Verdict.TheVariants.{Legal, Fault}
@@ -16,21 +16,37 @@ use Rattle.trace_recorder.specs.declared.operation.OpId.{OpId}
 use Rattle.text_fields.specs.Writing.{Begins}
 use Rattle.trace_text.specs.Traces.{text}
 use Rattle.trace_text.specs.declared.script.Script.{Script}
-use Rattle.command_line.specs.Composition.{IsComposition, Leads}
-use Rattle.command_line.specs.Files.{HoldsImage, HoldsScript, HoldsTrace}
+use Rattle.command_line.specs.Composition.{IsComposition, Leads, config_of}
+use Rattle.command_line.specs.Files.{HoldsImage, HoldsScript, HoldsTrace, IsTheScriptIn}
 use Rattle.command_line.specs.Held.{Held}
-use Rattle.command_line.specs.declared.fault.Fault.{Fault as Trouble}
-use Rattle.command_line.specs.declared.fault.Fault.TheVariants.{CannotWrite, Configuration, OutOfMemory}
+use Rattle.command_line.specs.Sizes.{config_named}
 use Rattle.command_line.specs.declared.wanted.Replay.{Replay}
+use Rattle.command_line.specs.declared.wanted.Run.{Run}
 
--- what was appended is the text of the trace that the script in the one file means for the image in the other
+-- what was appended is the text of the trace that the script in the one file means for the image in the other; no other script has that file's text
 pub record IsReplayed (held : Held) (replay : Replay) (old new : Option (List ℕ)) : Type 0 where
   pub script : Script
   pub image : Initial
   pub reached : State
   pub script_file : HoldsScript held replay.script.now script
   pub image_file : HoldsImage held replay.raw replay.image.now script.kib image
+  pub only : IsTheScriptIn held replay.script.now script
   pub composed : IsComposition image script replay.model old new reached
+
+-- the run of the image in the one file has left this script in the other: it is for the machine that was named
+pub record IsKept (held left : Held) (run : Run) (image : Initial) (script : Script) : Type 0 where
+  pub image_file : HoldsImage held run.raw run.image.now run.memory image
+  pub config : config_of script run.model ≡ config_named run
+  pub memory : script.kib ≡ run.memory
+  pub journal_file : HoldsScript left run.journal.now script
+
+-- and what was appended is the text of the trace that this script means for that image
+pub record IsRun (held left : Held) (run : Run) (old new : Option (List ℕ)) : Type 0 where
+  pub script : Script
+  pub image : Initial
+  pub reached : State
+  pub kept : IsKept held left run image script
+  pub composed : IsComposition image script run.model old new reached
 
 -- an operation as HART:PLACE
 abbrev pub operation_text : OpId → List ℕ
@@ -41,8 +57,9 @@ verdict_text Legal = codes "legal\n"
 verdict_text (Fault code a b) =
     codes "fault " ++ (decimal (number_of code) ++ (codes " " ++ (operation_text a ++ (codes " " ++ (operation_text b ++ codes "\n")))))
 
--- the verdict on a trace's completed order: legal, or the first fault that the order has
+-- the verdict on a trace's completed order, where the checker doesn't refuse it: legal, or the first fault that the order has
 pub record IsVerdict (model : Model) (trace : History) (verdict : Verdict) : Type 0 where
+  pub judged : refusal trace (completed trace) ≡ None
   pub legal : (verdict ≡ Legal) ↔ IsLegalOrder model trace (completed trace)
   pub first : fault_told verdict ≡ fault_in model trace (completed trace)
 
@@ -53,9 +70,9 @@ pub record IsJudged (held : Held) (name : List ℕ) (model : Model) (verdict : V
   pub judged : IsVerdict model trace verdict
   pub printed : Appends old new (verdict_text verdict)
 
--- ---- where they answer Err
+-- ---- where the output takes no more
 
--- the output took no more than a beginning of the text of the trace that the script in the one file means for the image in the other
+-- it took no more than a beginning of the text of the trace that the script in the one file means for the image in the other
 pub record IsCutOff (held : Held) (replay : Replay) (old new : Option (List ℕ)) : Type 0 where
   pub script : Script
   pub image : Initial
@@ -65,22 +82,19 @@ pub record IsCutOff (held : Held) (replay : Replay) (old new : Option (List ℕ)
   pub replayed : Leads image script replay.model reached
   pub begun : Begins old new (text reached.trace)
 
--- the file has a trace on which there is a verdict
-pub record HasVerdict (held : Held) (name : List ℕ) (model : Model) : Type 0 where
+-- the run's script is kept, and the output took no more than a beginning of the text of the trace that it means
+pub record IsRunCutOff (held left : Held) (run : Run) (old new : Option (List ℕ)) : Type 0 where
+  pub script : Script
+  pub image : Initial
+  pub reached : State
+  pub kept : IsKept held left run image script
+  pub replayed : Leads image script run.model reached
+  pub begun : Begins old new (text reached.trace)
+
+-- it took no more than a beginning of the verdict on the trace in the file
+pub record IsVerdictCutOff (held : Held) (name : List ℕ) (model : Model) (old new : Option (List ℕ)) : Type 0 where
   pub trace : History
   pub verdict : Verdict
   pub file : HoldsTrace held name trace
   pub judged : IsVerdict model trace verdict
-
--- something is wrong with a file or with what it holds, or memory ran out
-abbrev pub IsOfFile : Trouble → Type 0
-IsOfFile CannotWrite = ⊥
-IsOfFile Configuration = ⊥
-IsOfFile _ = Unit {0}
-
--- what a fault has left on the output: nothing, but where the output itself had the fault or memory ran out. What the files hold is never beyond the limits of a machine
-abbrev pub Leaves : Trouble → Option (List ℕ) → Option (List ℕ) → Type 0 → Type 0
-Leaves CannotWrite old new broken = broken
-Leaves OutOfMemory old new broken = (new ≡ old) ⊎ broken
-Leaves Configuration old new broken = ⊥
-Leaves _ old new broken = new ≡ old
+  pub begun : Begins old new (verdict_text verdict)

@@ -1,43 +1,61 @@
 -- What a run of the program has done, by its status.
-use Rattle.std.specs.Prelude.{◌≡◌, ◌⊎◌, ℕ, List, Option}
+use Rattle.std.specs.Prelude.{◌≡◌, ◌≢◌, ◌⊎◌, ℕ, List, Option}
 use Rattle.clap.specs.Words.{Text}
 use Rattle.command_line.specs.Held.{Held}
-use Rattle.command_line.specs.Lines.{HasVerdict, IsCutOff, IsJudged, IsReplayed}
-use Rattle.command_line.specs.Refusals.{IsForHelp}
+use Rattle.command_line.specs.Lines.{IsCutOff, IsJudged, IsReplayed, IsRun, IsRunCutOff, IsVerdictCutOff}
+use Rattle.command_line.specs.Refusals.{IsFitting, IsForHelp}
 use Rattle.command_line.specs.Settings.{IsNamed}
+use Rattle.command_line.specs.Sizes.{IsOutside}
 use Rattle.command_line.specs.declared.wanted.Settings.{Settings}
-use Rattle.command_line.specs.declared.wanted.Settings.TheVariants.{Check, Replay}
+use Rattle.command_line.specs.declared.wanted.Settings.TheVariants.{Check, Replay, Run}
 use Rattle.rvwmo_order.specs.declared.verdict.Code.{Code}
 use Rattle.rvwmo_order.specs.declared.verdict.Verdict.TheVariants.{Fault, Legal}
 use Rattle.trace_recorder.specs.declared.operation.OpId.{OpId}
 
--- P holds of the settings that the words name
+-- the words fit the usage, and P holds of the settings that they name
 abbrev pub HasNamed : List Text → (Settings → Type 0) → Type 0
-HasNamed words P = (wanted : Settings) × IsNamed words wanted × P wanted
+HasNamed words P = (wanted : Settings) × IsNamed words wanted × IsFitting words × P wanted
 
--- the script was replayed and its trace printed, or the trace's order is legal
-abbrev pub IsDone : Held → Option (List ℕ) → Option (List ℕ) → Settings → Type 0
-IsDone held old new (Replay replay) = IsReplayed held replay old new
-IsDone held old new (Check model trace) = IsJudged held trace.now model Legal old new
+-- the script was replayed and its trace printed, the program ran and its journal was kept and its trace printed, or the trace's order is legal
+abbrev pub IsDone : Held → Held → Option (List ℕ) → Option (List ℕ) → Settings → Type 0
+IsDone held left old new (Replay replay) = IsReplayed held replay old new
+IsDone held left old new (Run run) = IsRun held left run old new
+IsDone held left old new (Check model trace) = IsJudged held trace.now model Legal old new
 
 -- the words ask for help, or what they name was done
-abbrev pub IsCarriedOut : List Text → Held → Option (List ℕ) → Option (List ℕ) → Type 0
-IsCarriedOut words held old new = IsForHelp words ⊎ HasNamed words (IsDone held old new)
+unfoldable pub IsCarriedOut : List Text → Held → Held → Option (List ℕ) → Option (List ℕ) → Type 0
+IsCarriedOut words held left old new = IsForHelp words ⊎ HasNamed words (IsDone held left old new)
 
 -- the trace's order is not legal, and the fault that shows it was printed
 abbrev pub IsFaulty : Held → Option (List ℕ) → Option (List ℕ) → Settings → Type 0
 IsFaulty held old new (Replay replay) = ⊥
+IsFaulty held old new (Run run) = ⊥
 IsFaulty held old new (Check model trace) =
     (code : Code) × (a : OpId) × (b : OpId) × IsJudged held trace.now model (Fault code a b) old new
 
-abbrev pub IsNotLegal : List Text → Held → Option (List ℕ) → Option (List ℕ) → Type 0
+unfoldable pub IsNotLegal : List Text → Held → Option (List ℕ) → Option (List ℕ) → Type 0
 IsNotLegal words held old new = HasNamed words (IsFaulty held old new)
 
--- a beginning of the trace's text was printed, or there is a verdict to print
-abbrev pub IsBroken : Held → Option (List ℕ) → Option (List ℕ) → Settings → Type 0
-IsBroken held old new (Replay replay) = IsCutOff held replay old new
-IsBroken held old new (Check model trace) = HasVerdict held trace.now model
+-- no more than a beginning of what was to be printed went out
+abbrev pub IsBroken : Held → Held → Option (List ℕ) → Option (List ℕ) → Settings → Type 0
+IsBroken held left old new (Replay replay) = IsCutOff held replay old new
+IsBroken held left old new (Run run) = IsRunCutOff held left run old new
+IsBroken held left old new (Check model trace) = IsVerdictCutOff held trace.now model old new
 
--- nothing was printed, or a beginning of the trace of events that were all replayed; or there was help or a verdict to print, whatever of it went out
-abbrev pub IsUnprinted : List Text → Held → Option (List ℕ) → Option (List ℕ) → Type 0
-IsUnprinted words held old new = (new ≡ old) ⊎ (IsForHelp words ⊎ HasNamed words (IsBroken held old new))
+-- nothing was printed, or a beginning of a trace or a verdict; or there was help to print, whatever of it went out
+unfoldable pub IsUnprinted : List Text → Held → Held → Option (List ℕ) → Option (List ℕ) → Type 0
+IsUnprinted words held left old new = (new ≡ old) ⊎ (IsForHelp words ⊎ HasNamed words (IsBroken held left old new))
+
+-- the words name a machine that can't be made
+abbrev pub IsBeyond : Settings → Type 0
+IsBeyond (Run run) = IsOutside run
+IsBeyond _ = ⊥
+
+-- the file is the journal of a run
+abbrev pub IsJournal : Text → Settings → Type 0
+IsJournal name (Run run) = name ≡ run.journal.now
+IsJournal name _ = ⊥
+
+-- no file but the journal of the run that the words name is another than before
+abbrev pub Spares : List Text → Held → Held → Type 0
+Spares words held left = (name : Text) → left name ≢ held name → HasNamed words (IsJournal name)

@@ -1,9 +1,10 @@
 //! `rvtl check`: the order of a trace's memory operations is judged, and the verdict printed.
 
-ghost use Rattle.std.specs.Prelude.{IfErr, IfOk, OnOk};
-ghost use Rattle.std.specs.Io.KnownBytes.{Appends};
+ghost use Rattle.std.specs.Prelude.{◌≡◌, IfErr, IfOk};
+ghost use Rattle.text_fields.specs.Writing.{Writes};
 ghost use Rattle.rvwmo_order.specs.Limits.{IsWithinLimits};
-ghost use Rattle.command_line.specs.Lines.{HasVerdict, IsJudged, IsVerdict, Leaves, verdict_text};
+ghost use Rattle.command_line.specs.Lines.{IsJudged, IsVerdict, IsVerdictCutOff, verdict_text};
+ghost use Rattle.command_line.specs.Turns.{IsCheckFault, Leaves};
 
 use crate::fault::Fault;
 use crate::files::Files;
@@ -12,6 +13,7 @@ use machine_model::Model;
 use rvwmo_order::{CheckError, Verdict, check_model, completed, has_too_many, is_within_limits};
 use std::alloc::Global;
 use std::io::{self, Write};
+use text_fields::{Piece, put_pieces};
 use trace_recorder::Trace;
 use trace_text::read_trace;
 
@@ -25,7 +27,9 @@ pub(crate) fn check_file<'a, F: Files, O: Write>(
 ) -> Result<Verdict, Fault<'a>>
     ensures judged { IfOk result (λ verdict. IsJudged (F.held files.old) file.entry.now model verdict (O.contents out.old) (O.contents out.new)) }
     ensures unfinished { IfErr result (λ fault. Leaves fault (O.contents out.old) (O.contents out.new)
-        (HasVerdict (F.held files.old) file.entry.now model)) }
+        (IsVerdictCutOff (F.held files.old) file.entry.now model (O.contents out.old) (O.contents out.new))) }
+    ensures told { IfErr result (IsCheckFault (F.held files.old) file.entry) }
+    ensures spared { F.held files.new ≡ F.held files.old }
 {
     let bytes = contents(alloc, files, file)?;
     let (trace, length) = match read_trace(alloc, bytes.as_slice()) {
@@ -37,7 +41,7 @@ pub(crate) fn check_file<'a, F: Files, O: Write>(
     }
     // A text can't spell a trace beyond the limits.
     if !is_within_limits(&trace) {
-        return Err(Fault::Configuration);
+        unreachable!()
     }
     let verdict = match judged(alloc, &trace, model) {
         Ok(verdict) => verdict,
@@ -62,15 +66,32 @@ fn judged(alloc: Global, trace: &Trace, model: Model) -> Result<Verdict, CheckEr
 }
 
 fn print<O: Write>(verdict: Verdict, out: &mut O) -> io::Result<()>
-    ensures { OnOk result (Appends (O.contents out.old) (O.contents out.new) (verdict_text verdict)) }
+    ensures { Writes (O.contents out.old) (O.contents out.new) (verdict_text verdict) result }
+{
+    put_verdict(verdict, out)?;
+    out.flush()
+}
+
+fn put_verdict<O: Write>(verdict: Verdict, out: &mut O) -> io::Result<()>
+    ensures { Writes (O.contents out.old) (O.contents out.new) (verdict_text verdict) result }
 {
     match verdict {
-        Verdict::Legal => writeln!(out, "legal")?,
-        Verdict::Fault(code, a, b) => {
-            let number = code.number();
-            let (x, i, y, j) = (a.hart, a.place, b.hart, b.place);
-            writeln!(out, "fault {number} {x}:{i} {y}:{j}")?;
-        }
+        Verdict::Legal => put_pieces(out, &[Piece::Text(b"legal\n")]),
+        Verdict::Fault(code, a, b) => put_pieces(
+            out,
+            &[
+                Piece::Text(b"fault "),
+                Piece::Number(u64::from(code.number())),
+                Piece::Text(b" "),
+                Piece::Number(u64::from(a.hart)),
+                Piece::Text(b":"),
+                Piece::Number(u64::from(a.place)),
+                Piece::Text(b" "),
+                Piece::Number(u64::from(b.hart)),
+                Piece::Text(b":"),
+                Piece::Number(u64::from(b.place)),
+                Piece::Text(b"\n"),
+            ],
+        ),
     }
-    out.flush()
 }

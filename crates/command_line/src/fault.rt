@@ -1,14 +1,15 @@
 //! Why the program ends with another status than 0.
 
-ghost use Rattle.std.specs.Prelude.{◌≡◌, ◌≢◌, ◌⊎◌};
-ghost use Rattle.command_line.specs.Lines.{IsOfFile};
-ghost use Rattle.command_line.specs.Status.{status_of};
+ghost use Rattle.std.specs.Prelude.{◌≡◌, ◌≢◌, ◌↔◌, ◌⊎◌, ◌+◌, ◌-◌, ◌^◌, ℕ, min};
+ghost use Rattle.std.specs.IoError.{error_kind};
+ghost use Rattle.command_line.specs.Status.{IsNoMemory, run_fault, status_of};
 
 use coherent_machine::{ApplyError, NewError, ReplayError};
 use elf_loader::LoadError;
+use host_threads::RunError;
 use rvwmo_order::CheckError;
 use std::alloc::AllocError;
-use std::io;
+use std::io::{self, ErrorKind};
 use thiserror::Error;
 use trace_text::{TextCode, TextError};
 
@@ -17,6 +18,10 @@ use trace_text::{TextCode, TextError};
 pub enum Fault<'a> {
     #[error("rvtl: {file}: cannot read")]
     CannotRead {
+        file: &'a str,
+    },
+    #[error("rvtl: {file}: cannot write")]
+    CannotMake {
         file: &'a str,
     },
     #[error("rvtl: cannot write")]
@@ -46,7 +51,15 @@ pub enum Fault<'a> {
         file: &'a str,
         error: CheckError,
     },
-    /// No machine is of this size. A script can't name one, so `run_line` never tells it.
+    #[error("rvtl: cannot start a thread")]
+    NoThread,
+    /// The machine that the threads gave back is of another image or configuration.
+    #[error("rvtl: fabric mismatch")]
+    Mismatch,
+    /// A thread picked an event that no machine has.
+    #[error("rvtl: bad event")]
+    BadEvent,
+    /// No machine is of this size. A script can't name one.
     #[error("rvtl: bad configuration")]
     Configuration,
     #[error("rvtl: out of memory")]
@@ -54,19 +67,23 @@ pub enum Fault<'a> {
 }
 
 impl Fault<'_> {
-    /// The program's exit status: 1 for files, streams and what they hold, 2 for a configuration
-    /// that no machine has, 4 for want of memory.
+    /// The program's exit status: 1 for files, streams, threads and what files hold, 2 for a
+    /// configuration that no machine has, 4 for want of memory.
     pub fn status(&self) -> u8
         ensures { result ≡ status_of self.now }
     {
         match self {
             Fault::CannotRead { .. }
+            | Fault::CannotMake { .. }
             | Fault::CannotWrite
             | Fault::Image { .. }
             | Fault::Text { .. }
             | Fault::Event { .. }
             | Fault::BytesAfterTrace { .. }
-            | Fault::Check { .. } => 1,
+            | Fault::Check { .. }
+            | Fault::NoThread
+            | Fault::Mismatch
+            | Fault::BadEvent => 1,
             Fault::Configuration => 2,
             Fault::OutOfMemory => 4,
         }
@@ -76,26 +93,40 @@ impl Fault<'_> {
 impl<'a> Fault<'a> {
     /// A file could not be opened or read.
     pub(crate) fn reading(file: &'a str, error: io::Error) -> Fault<'a>
-        ensures { (result ≡ Fault.CannotRead file.entry) ⊎ (result ≡ Fault.OutOfMemory) }
+        ensures told { (result ≡ Fault.CannotRead file.entry) ⊎ (result ≡ Fault.OutOfMemory) }
+        ensures memory { (result ≡ Fault.OutOfMemory) ↔ (error_kind error ≡ ErrorKind.OutOfMemory) }
     {
         match error.kind() {
-            io::ErrorKind::OutOfMemory => Fault::OutOfMemory,
+            ErrorKind::OutOfMemory => Fault::OutOfMemory,
             _ => Fault::CannotRead { file },
+        }
+    }
+
+    /// A file could not be made or written.
+    pub(crate) fn making(file: &'a str, error: io::Error) -> Fault<'a>
+        ensures told { (result ≡ Fault.CannotMake file.entry) ⊎ (result ≡ Fault.OutOfMemory) }
+        ensures memory { (result ≡ Fault.OutOfMemory) ↔ (error_kind error ≡ ErrorKind.OutOfMemory) }
+    {
+        match error.kind() {
+            ErrorKind::OutOfMemory => Fault::OutOfMemory,
+            _ => Fault::CannotMake { file },
         }
     }
 
     /// Standard output took no more.
     pub(crate) fn writing(error: io::Error) -> Fault<'a>
-        ensures { (result ≡ Fault.CannotWrite) ⊎ (result ≡ Fault.OutOfMemory) }
+        ensures told { (result ≡ Fault.CannotWrite) ⊎ (result ≡ Fault.OutOfMemory) }
+        ensures memory { (result ≡ Fault.OutOfMemory) ↔ (error_kind error ≡ ErrorKind.OutOfMemory) }
     {
         match error.kind() {
-            io::ErrorKind::OutOfMemory => Fault::OutOfMemory,
+            ErrorKind::OutOfMemory => Fault::OutOfMemory,
             _ => Fault::CannotWrite,
         }
     }
 
     pub(crate) fn text(file: &'a str, error: TextError) -> Fault<'a>
-        ensures { (result ≡ Fault.Text file.entry error) ⊎ (result ≡ Fault.OutOfMemory) }
+        ensures told { (result ≡ Fault.Text file.entry error) ⊎ (result ≡ Fault.OutOfMemory) }
+        ensures memory { (result ≡ Fault.OutOfMemory) ↔ (error.code ≡ TextCode.NoMemory) }
     {
         match error.code {
             TextCode::NoMemory => Fault::OutOfMemory,
@@ -104,7 +135,8 @@ impl<'a> Fault<'a> {
     }
 
     pub(crate) fn image(file: &'a str, error: LoadError) -> Fault<'a>
-        ensures { (result ≡ Fault.Image file.entry error) ⊎ (result ≡ Fault.OutOfMemory) }
+        ensures told { (result ≡ Fault.Image file.entry error) ⊎ (result ≡ Fault.OutOfMemory) }
+        ensures memory { (result ≡ Fault.OutOfMemory) ↔ (error ≡ LoadError.NoMemory) }
     {
         match error {
             LoadError::NoMemory => Fault::OutOfMemory,
@@ -113,7 +145,8 @@ impl<'a> Fault<'a> {
     }
 
     pub(crate) fn check(file: &'a str, error: CheckError) -> Fault<'a>
-        ensures { (result ≡ Fault.Check file.entry error) ⊎ (result ≡ Fault.OutOfMemory) }
+        ensures told { (result ≡ Fault.Check file.entry error) ⊎ (result ≡ Fault.OutOfMemory) }
+        ensures memory { (result ≡ Fault.OutOfMemory) ↔ (error ≡ CheckError.NoMemory) }
     {
         match error {
             CheckError::NoMemory => Fault::OutOfMemory,
@@ -123,7 +156,10 @@ impl<'a> Fault<'a> {
 
     /// The script's first event stands on line 2.
     pub(crate) fn replay(script: &'a str, error: ReplayError) -> Fault<'a>
-        ensures { error ≢ ReplayError.New NewError.Config → IsOfFile result }
+        ensures told { (result ≡ Fault.Configuration) ⊎ ((result ≡ Fault.OutOfMemory) ⊎ ((index : ℕ) × (refusal : _)
+            × (error ≡ ReplayError.Event index refusal) × (result ≡ Fault.Event script.entry (min (index + 2) (2 ^ 64 - 1)) refusal))) }
+        ensures configuration { (result ≡ Fault.Configuration) ↔ (error ≡ ReplayError.New NewError.Config) }
+        ensures memory { (result ≡ Fault.OutOfMemory) ↔ IsNoMemory error }
     {
         match error {
             ReplayError::New(NewError::Config) => Fault::Configuration,
@@ -135,6 +171,21 @@ impl<'a> Fault<'a> {
                 line: index.saturating_add(2),
                 error,
             },
+        }
+    }
+}
+
+impl Fault<'_> {
+    /// Why a run left no report.
+    pub(crate) fn running<'a>(error: RunError) -> Fault<'a>
+        ensures { result ≡ run_fault error }
+    {
+        match error {
+            RunError::Config => Fault::Configuration,
+            RunError::NoMemory => Fault::OutOfMemory,
+            RunError::Thread => Fault::NoThread,
+            RunError::Mismatch => Fault::Mismatch,
+            RunError::BadEvent => Fault::BadEvent,
         }
     }
 }

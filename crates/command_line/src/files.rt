@@ -1,7 +1,7 @@
-//! Where the program's files come from.
+//! Where the program's files come from, and where it makes one.
 
-ghost use Rattle.std.specs.Prelude.{◌≡◌, ℕ, IfOk, List, None, Option};
-ghost use Rattle.command_line.specs.Held.{Gives};
+ghost use Rattle.std.specs.Prelude.{◌≡◌, ◌≢◌, ℕ, IfOk, List, None, OnOk, Option};
+ghost use Rattle.command_line.specs.Held.{Gives, HoldsBytes};
 
 use std::io::{self, Read};
 
@@ -16,4 +16,9 @@ pub trait Files {
     fn open(&mut self, name: &str) -> io::Result<Self::Reader>
         ensures reader { IfOk result (λ reader. Gives (held self.old name.now) (Self.Reader.remaining reader)) }
         ensures stays { held self.new ≡ held self.old };
+
+    /// Makes a file of these bytes, in place of the one that has the name.
+    fn write(&mut self, name: &str, bytes: &[u8]) -> io::Result<()>
+        ensures written { OnOk result (HoldsBytes (held self.new) name.now bytes.now) }
+        ensures others { (other : List ℕ) → other ≢ name.now → held self.new other ≡ held self.old other };
 }

@@ -6,19 +6,22 @@ mod checking;
 mod composing;
 mod fault;
 mod files;
+mod laws;
 mod replaying;
 mod running;
 mod system;
+mod threads;
 mod usage;
 mod wanted;
 
 pub use composing::{CompositionError, replay_and_write};
 pub use fault::Fault;
 pub use files::Files;
+pub use laws::runs_replay;
 pub use running::run_line;
 pub use system::SystemFiles;
 pub use usage::settings;
-pub use wanted::{Replay, Settings, SettingsError};
+pub use wanted::{Replay, Run, Settings, SettingsError};
 
 #[cfg(test)]
 mod tests;

@@ -2,9 +2,10 @@
 
 ghost use Rattle.std.specs.Prelude.{◌≡◌, IfErr, IfOk, OnOk};
 ghost use Rattle.elf_loader.specs.Size.{IsMemoryKib};
-ghost use Rattle.command_line.specs.Files.{HoldsImage, HoldsScript};
+ghost use Rattle.command_line.specs.Files.{HoldsImage, HoldsScript, IsTheScriptIn};
 ghost use Rattle.command_line.specs.Held.{HoldsBytes};
-ghost use Rattle.command_line.specs.Lines.{IsCutOff, IsOfFile, IsReplayed, Leaves};
+ghost use Rattle.command_line.specs.Lines.{IsCutOff, IsReplayed};
+ghost use Rattle.command_line.specs.Turns.{IsImageFault, IsReadFault, IsReplayFault, IsScriptFault, Leaves};
 
 use crate::composing::{CompositionError, replay_and_write};
 use crate::fault::Fault;
@@ -29,9 +30,11 @@ pub(crate) fn replay_files<'a, F: Files, O: Write, E: Write>(
     ensures replayed { OnOk result (IsReplayed (F.held files.old) wanted.entry (O.contents out.old) (O.contents out.new)) }
     ensures unfinished { IfErr result (λ fault. Leaves fault (O.contents out.old) (O.contents out.new)
         (IsCutOff (F.held files.old) wanted.entry (O.contents out.old) (O.contents out.new))) }
+    ensures told { IfErr result (IsReplayFault (F.held files.old) wanted.entry) }
+    ensures spared { F.held files.new ≡ F.held files.old }
 {
     let script = script_in(alloc, files, wanted.script)?;
-    let image = image_in(alloc, files, &wanted, script.kib)?;
+    let image = image_in(alloc, files, wanted.raw, wanted.image, script.kib)?;
     let machine = match replay_and_write(alloc, image, &script, wanted.model, out) {
         Ok(machine) => machine,
         Err(CompositionError::Replay(error)) => return Err(Fault::replay(wanted.script, error)),
@@ -40,8 +43,9 @@ pub(crate) fn replay_files<'a, F: Files, O: Write, E: Write>(
     if let Err(error) = out.flush() {
         return Err(Fault::writing(error));
     }
+    let (trace, outputs) = machine.into_parts();
     // Standard error has no other place to tell that it takes no more.
-    let _ = print_ends(&machine, err);
+    let _ = print_ends(trace.statuses(), outputs.as_slice(), err);
     Ok(())
 }
 
@@ -51,7 +55,7 @@ pub(crate) fn contents<'a, F: Files>(
     files: &mut F,
     name: &'a str,
 ) -> Result<Vec<u8>, Fault<'a>>
-    ensures fault { IfErr result IsOfFile }
+    ensures fault { IfErr result (IsReadFault name.entry) }
     ensures bytes { IfOk result (λ bytes. HoldsBytes (F.held files.old) name.entry.now bytes.items) }
     ensures stays { F.held files.new ≡ F.held files.old }
 {
@@ -67,8 +71,9 @@ pub(crate) fn contents<'a, F: Files>(
 }
 
 fn script_in<'a, F: Files>(alloc: Global, files: &mut F, name: &'a str) -> Result<Script, Fault<'a>>
-    ensures fault { IfErr result IsOfFile }
+    ensures fault { IfErr result (IsScriptFault name.entry) }
     ensures script { IfOk result (HoldsScript (F.held files.old) name.entry.now) }
+    ensures only { IfOk result (IsTheScriptIn (F.held files.old) name.entry.now) }
     ensures stays { F.held files.new ≡ F.held files.old }
 {
     let bytes = contents(alloc, files, name)?;
@@ -78,37 +83,42 @@ fn script_in<'a, F: Files>(alloc: Global, files: &mut F, name: &'a str) -> Resul
     }
 }
 
-fn image_in<'a, F: Files>(
+/// The image that the file holds, of bare words or an ELF file, in memory of so many KiB.
+pub(crate) fn image_in<'a, F: Files>(
     alloc: Global,
     files: &mut F,
-    wanted: &Replay<'a>,
+    is_raw: bool,
+    name: &'a str,
     kib: u32,
 ) -> Result<Image, Fault<'a>>
     requires { IsMemoryKib kib }
-    ensures fault { IfErr result IsOfFile }
-    ensures image { IfOk result (HoldsImage (F.held files.old) wanted.now.raw wanted.now.image.now kib) }
+    ensures fault { IfErr result (IsImageFault name.entry) }
+    ensures image { IfOk result (HoldsImage (F.held files.old) is_raw name.entry.now kib) }
+    ensures stays { F.held files.new ≡ F.held files.old }
 {
-    let bytes = contents(alloc, files, wanted.image)?;
+    let bytes = contents(alloc, files, name)?;
     let Some(size) = size_of_kib(kib) else {
-        return Err(Fault::Configuration);
+        unreachable!()
     };
-    let loaded = if wanted.raw {
+    let loaded = if is_raw {
         raw(alloc, bytes.as_slice(), size)
     } else {
         load(alloc, bytes.as_slice(), size)
     };
     match loaded {
         Ok(image) => Ok(image),
-        Err(error) => Err(Fault::image(wanted.image, error)),
+        Err(error) => Err(Fault::image(name, error)),
     }
 }
 
-fn print_ends<E: Write>(machine: &Machine, err: &mut E) -> io::Result<()> {
-    let views = machine.views();
-    for (hart, status) in machine.trace().statuses().iter().enumerate() {
-        if hart < views.harts() {
-            print_end(hart, *status, views.output(hart), err)?;
-        }
+/// How each hart ended, and what it put out.
+pub(crate) fn print_ends<E: Write>(
+    statuses: &[Status],
+    outputs: &[Vec<u32>],
+    err: &mut E,
+) -> io::Result<()> {
+    for (hart, (status, output)) in statuses.iter().zip(outputs).enumerate() {
+        print_end(hart, *status, output, err)?;
     }
     Ok(())
 }

@@ -3,26 +3,31 @@
 ghost use Rattle.std.specs.Prelude.{◌≡◌, ◌≢◌, ◌⊎◌, ◌≤◌, ◌<◌, map};
 ghost use Rattle.clap.specs.Words.{kind_of};
 ghost use Rattle.command_line.specs.Refusals.{IsHelp, IsUnfit};
-ghost use Rattle.command_line.specs.Running.{IsCarriedOut, IsNotLegal, IsUnprinted};
+ghost use Rattle.command_line.specs.Running.{HasNamed, IsBeyond, IsCarriedOut, IsNotLegal, IsUnprinted, Spares};
 
 use crate::checking::check_file;
 use crate::fault::Fault;
 use crate::files::Files;
 use crate::replaying::replay_files;
+use crate::threads::run_files;
 use crate::usage::settings;
 use crate::wanted::{Settings, SettingsError};
 use rvwmo_order::Verdict;
 use std::alloc::Global;
 use std::convert::AsStr;
 use std::io::Write;
+use std::sync::Wait;
+use std::thread::Threads;
 
 /// The status where the order is not legal.
 const NOT_LEGAL: u8 = 3;
 
 /// Does what the words ask for, the first of which is the program's name, and answers the exit status:
-/// 0 done or legal, 1 for files, streams and what they hold, 2 for words that don't fit the usage, 3 for an
-/// order that is not legal, 4 out of memory. A message that standard error does not take is lost.
-pub fn run_line<S: AsStr, F: Files, O: Write, E: Write>(
+/// 0 done or legal, 1 for files, streams, threads and what files hold, 2 for words that don't fit the usage
+/// and for a machine that can't be, 3 for an order that is not legal, 4 out of memory. A message that
+/// standard error does not take is lost. It may wait for threads.
+pub fn run_line<R: Threads + Wait + Sync, S: AsStr, F: Files, O: Write, E: Write>(
+    rt: &R,
     alloc: Global,
     words: &[S],
     files: &mut F,
@@ -30,13 +35,18 @@ pub fn run_line<S: AsStr, F: Files, O: Write, E: Write>(
     err: &mut E,
 ) -> u8
     ensures status { result ≤ 4 }
-    ensures carried_out { result ≡ 0 → IsCarriedOut (map S.text words.now) (F.held files.old) (O.contents out.old) (O.contents out.new) }
+    ensures carried_out { result ≡ 0 → IsCarriedOut (map S.text words.now) (F.held files.old) (F.held files.new) (O.contents out.old) (O.contents out.new) }
     ensures not_legal { result ≡ 3 → IsNotLegal (map S.text words.now) (F.held files.old) (O.contents out.old) (O.contents out.new) }
-    ensures unprinted { 0 < result → result ≢ 3 → IsUnprinted (map S.text words.now) (F.held files.old) (O.contents out.old) (O.contents out.new) }
-    ensures misused { result ≡ 2 → IsUnfit (map S.text words.now) × (O.contents out.new ≡ O.contents out.old) }
+    ensures unprinted { 0 < result → result ≢ 3 → IsUnprinted (map S.text words.now) (F.held files.old) (F.held files.new) (O.contents out.old) (O.contents out.new) }
+    ensures misused { result ≡ 2 → (IsUnfit (map S.text words.now) ⊎ HasNamed (map S.text words.now) IsBeyond) × (O.contents out.new ≡ O.contents out.old) }
+    ensures spared { Spares (map S.text words.now) (F.held files.old) (F.held files.new) }
 {
     let fault = match settings(alloc, words) {
         Ok(Settings::Replay(wanted)) => match replay_files(alloc, files, wanted, out, err) {
+            Ok(()) => return 0,
+            Err(fault) => fault,
+        },
+        Ok(Settings::Run(wanted)) => match run_files(rt, alloc, files, wanted, out, err) {
             Ok(()) => return 0,
             Err(fault) => fault,
         },

@@ -23,4 +23,8 @@ impl<R: System> Files for SystemFiles<'_, R> {
     fn open(&mut self, name: &str) -> io::Result<R::File> {
         fs::open(self.rt, name)
     }
+
+    fn write(&mut self, name: &str, bytes: &[u8]) -> io::Result<()> {
+        fs::write(self.rt, name, bytes)
+    }
 }

@@ -3,12 +3,15 @@
 mod judging;
 mod memory;
 mod orders;
+mod running;
 mod texts;
 
-use memory::{File, MemoryFiles, Narrow};
+use memory::{File, MemoryFiles, Narrow, Stuck};
 use std::alloc::Global;
 use std::process::Abort;
+use std::sync::Wait;
 use std::test::Fail;
+use std::thread::Threads;
 
 /// What a run of the program gave.
 #[derive(Drop)]
@@ -19,19 +22,24 @@ struct Ran {
 }
 
 /// `rvtl replay --raw image script` over these two files.
-fn replay(alloc: Global, image: &[u8], script: &[u8]) -> Ran {
+fn replay<R: Threads + Wait + Sync + AllocGlobal>(rt: &R, image: &[u8], script: &[u8]) -> Ran {
     let files = [File::whole("image", image), File::whole("script", script)];
-    line(
-        alloc,
-        &["rvtl", "replay", "--raw", "image", "script"],
-        &files,
-    )
+    line(rt, &["rvtl", "replay", "--raw", "image", "script"], &files)
 }
 
-fn line(alloc: Global, words: &[&str], files: &[File<'_>]) -> Ran {
+fn line<R: Threads + Wait + Sync + AllocGlobal>(rt: &R, words: &[&str], files: &[File<'_>]) -> Ran {
+    line_over(rt, words, &mut MemoryFiles::new(rt.alloc(), files))
+}
+
+fn line_over<R: Threads + Wait + Sync + AllocGlobal>(
+    rt: &R,
+    words: &[&str],
+    files: &mut MemoryFiles<'_>,
+) -> Ran {
+    let alloc = rt.alloc();
     let mut out = Vec::new(alloc);
     let mut err = Vec::new(alloc);
-    let status = crate::run_line(alloc, words, &mut MemoryFiles { files }, &mut out, &mut err);
+    let status = crate::run_line(rt, alloc, words, files, &mut out, &mut err);
     Ran { status, out, err }
 }
 
@@ -44,14 +52,14 @@ fn image_of(alloc: Global, words: &[u32]) -> Result<Vec<u8>, Fail> {
 }
 
 fn replays(
-    rt: &(impl Abort + AllocGlobal),
+    rt: &(impl Abort + Threads + Wait + Sync + AllocGlobal),
     words: &[u32],
     script: &str,
     trace: &str,
     ends: &str,
 ) -> Result<(), Fail> {
     let image = image_of(rt.alloc(), words)?;
-    let ran = replay(rt.alloc(), image.as_slice(), script.as_bytes());
+    let ran = replay(rt, image.as_slice(), script.as_bytes());
     assert_eq!(rt; ran.err.as_slice(), ends.as_bytes());
     assert_eq!(rt; ran.out.as_slice(), trace.as_bytes());
     assert_eq!(rt; ran.status, 0);
@@ -123,7 +131,7 @@ fn outputs_stand_behind_the_status(rt: HostRuntime) -> Result<(), Fail> {
         &[0x0010_0893, 0xfff0_0513, 0x0000_0073, 0x0000_0073],
     )?;
     let script = "rvtl-script 1 1 4 4 2\nstep 0\nstep 0\nstep 0\nstep 0\n";
-    let ran = replay(rt.alloc(), image.as_slice(), script.as_bytes());
+    let ran = replay(&rt, image.as_slice(), script.as_bytes());
     assert_eq!(rt;
         ran.err.as_slice(),
         b"hart 0: run output 4294967295 4294967295\n".as_slice()
@@ -134,7 +142,7 @@ fn outputs_stand_behind_the_status(rt: HostRuntime) -> Result<(), Fail> {
 
 #[test]
 fn stops_are_told(rt: HostRuntime) {
-    let ran = replay(rt.alloc(), &[0; 4], b"rvtl-script 1 1 4 4 2\nstep 0\n");
+    let ran = replay(&rt, &[0; 4], b"rvtl-script 1 1 4 4 2\nstep 0\n");
     assert_eq!(rt; ran.err.as_slice(), b"hart 0: stop 2\n".as_slice());
     assert_eq!(rt; ran.status, 0);
 }
@@ -196,7 +204,7 @@ const FAULTS: [(&[u8], &[u8], &str, u8); 9] = [
 #[test]
 fn row_23_and_the_other_faults(rt: HostRuntime) {
     for (image, script, message, status) in FAULTS {
-        let ran = replay(rt.alloc(), image, script);
+        let ran = replay(&rt, image, script);
         assert_eq!(rt; ran.err.as_slice(), message.as_bytes(), "{message}");
         assert_eq!(rt; ran.status, status, "{message}");
         assert!(rt; ran.out.is_empty(), "{message}");
@@ -224,7 +232,7 @@ fn files_that_are_not_there(rt: HostRuntime) {
             1,
         ),
     ] {
-        let ran = line(rt.alloc(), words, &script);
+        let ran = line(&rt, words, &script);
         assert_eq!(rt; ran.err.as_slice(), message.as_bytes(), "{message}");
         assert_eq!(rt; ran.status, status, "{message}");
         assert!(rt; ran.out.is_empty(), "{message}");
@@ -237,17 +245,13 @@ fn files_that_break(rt: HostRuntime) {
     let words = ["rvtl", "replay", "--raw", "image", "script"];
     let script = File::whole("script", texts::EXIT_SCRIPT.as_bytes());
     let broken = File::broken("script", texts::EXIT_SCRIPT.as_bytes());
-    let ran = line(rt.alloc(), &words, &[broken, File::whole("image", &[0; 4])]);
+    let ran = line(&rt, &words, &[broken, File::whole("image", &[0; 4])]);
     assert_eq!(rt;
         ran.err.as_slice(),
         b"rvtl: script: cannot read\n".as_slice()
     );
     assert_eq!(rt; ran.status, 1);
-    let ran = line(
-        rt.alloc(),
-        &words,
-        &[script, File::broken("image", &[0; 4])],
-    );
+    let ran = line(&rt, &words, &[script, File::broken("image", &[0; 4])]);
     assert_eq!(rt;
         ran.err.as_slice(),
         b"rvtl: image: cannot read\n".as_slice()
@@ -272,9 +276,10 @@ fn streams_that_break(rt: HostRuntime) -> Result<(), Fail> {
         };
         let mut err = Vec::new(rt.alloc());
         let status = crate::run_line(
+            &rt,
             rt.alloc(),
             &words,
-            &mut MemoryFiles { files: &files },
+            &mut MemoryFiles::new(rt.alloc(), &files),
             &mut out,
             &mut err,
         );
@@ -286,6 +291,58 @@ fn streams_that_break(rt: HostRuntime) -> Result<(), Fail> {
     Ok(())
 }
 
+/// What was not passed on is not printed: neither a trace nor a verdict, legal or not, ends well.
+#[test]
+fn streams_that_lose_the_end(rt: HostRuntime) -> Result<(), Fail> {
+    let image = image_of(rt.alloc(), &texts::LOAD)?;
+    let files = [
+        File::whole("image", image.as_slice()),
+        File::whole("script", texts::LOAD_SCRIPT.as_bytes()),
+        File::whole("legal", texts::LOAD_TRACE.as_bytes()),
+        File::whole("passing", orders::MESSAGE_PASSING.as_bytes()),
+    ];
+    for words in [
+        ["rvtl", "replay", "--raw", "image", "script"].as_slice(),
+        &["rvtl", "check", "legal"],
+        &["rvtl", "check", "--model", "ztso", "passing"],
+        &["rvtl", "run", "--raw", "--journal", "journal", "image"],
+    ] {
+        let mut out = Stuck {
+            taken: Vec::new(rt.alloc()),
+        };
+        let mut err = Vec::new(rt.alloc());
+        let status = crate::run_line(
+            &rt,
+            rt.alloc(),
+            words,
+            &mut MemoryFiles::new(rt.alloc(), &files),
+            &mut out,
+            &mut err,
+        );
+        assert_eq!(rt; status, 1, "{words:?}");
+        assert_eq!(rt;
+            err.as_slice(),
+            b"rvtl: cannot write\n".as_slice(),
+            "{words:?}"
+        );
+    }
+    Ok(())
+}
+
+/// Each hart has its line.
+#[test]
+fn two_harts_end(rt: HostRuntime) -> Result<(), Fail> {
+    let image = image_of(rt.alloc(), &texts::EXIT)?;
+    let script = "rvtl-script 1 2 4 4 2\nstep 1\nstep 1\nstep 0\n";
+    let ran = replay(&rt, image.as_slice(), script.as_bytes());
+    assert_eq!(rt;
+        ran.err.as_slice(),
+        b"hart 0: run\nhart 1: exit 5\n".as_slice()
+    );
+    assert_eq!(rt; ran.status, 0);
+    Ok(())
+}
+
 #[test]
 fn usage_and_help(rt: HostRuntime) {
     for (words, status) in [
@@ -293,13 +350,31 @@ fn usage_and_help(rt: HostRuntime) {
         (&["rvtl", "play"], 2),
         (&["rvtl", "replay", "--raw", "image"], 2),
         (&["rvtl", "replay", "--row", "image", "script"], 2),
+        (&["rvtl", "run", "--raw", "image"], 2),
         (&["rvtl", "--help"], 0),
         (&["rvtl", "replay", "--help"], 0),
     ] {
-        let ran = line(rt.alloc(), words, &[]);
+        let ran = line(&rt, words, &[]);
         assert_eq!(rt; ran.status, status, "{words:?}");
         assert!(rt; ran.out.is_empty() == (status == 2), "{words:?}");
         assert!(rt; ran.err.is_empty() == (status == 0), "{words:?}");
+    }
+}
+
+/// Numbers that a run's options don't take.
+#[test]
+fn usage_of_a_run(rt: HostRuntime) {
+    for (option, number) in [
+        ("--limit", "0"),
+        ("--limit", "1000000001"),
+        ("--harts", "4294967296"),
+        ("--line", "wide"),
+    ] {
+        let words = ["rvtl", "run", option, number, "--journal", "j", "image"];
+        let ran = line(&rt, &words, &[]);
+        assert_eq!(rt; ran.status, 2, "{option} {number}");
+        assert!(rt; ran.out.is_empty(), "{option} {number}");
+        assert!(rt; !ran.err.is_empty(), "{option} {number}");
     }
 }
 
@@ -318,12 +393,17 @@ fn help_teaches(rt: HostRuntime) {
             "Example: rvtl replay --raw examples/exit.bin examples/exit.script\n",
         ),
         (
+            &["rvtl", "run", "--help"],
+            "Usage: rvtl run [OPTIONS] --journal <FILE> <IMAGE>\n",
+            "Example: rvtl run --raw --journal exit.journal examples/exit.bin\n",
+        ),
+        (
             &["rvtl", "check", "--help"],
             "Usage: rvtl check [OPTIONS] <TRACE>\n",
             "Example: rvtl check examples/legal.trace\n",
         ),
     ] {
-        let ran = line(rt.alloc(), words, &[]);
+        let ran = line(&rt, words, &[]);
         let Ok(text) = std::str::from_utf8(ran.out.as_slice()) else {
             assert!(rt; false, "{words:?}");
             return;

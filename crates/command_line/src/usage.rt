@@ -1,11 +1,13 @@
 //! The program's usage, and how its words are read.
 
-ghost use Rattle.std.specs.Prelude.{◌≡◌, ◌≢◌, IfErr, IfOk, IfSome, IsNone, List, OnOk, Some, false, map};
+ghost use Rattle.std.specs.Prelude.{ℕ, ◌≡◌, ◌≢◌, ◌<◌, ◌≤◌, ◌^◌, IfErr, IfOk, IfSome, IsNone, List, OnOk, Some, codes, false, map};
+ghost use Rattle.clap.specs.Values.{IsUnsignedIn};
 ghost use Rattle.clap.specs.Words.{Row, Rule, Text, app_of, found_of, rows_of, rule_of, subcommand_rows_of};
 ghost use Rattle.command_line.specs.Refusals.{IsFitting, IsRefused};
-ghost use Rattle.command_line.specs.Settings.{IsComplete, IsMeant, IsModelOption, IsNamed, IsReplayComplete, IsReplayMeant, IsUsage, check_usage, name_of};
+ghost use Rattle.command_line.specs.Settings.{HasNumber, IsComplete, IsMeant, IsModelOption, IsNamed, IsNumber, IsReplayComplete, IsReplayMeant, IsRunComplete, IsRunMeant, IsUsage, check_usage, file_argument, journal_option, name_of, number_option, raw_flag, replay_usage, run_usage};
 
-use crate::wanted::{Replay, Settings, SettingsError};
+use crate::wanted::{Replay, Run, Settings, SettingsError};
+use clap::builder::ValueParser;
 use clap::error::ErrorKind;
 use clap::{Arg, ArgAction, ArgMatches, Command};
 use machine_model::Model;
@@ -24,7 +26,10 @@ pub fn settings<'a, S: AsStr>(alloc: Global, words: &'a [S]) -> Result<Settings<
         Some(settings) => Ok(settings),
         // The usage asks for a subcommand and its files, so that the parse has refused such words.
         None => {
-            let missing = command.error(ErrorKind::MissingSubcommand, "replay or check is wanted")?;
+            let missing = command.error(
+                ErrorKind::MissingSubcommand,
+                "replay, run or check is wanted",
+            )?;
             Err(SettingsError::Usage(missing))
         }
     }
@@ -38,6 +43,7 @@ fn settings_of<'a>(matches: &ArgMatches<'a>) -> Option<Settings<'a>>
 {
     match matches.subcommand()? {
         ("replay", replay) => Some(Settings::Replay(replay_of(replay)?)),
+        ("run", run) => Some(Settings::Run(run_of(run)?)),
         ("check", check) => Some(Settings::Check {
             model: model_of(check.get_str("model")?)?,
             trace: check.get_str("TRACE")?,
@@ -59,6 +65,33 @@ fn replay_of<'a>(matches: &ArgMatches<'a>) -> Option<Replay<'a>>
     })
 }
 
+fn run_of<'a>(matches: &ArgMatches<'a>) -> Option<Run<'a>>
+    ensures meant { IfSome result (λ run. IsRunComplete (rows_of (found_of matches.now))
+        → IsRunMeant (rows_of (found_of matches.now)) run) }
+    ensures missing { IsNone result → IsRunComplete (rows_of (found_of matches.now)) → ⊥ }
+{
+    Some(Run {
+        raw: matches.get_flag("raw"),
+        harts: number_of(matches, "harts")?,
+        memory: number_of(matches, "memory")?,
+        sets: number_of(matches, "sets")?,
+        ways: number_of(matches, "ways")?,
+        line: number_of(matches, "line")?,
+        model: model_of(matches.get_str("model")?)?,
+        limit: number_of(matches, "limit")?,
+        journal: matches.get_str("journal")?,
+        image: matches.get_str("IMAGE")?,
+    })
+}
+
+fn number_of(matches: &ArgMatches<'_>, id: &str) -> Option<u32>
+    ensures meant { IfSome result (λ n. (low high : ℕ) → HasNumber id.now low high (rows_of (found_of matches.now))
+        → IsNumber id.now (rows_of (found_of matches.now)) n × (low ≤ n) × (n ≤ high)) }
+    ensures missing { IsNone result → (low high : ℕ) → high < 2 ^ 32 → HasNumber id.now low high (rows_of (found_of matches.now)) → ⊥ }
+{
+    matches.get_one(id)
+}
+
 /// The models by their names, the first of which is meant where none is named.
 const MODELS: [&str; 2] = ["rvwmo", "ztso"];
 
@@ -76,29 +109,23 @@ fn model_of(name: &str) -> Option<Model>
 fn command<'a>(alloc: Global) -> Result<Command<'a>, AllocError>
     ensures { IfOk result (λ made. IsUsage (app_of made)) }
 {
-    let raw = Arg::new(alloc, "raw")
-        .long("raw")
-        .action(ArgAction::SetTrue)
-        .help("IMAGE has bare little-endian words, the first at 0x80000000");
-    let image = Arg::new(alloc, "IMAGE")
-        .required(true)
-        .help("the program that the harts run");
-    let script = Arg::new(alloc, "SCRIPT")
-        .required(true)
-        .help("the machine's size and its events, one a line");
-    let replay = Command::new(alloc, "replay")
-        .about("Applies a script of events to a machine and prints the trace")
-        .after_help(REPLAY_HELP)
-        .arg(raw)?
-        .arg(model_argument(alloc, "the memory model that the machine runs under"))?
-        .arg(image)?
-        .arg(script)?;
     Command::new(alloc, "rvtl")
         .about("Runs RISC-V harts with private caches, one event at a time")
         .after_help(PROGRAM_HELP)
         .subcommand_required(true)
-        .subcommand(replay)?
+        .subcommand(replay_command(alloc)?)?
+        .subcommand(run_command(alloc)?)?
         .subcommand(check_command(alloc)?)
+}
+
+fn raw_argument<'a>(alloc: Global) -> Arg<'a>
+    ensures flag { rule_of result ≡ raw_flag }
+    ensures local { result.global ≡ false }
+{
+    Arg::new(alloc, "raw")
+        .long("raw")
+        .action(ArgAction::SetTrue)
+        .help("IMAGE has bare little-endian words, the first at 0x80000000")
 }
 
 fn model_argument<'a>(alloc: Global, help: &'a str) -> Arg<'a>
@@ -112,13 +139,116 @@ fn model_argument<'a>(alloc: Global, help: &'a str) -> Arg<'a>
         .help(help)
 }
 
+fn file_named<'a>(alloc: Global, id: &'a str, help: &'a str) -> Arg<'a>
+    ensures argument { rule_of result ≡ file_argument id.entry.now }
+    ensures local { result.global ≡ false }
+{
+    Arg::new(alloc, id).required(true).help(help)
+}
+
+/// A machine's size: a whole number, which is judged when the machine is made.
+fn size_argument<'a>(
+    alloc: Global,
+    id: &'a str,
+    unit: &'a str,
+    default: &'a str,
+    help: &'a str,
+) -> Arg<'a>
+    ensures option { rule_of result ≡ number_option id.entry.now default.entry.now 0 4294967295 }
+    ensures local { result.global ≡ false }
+{
+    Arg::new(alloc, id)
+        .long(id)
+        .value_name(unit)
+        .value_parser(ValueParser::unsigned(0, 4_294_967_295))
+        .default_value(default)
+        .help(help)
+}
+
+fn limit_argument<'a>(alloc: Global) -> Arg<'a>
+    ensures option { rule_of result ≡ number_option (codes "limit") (codes "1000000") 1 1000000000 }
+    ensures local { result.global ≡ false }
+{
+    Arg::new(alloc, "limit")
+        .long("limit")
+        .value_name("N")
+        .value_parser(ValueParser::unsigned(1, 1_000_000_000))
+        .default_value("1000000")
+        .help("how many events the harts may try before the run ends")
+}
+
+fn journal_argument<'a>(alloc: Global) -> Arg<'a>
+    ensures option { rule_of result ≡ journal_option }
+    ensures local { result.global ≡ false }
+{
+    Arg::new(alloc, "journal")
+        .long("journal")
+        .value_name("FILE")
+        .required(true)
+        .help("the file to write what happened into, as a script for replay")
+}
+
+fn replay_command<'a>(alloc: Global) -> Result<Command<'a>, AllocError>
+    ensures { IfOk result (λ made. (model : Rule) × IsModelOption model × (app_of made ≡ replay_usage model)) }
+{
+    let model = model_argument(alloc, "the memory model that the machine runs under");
+    let image = file_named(alloc, "IMAGE", "the program that the harts run");
+    let script = file_named(
+        alloc,
+        "SCRIPT",
+        "the machine's size and its events, one a line",
+    );
+    Command::new(alloc, "replay")
+        .about("Applies a script of events to a machine and prints the trace")
+        .after_help(REPLAY_HELP)
+        .arg(raw_argument(alloc))?
+        .arg(model)?
+        .arg(image)?
+        .arg(script)
+}
+
+fn run_command<'a>(alloc: Global) -> Result<Command<'a>, AllocError>
+    ensures { IfOk result (λ made. (model : Rule) × IsModelOption model × (app_of made ≡ run_usage model)) }
+{
+    let harts = size_argument(alloc, "harts", "N", "1", "how many harts, 1 to 8");
+    let memory = size_argument(
+        alloc,
+        "memory",
+        "KIB",
+        "64",
+        "main memory in KiB, a multiple of 4 from 4 to 1024",
+    );
+    let sets = size_argument(
+        alloc,
+        "sets",
+        "N",
+        "4",
+        "sets a cache, a power of two to 64",
+    );
+    let ways = size_argument(alloc, "ways", "N", "2", "lines a set, 1 to 4");
+    let line = size_argument(alloc, "line", "N", "16", "bytes a line, 16 or 64");
+    let model = model_argument(alloc, "the memory model that the machine runs under");
+    let image = file_named(alloc, "IMAGE", "the program that the harts run");
+    Command::new(alloc, "run")
+        .about("Runs a program with a thread for each hart, and prints the trace")
+        .after_help(RUN_HELP)
+        .arg(raw_argument(alloc))?
+        .arg(harts)?
+        .arg(memory)?
+        .arg(sets)?
+        .arg(ways)?
+        .arg(line)?
+        .arg(model)?
+        .arg(limit_argument(alloc))?
+        .arg(journal_argument(alloc))?
+        .arg(image)
+}
+
 fn check_command<'a>(alloc: Global) -> Result<Command<'a>, AllocError>
     ensures { IfOk result (λ made. (model : Rule) × IsModelOption model × (app_of made ≡ check_usage model)) }
 {
     let model = model_argument(alloc, "the memory model that the order has to keep");
-    let trace = Arg::new(alloc, "TRACE")
-        .required(true)
-        .help("a trace, as replay prints it");
+    let trace = file_named(alloc, "TRACE", "a trace, as replay and run print it");
     Command::new(alloc, "check")
         .about("Judges the order in which a trace's memory operations were performed")
         .after_help(CHECK_HELP)
@@ -129,6 +259,7 @@ fn check_command<'a>(alloc: Global) -> Result<Command<'a>, AllocError>
 const PROGRAM_HELP: &str =
     "A replay takes a program and a script of events, and prints the trace of what happened:
 each instruction, each memory operation and each message between caches and memory.
+A run takes a program alone: its harts run side by side, and what happened is kept as a script.
 A check takes a trace and tells whether the memory model allows its order.
 
 Example: rvtl replay --raw examples/exit.bin examples/exit.script";
@@ -145,6 +276,14 @@ The trace goes to standard output. Of each hart how it ended (run, stop CODE or 
 it put out go to standard error. Where something is wrong, standard error tells it in one line.
 
 Example: rvtl replay --raw examples/exit.bin examples/exit.script";
+
+const RUN_HELP: &str =
+    "Each hart runs in a thread of its own. When all have halted, or after so many events, the events that
+changed the machine are written into the journal, the trace goes to standard output, and how each
+hart ended (run, stop CODE or exit CODE) and what it put out go to standard error. replay of the
+journal, with the same --raw and --model, prints the same trace.
+
+Example: rvtl run --raw --journal exit.journal examples/exit.bin";
 
 const CHECK_HELP: &str =
     "Prints legal, or with status 3 a fault: its code and two operations, as HART:PLACE, that show it.

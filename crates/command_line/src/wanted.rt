@@ -16,10 +16,34 @@ pub struct Replay<'a> {
     pub script: &'a str,
 }
 
+/// Run the file `image` with a thread for each hart, and write the events that happened into the file
+/// `journal` as a script. The image has bare words where `raw` is set, and else is an ELF file.
+#[derive(Clone, Copy, Debug, PartialEq, Eq)]
+pub struct Run<'a> {
+    pub raw: bool,
+    /// How many harts the machine has.
+    pub harts: u32,
+    /// Main memory's size in KiB.
+    pub memory: u32,
+    /// How many sets each cache has.
+    pub sets: u32,
+    /// How many lines a set holds.
+    pub ways: u32,
+    /// How many bytes a line has.
+    pub line: u32,
+    /// Under which the machine runs.
+    pub model: Model,
+    /// After how many events, those that change nothing among them, the run ends: 1 to 1000000000.
+    pub limit: u32,
+    pub journal: &'a str,
+    pub image: &'a str,
+}
+
 /// What the program is to do.
 #[derive(Clone, Copy, Debug, PartialEq, Eq)]
 pub enum Settings<'a> {
     Replay(Replay<'a>),
+    Run(Run<'a>),
     /// Judge the order of the trace in this file.
     Check { model: Model, trace: &'a str },
 }

@@ -5,6 +5,8 @@
 use command_line::{SystemFiles, run_line};
 use std::io::{self, Write};
 use std::rt::Files;
+use std::sync::Wait;
+use std::thread::Threads;
 
 /// Programs of two harts that the GNU toolchain built, each with a script.
 const EXAMPLES: [&str; 9] = [
@@ -30,7 +32,11 @@ fn main(rt: HostRuntime) -> io::Result<()> {
     out.flush()
 }
 
-fn play<R: Files + AllocGlobal, W: Write>(rt: &R, name: &str, out: &mut W) -> io::Result<()> {
+fn play<R: Files + Threads + Wait + Sync + AllocGlobal, W: Write>(
+    rt: &R,
+    name: &str,
+    out: &mut W,
+) -> io::Result<()> {
     let alloc = rt.alloc();
     let image = format!(in alloc; "{name}.elf")?;
     let script = format!(in alloc; "{name}.script")?;
@@ -38,6 +44,7 @@ fn play<R: Files + AllocGlobal, W: Write>(rt: &R, name: &str, out: &mut W) -> io
     let mut trace = Vec::new(alloc);
     let mut ends = Vec::new(alloc);
     run_line(
+        rt,
         alloc,
         &words,
         &mut SystemFiles::new(rt),

@@ -17,6 +17,8 @@ use plain_machine::PlainMachine;
 use play::{ImageKind, Played, play};
 use std::alloc::Global;
 use std::rt::Files;
+use std::sync::Wait;
+use std::thread::Threads;
 use std::{fmt, fs};
 
 /// What a line of `cases` says.
@@ -99,7 +101,7 @@ fn model_name(model: Model) -> &'static str {
 }
 
 /// What of a case replayed by the command line isn't as kept.
-fn printed_difference<R: Files + AllocGlobal>(
+fn printed_difference<R: Files + Threads + Wait + Sync + AllocGlobal>(
     rt: &R,
     case: &Case<'_>,
 ) -> Result<Option<&'static str>> {
@@ -109,7 +111,7 @@ fn printed_difference<R: Files + AllocGlobal>(
     }
 }
 
-fn bare_difference<R: Files + AllocGlobal>(
+fn bare_difference<R: Files + Threads + Wait + Sync + AllocGlobal>(
     rt: &R,
     case: &Case<'_>,
 ) -> Result<Option<&'static str>> {
@@ -128,7 +130,7 @@ fn bare_difference<R: Files + AllocGlobal>(
     line_difference(rt, case, &words)
 }
 
-fn program_difference<R: Files + AllocGlobal>(
+fn program_difference<R: Files + Threads + Wait + Sync + AllocGlobal>(
     rt: &R,
     case: &Case<'_>,
 ) -> Result<Option<&'static str>> {
@@ -147,7 +149,7 @@ fn program_difference<R: Files + AllocGlobal>(
 }
 
 /// What of a case isn't as kept where the command line has these words.
-fn line_difference<R: Files + AllocGlobal>(
+fn line_difference<R: Files + Threads + Wait + Sync + AllocGlobal>(
     rt: &R,
     case: &Case<'_>,
     words: &[&str],
@@ -155,7 +157,14 @@ fn line_difference<R: Files + AllocGlobal>(
     let alloc = rt.alloc();
     let mut out = Vec::new(alloc);
     let mut err = Vec::new(alloc);
-    let status = run_line(alloc, words, &mut SystemFiles::new(rt), &mut out, &mut err);
+    let status = run_line(
+        rt,
+        alloc,
+        words,
+        &mut SystemFiles::new(rt),
+        &mut out,
+        &mut err,
+    );
     if status != 0 {
         return Ok(Some("status differs"));
     }
@@ -177,7 +186,10 @@ struct Differences {
 }
 
 impl Differences {
-    fn of<R: Files + AllocGlobal>(rt: &R, case: &Case<'_>) -> Result<Differences> {
+    fn of<R: Files + Threads + Wait + Sync + AllocGlobal>(
+        rt: &R,
+        case: &Case<'_>,
+    ) -> Result<Differences> {
         Ok(Differences {
             plain: difference::<PlainMachine, _>(rt, case)?,
             coherent: difference::<Machine, _>(rt, case)?,

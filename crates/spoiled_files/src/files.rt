@@ -26,4 +26,8 @@ impl<'a> Files for MemoryFiles<'a> {
         }
         Err(io::Error::from(ErrorKind::NotFound))
     }
+
+    fn write(&mut self, _name: &str, _bytes: &[u8]) -> io::Result<()> {
+        Err(io::Error::from(ErrorKind::PermissionDenied))
+    }
 }

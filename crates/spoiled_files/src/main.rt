@@ -10,8 +10,9 @@ use anyhow::{Result, ensure};
 use command_line::run_line;
 use files::{File, MemoryFiles};
 use spoiling::{Stream, cut, reset};
-use std::alloc::Global;
 use std::fs;
+use std::sync::Wait;
+use std::thread::Threads;
 
 /// Images of bare words and ELF files, with the scripts that they are played by.
 const REPLAYS: [(&str, &str, Kind); 5] = [
@@ -47,7 +48,6 @@ impl Kind {
 }
 
 fn main(rt: HostRuntime) -> Result<()> {
-    let alloc = rt.alloc();
     let mut stream = Stream::new();
     for (image, script, kind) in REPLAYS {
         let image = fs::read(&rt, image)?;
@@ -60,8 +60,8 @@ fn main(rt: HostRuntime) -> Result<()> {
             name: "script",
             bytes: script.as_slice(),
         };
-        spoil(alloc, kind.words(), image, script, &mut stream)?;
-        spoil(alloc, kind.words(), script, image, &mut stream)?;
+        spoil(&rt, kind.words(), image, script, &mut stream)?;
+        spoil(&rt, kind.words(), script, image, &mut stream)?;
     }
     for trace in TRACES {
         let bytes = fs::read(&rt, trace)?;
@@ -69,50 +69,45 @@ fn main(rt: HostRuntime) -> Result<()> {
             name: "trace",
             bytes: bytes.as_slice(),
         };
-        spoil(
-            alloc,
-            &["rvtl", "check", "trace"],
-            trace,
-            trace,
-            &mut stream,
-        )?;
+        spoil(&rt, &["rvtl", "check", "trace"], trace, trace, &mut stream)?;
     }
     println!(rt; "every spoiled file was taken, judged or refused in one line")?;
     Ok(())
 }
 
 /// Spoils a file in each way beside one that stays as it is.
-fn spoil(
-    alloc: Global,
+fn spoil<R: Threads + Wait + Sync + AllocGlobal>(
+    rt: &R,
     words: &[&str],
     file: File<'_>,
     other: File<'_>,
     stream: &mut Stream,
 ) -> Result<()> {
     for tenths in 0..10 {
-        ends_well(alloc, words, file.name, cut(file.bytes, tenths), other)?;
+        ends_well(rt, words, file.name, cut(file.bytes, tenths), other)?;
     }
     for _ in 0..RESETS {
-        let spoiled = reset(alloc, file.bytes, stream)?;
-        ends_well(alloc, words, file.name, spoiled.as_slice(), other)?;
+        let spoiled = reset(rt.alloc(), file.bytes, stream)?;
+        ends_well(rt, words, file.name, spoiled.as_slice(), other)?;
     }
     Ok(())
 }
 
 /// The program's status is one of its five. Where it is neither a success nor a verdict, the one line that it
 /// tells is its own, and nothing else is printed.
-fn ends_well(
-    alloc: Global,
+fn ends_well<R: Threads + Wait + Sync + AllocGlobal>(
+    rt: &R,
     words: &[&str],
     name: &str,
     bytes: &[u8],
     other: File<'_>,
 ) -> Result<()> {
+    let alloc = rt.alloc();
     let spoiled = [File { name, bytes }, other];
     let mut files = MemoryFiles { files: &spoiled };
     let mut out = Vec::new(alloc);
     let mut err = Vec::new(alloc);
-    let status = run_line(alloc, words, &mut files, &mut out, &mut err);
+    let status = run_line(rt, alloc, words, &mut files, &mut out, &mut err);
     match status {
         0 => ensure!(!out.is_empty(), "a success printed nothing"),
         3 => ensure!(out.starts_with(b"fault "), "no fault was printed"),

@@ -4,25 +4,34 @@ use super::orders::{
     ADDED, BOTH_RUN, FORWARDED, MESSAGE_PASSING, RESERVED, STORE_BUFFERING, STORES,
 };
 use super::{File, Ran, line, texts};
-use std::alloc::Global;
 use std::process::Abort;
+use std::sync::Wait;
 use std::test::Fail;
+use std::thread::Threads;
 
 const STORES_LOAD: &str = "R 0 0x80000018 0x10062703 0x00000002 -\n";
 
 /// `rvtl check --model MODEL trace` over a trace in pieces.
-fn check(alloc: Global, model: &str, pieces: &[&str]) -> Result<Ran, Fail> {
-    let mut trace = Vec::new(alloc);
+fn check<R: Threads + Wait + Sync + AllocGlobal>(
+    rt: &R,
+    model: &str,
+    pieces: &[&str],
+) -> Result<Ran, Fail> {
+    let mut trace = Vec::new(rt.alloc());
     for piece in pieces {
         trace.extend_from_slice(piece.as_bytes())?;
     }
     let files = [File::whole("trace", trace.as_slice())];
     let words = ["rvtl", "check", "--model", model, "trace"];
-    Ok(line(alloc, &words, &files))
+    Ok(line(rt, &words, &files))
 }
 
-fn is_legal(rt: &(impl Abort + AllocGlobal), model: &str, pieces: &[&str]) -> Result<(), Fail> {
-    let ran = check(rt.alloc(), model, pieces)?;
+fn is_legal(
+    rt: &(impl Abort + Threads + Wait + Sync + AllocGlobal),
+    model: &str,
+    pieces: &[&str],
+) -> Result<(), Fail> {
+    let ran = check(rt, model, pieces)?;
     assert_eq!(rt; ran.err.as_slice(), b"".as_slice());
     assert_eq!(rt; ran.out.as_slice(), b"legal\n".as_slice());
     assert_eq!(rt; ran.status, 0);
@@ -30,20 +39,24 @@ fn is_legal(rt: &(impl Abort + AllocGlobal), model: &str, pieces: &[&str]) -> Re
 }
 
 fn breaks(
-    rt: &(impl Abort + AllocGlobal),
+    rt: &(impl Abort + Threads + Wait + Sync + AllocGlobal),
     model: &str,
     pieces: &[&str],
     fault: &str,
 ) -> Result<(), Fail> {
-    let ran = check(rt.alloc(), model, pieces)?;
+    let ran = check(rt, model, pieces)?;
     assert_eq!(rt; ran.err.as_slice(), b"".as_slice());
     assert_eq!(rt; ran.out.as_slice(), fault.as_bytes());
     assert_eq!(rt; ran.status, 3);
     Ok(())
 }
 
-fn refuses(rt: &(impl Abort + AllocGlobal), pieces: &[&str], message: &str) -> Result<(), Fail> {
-    let ran = check(rt.alloc(), "rvwmo", pieces)?;
+fn refuses(
+    rt: &(impl Abort + Threads + Wait + Sync + AllocGlobal),
+    pieces: &[&str],
+    message: &str,
+) -> Result<(), Fail> {
+    let ran = check(rt, "rvwmo", pieces)?;
     assert_eq!(rt; ran.err.as_slice(), message.as_bytes());
     assert_eq!(rt; ran.out.as_slice(), b"".as_slice());
     assert_eq!(rt; ran.status, 1);
@@ -160,7 +173,7 @@ fn words_of_check(rt: HostRuntime) {
         (&["rvtl", "check", "gone"], 1),
         (&["rvtl", "check", "--help"], 0),
     ] {
-        let ran = line(rt.alloc(), words, &files);
+        let ran = line(&rt, words, &files);
         assert_eq!(rt; ran.status, status, "{words:?}");
         assert!(rt; ran.err.is_empty() == (status == 0), "{words:?}");
     }

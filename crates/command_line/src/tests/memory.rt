@@ -1,6 +1,7 @@
 //! Files and streams in memory, some of which break.
 
 use crate::Files;
+use std::alloc::Global;
 use std::io::{self, ErrorKind, Read, Write};
 
 /// A file by its name. One that is broken fails behind its bytes.
@@ -29,9 +30,22 @@ impl<'a> File<'a> {
     }
 }
 
+/// Some files, and what was written last. Where they are full none is written.
 #[derive(Drop)]
 pub struct MemoryFiles<'a> {
     pub files: &'a [File<'a>],
+    pub written: Vec<u8>,
+    pub is_full: bool,
+}
+
+impl<'a> MemoryFiles<'a> {
+    pub fn new(alloc: Global, files: &'a [File<'a>]) -> MemoryFiles<'a> {
+        MemoryFiles {
+            files,
+            written: Vec::new(alloc),
+            is_full: false,
+        }
+    }
 }
 
 impl<'a> Files for MemoryFiles<'a> {
@@ -47,6 +61,15 @@ impl<'a> Files for MemoryFiles<'a> {
             }
         }
         Err(io::Error::from(ErrorKind::NotFound))
+    }
+
+    fn write(&mut self, _name: &str, bytes: &[u8]) -> io::Result<()> {
+        if self.is_full {
+            return Err(io::Error::from(ErrorKind::StorageFull));
+        }
+        self.written.clear();
+        self.written.extend_from_slice(bytes)?;
+        Ok(())
     }
 }
 
@@ -85,5 +108,22 @@ impl Write for Narrow {
 
     fn flush(&mut self) -> io::Result<()> {
         Ok(())
+    }
+}
+
+/// Takes all bytes, and then can't pass them on.
+#[derive(Drop)]
+pub struct Stuck {
+    pub taken: Vec<u8>,
+}
+
+impl Write for Stuck {
+    fn write(&mut self, buf: &[u8]) -> io::Result<usize> {
+        self.taken.extend_from_slice(buf)?;
+        Ok(buf.len())
+    }
+
+    fn flush(&mut self) -> io::Result<()> {
+        Err(io::Error::from(ErrorKind::StorageFull))
     }
 }

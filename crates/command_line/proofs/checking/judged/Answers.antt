@@ -25,12 +25,13 @@ too_long (Ok v) model t order many refused =
 too_long (Err e) model t order many refused = tt
 
 verdict_on : (r : Result Verdict CheckError) (model : Model) (t : History) (order : List OpId) → order ≡ completed t
-    → IfOk r (λ v. (v ≡ Legal) ↔ IsLegalOrder model t order) → IfOk r (λ v. fault_told v ≡ fault_in model t order) → IfOk r (IsVerdict model t)
-verdict_on (Ok v) model t order is legal first = record {
+    → (¬ IsErrOf r NoMemory → refusal_of r ≡ refusal t order) → IfOk r (λ v. (v ≡ Legal) ↔ IsLegalOrder model t order) → IfOk r (λ v. fault_told v ≡ fault_in model t order) → IfOk r (IsVerdict model t)
+verdict_on (Ok v) model t order is refused legal first = record {
+  judged = subst (λ (o : List OpId). refusal t o ≡ None) is (sym (refused (λ h. cc)));
   legal = subst (λ (o : List OpId). (v ≡ Legal) ↔ IsLegalOrder model t o) is legal;
   first = subst (λ (o : List OpId). fault_told v ≡ fault_in model t o) is first;
 }
-verdict_on (Err e) model t order is legal first = tt
+verdict_on (Err e) model t order is refused legal first = tt
 
 pub returns-then-has_too_many : goal.returns-then-has_too_many
 returns-then-has_too_many c =
@@ -39,4 +40,4 @@ returns-then-has_too_many c =
 pub returns : goal.returns
 returns c =
     verdict_on c.check_model-2.result c.args.model c.args.trace.now.history c.as_slice.result.now
-    (c.as_slice.ensures.value ∙ c.in_ok-order.ensures) c.check_model-2.ensures.legal c.check_model-2.ensures.first
+    (c.as_slice.ensures.value ∙ c.in_ok-order.ensures) c.check_model-2.ensures.refused c.check_model-2.ensures.legal c.check_model-2.ensures.first

@@ -1,34 +1,73 @@
-use Rattle.std.proofs.Common.{◌≡◌, ◌∙◌, ℕ, Err, List, Result, [], ap, false, None, Option, Some, refl, subst, sym}
+use Rattle.std.proofs.Common.{◌≡◌, ◌∙◌, ◌⊎◌, ◌↔◌, ◌+◌, ◌^◌, ◌-◌, ℕ, Err, List, Result, [], ap, false, inl, inr, refl, subst, sym}
+use Rattle.std.specs.Prelude.{min}
 use Rattle.std.proofs.lemmas.Bool.{false≢true}
-use Rattle.std.proofs.lemmas.List.{append-nil}
+use Rattle.coherent_machine.specs.Machine.{IsFirstRefusal}
 use Rattle.coherent_machine.specs.declared.errors.NewError.TheVariants.{Config}
 use Rattle.coherent_machine.specs.declared.errors.ReplayError.{ReplayError}
+use Rattle.coherent_machine.specs.declared.errors.ReplayError.TheVariants as refusals
 use Rattle.coherent_machine.specs.declared.errors.ReplayError.TheVariants.{New}
 use Rattle.command_line.specs.Composition.{config_of}
+use Rattle.command_line.specs.Turns.{IsImageFault, IsReplayFault, IsScriptFault, Leaves}
 use Rattle.command_line.specs.declared.composing.CompositionError.{CompositionError}
-use Rattle.command_line.specs.declared.composing.CompositionError.TheVariants.{Replay}
+use Rattle.command_line.specs.declared.composing.CompositionError.TheVariants as composition
+use Rattle.command_line.specs.declared.fault.Fault.{Fault}
+use Rattle.command_line.specs.declared.fault.Fault.TheVariants.{CannotWrite, Configuration, Event, OutOfMemory}
+use Rattle.command_line.specs.declared.wanted.Replay.{Replay}
+use Rattle.elf_loader.specs.Image.{Initial}
 use Rattle.machine_model.specs.Config.{is_within_limits}
-use Rattle.memory_model.specs.declared.Model.{Model}
-use Rattle.trace_text.specs.Scripts.{IsScript}
+use Rattle.machine_model.specs.Views.{opening}
+use Rattle.machine_parts.specs.declared.errors.ApplyError.{ApplyError}
 use Rattle.trace_text.specs.declared.script.Script.{Script}
-use Rattle.std.specs.Io.KnownBytes.{Appends, Keeps}
 use Rattle.trace_text.specs.Traces.{text}
-use Rattle.command_line.specs.Files.{HoldsImage}
+use Rattle.command_line.specs.Files.{HoldsImage, HoldsScript}
 use Rattle.command_line.specs.Held.{Held}
-use Rattle.command_line.proofs.Left.{left, passed_up, spoiled}
+use Rattle.command_line.proofs.Left.{handed_up, image_is_not_write, left, of_image, of_script, script_is_not_write, spoiled}
 use Rattle.command_line.proofs.Limits.{machine_within, memory_within}
+use Rattle.command_line.proofs.Written.{all_begun, kept_on}
 use Rattle.command_line.proofs.replaying.replay_files.Goals as goal
 
-kept_on : (old mid new : Option (List ℕ)) (bytes : List ℕ) → Appends old mid bytes → Keeps mid new → Appends old new bytes
-kept_on None mid new bytes appended kept = tt
-kept_on (Some xs) None new bytes appended kept = absurd appended
-kept_on (Some xs) (Some ys) None bytes appended kept = absurd kept
-kept_on (Some xs) (Some ys) (Some zs) bytes appended kept = kept ∙ appended
+-- what a refused replay is told as
+told_of : {T : Type 0} (held : Held) (replay : Replay) (script : Script) (image : Initial) (r : Result T CompositionError) (refusal : ReplayError) (fault : Fault)
+    → HoldsScript held replay.script.now script → HoldsImage held replay.raw replay.image.now script.kib image
+    → (r ≡ Err (composition.Replay (New Config)) → is_within_limits (config_of script replay.model) ≡ false) → r ≡ Err (composition.Replay refusal)
+    → IsFirstRefusal (opening image (config_of script replay.model)) script.events refusal
+    → (fault ≡ Configuration) ⊎ ((fault ≡ OutOfMemory) ⊎ ((index : ℕ) × (error : ApplyError) × (refusal ≡ refusals.Event index error) × (fault ≡ Event replay.script (min (index + 2) (2 ^ 64 - 1)) error)))
+    → ((fault ≡ Configuration) ↔ (refusal ≡ New Config)) → IsReplayFault held replay fault
+told_of held replay script image r refusal fault script_file image_file limits failed first told configured = elim told [
+  | inl beyond ↦ absurd (false≢true (sym (limits (failed ∙ ap (λ e. Err (composition.Replay e)) (configured.0 beyond))) ∙ machine_within script replay.model script_file.is_script))
+  | inr other ↦ elim other [
+    | inl memory ↦ subst (IsReplayFault held replay) (sym memory) tt
+    | inr event ↦ subst (IsReplayFault held replay) (sym event.3) (
+      refl,
+      record {
+        script = script;
+        image = image;
+        script_file = script_file;
+        image_file = image_file;
+        index = event.0;
+        place = refl;
+        refused = subst (IsFirstRefusal (opening image (config_of script replay.model)) script.events) event.2 first;
+      },
+    )
+  ]
+]
 
-never_beyond : {T : Type 0} (script : Script) (model : Model) (r : Result T CompositionError) (error : CompositionError) (refusal : ReplayError) → IsScript script
-    → (r ≡ Err (Replay (New Config)) → is_within_limits (config_of script model) ≡ false) → r ≡ Err error → error ≡ Replay refusal → refusal ≡ New Config → ⊥
-never_beyond script model r error refusal is limits failed told bad =
-    false≢true (sym (limits (failed ∙ ap Err (told ∙ ap Replay bad))) ∙ machine_within script model is)
+no_write : (replay : Replay) (refusal : ReplayError) (fault : Fault)
+    → (fault ≡ Configuration) ⊎ ((fault ≡ OutOfMemory) ⊎ ((index : ℕ) × (error : ApplyError) × (refusal ≡ refusals.Event index error) × (fault ≡ Event replay.script (min (index + 2) (2 ^ 64 - 1)) error)))
+    → fault ≡ CannotWrite → ⊥
+no_write replay refusal fault told at = elim told [
+  | inl beyond ↦ let bad : Configuration ≡ CannotWrite = sym beyond ∙ at in cc
+  | inr other ↦ elim other [
+    | inl memory ↦ let bad : OutOfMemory ≡ CannotWrite = sym memory ∙ at in cc
+    | inr event ↦ let bad : Event replay.script (min (event.0 + 2) (2 ^ 64 - 1)) event.1 ≡ CannotWrite = sym event.3 ∙ at in cc
+  ]
+]
+
+either_told : (held : Held) (replay : Replay) (fault : Fault) → (fault ≡ CannotWrite) ⊎ (fault ≡ OutOfMemory) → IsReplayFault held replay fault
+either_told held replay fault is = elim is [
+  | inl at ↦ subst (IsReplayFault held replay) (sym at) tt
+  | inr at ↦ subst (IsReplayFault held replay) (sym at) tt
+]
 
 pub returns-clause-replayed : goal.returns-clause-replayed
 returns-clause-replayed g c =
@@ -41,6 +80,7 @@ returns-clause-replayed g c =
       image_file =
           subst (λ (held : Held). HoldsImage held c.args.wanted.raw c.args.wanted.image.now c.in_ok-script.script.kib c.in_ok-image.image)
           c.in_ok-script.ensures.stays c.in_ok-image.ensures.image;
+      only = c.in_ok-script.ensures.only;
       composed = record {
         replayed = composed.replayed;
         printed = kept_on _ _ _ _ composed.printed c.flush.ensures.bytes;
@@ -54,18 +94,39 @@ pub image_in-requires : goal.image_in-requires
 image_in-requires g c = memory_within c.in_ok-script.script c.in_ok-script.ensures.script.is_script
 
 pub returns-in_err-script-clause-unfinished : goal.returns-in_err-script-clause-unfinished
-returns-in_err-script-clause-unfinished g c = passed_up _ _ _ c.from_residual.result _ c.from_residual.ensures.1 c.in_err-script.ensures.fault refl
+returns-in_err-script-clause-unfinished g c =
+    handed_up _ c.from_residual.result _ c.from_residual.ensures.1
+    (left _ _ _ _ (script_is_not_write _ _ c.in_err-script.ensures.fault) refl)
+
+pub returns-in_err-script-clause-told : goal.returns-in_err-script-clause-told
+returns-in_err-script-clause-told g c =
+    handed_up _ c.from_residual.result _ c.from_residual.ensures.1 (of_script _ c.args.wanted _ c.in_err-script.ensures.fault)
 
 pub returns-in_err-image-clause-unfinished : goal.returns-in_err-image-clause-unfinished
-returns-in_err-image-clause-unfinished g c = passed_up _ _ _ c.from_residual-in_err-image.result _ c.from_residual-in_err-image.ensures.1 c.in_err-image.ensures.fault refl
+returns-in_err-image-clause-unfinished g c =
+    handed_up _ c.from_residual-in_err-image.result _ c.from_residual-in_err-image.ensures.1
+    (left _ _ _ _ (image_is_not_write _ _ c.in_err-image.ensures.fault) refl)
+
+pub returns-in_err-image-clause-told : goal.returns-in_err-image-clause-told
+returns-in_err-image-clause-told g c =
+    handed_up _ c.from_residual-in_err-image.result _ c.from_residual-in_err-image.ensures.1
+    (of_image _ c.args.wanted _ (c.in_ok-script.script, c.in_ok-script.ensures.script) c.in_err-image.ensures.fault)
 
 pub returns-in-Err-Replay-clause-unfinished : goal.returns-in-Err-Replay-clause-unfinished
-returns-in-Err-Replay-clause-unfinished g c = left _ _ _ _ (c.replay.ensures (never_beyond c.in_ok-script.script c.args.wanted.model c.replay_and_write.result c.in-Err-Replay.field-0 c.in-Err-Replay.error c.in_ok-script.ensures.script.is_script c.replay_and_write.ensures.limits.0 c.in-Err-Replay.is c.in-Err-Replay.field-0-is)) (rw c.in-Err-Replay.field-0-is at c.in-Err-Replay.ensures.unfinished).0
+returns-in-Err-Replay-clause-unfinished g c =
+    left _ _ _ _ (no_write c.args.wanted c.in-Err-Replay.error _ c.replay.ensures.told) (rw c.in-Err-Replay.field-0-is at c.in-Err-Replay.ensures.unfinished).0
+
+pub returns-in-Err-Replay-clause-told : goal.returns-in-Err-Replay-clause-told
+returns-in-Err-Replay-clause-told g c =
+    told_of _ c.args.wanted c.in_ok-script.script c.in_ok-image.image c.replay_and_write.result c.in-Err-Replay.error _ c.in_ok-script.ensures.script
+    (subst (λ (held : Held). HoldsImage held c.args.wanted.raw c.args.wanted.image.now c.in_ok-script.script.kib c.in_ok-image.image) c.in_ok-script.ensures.stays c.in_ok-image.ensures.image)
+    c.replay_and_write.ensures.limits.0 (c.in-Err-Replay.is ∙ ap Err c.in-Err-Replay.field-0-is) (rw c.in-Err-Replay.field-0-is at c.in-Err-Replay.ensures.unfinished).1
+    c.replay.ensures.told c.replay.ensures.configuration
 
 pub returns-in-Err-clause-unfinished : goal.returns-in-Err-clause-unfinished
 returns-in-Err-clause-unfinished g c =
     let composed = c.in-Ok.ensures.written in
-    spoiled _ _ _ _ c.writing-in-Err.ensures
+    spoiled _ _ _ _ c.writing-in-Err.ensures.told
     (record {
       script = c.in_ok-script.script;
       image = c.in_ok-image.image;
@@ -75,10 +136,8 @@ returns-in-Err-clause-unfinished g c =
           subst (λ (held : Held). HoldsImage held c.args.wanted.raw c.args.wanted.image.now c.in_ok-script.script.kib c.in_ok-image.image)
           c.in_ok-script.ensures.stays c.in_ok-image.ensures.image;
       replayed = composed.replayed;
-      begun = record {
-        front = text c.in-Ok.machine.trace;
-        rest = [];
-        parts = sym (append-nil (text c.in-Ok.machine.trace));
-        sent = kept_on _ _ _ _ composed.printed c.flush.ensures.bytes;
-      };
+      begun = all_begun _ _ _ _ composed.printed c.flush.ensures.bytes;
     })
+
+pub returns-in-Err-clause-told : goal.returns-in-Err-clause-told
+returns-in-Err-clause-told g c = either_told _ c.args.wanted _ c.writing-in-Err.ensures.told

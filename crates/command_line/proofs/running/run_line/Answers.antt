@@ -1,16 +1,22 @@
-use Rattle.std.proofs.Common.{◌≡◌, ◌∙◌, ℕ, List, Option, Bor, inl, inr, refl, subst, sym}
+use Rattle.std.proofs.Common.{◌≡◌, ◌≢◌, ◌∙◌, ◌⊎◌, ℕ, Bool, true, false, List, Option, Bor, ap, inl, inr, refl, subst, sym}
+use Rattle.std.proofs.lemmas.Bool.{false≢true}
+use Rattle.std.proofs.lemmas.Slice.Eq.{bytes_eq-Decides}
+use Rattle.std.specs.Str.{bytes_eq}
 use Rattle.clap.specs.Words.{IsAmong, Text, kind_of}
 use Rattle.clap.specs.declared.error.Error.{Error}
 use Rattle.clap.specs.declared.error.kind.ErrorKind.{ErrorKind}
-use Rattle.command_line.proofs.Left.{either, never_misused}
+use Rattle.command_line.proofs.Left.{check_never_misused, either, only_configuration, replay_never_misused}
 use Rattle.command_line.specs.Held.{Held}
-use Rattle.command_line.specs.Lines.{IsJudged, Leaves}
-use Rattle.command_line.specs.Refusals.{HasFaults, IsHelp, IsRefused}
-use Rattle.command_line.specs.Running.{IsBroken, IsDone, IsFaulty, IsUnprinted}
+use Rattle.command_line.specs.Lines.{IsJudged}
+use Rattle.command_line.specs.Refusals.{HasFaults, IsFitting, IsHelp, IsRefused, IsUnfit}
+use Rattle.command_line.specs.Running.{HasNamed, IsBeyond, IsBroken, IsCarriedOut, IsDone, IsFaulty, IsJournal, IsNotLegal, IsUnprinted, Spares}
 use Rattle.command_line.specs.Settings.{IsNamed}
+use Rattle.command_line.specs.Status.{status_of}
+use Rattle.command_line.specs.Turns.{IsRunFault, Leaves}
 use Rattle.command_line.specs.declared.fault.Fault.{Fault as Trouble}
+use Rattle.command_line.specs.declared.wanted.Run.{Run as Asked}
 use Rattle.command_line.specs.declared.wanted.Settings.{Settings}
-use Rattle.command_line.specs.declared.wanted.Settings.TheVariants.{Check}
+use Rattle.command_line.specs.declared.wanted.Settings.TheVariants.{Check, Run}
 use Rattle.command_line.specs.declared.wanted.SettingsError.{SettingsError}
 use Rattle.command_line.specs.declared.wanted.SettingsError.TheVariants.{Usage}
 use Rattle.memory_model.specs.declared.Model.{Model}
@@ -19,80 +25,148 @@ use Rattle.rvwmo_order.specs.declared.verdict.Verdict.{Verdict}
 use Rattle.rvwmo_order.specs.declared.verdict.Verdict.TheVariants.{Fault, Legal}
 use Rattle.trace_recorder.specs.declared.operation.OpId.{OpId}
 use Rattle.command_line.proofs.running.run_line.Goals as goal
-use Rattle.command_line.proofs.running.run_line.Goals.{in-Ok-Replay+in-Err, in-Ok-Check+in-Err-check_file, in-Err-NoMemory}
+use Rattle.command_line.proofs.running.run_line.Goals.{in-Ok-Replay+in-Err, in-Ok-Run+in-Err-run_files, in-Ok-Check+in-Err-check_file, in-Err-NoMemory}
 
 told_of : (words : List Text) (refusal : SettingsError) (usage : Error) (P : ErrorKind → Type 0) → refusal ≡ Usage usage → IsRefused words refusal → P (kind_of usage)
     → HasFaults words (λ kinds. (kind : ErrorKind) × IsAmong kind kinds × P kind)
 told_of words refusal usage P is refused asks =
     let told : IsRefused words (Usage usage) = subst (IsRefused words) is refused in (told.0, told.1, (kind_of usage, told.2, asks))
 
-legal : (held : Held) (old new : Option (List ℕ)) (wanted : Settings) (model : Model) (trace : Bor (List ℕ)) (verdict : Verdict) → wanted ≡ Check model trace → verdict ≡ Legal
-    → IsJudged held trace.now model verdict old new → IsDone held old new wanted
-legal held old new wanted model trace verdict is is_legal judged =
-    subst (IsDone held old new) (sym is) (subst (λ v. IsJudged held trace.now model v old new) is_legal judged)
+legal : (held left : Held) (old new : Option (List ℕ)) (wanted : Settings) (model : Model) (trace : Bor (List ℕ)) (verdict : Verdict) → wanted ≡ Check model trace → verdict ≡ Legal
+    → IsJudged held trace.now model verdict old new → IsDone held left old new wanted
+legal held left old new wanted model trace verdict is is_legal judged =
+    subst (IsDone held left old new) (sym is) (subst (λ v. IsJudged held trace.now model v old new) is_legal judged)
 
 faulty : (held : Held) (old new : Option (List ℕ)) (wanted : Settings) (model : Model) (trace : Bor (List ℕ)) (verdict : Verdict) (code : Code) (a b : OpId) → wanted ≡ Check model trace
     → verdict ≡ Fault code a b → IsJudged held trace.now model verdict old new → IsFaulty held old new wanted
 faulty held old new wanted model trace verdict code a b is at_fault judged =
     subst (IsFaulty held old new) (sym is) (code, a, b, subst (λ v. IsJudged held trace.now model v old new) at_fault judged)
 
-cut_short : (words : List Text) (held : Held) (old new : Option (List ℕ)) (wanted meant : Settings) (fault : Trouble) → wanted ≡ meant → IsNamed words wanted
-    → Leaves fault old new (IsBroken held old new meant) → IsUnprinted words held old new
-cut_short words held old new wanted meant fault is named leaves = elim (either old new _ fault leaves) [
+cut_short : (words : List Text) (held left : Held) (old new : Option (List ℕ)) (wanted meant : Settings) (fault : Trouble) → wanted ≡ meant → IsNamed words wanted → IsFitting words
+    → Leaves fault old new (IsBroken held left old new meant) → IsUnprinted words held left old new
+unfolding IsUnprinted
+cut_short words held left old new wanted meant fault is named fitting leaves = elim (either old new _ fault leaves) [
   | inl same ↦ inl same
-  | inr broken ↦ inr (inr (wanted, named, subst (IsBroken held old new) (sym is) broken))
+  | inr broken ↦ inr (inr (wanted, named, fitting, subst (IsBroken held left old new) (sym is) broken))
 ]
 
+-- a fault of status 2 tells of a machine that can't be, and leaves the output as it was
+beyond : (words : List Text) (held : Held) (old new : Option (List ℕ)) (wanted : Settings) (run : Asked) (broken : Type 0) (fault : Trouble) → wanted ≡ Run run → IsNamed words wanted → IsFitting words
+    → IsRunFault held run fault → Leaves fault old new broken → status_of fault ≡ 2 → (IsUnfit words ⊎ HasNamed words IsBeyond) × (new ≡ old)
+beyond words held old new wanted run broken fault is named fitting told leaves two =
+    let at = only_configuration fault two in (
+      inr (wanted, named, fitting, subst IsBeyond (sym is) (subst (IsRunFault held run) at told)),
+      subst (λ f. Leaves f old new broken) at leaves,
+    )
+
+spared : (words : List Text) (held left : Held) → left ≡ held → Spares words held left
+spared words held left same = λ name other. absurd (other (ap (λ (h : Held). h name) same))
+
+-- a run writes its journal alone
+journal_alone : (words : List Text) (held left : Held) (wanted : Settings) (run : Asked) → wanted ≡ Run run → IsNamed words wanted → IsFitting words
+    → ((other : Text) → other ≢ run.journal.now → left other ≡ held other) → Spares words held left
+journal_alone words held left wanted run is named fitting others = λ name changed.
+    let at : bytes_eq name run.journal.now ≡ true → HasNamed words (IsJournal name) =
+    λ same. (wanted, named, fitting, subst (IsJournal name) (sym is) ((bytes_eq-Decides name run.journal.now).0 same)) in
+    go name changed (bytes_eq name run.journal.now) refl at
+  where
+    go : (name : Text) → left name ≢ held name → (b : Bool) → bytes_eq name run.journal.now ≡ b → (bytes_eq name run.journal.now ≡ true → HasNamed words (IsJournal name)) → HasNamed words (IsJournal name)
+    go name changed true same at = at same
+    go name changed false another at =
+        absurd (changed (others name (λ same. false≢true (sym another ∙ (bytes_eq-Decides name run.journal.now).1 same))))
+
 pub returns-in-Ok-clause-carried_out : goal.returns-in-Ok-clause-carried_out
+unfolding IsCarriedOut
 returns-in-Ok-clause-carried_out g c = λ _. inr (
   c.in-Ok-Replay.field-0,
   c.in-Ok-Replay.ensures.named,
-  subst (IsDone _ _ _) (sym c.in-Ok-Replay.field-0-is) c.in-Ok.ensures.replayed,
+  c.in-Ok-Replay.ensures.fitting,
+  subst (IsDone _ _ _ _) (sym c.in-Ok-Replay.field-0-is) c.in-Ok.ensures.replayed,
+)
+
+pub returns-in-Ok-run_files-clause-carried_out : goal.returns-in-Ok-run_files-clause-carried_out
+unfolding IsCarriedOut
+returns-in-Ok-run_files-clause-carried_out g c = λ _. inr (
+  c.in-Ok-Run.field-0,
+  c.in-Ok-Run.ensures.named,
+  c.in-Ok-Run.ensures.fitting,
+  subst (IsDone _ _ _ _) (sym c.in-Ok-Run.field-0-is) c.in-Ok-run_files.ensures.ran,
 )
 
 pub returns-in-Ok-Legal-clause-carried_out : goal.returns-in-Ok-Legal-clause-carried_out
+unfolding IsCarriedOut
 returns-in-Ok-Legal-clause-carried_out g c = λ _. inr (
   c.in-Ok-Check.field-0,
   c.in-Ok-Check.ensures.named,
-  legal _ _ _ c.in-Ok-Check.field-0 c.in-Ok-Check.model c.in-Ok-Check.trace c.in-Ok-Legal.field-0 c.in-Ok-Check.field-0-is c.in-Ok-Legal.field-0-is c.in-Ok-Legal.ensures.judged,
+  c.in-Ok-Check.ensures.fitting,
+  legal _ _ _ _ c.in-Ok-Check.field-0 c.in-Ok-Check.model c.in-Ok-Check.trace c.in-Ok-Legal.field-0 c.in-Ok-Check.field-0-is c.in-Ok-Legal.field-0-is c.in-Ok-Legal.ensures.judged,
 )
 
 pub returns-in-Ok-Fault-clause-not_legal : goal.returns-in-Ok-Fault-clause-not_legal
+unfolding IsNotLegal
 returns-in-Ok-Fault-clause-not_legal g c = λ _. (
   c.in-Ok-Check.field-0,
   c.in-Ok-Check.ensures.named,
+  c.in-Ok-Check.ensures.fitting,
   faulty _ _ _ c.in-Ok-Check.field-0 c.in-Ok-Check.model c.in-Ok-Check.trace c.in-Ok-Fault.field-0 _ _ _ c.in-Ok-Check.field-0-is c.in-Ok-Fault.field-0-is c.in-Ok-Fault.ensures.judged,
 )
 
+-- a fault's status is not 0, and that of a legal order not 3
+pub returns-in-Ok-Fault-clause-carried_out : goal.returns-in-Ok-Fault-clause-carried_out
+returns-in-Ok-Fault-clause-carried_out g c = λ none. let bad : 3 ≡ 0 = none in cc
+
+pub returns-in-Ok-Legal-clause-not_legal : goal.returns-in-Ok-Legal-clause-not_legal
+returns-in-Ok-Legal-clause-not_legal g c = λ three. let bad : 0 ≡ 3 = three in cc
+
 pub returns-in-Err-Usage-clause-carried_out : goal.returns-in-Err-Usage-clause-carried_out
+unfolding IsCarriedOut
 returns-in-Err-Usage-clause-carried_out g c = λ done. elim (rw c.in-Err-Usage.field-0-is at c.explain.ensures.help) [
   | inl two ↦ let no : 0 ≡ 2 = sym done ∙ two in cc
   | inr asks ↦ inl (told_of _ c.in-Err-Usage.field-0 c.in-Err-Usage.usage IsHelp c.in-Err-Usage.field-0-is c.in-Err-Usage.ensures.refused asks)
 ]
 
 pub returns-in-Err-Usage-clause-unprinted : goal.returns-in-Err-Usage-clause-unprinted
+unfolding IsUnprinted
 returns-in-Err-Usage-clause-unprinted g c = λ some other. elim (rw c.in-Err-Usage.field-0-is at c.explain.ensures.help) [
   | inl two ↦ inl ((c.explain.ensures.misused two).1)
   | inr asks ↦ inr (inl (told_of _ c.in-Err-Usage.field-0 c.in-Err-Usage.usage IsHelp c.in-Err-Usage.field-0-is c.in-Err-Usage.ensures.refused asks))
 ]
 
 pub returns-clause-unprinted : goal.returns-clause-unprinted
+unfolding IsUnprinted
 returns-clause-unprinted g c = λ some other. elim c.match-settings.branch [
-  | in-Ok-Replay+in-Err w ↦ rw (w.out-is) (cut_short _ _ _ _ w.in-Ok-Replay.field-0 _ _ w.in-Ok-Replay.field-0-is w.in-Ok-Replay.ensures.named w.in-Err.ensures.unfinished)
-  | in-Ok-Check+in-Err-check_file w ↦ rw (w.out-is) (cut_short _ _ _ _ w.in-Ok-Check.field-0 _ _ w.in-Ok-Check.field-0-is w.in-Ok-Check.ensures.named w.in-Err-check_file.ensures.unfinished)
+  | in-Ok-Replay+in-Err w ↦ rw (w.out-is) (cut_short _ _ _ _ _ w.in-Ok-Replay.field-0 _ _ w.in-Ok-Replay.field-0-is w.in-Ok-Replay.ensures.named w.in-Ok-Replay.ensures.fitting w.in-Err.ensures.unfinished)
+  | in-Ok-Run+in-Err-run_files w ↦ rw (w.out-is, w.files-is) (cut_short _ _ _ _ _ w.in-Ok-Run.field-0 _ _ w.in-Ok-Run.field-0-is w.in-Ok-Run.ensures.named w.in-Ok-Run.ensures.fitting w.in-Err-run_files.ensures.unfinished)
+  | in-Ok-Check+in-Err-check_file w ↦ rw (w.out-is) (cut_short _ _ _ _ _ w.in-Ok-Check.field-0 _ _ w.in-Ok-Check.field-0-is w.in-Ok-Check.ensures.named w.in-Ok-Check.ensures.fitting w.in-Err-check_file.ensures.unfinished)
   | in-Err-NoMemory w ↦ rw (w.out-is) (inl refl)
 ]
 
 pub returns-in-Err-Usage-clause-misused : goal.returns-in-Err-Usage-clause-misused
 returns-in-Err-Usage-clause-misused g c = λ two.
     let told = rw c.in-Err-Usage.field-0-is at c.explain.ensures.misused two in
-    (told_of _ c.in-Err-Usage.field-0 c.in-Err-Usage.usage (λ kind. ¬ IsHelp kind) c.in-Err-Usage.field-0-is c.in-Err-Usage.ensures.refused told.0, told.1)
+    (inl (told_of _ c.in-Err-Usage.field-0 c.in-Err-Usage.usage (λ kind. ¬ IsHelp kind) c.in-Err-Usage.field-0-is c.in-Err-Usage.ensures.refused told.0), told.1)
 
 pub returns-clause-misused : goal.returns-clause-misused
 returns-clause-misused g c = λ two. elim c.match-settings.branch [
-  | in-Ok-Replay+in-Err w ↦ absurd (never_misused _ _ _ w.in-Err.fault w.in-Err.ensures.unfinished (rw (← w.fault-is) (sym c.status.ensures ∙ two)))
-  | in-Ok-Check+in-Err-check_file w ↦ absurd (never_misused _ _ _ w.in-Err-check_file.fault w.in-Err-check_file.ensures.unfinished (rw (← w.fault-is) (sym c.status.ensures ∙ two)))
+  | in-Ok-Replay+in-Err w ↦ absurd (replay_never_misused _ _ w.in-Err.fault w.in-Err.ensures.told (rw (← w.fault-is) (sym c.status.ensures ∙ two)))
+  | in-Ok-Run+in-Err-run_files w ↦ rw (w.out-is)
+      (beyond _ _ _ _ w.in-Ok-Run.field-0 w.in-Ok-Run.wanted _ w.in-Err-run_files.fault w.in-Ok-Run.field-0-is w.in-Ok-Run.ensures.named w.in-Ok-Run.ensures.fitting w.in-Err-run_files.ensures.told
+      w.in-Err-run_files.ensures.unfinished (rw (← w.fault-is) (sym c.status.ensures ∙ two)))
+  | in-Ok-Check+in-Err-check_file w ↦ absurd (check_never_misused _ _ w.in-Err-check_file.fault w.in-Err-check_file.ensures.told (rw (← w.fault-is) (sym c.status.ensures ∙ two)))
   | in-Err-NoMemory w ↦
       let four : c.status.result ≡ 4 = rw w.fault-is at c.status.ensures in
       let bad : 4 ≡ 2 = sym four ∙ two in cc
+]
+
+pub returns-in-Ok-run_files-clause-spared : goal.returns-in-Ok-run_files-clause-spared
+returns-in-Ok-run_files-clause-spared g c =
+    journal_alone _ _ _ c.in-Ok-Run.field-0 c.in-Ok-Run.wanted c.in-Ok-Run.field-0-is c.in-Ok-Run.ensures.named c.in-Ok-Run.ensures.fitting c.in-Ok-run_files.ensures.spared
+
+pub returns-clause-spared : goal.returns-clause-spared
+returns-clause-spared g c = elim c.match-settings.branch [
+  | in-Ok-Replay+in-Err w ↦ rw (w.files-is) (spared _ _ _ w.in-Err.ensures.spared)
+  | in-Ok-Run+in-Err-run_files w ↦ rw (w.files-is)
+      (journal_alone _ _ _ w.in-Ok-Run.field-0 w.in-Ok-Run.wanted w.in-Ok-Run.field-0-is w.in-Ok-Run.ensures.named w.in-Ok-Run.ensures.fitting w.in-Err-run_files.ensures.spared)
+  | in-Ok-Check+in-Err-check_file w ↦ rw (w.files-is) (spared _ _ _ w.in-Err-check_file.ensures.spared)
+  | in-Err-NoMemory w ↦ rw (w.files-is) (spared _ _ _ refl)
 ]

@@ -1,14 +1,8 @@
-use Rattle.std.proofs.Common.{◌≡◌, ◌∙◌, Bool, Option, Some, ap, codes, false, refl, sym, true}
+use Rattle.std.proofs.Common.{◌∙◌, Some, ap, codes, refl, sym}
 use Rattle.clap.proofs.WalkLemmas.{first_value-rows, one_text-rows}
-use Rattle.clap.specs.Words.{Text, found_of}
-use Rattle.command_line.specs.Settings.{flag_text}
-use Rattle.command_line.proofs.Missing.{known_name, none_some}
+use Rattle.clap.specs.Words.{found_of}
+use Rattle.command_line.proofs.Missing.{flag_read, known_name, none_some}
 use Rattle.command_line.proofs.usage.replay_of.Goals as goal
-
-flag_read : (given : Option Text) (wanted flag : Bool) → given ≡ Some (flag_text wanted) → (given ≡ Some (codes "true") → flag ≡ true) → (given ≡ Some (codes "false") → flag ≡ false)
-    → given ≡ Some (flag_text flag)
-flag_read given true flag is on off = is ∙ ap (λ f. Some (flag_text f)) (sym (on is))
-flag_read given false flag is on off = is ∙ ap (λ f. Some (flag_text f)) (sym (off is))
 
 pub returns-clause-meant : goal.returns-clause-meant
 returns-clause-meant c = λ whole.

@@ -1,26 +1,14 @@
 use Rattle.std.proofs.Common.{◌≡◌, ◌∙◌, Bor, Err, IfErr, IsErrAnd, List, Ok, Result, Some, [], ap, ap₂, inl, inr, refl, subst, sym, true}
 use Rattle.clap.specs.Kinds.{HasKind}
-use Rattle.clap.specs.Words.{App, IsAmong, Row, Text, app_of, fault_of, is_simple, is_simple_and_free, kind_of, subcommand_of}
+use Rattle.clap.specs.Words.{App, IsAmong, Text, app_of, fault_of, kind_of}
 use Rattle.clap.specs.declared.error.Error.{Error}
 use Rattle.command_line.specs.Refusals.{IsRefused, Tells}
 use Rattle.command_line.specs.declared.wanted.SettingsError.{SettingsError}
 use Rattle.command_line.specs.declared.wanted.SettingsError.TheVariants.{NoMemory, Usage}
-use Rattle.command_line.specs.Settings.{IsComplete, IsUsage, model_option, usage}
-use Rattle.command_line.proofs.Fitting.{fitting}
+use Rattle.command_line.specs.Settings.{IsUsage}
+use Rattle.command_line.proofs.Fitting.{fitting, free, simple}
 use Rattle.command_line.proofs.Missing.{same_complete}
 use Rattle.command_line.proofs.usage.settings.Goals as goal
-
-is_simple_usage : (names other : Bor (List (Bor Text))) → is_simple (usage (model_option names) (model_option other)) ≡ true
-is_simple_usage names other = refl
-
-is_free_usage : (names other : Bor (List (Bor Text))) → is_simple_and_free (usage (model_option names) (model_option other)) ≡ true
-is_free_usage names other = refl
-
-written_out : (app : App) (u : IsUsage app) → app ≡ usage (model_option u.2.0) (model_option u.3.0)
-written_out app u = u.4 ∙ ap₂ usage u.2.2 u.3.2
-
-free : (app : App) (u : IsUsage app) → is_simple_and_free app ≡ true
-free app u = ap is_simple_and_free (written_out app u) ∙ is_free_usage u.2.0 u.3.0
 
 refused : {X : Type 0} (words : List Text) (r : Result X SettingsError) (error : Error) (app : App) → IsUsage app → IsErrAnd r (Tells error) → HasKind (fault_of app words) error
     → IfErr r (IsRefused words)
@@ -40,23 +28,13 @@ returns-in_err-matches-clause-refused g c =
     refused _ c.from_residual-in_err-matches.result _ (app_of c.in_ok-command.command) c.in_ok-command.ensures c.from_residual-in_err-matches.ensures.1
     (c.in_err-matches.ensures.kinds (free _ c.in_ok-command.ensures))
 
--- words without a fault name a subcommand with all that it asks for
-complete : (app : App) (words : List Text) → IsUsage app → fault_of app words ≡ [] → (name : Text) × (rows : List Row) × (subcommand_of app words ≡ Some (name, rows)) × IsComplete name rows
-complete app words u none =
-    let is = written_out app u in
-    subst (λ a. (name : Text) × (rows : List Row) × (subcommand_of a words ≡ Some (name, rows)) × IsComplete name rows) (sym is)
-    (fitting u.2.0 u.3.0 words u.2.1 u.3.1 (subst (λ a. fault_of a words ≡ []) is none))
-
-simple_usage : (app : App) → IsUsage app → is_simple app ≡ true
-simple_usage app u = ap is_simple (written_out app u) ∙ is_simple_usage u.2.0 u.3.0
-
 pub returns-in-Some-clause-named : goal.returns-in-Some-clause-named
 returns-in-Some-clause-named g c =
     let app = app_of c.in_ok-command.command in
     let is_usage = c.in_ok-command.ensures in
-    let read = (c.in_ok-matches.ensures.ok.2 (simple_usage app is_usage)).1 in
+    let read = (c.in_ok-matches.ensures.ok.2 (simple app is_usage)).1 in
     let meant = c.in-Some.ensures.meant in
-    let whole = complete app _ is_usage (c.in_ok-matches.ensures.kinds (free _ is_usage)) in
+    let whole = fitting app _ is_usage (c.in_ok-matches.ensures.kinds (free _ is_usage)) in
     (app, is_usage, meant.0, meant.1, sym read ∙ meant.2, meant.3 (same_complete _ _ _ _ _ whole.2 (sym read ∙ meant.2) whole.3))
 
 pub returns-in-Some-clause-fitting : goal.returns-in-Some-clause-fitting
@@ -67,6 +45,6 @@ pub returns-clause-refused : goal.returns-clause-refused
 returns-clause-refused g c =
     let app = app_of c.in_ok-command.command in
     let is_usage = c.in_ok-command.ensures in
-    let read = (c.in_ok-matches.ensures.ok.2 (simple_usage app is_usage)).1 in
-    let whole = complete app _ is_usage (c.in_ok-matches.ensures.kinds (free _ is_usage)) in
+    let read = (c.in_ok-matches.ensures.ok.2 (simple app is_usage)).1 in
+    let whole = fitting app _ is_usage (c.in_ok-matches.ensures.kinds (free _ is_usage)) in
     absurd (c.in-None.ensures.missing refl whole.0 whole.1 (read ∙ whole.2) whole.3)

@@ -1,0 +1,4 @@
+pub mod Alone
+pub mod Leading
+pub mod Round
+pub mod Sets

@@ -1,0 +1,49 @@
+use Rattle.std.proofs.Common.{◌≡◌, ◌∙◌, ℕ, ◌+◌, List, length, map, refl, ap, sym, subst, arith}
+use Rattle.std.proofs.lemmas.List.{length-replicate}
+use Rattle.elf_loader.specs.Image.{Initial, IsImage}
+use Rattle.host_threads.proofs.Leading.{headline_at, leads_to, none_refused, reached_at}
+use Rattle.machine_model.specs.declared.config.Config.{Config}
+use Rattle.machine_model.specs.declared.event.Event.{Event}
+use Rattle.machine_model.specs.Events.{after_events}
+use Rattle.machine_model.specs.LawfulLog.{IsLawfulLog}
+use Rattle.machine_model.specs.Views.{Node, State, opening}
+use Rattle.trace_recorder.specs.History.{History}
+use Rattle.host_threads.proofs.running.run_counted.Goals as goal
+
+pub into_parts-machine-requires-clause-harts : goal.into_parts-machine-requires-clause-harts
+into_parts-machine-requires-clause-harts g c =
+    let same = c.is_of.ensures.same.0 c.if-not-is_of.false in
+    let made : length c.in_ok-fabric.shares.items ≡ c.args.common.now.config.harts = ap (λ (counts : List ℕ). length counts) c.in_ok-fabric.ensures.shares ∙ length-replicate {A = ℕ} c.args.common.now.config.harts 0 in
+    let all : length c.in_ok-shares.shares.items ≡ c.args.common.now.config.harts = omega (arith, made, c.in_ok-shares.ensures.shares, c.in_ok-done.ensures.done, c.in_ok-crew.ensures, c.in_ok-shares.shares.ok, c.in_ok-fabric.shares.ok) in
+    all ∙ sym (ap (λ (s : State). s.views.config.harts) (sym c.machine.ensures.machine) ∙ ap (λ (k : Config). k.harts) same.1)
+
+pub returns : goal.returns
+returns g c =
+    let parts = c.into_parts-machine.ensures in
+    let made : length c.in_ok-fabric.shares.items ≡ c.args.common.now.config.harts = ap (λ (counts : List ℕ). length counts) c.in_ok-fabric.ensures.shares ∙ length-replicate {A = ℕ} c.args.common.now.config.harts 0 in
+    let all : length c.in_ok-shares.shares.items ≡ c.args.common.now.config.harts = omega (arith, made, c.in_ok-shares.ensures.shares, c.in_ok-done.ensures.done, c.in_ok-crew.ensures, c.in_ok-shares.shares.ok, c.in_ok-fabric.shares.ok) in
+    let same = c.is_of.ensures.same.0 c.if-not-is_of.false in
+    let of_image : c.into_inner-fabric.result.machine.trace.image ≡ c.args.image = ap (λ (s : State). s.trace.image) (sym c.machine.ensures.machine) ∙ same.0 ∙ c.requires.image in
+    let of_config : c.into_inner-fabric.result.machine.views.config ≡ c.args.common.now.config = ap (λ (s : State). s.views.config) (sym c.machine.ensures.machine) ∙ same.1 in
+    let leads : after_events (opening c.args.image c.args.common.now.config) c.into_parts-machine.result.1.items ≡ c.into_parts-machine.result.0 =
+    leads_to c.args.image c.args.common.now.config c.into_inner-fabric.result c.into_parts-machine.result.1.items c.into_parts-machine.result.0 of_image of_config parts.replay parts.journal parts.machine in
+    record {
+      report = record {
+        trace = c.into_parts-trace.ensures.trace ∙ ap (λ (s : State). s.trace) (sym leads);
+        outputs = c.into_parts-trace.ensures.outputs ∙ ap (λ (s : State). map (λ (node : Node). node.output) s.views.nodes) (sym leads);
+        receipts = parts.total ∙ ap (λ (l : List Event). length l) (sym parts.journal);
+        harts = ap (λ (l : List ℕ). length l) parts.counts ∙ all;
+      };
+      replays = none_refused c.changes_are_counted.ensures 0 (opening c.args.image c.args.common.now.config) c.into_parts-machine.result.1.items
+          (let ends = ap (λ (s : State). s.views.changes) (leads ∙ parts.machine) in
+          let counted = ap (λ (l : List Event). length l) parts.journal in
+          omega (arith, ends, parts.changes, parts.book, counted));
+      reached = reached_at c.args.image c.args.common.now.config c.into_parts-machine.result.1.items
+          (ap (λ (s : State). s.trace.image) (leads ∙ parts.machine) ∙ of_image)
+          (ap (λ (s : State). s.views.config) (leads ∙ parts.machine) ∙ of_config)
+          (subst (λ (i : Initial). IsImage i) c.requires.image c.is_of.ensures.image)
+          c.requires.limits;
+      headline = headline_at c.args.image c.args.common.now.config c.into_inner-fabric.result.machine _ of_image of_config (sym (leads ∙ parts.machine)) parts.headline;
+      log = subst (λ (t : History). IsLawfulLog t.log) (sym (c.into_parts-trace.ensures.trace ∙ ap (λ (s : State). s.trace) parts.machine)) parts.log;
+      config = λ e. absurd (cc e);
+    }

@@ -1,0 +1,11 @@
+use Rattle.std.proofs.Common.{◌≡◌, ◌∙◌, List, rules, length, ap, sym}
+use Rattle.std.proofs.lemmas.List.{length-map}
+use Rattle.std.proofs.lemmas.List.FromFn.{length-map-range_with_len}
+use Rattle.progress_board.specs.Seat.{view}
+use Rattle.progress_board.specs.declared.view.View.{View}
+use Rattle.host_threads.proofs.running.run_with.Goals as goal
+
+pub run_counted-requires-clause-seats : goal.run_counted-requires-clause-seats
+run_counted-requires-clause-seats g c =
+    let seats : length c.in_ok-board.seats.items ≡ c.args.config.harts = sym (length-map c.in_ok-board.seats.items view) ∙ ap (λ (views : List View). length views) c.in_ok-board.ensures.views ∙ length-map-range_with_len _ 0 c.args.config.harts in
+    search rules

@@ -1,0 +1,25 @@
+use Rattle.std.proofs.Common.{refl}
+use Rattle.host_threads.specs.Due.{set_at}
+use Rattle.host_threads.proofs.Sets.{set_below, set_of_walk, sized, walk_begins, walk_finds, walk_goes_on}
+use Rattle.host_threads.proofs.spare.lowest_spare.Goals as goal
+
+pub loop-line-init : goal.loop-line-init
+loop-line-init c =
+    let s = sized c.args.config.now c.requires.limits in
+    walk_begins c.args.config.now c.args.cache.now (set_at c.args.config.now c.args.address) s (set_below c.args.config.now c.args.address s)
+
+pub loop-line-preserved : goal.loop-line-preserved
+loop-line-preserved c =
+    walk_goes_on c.args.config.now c.args.cache.now (set_at c.args.config.now c.args.address) c.loop-line.line c.loop-line.invariant
+    (λ spare. absurd (let found = c.if-is_spare.ensures.1 spare in cc))
+
+pub returns-then-is_spare-clause-lowest : goal.returns-then-is_spare-clause-lowest
+returns-then-is_spare-clause-lowest c =
+    let s = sized c.args.config.now c.requires.limits in
+    walk_finds c.args.config.now c.args.cache.now (set_at c.args.config.now c.args.address) c.loop-line.line s (set_below c.args.config.now c.args.address s) c.loop-line.invariant
+    (c.if-is_spare.ensures.0 refl)
+
+pub returns-then-is_spare-clause-set : goal.returns-then-is_spare-clause-set
+returns-then-is_spare-clause-set c =
+    let s = sized c.args.config.now c.requires.limits in
+    set_of_walk c.args.config.now c.args.cache.now (set_at c.args.config.now c.args.address) c.loop-line.line s (set_below c.args.config.now c.args.address s) c.loop-line.invariant

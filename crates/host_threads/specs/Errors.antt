@@ -1,0 +1,23 @@
+-- A run's errors by their numbers, and which of them a machine that isn't made and a thread's fault come to.
+use Rattle.std.specs.Prelude.{ℕ}
+use Rattle.coherent_machine.specs.declared.errors.NewError.{NewError}
+use Rattle.coherent_machine.specs.declared.errors.NewError.TheVariants as new
+use Rattle.host_threads.specs.declared.report.Fault.{Fault}
+use Rattle.host_threads.specs.declared.report.Fault.TheVariants as fault
+use Rattle.host_threads.specs.declared.report.RunError.{RunError}
+use Rattle.host_threads.specs.declared.report.RunError.TheVariants.{Config, NoMemory, Thread, Mismatch, BadEvent}
+
+abbrev pub number_of : RunError → ℕ
+number_of Config = 1
+number_of NoMemory = 2
+number_of Thread = 3
+number_of Mismatch = 4
+number_of BadEvent = 5
+
+abbrev pub of_new : NewError → RunError
+of_new new.Config = Config
+of_new new.NoMemory = NoMemory
+
+abbrev pub of_fault : Fault → RunError
+of_fault fault.NoMemory = NoMemory
+of_fault fault.BadEvent = BadEvent

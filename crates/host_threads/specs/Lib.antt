@@ -1,0 +1,4 @@
+pub mod Due
+pub mod Errors
+pub mod Replays
+pub mod Route

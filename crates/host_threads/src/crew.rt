@@ -1,0 +1,101 @@
+//! The threads of a run.
+
+ghost use Rattle.std.specs.Prelude.{◌≡◌, ◌≢◌, ◌≤◌, Err, IfOk, vec_len};
+ghost use Rattle.std.specs.List.{All};
+ghost use Rattle.progress_board.specs.Seat.{IsSeatOf};
+
+use crate::gate::Gate;
+use crate::report::RunError;
+use crate::worker::{Common, Done, Worker};
+use locked_fabric::{Fabric, Port, Share, Turn};
+use progress_board::Seat;
+use std::alloc::AllocError;
+use std::sync::atomic::Ordering;
+use std::sync::ledger::Ledger;
+use std::sync::{Mutex, Wait};
+use std::thread;
+use std::thread::{JoinHandle, Threads};
+
+/// A worker for each hart, the last hart's first.
+pub(crate) fn workers<'a, L: Ledger, T: Turn + Drop>(
+    common: &'a Common,
+    lock: &'a Mutex<Fabric<L>>,
+    mut seats: Vec<Seat>,
+    mut shares: Vec<Share<L>>,
+    mut turns: Vec<T>,
+) -> Result<Vec<Worker<'a, L, T>>, AllocError>
+    requires board { All (λ seat. IsSeatOf common.now.board seat) seats.items }
+    requires few { vec_len shares ≤ 8 }
+    requires seats { vec_len seats ≡ vec_len shares }
+    requires turns { vec_len turns ≡ vec_len shares }
+    ensures { IfOk result (λ made. vec_len made ≡ vec_len shares) }
+{
+    let harts = shares.len() as u8;
+    let mut made = Vec::with_capacity(common.alloc, shares.len())?;
+    for hart in (0..harts).rev() {
+        let Some(seat) = seats.pop() else {
+            unreachable!()
+        };
+        let Some(share) = shares.pop() else {
+            unreachable!()
+        };
+        let Some(turn) = turns.pop() else {
+            unreachable!()
+        };
+        let port = Port::new(lock, seat, share);
+        made.push_reserved(Worker::new(common, port, hart, turn));
+    }
+    Ok(made)
+}
+
+/// Runs each worker in a thread of its own, and joins them all, the last worker's first.
+pub(crate) fn run_all<
+    'a,
+    L: Ledger + Send + Sync,
+    T: Turn + Drop + Send,
+    G: Gate + Sync,
+    R: Threads + Wait + Sync,
+>(
+    rt: &R,
+    common: &'a Common,
+    mut workers: Vec<Worker<'a, L, T>>,
+    gate: &G,
+) -> Result<Vec<Done<L>>, RunError>
+    ensures done { IfOk result (λ done. vec_len done ≡ vec_len workers.entry) }
+    ensures config { result ≢ Err RunError.Config }
+{
+    let count = workers.len();
+    thread::scope(
+        thread::scope_env(),
+        rt,
+        |scope| -> Result<Vec<Done<L>>, RunError>
+            requires { vec_len workers ≡ count }
+            ensures done { IfOk result (λ done. vec_len done ≡ count) }
+            ensures config { result ≢ Err RunError.Config }
+        {
+            let mut running: Vec<JoinHandle<Done<L>>> = Vec::with_capacity(common.alloc, count)?;
+            let mut done = Vec::with_capacity(common.alloc, count)?;
+            let mut is_refused = false;
+            for _worker in 0..count {
+                let Some(worker) = workers.pop() else {
+                    unreachable!()
+                };
+                match scope.spawn(move || worker.run(rt, gate)) {
+                    Ok(thread) => running.push_reserved(thread),
+                    Err(_) => {
+                        common.stop.store(true, Ordering::SeqCst);
+                        is_refused = true;
+                        break;
+                    }
+                }
+            }
+            for thread in running {
+                done.push_reserved(thread.join(rt));
+            }
+            if is_refused {
+                return Err(RunError::Thread);
+            }
+            Ok(done)
+        },
+    )
+}

@@ -1,0 +1,8 @@
+//! What a worker passes before each turn.
+
+/// Sees the progress of the harts without the lock, and may hold a worker up.
+pub trait Gate {
+    /// The hart's worker is about to take the turn of this number, from 0, and has found that the harts
+    /// published these lengths of their lists, by hart.
+    fn pass(&self, hart: u8, turn: u64, lengths: &[u64]);
+}

@@ -1,0 +1,24 @@
+//! Runs a program with one thread a hart. Each thread takes turns: it asks for an event under the lock of
+//! the fabric, draws a number from the board, and applies the event. A hart's private instructions it runs
+//! outside the lock, and commits them as one event.
+//!
+//! What a run leaves is what its journal leads to from reset, whatever the threads did.
+#![tactic(auto)]
+
+mod crew;
+mod gate;
+mod report;
+mod rounds;
+mod running;
+mod same;
+mod spare;
+mod watched;
+mod worker;
+
+pub use gate::Gate;
+pub use report::{Report, RunError};
+pub use rounds::Rounds;
+pub use running::{run, run_with};
+
+#[cfg(test)]
+mod tests;

@@ -1,0 +1,166 @@
+//! A whole run.
+
+ghost use Rattle.std.specs.Prelude.{◌≡◌, ◌≢◌, ◌↔◌, ◌⊎◌, Err, IfOk, IsTrue, false, vec_len};
+ghost use Rattle.std.specs.List.{All};
+ghost use Rattle.coherent_machine.specs.Machine.{IsReached};
+ghost use Rattle.host_threads.specs.Replays.{IsOf, Replays, led};
+ghost use Rattle.machine_model.specs.Config as limits;
+ghost use Rattle.machine_model.specs.LawfulLog.{IsLawfulLog};
+ghost use Rattle.machine_model.specs.Laws.{IsHeadline};
+ghost use Rattle.progress_board.specs.Seat.{IsSeatOf};
+
+use crate::crew::{run_all, workers};
+use crate::gate::Gate;
+use crate::report::{Report, RunError};
+use crate::rounds::Rounds;
+use crate::same::is_of;
+use crate::worker::{Common, Done};
+use elf_loader::Image;
+use locked_fabric::{Fabric, Share, Turn};
+use machine_model::{Config, changes_are_counted};
+use machine_parts::is_within_limits;
+use progress_board::{Board, Seat};
+use std::alloc::{AllocError, Global};
+use std::marker::Brand;
+use std::sync::atomic::AtomicBool;
+use std::sync::ledger::{Blank, Ledger};
+use std::sync::{Mutex, Wait};
+use std::thread::Threads;
+
+/// Runs each hart in a thread of its own, whose turns are [`Rounds`]. The run is over when all harts have
+/// ended, or after as many events as the limit says.
+pub fn run<G: Gate + Sync, R: Threads + Wait + Sync>(
+    rt: &R,
+    alloc: Global,
+    image: Image,
+    config: Config,
+    limit: u64,
+    gate: &G,
+) -> Result<Report, RunError>
+    ensures report { IfOk result (λ report. IsOf image config report) }
+    ensures replays { IfOk result (λ report. Replays image config report) }
+    ensures reached { IfOk result (λ report. IsReached (led image config report)) }
+    ensures headline { IfOk result (λ report. IsHeadline image config (led image config report)) }
+    ensures log { IfOk result (λ report. IsLawfulLog report.trace.history.log) }
+    ensures config { (result ≡ Err RunError.Config) ↔ (limits.is_within_limits config ≡ false) }
+{
+    if !is_within_limits(&config) {
+        return Err(RunError::Config);
+    }
+    let own = image.try_copy(alloc)?;
+    let turns = rounds(alloc, &own, config)?;
+    run_with(rt, alloc, image, config, limit, gate, turns)
+}
+
+// A turn for each hart.
+fn rounds(alloc: Global, image: &Image, config: Config) -> Result<Vec<Rounds<'_>>, AllocError>
+    requires { IsTrue (limits.is_within_limits config) }
+    ensures { IfOk result (λ turns. vec_len turns ≡ config.harts) }
+{
+    let mut turns = Vec::new(alloc);
+    for hart in 0..config.harts {
+        turns.push(Rounds::new(hart as u8, image, config))?;
+    }
+    Ok(turns)
+}
+
+/// Runs each hart in a thread of its own, whose events the hart's turn picks.
+pub fn run_with<G: Gate + Sync, T: Turn + Drop + Send, R: Threads + Wait + Sync>(
+    rt: &R,
+    alloc: Global,
+    image: Image,
+    config: Config,
+    limit: u64,
+    gate: &G,
+    turns: Vec<T>,
+) -> Result<Report, RunError>
+    ensures report { IfOk result (λ report. IsOf image config report) }
+    ensures replays { IfOk result (λ report. Replays image config report) }
+    ensures reached { IfOk result (λ report. IsReached (led image config report)) }
+    ensures headline { IfOk result (λ report. IsHeadline image config (led image config report)) }
+    ensures log { IfOk result (λ report. IsLawfulLog report.trace.history.log) }
+    ensures config { (result ≡ Err RunError.Config) ↔ ((limits.is_within_limits config ≡ false) ⊎ (vec_len turns ≢ config.harts)) }
+{
+    if !is_within_limits(&config) || turns.len() != config.harts as usize {
+        return Err(RunError::Config);
+    }
+    let own = image.try_copy(alloc)?;
+    let (board, seats) = Board::new(alloc, config.harts as u8)?;
+    let common = Common {
+        alloc,
+        image: own,
+        config,
+        board,
+        stop: AtomicBool::new(false),
+        limit,
+    };
+    let blank = Blank::new(u64::from(config.harts));
+    run_counted::<Brand, G, T, R>(rt, blank, image, &common, gate, seats, turns)
+}
+
+// The run, with the ledger that the threads count in.
+fn run_counted<
+    L: Ledger + Send + Sync,
+    G: Gate + Sync,
+    T: Turn + Drop + Send,
+    R: Threads + Wait + Sync,
+>(
+    rt: &R,
+    blank: Blank,
+    image: Image,
+    common: &Common,
+    gate: &G,
+    seats: Vec<Seat>,
+    turns: Vec<T>,
+) -> Result<Report, RunError>
+    requires name { blank.name ≡ L.name }
+    requires parts { blank.parts ≡ L.parts }
+    requires harts { blank.parts ≡ common.now.config.harts }
+    requires limits { IsTrue (limits.is_within_limits common.now.config) }
+    requires image { common.now.image ≡ image }
+    requires board { All (λ seat. IsSeatOf common.now.board seat) seats.items }
+    requires seats { vec_len seats ≡ common.now.config.harts }
+    requires turns { vec_len turns ≡ common.now.config.harts }
+    ensures report { IfOk result (λ report. IsOf image common.now.config report) }
+    ensures replays { IfOk result (λ report. Replays image common.now.config report) }
+    ensures reached { IfOk result (λ report. IsReached (led image common.now.config report)) }
+    ensures headline { IfOk result (λ report. IsHeadline image common.now.config (led image common.now.config report)) }
+    ensures log { IfOk result (λ report. IsLawfulLog report.trace.history.log) }
+    ensures config { result ≢ Err RunError.Config }
+{
+    changes_are_counted();
+    let alloc = common.alloc;
+    let (fabric, shares) = Fabric::<L>::new(alloc, blank, image, common.config)?;
+    let lock = Mutex::new(fabric);
+    let crew = workers(common, &lock, seats, shares, turns)?;
+    let done = run_all(rt, common, crew, gate)?;
+    let shares = shares_of(alloc, done)?;
+    let fabric = lock.into_inner();
+    if !is_of(fabric.machine(), &common.image, &common.config) {
+        return Err(RunError::Mismatch);
+    }
+    let (machine, journal, receipts) = fabric.into_parts(shares);
+    let (trace, outputs) = machine.into_parts();
+    Ok(Report {
+        trace,
+        outputs,
+        journal,
+        receipts,
+    })
+}
+
+// The shares in their order, or the first fault.
+fn shares_of<L: Ledger>(alloc: Global, done: Vec<Done<L>>) -> Result<Vec<Share<L>>, RunError>
+    ensures shares { IfOk result (λ shares. vec_len shares ≡ vec_len done) }
+    ensures config { result ≢ Err RunError.Config }
+{
+    let mut shares = Vec::with_capacity(alloc, done.len())?;
+    for one in done {
+        let Done { share, fault } = one;
+        if let Some(fault) = fault {
+            return Err(RunError::from(fault));
+        }
+        shares.push_reserved(share);
+    }
+    Ok(shares)
+}

@@ -1,0 +1,215 @@
+//! What one thread does.
+
+ghost use Rattle.std.specs.Prelude.{◌≡◌, ◌≤◌, IfOk, None, Some, if◌then◌else◌};
+ghost use Rattle.hart.specs.Local.{can_go_alone, row_of};
+ghost use Rattle.progress_board.specs.Seat.{IsSeatOf};
+
+use crate::gate::Gate;
+use crate::report::Fault;
+use crate::watched::Watched;
+use coherent_machine::{AdoptError, ApplyError};
+use elf_loader::Image;
+use hart::{Batch, Hart, next_alone, run_local};
+use locked_fabric::{Port, Share, Turn};
+use machine_model::{Config, Event, Outcome};
+use progress_board::Board;
+use std::alloc::{AllocError, Global};
+use std::sync::Wait;
+use std::sync::atomic::{AtomicBool, Ordering};
+use std::sync::ledger::Ledger;
+use std::thread;
+
+/// How many instructions a batch has at most.
+const MOST_ALONE: u32 = 256;
+
+const MOST_HARTS: usize = 8;
+
+/// What the threads of a run share beside the fabric.
+#[derive(Drop)]
+pub(crate) struct Common {
+    pub(crate) alloc: Global,
+    pub(crate) image: Image,
+    pub(crate) config: Config,
+    pub(crate) board: Board,
+    /// Set where a thread wasn't started.
+    pub(crate) stop: AtomicBool,
+    /// How many events there are at most.
+    pub(crate) limit: u64,
+}
+
+/// One hart's part in a run.
+#[derive(Drop)]
+pub(crate) struct Worker<'a, L: Ledger, T: Turn + Drop> {
+    common: &'a Common,
+    port: Port<'a, L>,
+    turn: Watched<T>,
+    hart: u8,
+    last: Option<Outcome>,
+    has_halted: bool,
+    ghost seated: { IsSeatOf common.now.board port.seat },
+}
+
+/// What a thread hands back.
+#[derive(Drop)]
+pub(crate) struct Done<L: Ledger> {
+    pub(crate) share: Share<L>,
+    pub(crate) fault: Option<Fault>,
+}
+
+impl<'a, L: Ledger, T: Turn + Drop> Worker<'a, L, T> {
+    pub(crate) fn new(common: &'a Common, port: Port<'a, L>, hart: u8, turn: T) -> Worker<'a, L, T>
+        requires { IsSeatOf common.now.board port.seat }
+    {
+        let turn = Watched {
+            turn,
+            hart,
+            state: None,
+        };
+        Worker {
+            common,
+            port,
+            turn,
+            hart,
+            last: None,
+            has_halted: false,
+        }
+    }
+
+    /// Takes turns until the run is over for this hart.
+    pub(crate) fn run<R: Wait, G: Gate>(mut self, rt: &R, gate: &G) -> Done<L> {
+        let mut fault = None;
+        let mut turn = 0u64;
+        for _ in rt.forever() {
+            if self.common.stop.load(Ordering::SeqCst) {
+                break;
+            }
+            self.pass(gate, turn);
+            turn = turn.wrapping_add(1);
+            match self.take_turn(rt) {
+                Ok(true) => {}
+                Ok(false) => break,
+                Err(error) => {
+                    fault = Some(error);
+                    break;
+                }
+            }
+        }
+        self.halt();
+        let (_seat, share) = self.port.end();
+        Done { share, fault }
+    }
+
+    // Lets the gate see the published lengths.
+    fn pass<G: Gate>(&mut self, gate: &G, turn: u64) {
+        let harts = self.common.board.harts();
+        let mut lengths = [0; MOST_HARTS];
+        for hart in 0..harts {
+            lengths[usize::from(hart)] = self.common.board.published(self.port.seat(), hart);
+        }
+        gate.pass(self.hart, turn, &lengths[..usize::from(harts)]);
+    }
+
+    // One turn. Whether another one follows.
+    fn take_turn<R: Wait>(&mut self, rt: &R) -> Result<bool, Fault> {
+        let board = &self.common.board;
+        if board.halted(self.port.seat()) == (1 << board.harts()) - 1 {
+            return Ok(false);
+        }
+        let picked = self.port.pick(rt, &mut self.turn, self.last);
+        if self
+            .turn
+            .state
+            .is_some_and(|hart| !hart.status.is_running())
+        {
+            self.halt();
+        }
+        let Some(event) = picked else {
+            thread::yield_now();
+            return Ok(true);
+        };
+        match self.common.board.draw(self.port.seat()) {
+            Ok(number) if number < self.common.limit => {}
+            _ => return Ok(false),
+        }
+        let Some(outcome) = self.carry_out(rt, event)? else {
+            return Ok(false);
+        };
+        self.last = Some(outcome);
+        if is_change(outcome) {
+            self.publish(rt);
+        } else {
+            thread::yield_now();
+        }
+        Ok(true)
+    }
+
+    // What comes of the event, or `None` where the machine is at a limit.
+    fn carry_out<R: Wait>(&mut self, rt: &R, event: Event) -> Result<Option<Outcome>, Fault> {
+        if event == (Event::Step { hart: self.hart }) {
+            if let Some(batch) = self.batch()? {
+                match self.port.commit(rt, &batch) {
+                    Ok(outcome) => return Ok(Some(outcome)),
+                    Err(AdoptError::Limit) => return Ok(None),
+                    Err(AdoptError::NoMemory) => return Err(Fault::NoMemory),
+                    Err(AdoptError::Stale | AdoptError::Empty) => {}
+                }
+            }
+        }
+        match self.port.apply(rt, event) {
+            Ok(outcome) => Ok(Some(outcome)),
+            Err(ApplyError::Limit) => Ok(None),
+            Err(ApplyError::NoMemory) => Err(Fault::NoMemory),
+            Err(ApplyError::BadEvent) => Err(Fault::BadEvent),
+        }
+    }
+
+    // What the hart does next alone, where it does anything.
+    fn batch(&self) -> Result<Option<Batch>, AllocError> {
+        match &self.turn.state {
+            Some(hart) => batch_of(self.common.alloc, &self.common.image, hart),
+            None => Ok(None),
+        }
+    }
+
+    // Publishes the length of the hart's list.
+    fn publish<R: Wait>(&mut self, rt: &R) {
+        if let Some((length, status)) = self.port.seen(rt, self.hart) {
+            self.common.board.publish(self.port.seat(), length);
+            if !status.is_running() {
+                self.halt();
+            }
+        }
+    }
+
+    // Sets the hart's halted bit, once.
+    fn halt(&mut self) {
+        if !self.has_halted {
+            self.common.board.halt(self.port.seat());
+            self.has_halted = true;
+        }
+    }
+}
+
+// What a hart does alone from here, where it does anything.
+fn batch_of(alloc: Global, image: &Image, hart: &Hart) -> Result<Option<Batch>, AllocError>
+    ensures { IfOk result (λ batch. batch ≡ (if can_go_alone image.now hart.now then Some (row_of image.now hart.now 256) else None)) }
+{
+    match next_alone(image, hart) {
+        Some(_) => Ok(Some(run_local(alloc, image, hart, MOST_ALONE)?)),
+        None => Ok(None),
+    }
+}
+
+// Whether an event with this outcome changed the machine.
+fn is_change(outcome: Outcome) -> bool {
+    matches!(
+        outcome,
+        Outcome::Retired
+            | Outcome::Stopped(_)
+            | Outcome::Exited(_)
+            | Outcome::Drained
+            | Outcome::Delivered
+            | Outcome::Evicted
+            | Outcome::Missed(_)
+    )
+}

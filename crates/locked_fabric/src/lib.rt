@@ -1,0 +1,16 @@
+//! A machine behind one lock, whose journal is its history: whenever the lock is free, the machine is what
+//! the journal leads to from reset, and each event of the journal counts for the worker that applied it.
+#![tactic(auto)]
+
+mod fabric;
+mod port;
+mod share;
+mod turn;
+
+pub use fabric::Fabric;
+pub use port::Port;
+pub use share::Share;
+pub use turn::Turn;
+
+#[cfg(test)]
+mod tests;

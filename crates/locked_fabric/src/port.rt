@@ -1,0 +1,122 @@
+//! A worker's way to the fabric that all workers share.
+
+ghost use Rattle.std.specs.Prelude.{◌≡◌, ◌+◌, IfOk, OnErr, OnOk};
+ghost use Rattle.std.specs.Borrow.{sem};
+ghost use Rattle.coherent_machine.specs.Adopting.{local_of};
+
+use crate::fabric::Fabric;
+use crate::share::Share;
+use crate::turn::Turn;
+use coherent_machine::{AdoptError, ApplyError};
+use hart::{Batch, Hart, Status};
+use machine_model::{Event, Outcome};
+use progress_board::Seat;
+use std::sync::ledger::Ledger;
+use std::sync::{Mutex, Wait};
+
+/// The lock of a fabric, with one worker's share of it and that worker's seat of the board. The share is one
+/// that was made with the fabric. Each call takes the lock and gives it back; `new`, `seat` and `end` alone
+/// wait for nobody.
+#[derive(Drop)]
+pub struct Port<'a, L: Ledger> {
+    lock: &'a Mutex<Fabric<L>>,
+    seat: Seat,
+    share: Share<L>,
+}
+
+impl<'a, L: Ledger> Port<'a, L> {
+    ghost use Rattle.locked_fabric.specs.Port.{Applied, IsLast, Left, LendsSeat, hart_at, seat_of, seen_in, share_of};
+
+    pub fn new(lock: &'a Mutex<Fabric<L>>, seat: Seat, share: Share<L>) -> Port<'a, L>
+        ensures seat { seat_of result ≡ seat }
+        ensures share { share_of result ≡ share }
+    {
+        Port { lock, seat, share }
+    }
+
+    /// What a turn picks where the machine stands as it does under the lock. It waits for the lock.
+    pub fn pick<R: Wait, T: Turn>(
+        &mut self,
+        rt: &R,
+        turn: &mut T,
+        last: Option<Outcome>,
+    ) -> Option<Event>
+        ensures picks { Left (λ held. T.picks turn.old held.machine last result turn.new) }
+        ensures same { self.new ≡ self.old }
+    {
+        let fabric = self.lock.lock(rt);
+        turn.pick(&fabric.machine().views(), last)
+    }
+
+    /// Applies an event, as `Fabric::apply` does. It waits for the lock.
+    pub fn apply<R: Wait>(&mut self, rt: &R, event: Event) -> Result<Outcome, ApplyError>
+        ensures seat { seat_of self.new ≡ seat_of self.old }
+        ensures answers { Left (Applied event result (share_of self.old) (share_of self.new)) }
+        ensures err { OnErr result (share_of self.new ≡ share_of self.old) }
+    {
+        self.lock.lock(rt).apply(event, &mut self.share)
+    }
+
+    /// Commits a batch, as `Fabric::commit` does. It waits for the lock.
+    pub fn commit<R: Wait>(&mut self, rt: &R, batch: &Batch) -> Result<Outcome, AdoptError>
+        ensures seat { seat_of self.new ≡ seat_of self.old }
+        ensures retired { IfOk result (λ outcome. outcome ≡ Outcome.Retired) }
+        ensures journalled { OnOk result (Left (IsLast (local_of batch.now.first.id batch.now))) }
+        ensures ok { OnOk result (share_of self.new ≡ share_of self.old + 1) }
+        ensures err { OnErr result (share_of self.new ≡ share_of self.old) }
+    {
+        self.lock.lock(rt).commit(batch, &mut self.share)
+    }
+
+    /// How many instructions the hart has retired, and its status; none where there is no such hart. It waits
+    /// for the lock.
+    pub fn seen<R: Wait>(&mut self, rt: &R, hart: u8) -> Option<(u64, Status)>
+        ensures seen { Left (λ held. result ≡ seen_in held.machine.trace hart) }
+        ensures same { self.new ≡ self.old }
+    {
+        let fabric = self.lock.lock(rt);
+        let trace = fabric.machine().trace();
+        let hart = usize::from(hart);
+        if hart < trace.harts() {
+            Some((trace.entries(hart).len() as u64, trace.statuses()[hart]))
+        } else {
+            None
+        }
+    }
+
+    /// A copy of the hart as it stands; none where there is no such hart. It waits for the lock.
+    pub fn hart<R: Wait>(&mut self, rt: &R, hart: u8) -> Option<Hart>
+        ensures copy { Left (λ held. result ≡ hart_at held.machine hart) }
+        ensures same { self.new ≡ self.old }
+    {
+        let fabric = self.lock.lock(rt);
+        let views = fabric.machine().views();
+        let hart = usize::from(hart);
+        if hart < views.harts() {
+            Some(*views.hart(hart))
+        } else {
+            None
+        }
+    }
+
+    /// Lends the seat to the board's calls.
+    pub fn seat(&mut self) -> &mut Seat
+        ensures* lends { sem 𝓛 (LendsSeat L.row L.Ledger self.entry result) }
+        ensures now { result.now ≡ seat_of self.old }
+    {
+        &mut self.seat
+    }
+
+    /// The seat and the share.
+    pub fn end(self) -> (Seat, Share<L>)
+        ensures seat { result.0 ≡ seat_of self.entry }
+        ensures share { result.1 ≡ share_of self.entry }
+    {
+        let Port {
+            lock: _,
+            seat,
+            share,
+        } = self;
+        (seat, share)
+    }
+}

@@ -1,0 +1,21 @@
+//! What a worker asks for its next event.
+
+ghost use Rattle.std.specs.Prelude.{Option, ⊤};
+ghost use Rattle.machine_model.specs.declared.event.Event.{Event};
+ghost use Rattle.machine_model.specs.declared.outcome.Outcome.{Outcome};
+ghost use Rattle.machine_model.specs.Views.{State};
+
+use coherent_machine::Views;
+use machine_model::{Event, Outcome};
+
+/// Picks events for a worker. Whatever it picks, a fabric stays what its journal leads to.
+pub trait Turn {
+    /// What may be picked: by the turn, the machine and the outcome of the last event, this event, which
+    /// leaves the turn so.
+    ghost picks: { Self → State → Option Outcome → Option Event → Self → Type 0 } = { λ _ _ _ _ _. ⊤ };
+
+    /// The worker's next event, by what the machine is and what came of the worker's last event; none to
+    /// leave this turn out.
+    fn pick(&mut self, views: &Views<'_>, last: Option<Outcome>) -> Option<Event>
+        ensures { picks self.old views.now last result self.new };
+}
