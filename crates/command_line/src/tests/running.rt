@@ -2,9 +2,22 @@
 
 use super::memory::{File, MemoryFiles, Narrow};
 use super::{Ran, image_of, line, line_over, replay, texts};
+use std::process::Abort;
 use std::sync::Wait;
 use std::test::Fail;
 use std::thread::Threads;
+
+/// Each hart adds 1 to a word 100 times.
+const COUNT: [u32; 8] = [
+    0x8000_0637,
+    0x1006_0613,
+    0x0010_0693,
+    0x0640_0713,
+    0x00d6_27af,
+    0xfff7_0713,
+    0xfe07_1ce3,
+    0x0000_0073,
+];
 
 /// A run of the image, and the journal that it left.
 fn run<R: Threads + Wait + Sync + AllocGlobal>(
@@ -38,6 +51,106 @@ fn row_16(rt: HostRuntime) -> Result<(), Fail> {
     let again = replay(&rt, image.as_slice(), journal.as_slice());
     assert_eq!(rt; again.out.as_slice(), texts::EXIT_TRACE.as_bytes());
     Ok(())
+}
+
+/// The trace with its first two `P` lines exchanged.
+fn exchanged(rt: &impl AllocGlobal, trace: &str) -> Result<Vec<u8>, Fail> {
+    let mut made = Vec::new(rt.alloc());
+    let mut first = "";
+    let mut seen = 0;
+    for row in trace.lines() {
+        if row.starts_with("P ") && seen < 2 {
+            seen += 1;
+            if seen == 1 {
+                first = row;
+                continue;
+            }
+            made.extend_from_slice(row.as_bytes())?;
+            made.push(b'\n')?;
+            made.extend_from_slice(first.as_bytes())?;
+        } else {
+            made.extend_from_slice(row.as_bytes())?;
+        }
+        made.push(b'\n')?;
+    }
+    Ok(made)
+}
+
+/// All harts count, each adds once for each time that is loaded, the journal is replayed to the same trace,
+/// whose order is legal, and no other order of the same additions is.
+fn counts(
+    rt: &(impl Abort + Threads + Wait + Sync + AllocGlobal),
+    words: &[&str],
+    harts: u8,
+    last: &str,
+) -> Result<(), Fail> {
+    let image = image_of(rt.alloc(), &COUNT)?;
+    let (ran, journal) = run(rt, words, image.as_slice());
+    assert_eq!(rt; ran.status, 0);
+    let Ok(trace) = std::str::from_utf8(ran.out.as_slice()) else {
+        panic!(rt; "the trace is no text")
+    };
+    let performed = trace.lines().filter(|row| row.starts_with("P ")).count();
+    assert_eq!(rt; performed, usize::from(harts) * 100);
+    assert!(rt; trace.contains(last));
+    let Ok(events) = std::str::from_utf8(journal.as_slice()) else {
+        panic!(rt; "the journal is no text")
+    };
+    for hart in 0..harts {
+        let row = format!(in rt.alloc(); "local {hart} 4\n")?;
+        assert!(rt; events.contains(row.as_str()));
+    }
+    let again = replay(rt, image.as_slice(), journal.as_slice());
+    assert!(rt; again.out.as_slice() == ran.out.as_slice());
+    assert!(rt; again.err.as_slice() == ran.err.as_slice());
+    let other = exchanged(rt, trace)?;
+    let files = [
+        File::whole("trace", ran.out.as_slice()),
+        File::whole("other", other.as_slice()),
+    ];
+    assert_eq!(rt; line(rt, &["rvtl", "check", "trace"], &files).status, 0);
+    assert_eq!(rt; line(rt, &["rvtl", "check", "other"], &files).status, 3);
+    Ok(())
+}
+
+#[test]
+fn row_16_counts(rt: HostRuntime) -> Result<(), Fail> {
+    let words = [
+        "rvtl",
+        "run",
+        "--raw",
+        "--memory",
+        "4",
+        "--harts",
+        "4",
+        "--limit",
+        "1000000000",
+        "--journal",
+        "j",
+        "image",
+    ];
+    counts(&rt, &words, 4, " 0x0000018f -\n")
+}
+
+#[test]
+fn row_53(rt: HostRuntime) -> Result<(), Fail> {
+    let words = [
+        "rvtl",
+        "run",
+        "--raw",
+        "--memory",
+        "4",
+        "--harts",
+        "8",
+        "--line",
+        "64",
+        "--limit",
+        "1000000000",
+        "--journal",
+        "j",
+        "image",
+    ];
+    counts(&rt, &words, 8, " 0x0000031f -\n")
 }
 
 /// Nothing goes to standard output where the journal is not written.
