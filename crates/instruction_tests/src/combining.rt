@@ -1,5 +1,6 @@
 //! A worked row.
 use amo_unit::*;
+use rv32_decode::AmoOp;
 
 #[test]
 fn row_36(rt: HostRuntime) {

@@ -1,5 +1,5 @@
-//! Tests of what instructions are and do, of the loader, of harts and of a trace's lists, apart from
-//! them, so that none of them is proved a second time for its tests.
+//! Tests of what instructions are and do, of harts and of a trace's lists, apart from them, so that none
+//! of them is proved a second time for its tests.
 #![tactic(auto)]
 
 #[cfg(test)]
@@ -8,8 +8,6 @@ mod combining;
 mod decoding;
 #[cfg(test)]
 mod executing;
-#[cfg(test)]
-mod loading;
 #[cfg(test)]
 mod recording;
 #[cfg(test)]

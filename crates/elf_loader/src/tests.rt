@@ -5,9 +5,9 @@ mod programs;
 
 ghost use Rattle.elf_loader.specs.Size.{IsMemorySize};
 
+use crate::segment::ProgramHeader;
+use crate::{BASE, Image, LoadError, load, raw, size_of_kib};
 use changed::{CUT, FILE, WITH_00, WITH_FF};
-use elf_loader::segment::ProgramHeader;
-use elf_loader::{BASE, Image, LoadError, load, raw, size_of_kib};
 use programs::Program;
 use std::alloc::{AllocError, Global};
 use std::process::Abort;
