@@ -246,18 +246,18 @@ asked_store model items order a b s q free =
     let d = no_dependency items a b q.writes_none in
     let clear = first_clear items a q.writes_none in
     or_from _ _ f1.0 (
-    or_from (rule_2 model items order a b) _ (and_left _ _ (and_left (reads a.kind) (reads b.kind) k.0)) (
-    or_from (rule_3 model items order a b) _ (and_left _ _ (and_left (is_amo a.kind || is_conditional a.kind) (reads b.kind) k.1)) (
+    or_from (rule_2 items order a b) _ (and_left _ _ (and_left (reads a.kind) (reads b.kind) k.0)) (
+    or_from (rule_3 order a b) _ (and_left _ _ (and_left (is_amo a.kind || is_conditional a.kind) (reads b.kind) k.1)) (
     or_from _ _ f2.0 (
     or_from _ _ (quiet_acquire model a s q.no_acquire) (
     or_from _ _ f2.1 (
-    or_from (rule_7 model items order a b) _ (and_left _ _ (quiet_rcsc model a s q.no_acquire q.no_release)) (
-    or_from (rule_8 model items order a b) _ (and_left _ _ (and_left _ _ (and_right (precedes a b) _ k.2))) (
+    or_from (rule_7 model a b) _ (and_left _ _ (quiet_rcsc model a s q.no_acquire q.no_release)) (
+    or_from (rule_8 items a b) _ (and_left _ _ (and_left _ _ (and_right (precedes a b) _ k.2))) (
     or_from _ _ d.0 (
     or_from _ _ d.1 (
-    or_from (rule_11 model items order a b) _ (and_right (writes b.kind) _ (and_right (precedes a b) _ (steers_none _ (between items a b) clear))) (
-    or_from (rule_12 model items order a b) _ (and_right (reads b.kind) _ (none_any (λ (m : Item). passes_on items order a b m.operation) (λ m. none_passed items order a b q.writes_none m.operation) (between items a b))) (
-    or_from (rule_13 model items order a b) _ (and_right (writes b.kind) _ (and_right (precedes a b) _ (addresses_none _ (between items a b) clear))) refl))))))))))))
+    or_from (rule_11 items a b) _ (and_right (writes b.kind) _ (and_right (precedes a b) _ (steers_none _ (between items a b) clear))) (
+    or_from (rule_12 items order a b) _ (and_right (reads b.kind) _ (none_any (λ (m : Item). passes_on items order a b m.operation) (λ m. none_passed items order a b q.writes_none m.operation) (between items a b))) (
+    or_from (rule_13 items a b) _ (and_right (writes b.kind) _ (and_right (precedes a b) _ (addresses_none _ (between items a b) clear))) refl))))))))))))
 
 pub preserved_from : (model : Model) (h : ℕ) (items : List Item) (order : List Operation) (a b : Operation) → a.hart ≡ h → (a.kind ≡ Store → IsQuiet items a) → must model h items a b ≡ false → (precedes a b && asked model items order a b) ≡ false
 preserved_from model h items order a b mine quiet free = at_kind a.kind refl

@@ -31,10 +31,10 @@ same-swap a b e = go (same b a) refl
 
 -- ---- places
 
-place_head : (a x : Operation) (xs : List Operation) → same a x ≡ true → position_in (x ∷ xs) a ≡ 0
+pub place_head : (a x : Operation) (xs : List Operation) → same a x ≡ true → position_in (x ∷ xs) a ≡ 0
 place_head a x xs e = rw e refl
 
-place_tail : (a x : Operation) (xs : List Operation) → same a x ≡ false → position_in (x ∷ xs) a ≡ 1 + position_in xs a
+pub place_tail : (a x : Operation) (xs : List Operation) → same a x ≡ false → position_in (x ∷ xs) a ≡ 1 + position_in xs a
 place_tail a x xs e = rw e refl
 
 -- ---- in order, as a fact by recursion
@@ -177,15 +177,15 @@ source_at xs ys load x dx dy inx iny =
 
 -- ---- a distinct list, round one of its operations
 
-distinct_front : (xs ys : List Operation) (load : Operation) → EachOnce (xs ++ load ∷ ys) → Each (λ s. (same load s ≡ false) × (same s load ≡ false)) xs
+pub distinct_front : (xs ys : List Operation) (load : Operation) → EachOnce (xs ++ load ∷ ys) → Each (λ s. (same load s ≡ false) × (same s load ≡ false)) xs
 distinct_front [] ys load d = tt
 distinct_front (x ∷ xs) ys load d = let e : same x load ≡ false = (Each-right (λ s. same x s ≡ false) xs (load ∷ ys) d.0).0 in ((same-swap x load e, e), distinct_front xs ys load d.1)
 
-distinct_back : (xs ys : List Operation) (load : Operation) → EachOnce (xs ++ load ∷ ys) → Each (λ s. (same load s ≡ false) × (same s load ≡ false)) ys
+pub distinct_back : (xs ys : List Operation) (load : Operation) → EachOnce (xs ++ load ∷ ys) → Each (λ s. (same load s ≡ false) × (same s load ≡ false)) ys
 distinct_back [] ys load d = Each-weaker (λ s. same load s ≡ false) (λ s. (same load s ≡ false) × (same s load ≡ false)) (λ s e. (e, same-swap load s e)) ys d.0
 distinct_back (x ∷ xs) ys load d = distinct_back xs ys load d.1
 
-distinct_across : (xs ys : List Operation) (load : Operation) → EachOnce (xs ++ load ∷ ys) → Each (λ s. Each (λ t. same s t ≡ false) xs) ys
+pub distinct_across : (xs ys : List Operation) (load : Operation) → EachOnce (xs ++ load ∷ ys) → Each (λ s. Each (λ t. same s t ≡ false) xs) ys
 distinct_across [] ys load d = Each-from (λ s. Unit {0}) ys (λ s m. tt)
 distinct_across (x ∷ xs) ys load d =
     Each-both (λ s. same s x ≡ false) (λ s. Each (λ t. same s t ≡ false) xs) ys (Each-weaker (λ s. same x s ≡ false) (λ s. same s x ≡ false) (λ s e. same-swap x s e) ys (Each-right (λ s. same x s ≡ false) xs (load ∷ ys) d.0).1) (distinct_across xs ys load d.1)

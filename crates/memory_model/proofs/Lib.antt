@@ -6,3 +6,5 @@ pub mod Named
 pub mod Forms
 pub mod Told
 pub mod Judged
+pub mod Reaching
+pub mod Apart

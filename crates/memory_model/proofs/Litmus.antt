@@ -20,6 +20,10 @@ same_word = record {
   equal_values = record { run = refl; whole = refl; illegal = refl; fault = refl };
   store_between = record { run = refl; whole = refl; legal = refl; no_fault = refl };
   other_byte_between = record { run = refl; whole = refl; illegal = refl; fault = refl };
+  lr_first = record { run = refl; whole = refl; illegal = refl; fault = refl };
+  lr_last = record { run = refl; whole = refl; illegal = refl; fault = refl };
+  sc_between = record { run = refl; whole = refl; illegal = refl; fault = refl };
+  amo_between = record { run = refl; whole = refl; illegal = refl; fault = refl };
 }
 
 atomic_source : AtomicSource
@@ -27,6 +31,8 @@ atomic_source = record {
   of_conditional = record { run = refl; whole = refl; illegal = refl; fault = refl };
   beside_conditional = record { run = refl; whole = refl; legal = refl; no_fault = refl };
   of_amo = record { run = refl; whole = refl; illegal = refl; fault = refl };
+  by_lr = record { run = refl; whole = refl; illegal = refl; fault = refl };
+  of_some_bytes = record { run = refl; whole = refl; illegal = refl; fault = refl };
 }
 
 fence : Fence
@@ -45,6 +51,16 @@ fence = record {
   amo_as_store = record { run = refl; whole = refl; illegal = refl; fault = refl };
   amo_in_w = record { run = refl; whole = refl; illegal = refl; fault = refl };
   amo_in_r = record { run = refl; whole = refl; illegal = refl; fault = refl };
+  load_in_r = record { run = refl; whole = refl; illegal = refl; fault = refl };
+  lr_in_r = record { run = refl; whole = refl; illegal = refl; fault = refl };
+  sc_in_w = record { run = refl; whole = refl; illegal = refl; fault = refl };
+  lr_behind = record { run = refl; whole = refl; illegal = refl; fault = refl };
+  sc_behind = record { run = refl; whole = refl; illegal = refl; fault = refl };
+  amo_behind_in_r = record { run = refl; whole = refl; illegal = refl; fault = refl };
+  amo_behind_in_w = record { run = refl; whole = refl; illegal = refl; fault = refl };
+  tso_lr = record { run = refl; whole = refl; illegal = refl; fault = refl };
+  tso_sc = record { run = refl; whole = refl; illegal = refl; fault = refl };
+  tso_sc_behind = record { run = refl; whole = refl; illegal = refl; fault = refl };
 }
 
 acquire : Acquire
@@ -96,6 +112,14 @@ address = record {
   through_failed_sc = record { run = refl; whole = refl; illegal = refl; fault = refl };
   past_fence = record { run = refl; whole = refl; illegal = refl; fault = refl };
   through_jalr = record { run = refl; whole = refl; illegal = refl; fault = refl };
+  to_store = record { run = refl; whole = refl; illegal = refl; fault = refl };
+  to_lr = record { run = refl; whole = refl; illegal = refl; fault = refl };
+  to_sc = record { run = refl; whole = refl; illegal = refl; fault = refl };
+  to_amo = record { run = refl; whole = refl; illegal = refl; fault = refl };
+  through_load = record { run = refl; whole = refl; illegal = refl; fault = refl };
+  through_lr = record { run = refl; whole = refl; illegal = refl; fault = refl };
+  through_amo_address = record { run = refl; whole = refl; illegal = refl; fault = refl };
+  through_amo_operand = record { run = refl; whole = refl; illegal = refl; fault = refl };
 }
 
 stored : Stored
@@ -103,6 +127,7 @@ stored = record {
   dependent = record { run = refl; whole = refl; illegal = refl; fault = refl };
   independent = record { run = refl; whole = refl; legal = refl; no_fault = refl };
   amo_operand = record { run = refl; whole = refl; illegal = refl; fault = refl };
+  to_sc = record { run = refl; whole = refl; illegal = refl; fault = refl };
 }
 
 control : Control
@@ -111,6 +136,9 @@ control = record {
   then_load = record { run = refl; whole = refl; legal = refl; no_fault = refl };
   independent = record { run = refl; whole = refl; legal = refl; no_fault = refl };
   jump = record { run = refl; whole = refl; illegal = refl; fault = refl };
+  to_sc = record { run = refl; whole = refl; illegal = refl; fault = refl };
+  to_amo = record { run = refl; whole = refl; illegal = refl; fault = refl };
+  second_register = record { run = refl; whole = refl; illegal = refl; fault = refl };
 }
 
 through_store : ThroughStore
@@ -119,6 +147,8 @@ through_store = record {
   of_addressed = record { run = refl; whole = refl; illegal = refl; fault = refl };
   of_independent = record { run = refl; whole = refl; legal = refl; no_fault = refl };
   of_later = record { run = refl; whole = refl; legal = refl; no_fault = refl };
+  to_lr = record { run = refl; whole = refl; illegal = refl; fault = refl };
+  of_some_bytes = record { run = refl; whole = refl; illegal = refl; fault = refl };
 }
 
 behind_address : BehindAddress
@@ -127,6 +157,12 @@ behind_address = record {
   load = record { run = refl; whole = refl; legal = refl; no_fault = refl };
   free = record { run = refl; whole = refl; legal = refl; no_fault = refl };
   failed_sc = record { run = refl; whole = refl; illegal = refl; fault = refl };
+  past_store = record { run = refl; whole = refl; illegal = refl; fault = refl };
+  past_lr = record { run = refl; whole = refl; illegal = refl; fault = refl };
+  past_sc = record { run = refl; whole = refl; illegal = refl; fault = refl };
+  past_amo = record { run = refl; whole = refl; illegal = refl; fault = refl };
+  to_sc = record { run = refl; whole = refl; illegal = refl; fault = refl };
+  to_amo = record { run = refl; whole = refl; illegal = refl; fault = refl };
 }
 
 values : Values

@@ -1,4 +1,5 @@
--- Dependencies through registers (RISC-V Unprivileged ISA 20191213, chapter 14.1, "Syntactic Dependencies", and 14.3). Every instruction carries from each of its sources to its destination, which asks at least what the standard asks.
+-- Dependencies through registers (RISC-V Unprivileged ISA 20191213, chapter 14.1, "Syntactic Dependencies", and 14.3).
+-- Every instruction carries from each of its sources to its destination, which asks at least what the standard asks.
 use Rattle.std.specs.Prelude.{ℕ, Bool, true, false, ◌&&◌, ◌||◌, nat_lt, List, [], ◌∷◌, ◌++◌, Option, Some, None, filter, replicate, slice_get, slice_index_or, slice_set}
 use Rattle.std.specs.List.{list_any}
 use Rattle.rv32_decode.specs.declared.instruction.Instr.{Instr}
@@ -74,7 +75,8 @@ steers _ = false
 -- one of these is a branch or a JALR that depends on what the flags say
 abbrev pub any_steers : List Bool → List Item → Bool
 any_steers held [] = false
-any_steers held (m ∷ rest) = (steers m.instr && holds held (sources (uses_in m.instr))) || any_steers (held_after held (uses_in m.instr)) rest
+any_steers held (m ∷ rest) =
+    (steers m.instr && holds held (sources (uses_in m.instr))) || any_steers (held_after held (uses_in m.instr)) rest
 
 -- b has a control dependency on a: a branch or a JALR between them depends on a
 abbrev pub has_control_dependency : List Item → Operation → Operation → Bool

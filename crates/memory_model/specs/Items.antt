@@ -48,11 +48,16 @@ operation_with hart place bits entry access kind address size = record {
 
 -- the operation of an access: of a load, an LR, a store, an AMO and an SC that succeeded; an SC that failed has none
 abbrev pub operation_of_access : ℕ → ℕ → Annotations → Retired → Access → Option Operation
-operation_of_access hart place bits entry (Loads address bytes) = Some (operation_with hart place bits entry (Loads address bytes) Load address bytes)
-operation_of_access hart place bits entry (Stores address bytes value) = Some (operation_with hart place bits entry (Stores address bytes value) Store address bytes)
-operation_of_access hart place bits entry (Reserves address) = Some (operation_with hart place bits entry (Reserves address) Reserve address 4)
-operation_of_access hart place bits entry (Tries address value) = if succeeded entry.sc_ok then Some (operation_with hart place bits entry (Tries address value) Conditional address 4) else None
-operation_of_access hart place bits entry (Updates address op operand) = Some (operation_with hart place bits entry (Updates address op operand) Amo address 4)
+operation_of_access hart place bits entry (Loads address bytes) =
+    Some (operation_with hart place bits entry (Loads address bytes) Load address bytes)
+operation_of_access hart place bits entry (Stores address bytes value) =
+    Some (operation_with hart place bits entry (Stores address bytes value) Store address bytes)
+operation_of_access hart place bits entry (Reserves address) =
+    Some (operation_with hart place bits entry (Reserves address) Reserve address 4)
+operation_of_access hart place bits entry (Tries address value) =
+    if succeeded entry.sc_ok then Some (operation_with hart place bits entry (Tries address value) Conditional address 4) else None
+operation_of_access hart place bits entry (Updates address op operand) =
+    Some (operation_with hart place bits entry (Updates address op operand) Amo address 4)
 operation_of_access hart place bits entry Private = None
 operation_of_access hart place bits entry Fences = None
 operation_of_access hart place bits entry (Calls number argument) = None
@@ -63,7 +68,8 @@ operation_of_entry place hart entry None = None
 operation_of_entry place hart entry (Some i) = operation_of_access hart.id place (annotations_of i) entry (access_of i hart.regs)
 
 abbrev pub item_of : ℕ → Hart → Retired → Item
-item_of place hart entry = record { place = place; instr = decoded entry.word; operation = operation_of_entry place hart entry (decoded entry.word) }
+item_of place hart entry =
+    record { place = place; instr = decoded entry.word; operation = operation_of_entry place hart entry (decoded entry.word) }
 
 -- the items of a hart's list from a place on, its hart standing here
 abbrev pub items_from : ℕ → Hart → List Retired → List Item

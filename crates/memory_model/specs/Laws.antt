@@ -23,7 +23,8 @@ pub record JudgesAsDefined (model : Model) (t : History) (order : List OpId) : T
 abbrev pub ExamplesJudgeAsDefined : Type 0
 ExamplesJudgeAsDefined = (model : Model) (t : History) (order : List OpId) → JudgesAsDefined model t order
 
--- in an order of the trace's operations, of no two operations the later one must come first exactly where a stands before b wherever a must come before b
+-- in an order of the trace's operations, of no two operations the later one must come first exactly where a stands
+-- before b wherever a must come before b
 abbrev pub OrderFormsAgree : Type 0
 OrderFormsAgree =
     (model : Model) (t : History) (order : List OpId)
@@ -53,11 +54,15 @@ NamesFindOperations = (t : History) (name : OpId) → is_among (names_in t) name
 
 -- where the performed order names operations of the trace, each at most once, the completed order is an order
 abbrev pub CompletedIsOrder : Type 0
-CompletedIsOrder = (t : History) → IsTrue (list_all (is_among (names_in t)) t.performed) → IsTrue (is_distinct t.performed) → IsOrder t (completed t)
+CompletedIsOrder =
+    (t : History) → IsTrue (list_all (is_among (names_in t)) t.performed) → IsTrue (is_distinct t.performed) → IsOrder t (completed t)
 
 -- an order that keeps program order breaks none of the thirteen rules
 abbrev pub ProgramOrderSuffices : Type 0
-ProgramOrderSuffices = (model : Model) (harts : List (List Item)) (order : List Operation) → IsTrue (in_order precedes order) → IsTrue (keeps_preserved_order model harts order)
+ProgramOrderSuffices =
+    (model : Model) (harts : List (List Item)) (order : List Operation)
+    → IsTrue (in_order precedes order)
+    → IsTrue (keeps_preserved_order model harts order)
 
 -- in a legal order, a load returns the image's byte where there is no store to it
 abbrev pub UnwrittenByteIsImages : Type 0

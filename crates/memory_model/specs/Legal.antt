@@ -1,4 +1,5 @@
--- Legal orders: the three parts of RVWMO that judge a finished run: preserved program order, the load value axiom and the atomicity axiom (RISC-V Unprivileged ISA 20191213, chapter 14.1, "Memory Model Axioms").
+-- Legal orders: the three parts of RVWMO that judge a finished run: preserved program order, the load value axiom and
+-- the atomicity axiom (RISC-V Unprivileged ISA 20191213, chapter 14.1, "Memory Model Axioms").
 use Rattle.std.specs.Prelude.{ℕ, Bool, ◌&&◌, ◌||◌, not, ◌==◌, if◌then◌else◌, List, [], ◌∷◌, Option, Some, None, IsTrue}
 use Rattle.std.specs.List.{list_any, list_all}
 use Rattle.memory_model.specs.declared.Model.{Model}
@@ -37,7 +38,8 @@ up_to w (t ∷ rest) = if same t w then [] else (t ∷ up_to w rest)
 -- behind the source of byte x of r stands w, and no store to x of another hart stands between
 abbrev pub is_atomic_at : List Operation → Operation → Operation → ℕ → Bool
 is_atomic_at order r w x =
-    list_any (same w) (behind (source order r x) order) && list_all (λ t. t.hart == w.hart || not (stores_to x t)) (up_to w (behind (source order r x) order))
+    list_any (same w) (behind (source order r x) order)
+    && list_all (λ t. t.hart == w.hart || not (stores_to x t)) (up_to w (behind (source order r x) order))
 
 -- at each byte of r
 abbrev pub is_atomic : List Operation → Operation → Operation → Bool
@@ -55,4 +57,5 @@ pub record IsLegal (model : Model) (image : ℕ → ℕ) (harts : List (List Ite
   pub atomicity : IsTrue (keeps_atomicity harts order)
 
 abbrev pub keeps_all_three : Model → (ℕ → ℕ) → List (List Item) → List Operation → Bool
-keeps_all_three model image harts order = keeps_preserved_order model harts order && keeps_load_values image order && keeps_atomicity harts order
+keeps_all_three model image harts order =
+    keeps_preserved_order model harts order && keeps_load_values image order && keeps_atomicity harts order

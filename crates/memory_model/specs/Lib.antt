@@ -2,9 +2,11 @@ pub mod Operations
 pub mod Order
 pub mod Items
 pub mod Dependencies
+pub mod Reaching
 pub mod Rules
 pub mod Legal
 pub mod Traces
+pub mod Apart
 pub mod Verdict
 pub mod Examples
 pub mod LitmusPrograms

@@ -1,8 +1,9 @@
--- Verdicts on the litmus shapes: orders that a rule of preserved program order or an axiom allows and forbids. A wrong variant of a rule changes a verdict below.
+-- Verdicts on the litmus shapes: orders that a rule of preserved program order or an axiom allows and forbids. A wrong
+-- variant of a rule changes a verdict below.
 use Rattle.std.specs.Prelude.{[], ◌∷◌}
 use Rattle.memory_model.specs.declared.Model.TheVariants.{Rvwmo, Ztso}
 use Rattle.memory_model.specs.Examples.{op, Passes, Fails}
-use Rattle.memory_model.specs.LitmusPrograms.{overlapping_stores, stores_apart, load_before_store, store_before_load, load_before_amo, load_before_sc, two_loads, two_loads_of_image, two_loads_of_equal_values, own_store_between, own_store_to_another_byte, load_of_conditional, load_beside_conditional, load_of_amo, stores_fence_w_w, stores_fence_r_w, stores_fence_w_r, stores_fence_io, stores_fence_tso, store_fence_tso_load, loads_fence_tso, store_fence_rw_load, loads_fence_rw_w, store_fence_iorw_load, amo_fence_tso_load, store_fence_tso_amo, amo_fence_w_w_store, amo_fence_r_w_store, amo_aq_load, amo_rl_load, lr_aq_load, sc_aq_load, lr_load, loads_of_two_words, store_amo_rl, store_amo_aq, load_sc_rl, load_lr_rl, store_sc, sc_rl_lr_aq, store_lr_aq, sc_lr, store_amo_load, sc_rl_lr, pair_of_two_words, failed_sc_between, another_lr_between, address_from_load, address_overwritten, address_through_x0, address_through_failed_sc, address_past_fence, address_through_jalr, data_from_load, data_of_another, amo_data_from_load, branch_on_load, branch_on_load_then_load, branch_on_another, jalr_on_load, load_of_dependent_store, load_of_addressed_store, load_of_independent_store, load_of_later_store, store_behind_address, load_behind_address, store_behind_free_address, store_behind_failed_sc, load_of_old_value, amo_of_own_value, amo_of_old_value, pair_and_store, pair_and_own_store, pair_of_two_words_and_store, pair_of_two_words_and_other_store, pair_of_own_store, pair_of_foreign_store}
+use Rattle.memory_model.specs.LitmusPrograms.{overlapping_stores, stores_apart, load_before_store, store_before_load, load_before_amo, load_before_sc, two_loads, two_loads_of_image, two_loads_of_equal_values, own_store_between, own_store_to_another_byte, load_of_conditional, load_beside_conditional, load_of_amo, stores_fence_w_w, stores_fence_r_w, stores_fence_w_r, stores_fence_io, stores_fence_tso, store_fence_tso_load, loads_fence_tso, store_fence_rw_load, loads_fence_rw_w, store_fence_iorw_load, amo_fence_tso_load, store_fence_tso_amo, amo_fence_w_w_store, amo_fence_r_w_store, amo_aq_load, amo_rl_load, lr_aq_load, sc_aq_load, lr_load, loads_of_two_words, store_amo_rl, store_amo_aq, load_sc_rl, load_lr_rl, store_sc, sc_rl_lr_aq, store_lr_aq, sc_lr, store_amo_load, sc_rl_lr, pair_of_two_words, failed_sc_between, another_lr_between, address_from_load, address_overwritten, address_through_x0, address_through_failed_sc, address_past_fence, address_through_jalr, data_from_load, data_of_another, amo_data_from_load, branch_on_load, branch_on_load_then_load, branch_on_another, jalr_on_load, load_of_dependent_store, load_of_addressed_store, load_of_independent_store, load_of_later_store, store_behind_address, load_behind_address, store_behind_free_address, store_behind_failed_sc, load_of_old_value, amo_of_own_value, amo_of_old_value, pair_and_store, pair_and_own_store, pair_of_two_words_and_store, pair_of_two_words_and_other_store, pair_of_own_store, pair_of_foreign_store, load_fence_r_w, lr_fence_r_w, sc_fence_w_w, load_fence_r_r_lr, store_fence_w_w_sc, store_fence_w_r_amo, store_fence_w_w_amo, lr_fence_tso_load, sc_fence_tso_store, store_fence_tso_sc, lr_then_load, load_then_lr, conditional_between, amo_between, lr_of_conditional, load_of_conditional_and_byte, store_to_loaded_address, lr_of_loaded_address, sc_to_loaded_address, amo_of_loaded_address, address_through_load, address_through_lr, address_through_amo_address, address_through_amo_operand, sc_data_from_load, sc_behind_branch, amo_behind_branch, branch_by_second_register, lr_of_dependent_store, load_of_dependent_store_and_byte, store_behind_store_address, store_behind_lr_address, store_behind_sc_address, store_behind_amo_address, sc_behind_address, amo_behind_address}
 
 pub record Overlap : Type 0 where
   pub exchanged : Fails Rvwmo overlapping_stores (op 0 3 ∷ op 0 2 ∷ []) 1 (op 0 2) (op 0 3)
@@ -19,11 +20,17 @@ pub record SameWord : Type 0 where
   pub equal_values : Fails Rvwmo two_loads_of_equal_values (op 1 4 ∷ op 0 3 ∷ op 1 3 ∷ []) 2 (op 1 3) (op 1 4)
   pub store_between : Passes Rvwmo own_store_between (op 1 5 ∷ op 0 3 ∷ op 1 3 ∷ op 1 4 ∷ [])
   pub other_byte_between : Fails Rvwmo own_store_to_another_byte (op 1 5 ∷ op 0 3 ∷ op 1 3 ∷ op 1 4 ∷ []) 2 (op 1 3) (op 1 5)
+  pub lr_first : Fails Rvwmo lr_then_load (op 1 4 ∷ op 0 3 ∷ op 1 3 ∷ []) 2 (op 1 3) (op 1 4)
+  pub lr_last : Fails Rvwmo load_then_lr (op 1 4 ∷ op 0 3 ∷ op 1 3 ∷ []) 2 (op 1 3) (op 1 4)
+  pub sc_between : Fails Rvwmo conditional_between (op 0 6 ∷ op 0 3 ∷ op 0 4 ∷ op 0 5 ∷ []) 3 (op 0 5) (op 0 6)
+  pub amo_between : Fails Rvwmo amo_between (op 0 5 ∷ op 0 3 ∷ op 0 4 ∷ []) 2 (op 0 4) (op 0 5)
 
 pub record AtomicSource : Type 0 where
   pub of_conditional : Fails Rvwmo load_of_conditional (op 0 4 ∷ op 0 3 ∷ []) 3 (op 0 3) (op 0 4)
   pub beside_conditional : Passes Rvwmo load_beside_conditional (op 0 4 ∷ op 0 3 ∷ [])
   pub of_amo : Fails Rvwmo load_of_amo (op 0 4 ∷ op 0 3 ∷ []) 2 (op 0 3) (op 0 4)
+  pub by_lr : Fails Rvwmo lr_of_conditional (op 0 3 ∷ op 0 5 ∷ op 0 4 ∷ []) 3 (op 0 4) (op 0 5)
+  pub of_some_bytes : Fails Rvwmo load_of_conditional_and_byte (op 0 3 ∷ op 0 6 ∷ op 0 4 ∷ op 0 5 ∷ []) 3 (op 0 4) (op 0 6)
 
 pub record Fence : Type 0 where
   pub w_w : Fails Rvwmo stores_fence_w_w (op 0 4 ∷ op 0 2 ∷ []) 4 (op 0 2) (op 0 4)
@@ -40,6 +47,16 @@ pub record Fence : Type 0 where
   pub amo_as_store : Fails Rvwmo store_fence_tso_amo (op 0 5 ∷ op 0 3 ∷ []) 4 (op 0 3) (op 0 5)
   pub amo_in_w : Fails Rvwmo amo_fence_w_w_store (op 0 5 ∷ op 0 3 ∷ []) 4 (op 0 3) (op 0 5)
   pub amo_in_r : Fails Rvwmo amo_fence_r_w_store (op 0 5 ∷ op 0 3 ∷ []) 4 (op 0 3) (op 0 5)
+  pub load_in_r : Fails Rvwmo load_fence_r_w (op 0 4 ∷ op 0 2 ∷ []) 4 (op 0 2) (op 0 4)
+  pub lr_in_r : Fails Rvwmo lr_fence_r_w (op 0 5 ∷ op 0 3 ∷ []) 4 (op 0 3) (op 0 5)
+  pub sc_in_w : Fails Rvwmo sc_fence_w_w (op 0 3 ∷ op 0 6 ∷ op 0 4 ∷ []) 4 (op 0 4) (op 0 6)
+  pub lr_behind : Fails Rvwmo load_fence_r_r_lr (op 0 5 ∷ op 0 3 ∷ []) 4 (op 0 3) (op 0 5)
+  pub sc_behind : Fails Rvwmo store_fence_w_w_sc (op 0 3 ∷ op 0 6 ∷ op 0 4 ∷ []) 4 (op 0 4) (op 0 6)
+  pub amo_behind_in_r : Fails Rvwmo store_fence_w_r_amo (op 0 5 ∷ op 0 3 ∷ []) 4 (op 0 3) (op 0 5)
+  pub amo_behind_in_w : Fails Rvwmo store_fence_w_w_amo (op 0 5 ∷ op 0 3 ∷ []) 4 (op 0 3) (op 0 5)
+  pub tso_lr : Fails Rvwmo lr_fence_tso_load (op 0 5 ∷ op 0 3 ∷ []) 4 (op 0 3) (op 0 5)
+  pub tso_sc : Fails Rvwmo sc_fence_tso_store (op 0 3 ∷ op 0 6 ∷ op 0 4 ∷ []) 4 (op 0 4) (op 0 6)
+  pub tso_sc_behind : Fails Rvwmo store_fence_tso_sc (op 0 3 ∷ op 0 6 ∷ op 0 4 ∷ []) 4 (op 0 4) (op 0 6)
 
 pub record Acquire : Type 0 where
   pub amo_aq : Fails Rvwmo amo_aq_load (op 0 4 ∷ op 0 3 ∷ []) 5 (op 0 3) (op 0 4)
@@ -81,29 +98,49 @@ pub record Address : Type 0 where
   pub through_failed_sc : Fails Rvwmo address_through_failed_sc (op 0 6 ∷ op 0 3 ∷ []) 9 (op 0 3) (op 0 6)
   pub past_fence : Fails Rvwmo address_past_fence (op 0 5 ∷ op 0 2 ∷ []) 9 (op 0 2) (op 0 5)
   pub through_jalr : Fails Rvwmo address_through_jalr (op 0 4 ∷ op 0 2 ∷ []) 9 (op 0 2) (op 0 4)
+  pub to_store : Fails Rvwmo store_to_loaded_address (op 0 5 ∷ op 0 3 ∷ []) 9 (op 0 3) (op 0 5)
+  pub to_lr : Fails Rvwmo lr_of_loaded_address (op 0 5 ∷ op 0 3 ∷ []) 9 (op 0 3) (op 0 5)
+  pub to_sc : Fails Rvwmo sc_to_loaded_address (op 0 3 ∷ op 0 6 ∷ op 0 4 ∷ []) 9 (op 0 4) (op 0 6)
+  pub to_amo : Fails Rvwmo amo_of_loaded_address (op 0 5 ∷ op 0 3 ∷ []) 9 (op 0 3) (op 0 5)
+  pub through_load : Fails Rvwmo address_through_load (op 0 7 ∷ op 0 3 ∷ op 0 5 ∷ []) 9 (op 0 3) (op 0 7)
+  pub through_lr : Fails Rvwmo address_through_lr (op 0 7 ∷ op 0 3 ∷ op 0 5 ∷ []) 9 (op 0 3) (op 0 7)
+  pub through_amo_address : Fails Rvwmo address_through_amo_address (op 0 7 ∷ op 0 3 ∷ op 0 5 ∷ []) 9 (op 0 3) (op 0 7)
+  pub through_amo_operand : Fails Rvwmo address_through_amo_operand (op 0 6 ∷ op 0 3 ∷ op 0 4 ∷ []) 9 (op 0 3) (op 0 6)
 
 pub record Stored : Type 0 where
   pub dependent : Fails Rvwmo data_from_load (op 0 3 ∷ op 0 2 ∷ []) 10 (op 0 2) (op 0 3)
   pub independent : Passes Rvwmo data_of_another (op 0 3 ∷ op 0 2 ∷ [])
   pub amo_operand : Fails Rvwmo amo_data_from_load (op 0 4 ∷ op 0 3 ∷ []) 10 (op 0 3) (op 0 4)
+  pub to_sc : Fails Rvwmo sc_data_from_load (op 0 3 ∷ op 0 5 ∷ op 0 4 ∷ []) 10 (op 0 4) (op 0 5)
 
 pub record Control : Type 0 where
   pub dependent : Fails Rvwmo branch_on_load (op 0 4 ∷ op 0 2 ∷ []) 11 (op 0 2) (op 0 4)
   pub then_load : Passes Rvwmo branch_on_load_then_load (op 0 4 ∷ op 0 2 ∷ [])
   pub independent : Passes Rvwmo branch_on_another (op 0 4 ∷ op 0 2 ∷ [])
   pub jump : Fails Rvwmo jalr_on_load (op 0 4 ∷ op 0 2 ∷ []) 11 (op 0 2) (op 0 4)
+  pub to_sc : Fails Rvwmo sc_behind_branch (op 0 3 ∷ op 0 6 ∷ op 0 4 ∷ []) 11 (op 0 4) (op 0 6)
+  pub to_amo : Fails Rvwmo amo_behind_branch (op 0 5 ∷ op 0 3 ∷ []) 11 (op 0 3) (op 0 5)
+  pub second_register : Fails Rvwmo branch_by_second_register (op 0 5 ∷ op 0 3 ∷ []) 11 (op 0 3) (op 0 5)
 
 pub record ThroughStore : Type 0 where
   pub of_dependent : Fails Rvwmo load_of_dependent_store (op 0 4 ∷ op 0 2 ∷ op 0 3 ∷ []) 12 (op 0 2) (op 0 4)
   pub of_addressed : Fails Rvwmo load_of_addressed_store (op 0 5 ∷ op 0 2 ∷ op 0 4 ∷ []) 12 (op 0 2) (op 0 5)
   pub of_independent : Passes Rvwmo load_of_independent_store (op 0 4 ∷ op 0 2 ∷ op 0 3 ∷ [])
   pub of_later : Passes Rvwmo load_of_later_store (op 0 5 ∷ op 0 2 ∷ op 0 3 ∷ op 0 4 ∷ [])
+  pub to_lr : Fails Rvwmo lr_of_dependent_store (op 0 5 ∷ op 0 3 ∷ op 0 4 ∷ []) 12 (op 0 3) (op 0 5)
+  pub of_some_bytes : Fails Rvwmo load_of_dependent_store_and_byte (op 0 5 ∷ op 0 2 ∷ op 0 3 ∷ op 0 4 ∷ []) 12 (op 0 2) (op 0 5)
 
 pub record BehindAddress : Type 0 where
   pub store : Fails Rvwmo store_behind_address (op 0 5 ∷ op 0 2 ∷ op 0 4 ∷ []) 13 (op 0 2) (op 0 5)
   pub load : Passes Rvwmo load_behind_address (op 0 5 ∷ op 0 2 ∷ op 0 4 ∷ [])
   pub free : Passes Rvwmo store_behind_free_address (op 0 5 ∷ op 0 2 ∷ op 0 4 ∷ [])
   pub failed_sc : Fails Rvwmo store_behind_failed_sc (op 0 5 ∷ op 0 2 ∷ []) 13 (op 0 2) (op 0 5)
+  pub past_store : Fails Rvwmo store_behind_store_address (op 0 6 ∷ op 0 3 ∷ op 0 5 ∷ []) 13 (op 0 3) (op 0 6)
+  pub past_lr : Fails Rvwmo store_behind_lr_address (op 0 6 ∷ op 0 3 ∷ op 0 5 ∷ []) 13 (op 0 3) (op 0 6)
+  pub past_sc : Fails Rvwmo store_behind_sc_address (op 0 3 ∷ op 0 7 ∷ op 0 4 ∷ op 0 6 ∷ []) 13 (op 0 4) (op 0 7)
+  pub past_amo : Fails Rvwmo store_behind_amo_address (op 0 6 ∷ op 0 3 ∷ op 0 5 ∷ []) 13 (op 0 3) (op 0 6)
+  pub to_sc : Fails Rvwmo sc_behind_address (op 0 3 ∷ op 0 7 ∷ op 0 4 ∷ op 0 6 ∷ []) 13 (op 0 4) (op 0 7)
+  pub to_amo : Fails Rvwmo amo_behind_address (op 0 6 ∷ op 0 3 ∷ op 0 5 ∷ []) 13 (op 0 3) (op 0 6)
 
 pub record Values : Type 0 where
   pub behind_store : Fails Rvwmo load_of_old_value (op 0 3 ∷ op 1 3 ∷ []) 14 (op 1 3) (op 1 3)

@@ -116,6 +116,46 @@ own_store_to_another_byte =
     ∷ [])
     []
 
+-- an LR returns the new value and a load behind it the old one
+-- hart 0: bne x10, x0, 16; lui x12, 0x80000; addi x13, x0, 1; sw x13, 0x100(x12)
+-- hart 1: bne x10, x0, 16; lui x12, 0x80000; addi x8, x12, 256; lr.w x14, (x8) (reads 1); lw x15, 0x100(x12) (reads 0)
+abbrev pub lr_then_load : History
+lr_then_load =
+    trace (image_with (0x00051863 ∷ 0x80000637 ∷ 0x00100693 ∷ 0x10d62023 ∷ 0x80000637 ∷ 0x10060413 ∷ 0x1004272f ∷ 0x10062783 ∷ []))
+    ((did 0x80000000 0x00051863 ∷ did 0x80000004 0x80000637 ∷ did 0x80000008 0x00100693 ∷ did 0x8000000c 0x10d62023 ∷ [])
+    ∷ (did 0x80000000 0x00051863 ∷ did 0x80000010 0x80000637 ∷ did 0x80000014 0x10060413 ∷ loaded 0x80000018 0x1004272f 1 ∷ loaded 0x8000001c 0x10062783 0 ∷ [])
+    ∷ [])
+    []
+
+-- a load returns the new value and an LR behind it the old one
+-- hart 0: bne x10, x0, 16; lui x12, 0x80000; addi x13, x0, 1; sw x13, 0x100(x12)
+-- hart 1: bne x10, x0, 16; lui x12, 0x80000; addi x8, x12, 256; lw x14, 0x100(x12) (reads 1); lr.w x15, (x8) (reads 0)
+abbrev pub load_then_lr : History
+load_then_lr =
+    trace (image_with (0x00051863 ∷ 0x80000637 ∷ 0x00100693 ∷ 0x10d62023 ∷ 0x80000637 ∷ 0x10060413 ∷ 0x10062703 ∷ 0x100427af ∷ []))
+    ((did 0x80000000 0x00051863 ∷ did 0x80000004 0x80000637 ∷ did 0x80000008 0x00100693 ∷ did 0x8000000c 0x10d62023 ∷ [])
+    ∷ (did 0x80000000 0x00051863 ∷ did 0x80000010 0x80000637 ∷ did 0x80000014 0x10060413 ∷ loaded 0x80000018 0x10062703 1 ∷ loaded 0x8000001c 0x100427af 0 ∷ [])
+    ∷ [])
+    []
+
+-- an SC between two loads, of which the second returns what it wrote
+-- hart 0: lui x12, 0x80000; addi x13, x0, 1; addi x8, x12, 256; lw x14, 0x100(x12) (reads 0); lr.w x16, (x8) (reads 0); sc.w x15, x13, (x8) (succeeds); lw x17, 0x100(x12) (reads 1)
+abbrev pub conditional_between : History
+conditional_between =
+    trace (image_with (0x80000637 ∷ 0x00100693 ∷ 0x10060413 ∷ 0x10062703 ∷ 0x1004282f ∷ 0x18d427af ∷ 0x10062883 ∷ []))
+    ((did 0x80000000 0x80000637 ∷ did 0x80000004 0x00100693 ∷ did 0x80000008 0x10060413 ∷ loaded 0x8000000c 0x10062703 0 ∷ loaded 0x80000010 0x1004282f 0 ∷ tried 0x80000014 0x18d427af true ∷ loaded 0x80000018 0x10062883 1 ∷ [])
+    ∷ [])
+    []
+
+-- an AMO between two loads, of which the second returns what it wrote
+-- hart 0: lui x12, 0x80000; addi x13, x0, 1; addi x8, x12, 256; lw x14, 0x100(x12) (reads 0); amoadd.w x15, x13, (x8) (reads 0); lw x16, 0x100(x12) (reads 1)
+abbrev pub amo_between : History
+amo_between =
+    trace (image_with (0x80000637 ∷ 0x00100693 ∷ 0x10060413 ∷ 0x10062703 ∷ 0x00d427af ∷ 0x10062803 ∷ []))
+    ((did 0x80000000 0x80000637 ∷ did 0x80000004 0x00100693 ∷ did 0x80000008 0x10060413 ∷ loaded 0x8000000c 0x10062703 0 ∷ loaded 0x80000010 0x00d427af 0 ∷ loaded 0x80000014 0x10062803 1 ∷ [])
+    ∷ [])
+    []
+
 -- ---- rule 3
 
 -- an SC that succeeds, and a load of what it wrote
@@ -142,6 +182,24 @@ abbrev pub load_of_amo : History
 load_of_amo =
     trace (image_with (0x80000637 ∷ 0x00100693 ∷ 0x10060413 ∷ 0x00d4272f ∷ 0x10062783 ∷ []))
     ((did 0x80000000 0x80000637 ∷ did 0x80000004 0x00100693 ∷ did 0x80000008 0x10060413 ∷ loaded 0x8000000c 0x00d4272f 0 ∷ loaded 0x80000010 0x10062783 1 ∷ [])
+    ∷ [])
+    []
+
+-- an LR that returns what an SC wrote
+-- hart 0: lui x12, 0x80000; addi x13, x0, 1; addi x8, x12, 256; lr.w x14, (x8) (reads 0); sc.w x15, x13, (x8) (succeeds); lr.w x16, (x8) (reads 1)
+abbrev pub lr_of_conditional : History
+lr_of_conditional =
+    trace (image_with (0x80000637 ∷ 0x00100693 ∷ 0x10060413 ∷ 0x1004272f ∷ 0x18d427af ∷ 0x1004282f ∷ []))
+    ((did 0x80000000 0x80000637 ∷ did 0x80000004 0x00100693 ∷ did 0x80000008 0x10060413 ∷ loaded 0x8000000c 0x1004272f 0 ∷ tried 0x80000010 0x18d427af true ∷ loaded 0x80000014 0x1004282f 1 ∷ [])
+    ∷ [])
+    []
+
+-- a load that returns three bytes of what an SC wrote, and one of a store behind it
+-- hart 0: lui x12, 0x80000; addi x13, x0, 1; addi x8, x12, 256; lr.w x14, (x8) (reads 0); sc.w x15, x13, (x8) (succeeds); sb x0, 0x101(x12); lw x16, 0x100(x12) (reads 1)
+abbrev pub load_of_conditional_and_byte : History
+load_of_conditional_and_byte =
+    trace (image_with (0x80000637 ∷ 0x00100693 ∷ 0x10060413 ∷ 0x1004272f ∷ 0x18d427af ∷ 0x100600a3 ∷ 0x10062803 ∷ []))
+    ((did 0x80000000 0x80000637 ∷ did 0x80000004 0x00100693 ∷ did 0x80000008 0x10060413 ∷ loaded 0x8000000c 0x1004272f 0 ∷ tried 0x80000010 0x18d427af true ∷ did 0x80000014 0x100600a3 ∷ loaded 0x80000018 0x10062803 1 ∷ [])
     ∷ [])
     []
 
@@ -270,6 +328,96 @@ abbrev pub amo_fence_r_w_store : History
 amo_fence_r_w_store =
     trace (image_with (0x80000637 ∷ 0x00100693 ∷ 0x10060413 ∷ 0x00d4272f ∷ 0x0210000f ∷ 0x20d62023 ∷ []))
     ((did 0x80000000 0x80000637 ∷ did 0x80000004 0x00100693 ∷ did 0x80000008 0x10060413 ∷ loaded 0x8000000c 0x00d4272f 0 ∷ did 0x80000010 0x0210000f ∷ did 0x80000014 0x20d62023 ∷ [])
+    ∷ [])
+    []
+
+-- a load and then a store, with a fence between that orders loads before stores
+-- hart 0: lui x12, 0x80000; addi x13, x0, 1; lw x14, 0x100(x12) (reads 0); fence r, w; sw x13, 0x200(x12)
+abbrev pub load_fence_r_w : History
+load_fence_r_w =
+    trace (image_with (0x80000637 ∷ 0x00100693 ∷ 0x10062703 ∷ 0x0210000f ∷ 0x20d62023 ∷ []))
+    ((did 0x80000000 0x80000637 ∷ did 0x80000004 0x00100693 ∷ loaded 0x80000008 0x10062703 0 ∷ did 0x8000000c 0x0210000f ∷ did 0x80000010 0x20d62023 ∷ [])
+    ∷ [])
+    []
+
+-- an LR is a load to a fence
+-- hart 0: lui x12, 0x80000; addi x13, x0, 1; addi x8, x12, 256; lr.w x14, (x8) (reads 0); fence r, w; sw x13, 0x200(x12)
+abbrev pub lr_fence_r_w : History
+lr_fence_r_w =
+    trace (image_with (0x80000637 ∷ 0x00100693 ∷ 0x10060413 ∷ 0x1004272f ∷ 0x0210000f ∷ 0x20d62023 ∷ []))
+    ((did 0x80000000 0x80000637 ∷ did 0x80000004 0x00100693 ∷ did 0x80000008 0x10060413 ∷ loaded 0x8000000c 0x1004272f 0 ∷ did 0x80000010 0x0210000f ∷ did 0x80000014 0x20d62023 ∷ [])
+    ∷ [])
+    []
+
+-- an SC is a store to a fence
+-- hart 0: lui x12, 0x80000; addi x13, x0, 1; addi x8, x12, 256; lr.w x14, (x8) (reads 0); sc.w x15, x13, (x8) (succeeds); fence w, w; sw x13, 0x200(x12)
+abbrev pub sc_fence_w_w : History
+sc_fence_w_w =
+    trace (image_with (0x80000637 ∷ 0x00100693 ∷ 0x10060413 ∷ 0x1004272f ∷ 0x18d427af ∷ 0x0110000f ∷ 0x20d62023 ∷ []))
+    ((did 0x80000000 0x80000637 ∷ did 0x80000004 0x00100693 ∷ did 0x80000008 0x10060413 ∷ loaded 0x8000000c 0x1004272f 0 ∷ tried 0x80000010 0x18d427af true ∷ did 0x80000014 0x0110000f ∷ did 0x80000018 0x20d62023 ∷ [])
+    ∷ [])
+    []
+
+-- an LR behind a fence is a load to it
+-- hart 0: lui x12, 0x80000; addi x13, x0, 1; addi x8, x12, 256; lw x14, 0x200(x12) (reads 0); fence r, r; lr.w x15, (x8) (reads 0)
+abbrev pub load_fence_r_r_lr : History
+load_fence_r_r_lr =
+    trace (image_with (0x80000637 ∷ 0x00100693 ∷ 0x10060413 ∷ 0x20062703 ∷ 0x0220000f ∷ 0x100427af ∷ []))
+    ((did 0x80000000 0x80000637 ∷ did 0x80000004 0x00100693 ∷ did 0x80000008 0x10060413 ∷ loaded 0x8000000c 0x20062703 0 ∷ did 0x80000010 0x0220000f ∷ loaded 0x80000014 0x100427af 0 ∷ [])
+    ∷ [])
+    []
+
+-- an SC behind a fence is a store to it
+-- hart 0: lui x12, 0x80000; addi x13, x0, 1; addi x8, x12, 256; lr.w x14, (x8) (reads 0); sw x13, 0x200(x12); fence w, w; sc.w x15, x13, (x8) (succeeds)
+abbrev pub store_fence_w_w_sc : History
+store_fence_w_w_sc =
+    trace (image_with (0x80000637 ∷ 0x00100693 ∷ 0x10060413 ∷ 0x1004272f ∷ 0x20d62023 ∷ 0x0110000f ∷ 0x18d427af ∷ []))
+    ((did 0x80000000 0x80000637 ∷ did 0x80000004 0x00100693 ∷ did 0x80000008 0x10060413 ∷ loaded 0x8000000c 0x1004272f 0 ∷ did 0x80000010 0x20d62023 ∷ did 0x80000014 0x0110000f ∷ tried 0x80000018 0x18d427af true ∷ [])
+    ∷ [])
+    []
+
+-- an AMO behind a fence is a load to it
+-- hart 0: lui x12, 0x80000; addi x13, x0, 1; addi x8, x12, 256; sw x13, 0x200(x12); fence w, r; amoadd.w x15, x13, (x8) (reads 0)
+abbrev pub store_fence_w_r_amo : History
+store_fence_w_r_amo =
+    trace (image_with (0x80000637 ∷ 0x00100693 ∷ 0x10060413 ∷ 0x20d62023 ∷ 0x0120000f ∷ 0x00d427af ∷ []))
+    ((did 0x80000000 0x80000637 ∷ did 0x80000004 0x00100693 ∷ did 0x80000008 0x10060413 ∷ did 0x8000000c 0x20d62023 ∷ did 0x80000010 0x0120000f ∷ loaded 0x80000014 0x00d427af 0 ∷ [])
+    ∷ [])
+    []
+
+-- and a store
+-- hart 0: lui x12, 0x80000; addi x13, x0, 1; addi x8, x12, 256; sw x13, 0x200(x12); fence w, w; amoadd.w x15, x13, (x8) (reads 0)
+abbrev pub store_fence_w_w_amo : History
+store_fence_w_w_amo =
+    trace (image_with (0x80000637 ∷ 0x00100693 ∷ 0x10060413 ∷ 0x20d62023 ∷ 0x0110000f ∷ 0x00d427af ∷ []))
+    ((did 0x80000000 0x80000637 ∷ did 0x80000004 0x00100693 ∷ did 0x80000008 0x10060413 ∷ did 0x8000000c 0x20d62023 ∷ did 0x80000010 0x0110000f ∷ loaded 0x80000014 0x00d427af 0 ∷ [])
+    ∷ [])
+    []
+
+-- an LR is a load to FENCE.TSO
+-- hart 0: lui x12, 0x80000; addi x13, x0, 1; addi x8, x12, 256; lr.w x14, (x8) (reads 0); fence.tso; lw x15, 0x200(x12) (reads 0)
+abbrev pub lr_fence_tso_load : History
+lr_fence_tso_load =
+    trace (image_with (0x80000637 ∷ 0x00100693 ∷ 0x10060413 ∷ 0x1004272f ∷ 0x8330000f ∷ 0x20062783 ∷ []))
+    ((did 0x80000000 0x80000637 ∷ did 0x80000004 0x00100693 ∷ did 0x80000008 0x10060413 ∷ loaded 0x8000000c 0x1004272f 0 ∷ did 0x80000010 0x8330000f ∷ loaded 0x80000014 0x20062783 0 ∷ [])
+    ∷ [])
+    []
+
+-- an SC is a store to FENCE.TSO
+-- hart 0: lui x12, 0x80000; addi x13, x0, 1; addi x8, x12, 256; lr.w x14, (x8) (reads 0); sc.w x15, x13, (x8) (succeeds); fence.tso; sw x13, 0x200(x12)
+abbrev pub sc_fence_tso_store : History
+sc_fence_tso_store =
+    trace (image_with (0x80000637 ∷ 0x00100693 ∷ 0x10060413 ∷ 0x1004272f ∷ 0x18d427af ∷ 0x8330000f ∷ 0x20d62023 ∷ []))
+    ((did 0x80000000 0x80000637 ∷ did 0x80000004 0x00100693 ∷ did 0x80000008 0x10060413 ∷ loaded 0x8000000c 0x1004272f 0 ∷ tried 0x80000010 0x18d427af true ∷ did 0x80000014 0x8330000f ∷ did 0x80000018 0x20d62023 ∷ [])
+    ∷ [])
+    []
+
+-- and so is one behind it
+-- hart 0: lui x12, 0x80000; addi x13, x0, 1; addi x8, x12, 256; lr.w x14, (x8) (reads 0); sw x13, 0x200(x12); fence.tso; sc.w x15, x13, (x8) (succeeds)
+abbrev pub store_fence_tso_sc : History
+store_fence_tso_sc =
+    trace (image_with (0x80000637 ∷ 0x00100693 ∷ 0x10060413 ∷ 0x1004272f ∷ 0x20d62023 ∷ 0x8330000f ∷ 0x18d427af ∷ []))
+    ((did 0x80000000 0x80000637 ∷ did 0x80000004 0x00100693 ∷ did 0x80000008 0x10060413 ∷ loaded 0x8000000c 0x1004272f 0 ∷ did 0x80000010 0x20d62023 ∷ did 0x80000014 0x8330000f ∷ tried 0x80000018 0x18d427af true ∷ [])
     ∷ [])
     []
 
@@ -508,6 +656,78 @@ address_through_jalr =
     ∷ [])
     []
 
+-- a store whose address comes from a load
+-- hart 0: lui x12, 0x80000; addi x13, x0, 1; addi x9, x12, 512; lw x14, 0x100(x12) (reads 0); add x16, x9, x14; sw x13, 0(x16)
+abbrev pub store_to_loaded_address : History
+store_to_loaded_address =
+    trace (image_with (0x80000637 ∷ 0x00100693 ∷ 0x20060493 ∷ 0x10062703 ∷ 0x00e48833 ∷ 0x00d82023 ∷ []))
+    ((did 0x80000000 0x80000637 ∷ did 0x80000004 0x00100693 ∷ did 0x80000008 0x20060493 ∷ loaded 0x8000000c 0x10062703 0 ∷ did 0x80000010 0x00e48833 ∷ did 0x80000014 0x00d82023 ∷ [])
+    ∷ [])
+    []
+
+-- an LR whose address comes from a load
+-- hart 0: lui x12, 0x80000; addi x13, x0, 1; addi x9, x12, 512; lw x14, 0x100(x12) (reads 0); add x16, x9, x14; lr.w x15, (x16) (reads 0)
+abbrev pub lr_of_loaded_address : History
+lr_of_loaded_address =
+    trace (image_with (0x80000637 ∷ 0x00100693 ∷ 0x20060493 ∷ 0x10062703 ∷ 0x00e48833 ∷ 0x100827af ∷ []))
+    ((did 0x80000000 0x80000637 ∷ did 0x80000004 0x00100693 ∷ did 0x80000008 0x20060493 ∷ loaded 0x8000000c 0x10062703 0 ∷ did 0x80000010 0x00e48833 ∷ loaded 0x80000014 0x100827af 0 ∷ [])
+    ∷ [])
+    []
+
+-- an SC whose address comes from a load
+-- hart 0: lui x12, 0x80000; addi x13, x0, 1; addi x9, x12, 512; lr.w x17, (x9) (reads 0); lw x14, 0x100(x12) (reads 0); add x16, x9, x14; sc.w x15, x13, (x16) (succeeds)
+abbrev pub sc_to_loaded_address : History
+sc_to_loaded_address =
+    trace (image_with (0x80000637 ∷ 0x00100693 ∷ 0x20060493 ∷ 0x1004a8af ∷ 0x10062703 ∷ 0x00e48833 ∷ 0x18d827af ∷ []))
+    ((did 0x80000000 0x80000637 ∷ did 0x80000004 0x00100693 ∷ did 0x80000008 0x20060493 ∷ loaded 0x8000000c 0x1004a8af 0 ∷ loaded 0x80000010 0x10062703 0 ∷ did 0x80000014 0x00e48833 ∷ tried 0x80000018 0x18d827af true ∷ [])
+    ∷ [])
+    []
+
+-- an AMO whose address comes from a load
+-- hart 0: lui x12, 0x80000; addi x13, x0, 1; addi x9, x12, 512; lw x14, 0x100(x12) (reads 0); add x16, x9, x14; amoadd.w x15, x13, (x16) (reads 0)
+abbrev pub amo_of_loaded_address : History
+amo_of_loaded_address =
+    trace (image_with (0x80000637 ∷ 0x00100693 ∷ 0x20060493 ∷ 0x10062703 ∷ 0x00e48833 ∷ 0x00d827af ∷ []))
+    ((did 0x80000000 0x80000637 ∷ did 0x80000004 0x00100693 ∷ did 0x80000008 0x20060493 ∷ loaded 0x8000000c 0x10062703 0 ∷ did 0x80000010 0x00e48833 ∷ loaded 0x80000014 0x00d827af 0 ∷ [])
+    ∷ [])
+    []
+
+-- an address through the address of a load between
+-- hart 0: lui x12, 0x80000; addi x13, x0, 1; addi x9, x12, 512; lw x14, 0x100(x12) (reads 0); add x16, x9, x14; lw x18, 0(x16) (reads 0); add x19, x12, x18; lw x20, 0x300(x19) (reads 0)
+abbrev pub address_through_load : History
+address_through_load =
+    trace (image_with (0x80000637 ∷ 0x00100693 ∷ 0x20060493 ∷ 0x10062703 ∷ 0x00e48833 ∷ 0x00082903 ∷ 0x012609b3 ∷ 0x3009aa03 ∷ []))
+    ((did 0x80000000 0x80000637 ∷ did 0x80000004 0x00100693 ∷ did 0x80000008 0x20060493 ∷ loaded 0x8000000c 0x10062703 0 ∷ did 0x80000010 0x00e48833 ∷ loaded 0x80000014 0x00082903 0 ∷ did 0x80000018 0x012609b3 ∷ loaded 0x8000001c 0x3009aa03 0 ∷ [])
+    ∷ [])
+    []
+
+-- an address through the address of an LR between
+-- hart 0: lui x12, 0x80000; addi x13, x0, 1; addi x9, x12, 512; lw x14, 0x100(x12) (reads 0); add x16, x9, x14; lr.w x18, (x16) (reads 0); add x19, x12, x18; lw x20, 0x300(x19) (reads 0)
+abbrev pub address_through_lr : History
+address_through_lr =
+    trace (image_with (0x80000637 ∷ 0x00100693 ∷ 0x20060493 ∷ 0x10062703 ∷ 0x00e48833 ∷ 0x1008292f ∷ 0x012609b3 ∷ 0x3009aa03 ∷ []))
+    ((did 0x80000000 0x80000637 ∷ did 0x80000004 0x00100693 ∷ did 0x80000008 0x20060493 ∷ loaded 0x8000000c 0x10062703 0 ∷ did 0x80000010 0x00e48833 ∷ loaded 0x80000014 0x1008292f 0 ∷ did 0x80000018 0x012609b3 ∷ loaded 0x8000001c 0x3009aa03 0 ∷ [])
+    ∷ [])
+    []
+
+-- an address through the address of an AMO between
+-- hart 0: lui x12, 0x80000; addi x13, x0, 1; addi x9, x12, 512; lw x14, 0x100(x12) (reads 0); add x16, x9, x14; amoadd.w x18, x13, (x16) (reads 0); add x19, x12, x18; lw x20, 0x300(x19) (reads 0)
+abbrev pub address_through_amo_address : History
+address_through_amo_address =
+    trace (image_with (0x80000637 ∷ 0x00100693 ∷ 0x20060493 ∷ 0x10062703 ∷ 0x00e48833 ∷ 0x00d8292f ∷ 0x012609b3 ∷ 0x3009aa03 ∷ []))
+    ((did 0x80000000 0x80000637 ∷ did 0x80000004 0x00100693 ∷ did 0x80000008 0x20060493 ∷ loaded 0x8000000c 0x10062703 0 ∷ did 0x80000010 0x00e48833 ∷ loaded 0x80000014 0x00d8292f 0 ∷ did 0x80000018 0x012609b3 ∷ loaded 0x8000001c 0x3009aa03 0 ∷ [])
+    ∷ [])
+    []
+
+-- an address through the operand of an AMO between
+-- hart 0: lui x12, 0x80000; addi x13, x0, 1; addi x9, x12, 512; lw x14, 0x100(x12) (reads 0); amoadd.w x18, x14, (x9) (reads 0); add x19, x12, x18; lw x20, 0x300(x19) (reads 0)
+abbrev pub address_through_amo_operand : History
+address_through_amo_operand =
+    trace (image_with (0x80000637 ∷ 0x00100693 ∷ 0x20060493 ∷ 0x10062703 ∷ 0x00e4a92f ∷ 0x012609b3 ∷ 0x3009aa03 ∷ []))
+    ((did 0x80000000 0x80000637 ∷ did 0x80000004 0x00100693 ∷ did 0x80000008 0x20060493 ∷ loaded 0x8000000c 0x10062703 0 ∷ loaded 0x80000010 0x00e4a92f 0 ∷ did 0x80000014 0x012609b3 ∷ loaded 0x80000018 0x3009aa03 0 ∷ [])
+    ∷ [])
+    []
+
 -- ---- rule 10
 
 -- a load whose value is stored
@@ -534,6 +754,15 @@ abbrev pub amo_data_from_load : History
 amo_data_from_load =
     trace (image_with (0x80000637 ∷ 0x00100693 ∷ 0x20060493 ∷ 0x10062703 ∷ 0x00e4a7af ∷ []))
     ((did 0x80000000 0x80000637 ∷ did 0x80000004 0x00100693 ∷ did 0x80000008 0x20060493 ∷ loaded 0x8000000c 0x10062703 0 ∷ loaded 0x80000010 0x00e4a7af 0 ∷ [])
+    ∷ [])
+    []
+
+-- an SC that writes what a load returned
+-- hart 0: lui x12, 0x80000; addi x13, x0, 1; addi x9, x12, 512; lr.w x17, (x9) (reads 0); lw x14, 0x100(x12) (reads 0); sc.w x15, x14, (x9) (succeeds)
+abbrev pub sc_data_from_load : History
+sc_data_from_load =
+    trace (image_with (0x80000637 ∷ 0x00100693 ∷ 0x20060493 ∷ 0x1004a8af ∷ 0x10062703 ∷ 0x18e4a7af ∷ []))
+    ((did 0x80000000 0x80000637 ∷ did 0x80000004 0x00100693 ∷ did 0x80000008 0x20060493 ∷ loaded 0x8000000c 0x1004a8af 0 ∷ loaded 0x80000010 0x10062703 0 ∷ tried 0x80000014 0x18e4a7af true ∷ [])
     ∷ [])
     []
 
@@ -575,6 +804,33 @@ jalr_on_load =
     ∷ [])
     []
 
+-- an SC behind a branch on what a load returned
+-- hart 0: lui x12, 0x80000; addi x13, x0, 1; addi x9, x12, 512; lr.w x17, (x9) (reads 0); lw x14, 0x100(x12) (reads 0); bne x14, x0, 8; sc.w x15, x13, (x9) (succeeds)
+abbrev pub sc_behind_branch : History
+sc_behind_branch =
+    trace (image_with (0x80000637 ∷ 0x00100693 ∷ 0x20060493 ∷ 0x1004a8af ∷ 0x10062703 ∷ 0x00071463 ∷ 0x18d4a7af ∷ []))
+    ((did 0x80000000 0x80000637 ∷ did 0x80000004 0x00100693 ∷ did 0x80000008 0x20060493 ∷ loaded 0x8000000c 0x1004a8af 0 ∷ loaded 0x80000010 0x10062703 0 ∷ did 0x80000014 0x00071463 ∷ tried 0x80000018 0x18d4a7af true ∷ [])
+    ∷ [])
+    []
+
+-- an AMO behind a branch on what a load returned
+-- hart 0: lui x12, 0x80000; addi x13, x0, 1; addi x9, x12, 512; lw x14, 0x100(x12) (reads 0); bne x14, x0, 8; amoadd.w x15, x13, (x9) (reads 0)
+abbrev pub amo_behind_branch : History
+amo_behind_branch =
+    trace (image_with (0x80000637 ∷ 0x00100693 ∷ 0x20060493 ∷ 0x10062703 ∷ 0x00071463 ∷ 0x00d4a7af ∷ []))
+    ((did 0x80000000 0x80000637 ∷ did 0x80000004 0x00100693 ∷ did 0x80000008 0x20060493 ∷ loaded 0x8000000c 0x10062703 0 ∷ did 0x80000010 0x00071463 ∷ loaded 0x80000014 0x00d4a7af 0 ∷ [])
+    ∷ [])
+    []
+
+-- a branch whose second register has what a load returned
+-- hart 0: lui x12, 0x80000; addi x13, x0, 1; addi x9, x12, 512; lw x14, 0x100(x12) (reads 0); bne x0, x14, 8; sw x13, 0x200(x12)
+abbrev pub branch_by_second_register : History
+branch_by_second_register =
+    trace (image_with (0x80000637 ∷ 0x00100693 ∷ 0x20060493 ∷ 0x10062703 ∷ 0x00e01463 ∷ 0x20d62023 ∷ []))
+    ((did 0x80000000 0x80000637 ∷ did 0x80000004 0x00100693 ∷ did 0x80000008 0x20060493 ∷ loaded 0x8000000c 0x10062703 0 ∷ did 0x80000010 0x00e01463 ∷ did 0x80000014 0x20d62023 ∷ [])
+    ∷ [])
+    []
+
 -- ---- rule 12
 
 -- a loaded value is stored, and loaded again
@@ -613,6 +869,24 @@ load_of_later_store =
     ∷ [])
     []
 
+-- an LR that returns what a store wrote that a load decided
+-- hart 0: lui x12, 0x80000; addi x13, x0, 1; addi x9, x12, 512; lw x14, 0x100(x12) (reads 0); sw x14, 0x200(x12); lr.w x15, (x9) (reads 0)
+abbrev pub lr_of_dependent_store : History
+lr_of_dependent_store =
+    trace (image_with (0x80000637 ∷ 0x00100693 ∷ 0x20060493 ∷ 0x10062703 ∷ 0x20e62023 ∷ 0x1004a7af ∷ []))
+    ((did 0x80000000 0x80000637 ∷ did 0x80000004 0x00100693 ∷ did 0x80000008 0x20060493 ∷ loaded 0x8000000c 0x10062703 0 ∷ did 0x80000010 0x20e62023 ∷ loaded 0x80000014 0x1004a7af 0 ∷ [])
+    ∷ [])
+    []
+
+-- a load that returns three bytes of such a store, and one of a store behind it
+-- hart 0: lui x12, 0x80000; addi x13, x0, 1; lw x14, 0x100(x12) (reads 0); sw x14, 0x200(x12); sb x13, 0x200(x12); lw x15, 0x200(x12) (reads 1)
+abbrev pub load_of_dependent_store_and_byte : History
+load_of_dependent_store_and_byte =
+    trace (image_with (0x80000637 ∷ 0x00100693 ∷ 0x10062703 ∷ 0x20e62023 ∷ 0x20d60023 ∷ 0x20062783 ∷ []))
+    ((did 0x80000000 0x80000637 ∷ did 0x80000004 0x00100693 ∷ loaded 0x80000008 0x10062703 0 ∷ did 0x8000000c 0x20e62023 ∷ did 0x80000010 0x20d60023 ∷ loaded 0x80000014 0x20062783 1 ∷ [])
+    ∷ [])
+    []
+
 -- ---- rule 13
 
 -- a load at a loaded address, and a store of another word
@@ -648,6 +922,60 @@ abbrev pub store_behind_failed_sc : History
 store_behind_failed_sc =
     trace (image_with (0x80000637 ∷ 0x00100693 ∷ 0x10062703 ∷ 0x00e607b3 ∷ 0x18d7a82f ∷ 0x30d62023 ∷ []))
     ((did 0x80000000 0x80000637 ∷ did 0x80000004 0x00100693 ∷ loaded 0x80000008 0x10062703 0 ∷ did 0x8000000c 0x00e607b3 ∷ tried 0x80000010 0x18d7a82f false ∷ did 0x80000014 0x30d62023 ∷ [])
+    ∷ [])
+    []
+
+-- a store behind a store whose address comes from a load
+-- hart 0: lui x12, 0x80000; addi x13, x0, 1; addi x9, x12, 512; lw x14, 0x100(x12) (reads 0); add x16, x9, x14; sw x13, 0(x16); sw x13, 0x300(x12)
+abbrev pub store_behind_store_address : History
+store_behind_store_address =
+    trace (image_with (0x80000637 ∷ 0x00100693 ∷ 0x20060493 ∷ 0x10062703 ∷ 0x00e48833 ∷ 0x00d82023 ∷ 0x30d62023 ∷ []))
+    ((did 0x80000000 0x80000637 ∷ did 0x80000004 0x00100693 ∷ did 0x80000008 0x20060493 ∷ loaded 0x8000000c 0x10062703 0 ∷ did 0x80000010 0x00e48833 ∷ did 0x80000014 0x00d82023 ∷ did 0x80000018 0x30d62023 ∷ [])
+    ∷ [])
+    []
+
+-- a store behind an LR whose address comes from a load
+-- hart 0: lui x12, 0x80000; addi x13, x0, 1; addi x9, x12, 512; lw x14, 0x100(x12) (reads 0); add x16, x9, x14; lr.w x15, (x16) (reads 0); sw x13, 0x300(x12)
+abbrev pub store_behind_lr_address : History
+store_behind_lr_address =
+    trace (image_with (0x80000637 ∷ 0x00100693 ∷ 0x20060493 ∷ 0x10062703 ∷ 0x00e48833 ∷ 0x100827af ∷ 0x30d62023 ∷ []))
+    ((did 0x80000000 0x80000637 ∷ did 0x80000004 0x00100693 ∷ did 0x80000008 0x20060493 ∷ loaded 0x8000000c 0x10062703 0 ∷ did 0x80000010 0x00e48833 ∷ loaded 0x80000014 0x100827af 0 ∷ did 0x80000018 0x30d62023 ∷ [])
+    ∷ [])
+    []
+
+-- a store behind an SC whose address comes from a load
+-- hart 0: lui x12, 0x80000; addi x13, x0, 1; addi x9, x12, 512; lr.w x17, (x9) (reads 0); lw x14, 0x100(x12) (reads 0); add x16, x9, x14; sc.w x15, x13, (x16) (succeeds); sw x13, 0x300(x12)
+abbrev pub store_behind_sc_address : History
+store_behind_sc_address =
+    trace (image_with (0x80000637 ∷ 0x00100693 ∷ 0x20060493 ∷ 0x1004a8af ∷ 0x10062703 ∷ 0x00e48833 ∷ 0x18d827af ∷ 0x30d62023 ∷ []))
+    ((did 0x80000000 0x80000637 ∷ did 0x80000004 0x00100693 ∷ did 0x80000008 0x20060493 ∷ loaded 0x8000000c 0x1004a8af 0 ∷ loaded 0x80000010 0x10062703 0 ∷ did 0x80000014 0x00e48833 ∷ tried 0x80000018 0x18d827af true ∷ did 0x8000001c 0x30d62023 ∷ [])
+    ∷ [])
+    []
+
+-- a store behind an AMO whose address comes from a load
+-- hart 0: lui x12, 0x80000; addi x13, x0, 1; addi x9, x12, 512; lw x14, 0x100(x12) (reads 0); add x16, x9, x14; amoadd.w x15, x13, (x16) (reads 0); sw x13, 0x300(x12)
+abbrev pub store_behind_amo_address : History
+store_behind_amo_address =
+    trace (image_with (0x80000637 ∷ 0x00100693 ∷ 0x20060493 ∷ 0x10062703 ∷ 0x00e48833 ∷ 0x00d827af ∷ 0x30d62023 ∷ []))
+    ((did 0x80000000 0x80000637 ∷ did 0x80000004 0x00100693 ∷ did 0x80000008 0x20060493 ∷ loaded 0x8000000c 0x10062703 0 ∷ did 0x80000010 0x00e48833 ∷ loaded 0x80000014 0x00d827af 0 ∷ did 0x80000018 0x30d62023 ∷ [])
+    ∷ [])
+    []
+
+-- an SC behind a load whose address comes from another
+-- hart 0: lui x12, 0x80000; addi x13, x0, 1; addi x9, x12, 512; lr.w x17, (x9) (reads 0); lw x14, 0x100(x12) (reads 0); add x16, x12, x14; lw x18, 0x300(x16) (reads 0); sc.w x15, x13, (x9) (succeeds)
+abbrev pub sc_behind_address : History
+sc_behind_address =
+    trace (image_with (0x80000637 ∷ 0x00100693 ∷ 0x20060493 ∷ 0x1004a8af ∷ 0x10062703 ∷ 0x00e60833 ∷ 0x30082903 ∷ 0x18d4a7af ∷ []))
+    ((did 0x80000000 0x80000637 ∷ did 0x80000004 0x00100693 ∷ did 0x80000008 0x20060493 ∷ loaded 0x8000000c 0x1004a8af 0 ∷ loaded 0x80000010 0x10062703 0 ∷ did 0x80000014 0x00e60833 ∷ loaded 0x80000018 0x30082903 0 ∷ tried 0x8000001c 0x18d4a7af true ∷ [])
+    ∷ [])
+    []
+
+-- an AMO behind a load whose address comes from another
+-- hart 0: lui x12, 0x80000; addi x13, x0, 1; addi x9, x12, 512; lw x14, 0x100(x12) (reads 0); add x16, x12, x14; lw x18, 0x300(x16) (reads 0); amoadd.w x15, x13, (x9) (reads 0)
+abbrev pub amo_behind_address : History
+amo_behind_address =
+    trace (image_with (0x80000637 ∷ 0x00100693 ∷ 0x20060493 ∷ 0x10062703 ∷ 0x00e60833 ∷ 0x30082903 ∷ 0x00d4a7af ∷ []))
+    ((did 0x80000000 0x80000637 ∷ did 0x80000004 0x00100693 ∷ did 0x80000008 0x20060493 ∷ loaded 0x8000000c 0x10062703 0 ∷ did 0x80000010 0x00e60833 ∷ loaded 0x80000014 0x30082903 0 ∷ loaded 0x80000018 0x00d4a7af 0 ∷ [])
     ∷ [])
     []
 

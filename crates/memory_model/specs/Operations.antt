@@ -1,4 +1,5 @@
--- Memory operations: what they read and write, their bytes, and their annotations (RISC-V Unprivileged ISA 20191213, chapter 14.1, "Memory Model Primitives").
+-- Memory operations: what they read and write, their bytes, and their annotations (RISC-V Unprivileged ISA 20191213,
+-- chapter 14.1, "Memory Model Primitives").
 use Rattle.std.specs.Prelude.{ℕ, ◌+◌, ◌-◌, ◌/◌, ◌%◌, ◌^◌, Bool, true, false, ◌&&◌, ◌||◌, ◌==◌, nat_lt, nat_le, List}
 use Rattle.std.specs.List.{range_with_len}
 use Rattle.memory_model.specs.declared.Model.{Model}
@@ -80,7 +81,8 @@ abbrev pub has_release : Model → Operation → Bool
 has_release Rvwmo a = a.rl
 has_release Ztso a = a.rl || writes a.kind
 
--- it has an RCsc annotation: the bits' annotations are RCsc, and so are those that Ztso gives to an AMO; those that it gives to others are RCpc
+-- it has an RCsc annotation: the bits' annotations are RCsc, and so are those that Ztso gives to an AMO; those that it
+-- gives to others are RCpc
 abbrev pub has_rcsc : Model → Operation → Bool
 has_rcsc Rvwmo a = a.aq || a.rl
 has_rcsc Ztso a = a.aq || a.rl || is_amo a.kind

@@ -1,4 +1,5 @@
--- A global memory order: which operation stands before which, and which store a byte comes from (RISC-V Unprivileged ISA 20191213, chapter 14.1, "Memory Model Axioms", load value axiom).
+-- A global memory order: which operation stands before which, and which store a byte comes from (RISC-V Unprivileged
+-- ISA 20191213, chapter 14.1, "Memory Model Axioms", load value axiom).
 use Rattle.std.specs.Prelude.{ℕ, Bool, true, false, ◌&&◌, ◌||◌, not, nat_lt, if◌then◌else◌, List, [], ◌∷◌, Option, Some, None, filter, IsTrue, Contains}
 use Rattle.std.specs.List.{list_all, last_or, position_or_len}
 use Rattle.memory_model.specs.declared.operation.Operation.{Operation}
@@ -29,7 +30,8 @@ Keeps must order = (a b : Operation) → Contains order a → Contains order b �
 
 -- ---- the source of a byte of a load
 
--- the stores to x of which the load returns the last, in the order: all that stand before it, and behind it those that precede it in program order
+-- the stores to x of which the load returns the last, in the order: all that stand before it, and behind it those that
+-- precede it in program order
 abbrev pub candidates : List Operation → Operation → ℕ → List Operation
 candidates [] load x = []
 candidates (s ∷ rest) load x =

@@ -1,4 +1,5 @@
--- Preserved program order: the thirteen rules, each a test of two operations a and b of one hart, a before b in program order (RISC-V Unprivileged ISA 20191213, chapter 14.1, "Preserved Program Order").
+-- Preserved program order: the thirteen rules, each a test of two operations a and b of one hart, a before b in program
+-- order (RISC-V Unprivileged ISA 20191213, chapter 14.1, "Preserved Program Order").
 -- `items` is the list of their hart. "Returns a value written by" is the source in the order.
 use Rattle.std.specs.Prelude.{ℕ, Bool, true, false, ◌&&◌, ◌||◌, not, ◌==◌, List, [], ◌∷◌, Option, Some, None, slice_index_or}
 use Rattle.std.specs.List.{list_any}
@@ -26,7 +27,8 @@ has_write set = bits_of set 0 1 == 1
 abbrev pub is_in_set : ℕ → Kind → Bool
 is_in_set set kind = (reads kind && has_read set) || (writes kind && has_write set)
 
--- an instruction orders an operation of the first kind before one of the second: a FENCE by its two sets; FENCE.TSO loads before all and stores before stores
+-- an instruction orders an operation of the first kind before one of the second: a FENCE by its two sets; FENCE.TSO
+-- loads before all and stores before stores
 abbrev pub fences : Option Instr → Kind → Kind → Bool
 fences (Some (instr.Fence sets)) a b = is_in_set sets.before a && is_in_set sets.after b
 fences (Some instr.FenceTso) a b = reads a || (writes a && writes b)
@@ -41,7 +43,9 @@ is_lr_or_sc _ = false
 
 -- an LR and a later SC of its hart with no LR or SC between, whether it succeeded or not
 abbrev pub paired : List Item → Operation → Operation → Bool
-paired items a b = precedes a b && is_reserve a.kind && is_conditional b.kind && not (list_any (λ (m : Item). is_lr_or_sc m.instr) (between items a b))
+paired items a b =
+    precedes a b && is_reserve a.kind && is_conditional b.kind
+    && not (list_any (λ (m : Item). is_lr_or_sc m.instr) (between items a b))
 
 -- ---- values
 
@@ -54,80 +58,122 @@ has_store_to x (Some m) = stores_to x m
 abbrev pub returns_from : List Operation → Operation → Operation → Bool
 returns_from order b a = list_any (λ x. same_source (source order b x) (Some a)) (bytes_of b)
 
--- ---- the rules
+-- ---- the rules, of the instructions of their hart and the order, as far as they ask for these
 
 -- 1: b is a store, and they overlap
-abbrev pub rule_1 : Model → List Item → List Operation → Operation → Operation → Bool
-rule_1 model items order a b = writes b.kind && overlap a b
+abbrev pub rule_1 : (a b : Operation) → Bool
+rule_1 a b = writes b.kind && overlap a b
 
--- 2: both are loads, x is a byte of both, no store to x lies between them in program order, and they return x from different writes
-abbrev pub rule_2 : Model → List Item → List Operation → Operation → Operation → Bool
-rule_2 model items order a b =
-    reads a.kind && reads b.kind
-    && list_any (λ x. touches x b && not (list_any (λ (m : Item). has_store_to x m.operation) (between items a b)) && not (same_source (source order a x) (source order b x))) (bytes_of a)
+-- 2: both are loads, and x is a byte of both that they return from different writes, with no store to x between them in program order
+abbrev pub are_from_different_writes : List Item → List Operation → (a b : Operation) → (x : ℕ) → Bool
+are_from_different_writes items order a b x =
+    touches x b
+    && not (list_any (λ (m : Item). has_store_to x m.operation) (between items a b))
+    && not (same_source (source order a x) (source order b x))
+
+abbrev pub rule_2 : List Item → List Operation → (a b : Operation) → Bool
+rule_2 items order a b = reads a.kind && reads b.kind && list_any (are_from_different_writes items order a b) (bytes_of a)
 
 -- 3: a is of an AMO or an SC, and b is a load that returns a value written by a
-abbrev pub rule_3 : Model → List Item → List Operation → Operation → Operation → Bool
-rule_3 model items order a b = (is_amo a.kind || is_conditional a.kind) && reads b.kind && returns_from order b a
+abbrev pub rule_3 : List Operation → (a b : Operation) → Bool
+rule_3 order a b = (is_amo a.kind || is_conditional a.kind) && reads b.kind && returns_from order b a
 
 -- 4: a FENCE between them orders a before b
-abbrev pub rule_4 : Model → List Item → List Operation → Operation → Operation → Bool
-rule_4 model items order a b = list_any (λ (m : Item). fences m.instr a.kind b.kind) (between items a b)
+abbrev pub rule_4 : List Item → (a b : Operation) → Bool
+rule_4 items a b = list_any (λ (m : Item). fences m.instr a.kind b.kind) (between items a b)
 
 -- 5: a has an acquire annotation
-abbrev pub rule_5 : Model → List Item → List Operation → Operation → Operation → Bool
-rule_5 model items order a b = has_acquire model a
+abbrev pub rule_5 : Model → (a : Operation) → Bool
+rule_5 model a = has_acquire model a
 
 -- 6: b has a release annotation
-abbrev pub rule_6 : Model → List Item → List Operation → Operation → Operation → Bool
-rule_6 model items order a b = has_release model b
+abbrev pub rule_6 : Model → (b : Operation) → Bool
+rule_6 model b = has_release model b
 
 -- 7: both have RCsc annotations
-abbrev pub rule_7 : Model → List Item → List Operation → Operation → Operation → Bool
-rule_7 model items order a b = has_rcsc model a && has_rcsc model b
+abbrev pub rule_7 : Model → (a b : Operation) → Bool
+rule_7 model a b = has_rcsc model a && has_rcsc model b
 
 -- 8: a is paired with b
-abbrev pub rule_8 : Model → List Item → List Operation → Operation → Operation → Bool
-rule_8 model items order a b = paired items a b
+abbrev pub rule_8 : List Item → (a b : Operation) → Bool
+rule_8 items a b = paired items a b
 
 -- 9: b has an address dependency on a
-abbrev pub rule_9 : Model → List Item → List Operation → Operation → Operation → Bool
-rule_9 model items order a b = has_address_dependency items a b
+abbrev pub rule_9 : List Item → (a b : Operation) → Bool
+rule_9 items a b = has_address_dependency items a b
 
 -- 10: b has a data dependency on a
-abbrev pub rule_10 : Model → List Item → List Operation → Operation → Operation → Bool
-rule_10 model items order a b = has_data_dependency items a b
+abbrev pub rule_10 : List Item → (a b : Operation) → Bool
+rule_10 items a b = has_data_dependency items a b
 
 -- 11: b is a store with a control dependency on a
-abbrev pub rule_11 : Model → List Item → List Operation → Operation → Operation → Bool
-rule_11 model items order a b = writes b.kind && has_control_dependency items a b
+abbrev pub rule_11 : List Item → (a b : Operation) → Bool
+rule_11 items a b = writes b.kind && has_control_dependency items a b
 
 -- the operation of an instruction is a store m that has an address or a data dependency on a, and b returns a value written by m
-abbrev pub passes_on : List Item → List Operation → Operation → Operation → Option Operation → Bool
+abbrev pub passes_on : List Item → List Operation → (a b : Operation) → Option Operation → Bool
 passes_on items order a b None = false
-passes_on items order a b (Some m) = writes m.kind && (has_address_dependency items a m || has_data_dependency items a m) && returns_from order b m
+passes_on items order a b (Some m) =
+    writes m.kind && (has_address_dependency items a m || has_data_dependency items a m) && returns_from order b m
 
 -- 12: b is a load, a store m between has an address or data dependency on a, and b returns a value written by m
-abbrev pub rule_12 : Model → List Item → List Operation → Operation → Operation → Bool
-rule_12 model items order a b = reads b.kind && list_any (λ (m : Item). passes_on items order a b m.operation) (between items a b)
+abbrev pub rule_12 : List Item → List Operation → (a b : Operation) → Bool
+rule_12 items order a b = reads b.kind && list_any (λ (m : Item). passes_on items order a b m.operation) (between items a b)
 
 -- 13: b is a store, and an instruction between them has an address dependency on a
-abbrev pub rule_13 : Model → List Item → List Operation → Operation → Operation → Bool
-rule_13 model items order a b = writes b.kind && has_dependent_address_between items a b
+abbrev pub rule_13 : List Item → (a b : Operation) → Bool
+rule_13 items a b = writes b.kind && has_dependent_address_between items a b
 
 -- ---- all of them
 
 -- a rule with its number
 pub record Rule : Type 0 where
   pub number : ℕ
-  pub asks : Model → List Item → List Operation → Operation → Operation → Bool
+  pub asks : Model → List Item → List Operation → (a b : Operation) → Bool
 
-abbrev pub numbered : ℕ → (Model → List Item → List Operation → Operation → Operation → Bool) → Rule
-numbered number asks = record { number = number; asks = asks }
+abbrev pub overlapping_store : Rule
+overlapping_store = record { number = 1; asks = λ model items order a b. rule_1 a b }
+
+abbrev pub same_byte_loads : Rule
+same_byte_loads = record { number = 2; asks = λ model items order a b. rule_2 items order a b }
+
+abbrev pub atomic_source : Rule
+atomic_source = record { number = 3; asks = λ model items order a b. rule_3 order a b }
+
+abbrev pub fence : Rule
+fence = record { number = 4; asks = λ model items order a b. rule_4 items a b }
+
+abbrev pub acquire : Rule
+acquire = record { number = 5; asks = λ model items order a b. rule_5 model a }
+
+abbrev pub release : Rule
+release = record { number = 6; asks = λ model items order a b. rule_6 model b }
+
+abbrev pub annotations : Rule
+annotations = record { number = 7; asks = λ model items order a b. rule_7 model a b }
+
+abbrev pub pair : Rule
+pair = record { number = 8; asks = λ model items order a b. rule_8 items a b }
+
+abbrev pub address : Rule
+address = record { number = 9; asks = λ model items order a b. rule_9 items a b }
+
+abbrev pub data_stored : Rule
+data_stored = record { number = 10; asks = λ model items order a b. rule_10 items a b }
+
+abbrev pub control : Rule
+control = record { number = 11; asks = λ model items order a b. rule_11 items a b }
+
+abbrev pub dependent_store : Rule
+dependent_store = record { number = 12; asks = λ model items order a b. rule_12 items order a b }
+
+abbrev pub dependent_address : Rule
+dependent_address = record { number = 13; asks = λ model items order a b. rule_13 items a b }
 
 abbrev pub rules : List Rule
 rules =
-    numbered 1 rule_1 ∷ numbered 2 rule_2 ∷ numbered 3 rule_3 ∷ numbered 4 rule_4 ∷ numbered 5 rule_5 ∷ numbered 6 rule_6 ∷ numbered 7 rule_7 ∷ numbered 8 rule_8 ∷ numbered 9 rule_9 ∷ numbered 10 rule_10 ∷ numbered 11 rule_11 ∷ numbered 12 rule_12 ∷ numbered 13 rule_13 ∷ []
+    overlapping_store ∷ same_byte_loads ∷ atomic_source ∷ fence ∷ acquire ∷ release ∷ annotations
+    ∷ pair ∷ address ∷ data_stored ∷ control ∷ dependent_store ∷ dependent_address ∷ []
 
 -- the list of a hart
 abbrev pub items_of : List (List Item) → ℕ → List Item

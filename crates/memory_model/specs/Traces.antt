@@ -18,7 +18,8 @@ use Rattle.memory_model.specs.Legal.{IsLegal, keeps_all_three}
 -- each hart's list and status are those of a run, from hart `id` on
 abbrev pub are_runs_from : Initial → ℕ → ℕ → List (List Retired) → List Status → Bool
 are_runs_from image harts id [] [] = true
-are_runs_from image harts id (entries ∷ rest) (status ∷ statuses) = is_run image id harts entries status && are_runs_from image harts (id + 1) rest statuses
+are_runs_from image harts id (entries ∷ rest) (status ∷ statuses) =
+    is_run image id harts entries status && are_runs_from image harts (id + 1) rest statuses
 are_runs_from image harts id _ _ = false
 
 abbrev pub are_runs : History → Bool
@@ -54,7 +55,9 @@ names_in t = names_of_harts 0 t.entries
 
 -- the operation of a name
 abbrev pub operation_at : List (List Item) → OpId → Option Operation
-operation_at harts name = option_and_then (λ (m : Item). m.operation) (option_and_then (λ (items : List Item). slice_get items name.place) (slice_get harts name.hart))
+operation_at harts name =
+    option_and_then (λ (m : Item). m.operation)
+    (option_and_then (λ (items : List Item). slice_get items name.place) (slice_get harts name.hart))
 
 abbrev pub operations_at : List (List Item) → List OpId → List Operation
 operations_at harts names = filter_map (operation_at harts) names

@@ -30,7 +30,8 @@ abbrev pub code_of_atomicity : List (List Item) → List Operation → Code
 code_of_atomicity harts order = record { number = 15; broken = λ a b. paired (items_of harts a.hart) a b && not (is_atomic order a b) }
 
 abbrev pub codes : Model → (ℕ → ℕ) → List (List Item) → List Operation → List Code
-codes model image harts order = map (code_of_rule model harts order) rules ++ code_of_values image order ∷ code_of_atomicity harts order ∷ []
+codes model image harts order =
+    map (code_of_rule model harts order) rules ++ code_of_values image order ∷ code_of_atomicity harts order ∷ []
 
 -- the pairs of an order, that with the first b first, and for one b that with the first a
 abbrev pub pairs_of : List Operation → List (Operation × Operation)
@@ -62,10 +63,13 @@ first_fault (code ∷ rest) order = fault_or code.number (first_broken code orde
 
 -- what is wrong with an order of the trace's operations; nothing where it is legal
 abbrev pub fault_in : Model → History → List OpId → Option Fault
-fault_in model t order = let operations = operations_at (instructions t) order in first_fault (codes model (image_of t) (instructions t) operations) operations
+fault_in model t order =
+    let operations = operations_at (instructions t) order in
+    first_fault (codes model (image_of t) (instructions t) operations) operations
 
 -- two operations of an order break the rule of a code
-pub record Breaks (model : Model) (image : ℕ → ℕ) (harts : List (List Item)) (order : List Operation) (number : ℕ) (a b : Operation) : Type 0 where
+pub record Breaks (model : Model) (image : ℕ → ℕ) (harts : List (List Item)) (order : List Operation)
+    (number : ℕ) (a b : Operation) : Type 0 where
   pub has_a : Contains order a
   pub has_b : Contains order b
   pub broken : IsTrue (list_any (λ (c : Code). c.number == number && c.broken a b) (codes model image harts order))

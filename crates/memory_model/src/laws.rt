@@ -1,6 +1,8 @@
 //! Laws of the memory models, each the contract of a function that does nothing.
+ghost use Rattle.memory_model.specs.Apart.{AtomicityFormsAgree};
 ghost use Rattle.memory_model.specs.Laws.{CompletedIsOrder, EntriesTellOperations, ExamplesJudgeAsDefined, NamesFindOperations, OrderFormsAgree, SourceFormsAgree, ZtsoIsStronger, ProgramOrderSuffices, UnwrittenByteIsImages};
 ghost use Rattle.memory_model.specs.Litmus.{Shapes};
+ghost use Rattle.memory_model.specs.Reaching.{DependencyFormsAgree};
 ghost use Rattle.memory_model.specs.WorkedRows.{Rows};
 
 /// Small runs, with orders that each rule and each axiom allows and forbids, are judged as the standard
@@ -62,4 +64,16 @@ pub fn order_forms_agree()
 /// order or precede it in program order, the last in the order.
 pub fn source_forms_agree()
     ensures { SourceFormsAgree }
+{}
+
+/// The flags by which dependencies are computed say what a reader means by them: what an instruction writes
+/// reaches a register, directly or through others that read it and write on.
+pub fn dependency_forms_agree()
+    ensures { DependencyFormsAgree }
+{}
+
+/// In an order of the trace the test of the atomicity axiom at a byte says what a reader means by it: the
+/// source of an LR's byte stands before the SC, and no store of another hart to that byte between them.
+pub fn atomicity_forms_agree()
+    ensures { AtomicityFormsAgree }
 {}

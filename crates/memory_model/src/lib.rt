@@ -6,9 +6,10 @@ mod laws;
 mod operation;
 
 pub use laws::{
-    completed_is_order, entries_tell_operations, examples_judge_as_defined, litmus_shapes,
-    names_find_operations, order_forms_agree, program_order_suffices, source_forms_agree,
-    unwritten_byte_is_images, worked_rows, ztso_is_stronger,
+    atomicity_forms_agree, completed_is_order, dependency_forms_agree, entries_tell_operations,
+    examples_judge_as_defined, litmus_shapes, names_find_operations, order_forms_agree,
+    program_order_suffices, source_forms_agree, unwritten_byte_is_images, worked_rows,
+    ztso_is_stronger,
 };
 pub use operation::{Kind, Operation};
 

@@ -202,7 +202,7 @@ asked_told DependentStore model items order a b low p own s t k h =
     let same : b.hart ≡ a.hart = sym (eqb-true a.hart b.hart (and_parts (nat_eq a.hart b.hart) (nat_lt a.place b.place) k).0) in
     mark_told DependentStore (sources_of DependentStore order b) (passing order b) items a b low (asked_passing order b) p k h
     ∙ (ap (λ (c : Bool). c && gives_wanted (uses_at items a) (wanted_from (passing order b) [] (between items a b))) (k ∙ sym s)
-    ∙ sym (rule_12_swept model items order a b p (subst (λ (n : ℕ). GivesOwn n items) same own) k))
+    ∙ sym (rule_12_swept items order a b p (subst (λ (n : ℕ). GivesOwn n items) same own) k))
 
 pub tells_each : (rule : Rule) (items : List Item) (order : List Operation) (b : Operation) (low : ℕ) (marks : List Bool) (stretch : List Item) (first : List Bool) (stores : List (Option Operation)) (among : List Operation) → IsPlaced 0 items → GivesOwn b.hart items → is_swept rule b ≡ true → IsBelow low b among
     → stretch ≡ take (b.place - low) (drop low items) → first ≡ with_flags (replicate 32 false) true (asked_at rule (uses_at items b)) → stores ≡ sources_of rule order b → marks ≡ flagged rule stores first stretch → TellsEach rule items order b low marks among

@@ -102,9 +102,9 @@ any_passes items front (m ∷ back) order a b p own e =
     ∙ ap (λ (c : Bool). holds (held_behind (held_first (uses_at items a)) front) (passing order b m) || c)
     (any_passes items (front ++ m ∷ []) back order a b p own (e ∙ sym (append_assoc front (m ∷ []) back)) ∙ ap (λ (held : List Bool). carries (passing order b) [] held back) (behind_one (held_first (uses_at items a)) front m))
 
-pub rule_12_swept : (model : Model) (items : List Item) (order : List Operation) (a b : Operation) → IsPlaced 0 items → GivesOwn a.hart items → precedes a b ≡ true
-    → rule_12 model items order a b ≡ (reads b.kind && gives_wanted (uses_at items a) (wanted_from (passing order b) [] (between items a b)))
-rule_12_swept model items order a b p own e =
+pub rule_12_swept : (items : List Item) (order : List Operation) (a b : Operation) → IsPlaced 0 items → GivesOwn a.hart items → precedes a b ≡ true
+    → rule_12 items order a b ≡ (reads b.kind && gives_wanted (uses_at items a) (wanted_from (passing order b) [] (between items a b)))
+rule_12_swept items order a b p own e =
     ap (λ (c : Bool). reads b.kind && c) (any_passes items [] (between items a b) order a b p own refl ∙ first_carried (passing order b) [] (uses_at items a) (between items a b))
 
 -- ---- each hart's list gives its own operations

@@ -10,19 +10,19 @@ use Rattle.rvwmo_order.specs.declared.verdict.Code.TheVariants.{Order, LoadValue
 
 -- a rule of preserved program order with its number
 abbrev pub rule_of : Rule → rules.Rule
-rule_of OverlappingStore = rules.numbered 1 rules.rule_1
-rule_of SameByteLoads = rules.numbered 2 rules.rule_2
-rule_of AtomicSource = rules.numbered 3 rules.rule_3
-rule_of Fence = rules.numbered 4 rules.rule_4
-rule_of Acquire = rules.numbered 5 rules.rule_5
-rule_of Release = rules.numbered 6 rules.rule_6
-rule_of Annotations = rules.numbered 7 rules.rule_7
-rule_of Pair = rules.numbered 8 rules.rule_8
-rule_of Address = rules.numbered 9 rules.rule_9
-rule_of Data = rules.numbered 10 rules.rule_10
-rule_of Control = rules.numbered 11 rules.rule_11
-rule_of DependentStore = rules.numbered 12 rules.rule_12
-rule_of DependentAddress = rules.numbered 13 rules.rule_13
+rule_of OverlappingStore = rules.overlapping_store
+rule_of SameByteLoads = rules.same_byte_loads
+rule_of AtomicSource = rules.atomic_source
+rule_of Fence = rules.fence
+rule_of Acquire = rules.acquire
+rule_of Release = rules.release
+rule_of Annotations = rules.annotations
+rule_of Pair = rules.pair
+rule_of Address = rules.address
+rule_of Data = rules.data_stored
+rule_of Control = rules.control
+rule_of DependentStore = rules.dependent_store
+rule_of DependentAddress = rules.dependent_address
 
 -- 1 to 13 the rules, 14 the load value axiom, 15 the atomicity axiom
 abbrev pub number_of : Code → ℕ

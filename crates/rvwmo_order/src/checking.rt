@@ -1,5 +1,5 @@
 //! The checker: a trace and an order in, a verdict out.
-ghost use Rattle.std.specs.Prelude.{◌≡◌, ◌↔◌, IfOk, IsErrOf};
+ghost use Rattle.std.specs.Prelude.{◌≡◌, ◌↔◌, ◌<◌, true, false, length, Err, IfOk, IsErrOf};
 ghost use Rattle.memory_model.specs.Traces as traces;
 ghost use Rattle.memory_model.specs.Traces.{IsLegalOrder};
 ghost use Rattle.memory_model.specs.Verdict.{fault_in};
@@ -21,6 +21,8 @@ use trace_recorder::{OpId, Trace};
 /// Whether an order of the operations of a trace is legal under RVWMO.
 pub fn check(alloc: Global, trace: &Trace, order: &[OpId]) -> Result<Verdict, CheckError>
     requires { IsWithinLimits trace.now.history }
+    ensures no_run { traces.are_runs trace.now.history ≡ false → result ≡ Err CheckError.NotARun }
+    ensures too_long { traces.are_runs trace.now.history ≡ true → 4096 < length (traces.names_in trace.now.history) → result ≡ Err CheckError.TooLong }
     ensures refused { ¬ IsErrOf result CheckError.NoMemory → refusal_of result ≡ refusal trace.now.history order.now }
     ensures legal { IfOk result (λ v. (v ≡ Verdict.Legal) ↔ IsLegalOrder Model.Rvwmo trace.now.history order.now) }
     ensures sound { IfOk result (λ v. IsSound Model.Rvwmo trace.now.history order.now v) }
@@ -37,6 +39,8 @@ pub fn check_model(
     model: Model,
 ) -> Result<Verdict, CheckError>
     requires { IsWithinLimits trace.now.history }
+    ensures no_run { traces.are_runs trace.now.history ≡ false → result ≡ Err CheckError.NotARun }
+    ensures too_long { traces.are_runs trace.now.history ≡ true → 4096 < length (traces.names_in trace.now.history) → result ≡ Err CheckError.TooLong }
     ensures refused { ¬ IsErrOf result CheckError.NoMemory → refusal_of result ≡ refusal trace.now.history order.now }
     ensures legal { IfOk result (λ v. (v ≡ Verdict.Legal) ↔ IsLegalOrder model trace.now.history order.now) }
     ensures sound { IfOk result (λ v. IsSound model trace.now.history order.now v) }

@@ -56,7 +56,7 @@ pub(crate) fn asks(
 
 // Rule 2: both are loads and return a byte of both from different writes, with no store to it between.
 fn are_same_byte_loads(items: &Items, index: &Index, a: &Operation, b: &Operation) -> bool
-    ensures { result ≡ spec.rule_2 Model.Rvwmo items.now index.now a.now b.now }
+    ensures { result ≡ spec.rule_2 items.now index.now a.now b.now }
 {
     reads(a.kind) && reads(b.kind) && return_differently(items, index, a, b)
 }

@@ -58,7 +58,7 @@ pub(crate) fn asks(
 
 // Rule 2: both are loads and return a byte of both from different writes, with no store to it between.
 fn are_same_byte_loads(items: &Items, order: &[Operation], a: &Operation, b: &Operation) -> bool
-    ensures { result ≡ spec.rule_2 Model.Rvwmo items.now order.now a.now b.now }
+    ensures { result ≡ spec.rule_2 items.now order.now a.now b.now }
 {
     reads(a.kind) && reads(b.kind) && return_differently(items, order, a, b)
 }
@@ -85,7 +85,7 @@ fn returns_differently(
 
 // Rule 12: a store between them depends on `a`, and the load `b` returns a value that it wrote.
 fn returns_from_dependent(items: &Items, order: &[Operation], a: &Operation, b: &Operation) -> bool
-    ensures { result ≡ spec.rule_12 Model.Rvwmo items.now order.now a.now b.now }
+    ensures { result ≡ spec.rule_12 items.now order.now a.now b.now }
 {
     reads(b.kind) && returns_from_between(items, order, a, b)
 }
