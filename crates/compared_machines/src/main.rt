@@ -1,13 +1,16 @@
 //! Applies one stream of events to the plain machine and to the machine that is built of proved parts, and
-//! compares the outcome of each event, what the machines are in between, and their traces.
+//! compares the outcome of each event, what the machines are in between, and their traces. Then it plays
+//! streams with the plain flat machine beside the machine.
 #![tactic(auto)]
 
+mod flat;
 mod met;
 mod numbers;
 mod pair;
 mod views;
 
 use anyhow::{Result, bail, ensure};
+use flat::every_flat_event;
 use machine_model::{Event, Model};
 use met::Met;
 use numbers::Numbers;
@@ -46,7 +49,7 @@ fn every_event(alloc: Global, model: Model) -> Result<()> {
     let mut numbers = Numbers::from_seed(1);
     let mut met = Met::nothing();
     for index in 1..=EVENTS {
-        let event = event_of(numbers.below_18());
+        let event = event_of(numbers.below(18));
         met.count(pair.apply(event)?);
         if index % 1000 == 0 {
             ensure!(pair.is_alike(WORD), "views differ behind event {index}");
@@ -60,9 +63,16 @@ fn every_event(alloc: Global, model: Model) -> Result<()> {
 }
 
 fn main(rt: HostRuntime) -> Result<()> {
-    every_event(rt.alloc(), Model::Rvwmo)?;
-    println!(rt; "rvwmo: {EVENTS} events alike")?;
-    every_event(rt.alloc(), Model::Ztso)?;
-    println!(rt; "ztso: {EVENTS} events alike")?;
+    let models = [("rvwmo", Model::Rvwmo), ("ztso", Model::Ztso)];
+    for (name, model) in models {
+        every_event(rt.alloc(), model)?;
+        println!(rt; "{name}: {EVENTS} events alike")?;
+    }
+    for (name, model) in models {
+        for ways in 1..=2 {
+            let counts = every_flat_event(rt.alloc(), model, ways, EVENTS)?;
+            println!(rt; "flat, {name}, ways {ways}: {counts}")?;
+        }
+    }
     Ok(())
 }

@@ -1,5 +1,7 @@
 //! A stream of numbers that is the same in each run.
 
+ghost use Rattle.std.specs.Prelude.{◌<◌};
+
 /// A linear congruential generator modulo 2^32, with the multiplier and increment of "Numerical Recipes".
 #[derive(Clone, Copy, Debug)]
 pub struct Numbers {
@@ -11,12 +13,15 @@ impl Numbers {
         Numbers { state: seed }
     }
 
-    /// The next number, from 0 to 17. Only the upper bits are used: the lower ones have short periods.
-    pub fn below_18(&mut self) -> u32 {
+    /// The next number, below a limit that isn't 0. Only the upper bits are used: the lower ones have short
+    /// periods.
+    pub fn below(&mut self, limit: u32) -> u32
+        requires { 0 < limit }
+    {
         self.state = self
             .state
             .wrapping_mul(1_664_525)
             .wrapping_add(1_013_904_223);
-        (self.state >> 16) % 18
+        (self.state >> 16) % limit
     }
 }

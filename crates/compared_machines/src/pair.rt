@@ -30,10 +30,10 @@ fn config_of(model: Model) -> Config {
     }
 }
 
-fn image(alloc: Global) -> Result<Image> {
+pub fn image_of(alloc: Global, words: &[u32]) -> Result<Image> {
     let size = size_of_kib(4).context("a memory size")?;
     let mut bytes = Vec::new(alloc);
-    for word in PROGRAM {
+    for word in words {
         bytes.extend_from_slice(&word.to_le_bytes())?;
     }
     match raw(alloc, &bytes, size) {
@@ -51,10 +51,10 @@ pub struct Pair {
 impl Pair {
     pub fn at_reset(alloc: Global, model: Model) -> Result<Pair> {
         let config = config_of(model);
-        let plain = PlainMachine::new(alloc, image(alloc)?, config)?;
+        let plain = PlainMachine::new(alloc, image_of(alloc, &PROGRAM)?, config)?;
         Ok(Pair {
             plain: plain.context("a configuration")?,
-            coherent: Machine::new(alloc, image(alloc)?, config)?,
+            coherent: Machine::new(alloc, image_of(alloc, &PROGRAM)?, config)?,
         })
     }
 

@@ -22,9 +22,10 @@ pub(crate) struct Store {
 
 /// What the stores of one group to one word leave.
 #[derive(Debug, Drop)]
-pub(crate) struct Entry {
+pub struct Entry {
     pub word: u32,
-    pub mask: Marks,
+    /// Which bytes of the word they wrote, the one at its address first.
+    pub mask: [bool; 4],
     pub bytes: [u8; 4],
     /// The stores' places in the hart's list, in program order.
     pub ops: Vec<u32>,
@@ -81,6 +82,14 @@ impl Groups {
 
     pub fn is_empty(&self) -> bool {
         self.sealed.is_empty() && self.current.is_empty()
+    }
+
+    /// Each group's entries, the oldest group first and the open one last.
+    pub fn group(&self, index: usize) -> Option<&[Entry]> {
+        if index == self.sealed.len() {
+            return Some(&self.current);
+        }
+        self.sealed.get(index).map(|group| group.as_slice())
     }
 
     fn entry_count(&self) -> usize {

@@ -1,6 +1,7 @@
 //! What every event means, as a plain and slow program over lists, to compare machines with. Each function
 //! is named as the definition of the event meaning that it follows, and shares nothing with the parts that
-//! a machine is built of: only instructions, images, messages and traces are theirs too.
+//! a machine is built of: only instructions, images, messages and traces are theirs too. Beside it stands
+//! the flat meaning as such a program.
 #![tactic(auto)]
 
 mod buffer;
@@ -9,6 +10,7 @@ mod changing;
 mod deciding;
 mod deliveries;
 mod events;
+mod flat;
 mod notes;
 mod queues;
 mod state;
@@ -16,7 +18,9 @@ mod steps;
 mod views;
 mod words;
 
+pub use buffer::Entry;
 pub use events::Refusal;
+pub use flat::{FlatMachine, FlatView, Variant};
 pub use notes::Transaction;
 pub use state::PlainMachine;
 pub use views::NodeView;

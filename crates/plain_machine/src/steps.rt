@@ -1,5 +1,6 @@
 //! What a hart's next instruction comes to: each check in its order, and then the act.
 
+use crate::buffer::Groups;
 use crate::deciding::{Act, Deed, Plan, reading, writing};
 use crate::state::Node;
 use crate::words::{
@@ -16,10 +17,25 @@ use rv32_exec::{Plan as Access, Regs, Width, finish, plan, stop};
 /// An instruction that a hart is about to retire.
 #[derive(Clone, Copy, Debug)]
 pub(crate) struct Fetched {
-    word: u32,
-    instr: Instr,
+    pub word: u32,
+    pub instr: Instr,
     /// How many instructions stand before it in the hart's list.
-    place: u32,
+    pub place: u32,
+}
+
+/// What stands in the hart's list where it retires.
+pub(crate) fn entry_of(
+    hart: &Hart,
+    fetched: &Fetched,
+    loaded: Option<u32>,
+    sc_ok: Option<bool>,
+) -> Retired {
+    Retired {
+        pc: hart.pc,
+        word: fetched.word,
+        loaded,
+        sc_ok,
+    }
 }
 
 fn retires(
@@ -30,12 +46,7 @@ fn retires(
     deed: Deed,
 ) -> Plan {
     Plan::Changes(Act::Retire {
-        entry: Retired {
-            pc: node.hart.pc,
-            word: fetched.word,
-            loaded,
-            sc_ok,
-        },
+        entry: entry_of(&node.hart, fetched, loaded, sc_ok),
         instr: fetched.instr,
         deed,
     })
@@ -75,20 +86,20 @@ fn has_release(instr: &Instr) -> bool {
 }
 
 /// A release bit waits for all stores, and each access for those to its own word.
-fn waits_for_stores(node: &Node, instr: &Instr, word: u32) -> bool {
-    (has_release(instr) && !node.buffer.is_empty()) || node.buffer.has(word)
+pub(crate) fn waits_for_stores(buffer: &Groups, instr: &Instr, word: u32) -> bool {
+    (has_release(instr) && !buffer.is_empty()) || buffer.has(word)
 }
 
 /// A write that is performed at once passes no sealed group, and under Ztso no store.
-fn write_waits(model: Model, node: &Node, instr: &Instr, word: u32) -> bool {
+pub(crate) fn write_waits(model: Model, buffer: &Groups, instr: &Instr, word: u32) -> bool {
     match model {
-        Model::Rvwmo => waits_for_stores(node, instr, word) || node.buffer.has_sealed(),
-        Model::Ztso => !node.buffer.is_empty(),
+        Model::Rvwmo => waits_for_stores(buffer, instr, word) || buffer.has_sealed(),
+        Model::Ztso => !buffer.is_empty(),
     }
 }
 
 fn plan_reserve(node: &Node, fetched: &Fetched, address: u32) -> Plan {
-    if waits_for_stores(node, &fetched.instr, address) {
+    if waits_for_stores(&node.buffer, &fetched.instr, address) {
         return Plan::Stays(Outcome::MustDrain);
     }
     match writing(&node.cache, line_of(node.cache.size, address)) {
@@ -111,7 +122,7 @@ fn plan_conditional(
     if node.reserved != Some(address) {
         return retires(node, fetched, None, Some(false), Deed::Fail);
     }
-    if write_waits(model, node, &fetched.instr, address) {
+    if write_waits(model, &node.buffer, &fetched.instr, address) {
         return Plan::Stays(Outcome::MustDrain);
     }
     let deed = Deed::Conditional {
@@ -129,7 +140,7 @@ fn plan_amo(
     op: AmoOp,
     operand: u32,
 ) -> Plan {
-    if write_waits(model, node, &fetched.instr, address) {
+    if write_waits(model, &node.buffer, &fetched.instr, address) {
         return Plan::Stays(Outcome::MustDrain);
     }
     match writing(&node.cache, line_of(node.cache.size, address)) {
@@ -160,19 +171,25 @@ fn orders_after_stores(instr: &Instr) -> (bool, bool) {
     }
 }
 
-/// One that orders stores before loads waits until no store waits; one that orders stores before stores
-/// closes the open group.
-fn plan_fence(node: &Node, fetched: &Fetched) -> Plan {
-    let (before_loads, before_stores) = orders_after_stores(&fetched.instr);
-    if before_loads && !node.buffer.is_empty() {
-        return Plan::Stays(Outcome::MustDrain);
+/// What a fence does; none where it has to wait. One that orders stores before loads waits until no store
+/// waits; one that orders stores before stores closes the open group.
+pub(crate) fn fence_deed(buffer: &Groups, instr: &Instr) -> Option<Deed> {
+    let (before_loads, before_stores) = orders_after_stores(instr);
+    if before_loads && !buffer.is_empty() {
+        return None;
     }
-    let deed = if before_stores {
+    Some(if before_stores {
         Deed::Seal
     } else {
         Deed::Alone
-    };
-    retires(node, fetched, None, None, deed)
+    })
+}
+
+fn plan_fence(node: &Node, fetched: &Fetched) -> Plan {
+    match fence_deed(&node.buffer, &fetched.instr) {
+        Some(deed) => retires(node, fetched, None, None, deed),
+        None => Plan::Stays(Outcome::MustDrain),
+    }
 }
 
 /// The number of an environment call, and its argument.
@@ -181,36 +198,37 @@ fn call_of(regs: &Regs) -> (u32, u32) {
 }
 
 /// 0 ends the hart, 1 puts a number out.
-fn plan_call(node: &Node, fetched: &Fetched) -> Plan {
-    let (number, argument) = call_of(&node.hart.regs);
-    let deed = if number == 0 {
+pub(crate) fn call_deed(regs: &Regs) -> Deed {
+    let (number, argument) = call_of(regs);
+    if number == 0 {
         Deed::Alone
     } else {
         Deed::Output(argument)
+    }
+}
+
+/// A running hart's next instruction and what it will do; or the code with which the hart stops before it.
+pub(crate) fn next_access(image: &Image, hart: &Hart, place: u32) -> Result<(Fetched, Access), u8> {
+    if !image.has_word(hart.pc) {
+        return Err(stop::FETCH_OUTSIDE);
+    }
+    let word = image.word(hart.pc);
+    let Some(instr) = decode(word) else {
+        return Err(stop::ILLEGAL);
     };
-    retires(node, fetched, None, None, deed)
+    let access = plan(&instr, hart.pc, &hart.regs, image.size());
+    Ok((Fetched { word, instr, place }, access))
 }
 
 /// The hart has to run; then come the stops.
 pub(crate) fn plan_step(model: Model, image: &Image, node: &Node) -> Plan {
-    let hart = &node.hart;
-    if !hart.status.is_running() {
+    if !node.hart.status.is_running() {
         return Plan::Stays(Outcome::Halted);
     }
-    if !image.has_word(hart.pc) {
-        return Plan::Changes(Act::Stop(stop::FETCH_OUTSIDE));
+    match next_access(image, &node.hart, node.place()) {
+        Ok((fetched, access)) => plan_access(model, node, &fetched, access),
+        Err(code) => Plan::Changes(Act::Stop(code)),
     }
-    let word = image.word(hart.pc);
-    let Some(instr) = decode(word) else {
-        return Plan::Changes(Act::Stop(stop::ILLEGAL));
-    };
-    let fetched = Fetched {
-        word,
-        instr,
-        place: node.place(),
-    };
-    let access = plan(&instr, hart.pc, &hart.regs, image.size());
-    plan_access(model, node, &fetched, access)
 }
 
 fn plan_access(model: Model, node: &Node, fetched: &Fetched, access: Access) -> Plan {
@@ -222,7 +240,7 @@ fn plan_access(model: Model, node: &Node, fetched: &Fetched, access: Access) -> 
         Access::Sc { addr, value } => plan_conditional(model, node, fetched, addr, value),
         Access::Amo { addr, op, operand } => plan_amo(model, node, fetched, addr, op, operand),
         Access::Fence => plan_fence(node, fetched),
-        Access::Call => plan_call(node, fetched),
+        Access::Call => retires(node, fetched, None, None, call_deed(&node.hart.regs)),
         Access::Stop(code) => Plan::Changes(Act::Stop(code)),
     }
 }

@@ -2,18 +2,22 @@
 //! and with the program's command line, and compares the outcome of each event, the trace and the harts'
 //! ends with the kept texts, which other implementations of the same rules have printed; those of cases
 //! named by words are written by hand. A line of the file `cases` has a case's name, the kind of its image
-//! and its memory model.
+//! and its memory model. Each case is played with the plain flat machine beside the machine, too, and each
+//! wrong variant of the flat machine is refuted by a script.
 #![tactic(auto)]
 
+mod flat;
 mod machines;
 mod play;
 
 use anyhow::{Result, bail, ensure};
 use coherent_machine::Machine;
 use command_line::{SystemFiles, run_line};
+use flat::{Kept, Shown, WRONG, play_beside};
+use flat_lockstep::{Counts, Failures};
 use machine_model::Model;
 use machines::Playable;
-use plain_machine::PlainMachine;
+use plain_machine::{PlainMachine, Variant};
 use play::{ImageKind, Played, play};
 use std::alloc::Global;
 use std::rt::Files;
@@ -211,9 +215,56 @@ impl fmt::Display for Differences {
     }
 }
 
+/// What a flat machine makes of a case.
+fn shown_case<R: Files + AllocGlobal>(
+    rt: &R,
+    case: &Case<'_>,
+    variant: Variant,
+    failures: Failures,
+) -> Result<Shown> {
+    let image = fs::read(rt, image_path(rt.alloc(), case)?.as_str())?;
+    let script = kept(rt, case, "script")?;
+    let kept = Kept {
+        kind: case.kind,
+        image: &image,
+        script: &script,
+        model: case.model,
+    };
+    play_beside(rt.alloc(), kept, variant, failures)
+}
+
+/// The flat machine shows each event of a case.
+fn flat_counts<R: Files + AllocGlobal>(rt: &R, case: &Case<'_>) -> Result<Counts> {
+    match shown_case(rt, case, Variant::Right, Failures::Follow)? {
+        Shown::Whole(counts) => Ok(counts),
+        Shown::Until(event, difference) => {
+            let name = case.name;
+            bail!("{name}: flat machine: {difference} behind event {event}")
+        }
+    }
+}
+
+/// The flat machine shows each event of the wrong variant's script, and the wrong variant doesn't.
+fn refutation<R: Files + AllocGlobal>(rt: &R, name: &str, variant: Variant) -> Result<Shown> {
+    let case = Case {
+        name,
+        kind: ImageKind::Raw,
+        model: Model::Rvwmo,
+    };
+    let right = shown_case(rt, &case, Variant::Right, Failures::Decide)?;
+    ensure!(matches!(right, Shown::Whole(_)), "{name}: {right}");
+    let wrong = shown_case(rt, &case, variant, Failures::Decide)?;
+    ensure!(
+        matches!(wrong, Shown::Until(_, _)),
+        "{name}: the wrong variant isn't refuted"
+    );
+    Ok(wrong)
+}
+
 fn main(rt: HostRuntime) -> Result<()> {
     let cases = fs::read_to_string(&rt, "cases")?;
     let mut all_kept = true;
+    let mut all_counts = Counts::nothing();
     for line in cases.as_str().lines() {
         let Some(case) = case_of(line) else {
             bail!("no case: {line}");
@@ -222,6 +273,12 @@ fn main(rt: HostRuntime) -> Result<()> {
         let name = case.name;
         println!(rt; "{name}: {differences}")?;
         all_kept = all_kept && differences.is_as_kept();
+        all_counts = all_counts.and(flat_counts(&rt, &case)?);
+    }
+    println!(rt; "flat: {all_counts}")?;
+    for (name, variant) in WRONG {
+        let wrong = refutation(&rt, name, variant)?;
+        println!(rt; "flat, {name}: {wrong}")?;
     }
     ensure!(all_kept, "a case differs");
     Ok(())

@@ -26,7 +26,7 @@ pub struct Played {
     pub ends: Vec<u8>,
 }
 
-fn image_of(alloc: Global, kind: ImageKind, bytes: &[u8], kib: u32) -> Result<Image> {
+pub fn image_of(alloc: Global, kind: ImageKind, bytes: &[u8], kib: u32) -> Result<Image> {
     let size = size_of_kib(kib).context("a memory size")?;
     let image = match kind {
         ImageKind::Raw => raw(alloc, bytes, size),
@@ -38,7 +38,7 @@ fn image_of(alloc: Global, kind: ImageKind, bytes: &[u8], kib: u32) -> Result<Im
     }
 }
 
-fn config_of(script: &Script, model: Model) -> Config {
+pub fn config_of(script: &Script, model: Model) -> Config {
     Config {
         harts: script.harts,
         sets: script.sets,

@@ -1,0 +1,57 @@
+//! What can be asked of a flat machine, to compare a machine with it.
+
+use crate::buffer::Entry;
+use crate::flat::machine::{FlatMachine, FlatNode};
+use hart::{Hart, Retired};
+use trace_recorder::OpId;
+
+/// What belongs to one hart of a flat machine.
+#[derive(Clone, Copy, Debug)]
+pub struct FlatView<'a> {
+    node: &'a FlatNode,
+}
+
+impl<'a> FlatView<'a> {
+    /// The hart as it stands.
+    pub fn hart(&self) -> &'a Hart {
+        &self.node.hart
+    }
+
+    /// What the hart has retired.
+    pub fn entries(&self) -> &'a [Retired] {
+        &self.node.entries
+    }
+
+    /// The numbers that the hart put out, the first one first.
+    pub fn output(&self) -> &'a [u32] {
+        &self.node.output
+    }
+
+    /// The word that the hart has reserved.
+    pub fn reserved(&self) -> Option<u32> {
+        self.node.reserved
+    }
+
+    /// A group of stores that wait, counted from the oldest; the last is the open one.
+    pub fn group(&self, index: usize) -> Option<&'a [Entry]> {
+        self.node.buffer.group(index)
+    }
+}
+
+impl FlatMachine {
+    /// What belongs to a hart; none where there is no such hart.
+    pub fn node(&self, hart: usize) -> Option<FlatView<'_>> {
+        let node = self.nodes.get(hart)?;
+        Some(FlatView { node })
+    }
+
+    /// Memory's bytes, the one at 0x80000000 first.
+    pub fn memory(&self) -> &[u8] {
+        &self.memory
+    }
+
+    /// The performed operations, the first one first.
+    pub fn performed(&self) -> &[OpId] {
+        &self.performed
+    }
+}
