@@ -4,6 +4,8 @@ use Rattle.std.specs.Fmt.{digit_glyph}
 use Rattle.rv32_decode.specs.Fields.{bits_of}
 use Rattle.rv32_decode.specs.declared.instruction.Annotations.{Annotations}
 use Rattle.text_fields.specs.Fields.{word}
+use Rattle.assembly.specs.declared.operands.Operand.{Operand}
+use Rattle.assembly.specs.declared.operands.Operand.TheVariants.{Register, Signed, Amount, Target}
 
 -- the names of x0 to x31 in the calling convention (chapter 25, "RISC-V Assembly Programmer's Handbook")
 abbrev pub registers : List (List ℕ)
@@ -36,6 +38,13 @@ distance n = if nat_lt n (2 ^ 31) then codes ".+" ++ decimal n else codes ".-" +
 abbrev pub target : Option ℕ → ℕ → List ℕ
 target (Some pc) offset = word ((pc + offset) % 2 ^ 32)
 target None offset = distance offset
+
+-- the last operand of an instruction that has two or three
+abbrev pub text_of : Operand → List ℕ
+text_of (Register r) = register r
+text_of (Signed n) = signed n
+text_of (Amount n) = decimal n
+text_of (Target pc offset) = target pc offset
 
 -- the last hexadecimal digit of a number
 abbrev pub hex_digit_of : ℕ → ℕ

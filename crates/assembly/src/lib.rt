@@ -5,7 +5,7 @@ mod mnemonics;
 mod operands;
 mod writing;
 
-pub use writing::write_assembly;
+pub use writing::spell_assembly;
 
 #[cfg(test)]
 mod tests;

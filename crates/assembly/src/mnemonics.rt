@@ -1,126 +1,133 @@
 //! The names of the instructions.
-ghost use Rattle.std.specs.Prelude.{◌≡◌};
-ghost use Rattle.text_fields.specs.Writing.{piece};
+ghost use Rattle.std.specs.Prelude.{◌≡◌, ◌≤◌, length};
 ghost use Rattle.assembly.specs.Mnemonics as name;
 
 use rv32_decode::{
     AmoOp, BranchOp, ImmediateOp, LoadOp, RegisterOp, ShiftOp, StoreOp, SystemOp, UpperOp,
 };
-use text_fields::Piece;
 
-pub(crate) fn upper_name(op: UpperOp) -> Piece<'static>
-    ensures { piece result ≡ name.upper op }
+pub(crate) fn upper_name(op: UpperOp) -> &'static [u8]
+    ensures value { result.now ≡ name.upper op }
+    ensures len { length result.now ≤ 9 }
 {
     match op {
-        UpperOp::Lui => Piece::Text(b"lui"),
-        UpperOp::Auipc => Piece::Text(b"auipc"),
+        UpperOp::Lui => b"lui",
+        UpperOp::Auipc => b"auipc",
     }
 }
 
-pub(crate) fn branch_name(op: BranchOp) -> Piece<'static>
-    ensures { piece result ≡ name.branch op }
+pub(crate) fn branch_name(op: BranchOp) -> &'static [u8]
+    ensures value { result.now ≡ name.branch op }
+    ensures len { length result.now ≤ 9 }
 {
     match op {
-        BranchOp::Beq => Piece::Text(b"beq"),
-        BranchOp::Bne => Piece::Text(b"bne"),
-        BranchOp::Blt => Piece::Text(b"blt"),
-        BranchOp::Bge => Piece::Text(b"bge"),
-        BranchOp::Bltu => Piece::Text(b"bltu"),
-        BranchOp::Bgeu => Piece::Text(b"bgeu"),
+        BranchOp::Beq => b"beq",
+        BranchOp::Bne => b"bne",
+        BranchOp::Blt => b"blt",
+        BranchOp::Bge => b"bge",
+        BranchOp::Bltu => b"bltu",
+        BranchOp::Bgeu => b"bgeu",
     }
 }
 
-pub(crate) fn load_name(op: LoadOp) -> Piece<'static>
-    ensures { piece result ≡ name.load op }
+pub(crate) fn load_name(op: LoadOp) -> &'static [u8]
+    ensures value { result.now ≡ name.load op }
+    ensures len { length result.now ≤ 9 }
 {
     match op {
-        LoadOp::Lb => Piece::Text(b"lb"),
-        LoadOp::Lh => Piece::Text(b"lh"),
-        LoadOp::Lw => Piece::Text(b"lw"),
-        LoadOp::Lbu => Piece::Text(b"lbu"),
-        LoadOp::Lhu => Piece::Text(b"lhu"),
+        LoadOp::Lb => b"lb",
+        LoadOp::Lh => b"lh",
+        LoadOp::Lw => b"lw",
+        LoadOp::Lbu => b"lbu",
+        LoadOp::Lhu => b"lhu",
     }
 }
 
-pub(crate) fn store_name(op: StoreOp) -> Piece<'static>
-    ensures { piece result ≡ name.store op }
+pub(crate) fn store_name(op: StoreOp) -> &'static [u8]
+    ensures value { result.now ≡ name.store op }
+    ensures len { length result.now ≤ 9 }
 {
     match op {
-        StoreOp::Sb => Piece::Text(b"sb"),
-        StoreOp::Sh => Piece::Text(b"sh"),
-        StoreOp::Sw => Piece::Text(b"sw"),
+        StoreOp::Sb => b"sb",
+        StoreOp::Sh => b"sh",
+        StoreOp::Sw => b"sw",
     }
 }
 
-pub(crate) fn immediate_name(op: ImmediateOp) -> Piece<'static>
-    ensures { piece result ≡ name.immediate op }
+pub(crate) fn immediate_name(op: ImmediateOp) -> &'static [u8]
+    ensures value { result.now ≡ name.immediate op }
+    ensures len { length result.now ≤ 9 }
 {
     match op {
-        ImmediateOp::Addi => Piece::Text(b"addi"),
-        ImmediateOp::Slti => Piece::Text(b"slti"),
-        ImmediateOp::Sltiu => Piece::Text(b"sltiu"),
-        ImmediateOp::Xori => Piece::Text(b"xori"),
-        ImmediateOp::Ori => Piece::Text(b"ori"),
-        ImmediateOp::Andi => Piece::Text(b"andi"),
+        ImmediateOp::Addi => b"addi",
+        ImmediateOp::Slti => b"slti",
+        ImmediateOp::Sltiu => b"sltiu",
+        ImmediateOp::Xori => b"xori",
+        ImmediateOp::Ori => b"ori",
+        ImmediateOp::Andi => b"andi",
     }
 }
 
-pub(crate) fn shift_name(op: ShiftOp) -> Piece<'static>
-    ensures { piece result ≡ name.shift op }
+pub(crate) fn shift_name(op: ShiftOp) -> &'static [u8]
+    ensures value { result.now ≡ name.shift op }
+    ensures len { length result.now ≤ 9 }
 {
     match op {
-        ShiftOp::Slli => Piece::Text(b"slli"),
-        ShiftOp::Srli => Piece::Text(b"srli"),
-        ShiftOp::Srai => Piece::Text(b"srai"),
+        ShiftOp::Slli => b"slli",
+        ShiftOp::Srli => b"srli",
+        ShiftOp::Srai => b"srai",
     }
 }
 
-pub(crate) fn register_name(op: RegisterOp) -> Piece<'static>
-    ensures { piece result ≡ name.register op }
+pub(crate) fn register_name(op: RegisterOp) -> &'static [u8]
+    ensures value { result.now ≡ name.register op }
+    ensures len { length result.now ≤ 9 }
 {
     match op {
-        RegisterOp::Add => Piece::Text(b"add"),
-        RegisterOp::Sub => Piece::Text(b"sub"),
-        RegisterOp::Sll => Piece::Text(b"sll"),
-        RegisterOp::Slt => Piece::Text(b"slt"),
-        RegisterOp::Sltu => Piece::Text(b"sltu"),
-        RegisterOp::Xor => Piece::Text(b"xor"),
-        RegisterOp::Srl => Piece::Text(b"srl"),
-        RegisterOp::Sra => Piece::Text(b"sra"),
-        RegisterOp::Or => Piece::Text(b"or"),
-        RegisterOp::And => Piece::Text(b"and"),
-        RegisterOp::Mul => Piece::Text(b"mul"),
-        RegisterOp::Mulh => Piece::Text(b"mulh"),
-        RegisterOp::Mulhsu => Piece::Text(b"mulhsu"),
-        RegisterOp::Mulhu => Piece::Text(b"mulhu"),
-        RegisterOp::Div => Piece::Text(b"div"),
-        RegisterOp::Divu => Piece::Text(b"divu"),
-        RegisterOp::Rem => Piece::Text(b"rem"),
-        RegisterOp::Remu => Piece::Text(b"remu"),
+        RegisterOp::Add => b"add",
+        RegisterOp::Sub => b"sub",
+        RegisterOp::Sll => b"sll",
+        RegisterOp::Slt => b"slt",
+        RegisterOp::Sltu => b"sltu",
+        RegisterOp::Xor => b"xor",
+        RegisterOp::Srl => b"srl",
+        RegisterOp::Sra => b"sra",
+        RegisterOp::Or => b"or",
+        RegisterOp::And => b"and",
+        RegisterOp::Mul => b"mul",
+        RegisterOp::Mulh => b"mulh",
+        RegisterOp::Mulhsu => b"mulhsu",
+        RegisterOp::Mulhu => b"mulhu",
+        RegisterOp::Div => b"div",
+        RegisterOp::Divu => b"divu",
+        RegisterOp::Rem => b"rem",
+        RegisterOp::Remu => b"remu",
     }
 }
 
-pub(crate) fn system_name(op: SystemOp) -> Piece<'static>
-    ensures { piece result ≡ name.system op }
+pub(crate) fn system_name(op: SystemOp) -> &'static [u8]
+    ensures value { result.now ≡ name.system op }
+    ensures len { length result.now ≤ 9 }
 {
     match op {
-        SystemOp::Ecall => Piece::Text(b"ecall"),
-        SystemOp::Ebreak => Piece::Text(b"ebreak"),
+        SystemOp::Ecall => b"ecall",
+        SystemOp::Ebreak => b"ebreak",
     }
 }
 
-pub(crate) fn amo_name(op: AmoOp) -> Piece<'static>
-    ensures { piece result ≡ name.amo op }
+pub(crate) fn amo_name(op: AmoOp) -> &'static [u8]
+    ensures value { result.now ≡ name.amo op }
+    ensures len { length result.now ≤ 9 }
 {
     match op {
-        AmoOp::Swap => Piece::Text(b"amoswap.w"),
-        AmoOp::Add => Piece::Text(b"amoadd.w"),
-        AmoOp::Xor => Piece::Text(b"amoxor.w"),
-        AmoOp::And => Piece::Text(b"amoand.w"),
-        AmoOp::Or => Piece::Text(b"amoor.w"),
-        AmoOp::Min => Piece::Text(b"amomin.w"),
-        AmoOp::Max => Piece::Text(b"amomax.w"),
-        AmoOp::Minu => Piece::Text(b"amominu.w"),
-        AmoOp::Maxu => Piece::Text(b"amomaxu.w"),
+        AmoOp::Swap => b"amoswap.w",
+        AmoOp::Add => b"amoadd.w",
+        AmoOp::Xor => b"amoxor.w",
+        AmoOp::And => b"amoand.w",
+        AmoOp::Or => b"amoor.w",
+        AmoOp::Min => b"amomin.w",
+        AmoOp::Max => b"amomax.w",
+        AmoOp::Minu => b"amominu.w",
+        AmoOp::Maxu => b"amomaxu.w",
     }
 }

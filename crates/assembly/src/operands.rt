@@ -1,11 +1,23 @@
 //! What an instruction works on, in an assembler's spelling.
-ghost use Rattle.std.specs.Prelude.{◌≡◌, ◌<◌, ◌++◌, [], ◌∷◌, length};
-ghost use Rattle.text_fields.specs.Writing.{piece};
+ghost use Rattle.std.specs.Prelude.{◌≡◌, ◌<◌, ◌≤◌, ◌+◌, ◌++◌, [], ◌∷◌, length};
+ghost use Rattle.text_fields.specs.Pages.{size};
 ghost use Rattle.assembly.specs.Operands as operand;
 
 use bitflags::Flags;
 use rv32_decode::{Annotations, FenceSet, Register};
-use text_fields::Piece;
+use text_fields::Page;
+
+/// The last operand of an instruction that has two or three.
+#[derive(Clone, Copy)]
+pub(crate) enum Operand {
+    Register(Register),
+    /// A number modulo 2^32, read as signed.
+    Signed(u32),
+    /// By how many places a shift moves.
+    Amount(u32),
+    /// Where a jump leads: the instruction's own address, where it is known, and the offset.
+    Target(Option<u32>, u32),
+}
 
 /// The names of x0 to x31 in the calling convention.
 const REGISTERS: [&[u8]; 32] = [
@@ -14,10 +26,11 @@ const REGISTERS: [&[u8]; 32] = [
     b"s10", b"s11", b"t3", b"t4", b"t5", b"t6",
 ];
 
-pub(crate) fn register(register: Register) -> Piece<'static>
-    ensures { piece result ≡ operand.register register }
+pub(crate) fn register(register: Register) -> &'static [u8]
+    ensures value { result.now ≡ operand.register register }
+    ensures len { length result.now ≤ 4 }
 {
-    Piece::Text(REGISTERS[register.number() as usize])
+    REGISTERS[register.number() as usize]
 }
 
 /// The letters of the sixteen sets, by the set's bits.
@@ -26,44 +39,70 @@ const ACCESSES: [&[u8]; 16] = [
     b"ior", b"iorw",
 ];
 
-pub(crate) fn accesses(set: FenceSet) -> Piece<'static>
+pub(crate) fn accesses(set: FenceSet) -> &'static [u8]
     requires { set.0 < 16 }
-    ensures { piece result ≡ operand.accesses set.0 }
+    ensures value { result.now ≡ operand.accesses set.0 }
+    ensures len { length result.now ≤ 4 }
 {
-    Piece::Text(ACCESSES[set.bits() as usize])
+    ACCESSES[set.bits() as usize]
 }
 
 /// The bits aq and rl.
-pub(crate) fn suffix(bits: Annotations) -> Piece<'static>
-    ensures { piece result ≡ operand.suffix bits }
+pub(crate) fn suffix(bits: Annotations) -> &'static [u8]
+    ensures value { result.now ≡ operand.suffix bits }
+    ensures len { length result.now ≤ 5 }
 {
     match (bits.acquire, bits.release) {
-        (false, false) => Piece::Text(b""),
-        (true, false) => Piece::Text(b".aq"),
-        (false, true) => Piece::Text(b".rl"),
-        (true, true) => Piece::Text(b".aqrl"),
+        (false, false) => b"",
+        (true, false) => b".aq",
+        (false, true) => b".rl",
+        (true, true) => b".aqrl",
     }
 }
 
 /// A number modulo 2^32, read as signed: its sign and its amount.
-pub(crate) fn signed(number: u32) -> (Piece<'static>, Piece<'static>)
-    ensures { piece result.0 ++ piece result.1 ≡ operand.signed number }
+pub(crate) fn spell_signed(page: &mut Page, number: u32)
+    requires { length page.old + 21 ≤ size }
+    ensures value { page.new ≡ page.old ++ operand.signed number }
+    ensures len { length page.new ≤ length page.old + 21 }
 {
     if number < 1 << 31 {
-        (Piece::Text(b""), Piece::Number(number as u64))
+        page.decimal(number as u64);
     } else {
-        (Piece::Text(b"-"), Piece::Number((1 << 32) - number as u64))
+        page.text(b"-");
+        page.decimal((1 << 32) - number as u64);
     }
 }
 
 /// Where a jump leads.
-pub(crate) fn target(pc: Option<u32>, offset: u32) -> (Piece<'static>, Piece<'static>)
-    ensures { piece result.0 ++ piece result.1 ≡ operand.target pc offset }
+fn spell_target(page: &mut Page, pc: Option<u32>, offset: u32)
+    requires { length page.old + 22 ≤ size }
+    ensures value { page.new ≡ page.old ++ operand.target pc offset }
+    ensures len { length page.new ≤ length page.old + 22 }
 {
     match pc {
-        Some(pc) => (Piece::Text(b""), Piece::Word(pc.wrapping_add(offset))),
-        None if offset < 1 << 31 => (Piece::Text(b".+"), Piece::Number(offset as u64)),
-        None => (Piece::Text(b".-"), Piece::Number((1 << 32) - offset as u64)),
+        Some(pc) => page.word(pc.wrapping_add(offset)),
+        None if offset < 1 << 31 => {
+            page.text(b".+");
+            page.decimal(offset as u64);
+        }
+        None => {
+            page.text(b".-");
+            page.decimal((1 << 32) - offset as u64);
+        }
+    }
+}
+
+pub(crate) fn spell_operand(page: &mut Page, last: Operand)
+    requires { length page.old + 22 ≤ size }
+    ensures value { page.new ≡ page.old ++ operand.text_of last }
+    ensures len { length page.new ≤ length page.old + 22 }
+{
+    match last {
+        Operand::Register(name) => page.text(register(name)),
+        Operand::Signed(number) => spell_signed(page, number),
+        Operand::Amount(places) => page.decimal(places as u64),
+        Operand::Target(pc, offset) => spell_target(page, pc, offset),
     }
 }
 

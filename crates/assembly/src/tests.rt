@@ -1,8 +1,10 @@
 //! Words that the GNU assembler makes of the texts.
 
-use crate::write_assembly;
+use crate::spell_assembly;
 use rv32_decode::decode;
+use std::alloc::Global;
 use std::test::Fail;
+use text_fields::Page;
 
 /// Each text, and the word that `riscv64-unknown-elf-as -march=rv32ima -mabi=ilp32 -mno-relax` of
 /// binutils 2.40 makes of it.
@@ -104,13 +106,21 @@ const TARGETS: [(u32, u32, &str); 8] = [
     (0x8000_0038, 0x819c_7063, "bgeu s8, s9, 0x7ffff038"),
 ];
 
+/// The text of a word's instruction, one at this address if it is given.
+fn text_of(alloc: Global, word: u32, pc: Option<u32>) -> Result<Vec<u8>, Fail> {
+    let instr = decode(word).ok_or("no instruction")?;
+    let mut page = Page::new();
+    spell_assembly(&mut page, &instr, pc);
+    let mut out = Vec::new(alloc);
+    page.hand_on(&mut out)?;
+    Ok(out)
+}
+
 #[test]
 fn texts_are_what_the_assembler_reads(rt: HostRuntime) -> Result<(), Fail> {
     for (word, text) in ROWS {
-        let instr = decode(word).ok_or(text)?;
-        let mut out = Vec::new(rt.alloc());
-        write_assembly(&mut out, &instr, None)?;
-        assert_eq!(rt; out.as_slice(), text.as_bytes());
+        let spelled = text_of(rt.alloc(), word, None)?;
+        assert_eq!(rt; spelled.as_slice(), text.as_bytes());
     }
     Ok(())
 }
@@ -118,10 +128,8 @@ fn texts_are_what_the_assembler_reads(rt: HostRuntime) -> Result<(), Fail> {
 #[test]
 fn jumps_lead_where_the_disassembler_says(rt: HostRuntime) -> Result<(), Fail> {
     for (pc, word, text) in TARGETS {
-        let instr = decode(word).ok_or(text)?;
-        let mut out = Vec::new(rt.alloc());
-        write_assembly(&mut out, &instr, Some(pc))?;
-        assert_eq!(rt; out.as_slice(), text.as_bytes());
+        let spelled = text_of(rt.alloc(), word, Some(pc))?;
+        assert_eq!(rt; spelled.as_slice(), text.as_bytes());
     }
     Ok(())
 }
@@ -129,9 +137,7 @@ fn jumps_lead_where_the_disassembler_says(rt: HostRuntime) -> Result<(), Fail> {
 // The GNU assembler has no word for a set of no access; LLVM's reads 0.
 #[test]
 fn a_set_of_no_access_is_0(rt: HostRuntime) -> Result<(), Fail> {
-    let instr = decode(0x0010_000f).ok_or("a fence")?;
-    let mut out = Vec::new(rt.alloc());
-    write_assembly(&mut out, &instr, None)?;
-    assert_eq!(rt; out.as_slice(), b"fence 0, w".as_slice());
+    let spelled = text_of(rt.alloc(), 0x0010_000f, None)?;
+    assert_eq!(rt; spelled.as_slice(), b"fence 0, w".as_slice());
     Ok(())
 }

@@ -23,7 +23,7 @@ use Rattle.clap.specs.declared.builder.value_parser.ValueParser.TheVariants as p
 use Rattle.clap.specs.declared.error.kind.ErrorKind.{ErrorKind}
 use Rattle.clap.specs.declared.error.kind.ErrorKind.TheVariants as kind
 use Rattle.clap.specs.declared.parser.matches.ValueSource.{ValueSource}
-use Rattle.command_line.specs.Settings.{HasFlag, HasNumber, HasText, IsComplete, IsUsage, NamesModel, check_usage, file_argument, journal_option, least_limit, model_option, most_limit, most_size, number_option, raw_flag, replay_usage, run_usage, usage}
+use Rattle.command_line.specs.Settings.{HasFlag, HasNumber, HasText, IsComplete, IsUsage, NamesModel, check_usage, explain_usage, file_argument, flag, journal_option, least_limit, model_option, most_limit, most_size, number_option, raw_flag, replay_usage, run_usage, usage}
 use Rattle.memory_model.specs.declared.Model.TheVariants.{Rvwmo, Ztso}
 use Rattle.command_line.proofs.Walked.{Among, IsNoHelp, no_kinds, settles, walk_is_none, walks}
 
@@ -60,6 +60,10 @@ IsModelName v = (v ≡ codes "rvwmo") ⊎ (v ≡ codes "ztso")
 abbrev pub IsTruth : Text → Type 0
 IsTruth v = (v ≡ codes "true") ⊎ (v ≡ codes "false")
 
+-- a flag
+abbrev pub is_flag : Text → Bool
+is_flag id = bytes_eq id (codes "raw") || bytes_eq id (codes "strict")
+
 -- a number of a machine's size
 abbrev is_size : Text → Bool
 is_size id =
@@ -70,7 +74,7 @@ IsNumeric low high how v = (how ≡ AsWritten) × IsUnsignedIn low high v
 
 record Fine (id : Text) (how : Reading) (v : Text) : Type 0 where
   model : bytes_eq id (codes "model") ≡ true → IsModelName v
-  raw : bytes_eq id (codes "raw") ≡ true → (how ≡ AsWritten) × IsTruth v
+  flagged : is_flag id ≡ true → (how ≡ AsWritten) × IsTruth v
   size : is_size id ≡ true → IsNumeric 0 most_size how v
   limit : bytes_eq id (codes "limit") ≡ true → IsNumeric least_limit most_limit how v
 
@@ -227,12 +231,12 @@ has_text : (id : Text) (rows : List Row) → Good rows → is_given id rows ≡ 
 has_text id rows good given =
     let it = fine_at id rows good (given_has id rows given) in (it.0, it.2)
 
-has_flag : (rows : List Row) → Good rows → has_row (codes "raw") rows ≡ true → HasFlag (codes "raw") rows
-has_flag rows good has =
-    let it = fine_at (codes "raw") rows good has in
-    let raw = it.4.raw refl in
-    let is = as_written (codes "raw") rows it.1 it.0 it.3 raw.0 in
-    elim raw.1 [
+has_flag : (id : Text) (rows : List Row) → is_flag id ≡ true → Good rows → has_row id rows ≡ true → HasFlag id rows
+has_flag id rows is_one good has =
+    let it = fine_at id rows good has in
+    let truth = it.4.flagged is_one in
+    let is = as_written id rows it.1 it.0 it.3 truth.0 in
+    elim truth.1 [
       | inl on ↦ (true, is ∙ ap (λ t. Some t) on)
       | inr off ↦ (false, is ∙ ap (λ t. Some t) off)
     ]
@@ -242,8 +246,8 @@ has_flag rows good has =
 abbrev Keeps : Rule → Type 0
 Keeps a = (values : List Text) (rows : List Row) → use_fault false a values rows ≡ [] → Good rows → Good (used a values rows)
 
-abbrev raw_built : ℕ → Rule
-raw_built i = with_index i (filled raw_flag)
+abbrev flag_built : ℕ → Text → Rule
+flag_built i id = with_index i (filled (flag id))
 
 abbrev model_built : ℕ → Bor (List (Bor Text)) → Rule
 model_built i names = with_index i (filled (model_option names))
@@ -268,23 +272,29 @@ first_passes a v vs rows range none =
     let second = no_kinds (repeat_fault false a.id rows) (values_fault a (v ∷ vs)) first.1 in
     (no_kinds (value_kinds a.ignore_case (parser_of_value a.parser) v) (values_kinds a.ignore_case (parser_of_value a.parser) vs) second.1).0
 
-raw_fine : (v : Text) → IsTruth v → Fine (codes "raw") AsWritten v
-raw_fine v is = record {
-  model = not_so;
-  raw = λ _. (refl, is);
-  size = not_so;
-  limit = not_so;
+-- a name that stands for a flag alone
+record IsFlagId (id : Text) : Type 0 where
+  model : bytes_eq id (codes "model") ≡ false
+  size : is_size id ≡ false
+  limit : bytes_eq id (codes "limit") ≡ false
+
+flag_fine : (id v : Text) → IsFlagId id → IsTruth v → Fine id AsWritten v
+flag_fine id v plain is = record {
+  model = λ at. not_so (sym plain.model ∙ at);
+  flagged = λ _. (refl, is);
+  size = λ at. not_so (sym plain.size ∙ at);
+  limit = λ at. not_so (sym plain.limit ∙ at);
 }
 
-raw_keeps : (i : ℕ) → Keeps (raw_built i)
-raw_keeps i [] rows none good = values_good _ _ _ (codes "true") [] _ (raw_fine _ (inl refl)) (without_good _ rows good)
-raw_keeps i (v ∷ vs) rows none good =
-    let accepted = passed (bytes_eq v (codes "true") || bytes_eq v (codes "false")) _ (first_passes (raw_built i) v vs rows _ none) in
+flag_keeps : (i : ℕ) (id : Text) → IsFlagId id → Keeps (flag_built i id)
+flag_keeps i id plain [] rows none good = values_good _ _ _ (codes "true") [] _ (flag_fine id _ plain (inl refl)) (without_good _ rows good)
+flag_keeps i id plain (v ∷ vs) rows none good =
+    let accepted = passed (bytes_eq v (codes "true") || bytes_eq v (codes "false")) _ (first_passes (flag_built i id) v vs rows _ none) in
     let is : IsTruth v = elim (either_true (bytes_eq v (codes "true")) (bytes_eq v (codes "false")) accepted) [
       | inl is ↦ inl (same_bytes v (codes "true") is)
       | inr is ↦ inr (same_bytes v (codes "false") is)
     ] in
-    values_good _ _ _ v vs _ (raw_fine v is) (without_good _ rows good)
+    values_good _ _ _ v vs _ (flag_fine id v plain is) (without_good _ rows good)
 
 abbrev pub NamesModels : Bor (List (Bor Text)) → Type 0
 NamesModels names = map (λ name. name.now) names.now ≡ codes "rvwmo" ∷ codes "ztso" ∷ []
@@ -304,7 +314,7 @@ named_model names v are accepted =
 model_fine : (how : Reading) (v : Text) → IsModelName v → Fine (codes "model") how v
 model_fine how v named = record {
   model = λ _. named;
-  raw = not_so;
+  flagged = not_so;
   size = not_so;
   limit = not_so;
 }
@@ -320,10 +330,10 @@ model_keeps i names are (v ∷ vs) rows none good =
 abbrev IsBound : Text → ℕ → ℕ → Type 0
 IsBound id low high = (v : Text) → IsUnsignedIn low high v → Fine id AsWritten v
 
-size_bound : (id : Text) → bytes_eq id (codes "model") ≡ false → bytes_eq id (codes "raw") ≡ false → bytes_eq id (codes "limit") ≡ false → IsBound id 0 most_size
-size_bound id no_model no_raw no_limit v within = record {
+size_bound : (id : Text) → bytes_eq id (codes "model") ≡ false → is_flag id ≡ false → bytes_eq id (codes "limit") ≡ false → IsBound id 0 most_size
+size_bound id no_model no_flag no_limit v within = record {
   model = λ is. not_so (sym no_model ∙ is);
-  raw = λ is. not_so (sym no_raw ∙ is);
+  flagged = λ is. not_so (sym no_flag ∙ is);
   size = λ _. (refl, within);
   limit = λ is. not_so (sym no_limit ∙ is);
 }
@@ -331,7 +341,7 @@ size_bound id no_model no_raw no_limit v within = record {
 limit_bound : IsBound (codes "limit") least_limit most_limit
 limit_bound v within = record {
   model = not_so;
-  raw = not_so;
+  flagged = not_so;
   size = not_so;
   limit = λ _. (refl, within);
 }
@@ -346,14 +356,14 @@ number_keeps i id default low high bound (v ∷ vs) rows none good =
 -- a name that stands for a file alone
 record IsFileId (id : Text) : Type 0 where
   model : bytes_eq id (codes "model") ≡ false
-  raw : bytes_eq id (codes "raw") ≡ false
+  flagged : is_flag id ≡ false
   size : is_size id ≡ false
   limit : bytes_eq id (codes "limit") ≡ false
 
 file_fine : (id : Text) (how : Reading) (v : Text) → IsFileId id → Fine id how v
 file_fine id how v plain = record {
   model = λ is. not_so (sym plain.model ∙ is);
-  raw = λ is. not_so (sym plain.raw ∙ is);
+  flagged = λ is. not_so (sym plain.flagged ∙ is);
   size = λ is. not_so (sym plain.size ∙ is);
   limit = λ is. not_so (sym plain.limit ∙ is);
 }
@@ -367,7 +377,7 @@ journal_keeps : (i : ℕ) → Keeps (journal_built i)
 journal_keeps i [] rows none good =
     let bad : kind.InvalidValue ∷ [] ≡ [] = none in cc
 journal_keeps i (v ∷ vs) rows none good =
-    values_good _ _ _ v vs _ (file_fine (codes "journal") _ v (record { model = refl; raw = refl; size = refl; limit = refl })) (without_good _ rows good)
+    values_good _ _ _ v vs _ (file_fine (codes "journal") _ v (record { model = refl; flagged = refl; size = refl; limit = refl })) (without_good _ rows good)
 
 help_keeps : (i : ℕ) → Keeps (help_built i)
 help_keeps i values rows none good = good
@@ -427,10 +437,13 @@ level s words each fine no_override no_negation none =
     }
 
 abbrev above : Shape
-above = with_leaf_noted (marked_built (usage raw_flag raw_flag raw_flag).top)
+above = with_leaf_noted (marked_built (usage raw_flag raw_flag raw_flag raw_flag).top)
 
 abbrev replay_built : Bor (List (Bor Text)) → Shape
 replay_built names = built_leaf (inherited above (replay_usage (model_option names)).top)
+
+abbrev explain_built : Bor (List (Bor Text)) → Shape
+explain_built names = built_leaf (inherited above (explain_usage (model_option names)).top)
 
 abbrev run_built : Bor (List (Bor Text)) → Shape
 run_built names = built_leaf (inherited above (run_usage (model_option names)).top)
@@ -438,14 +451,23 @@ run_built names = built_leaf (inherited above (run_usage (model_option names)).t
 abbrev check_built : Bor (List (Bor Text)) → Shape
 check_built names = built_leaf (inherited above (check_usage (model_option names)).top)
 
+raw_id : IsFlagId (codes "raw")
+raw_id = record { model = refl; size = refl; limit = refl }
+
+strict_id : IsFlagId (codes "strict")
+strict_id = record { model = refl; size = refl; limit = refl }
+
 raw_default : Fine (codes "raw") AsWritten (codes "false")
-raw_default = raw_fine (codes "false") (inr refl)
+raw_default = flag_fine (codes "raw") (codes "false") raw_id (inr refl)
+
+strict_default : Fine (codes "strict") AsWritten (codes "false")
+strict_default = flag_fine (codes "strict") (codes "false") strict_id (inr refl)
 
 model_default : (how : Reading) → Fine (codes "model") how (codes "rvwmo")
 model_default how = model_fine how (codes "rvwmo") (inl refl)
 
-file_id : (id : Text) → bytes_eq id (codes "model") ≡ false → bytes_eq id (codes "raw") ≡ false → is_size id ≡ false → bytes_eq id (codes "limit") ≡ false → IsFileId id
-file_id id model raw size limit = record { model = model; raw = raw; size = size; limit = limit }
+file_id : (id : Text) → bytes_eq id (codes "model") ≡ false → is_flag id ≡ false → is_size id ≡ false → bytes_eq id (codes "limit") ≡ false → IsFileId id
+file_id id model flagged size limit = record { model = model; flagged = flagged; size = size; limit = limit }
 
 replay_whole : (names : Bor (List (Bor Text))) (words : List Text) → NamesModels names → level_fault (replay_built names) [] nothing_held words false [] ≡ []
     → IsComplete (codes "replay") (rows_after (replay_built names).rules [] words)
@@ -453,29 +475,51 @@ replay_whole names words are none =
     let s = replay_built names in
     let rows = rows_after s.rules [] words in
     let each : Each Keeps s.rules = (
-      raw_keeps 1,
+      flag_keeps 1 (codes "raw") raw_id,
       (model_keeps 1 names are, (file_keeps 1 (codes "IMAGE") (file_id _ refl refl refl refl), (file_keeps 2 (codes "SCRIPT") (file_id _ refl refl refl refl), (help_keeps 3, tt)))),
     ) in
     let it = level s words each (raw_default, (model_default _, (tt, (tt, (tt, tt))))) refl refl none in
     inl (
       refl,
       (
-        has_flag rows it.good (it.chosen (raw_built 1) (codes "false") [] (inl refl) refl),
+        has_flag (codes "raw") rows refl it.good (it.chosen (flag_built 1 (codes "raw")) (codes "false") [] (inl refl) refl),
         has_model rows it.good (it.chosen (model_built 1 names) (codes "rvwmo") [] (inr (inl refl)) refl),
         has_text (codes "IMAGE") rows it.good (it.given (file_built 1 (codes "IMAGE")) (inr (inr (inl refl))) refl),
         has_text (codes "SCRIPT") rows it.good (it.given (file_built 2 (codes "SCRIPT")) (inr (inr (inr (inl refl)))) refl),
       ),
     )
 
+explain_whole : (names : Bor (List (Bor Text))) (words : List Text) → NamesModels names → level_fault (explain_built names) [] nothing_held words false [] ≡ []
+    → IsComplete (codes "explain") (rows_after (explain_built names).rules [] words)
+explain_whole names words are none =
+    let s = explain_built names in
+    let rows = rows_after s.rules [] words in
+    let ends : Each Keeps (model_built 1 names ∷ file_built 1 (codes "IMAGE") ∷ file_built 2 (codes "SCRIPT") ∷ help_built 3 ∷ []) =
+    (model_keeps 1 names are, (file_keeps 1 (codes "IMAGE") (file_id _ refl refl refl refl), (file_keeps 2 (codes "SCRIPT") (file_id _ refl refl refl refl), (help_keeps 3, tt)))) in
+    let each : Each Keeps s.rules = (flag_keeps 1 (codes "raw") raw_id, (flag_keeps 1 (codes "strict") strict_id, ends)) in
+    let it = level s words each (raw_default, (strict_default, (model_default _, (tt, (tt, (tt, tt)))))) refl refl none in
+    inr (inl (
+      refl,
+      (
+        (
+          has_flag (codes "raw") rows refl it.good (it.chosen (flag_built 1 (codes "raw")) (codes "false") [] (inl refl) refl),
+          has_model rows it.good (it.chosen (model_built 1 names) (codes "rvwmo") [] (inr (inr (inl refl))) refl),
+          has_text (codes "IMAGE") rows it.good (it.given (file_built 1 (codes "IMAGE")) (inr (inr (inr (inl refl)))) refl),
+          has_text (codes "SCRIPT") rows it.good (it.given (file_built 2 (codes "SCRIPT")) (inr (inr (inr (inr (inl refl))))) refl),
+        ),
+        has_flag (codes "strict") rows refl it.good (it.chosen (flag_built 1 (codes "strict")) (codes "false") [] (inr (inl refl)) refl),
+      ),
+    ))
+
 abbrev size_built : Text → Text → Rule
 size_built id default = number_built 1 id default 0 most_size
 
-size_keeps : (id default : Text) → bytes_eq id (codes "model") ≡ false → bytes_eq id (codes "raw") ≡ false → bytes_eq id (codes "limit") ≡ false → Keeps (size_built id default)
-size_keeps id default no_model no_raw no_limit = number_keeps 1 id default 0 most_size (size_bound id no_model no_raw no_limit)
+size_keeps : (id default : Text) → bytes_eq id (codes "model") ≡ false → is_flag id ≡ false → bytes_eq id (codes "limit") ≡ false → Keeps (size_built id default)
+size_keeps id default no_model no_flag no_limit = number_keeps 1 id default 0 most_size (size_bound id no_model no_flag no_limit)
 
-size_default : (id default : Text) → bytes_eq id (codes "model") ≡ false → bytes_eq id (codes "raw") ≡ false → bytes_eq id (codes "limit") ≡ false
+size_default : (id default : Text) → bytes_eq id (codes "model") ≡ false → is_flag id ≡ false → bytes_eq id (codes "limit") ≡ false
     → accepts false (parser.Unsigned 0 most_size) default ≡ true → Fine id AsWritten default
-size_default id default no_model no_raw no_limit fits = size_bound id no_model no_raw no_limit default (accepts-Accepts false (parser.Unsigned 0 most_size) default fits)
+size_default id default no_model no_flag no_limit fits = size_bound id no_model no_flag no_limit default (accepts-Accepts false (parser.Unsigned 0 most_size) default fits)
 
 limit_default : Fine (codes "limit") AsWritten (codes "1000000")
 limit_default = limit_bound (codes "1000000") (accepts-Accepts false (parser.Unsigned least_limit most_limit) (codes "1000000") refl)
@@ -490,7 +534,7 @@ run_whole names words are none =
       (journal_keeps 1, (file_keeps 1 (codes "IMAGE") (file_id _ refl refl refl refl), (help_keeps 2, tt))),
     ) in
     let each : Each Keeps s.rules = (
-      raw_keeps 1,
+      flag_keeps 1 (codes "raw") raw_id,
       (
         size_keeps (codes "harts") (codes "1") refl refl refl,
         (
@@ -519,10 +563,10 @@ run_whole names words are none =
       ),
     ) in
     let it = level s words each fine refl refl none in
-    inr (inl (
+    inr (inr (inl (
       refl,
       record {
-        raw = has_flag rows it.good (it.chosen (raw_built 1) (codes "false") [] (inl refl) refl);
+        raw = has_flag (codes "raw") rows refl it.good (it.chosen (flag_built 1 (codes "raw")) (codes "false") [] (inl refl) refl);
         harts = has_size (codes "harts") rows refl it.good (it.chosen (size_built (codes "harts") (codes "1")) (codes "1") [] (inr (inl refl)) refl);
         memory = has_size (codes "memory") rows refl it.good (it.chosen (size_built (codes "memory") (codes "64")) (codes "64") [] (inr (inr (inl refl))) refl);
         sets = has_size (codes "sets") rows refl it.good (it.chosen (size_built (codes "sets") (codes "4")) (codes "4") [] (inr (inr (inr (inl refl)))) refl);
@@ -534,7 +578,7 @@ run_whole names words are none =
         journal = has_text (codes "journal") rows it.good (it.given (journal_built 1) (inr (inr (inr (inr (inr (inr (inr (inr (inl refl))))))))) refl);
         image = has_text (codes "IMAGE") rows it.good (it.given (file_built 1 (codes "IMAGE")) (inr (inr (inr (inr (inr (inr (inr (inr (inr (inl refl)))))))))) refl);
       },
-    ))
+    )))
 
 check_whole : (names : Bor (List (Bor Text))) (words : List Text) → NamesModels names → level_fault (check_built names) [] nothing_held words false [] ≡ []
     → IsComplete (codes "check") (rows_after (check_built names).rules [] words)
@@ -543,43 +587,47 @@ check_whole names words are none =
     let rows = rows_after s.rules [] words in
     let each : Each Keeps s.rules = (model_keeps 1 names are, (file_keeps 1 (codes "TRACE") (file_id _ refl refl refl refl), (help_keeps 2, tt))) in
     let it = level s words each (model_default _, (tt, (tt, tt))) refl refl none in
-    inr (inr (
+    inr (inr (inr (
       refl,
       (
         has_model rows it.good (it.chosen (model_built 1 names) (codes "rvwmo") [] (inl refl) refl),
         has_text (codes "TRACE") rows it.good (it.given (file_built 1 (codes "TRACE")) (inr (inl refl)) refl),
       ),
-    ))
+    )))
 
 -- ---- the whole usage
 
--- the models that the three subcommands' options name
-record Names3 : Type 0 where
+-- the models that the four subcommands' options name
+record Named : Type 0 where
   replay : Bor (List (Bor Text))
+  explain : Bor (List (Bor Text))
   run : Bor (List (Bor Text))
   check : Bor (List (Bor Text))
   replay_are : NamesModels replay
+  explain_are : NamesModels explain
   run_are : NamesModels run
   check_are : NamesModels check
 
-abbrev usage_of : Names3 → App
-usage_of names = usage (model_option names.replay) (model_option names.run) (model_option names.check)
+abbrev usage_of : Named → App
+usage_of names = usage (model_option names.replay) (model_option names.explain) (model_option names.run) (model_option names.check)
 
-abbrev met : Names3 → Shape → (x y w z : Bool) → Option Shape
-met names help x y w z = cond x (Some (replay_built names.replay)) (cond y (Some (run_built names.run)) (cond w (Some (check_built names.check)) (cond z (Some help) None)))
+abbrev met : Named → Shape → (x v y w z : Bool) → Option Shape
+met names help x v y w z = cond x (Some (replay_built names.replay)) (cond v (Some (explain_built names.explain)) (cond y (Some (run_built names.run)) (cond w (Some (check_built names.check)) (cond z (Some help) None))))
 
-entered_by : (names : Names3) (given : List Row) (p : Text × List Text) (help : Shape) (x y w z : Bool) → (z ≡ true → ⊥)
-    → option_map_or (λ s. level_fault s [] nothing_held p.1 false []) (met names help x y w z) [] ≡ []
-    → check_fault (built (usage raw_flag raw_flag raw_flag)).top given (is_some (option_map (λ s. rows_at s p.1) (met names help x y w z))) ≡ []
-    → (name : Text) × (rows : List Row) × (option_map (λ s. rows_at s p.1) (met names help x y w z) ≡ Some (name, rows)) × IsComplete name rows
-entered_by names given p help true y w z no_help none checked =
+entered_by : (names : Named) (given : List Row) (p : Text × List Text) (help : Shape) (x v y w z : Bool) → (z ≡ true → ⊥)
+    → option_map_or (λ s. level_fault s [] nothing_held p.1 false []) (met names help x v y w z) [] ≡ []
+    → check_fault (built (usage raw_flag raw_flag raw_flag raw_flag)).top given (is_some (option_map (λ s. rows_at s p.1) (met names help x v y w z))) ≡ []
+    → (name : Text) × (rows : List Row) × (option_map (λ s. rows_at s p.1) (met names help x v y w z) ≡ Some (name, rows)) × IsComplete name rows
+entered_by names given p help true v y w z no_help none checked =
     (codes "replay", rows_after (replay_built names.replay).rules [] p.1, refl, replay_whole names.replay p.1 names.replay_are none)
-entered_by names given p help false true w z no_help none checked =
+entered_by names given p help false true y w z no_help none checked =
+    (codes "explain", rows_after (explain_built names.explain).rules [] p.1, refl, explain_whole names.explain p.1 names.explain_are none)
+entered_by names given p help false false true w z no_help none checked =
     (codes "run", rows_after (run_built names.run).rules [] p.1, refl, run_whole names.run p.1 names.run_are none)
-entered_by names given p help false false true z no_help none checked =
+entered_by names given p help false false false true z no_help none checked =
     (codes "check", rows_after (check_built names.check).rules [] p.1, refl, check_whole names.check p.1 names.check_are none)
-entered_by names given p help false false false true no_help none checked = absurd (no_help refl)
-entered_by names given p help false false false false no_help none checked =
+entered_by names given p help false false false false true no_help none checked = absurd (no_help refl)
+entered_by names given p help false false false false false no_help none checked =
     let bad : kind.MissingSubcommand ∷ [] ≡ [] = checked in cc
 
 no_call : (name : Text) → (bytes_eq name (codes "help") && true) ≡ false → (bytes_eq (codes "help") name || false) ≡ true → ⊥
@@ -589,17 +637,17 @@ no_call name not_help asks = elim (either_true (bytes_eq (codes "help") name) fa
   | inr never ↦ false≢true never
 ]
 
-entered_whole : (names : Names3) (given : List Row) (stop : Option (Text × List Text)) → IsNoHelp (built (usage raw_flag raw_flag raw_flag)).top stop
+entered_whole : (names : Named) (given : List Row) (stop : Option (Text × List Text)) → IsNoHelp (built (usage raw_flag raw_flag raw_flag raw_flag)).top stop
     → entered_fault (built (usage_of names)) stop ≡ []
-    → check_fault (built (usage raw_flag raw_flag raw_flag)).top given (is_some (entered (built (usage_of names)) stop)) ≡ []
+    → check_fault (built (usage raw_flag raw_flag raw_flag raw_flag)).top given (is_some (entered (built (usage_of names)) stop)) ≡ []
     → (name : Text) × (rows : List Row) × (entered (built (usage_of names)) stop ≡ Some (name, rows)) × IsComplete name rows
 entered_whole names given None no_help none checked =
     let bad : kind.MissingSubcommand ∷ [] ≡ [] = checked in cc
 entered_whole names given (Some p) no_help none checked =
-    entered_by names given p (built_leaf help_shape) (bytes_eq (codes "replay") p.0 || false) (bytes_eq (codes "run") p.0 || false) (bytes_eq (codes "check") p.0 || false)
+    entered_by names given p (built_leaf help_shape) (bytes_eq (codes "replay") p.0 || false) (bytes_eq (codes "explain") p.0 || false) (bytes_eq (codes "run") p.0 || false) (bytes_eq (codes "check") p.0 || false)
     (bytes_eq (codes "help") p.0 || false) (no_call p.0 no_help) none checked
 
-fits : (names : Names3) (words : List Text) → fault_of (usage_of names) words ≡ []
+fits : (names : Named) (words : List Text) → fault_of (usage_of names) words ≡ []
     → (name : Text) × (rows : List Row) × (subcommand_of (usage_of names) words ≡ Some (name, rows)) × IsComplete name rows
 fits names words none =
     let a = built (usage_of names) in
@@ -618,14 +666,14 @@ fits names words none =
 
 -- ---- whatever model options the usage has
 
-written_out : (app : App) (u : IsUsage app) → app ≡ usage (model_option u.replay_option.0) (model_option u.run_option.0) (model_option u.check_option.0)
-written_out app u = u.whole ∙ (λ i. usage (u.replay_option.2 i) (u.run_option.2 i) (u.check_option.2 i))
+written_out : (app : App) (u : IsUsage app) → app ≡ usage (model_option u.replay_option.0) (model_option u.explain_option.0) (model_option u.run_option.0) (model_option u.check_option.0)
+written_out app u = u.whole ∙ (λ i. usage (u.replay_option.2 i) (u.explain_option.2 i) (u.run_option.2 i) (u.check_option.2 i))
 
-is_simple_usage : (a b c : Bor (List (Bor Text))) → is_simple_and_free (usage (model_option a) (model_option b) (model_option c)) ≡ true
-is_simple_usage a b c = refl
+is_simple_usage : (a b c d : Bor (List (Bor Text))) → is_simple_and_free (usage (model_option a) (model_option b) (model_option c) (model_option d)) ≡ true
+is_simple_usage a b c d = refl
 
 pub free : (app : App) → IsUsage app → is_simple_and_free app ≡ true
-free app u = ap is_simple_and_free (written_out app u) ∙ is_simple_usage u.replay_option.0 u.run_option.0 u.check_option.0
+free app u = ap is_simple_and_free (written_out app u) ∙ is_simple_usage u.replay_option.0 u.explain_option.0 u.run_option.0 u.check_option.0
 
 pub simple : (app : App) → IsUsage app → is_simple app ≡ true
 simple app u = ap is_simple (written_out app u) ∙ refl
@@ -633,11 +681,13 @@ simple app u = ap is_simple (written_out app u) ∙ refl
 pub fitting : (app : App) (words : List Text) → IsUsage app → fault_of app words ≡ [] → (name : Text) × (rows : List Row) × (subcommand_of app words ≡ Some (name, rows)) × IsComplete name rows
 fitting app words u none =
     let is = written_out app u in
-    let names : Names3 = record {
+    let names : Named = record {
       replay = u.replay_option.0;
+      explain = u.explain_option.0;
       run = u.run_option.0;
       check = u.check_option.0;
       replay_are = u.replay_option.1;
+      explain_are = u.explain_option.1;
       run_are = u.run_option.1;
       check_are = u.check_option.1;
     } in

@@ -5,5 +5,6 @@ mod Limits
 mod Missing
 mod Numbers
 mod Replays
+mod Streams
 mod Walked
 mod Written

@@ -1,9 +1,19 @@
--- What a replay, a run and a check have done.
-use Rattle.std.specs.Prelude.{◌≡◌, ◌↔◌, ◌⊎◌, ℕ, List, ◌++◌, None, Option, codes}
+-- What a replay, an explanation, a run and a check have done.
+use Rattle.std.specs.Prelude.{◌≡◌, ◌↔◌, ◌⊎◌, ℕ, List, [], ◌++◌, None, Option, codes}
 use Rattle.std.specs.Io.KnownBytes.{Appends}
 use Rattle.std.specs.Fmt.{decimal}
 use Rattle.elf_loader.specs.Image.{Initial}
-use Rattle.machine_model.specs.Views.{State}
+use Rattle.coherent_machine.specs.Machine.{Refuses}
+use Rattle.event_stream.specs.Streams.{stream_of, stream_up_to}
+use Rattle.event_stream.specs.Writing.{IsCut, IsWhole}
+use Rattle.event_stream.specs.declared.errors.StreamError.{StreamError}
+use Rattle.event_stream.specs.declared.errors.StreamError.TheVariants as stream
+use Rattle.event_stream.specs.declared.strictness.Strictness.{Strictness}
+use Rattle.event_stream.specs.declared.strictness.Strictness.TheVariants.{Strict}
+use Rattle.machine_model.specs.declared.config.Config.{Config}
+use Rattle.machine_model.specs.declared.event.Event.{Event}
+use Rattle.machine_model.specs.Events.Verdict.{Keeps}
+use Rattle.machine_model.specs.Views.{State, opening}
 use Rattle.memory_model.specs.Traces.{IsLegalOrder, completed}
 use Rattle.memory_model.specs.Verdict.{fault_in}
 use Rattle.memory_model.specs.declared.Model.{Model}
@@ -32,6 +42,16 @@ pub record IsReplayed (held : Held) (replay : Replay) (old new : Option (List �
   pub image_file : HoldsImage held replay.raw replay.image.now script.kib image
   pub only : IsTheScriptIn held replay.script.now script
   pub composed : IsComposition image script replay.model old new reached
+
+-- what was appended is the stream that the script in the one file means for the image in the other: of each event what it did, all of them
+pub record IsExplained (held : Held) (replay : Replay) (strictness : Strictness) (old new : Option (List ℕ)) : Type 0 where
+  pub script : Script
+  pub image : Initial
+  pub reached : State
+  pub script_file : HoldsScript held replay.script.now script
+  pub image_file : HoldsImage held replay.raw replay.image.now script.kib image
+  pub only : IsTheScriptIn held replay.script.now script
+  pub whole : IsWhole strictness image (config_of script replay.model) script.events old new reached
 
 -- the run of the image in the one file has left this script in the other: it is for the machine that was named
 pub record IsKept (held left : Held) (run : Run) (image : Initial) (script : Script) : Type 0 where
@@ -81,6 +101,24 @@ pub record IsCutOff (held : Held) (replay : Replay) (old new : Option (List ℕ)
   pub image_file : HoldsImage held replay.raw replay.image.now script.kib image
   pub replayed : Leads image script replay.model reached
   pub begun : Begins old new (text reached.trace)
+
+-- what of a stream went out where it is not whole: nothing, where no machine was made; all before the event that is refused, or that changes nothing and so ends a strict stream; or a beginning, where the output took no more
+abbrev pub IsPartOfStream : Strictness → Initial → Config → List Event → Option (List ℕ) → Option (List ℕ) → StreamError → Type 0
+IsPartOfStream strictness image config events old new (stream.New error) = Appends old new []
+IsPartOfStream strictness image config events old new (stream.Refused index error) =
+    IsCut strictness (opening image config) events index (Refuses error) (stream_up_to strictness image config) old new
+IsPartOfStream strictness image config events old new (stream.Idle index outcome) =
+    (strictness ≡ Strict) × IsCut strictness (opening image config) events index (λ v. v ≡ Keeps outcome) (stream_up_to strictness image config) old new
+IsPartOfStream strictness image config events old new (stream.Writing error) = Begins old new (stream_of strictness image config events)
+
+-- such a part went out of the stream that the script in the one file means for the image in the other
+pub record IsStopped (held : Held) (replay : Replay) (strictness : Strictness) (old new : Option (List ℕ)) : Type 0 where
+  pub script : Script
+  pub image : Initial
+  pub error : StreamError
+  pub script_file : HoldsScript held replay.script.now script
+  pub image_file : HoldsImage held replay.raw replay.image.now script.kib image
+  pub part : IsPartOfStream strictness image (config_of script replay.model) script.events old new error
 
 -- the run's script is kept, and the output took no more than a beginning of the text of the trace that it means
 pub record IsRunCutOff (held left : Held) (run : Run) (old new : Option (List ℕ)) : Type 0 where

@@ -6,6 +6,8 @@ use Rattle.clap.specs.Values.{IsUnsignedIn}
 use Rattle.clap.specs.Words.{App, Row, Rule, Text, first_of, new_app, new_rule, one_of, subcommand_of, with_rule, with_subcommand}
 use Rattle.clap.specs.declared.builder.action.ArgAction.TheVariants.{SetTrue}
 use Rattle.clap.specs.declared.builder.value_parser.ValueParser.TheVariants.{Names, Unsigned}
+use Rattle.event_stream.specs.declared.strictness.Strictness.{Strictness}
+use Rattle.event_stream.specs.declared.strictness.Strictness.TheVariants.{Lenient, Strict}
 use Rattle.command_line.specs.declared.wanted.Replay.{Replay}
 use Rattle.command_line.specs.declared.wanted.Run.{Run}
 use Rattle.command_line.specs.declared.wanted.Settings.{Settings}
@@ -15,9 +17,17 @@ use Rattle.memory_model.specs.declared.Model.TheVariants.{Rvwmo, Ztso}
 
 -- ---- the usage
 
+-- `--ID`
+abbrev pub flag : Text → Rule
+flag id = record (new_rule id) { long = Some id; action = Some SetTrue }
+
 -- `--raw`
 abbrev pub raw_flag : Rule
-raw_flag = record (new_rule (codes "raw")) { long = Some (codes "raw"); action = Some SetTrue }
+raw_flag = flag (codes "raw")
+
+-- `--strict`
+abbrev pub strict_flag : Rule
+strict_flag = flag (codes "strict")
 
 -- `--model NAME`, which is one of the names, and `rvwmo` where none is given
 abbrev pub model_option : Bor (List (Bor Text)) → Rule
@@ -70,6 +80,12 @@ replay_usage model =
     with_rule (with_rule (with_rule (with_rule (new_app (codes "replay")) raw_flag) model)
     (file_argument (codes "IMAGE"))) (file_argument (codes "SCRIPT"))
 
+-- `explain [--raw] [--strict] [--model NAME] IMAGE SCRIPT`
+abbrev pub explain_usage : Rule → App
+explain_usage model =
+    with_rule (with_rule (with_rule (with_rule (with_rule (new_app (codes "explain")) raw_flag) strict_flag) model)
+    (file_argument (codes "IMAGE"))) (file_argument (codes "SCRIPT"))
+
 -- `check [--model NAME] TRACE`
 abbrev pub check_usage : Rule → App
 check_usage model =
@@ -103,20 +119,22 @@ bare_usage = record {
   subs = [];
 }
 
--- `rvtl` with one of the three
-abbrev pub usage : (replay_model run_model check_model : Rule) → App
-usage replay_model run_model check_model =
-    with_subcommand (with_subcommand (with_subcommand bare_usage (replay_usage replay_model).top)
-    (run_usage run_model).top) (check_usage check_model).top
+-- `rvtl` with one of the four
+abbrev pub usage : (replay_model explain_model run_model check_model : Rule) → App
+usage replay_model explain_model run_model check_model =
+    with_subcommand (with_subcommand (with_subcommand (with_subcommand bare_usage (replay_usage replay_model).top)
+    (explain_usage explain_model).top) (run_usage run_model).top) (check_usage check_model).top
 
 pub record IsUsage (app : App) : Type 0 where
   pub replay_model : Rule
+  pub explain_model : Rule
   pub run_model : Rule
   pub check_model : Rule
   pub replay_option : IsModelOption replay_model
+  pub explain_option : IsModelOption explain_model
   pub run_option : IsModelOption run_model
   pub check_option : IsModelOption check_model
-  pub whole : app ≡ usage replay_model run_model check_model
+  pub whole : app ≡ usage replay_model explain_model run_model check_model
 
 -- ---- the settings
 
@@ -135,6 +153,14 @@ IsReplayMeant rows replay =
     × (first_of (codes "model") rows ≡ Some (name_of replay.model))
     × (first_of (codes "IMAGE") rows ≡ Some replay.image.now)
     × (first_of (codes "SCRIPT") rows ≡ Some replay.script.now)
+
+abbrev pub is_strict : Strictness → Bool
+is_strict Lenient = false
+is_strict Strict = true
+
+-- the arguments of `explain` have these texts
+abbrev pub IsExplainMeant : List Row → Replay → Strictness → Type 0
+IsExplainMeant rows replay strictness = IsReplayMeant rows replay × (one_of (codes "strict") rows ≡ Some (flag_text (is_strict strictness)))
 
 -- the text is the number in decimal digits, before which a plus may stand
 abbrev pub Spells : Text → ℕ → Type 0
@@ -162,6 +188,7 @@ pub record IsRunMeant (rows : List Row) (run : Run) : Type 0 where
 -- the settings are those of the subcommand of this name, whose arguments have these texts
 abbrev pub IsMeant : Text → List Row → Settings → Type 0
 IsMeant name rows (settings.Replay replay) = (name ≡ codes "replay") × IsReplayMeant rows replay
+IsMeant name rows (settings.Explain replay strictness) = (name ≡ codes "explain") × IsExplainMeant rows replay strictness
 IsMeant name rows (settings.Run run) = (name ≡ codes "run") × IsRunMeant rows run
 IsMeant name rows (settings.Check model trace) =
     (name ≡ codes "check") × (first_of (codes "model") rows ≡ Some (name_of model))
@@ -190,6 +217,9 @@ HasNumber id low high rows = (text : Text) × (one_of id rows ≡ Some text) × 
 abbrev pub IsReplayComplete : List Row → Type 0
 IsReplayComplete rows = HasFlag (codes "raw") rows × NamesModel rows × HasText (codes "IMAGE") rows × HasText (codes "SCRIPT") rows
 
+abbrev pub IsExplainComplete : List Row → Type 0
+IsExplainComplete rows = IsReplayComplete rows × HasFlag (codes "strict") rows
+
 pub record IsRunComplete (rows : List Row) : Type 0 where
   pub raw : HasFlag (codes "raw") rows
   pub harts : HasNumber (codes "harts") 0 most_size rows
@@ -207,4 +237,6 @@ IsCheckComplete rows = NamesModel rows × HasText (codes "TRACE") rows
 
 -- the subcommand of this name has each argument that it asks for
 abbrev pub IsComplete : Text → List Row → Type 0
-IsComplete name rows = ((name ≡ codes "replay") × IsReplayComplete rows) ⊎ (((name ≡ codes "run") × IsRunComplete rows) ⊎ ((name ≡ codes "check") × IsCheckComplete rows))
+IsComplete name rows =
+    ((name ≡ codes "replay") × IsReplayComplete rows)
+    ⊎ (((name ≡ codes "explain") × IsExplainComplete rows) ⊎ (((name ≡ codes "run") × IsRunComplete rows) ⊎ ((name ≡ codes "check") × IsCheckComplete rows)))

@@ -1,12 +1,15 @@
 -- With which status the program ends where something went wrong, and which fault a run's error is.
-use Rattle.std.specs.Prelude.{◌≡◌, ℕ}
+use Rattle.std.specs.Prelude.{◌≡◌, ◌⊎◌, ◌+◌, ◌-◌, ◌^◌, ℕ, List, min}
+use Rattle.std.specs.Borrow.{Bor}
 use Rattle.command_line.specs.declared.fault.Fault.{Fault}
 use Rattle.command_line.specs.declared.fault.Fault.TheVariants as fault
-use Rattle.command_line.specs.declared.fault.Fault.TheVariants.{BytesAfterTrace, CannotMake, CannotRead, CannotWrite, Check, Configuration, Event, Image, NoThread, OutOfMemory, Text}
+use Rattle.command_line.specs.declared.fault.Fault.TheVariants.{BytesAfterTrace, CannotMake, CannotRead, CannotWrite, Check, Configuration, Event, Image, NoThread, NothingHappens, OutOfMemory, Text}
 use Rattle.coherent_machine.specs.declared.errors.NewError.TheVariants as making
 use Rattle.coherent_machine.specs.declared.errors.ReplayError.{ReplayError}
 use Rattle.coherent_machine.specs.declared.errors.ReplayError.TheVariants as replay
 use Rattle.machine_parts.specs.declared.errors.ApplyError.TheVariants as applying
+use Rattle.event_stream.specs.declared.errors.StreamError.{StreamError}
+use Rattle.event_stream.specs.declared.errors.StreamError.TheVariants as stream
 use Rattle.host_threads.specs.declared.report.RunError.{RunError}
 use Rattle.host_threads.specs.declared.report.RunError.TheVariants as run
 
@@ -18,6 +21,7 @@ status_of CannotWrite = 1
 status_of (Image file error) = 1
 status_of (Text file error) = 1
 status_of (Event file line error) = 1
+status_of (NothingHappens file line outcome) = 1
 status_of (BytesAfterTrace file) = 1
 status_of (Check file error) = 1
 status_of NoThread = 1
@@ -32,6 +36,20 @@ run_fault run.NoMemory = OutOfMemory
 run_fault run.Thread = NoThread
 run_fault run.Mismatch = fault.Mismatch
 run_fault run.BadEvent = fault.BadEvent
+
+-- the line of the script on which the event of this index stands, the first on line 2, as far as a number of 64 bits tells it
+abbrev pub line_at : ℕ → ℕ
+line_at index = min (index + 2) (2 ^ 64 - 1)
+
+-- which fault tells why a stream of this script is not whole
+abbrev pub IsStreamFault : Bor (List ℕ) → StreamError → Fault → Type 0
+IsStreamFault script (stream.New making.Config) told = told ≡ Configuration
+IsStreamFault script (stream.New making.NoMemory) told = told ≡ OutOfMemory
+IsStreamFault script (stream.Refused index applying.NoMemory) told = told ≡ OutOfMemory
+IsStreamFault script (stream.Refused index applying.BadEvent) told = told ≡ Event script (line_at index) applying.BadEvent
+IsStreamFault script (stream.Refused index applying.Limit) told = told ≡ Event script (line_at index) applying.Limit
+IsStreamFault script (stream.Idle index outcome) told = told ≡ NothingHappens script (line_at index) outcome
+IsStreamFault script (stream.Writing error) told = (told ≡ CannotWrite) ⊎ (told ≡ OutOfMemory)
 
 -- no memory for the machine, or for what an event adds
 abbrev pub IsNoMemory : ReplayError → Type 0

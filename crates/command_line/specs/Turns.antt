@@ -1,13 +1,20 @@
 -- Which faults each subcommand tells, of which file, and what came before: the files are read and judged in this order.
 use Rattle.std.specs.Prelude.{◌≡◌, ◌⊎◌, ◌+◌, ◌^◌, ◌-◌, ℕ, List, Option, min}
 use Rattle.std.specs.Borrow.{Bor}
-use Rattle.coherent_machine.specs.Machine.{IsRefusedAt}
+use Rattle.coherent_machine.specs.Machine.{IsRefusedAt, Refuses}
+use Rattle.event_stream.specs.Streams.{stream_up_to}
+use Rattle.event_stream.specs.Writing.{IsCut}
+use Rattle.event_stream.specs.declared.strictness.Strictness.{Strictness}
+use Rattle.event_stream.specs.declared.strictness.Strictness.TheVariants.{Strict}
+use Rattle.machine_model.specs.Events.{Verdict}
+use Rattle.machine_model.specs.Events.Verdict.{Keeps}
+use Rattle.command_line.specs.Status.{line_at}
 use Rattle.command_line.specs.Composition.{config_of}
 use Rattle.command_line.specs.Files.{HoldsImage, HoldsScript, HoldsTrace}
 use Rattle.command_line.specs.Held.{Held}
 use Rattle.command_line.specs.Sizes.{IsOutside}
 use Rattle.command_line.specs.declared.fault.Fault.{Fault}
-use Rattle.command_line.specs.declared.fault.Fault.TheVariants.{BadEvent, BytesAfterTrace, CannotMake, CannotRead, CannotWrite, Check, Configuration, Event, Image, Mismatch, NoThread, OutOfMemory, Text}
+use Rattle.command_line.specs.declared.fault.Fault.TheVariants.{BadEvent, BytesAfterTrace, CannotMake, CannotRead, CannotWrite, Check, Configuration, Event, Image, Mismatch, NoThread, NothingHappens, OutOfMemory, Text}
 use Rattle.command_line.specs.declared.wanted.Replay.{Replay}
 use Rattle.command_line.specs.declared.wanted.Run.{Run}
 use Rattle.elf_loader.specs.Image.{Initial}
@@ -60,6 +67,23 @@ IsReplayFault held replay (Event file line error) = (file ≡ replay.script) × 
 IsReplayFault held replay CannotWrite = Unit {0}
 IsReplayFault held replay OutOfMemory = Unit {0}
 IsReplayFault held replay _ = ⊥
+
+-- the event of this line of the script comes to such a verdict, and the stream up to there went out
+pub record IsToldUpTo (held : Held) (replay : Replay) (strictness : Strictness) (line : ℕ) (IsSuch : Verdict → Type 0) (old new : Option (List ℕ)) : Type 0 where
+  pub script : Script
+  pub image : Initial
+  pub script_file : HoldsScript held replay.script.now script
+  pub image_file : HoldsImage held replay.raw replay.image.now script.kib image
+  pub index : ℕ
+  pub place : line ≡ line_at index
+  pub cut : IsCut strictness (opening image (config_of script replay.model)) script.events index IsSuch (stream_up_to strictness image (config_of script replay.model)) old new
+
+-- as in a replay, but an event that is refused comes behind what the events before it did, and so does one that changes nothing, where the stream is strict
+abbrev pub IsExplainFault : Held → Replay → Strictness → Option (List ℕ) → Option (List ℕ) → Fault → Type 0
+IsExplainFault held replay strictness old new (Event file line error) = (file ≡ replay.script) × IsToldUpTo held replay strictness line (Refuses error) old new
+IsExplainFault held replay strictness old new (NothingHappens file line outcome) =
+    (file ≡ replay.script) × ((strictness ≡ Strict) × IsToldUpTo held replay strictness line (λ v. v ≡ Keeps outcome) old new)
+IsExplainFault held replay strictness old new fault = IsReplayFault held replay fault
 
 -- the machine's size is judged first, then the image, then the run, then the journal is written
 abbrev pub IsRunFault : Held → Run → Fault → Type 0

@@ -23,7 +23,7 @@ pub enum CompositionError {
 }
 
 /// The machine that a script is for.
-fn config_of(script: &Script, model: Model) -> Config
+pub(crate) fn config_of(script: &Script, model: Model) -> Config
     ensures { result ≡ config_of script.now model }
 {
     Config {

@@ -2,11 +2,13 @@
 
 ghost use Rattle.std.specs.Prelude.{◌≡◌, ◌≢◌, ◌↔◌, ◌⊎◌, ◌+◌, ◌-◌, ◌^◌, ℕ, min};
 ghost use Rattle.std.specs.IoError.{error_kind};
-ghost use Rattle.command_line.specs.Status.{IsNoMemory, run_fault, status_of};
+ghost use Rattle.command_line.specs.Status.{IsNoMemory, IsStreamFault, run_fault, status_of};
 
 use coherent_machine::{ApplyError, NewError, ReplayError};
 use elf_loader::LoadError;
+use event_stream::{StreamError, outcome_name};
 use host_threads::RunError;
+use machine_model::Outcome;
 use rvwmo_order::CheckError;
 use std::alloc::AllocError;
 use std::io::{self, ErrorKind};
@@ -41,6 +43,12 @@ pub enum Fault<'a> {
         file: &'a str,
         line: usize,
         error: ApplyError,
+    },
+    #[error("rvtl: {file}: line {line}: nothing happens: {}", outcome_name(*.outcome))]
+    NothingHappens {
+        file: &'a str,
+        line: usize,
+        outcome: Outcome,
     },
     #[error("rvtl: {file}: bytes after the trace")]
     BytesAfterTrace {
@@ -79,6 +87,7 @@ impl Fault<'_> {
             | Fault::Image { .. }
             | Fault::Text { .. }
             | Fault::Event { .. }
+            | Fault::NothingHappens { .. }
             | Fault::BytesAfterTrace { .. }
             | Fault::Check { .. }
             | Fault::NoThread
@@ -171,6 +180,30 @@ impl<'a> Fault<'a> {
                 line: index.saturating_add(2),
                 error,
             },
+        }
+    }
+}
+
+impl<'a> Fault<'a> {
+    /// Why a stream is not whole. The script's first event stands on line 2.
+    pub(crate) fn explaining(script: &'a str, error: StreamError) -> Fault<'a>
+        ensures { IsStreamFault script.entry error result }
+    {
+        match error {
+            StreamError::New(NewError::Config) => Fault::Configuration,
+            StreamError::New(NewError::NoMemory) | StreamError::Refused(_, ApplyError::NoMemory) =>
+                Fault::OutOfMemory,
+            StreamError::Refused(index, error) => Fault::Event {
+                file: script,
+                line: index.saturating_add(2),
+                error,
+            },
+            StreamError::Idle(index, outcome) => Fault::NothingHappens {
+                file: script,
+                line: index.saturating_add(2),
+                outcome,
+            },
+            StreamError::Writing(error) => Fault::writing(error),
         }
     }
 }

@@ -4,6 +4,7 @@
 
 mod checking;
 mod composing;
+mod explaining;
 mod fault;
 mod files;
 mod laws;

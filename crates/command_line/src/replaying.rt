@@ -70,7 +70,11 @@ pub(crate) fn contents<'a, F: Files>(
     }
 }
 
-fn script_in<'a, F: Files>(alloc: Global, files: &mut F, name: &'a str) -> Result<Script, Fault<'a>>
+pub(crate) fn script_in<'a, F: Files>(
+    alloc: Global,
+    files: &mut F,
+    name: &'a str,
+) -> Result<Script, Fault<'a>>
     ensures fault { IfErr result (IsScriptFault name.entry) }
     ensures script { IfOk result (HoldsScript (F.held files.old) name.entry.now) }
     ensures only { IfOk result (IsTheScriptIn (F.held files.old) name.entry.now) }

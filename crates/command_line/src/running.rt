@@ -6,6 +6,7 @@ ghost use Rattle.command_line.specs.Refusals.{IsHelp, IsUnfit};
 ghost use Rattle.command_line.specs.Running.{HasNamed, IsBeyond, IsCarriedOut, IsNotLegal, IsUnprinted, Spares};
 
 use crate::checking::check_file;
+use crate::explaining::explain_files;
 use crate::fault::Fault;
 use crate::files::Files;
 use crate::replaying::replay_files;
@@ -46,6 +47,12 @@ pub fn run_line<R: Threads + Wait + Sync, S: AsStr, F: Files, O: Write, E: Write
             Ok(()) => return 0,
             Err(fault) => fault,
         },
+        Ok(Settings::Explain { replay, strictness }) => {
+            match explain_files(alloc, files, replay, strictness, out) {
+                Ok(()) => return 0,
+                Err(fault) => fault,
+            }
+        }
         Ok(Settings::Run(wanted)) => match run_files(rt, alloc, files, wanted, out, err) {
             Ok(()) => return 0,
             Err(fault) => fault,

@@ -1,5 +1,6 @@
 //! The program's texts and statuses, over files and streams in memory.
 
+mod explaining;
 mod judging;
 mod memory;
 mod orders;
@@ -351,8 +352,10 @@ fn usage_and_help(rt: HostRuntime) {
         (&["rvtl", "replay", "--raw", "image"], 2),
         (&["rvtl", "replay", "--row", "image", "script"], 2),
         (&["rvtl", "run", "--raw", "image"], 2),
+        (&["rvtl", "explain", "--strict", "image"], 2),
         (&["rvtl", "--help"], 0),
         (&["rvtl", "replay", "--help"], 0),
+        (&["rvtl", "explain", "--help"], 0),
     ] {
         let ran = line(&rt, words, &[]);
         assert_eq!(rt; ran.status, status, "{words:?}");
@@ -391,6 +394,11 @@ fn help_teaches(rt: HostRuntime) {
             &["rvtl", "replay", "--help"],
             "Usage: rvtl replay [OPTIONS] <IMAGE> <SCRIPT>\n",
             "Example: rvtl replay --raw examples/exit.bin examples/exit.script\n",
+        ),
+        (
+            &["rvtl", "explain", "--help"],
+            "Usage: rvtl explain [OPTIONS] <IMAGE> <SCRIPT>\n",
+            "Example: rvtl explain --raw examples/load.bin examples/load.script\n",
         ),
         (
             &["rvtl", "run", "--help"],

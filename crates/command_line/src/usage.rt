@@ -4,12 +4,13 @@ ghost use Rattle.std.specs.Prelude.{ℕ, ◌≡◌, ◌≢◌, ◌<◌, ◌≤�
 ghost use Rattle.clap.specs.Values.{IsUnsignedIn};
 ghost use Rattle.clap.specs.Words.{Row, Rule, Text, app_of, found_of, rows_of, rule_of, subcommand_rows_of};
 ghost use Rattle.command_line.specs.Refusals.{IsFitting, IsRefused};
-ghost use Rattle.command_line.specs.Settings.{HasNumber, IsComplete, IsMeant, IsModelOption, IsNamed, IsNumber, IsReplayComplete, IsReplayMeant, IsRunComplete, IsRunMeant, IsUsage, check_usage, file_argument, journal_option, name_of, number_option, raw_flag, replay_usage, run_usage};
+ghost use Rattle.command_line.specs.Settings.{HasNumber, IsComplete, IsExplainComplete, IsExplainMeant, IsMeant, IsModelOption, IsNamed, IsNumber, IsReplayComplete, IsReplayMeant, IsRunComplete, IsRunMeant, IsUsage, check_usage, explain_usage, file_argument, flag, is_strict, journal_option, name_of, number_option, raw_flag, replay_usage, run_usage, strict_flag};
 
 use crate::wanted::{Replay, Run, Settings, SettingsError};
 use clap::builder::ValueParser;
 use clap::error::ErrorKind;
 use clap::{Arg, ArgAction, ArgMatches, Command};
+use event_stream::Strictness;
 use machine_model::Model;
 use std::alloc::{AllocError, Global};
 use std::convert::AsStr;
@@ -28,7 +29,7 @@ pub fn settings<'a, S: AsStr>(alloc: Global, words: &'a [S]) -> Result<Settings<
         None => {
             let missing = command.error(
                 ErrorKind::MissingSubcommand,
-                "replay, run or check is wanted",
+                "replay, explain, run or check is wanted",
             )?;
             Err(SettingsError::Usage(missing))
         }
@@ -43,6 +44,10 @@ fn settings_of<'a>(matches: &ArgMatches<'a>) -> Option<Settings<'a>>
 {
     match matches.subcommand()? {
         ("replay", replay) => Some(Settings::Replay(replay_of(replay)?)),
+        ("explain", explain) => {
+            let (replay, strictness) = explain_of(explain)?;
+            Some(Settings::Explain { replay, strictness })
+        }
         ("run", run) => Some(Settings::Run(run_of(run)?)),
         ("check", check) => Some(Settings::Check {
             model: model_of(check.get_str("model")?)?,
@@ -63,6 +68,25 @@ fn replay_of<'a>(matches: &ArgMatches<'a>) -> Option<Replay<'a>>
         image: matches.get_str("IMAGE")?,
         script: matches.get_str("SCRIPT")?,
     })
+}
+
+fn explain_of<'a>(matches: &ArgMatches<'a>) -> Option<(Replay<'a>, Strictness)>
+    ensures meant { IfSome result (λ asked. IsExplainComplete (rows_of (found_of matches.now))
+        → IsExplainMeant (rows_of (found_of matches.now)) asked.0 asked.1) }
+    ensures missing { IsNone result → IsExplainComplete (rows_of (found_of matches.now)) → ⊥ }
+{
+    let replay = replay_of(matches)?;
+    Some((replay, strictness_of(matches.get_flag("strict"))))
+}
+
+fn strictness_of(strict: bool) -> Strictness
+    ensures { is_strict result ≡ strict }
+{
+    if strict {
+        Strictness::Strict
+    } else {
+        Strictness::Lenient
+    }
 }
 
 fn run_of<'a>(matches: &ArgMatches<'a>) -> Option<Run<'a>>
@@ -114,18 +138,41 @@ fn command<'a>(alloc: Global) -> Result<Command<'a>, AllocError>
         .after_help(PROGRAM_HELP)
         .subcommand_required(true)
         .subcommand(replay_command(alloc)?)?
+        .subcommand(explain_command(alloc)?)?
         .subcommand(run_command(alloc)?)?
         .subcommand(check_command(alloc)?)
+}
+
+fn flag_named<'a>(alloc: Global, id: &'a str, help: &'a str) -> Arg<'a>
+    ensures flag { rule_of result ≡ flag id.entry.now }
+    ensures local { result.global ≡ false }
+{
+    Arg::new(alloc, id)
+        .long(id)
+        .action(ArgAction::SetTrue)
+        .help(help)
 }
 
 fn raw_argument<'a>(alloc: Global) -> Arg<'a>
     ensures flag { rule_of result ≡ raw_flag }
     ensures local { result.global ≡ false }
 {
-    Arg::new(alloc, "raw")
-        .long("raw")
-        .action(ArgAction::SetTrue)
-        .help("IMAGE has bare little-endian words, the first at 0x80000000")
+    flag_named(
+        alloc,
+        "raw",
+        "IMAGE has bare little-endian words, the first at 0x80000000",
+    )
+}
+
+fn strict_argument<'a>(alloc: Global) -> Arg<'a>
+    ensures flag { rule_of result ≡ strict_flag }
+    ensures local { result.global ≡ false }
+{
+    flag_named(
+        alloc,
+        "strict",
+        "end before the first event that changes nothing",
+    )
 }
 
 fn model_argument<'a>(alloc: Global, help: &'a str) -> Arg<'a>
@@ -207,6 +254,26 @@ fn replay_command<'a>(alloc: Global) -> Result<Command<'a>, AllocError>
         .arg(script)
 }
 
+fn explain_command<'a>(alloc: Global) -> Result<Command<'a>, AllocError>
+    ensures { IfOk result (λ made. (model : Rule) × IsModelOption model × (app_of made ≡ explain_usage model)) }
+{
+    let model = model_argument(alloc, "the memory model that the machine runs under");
+    let image = file_named(alloc, "IMAGE", "the program that the harts run");
+    let script = file_named(
+        alloc,
+        "SCRIPT",
+        "the machine's size and its events, one a line",
+    );
+    Command::new(alloc, "explain")
+        .about("Applies a script of events to a machine and prints what each event did")
+        .after_help(EXPLAIN_HELP)
+        .arg(raw_argument(alloc))?
+        .arg(strict_argument(alloc))?
+        .arg(model)?
+        .arg(image)?
+        .arg(script)
+}
+
 fn run_command<'a>(alloc: Global) -> Result<Command<'a>, AllocError>
     ensures { IfOk result (λ made. (model : Rule) × IsModelOption model × (app_of made ≡ run_usage model)) }
 {
@@ -259,6 +326,7 @@ fn check_command<'a>(alloc: Global) -> Result<Command<'a>, AllocError>
 const PROGRAM_HELP: &str =
     "A replay takes a program and a script of events, and prints the trace of what happened:
 each instruction, each memory operation and each message between caches and memory.
+An explain takes the same, and tells below each event what it did.
 A run takes a program alone: its harts run side by side, and what happened is kept as a script.
 A check takes a trace and tells whether the memory model allows its order.
 
@@ -276,6 +344,16 @@ The trace goes to standard output. Of each hart how it ended (run, stop CODE or 
 it put out go to standard error. Where something is wrong, standard error tells it in one line.
 
 Example: rvtl replay --raw examples/exit.bin examples/exit.script";
+
+const EXPLAIN_HELP: &str =
+    "The stream goes to standard output: the head of a trace and its I lines, then of each event
+  E LINE EVENT OUTCOME   the event on this line of the script, and what it came to
+and below it what it added to the trace, each R line with its instruction,
+  O HART NUMBER          and what its hart put out
+and at the end each hart's H line. An event that changes nothing has its E line alone; with --strict
+the stream ends before it, the status is 1, and standard error tells the line and the outcome.
+
+Example: rvtl explain --raw examples/load.bin examples/load.script";
 
 const RUN_HELP: &str =
     "Each hart runs in a thread of its own. When all have halted, or after so many events, the events that

@@ -1,6 +1,7 @@
 //! What the words of the command line ask for.
 
 use clap::error::ErrorKind;
+use event_stream::Strictness;
 use machine_model::Model;
 use std::alloc::AllocError;
 use thiserror::Error;
@@ -44,8 +45,16 @@ pub struct Run<'a> {
 pub enum Settings<'a> {
     Replay(Replay<'a>),
     Run(Run<'a>),
+    /// Replay, and tell of each event what it did.
+    Explain {
+        replay: Replay<'a>,
+        strictness: Strictness,
+    },
     /// Judge the order of the trace in this file.
-    Check { model: Model, trace: &'a str },
+    Check {
+        model: Model,
+        trace: &'a str,
+    },
 }
 
 /// Why the words ask for nothing that the program can do.

@@ -1,5 +1,6 @@
 pub mod Unended
-pub mod TraceLines
+pub mod Paging
+pub mod EventLines
 pub mod Telling
 pub mod Wholes
 pub mod OtherHarts

@@ -14,28 +14,33 @@ use Rattle.machine_parts.specs.Applying.{Answers}
 use Rattle.machine_parts.specs.declared.errors.ApplyError.{ApplyError}
 use Rattle.machine_parts.specs.declared.errors.ApplyError.TheVariants.{BadEvent, Limit, NoMemory}
 use Rattle.text_fields.specs.Writing.{Begins}
-use Rattle.text_fields.proofs.Written.{appends_none, appends_then, begins_first, begins_then}
+use Rattle.text_fields.specs.Pages.{Paged}
+use Rattle.text_fields.proofs.Pages.{paged_none}
+use Rattle.text_fields.proofs.Written.{begins_first}
+use Rattle.event_stream.proofs.Paging.{paged_fails, paged_out, paged_then}
+use Rattle.event_stream.specs.declared.errors.StreamError.{StreamError}
+use Rattle.event_stream.specs.declared.errors.StreamError.TheVariants as errors
 use Rattle.event_stream.specs.declared.report.Lengths.{Lengths}
 use Rattle.event_stream.specs.declared.strictness.Strictness.{Strictness}
 use Rattle.event_stream.specs.declared.strictness.Strictness.TheVariants.{Lenient, Strict}
 use Rattle.event_stream.specs.Lines.{report_lines}
 use Rattle.event_stream.specs.Reports.{Report, Ending, ending, ending_by, report, reports, reports_by}
 use Rattle.event_stream.specs.Streams.{lines}
-use Rattle.event_stream.specs.Telling.{ends_at, lengths_of, report_behind}
+use Rattle.event_stream.specs.Telling.{IsHandedOn, IsTold, ends_at, lengths_of, report_behind}
 use Rattle.event_stream.specs.Writing.{IsCut}
 
 -- the events before the rest are told, as many as the index says, and lead here
-pub record Told (m : Strictness) (s : State) (events : List Event) (index : ℕ) (here : State) (rest : List Event) (old now : Option (List ℕ)) : Type 0 where
+pub record Told (m : Strictness) (s : State) (events : List Event) (index : ℕ) (here : State) (rest : List Event) (old now : Option (List ℕ)) (page after : List ℕ) : Type 0 where
   pub before : List Event
   pub front : List ℕ
   pub whole : before ++ rest ≡ events
   pub place : length before ≡ index
   pub ends : (more : List Event) → ending m 0 s (before ++ more) ≡ ending m index here more
   pub lines_are : (more : List Event) → lines m 0 s (before ++ more) ≡ front ++ lines m index here more
-  pub sent : Appends old now front
+  pub sent : Paged old now page after front
 
-pub none_told : (m : Strictness) (s : State) (events : List Event) (old : Option (List ℕ)) → Told m s events 0 s events old old
-none_told m s events old = record { before = []; front = []; whole = refl; place = refl; ends = λ more. refl; lines_are = λ more. refl; sent = appends_none old }
+pub none_told : (m : Strictness) (s : State) (events : List Event) (old : Option (List ℕ)) (page : List ℕ) → Told m s events 0 s events old old page page
+none_told m s events old page = record { before = []; front = []; whole = refl; place = refl; ends = λ more. refl; lines_are = λ more. refl; sent = paged_none old page }
 
 -- the first event and the others
 rest_is : {A : Type 0} (xs : List A) (d : A) → 1 ≤ length xs → xs ≡ get_or xs 0 d ∷ take (length xs - 1) (drop 1 xs)
@@ -47,9 +52,9 @@ rest_place {A = A} xs index count some p =
     let same = ap (λ (r : List A). length r) (take_all (length xs - 1) (drop 1 xs) (omega (arith, length-drop 1 xs))) in
     omega (arith, some, p, same, length-drop 1 xs)
 
-pub next_of : (m : Strictness) (s : State) (events : List Event) (index : ℕ) (here : State) (rest : List Event) (d : Event) (old now : Option (List ℕ)) → 1 ≤ length rest
-    → Told m s events index here rest old now → Told m s events index here (get_or rest 0 d ∷ take (length rest - 1) (drop 1 rest)) old now
-next_of m s events index here rest d old now some p = subst (λ (r : List Event). Told m s events index here r old now) (rest_is rest d some) p
+pub next_of : (m : Strictness) (s : State) (events : List Event) (index : ℕ) (here : State) (rest : List Event) (d : Event) (old now : Option (List ℕ)) (page after : List ℕ) → 1 ≤ length rest
+    → Told m s events index here rest old now page after → Told m s events index here (get_or rest 0 d ∷ take (length rest - 1) (drop 1 rest)) old now page after
+next_of m s events index here rest d old now page after some p = subst (λ (r : List Event). Told m s events index here r old now page after) (rest_is rest d some) p
 
 -- ---- an event that is told
 
@@ -82,11 +87,11 @@ behind b h x here new index e o eb eh en ex =
     ∙ ap (λ (c : Lengths). report_behind c new index e o) (eb ∙ ap (lengths_of here) eh)
     ∙ ap (λ (s : State). report_behind (lengths_of here (hart_of e)) s index e o) en
 
-pub one_told : (m : Strictness) (s : State) (events : List Event) (index : ℕ) (here new : State) (event : Event) (rest : List Event) (o : Outcome) (old now then : Option (List ℕ))
-    → Told m s events index here (event ∷ rest) old now → Answers (verdict here event) here (Ok o) new → new ≡ happens here event
-    → ends_at m here.views.changes new.views.changes ≡ false → Appends now then (report_lines (report index here event o))
-    → Told m s events (index + 1) new rest old then
-one_told m s events index here new event rest o old now then p a n h w = record {
+pub one_told : (m : Strictness) (s : State) (events : List Event) (index : ℕ) (here new : State) (event : Event) (rest : List Event) (o : Outcome) (old now then : Option (List ℕ)) (page after next : List ℕ)
+    → Told m s events index here (event ∷ rest) old now page after → Answers (verdict here event) here (Ok o) new → new ≡ happens here event
+    → ends_at m here.views.changes new.views.changes ≡ false → Paged now then after next (report_lines (report index here event o))
+    → Told m s events (index + 1) new rest old then page next
+one_told m s events index here new event rest o old now then page after next p a n h w = record {
   before = p.before ++ event ∷ [];
   front = p.front ++ report_lines (report index here event o);
   whole = append_assoc p.before (event ∷ []) rest ∙ p.whole;
@@ -102,32 +107,33 @@ one_told m s events index here new event rest o old now then p a n h w = record 
       ∙ (ap (λ (t : List ℕ). p.front ++ t) (lines_more m index here new event o more a h)
       ∙ (sym (append_assoc p.front (report_lines (report index here event o)) (lines m (index + 1) (happens here event) more))
       ∙ ap (λ (t : State). (p.front ++ report_lines (report index here event o)) ++ lines m (index + 1) t more) (sym n))));
-  sent = appends_then old now then p.front (report_lines (report index here event o)) p.sent w;
+  sent = paged_then old now then page after next p.front (report_lines (report index here event o)) p.sent w;
 }
 
-pub fails_next : (m : Strictness) (s : State) (events : List Event) (index : ℕ) (here new : State) (event : Event) (rest : List Event) (o : Outcome) (old now then : Option (List ℕ))
-    → Told m s events index here (event ∷ rest) old now → Answers (verdict here event) here (Ok o) new
-    → ends_at m here.views.changes new.views.changes ≡ false → Begins now then (report_lines (report index here event o))
-    → Begins old then (lines m 0 s events)
-fails_next m s events index here new event rest o old now then p a h w =
+pub fails_next : (m : Strictness) (s : State) (events : List Event) (index : ℕ) (here new : State) (event : Event) (rest : List Event) (o : Outcome) (old now then : Option (List ℕ)) (page after : List ℕ)
+    → Told m s events index here (event ∷ rest) old now page after → Answers (verdict here event) here (Ok o) new
+    → ends_at m here.views.changes new.views.changes ≡ false → Begins now then (after ++ report_lines (report index here event o))
+    → Begins old then (page ++ lines m 0 s events)
+fails_next m s events index here new event rest o old now then page after p a h w =
     let told = report_lines (report index here event o) in
     let later = lines m (index + 1) (happens here event) rest in
     let whole : lines m 0 s events ≡ p.front ++ (told ++ later) =
     ap (lines m 0 s) (sym p.whole) ∙ (p.lines_are (event ∷ rest) ∙ ap (λ (t : List ℕ). p.front ++ t) (lines_more m index here new event o rest a h)) in
-    subst (Begins old then) (sym whole) (begins_then old now then p.front (told ++ later) p.sent (begins_first now then told later w))
+    subst (λ (t : List ℕ). Begins old then (page ++ t)) (sym whole)
+    (paged_fails old now then page after p.front (told ++ later) p.sent (subst (Begins now then) (append_assoc after told later) (begins_first now then (after ++ told) later w)))
 
-pub all_told : (m : Strictness) (s : State) (events : List Event) (index : ℕ) (here : State) (old now : Option (List ℕ)) → Told m s events index here [] old now
-    → (ending m 0 s events ≡ Ending.Reached here) × Appends old now (lines m 0 s events)
-all_told m s events index here old now p = (
+pub all_told : (m : Strictness) (s : State) (events : List Event) (index : ℕ) (here : State) (old now : Option (List ℕ)) (page after : List ℕ) → Told m s events index here [] old now page after
+    → (ending m 0 s events ≡ Ending.Reached here) × Paged old now page after (lines m 0 s events)
+all_told m s events index here old now page after p = (
   ap (ending m 0 s) (sym p.whole) ∙ p.ends [],
-  subst (Appends old now) (sym (ap (lines m 0 s) (sym p.whole) ∙ (p.lines_are [] ∙ append-nil p.front))) p.sent,
+  subst (Paged old now page after) (sym (ap (lines m 0 s) (sym p.whole) ∙ (p.lines_are [] ∙ append-nil p.front))) p.sent,
 )
 
 -- ---- an event at which the stream ends
 
-cut_at : (m : Strictness) (s : State) (events : List Event) (index : ℕ) (here : State) (event : Event) (rest : List Event) (old now : Option (List ℕ)) (IsSuch : Verdict → Type 0)
-    → Told m s events index here (event ∷ rest) old now → IsSuch (verdict here event) → IsCut m s events index IsSuch (lines m 0 s) old now
-cut_at m s events index here event rest old now IsSuch p h = record {
+cut_at : (m : Strictness) (s : State) (events : List Event) (index : ℕ) (here : State) (event : Event) (rest : List Event) (old now then : Option (List ℕ)) (page after : List ℕ) (IsSuch : Verdict → Type 0)
+    → Told m s events index here (event ∷ rest) old now page after → IsSuch (verdict here event) → Appends now then after → IsCut m s events index IsSuch (λ told. page ++ lines m 0 s told) old then
+cut_at m s events index here event rest old now then page after IsSuch p h w = record {
   before = p.before;
   event = event;
   later = rest;
@@ -136,8 +142,16 @@ cut_at m s events index here event rest old now IsSuch p h = record {
   place = p.place;
   leads = ap (ending m 0 s) (sym (append-nil p.before)) ∙ p.ends [];
   such = h;
-  sent = subst (Appends old now) (sym (ap (lines m 0 s) (sym (append-nil p.before)) ∙ (p.lines_are [] ∙ append-nil p.front))) p.sent;
+  sent = subst (λ (t : List ℕ). Appends old then (page ++ t)) (sym (ap (lines m 0 s) (sym (append-nil p.before)) ∙ (p.lines_are [] ∙ append-nil p.front))) (paged_out old now then page after p.front p.sent w);
 }
+
+-- the page did not go out
+cut_off : (m : Strictness) (s : State) (events : List Event) (index : ℕ) (here : State) (rest : List Event) (old now then : Option (List ℕ)) (page after : List ℕ)
+    → Told m s events index here rest old now page after → Begins now then after → Begins old then (page ++ lines m 0 s events)
+cut_off m s events index here rest old now then page after p w =
+    let more = lines m index here rest in
+    subst (λ (t : List ℕ). Begins old then (page ++ t)) (sym (ap (lines m 0 s) (sym p.whole) ∙ p.lines_are rest))
+    (paged_fails old now then page after p.front more p.sent (begins_first now then after more w))
 
 refuses : (v : Verdict) (s new : State) (error : ApplyError) → Answers v s (Err error) new → Refuses error v
 refuses IsBad s new BadEvent a = refl
@@ -151,10 +165,14 @@ refuses (Moves o moved) s new BadEvent a = elim a [ inl x ↦ absurd (cc (x.0)) 
 refuses (Moves o moved) s new Limit a = elim a [ inl x ↦ absurd (cc (x.0)) | inr x ↦ absurd (cc (x.0)) ]
 refuses (Moves o moved) s new NoMemory a = elim a [ inl x ↦ absurd (cc (x.0)) | inr x ↦ x.2 ]
 
-pub refused_next : (m : Strictness) (s : State) (events : List Event) (index : ℕ) (here new : State) (event : Event) (rest : List Event) (error : ApplyError) (old now : Option (List ℕ))
-    → Told m s events index here (event ∷ rest) old now → Answers (verdict here event) here (Err error) new
-    → IsCut m s events index (Refuses error) (lines m 0 s) old now
-refused_next m s events index here new event rest error old now p a = cut_at m s events index here event rest old now (Refuses error) p (refuses (verdict here event) here new error a)
+pub refused_next : (m : Strictness) (s : State) (events : List Event) (index : ℕ) (here new : State) (event : Event) (rest : List Event) (error : ApplyError) (old now then : Option (List ℕ)) (page after left : List ℕ) (answer : StreamError)
+    → Told m s events index here (event ∷ rest) old now page after → Answers (verdict here event) here (Err error) new
+    → IsHandedOn now then after (errors.Refused index error) answer → IsTold m s events old then page left (Err answer) new
+refused_next m s events index here new event rest error old now then page after left answer p a w = elim w [
+  | inl out ↦ subst (λ (e : StreamError). IsTold m s events old then page left (Err e) new) (sym out.0)
+      (cut_at m s events index here event rest old now then page after (Refuses error) p (refuses (verdict here event) here new error a) out.1)
+  | inr lost ↦ subst (λ (e : StreamError). IsTold m s events old then page left (Err e) new) (sym lost.1) (cut_off m s events index here (event ∷ rest) old now then page after p lost.2)
+]
 
 is_strict : (m : Strictness) (before now : ℕ) → ends_at m before now ≡ true → m ≡ Strict
 is_strict Lenient before now h = absurd (cc (h))
@@ -171,13 +189,16 @@ keeps IsLimited s new o a counted same = absurd (cc (a.0))
 keeps (Moves p moved) s new o a counted same =
     elim a [ inl x ↦ (let more = counted p moved refl in let here = ap (λ (t : State). t.views.changes) x.1 in absurd (omega (arith, more, here, same))) | inr x ↦ absurd (cc (x.0)) ]
 
-pub idle_next : ChangesAreCounted → (m : Strictness) (s : State) (events : List Event) (index : ℕ) (here new : State) (event : Event) (rest : List Event) (o : Outcome) (old now : Option (List ℕ))
-    → Told m s events index here (event ∷ rest) old now → Answers (verdict here event) here (Ok o) new → ends_at m here.views.changes new.views.changes ≡ true
-    → (m ≡ Strict) × IsCut m s events index (λ v. v ≡ Keeps o) (lines m 0 s) old now
-idle_next counted m s events index here new event rest o old now p a h = (
-  is_strict m _ _ h,
-  cut_at m s events index here event rest old now (λ v. v ≡ Keeps o) p (keeps (verdict here event) here new o a (counted here event) (unchanged m _ _ h)),
-)
+pub idle_next : ChangesAreCounted → (m : Strictness) (s : State) (events : List Event) (index : ℕ) (here new : State) (event : Event) (rest : List Event) (o : Outcome) (old now then : Option (List ℕ)) (page after left : List ℕ) (answer : StreamError)
+    → Told m s events index here (event ∷ rest) old now page after → Answers (verdict here event) here (Ok o) new → ends_at m here.views.changes new.views.changes ≡ true
+    → IsHandedOn now then after (errors.Idle index o) answer → IsTold m s events old then page left (Err answer) new
+idle_next counted m s events index here new event rest o old now then page after left answer p a h w = elim w [
+  | inl out ↦ subst (λ (e : StreamError). IsTold m s events old then page left (Err e) new) (sym out.0) (
+    is_strict m _ _ h,
+    cut_at m s events index here event rest old now then page after (λ v. v ≡ Keeps o) p (keeps (verdict here event) here new o a (counted here event) (unchanged m _ _ h)) out.1,
+  )
+  | inr lost ↦ subst (λ (e : StreamError). IsTold m s events old then page left (Err e) new) (sym lost.1) (cut_off m s events index here (event ∷ rest) old now then page after p lost.2)
+]
 
 -- whether a stream ends, by numbers that are a state's
 pub ends_is : (m : Strictness) (before now : ℕ) (result wanted : Bool) (here new : State) → result ≡ ends_at m before now → result ≡ wanted → before ≡ here.views.changes → now ≡ new.views.changes → ends_at m here.views.changes new.views.changes ≡ wanted

@@ -1,5 +1,5 @@
 -- How the writer of events sees a report and the events that it told.
-use Rattle.std.specs.Prelude.{ℕ, ◌≡◌, Bool, false, ◌==◌, List, length, drop, Option, Result, Ok, Err}
+use Rattle.std.specs.Prelude.{ℕ, ◌≡◌, ◌⊎◌, ◌++◌, Bool, false, ◌==◌, List, length, drop, Option, Result, Ok, Err}
 use Rattle.std.specs.Io.KnownBytes.{Appends}
 use Rattle.coherent_machine.specs.Machine.{Refuses}
 use Rattle.machine_model.specs.declared.event.Event.{Event}
@@ -7,6 +7,7 @@ use Rattle.machine_model.specs.declared.outcome.Outcome.{Outcome}
 use Rattle.machine_model.specs.Events.{hart_of}
 use Rattle.machine_model.specs.Events.Verdict.{Keeps}
 use Rattle.machine_model.specs.Views.{State}
+use Rattle.text_fields.specs.Pages.{Paged}
 use Rattle.text_fields.specs.Writing.{Begins}
 use Rattle.trace_recorder.specs.History.{entries_of}
 use Rattle.event_stream.specs.declared.errors.StreamError.{StreamError}
@@ -43,10 +44,15 @@ abbrev pub ends_at : Strictness → ℕ → ℕ → Bool
 ends_at Strict before now = before == now
 ends_at Lenient before now = false
 
--- what became of telling events
-abbrev pub IsTold : Strictness → State → List Event → Option (List ℕ) → Option (List ℕ) → Result (Unit {0}) StreamError → State → Type 0
-IsTold strictness s events old new (Ok _) reached = (ending strictness 0 s events ≡ Ending.Reached reached) × Appends old new (lines strictness 0 s events)
-IsTold strictness s events old new (Err (errors.New error)) reached = ⊥
-IsTold strictness s events old new (Err (errors.Refused index error)) reached = IsCut strictness s events index (Refuses error) (lines strictness 0 s) old new
-IsTold strictness s events old new (Err (errors.Idle index o)) reached = (strictness ≡ Strict) × IsCut strictness s events index (λ v. v ≡ Keeps o) (lines strictness 0 s) old new
-IsTold strictness s events old new (Err (errors.Writing fault)) reached = Begins old new (lines strictness 0 s events)
+-- the page went out, and the error stays as it is; or the writer had a fault, and a beginning of the page did
+abbrev pub IsHandedOn : Option (List ℕ) → Option (List ℕ) → List ℕ → StreamError → StreamError → Type 0
+IsHandedOn old new page error answer = ((answer ≡ error) × Appends old new page) ⊎ ((fault : _) × (answer ≡ errors.Writing fault) × Begins old new page)
+
+-- what became of telling events: all are told, onto the page; or one ends the stream, and what stood on the page and is told of those before it went out
+abbrev pub IsTold : Strictness → State → List Event → (old new : Option (List ℕ)) → (page after : List ℕ) → Result (Unit {0}) StreamError → State → Type 0
+IsTold strictness s events old new page after (Ok _) reached = (ending strictness 0 s events ≡ Ending.Reached reached) × Paged old new page after (lines strictness 0 s events)
+IsTold strictness s events old new page after (Err (errors.New error)) reached = ⊥
+IsTold strictness s events old new page after (Err (errors.Refused index error)) reached = IsCut strictness s events index (Refuses error) (λ told. page ++ lines strictness 0 s told) old new
+IsTold strictness s events old new page after (Err (errors.Idle index o)) reached =
+    (strictness ≡ Strict) × IsCut strictness s events index (λ v. v ≡ Keeps o) (λ told. page ++ lines strictness 0 s told) old new
+IsTold strictness s events old new page after (Err (errors.Writing fault)) reached = Begins old new (page ++ lines strictness 0 s events)

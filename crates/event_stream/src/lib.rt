@@ -8,11 +8,11 @@ mod report;
 mod report_writing;
 mod spellings;
 mod strictness;
-mod trace_lines;
 mod writing;
 
 pub use errors::StreamError;
 pub use laws::stream_is_the_trace;
+pub use spellings::outcome_name;
 pub use strictness::Strictness;
 pub use writing::write_stream;
 

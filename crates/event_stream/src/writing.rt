@@ -1,25 +1,29 @@
 //! Writing a stream.
-ghost use Rattle.std.specs.Prelude.{◌≡◌, ◌↔◌, ◌/◌, Err, IfErr, IfOk, false, length};
+ghost use Rattle.std.specs.Prelude.{◌≡◌, ◌↔◌, ◌++◌, Err, IfErr, IfOk, false};
 ghost use Rattle.coherent_machine.specs.declared.errors.NewError.TheVariants as making;
 ghost use Rattle.event_stream.specs.Streams as streams;
-ghost use Rattle.event_stream.specs.Telling.{IsTold};
+ghost use Rattle.event_stream.specs.Telling.{IsHandedOn, IsTold};
 ghost use Rattle.event_stream.specs.Writing.{IsUnfinished, IsWhole};
 ghost use Rattle.machine_model.specs.Config.{is_within_limits};
+ghost use Rattle.text_fields.specs.Fields.{numbered};
+ghost use Rattle.text_fields.specs.Pages.{HasRoom, Spells};
 ghost use Rattle.text_fields.specs.Writing.{Writes};
 ghost use Rattle.trace_text.specs.Scripts.{is_first_version};
+ghost use Rattle.trace_text.specs.Traces.{status};
 
 use crate::errors::StreamError;
 use crate::report::{Lengths, Report, hart_of};
 use crate::report_writing::put_report;
 use crate::strictness::Strictness;
-use crate::trace_lines::{put_image, put_statuses};
 use coherent_machine::Machine;
 use elf_loader::Image;
+use hart::Status;
 use machine_model::{Config, Event, changes_are_counted};
 use std::alloc::Global;
 use std::io::{self, Write};
-use text_fields::{Piece, put_pieces};
+use text_fields::Page;
 use trace_recorder::Trace;
+use trace_text::{put_image, put_statuses};
 
 /// The first version is for lines of 16 bytes and at most 4 harts, as a trace's.
 fn is_first_version(harts: usize, line: u32) -> bool
@@ -28,59 +32,58 @@ fn is_first_version(harts: usize, line: u32) -> bool
     line == 16 && harts <= 4
 }
 
-fn put_head<W: Write>(out: &mut W, harts: usize, kib: u32, entry: u32, line: u32) -> io::Result<()>
-    ensures { Writes (W.contents out.old) (W.contents out.new) (streams.head harts kib entry line) result }
+fn spell_head(page: &mut Page, harts: usize, kib: u32, entry: u32, line: u32)
+    requires { HasRoom page.old }
+    ensures { page.new ≡ page.old ++ streams.head harts kib entry line }
 {
     if is_first_version(harts, line) {
-        put_pieces(
-            out,
-            &[
-                Piece::Text(b"rvtl-stream 1\nT "),
-                Piece::Number(harts as u64),
-                Piece::Text(b" "),
-                Piece::Number(kib as u64),
-                Piece::Text(b" "),
-                Piece::Word(entry),
-                Piece::Text(b"\n"),
-            ],
-        )
+        page.text(b"rvtl-stream 1\nT ");
+        page.number(harts as u64, b' ');
+        page.number(kib as u64, b' ');
+        page.word(entry);
+        page.text(b"\n");
     } else {
-        put_pieces(
-            out,
-            &[
-                Piece::Text(b"rvtl-stream 2\nT "),
-                Piece::Number(harts as u64),
-                Piece::Text(b" "),
-                Piece::Number(kib as u64),
-                Piece::Text(b" "),
-                Piece::Word(entry),
-                Piece::Text(b" "),
-                Piece::Number(line as u64),
-                Piece::Text(b"\n"),
-            ],
-        )
+        page.text(b"rvtl-stream 2\nT ");
+        page.number(harts as u64, b' ');
+        page.number(kib as u64, b' ');
+        page.word(entry);
+        page.text(b" ");
+        page.number(line as u64, b'\n');
     }
 }
 
 /// The head, and memory at reset.
-fn put_opening<W: Write>(out: &mut W, trace: &Trace) -> io::Result<()>
-    ensures { Writes (W.contents out.old) (W.contents out.new) (streams.opening_lines trace.now.history) result }
+fn put_opening<W: Write>(page: &mut Page, out: &mut W, trace: &Trace) -> io::Result<()>
+    requires { HasRoom page.old }
+    ensures { Spells (W.contents out.old) (W.contents out.new) page.old page.new (streams.opening_lines trace.now.history) result }
 {
     let memory = trace.image().bytes();
     let width = trace.line_size().bytes();
     let kib = trace.image().size() / 1024;
-    put_head(out, trace.harts(), kib, trace.image().entry(), width)?;
-    put_image(out, memory, width)
+    spell_head(page, trace.harts(), kib, trace.image().entry(), width);
+    put_image(page, out, memory, width)
 }
 
-/// Applies the events in their order, and tells each.
+/// Hands on what was told before an event at which the stream ends, and answers why it does.
+fn ended_by<W: Write>(page: &mut Page, out: &mut W, error: StreamError) -> StreamError
+    ensures { IsHandedOn (W.contents out.old) (W.contents out.new) page.old error result }
+{
+    match page.hand_on(out) {
+        Ok(()) => error,
+        Err(fault) => StreamError::Writing(fault),
+    }
+}
+
+/// Applies the events in their order, and tells each. What is told stays on the page, but all of it goes
+/// out where an event ends the stream.
 fn tell<W: Write>(
     machine: &mut Machine,
     events: &[Event],
     strictness: Strictness,
+    page: &mut Page,
     out: &mut W,
 ) -> Result<(), StreamError>
-    ensures { IsTold strictness machine.old events.now (W.contents out.old) (W.contents out.new) result machine.new }
+    ensures { IsTold strictness machine.old events.now (W.contents out.old) (W.contents out.new) page.old page.new result machine.new }
 {
     changes_are_counted();
     let mut index = 0;
@@ -89,19 +92,27 @@ fn tell<W: Write>(
         let before = Lengths::of(machine, hart_of(*event));
         let outcome = match machine.apply(*event) {
             Ok(outcome) => outcome,
-            Err(error) => return Err(StreamError::Refused(index, error)),
+            Err(error) => return Err(ended_by(page, out, StreamError::Refused(index, error))),
         };
         if strictness.ends_at(before.changes, machine.views().changes()) {
-            return Err(StreamError::Idle(index, outcome));
+            return Err(ended_by(page, out, StreamError::Idle(index, outcome)));
         }
         let report = Report::behind(&before, machine, index, *event, outcome);
-        if let Err(fault) = put_report(out, &report) {
+        if let Err(fault) = put_report(page, out, &report) {
             return Err(StreamError::Writing(fault));
         }
         index += 1;
         rest = tail;
     }
     Ok(())
+}
+
+/// The H lines, and all that stands on the page.
+fn put_closing<W: Write>(page: &mut Page, out: &mut W, statuses: &[Status]) -> io::Result<()>
+    ensures { Writes (W.contents out.old) (W.contents out.new) (page.old ++ numbered status 0 statuses.now) result }
+{
+    put_statuses(page, out, statuses)?;
+    page.hand_on(out)
 }
 
 /// Applies the events in their order to a machine at reset, and writes what each did. A write that takes
@@ -119,13 +130,14 @@ pub fn write_stream<W: Write>(
     ensures unfinished { IfErr result (λ error. IsUnfinished strictness image config events.now (W.contents out.old) (W.contents out.new) error) }
 {
     let mut machine = Machine::new(alloc, image, config)?;
-    if let Err(fault) = put_opening(out, machine.trace()) {
+    let mut page = Page::new();
+    if let Err(fault) = put_opening(&mut page, out, machine.trace()) {
         return Err(StreamError::Writing(fault));
     }
-    if let Err(error) = tell(&mut machine, events, strictness, out) {
+    if let Err(error) = tell(&mut machine, events, strictness, &mut page, out) {
         return Err(error);
     }
-    match put_statuses(out, machine.trace().statuses()) {
+    match put_closing(&mut page, out, machine.trace().statuses()) {
         Ok(()) => Ok(machine),
         Err(fault) => Err(StreamError::Writing(fault)),
     }

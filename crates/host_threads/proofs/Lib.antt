@@ -1,4 +1,3 @@
-pub mod Alone
 pub mod Leading
 pub mod Round
 pub mod Sets

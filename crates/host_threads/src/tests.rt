@@ -378,6 +378,22 @@ fn a_bad_event_is_told(rt: HostRuntime) -> Result<(), Fail> {
     Ok(())
 }
 
+// The other hart's thread would draw all numbers below the limit, were it not stopped.
+#[test]
+fn a_bad_event_ends_all_threads(rt: HostRuntime) -> Result<(), Fail> {
+    let alloc: Global = rt.alloc();
+    let mut turns = Vec::new(alloc);
+    turns.push(Always(Event::Step { hart: 9 }))?;
+    turns.push(Always(Event::Deliver {
+        channel: Channel::E,
+        hart: 1,
+    }))?;
+    let image = image_of(alloc, &SPIN)?;
+    let answer = run_with(&rt, alloc, image, config_of(2, 16), LIMIT, &Open, turns);
+    assert!(rt; answer.is_err_and(|error| error == RunError::BadEvent));
+    Ok(())
+}
+
 #[test]
 fn a_bad_configuration_is_told(rt: HostRuntime) -> Result<(), Fail> {
     let alloc: Global = rt.alloc();

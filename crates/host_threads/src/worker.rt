@@ -1,15 +1,16 @@
 //! What one thread does.
 
-ghost use Rattle.std.specs.Prelude.{◌≡◌, ◌≤◌, IfOk, None, Some, if◌then◌else◌};
-ghost use Rattle.hart.specs.Local.{can_go_alone, row_of};
+ghost use Rattle.std.specs.Prelude.{◌≡◌, ◌≤◌, IfOk};
+ghost use Rattle.hart.specs.Local.{row_of};
 ghost use Rattle.progress_board.specs.Seat.{IsSeatOf};
 
 use crate::gate::Gate;
 use crate::report::Fault;
 use crate::watched::Watched;
 use coherent_machine::{AdoptError, ApplyError};
+use crossbeam_utils::Backoff;
 use elf_loader::Image;
-use hart::{Batch, Hart, next_alone, run_local};
+use hart::{Batch, Hart, run_local};
 use locked_fabric::{Port, Share, Turn};
 use machine_model::{Config, Event, Outcome};
 use progress_board::Board;
@@ -17,7 +18,6 @@ use std::alloc::{AllocError, Global};
 use std::sync::Wait;
 use std::sync::atomic::{AtomicBool, Ordering};
 use std::sync::ledger::Ledger;
-use std::thread;
 
 /// How many instructions a batch has at most.
 const MOST_ALONE: u32 = 256;
@@ -31,7 +31,7 @@ pub(crate) struct Common {
     pub(crate) image: Image,
     pub(crate) config: Config,
     pub(crate) board: Board,
-    /// Set where a thread wasn't started.
+    /// Set where a thread wasn't started, or ended at an error.
     pub(crate) stop: AtomicBool,
     /// How many events there are at most.
     pub(crate) limit: u64,
@@ -46,6 +46,8 @@ pub(crate) struct Worker<'a, L: Ledger, T: Turn + Drop> {
     hart: u8,
     last: Option<Outcome>,
     has_halted: bool,
+    // How long it waits where it finds nothing that changes the machine.
+    backoff: Backoff,
     ghost seated: { IsSeatOf common.now.board port.seat },
 }
 
@@ -72,6 +74,7 @@ impl<'a, L: Ledger, T: Turn + Drop> Worker<'a, L, T> {
             hart,
             last: None,
             has_halted: false,
+            backoff: Backoff::new(),
         }
     }
 
@@ -89,6 +92,7 @@ impl<'a, L: Ledger, T: Turn + Drop> Worker<'a, L, T> {
                 Ok(true) => {}
                 Ok(false) => break,
                 Err(error) => {
+                    self.stop_all();
                     fault = Some(error);
                     break;
                 }
@@ -124,7 +128,7 @@ impl<'a, L: Ledger, T: Turn + Drop> Worker<'a, L, T> {
             self.halt();
         }
         let Some(event) = picked else {
-            thread::yield_now();
+            self.backoff.snooze();
             return Ok(true);
         };
         match self.common.board.draw(self.port.seat()) {
@@ -136,9 +140,10 @@ impl<'a, L: Ledger, T: Turn + Drop> Worker<'a, L, T> {
         };
         self.last = Some(outcome);
         if is_change(outcome) {
+            self.backoff.reset();
             self.publish(rt);
         } else {
-            thread::yield_now();
+            self.backoff.snooze();
         }
         Ok(true)
     }
@@ -146,13 +151,11 @@ impl<'a, L: Ledger, T: Turn + Drop> Worker<'a, L, T> {
     // What comes of the event, or `None` where the machine is at a limit.
     fn carry_out<R: Wait>(&mut self, rt: &R, event: Event) -> Result<Option<Outcome>, Fault> {
         if event == (Event::Step { hart: self.hart }) {
-            if let Some(batch) = self.batch()? {
-                match self.port.commit(rt, &batch) {
-                    Ok(outcome) => return Ok(Some(outcome)),
-                    Err(AdoptError::Limit) => return Ok(None),
-                    Err(AdoptError::NoMemory) => return Err(Fault::NoMemory),
-                    Err(AdoptError::Stale | AdoptError::Empty) => {}
-                }
+            match self.commit(rt) {
+                Ok(outcome) => return Ok(Some(outcome)),
+                Err(AdoptError::Limit) => return Ok(None),
+                Err(AdoptError::NoMemory) => return Err(Fault::NoMemory),
+                Err(AdoptError::Stale | AdoptError::Empty) => {}
             }
         }
         match self.port.apply(rt, event) {
@@ -163,11 +166,15 @@ impl<'a, L: Ledger, T: Turn + Drop> Worker<'a, L, T> {
         }
     }
 
-    // What the hart does next alone, where it does anything.
-    fn batch(&self) -> Result<Option<Batch>, AllocError> {
-        match &self.turn.state {
-            Some(hart) => batch_of(self.common.alloc, &self.common.image, hart),
-            None => Ok(None),
+    // Runs what the hart does next alone, from where it stood when the turn was asked, and commits it.
+    fn commit<R: Wait>(&mut self, rt: &R) -> Result<Outcome, AdoptError> {
+        let Some(hart) = &self.turn.state else {
+            return Err(AdoptError::Empty);
+        };
+        match &row_from(self.common.alloc, &self.common.image, hart) {
+            Ok(batch) if batch.entries().is_empty() => Err(AdoptError::Empty),
+            Ok(batch) => self.port.commit(rt, batch),
+            Err(_) => Err(AdoptError::NoMemory),
         }
     }
 
@@ -181,6 +188,11 @@ impl<'a, L: Ledger, T: Turn + Drop> Worker<'a, L, T> {
         }
     }
 
+    // Ends the other threads at their next turn: the run answers the error, whatever they do.
+    fn stop_all(&self) {
+        self.common.stop.store(true, Ordering::SeqCst);
+    }
+
     // Sets the hart's halted bit, once.
     fn halt(&mut self) {
         if !self.has_halted {
@@ -190,14 +202,11 @@ impl<'a, L: Ledger, T: Turn + Drop> Worker<'a, L, T> {
     }
 }
 
-// What a hart does alone from here, where it does anything.
-fn batch_of(alloc: Global, image: &Image, hart: &Hart) -> Result<Option<Batch>, AllocError>
-    ensures { IfOk result (λ batch. batch ≡ (if can_go_alone image.now hart.now then Some (row_of image.now hart.now 256) else None)) }
+// What a hart does alone from here.
+fn row_from(alloc: Global, image: &Image, hart: &Hart) -> Result<Batch, AllocError>
+    ensures { IfOk result (λ batch. batch ≡ row_of image.now hart.now 256) }
 {
-    match next_alone(image, hart) {
-        Some(_) => Ok(Some(run_local(alloc, image, hart, MOST_ALONE)?)),
-        None => Ok(None),
-    }
+    run_local(alloc, image, hart, MOST_ALONE)
 }
 
 // Whether an event with this outcome changed the machine.

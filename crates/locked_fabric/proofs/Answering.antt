@@ -1,5 +1,5 @@
 -- What a fabric answers to an event, by what its machine answers.
-use Rattle.std.proofs.Common.{◌≡◌, ◌≢◌, ◌⊎◌, refl, sym, ap, subst, ℕ, ◌+◌, Ok, Err, inl, inr, arith}
+use Rattle.std.proofs.Common.{◌≡◌, ◌≢◌, ◌⊎◌, refl, sym, ap, subst, Ok, Err, inl, inr, arith}
 use Rattle.std.specs.declared.result.Result.{Result}
 use Rattle.machine_model.specs.declared.event.Event.{Event}
 use Rattle.machine_model.specs.declared.outcome.Outcome.{Outcome}

@@ -1,15 +1,22 @@
 -- What a port has, what it tells of the fabric behind its lock, and how it lends its seat.
 use Rattle.std.specs.Borrow.{Lends, MutBor, Fml}
-use Rattle.std.specs.Prelude.{◌≡◌, ◌+◌, ℕ, List, [], ◌∷◌, ◌++◌, length, Option, Some, None, nat_lt, slice_index_or, if◌then◌else◌}
+use Rattle.std.specs.Prelude.{◌≡◌, ◌≢◌, ◌+◌, ◌↔◌, ℕ, Err, IfOk, OnErr, OnOk, List, [], ◌∷◌, ◌++◌, length, Option, Some, None, nat_lt, slice_index_or, if◌then◌else◌}
 use Rattle.std.specs.declared.result.Result.{Result}
 use Rattle.std.specs.declared.sync.ledger.Ledger as ledger
 use denote.RattleType.{RattleType}
 use mir.Syntax.{named}
+use Rattle.coherent_machine.specs.Adopting.{IsCurrent, local_of}
+use Rattle.coherent_machine.specs.declared.errors.AdoptError.{AdoptError}
+use Rattle.coherent_machine.specs.declared.errors.AdoptError.TheVariants.{Stale, Empty, Limit, NoMemory}
+use Rattle.hart.specs.Local.{Row}
 use Rattle.hart.specs.declared.state.Hart.{Hart}
 use Rattle.hart.specs.declared.status.Status.{Status}
 use Rattle.hart.specs.declared.status.Status.TheVariants.{Running}
 use Rattle.machine_model.specs.declared.event.Event.{Event}
 use Rattle.machine_model.specs.declared.outcome.Outcome.{Outcome}
+use Rattle.machine_model.specs.declared.outcome.Outcome.TheVariants.{Retired}
+use Rattle.machine_model.specs.Events.{verdict}
+use Rattle.machine_model.specs.Events.Verdict.{IsLimited, Moves}
 use Rattle.machine_model.specs.Views.{State, node_at}
 use Rattle.machine_parts.specs.declared.errors.ApplyError.{ApplyError}
 use Rattle.progress_board.specs.contracts.seat.Seat as seat
@@ -17,7 +24,7 @@ use Rattle.progress_board.specs.declared.seat.Seat.{Seat}
 use Rattle.trace_recorder.specs.History.{History, entries_of}
 use Rattle.locked_fabric.specs.contracts.port.Port.{the_row}
 use Rattle.locked_fabric.specs.declared.port.Port.{Port}
-use Rattle.locked_fabric.specs.Held.{Held, Answered, IsKept}
+use Rattle.locked_fabric.specs.Held.{Held, Answered, IsKept, journalled}
 
 -- ---- what a port has
 
@@ -38,6 +45,19 @@ Left P = (held : Held) × IsKept held × P held
 pub record Applied (event : Event) (result : Result Outcome ApplyError) (before after : ℕ) (new : Held) : Type 0 where
   pub old : Held
   pub answered : Answered old event result new
+  pub counted : after + old.book ≡ before + new.book
+
+-- this fabric was left by one that took the row so, and the book grew as the share did: Stale where the row isn't current, else Empty, else Limit, else the event that the row is
+pub record Committed (row : Row) (result : Result Outcome AdoptError) (before after : ℕ) (new : Held) : Type 0 where
+  pub old : Held
+  pub stale : result ≢ Err NoMemory → (result ≡ Err Stale) ↔ (IsCurrent row.first.id row old.machine → ⊥)
+  pub empty : result ≢ Err NoMemory → (result ≡ Err Empty) ↔ (IsCurrent row.first.id row old.machine × (row.entries ≡ []))
+  pub limit : result ≢ Err NoMemory →
+      (result ≡ Err Limit)
+      ↔ (IsCurrent row.first.id row old.machine × (row.entries ≢ []) × (verdict old.machine (local_of row.first.id row) ≡ IsLimited))
+  pub ok : OnOk result (new ≡ journalled old (local_of row.first.id row) new.machine)
+  pub err : OnErr result (new ≡ old)
+  pub retired : IfOk result (λ outcome. verdict old.machine (local_of row.first.id row) ≡ Moves outcome new.machine × (outcome ≡ Retired))
   pub counted : after + old.book ≡ before + new.book
 
 -- the event stands last in the journal

@@ -25,7 +25,7 @@ pub struct Port<'a, L: Ledger> {
 }
 
 impl<'a, L: Ledger> Port<'a, L> {
-    ghost use Rattle.locked_fabric.specs.Port.{Applied, IsLast, Left, LendsSeat, hart_at, seat_of, seen_in, share_of};
+    ghost use Rattle.locked_fabric.specs.Port.{Applied, Committed, IsLast, Left, LendsSeat, hart_at, seat_of, seen_in, share_of};
 
     pub fn new(lock: &'a Mutex<Fabric<L>>, seat: Seat, share: Share<L>) -> Port<'a, L>
         ensures seat { seat_of result ≡ seat }
@@ -60,6 +60,7 @@ impl<'a, L: Ledger> Port<'a, L> {
     /// Commits a batch, as `Fabric::commit` does. It waits for the lock.
     pub fn commit<R: Wait>(&mut self, rt: &R, batch: &Batch) -> Result<Outcome, AdoptError>
         ensures seat { seat_of self.new ≡ seat_of self.old }
+        ensures answers { Left (Committed batch.now result (share_of self.old) (share_of self.new)) }
         ensures retired { IfOk result (λ outcome. outcome ≡ Outcome.Retired) }
         ensures journalled { OnOk result (Left (IsLast (local_of batch.now.first.id batch.now))) }
         ensures ok { OnOk result (share_of self.new ≡ share_of self.old + 1) }

@@ -25,6 +25,9 @@ const ROW_1: [u32; 2] = [0x00500513, 0x00000073];
 /// Two private instructions, then a store.
 const ROW_7: [u32; 3] = [0x80000637, 0x00100693, 0x10d62023];
 
+/// Ends with the hart's number; a private instruction follows.
+const ROW_39_EXITS: [u32; 2] = [0x00000073, 0x00000013];
+
 /// Loads the word at the beginning of memory.
 const ROW_18: [u32; 2] = [0x80000637, 0x00062703];
 
@@ -351,6 +354,19 @@ fn row_39_beside_another_hart(rt: HostRuntime) -> Result<(), Fail> {
     ];
     let ended = played(&rt, &ROW_7, 2, &calls)?;
     assert!(rt; ends_so(&ended, &[step, local(2)], &[0, 2]));
+    Ok(())
+}
+
+#[test]
+fn row_39_of_an_ended_hart(rt: HostRuntime) -> Result<(), Fail> {
+    let calls = [
+        (Call::Apply(STEP), Answer::Came(Outcome::Exited(0))),
+        (Call::CommitNext, Answer::NotAdopted(AdoptError::Empty)),
+        (Call::CommitFirst, Answer::NotAdopted(AdoptError::Stale)),
+    ];
+    let ended = played(&rt, &ROW_39_EXITS, 1, &calls)?;
+    assert!(rt; ends_so(&ended, &[STEP], &[1]));
+    assert_eq!(rt; ended.seen, Some((1, Status::Exited(0))));
     Ok(())
 }
 

@@ -52,14 +52,15 @@ fn adopted<R: Eprint + AllocGlobal>(rt: &R, case: &Case, batch: &Batch) -> Resul
 }
 
 /// What a machine shows behind an event.
-fn applied<R: Eprint + AllocGlobal>(rt: &R, case: &Case, event: Event) -> Result<Vec<u8>> {
+pub fn applied<R: Eprint + AllocGlobal>(rt: &R, case: &Case, event: Event) -> Result<Vec<u8>> {
     let mut machine = at_reset(rt, case)?;
     let outcome = apply(rt, &mut machine, event)?;
     ensure!(outcome == Outcome::Retired, "an event isn't retired");
     Ok(again(|| shown(rt.alloc(), &machine))?)
 }
 
-fn first_batch<R: Eprint + AllocGlobal>(rt: &R, case: &Case) -> Result<Batch> {
+/// What hart 0 runs by itself from reset.
+pub fn first_batch<R: Eprint + AllocGlobal>(rt: &R, case: &Case) -> Result<Batch> {
     let machine = at_reset(rt, case)?;
     again(|| batch_of(rt.alloc(), &machine))?.context("no hart")
 }

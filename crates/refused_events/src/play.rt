@@ -38,7 +38,7 @@ pub fn apply<R: Eprint + AllocGlobal>(
 }
 
 /// Whether an outcome is spelt as its kept line.
-fn is_as_kept(alloc: Global, outcome: Outcome, kept: &str) -> Result<bool> {
+pub fn is_as_kept(alloc: Global, outcome: Outcome, kept: &str) -> Result<bool> {
     let text = match outcome {
         Outcome::Missed(line) => format!(in alloc; "Missed(0x{line:08x})")?,
         other => format!(in alloc; "{other:?}")?,

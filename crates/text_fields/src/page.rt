@@ -1,6 +1,6 @@
 //! A page: text that is spelled before it goes out, so that a line has no exits and a writer gets many
 //! lines at a time.
-ghost use Rattle.std.specs.Prelude.{◌≡◌, ◌+◌, ◌*◌, ◌≤◌, [], ◌++◌, length, OnOk};
+ghost use Rattle.std.specs.Prelude.{◌≡◌, ◌+◌, ◌*◌, ◌≤◌, [], ◌++◌, length, decimal, OnOk};
 ghost use Rattle.text_fields.specs.Fields.{number, word, hex};
 ghost use Rattle.text_fields.specs.Writing.{Writes};
 ghost use Rattle.text_fields.specs.Pages.{size, HasRoom, Spells};
@@ -72,6 +72,17 @@ impl Page {
             self.text(digits.format(n).as_bytes());
             self.text(&[end]);
         }
+    }
+
+    /// Appends a number in decimal.
+    #[inline]
+    pub fn decimal(&mut self, n: u64)
+        requires { length self.old + 20 ≤ size }
+        ensures value { self.new ≡ self.old ++ decimal n }
+        ensures len { length self.new ≤ length self.old + 20 }
+    {
+        let mut digits = Buffer::new();
+        self.text(digits.format(n).as_bytes());
     }
 
     /// Appends an address or a word.

@@ -9,13 +9,17 @@ use Rattle.trace_text.specs.declared.script.Head.{Head}
 use Rattle.trace_text.specs.declared.script.Script.{Script}
 use Rattle.trace_text.specs.Words.{channel}
 
+-- an event, and the byte that ends it
+abbrev pub event_ended : ℕ → Event → List ℕ
+event_ended end (Step h) = codes "step " ++ number end h
+event_ended end (Drain h w) = codes "drain " ++ (number 32 h ++ (word w ++ end ∷ []))
+event_ended end (Evict h l) = codes "evict " ++ (number 32 h ++ (word l ++ end ∷ []))
+event_ended end (Deliver c h) = codes "deliver " ++ (channel c ++ number end h)
+event_ended end (Local h n) = codes "local " ++ (number 32 h ++ number end n)
+
 -- an event's line
 abbrev pub event : Event → List ℕ
-event (Step h) = codes "step " ++ number 10 h
-event (Drain h w) = codes "drain " ++ (number 32 h ++ (word w ++ 10 ∷ []))
-event (Evict h l) = codes "evict " ++ (number 32 h ++ (word l ++ 10 ∷ []))
-event (Deliver c h) = codes "deliver " ++ (channel c ++ number 10 h)
-event (Local h n) = codes "local " ++ (number 32 h ++ number 10 n)
+event e = event_ended 10 e
 
 -- The numbers that an event may have in a script. Whether a machine has that hart or line is not for the text to say.
 abbrev pub IsEvent : Event → Type 0

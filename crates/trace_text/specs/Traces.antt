@@ -45,8 +45,12 @@ image size bytes = image_lines (length_of size) (length bytes / length_of size) 
 abbrev pub retired_lead : ℕ → List ℕ
 retired_lead h = codes "R " ++ number 32 h
 
+-- what it did, and the byte that ends it
+abbrev pub retired_ended : ℕ → Retired → List ℕ
+retired_ended end r = (word r.pc ++ 32 ∷ []) ++ ((word r.word ++ 32 ∷ []) ++ ((words.loaded r.loaded ++ 32 ∷ []) ++ (words.answer r.sc_ok ++ end ∷ [])))
+
 abbrev pub retired : Retired → List ℕ
-retired r = (word r.pc ++ 32 ∷ []) ++ ((word r.word ++ 32 ∷ []) ++ ((words.loaded r.loaded ++ 32 ∷ []) ++ (words.answer r.sc_ok ++ 10 ∷ [])))
+retired r = retired_ended 10 r
 
 abbrev pub entries : ℕ → List Retired → List ℕ
 entries h rs = flat_map (λ r. retired_lead h ++ retired r) rs
@@ -59,14 +63,21 @@ operation o = codes "P " ++ (number 32 o.hart ++ number 10 o.place)
 abbrev pub logged : Logged → List ℕ
 logged l = codes "M " ++ (words.direction l.direction ++ (words.channel (channel_of l.message) ++ (number 32 l.hart ++ (words.message l.message ++ 10 ∷ []))))
 
-abbrev pub outcome : Status → List ℕ
-outcome Running = codes "run\n"
-outcome (Stopped c) = codes "stop " ++ number 10 c
-outcome (Exited c) = codes "exit " ++ number 10 c
+-- how a hart ended, and the byte behind it
+abbrev pub outcome_ended : ℕ → Status → List ℕ
+outcome_ended end Running = codes "run" ++ end ∷ []
+outcome_ended end (Stopped c) = codes "stop " ++ number end c
+outcome_ended end (Exited c) = codes "exit " ++ number end c
 
--- a hart's status
+abbrev pub outcome : Status → List ℕ
+outcome s = outcome_ended 10 s
+
+-- a hart's status, and the byte behind it
+abbrev pub status_ended : ℕ → ℕ → Status → List ℕ
+status_ended end h s = (codes "H " ++ number 32 h) ++ outcome_ended end s
+
 abbrev pub status : ℕ → Status → List ℕ
-status h s = (codes "H " ++ number 32 h) ++ outcome s
+status h s = status_ended 10 h s
 
 -- the header, memory at reset, the retired instructions by hart, the performed order, the log, and each hart's status
 abbrev pub text : History → List ℕ

@@ -4,7 +4,7 @@ ghost use Rattle.std.specs.List.{flat_map};
 ghost use Rattle.text_fields.specs.Fields.{number, word};
 ghost use Rattle.text_fields.specs.Pages.{size, HasRoom, Spells};
 ghost use Rattle.text_fields.specs.Writing.{Writes};
-ghost use Rattle.trace_text.specs.Scripts.{event as event_text, head as head_text, head_of, text};
+ghost use Rattle.trace_text.specs.Scripts.{event as event_text, event_ended, head as head_text, head_of, text};
 
 use crate::script::{Script, is_first_version};
 use crate::spellings::spell_channel;
@@ -12,42 +12,45 @@ use machine_model::Event;
 use std::io::{Result, Write};
 use text_fields::Page;
 
-/// A hart and an address, which end the line.
-fn spell_place(page: &mut Page, hart: u8, address: u32)
+/// A hart and an address, and the byte that ends them.
+fn spell_place(page: &mut Page, hart: u8, address: u32, end: u8)
     requires { length page.old + 32 ≤ size }
-    ensures { page.new ≡ page.old ++ (number 32 hart ++ (word address ++ 10 ∷ [])) }
+    ensures value { page.new ≡ page.old ++ (number 32 hart ++ (word address ++ end ∷ [])) }
+    ensures len { length page.new ≤ length page.old + 32 }
 {
     page.number(hart as u64, b' ');
     page.word(address);
-    page.text(b"\n");
+    page.text(&[end]);
 }
 
-fn spell_event(page: &mut Page, event: Event)
-    requires { HasRoom page.old }
-    ensures { page.new ≡ page.old ++ event_text event }
+/// Appends an event as a script spells it, and the byte that ends it: at most 48 bytes.
+pub fn spell_event(page: &mut Page, event: Event, end: u8)
+    requires { length page.old + 48 ≤ size }
+    ensures value { page.new ≡ page.old ++ event_ended end event }
+    ensures len { length page.new ≤ length page.old + 48 }
 {
     match event {
         Event::Step { hart } => {
             page.text(b"step ");
-            page.number(hart as u64, b'\n');
+            page.number(hart as u64, end);
         }
         Event::Drain { hart, word } => {
             page.text(b"drain ");
-            spell_place(page, hart, word);
+            spell_place(page, hart, word, end);
         }
         Event::Evict { hart, line } => {
             page.text(b"evict ");
-            spell_place(page, hart, line);
+            spell_place(page, hart, line, end);
         }
         Event::Deliver { channel, hart } => {
             page.text(b"deliver ");
             spell_channel(page, channel);
-            page.number(hart as u64, b'\n');
+            page.number(hart as u64, end);
         }
         Event::Local { hart, count } => {
             page.text(b"local ");
             page.number(hart as u64, b' ');
-            page.number(count as u64, b'\n');
+            page.number(count as u64, end);
         }
     }
 }
@@ -77,7 +80,7 @@ fn put_events<W: Write>(page: &mut Page, out: &mut W, events: &[Event]) -> Resul
 {
     for event in events {
         page.make_room(out)?;
-        spell_event(page, *event);
+        spell_event(page, *event, b'\n');
     }
     Ok(())
 }

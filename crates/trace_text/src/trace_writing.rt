@@ -75,7 +75,9 @@ fn spell_image_line(page: &mut Page, address: u32, bytes: &[u8])
     }
 }
 
-fn put_image<W: Write>(page: &mut Page, out: &mut W, bytes: &[u8], width: u32) -> Result<()>
+/// Appends the I lines of memory, in lines of so many bytes, from the image's first address on. What has
+/// no room on the page is handed on.
+pub fn put_image<W: Write>(page: &mut Page, out: &mut W, bytes: &[u8], width: u32) -> Result<()>
     requires fits { length bytes.now ≤ 1048576 }
     requires width { IsWidth width }
     ensures { Spells (W.contents out.old) (W.contents out.new) page.old page.new (spelled.image_lines width (length bytes.now / width) base bytes.now) result }
@@ -117,9 +119,11 @@ fn spell_answer(page: &mut Page, sc_ok: Option<bool>)
     }
 }
 
-fn spell_retired(page: &mut Page, hart: u64, entry: &Retired)
+/// Appends an R line, but with this byte at its end.
+pub fn spell_retired(page: &mut Page, hart: u64, entry: &Retired, end: u8)
     requires { HasRoom page.old }
-    ensures { page.new ≡ page.old ++ (spelled.retired_lead hart ++ spelled.retired entry.now) }
+    ensures value { page.new ≡ page.old ++ (spelled.retired_lead hart ++ spelled.retired_ended end entry.now) }
+    ensures len { length page.new ≤ length page.old + 61 }
 {
     page.text(b"R ");
     page.number(hart, b' ');
@@ -130,7 +134,7 @@ fn spell_retired(page: &mut Page, hart: u64, entry: &Retired)
     spell_loaded(page, entry.loaded);
     page.text(b" ");
     spell_answer(page, entry.sc_ok);
-    page.text(b"\n");
+    page.text(&[end]);
 }
 
 fn put_list<W: Write>(page: &mut Page, out: &mut W, hart: u64, entries: &[Retired]) -> Result<()>
@@ -138,7 +142,7 @@ fn put_list<W: Write>(page: &mut Page, out: &mut W, hart: u64, entries: &[Retire
 {
     for entry in entries {
         page.make_room(out)?;
-        spell_retired(page, hart, entry);
+        spell_retired(page, hart, entry, b'\n');
     }
     Ok(())
 }
@@ -161,7 +165,8 @@ fn spell_operation(page: &mut Page, operation: OpId)
     page.number(operation.place as u64, b'\n');
 }
 
-fn put_performed<W: Write>(page: &mut Page, out: &mut W, performed: &[OpId]) -> Result<()>
+/// Appends a P line for each operation. What has no room on the page is handed on.
+pub fn put_performed<W: Write>(page: &mut Page, out: &mut W, performed: &[OpId]) -> Result<()>
     ensures { Spells (W.contents out.old) (W.contents out.new) page.old page.new (flat_map spelled.operation performed.now) result }
 {
     for operation in performed {
@@ -187,7 +192,8 @@ fn spell_logged(page: &mut Page, entry: &Logged)
     page.text(b"\n");
 }
 
-fn put_log<W: Write>(page: &mut Page, out: &mut W, log: &[Logged]) -> Result<()>
+/// Appends an M line for each message. What has no room on the page is handed on.
+pub fn put_log<W: Write>(page: &mut Page, out: &mut W, log: &[Logged]) -> Result<()>
     ensures { Spells (W.contents out.old) (W.contents out.new) page.old page.new (flat_map spelled.logged log.now) result }
 {
     for entry in log {
@@ -197,33 +203,39 @@ fn put_log<W: Write>(page: &mut Page, out: &mut W, log: &[Logged]) -> Result<()>
     Ok(())
 }
 
-fn spell_status(page: &mut Page, hart: u64, status: Status)
+/// Appends a hart's H line, but with this byte at its end.
+pub fn spell_status(page: &mut Page, hart: u64, status: Status, end: u8)
     requires { HasRoom page.old }
-    ensures { page.new ≡ page.old ++ spelled.status hart status }
+    ensures value { page.new ≡ page.old ++ spelled.status_ended end hart status }
+    ensures len { length page.new ≤ length page.old + 49 }
 {
     page.text(b"H ");
     page.number(hart, b' ');
     match status {
-        Status::Running => page.text(b"run\n"),
+        Status::Running => {
+            page.text(b"run");
+            page.text(&[end]);
+        }
         Status::Stopped(code) => {
             page.text(b"stop ");
-            page.number(code as u64, b'\n');
+            page.number(code as u64, end);
         }
         Status::Exited(code) => {
             page.text(b"exit ");
-            page.number(code as u64, b'\n');
+            page.number(code as u64, end);
         }
     }
 }
 
-fn put_statuses<W: Write>(page: &mut Page, out: &mut W, statuses: &[Status]) -> Result<()>
+/// Appends the H lines. What has no room on the page is handed on.
+pub fn put_statuses<W: Write>(page: &mut Page, out: &mut W, statuses: &[Status]) -> Result<()>
     ensures { Spells (W.contents out.old) (W.contents out.new) page.old page.new (numbered spelled.status 0 statuses.now) result }
 {
     let mut hart: u64 = 0;
     let mut rest = statuses;
     while let [status, others @ ..] = rest {
         page.make_room(out)?;
-        spell_status(page, hart, *status);
+        spell_status(page, hart, *status, b'\n');
         hart += 1;
         rest = others;
     }

@@ -5,7 +5,7 @@ use Rattle.std.specs.Str.{bytes_eq}
 use Rattle.clap.specs.Words.{IsAmong, Text, kind_of}
 use Rattle.clap.specs.declared.error.Error.{Error}
 use Rattle.clap.specs.declared.error.kind.ErrorKind.{ErrorKind}
-use Rattle.command_line.proofs.Left.{check_never_misused, either, only_configuration, replay_never_misused}
+use Rattle.command_line.proofs.Left.{check_never_misused, either, explain_never_misused, only_configuration, replay_never_misused}
 use Rattle.command_line.specs.Held.{Held}
 use Rattle.command_line.specs.Lines.{IsJudged}
 use Rattle.command_line.specs.Refusals.{HasFaults, IsFitting, IsHelp, IsRefused, IsUnfit}
@@ -25,7 +25,7 @@ use Rattle.rvwmo_order.specs.declared.verdict.Verdict.{Verdict}
 use Rattle.rvwmo_order.specs.declared.verdict.Verdict.TheVariants.{Fault, Legal}
 use Rattle.trace_recorder.specs.declared.operation.OpId.{OpId}
 use Rattle.command_line.proofs.running.run_line.Goals as goal
-use Rattle.command_line.proofs.running.run_line.Goals.{in-Ok-Replay+in-Err, in-Ok-Run+in-Err-run_files, in-Ok-Check+in-Err-check_file, in-Err-NoMemory}
+use Rattle.command_line.proofs.running.run_line.Goals.{in-Ok-Replay+in-Err, in-Ok-Explain+in-Err-explain_files, in-Ok-Run+in-Err-run_files, in-Ok-Check+in-Err-check_file, in-Err-NoMemory}
 
 told_of : (words : List Text) (refusal : SettingsError) (usage : Error) (P : ErrorKind → Type 0) → refusal ≡ Usage usage → IsRefused words refusal → P (kind_of usage)
     → HasFaults words (λ kinds. (kind : ErrorKind) × IsAmong kind kinds × P kind)
@@ -46,6 +46,14 @@ cut_short : (words : List Text) (held left : Held) (old new : Option (List ℕ))
     → Leaves fault old new (IsBroken held left old new meant) → IsUnprinted words held left old new
 unfolding IsUnprinted
 cut_short words held left old new wanted meant fault is named fitting leaves = elim (either old new _ fault leaves) [
+  | inl same ↦ inl same
+  | inr broken ↦ inr (inr (wanted, named, fitting, subst (IsBroken held left old new) (sym is) broken))
+]
+
+stopped : (words : List Text) (held left : Held) (old new : Option (List ℕ)) (wanted meant : Settings) → wanted ≡ meant → IsNamed words wanted → IsFitting words
+    → (new ≡ old) ⊎ IsBroken held left old new meant → IsUnprinted words held left old new
+unfolding IsUnprinted
+stopped words held left old new wanted meant is named fitting so = elim so [
   | inl same ↦ inl same
   | inr broken ↦ inr (inr (wanted, named, fitting, subst (IsBroken held left old new) (sym is) broken))
 ]
@@ -82,6 +90,15 @@ returns-in-Ok-clause-carried_out g c = λ _. inr (
   c.in-Ok-Replay.ensures.named,
   c.in-Ok-Replay.ensures.fitting,
   subst (IsDone _ _ _ _) (sym c.in-Ok-Replay.field-0-is) c.in-Ok.ensures.replayed,
+)
+
+pub returns-in-Ok-explain_files-clause-carried_out : goal.returns-in-Ok-explain_files-clause-carried_out
+unfolding IsCarriedOut
+returns-in-Ok-explain_files-clause-carried_out g c = λ _. inr (
+  c.in-Ok-Explain.field-0,
+  c.in-Ok-Explain.ensures.named,
+  c.in-Ok-Explain.ensures.fitting,
+  subst (IsDone _ _ _ _) (sym c.in-Ok-Explain.field-0-is) c.in-Ok-explain_files.ensures.explained,
 )
 
 pub returns-in-Ok-run_files-clause-carried_out : goal.returns-in-Ok-run_files-clause-carried_out
@@ -136,6 +153,7 @@ pub returns-clause-unprinted : goal.returns-clause-unprinted
 unfolding IsUnprinted
 returns-clause-unprinted g c = λ some other. elim c.match-settings.branch [
   | in-Ok-Replay+in-Err w ↦ rw (w.out-is) (cut_short _ _ _ _ _ w.in-Ok-Replay.field-0 _ _ w.in-Ok-Replay.field-0-is w.in-Ok-Replay.ensures.named w.in-Ok-Replay.ensures.fitting w.in-Err.ensures.unfinished)
+  | in-Ok-Explain+in-Err-explain_files w ↦ rw (w.out-is) (stopped _ _ _ _ _ w.in-Ok-Explain.field-0 _ w.in-Ok-Explain.field-0-is w.in-Ok-Explain.ensures.named w.in-Ok-Explain.ensures.fitting w.in-Err-explain_files.ensures.unfinished)
   | in-Ok-Run+in-Err-run_files w ↦ rw (w.out-is, w.files-is) (cut_short _ _ _ _ _ w.in-Ok-Run.field-0 _ _ w.in-Ok-Run.field-0-is w.in-Ok-Run.ensures.named w.in-Ok-Run.ensures.fitting w.in-Err-run_files.ensures.unfinished)
   | in-Ok-Check+in-Err-check_file w ↦ rw (w.out-is) (cut_short _ _ _ _ _ w.in-Ok-Check.field-0 _ _ w.in-Ok-Check.field-0-is w.in-Ok-Check.ensures.named w.in-Ok-Check.ensures.fitting w.in-Err-check_file.ensures.unfinished)
   | in-Err-NoMemory w ↦ rw (w.out-is) (inl refl)
@@ -149,6 +167,7 @@ returns-in-Err-Usage-clause-misused g c = λ two.
 pub returns-clause-misused : goal.returns-clause-misused
 returns-clause-misused g c = λ two. elim c.match-settings.branch [
   | in-Ok-Replay+in-Err w ↦ absurd (replay_never_misused _ _ w.in-Err.fault w.in-Err.ensures.told (rw (← w.fault-is) (sym c.status.ensures ∙ two)))
+  | in-Ok-Explain+in-Err-explain_files w ↦ absurd (explain_never_misused _ _ _ _ _ w.in-Err-explain_files.fault w.in-Err-explain_files.ensures.told (rw (← w.fault-is) (sym c.status.ensures ∙ two)))
   | in-Ok-Run+in-Err-run_files w ↦ rw (w.out-is)
       (beyond _ _ _ _ w.in-Ok-Run.field-0 w.in-Ok-Run.wanted _ w.in-Err-run_files.fault w.in-Ok-Run.field-0-is w.in-Ok-Run.ensures.named w.in-Ok-Run.ensures.fitting w.in-Err-run_files.ensures.told
       w.in-Err-run_files.ensures.unfinished (rw (← w.fault-is) (sym c.status.ensures ∙ two)))
@@ -165,6 +184,7 @@ returns-in-Ok-run_files-clause-spared g c =
 pub returns-clause-spared : goal.returns-clause-spared
 returns-clause-spared g c = elim c.match-settings.branch [
   | in-Ok-Replay+in-Err w ↦ rw (w.files-is) (spared _ _ _ w.in-Err.ensures.spared)
+  | in-Ok-Explain+in-Err-explain_files w ↦ rw (w.files-is) (spared _ _ _ w.in-Err-explain_files.ensures.spared)
   | in-Ok-Run+in-Err-run_files w ↦ rw (w.files-is)
       (journal_alone _ _ _ w.in-Ok-Run.field-0 w.in-Ok-Run.wanted w.in-Ok-Run.field-0-is w.in-Ok-Run.ensures.named w.in-Ok-Run.ensures.fitting w.in-Err-run_files.ensures.spared)
   | in-Ok-Check+in-Err-check_file w ↦ rw (w.files-is) (spared _ _ _ w.in-Err-check_file.ensures.spared)

@@ -1,9 +1,14 @@
+use Rattle.std.proofs.Common.{[], arith}
+use Rattle.text_fields.proofs.Pages.{page_stops, page_fails, page_more, page_as, page_spelled, page_ends, item_next, item_none}
 use Rattle.event_stream.specs.Lines.{retired_line}
-use Rattle.text_fields.proofs.Written.{stops, begins_at, appends_item}
 use Rattle.event_stream.proofs.report_writing.put_entries.Goals as goal
 
-pub returns-in_err-put_retired_line : goal.returns-in_err-put_retired_line
-returns-in_err-put_retired_line g c = stops _ _ _ _ c.from_residual.ensures.0 (begins_at _ _ _ (retired_line c.args.hart) c.args.entries.now c.loop-entry.entry-index _ c.loop-entry-test.true c.loop-entry.invariant c.in_err-put_retired_line.ensures)
+pub returns-in_err-make_room : goal.returns-in_err-make_room
+returns-in_err-make_room g c = page_stops _ _ _ _ _ _ c.from_residual.ensures.0 (page_fails _ _ _ _ [] _ _ c.loop-entry.invariant c.in_err-make_room.ensures.sent)
 
 pub loop-entry-preserved : goal.loop-entry-preserved
-loop-entry-preserved g c = appends_item _ _ _ (retired_line c.args.hart) c.args.entries.now c.loop-entry.entry-index _ c.loop-entry-test.true c.loop-entry.invariant c.in_ok-put_retired_line.ensures
+loop-entry-preserved g c =
+    page_spelled _ _ _ _ _ _ _ (page_as _ _ _ _ _ _ (item_next (retired_line c.args.hart) c.args.entries.now c.loop-entry.entry-index _ c.loop-entry-test.true) (page_more _ _ _ _ _ [] _ _ c.loop-entry.invariant c.in_ok-make_room.ensures.sent)) c.spell_retired_line.ensures
+
+pub returns : goal.returns
+returns g c = page_ends _ _ _ _ _ (page_as _ _ _ _ _ _ (item_none (retired_line c.args.hart) c.args.entries.now c.loop-entry.entry-index (omega (arith, c.loop-entry-test.false))) c.loop-entry.invariant)

@@ -1,8 +1,9 @@
-use Rattle.std.proofs.Common.{take}
+use Rattle.std.proofs.Common.{◌++◌, drop}
 use Rattle.std.specs.List.{flat_map}
-use Rattle.std.specs.Io.KnownBytes.{Appends}
+use Rattle.text_fields.proofs.Pages.{Spelling}
 use Rattle.event_stream.specs.Lines.{retired_line}
 use Rattle.event_stream.proofs.report_writing.put_entries.Given as goal
 
 abbrev pub invariant-loop-entry : goal.invariant-loop-entry
-invariant-loop-entry g l = Appends (g.W.Write.contents l.initial.out) (g.W.Write.contents l.out) (flat_map (retired_line l.hart) (take l.entry-index l.entries))
+invariant-loop-entry g l =
+    Spelling (g.W.Write.contents l.initial.out) (g.W.Write.contents l.out) l.page (flat_map (retired_line l.hart) (drop l.entry-index l.entries)) (l.initial.page ++ flat_map (retired_line l.hart) l.entries)

@@ -1,9 +1,14 @@
+use Rattle.std.proofs.Common.{[], arith}
+use Rattle.text_fields.proofs.Pages.{page_stops, page_fails, page_more, page_as, page_spelled, page_ends, item_next, item_none}
 use Rattle.event_stream.specs.Lines.{output_line}
-use Rattle.text_fields.proofs.Written.{stops, begins_at, appends_item}
 use Rattle.event_stream.proofs.report_writing.put_output.Goals as goal
 
-pub returns-in_err-put_number : goal.returns-in_err-put_number
-returns-in_err-put_number g c = stops _ _ _ _ c.from_residual.ensures.0 (begins_at _ _ _ (output_line c.args.hart) c.args.output.now c.loop-number.number-index _ c.loop-number-test.true c.loop-number.invariant c.in_err-put_number.ensures)
+pub returns-in_err-make_room : goal.returns-in_err-make_room
+returns-in_err-make_room g c = page_stops _ _ _ _ _ _ c.from_residual.ensures.0 (page_fails _ _ _ _ [] _ _ c.loop-number.invariant c.in_err-make_room.ensures.sent)
 
 pub loop-number-preserved : goal.loop-number-preserved
-loop-number-preserved g c = appends_item _ _ _ (output_line c.args.hart) c.args.output.now c.loop-number.number-index _ c.loop-number-test.true c.loop-number.invariant c.in_ok-put_number.ensures
+loop-number-preserved g c =
+    page_spelled _ _ _ _ _ _ _ (page_as _ _ _ _ _ _ (item_next (output_line c.args.hart) c.args.output.now c.loop-number.number-index _ c.loop-number-test.true) (page_more _ _ _ _ _ [] _ _ c.loop-number.invariant c.in_ok-make_room.ensures.sent)) c.spell_number.ensures
+
+pub returns : goal.returns
+returns g c = page_ends _ _ _ _ _ (page_as _ _ _ _ _ _ (item_none (output_line c.args.hart) c.args.output.now c.loop-number.number-index (omega (arith, c.loop-number-test.false))) c.loop-number.invariant)

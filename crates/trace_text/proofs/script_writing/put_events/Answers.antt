@@ -8,7 +8,7 @@ returns-in_err-make_room g c = page_stops _ _ _ _ _ _ c.from_residual.ensures.0 
 
 pub loop-event-preserved : goal.loop-event-preserved
 loop-event-preserved g c =
-    page_spelled _ _ _ _ _ _ _ (page_as _ _ _ _ _ _ (item_next event c.args.events.now c.loop-event.event-index _ c.loop-event-test.true) (page_more _ _ _ _ _ [] _ _ c.loop-event.invariant c.in_ok-make_room.ensures.sent)) c.spell_event.ensures
+    page_spelled _ _ _ _ _ _ _ (page_as _ _ _ _ _ _ (item_next event c.args.events.now c.loop-event.event-index _ c.loop-event-test.true) (page_more _ _ _ _ _ [] _ _ c.loop-event.invariant c.in_ok-make_room.ensures.sent)) c.spell_event.ensures.value
 
 pub returns : goal.returns
 returns g c = page_ends _ _ _ _ _ (page_as _ _ _ _ _ _ (item_none event c.args.events.now c.loop-event.event-index (omega (arith, c.loop-event-test.false))) c.loop-event.invariant)

@@ -12,5 +12,5 @@ pub loop-rest-preserved : goal.loop-rest-preserved
 loop-rest-preserved g c = (
   omega (arith, c.loop-rest.invariant.0, c.in-len1-up.len_at_least),
   page_as _ _ _ _ _ _ (sym (numbered_tail status (c.loop-rest.hart + 1) c.loop-rest.rest.now))
-      (page_spelled _ _ _ _ _ _ _ (page_as _ _ _ _ _ _ (numbered_first status c.loop-rest.hart c.loop-rest.rest.now _ (omega (arith, c.in-len1-up.len_at_least))) (page_more _ _ _ _ _ [] _ _ c.loop-rest.invariant.1 c.in_ok-make_room.ensures.sent)) c.spell_status.ensures),
+      (page_spelled _ _ _ _ _ _ _ (page_as _ _ _ _ _ _ (numbered_first status c.loop-rest.hart c.loop-rest.rest.now _ (omega (arith, c.in-len1-up.len_at_least))) (page_more _ _ _ _ _ [] _ _ c.loop-rest.invariant.1 c.in_ok-make_room.ensures.sent)) c.spell_status.ensures.value),
 )

@@ -1,4 +1,4 @@
-use Rattle.std.proofs.Common.{rules, ◌≡◌, ◌∙◌, ap, sym}
+use Rattle.std.proofs.Common.{rules, ◌∙◌, ap, sym}
 use Rattle.machine_model.specs.Views.{State}
 use Rattle.locked_fabric.specs.Held.{Held}
 use Rattle.locked_fabric.proofs.Answering.{answered_still, moves, still}

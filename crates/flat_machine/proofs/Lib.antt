@@ -1,0 +1,9 @@
+mod Numbers
+mod Fetching
+mod FoundPlans
+mod Patches
+mod Limits
+mod Reservations
+mod Changes
+mod QuietSteps
+mod Listed

@@ -1,0 +1,35 @@
+-- The numbers that accesses read.
+use Rattle.std.proofs.Common.{arith, ◌∙◌, ap, sym, bit_and}
+use Rattle.std.specs.Prelude.{ℕ, ◌≡◌, ◌<◌, ◌*◌, ◌/◌, ◌%◌, ◌^◌, zero, suc, List, [], ◌∷◌, length, refl}
+use Rattle.std.proofs.lemmas.Nat.{and_mask}
+use Rattle.std.proofs.Math.Nat.{mod-eq_of_lt}
+use Rattle.std.specs.Int.{w32, from_le_bytes}
+use Rattle.machine_model.specs.Words.{number_of}
+
+number-again : (bs : List ℕ) → length bs ≡ 4 → from_le_bytes w32 bs ≡ number_of bs
+number-again [] l = absurd (omega arith)
+number-again (a ∷ []) l = absurd (omega arith)
+number-again (a ∷ b ∷ []) l = absurd (omega arith)
+number-again (a ∷ b ∷ c ∷ []) l = absurd (omega arith)
+number-again (a ∷ b ∷ c ∷ d ∷ []) l = omega arith
+number-again (a ∷ b ∷ c ∷ d ∷ e ∷ bs) l = absurd (omega arith)
+
+shift-by-bytes : (k : ℕ) → k < 4 → 2 ^ (8 * k) ≡ 256 ^ k
+shift-by-bytes zero l = refl
+shift-by-bytes (suc zero) l = refl
+shift-by-bytes (suc (suc zero)) l = refl
+shift-by-bytes (suc (suc (suc zero))) l = refl
+shift-by-bytes (suc (suc (suc (suc k)))) l = absurd (omega arith)
+
+shifted : (bs : List ℕ) (k r : ℕ) → length bs ≡ 4 → k < 4 → r ≡ from_le_bytes w32 bs → r / 2 ^ (8 * k) ≡ number_of bs / 256 ^ k
+shifted bs k r l below is = ap (λ p. r / p) (shift-by-bytes k below) ∙ ap (λ n. n / 256 ^ k) (is ∙ number-again bs l)
+
+pub read-byte : (bs : List ℕ) (k r : ℕ) → length bs ≡ 4 → k < 4 → r ≡ from_le_bytes w32 bs → bit_and (r / 2 ^ (8 * k)) 255 ≡ number_of bs / 256 ^ k % 256 ^ 1
+read-byte bs k r l below is = and_mask (r / 2 ^ (8 * k)) 8 ∙ ap (λ n. n % 256) (shifted bs k r l below is)
+
+pub read-half : (bs : List ℕ) (k r : ℕ) → length bs ≡ 4 → k < 4 → r ≡ from_le_bytes w32 bs → bit_and (r / 2 ^ (8 * k)) 65535 ≡ number_of bs / 256 ^ k % 256 ^ 2
+read-half bs k r l below is = and_mask (r / 2 ^ (8 * k)) 16 ∙ ap (λ n. n % 65536) (shifted bs k r l below is)
+
+-- a quotient is no more than what is divided
+pub read-word : (bs : List ℕ) (k r : ℕ) → length bs ≡ 4 → k < 4 → r < 2 ^ 32 → r / 2 ^ (8 * k) < 2 ^ 32 → r ≡ from_le_bytes w32 bs → r / 2 ^ (8 * k) ≡ number_of bs / 256 ^ k % 256 ^ 4
+read-word bs k r l below small less is = sym (mod-eq_of_lt less) ∙ ap (λ n. n % 4294967296) (shifted bs k r l below is)

@@ -1,0 +1,80 @@
+//! Which reservations the access of an address ends.
+ghost use Rattle.std.specs.Prelude.{◌≡◌, ◌<◌, IsTrue, if◌then◌else◌, length};
+ghost use Rattle.flat_machine.specs.States.{flat_of};
+ghost use Rattle.flat_model.specs.Changing as spec;
+ghost use Rattle.flat_model.specs.Flat.{node_at};
+ghost use Rattle.machine_model.specs.Config.{is_within_limits};
+ghost use Rattle.machine_model.specs.Views.{size_of_config};
+ghost use Rattle.reservations.specs.Reservation.{without_line};
+
+use crate::node::Node;
+use crate::state::State;
+use machine_model::Config;
+use machine_parts::line_size;
+
+/// The address of the line that an address lies in.
+fn line_at(config: &Config, address: u32) -> u32
+    ensures { result ≡ spec.line_at config.now address }
+{
+    address - address % line_size(config).bytes()
+}
+
+/// The set of that line.
+fn set_at(config: &Config, address: u32) -> u32
+    requires limits { IsTrue (is_within_limits config.now) }
+    ensures { result ≡ spec.set_at config.now address }
+{
+    line_at(config, address) / line_size(config).bytes() % config.sets
+}
+
+/// Whether sets hold one line, and the two addresses lie in different lines of one set.
+fn are_rivals(config: &Config, one: u32, other: u32) -> bool
+    requires limits { IsTrue (is_within_limits config.now) }
+    ensures { result ≡ spec.are_rivals config.now one other }
+{
+    config.ways == 1
+        && set_at(config, one) == set_at(config, other)
+        && line_at(config, one) != line_at(config, other)
+}
+
+impl Node {
+    /// What an access of an address, the hart's own or another's, leaves of the reservation.
+    fn keep_reservation(&mut self, config: &Config, is_own: bool, address: u32)
+        requires limits { IsTrue (is_within_limits config.now) }
+        ensures { self.new ≡ record self.old { reserved = if is_own then spec.without_rival config.now address self.old.reserved else without_line (spec.line_at config.now address) (size_of_config config.now) self.old.reserved } }
+    {
+        if !is_own {
+            self.reservation
+                .lose_line(line_at(config, address), line_size(config));
+            return;
+        }
+        let Some(word) = self.reservation.word() else {
+            return;
+        };
+        if are_rivals(config, address, word) {
+            self.reservation.clear();
+        }
+    }
+}
+
+/// A hart accesses an address: of each node stays what the access leaves of it.
+fn keep_reservations(config: &Config, nodes: &mut Vec<Node>, hart: u8, address: u32)
+    requires limits { IsTrue (is_within_limits config.now) }
+    ensures { nodes.new.items ≡ spec.accessed_from config.now hart address 0 nodes.old.items }
+{
+    for place in 0..nodes.len() {
+        nodes[place].keep_reservation(config, place == usize::from(hart), address);
+    }
+}
+
+impl State<'_> {
+    /// A hart accesses an address, or nothing.
+    pub(crate) fn access(&mut self, hart: u8, accessed: Option<u32>)
+        requires limits { IsTrue (is_within_limits self.old.config) }
+        ensures { flat_of self.new ≡ spec.accessed hart accessed (flat_of self.old) }
+    {
+        if let Some(address) = accessed {
+            keep_reservations(&self.config, &mut self.nodes, hart, address);
+        }
+    }
+}

@@ -1,0 +1,26 @@
+//! What an event comes to.
+
+use hart::Retired;
+use machine_model::{Deed, Outcome};
+use rv32_decode::Instr;
+
+/// What an event of the flat machine comes to, before anything changes.
+#[derive(Clone, Copy, Debug, PartialEq, Eq)]
+pub enum Plan {
+    /// There is no such event.
+    Refused,
+    /// Nothing changes; the outcome says why.
+    Stays(Outcome),
+    /// The hart halts with this code; nothing retires.
+    Stops(u8),
+    /// The instruction retires with this entry, and does this beside its hart's pc, registers and status. It accesses
+    /// memory at this address, or nowhere.
+    Retires {
+        entry: Retired,
+        instr: Instr,
+        deed: Deed,
+        accessed: Option<u32>,
+    },
+    /// The word's entry leaves the oldest group of the store buffer.
+    Drains(u32),
+}

@@ -1,0 +1,117 @@
+-- The rules by facts are the rules by the log.
+use Rattle.std.proofs.Common.{ℕ, Bool, true, false, List, ◌≡◌, Some, None, refl, sym, subst}
+use Rattle.std.specs.Prelude.{◌↔◌, IsTrue, Option, not, unwrap_or}
+use Rattle.machine_model.specs.LawfulLog.{asked_by_next, lost_since_asking}
+use Rattle.lawful_log.specs.Facts as by_facts
+use Rattle.lawful_log.specs.Facts.{GoesBy, KeepsBy, facts_of, without_data}
+use Rattle.lawful_log.specs.Rules.{Keeps, KeepsGoing, fits_data, is_asked, may_go_by}
+use Rattle.lawful_log.specs.declared.rule.LogRule.{LogRule}
+use Rattle.lawful_log.specs.declared.rule.LogRule.TheVariants.{InOrder, Question, Permission, Data, AcquireOnce, ProbeOnce, GrantAlone, ReleaseAlone}
+use Rattle.tl_types.specs.declared.message.Body.{Body}
+use Rattle.tl_types.specs.declared.message.Body.TheVariants.{AcquireBlock, ProbeBlock, ProbeAck, ProbeAckData, Release, ReleaseData, Grant, GrantData, ReleaseAck, GrantAck}
+use Rattle.tl_types.specs.declared.message.Msg.{Msg}
+use Rattle.tl_types.specs.declared.permission.Cap.{Cap}
+use Rattle.tl_types.specs.declared.permission.Grow.{Grow}
+use Rattle.trace_recorder.specs.declared.logged.Direction.{Direction}
+use Rattle.trace_recorder.specs.declared.logged.Direction.TheVariants.{Sent, Taken}
+use Rattle.trace_recorder.specs.declared.logged.Logged.{Logged}
+
+module _ (h line : ℕ) (log : List Logged) where
+  asked_same : (o : Option Grow) (p : Cap) → is_asked o p ≡ by_facts.is_asked o p
+  asked_same None p = refl
+  asked_same (Some g) p = refl
+
+  without_same : (o : Option Grow) → fits_data o false h line log ≡ unwrap_or (without_data o (lost_since_asking h line false log)) true
+  without_same None = refl
+  without_same (Some g) = refl
+
+  with_same : (o : Option Grow) → fits_data o true h line log ≡ not (unwrap_or (without_data o (lost_since_asking h line false log)) false)
+  with_same None = refl
+  with_same (Some g) = refl
+
+  same : (rule : LogRule) (body : Body) → may_go_by rule body h line log ≡ by_facts.may_go_by rule body (facts_of h (record { line = line; body = body }) log)
+  same InOrder body = refl
+  same Question (AcquireBlock g) = refl
+  same Question (ProbeBlock c) = refl
+  same Question (ProbeAck c) = refl
+  same Question (ProbeAckData c b) = refl
+  same Question (Release c) = refl
+  same Question (ReleaseData c b) = refl
+  same Question (Grant c) = refl
+  same Question (GrantData c b) = refl
+  same Question ReleaseAck = refl
+  same Question GrantAck = refl
+  same Permission (AcquireBlock g) = refl
+  same Permission (ProbeBlock c) = refl
+  same Permission (ProbeAck c) = refl
+  same Permission (ProbeAckData c b) = refl
+  same Permission (Release c) = refl
+  same Permission (ReleaseData c b) = refl
+  same Permission (Grant c) = asked_same (asked_by_next h line log) c
+  same Permission (GrantData c b) = asked_same (asked_by_next h line log) c
+  same Permission ReleaseAck = refl
+  same Permission GrantAck = refl
+  same Data (AcquireBlock g) = refl
+  same Data (ProbeBlock c) = refl
+  same Data (ProbeAck c) = refl
+  same Data (ProbeAckData c b) = refl
+  same Data (Release c) = refl
+  same Data (ReleaseData c b) = refl
+  same Data (Grant c) = without_same (asked_by_next h line log)
+  same Data (GrantData c b) = with_same (asked_by_next h line log)
+  same Data ReleaseAck = refl
+  same Data GrantAck = refl
+  same AcquireOnce (AcquireBlock g) = refl
+  same AcquireOnce (ProbeBlock c) = refl
+  same AcquireOnce (ProbeAck c) = refl
+  same AcquireOnce (ProbeAckData c b) = refl
+  same AcquireOnce (Release c) = refl
+  same AcquireOnce (ReleaseData c b) = refl
+  same AcquireOnce (Grant c) = refl
+  same AcquireOnce (GrantData c b) = refl
+  same AcquireOnce ReleaseAck = refl
+  same AcquireOnce GrantAck = refl
+  same ProbeOnce (AcquireBlock g) = refl
+  same ProbeOnce (ProbeBlock c) = refl
+  same ProbeOnce (ProbeAck c) = refl
+  same ProbeOnce (ProbeAckData c b) = refl
+  same ProbeOnce (Release c) = refl
+  same ProbeOnce (ReleaseData c b) = refl
+  same ProbeOnce (Grant c) = refl
+  same ProbeOnce (GrantData c b) = refl
+  same ProbeOnce ReleaseAck = refl
+  same ProbeOnce GrantAck = refl
+  same GrantAlone (AcquireBlock g) = refl
+  same GrantAlone (ProbeBlock c) = refl
+  same GrantAlone (ProbeAck c) = refl
+  same GrantAlone (ProbeAckData c b) = refl
+  same GrantAlone (Release c) = refl
+  same GrantAlone (ReleaseData c b) = refl
+  same GrantAlone (Grant c) = refl
+  same GrantAlone (GrantData c b) = refl
+  same GrantAlone ReleaseAck = refl
+  same GrantAlone GrantAck = refl
+  same ReleaseAlone (AcquireBlock g) = refl
+  same ReleaseAlone (ProbeBlock c) = refl
+  same ReleaseAlone (ProbeAck c) = refl
+  same ReleaseAlone (ProbeAckData c b) = refl
+  same ReleaseAlone (Release c) = refl
+  same ReleaseAlone (ReleaseData c b) = refl
+  same ReleaseAlone (Grant c) = refl
+  same ReleaseAlone (GrantData c b) = refl
+  same ReleaseAlone ReleaseAck = refl
+  same ReleaseAlone GrantAck = refl
+
+going : (d : Direction) (rule : LogRule) (h : ℕ) (m : Msg) (log : List Logged) → GoesBy d rule m (facts_of h m log) ↔ KeepsGoing d rule h m log
+going Sent rule h m log = (λ t. subst IsTrue (sym (same h m.line log rule m.body)) t, λ t. subst IsTrue (same h m.line log rule m.body) t)
+going Taken InOrder h m log = (λ t. t, λ t. t)
+going Taken Question h m log = (λ t. t, λ t. t)
+going Taken Permission h m log = (λ t. t, λ t. t)
+going Taken Data h m log = (λ t. t, λ t. t)
+going Taken AcquireOnce h m log = (λ t. t, λ t. t)
+going Taken ProbeOnce h m log = (λ t. t, λ t. t)
+going Taken GrantAlone h m log = (λ t. t, λ t. t)
+going Taken ReleaseAlone h m log = (λ t. t, λ t. t)
+
+pub keeps_by_facts : (rule : LogRule) (e : Logged) (log : List Logged) → KeepsBy rule (facts_of e.hart e.message log) e ↔ Keeps rule log e
+keeps_by_facts rule e log = going e.direction rule e.hart e.message log

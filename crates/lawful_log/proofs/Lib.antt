@@ -1,0 +1,9 @@
+pub mod Sends
+pub mod Entries
+pub mod Ranks
+pub mod Judged
+pub mod Counted
+pub mod Waiting
+pub mod Noted
+pub mod Passing
+pub mod Maps

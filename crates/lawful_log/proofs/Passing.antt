@@ -1,0 +1,59 @@
+-- One pass over a log: each entry that breaks no rule leaves it lawful, and the first that breaks one is found.
+use Rattle.std.proofs.Common.{ℕ, ◌+◌, ◌<◌, ◌≤◌, List, [], ◌∷◌, ◌++◌, ◌≡◌, Some, None, refl, sym, subst, length, take, drop, arith, get_or}
+use Rattle.std.specs.Prelude.{◌↔◌, Option, slice_get}
+use Rattle.std.proofs.lemmas.List.{take-append-drop, take_all, take_more}
+use Rattle.std.proofs.lemmas.Option.{slice_get-get_or}
+use Rattle.machine_model.specs.LawfulLog.{IsLawfulLog}
+use Rattle.lawful_log.proofs.Entries.{beginning_lawful, lawful_keeps, lawful_with}
+use Rattle.lawful_log.proofs.Judged.{keeps_by_facts}
+use Rattle.lawful_log.specs.Facts.{FindsBreach, facts_of}
+use Rattle.lawful_log.specs.Followed.{Follows}
+use Rattle.lawful_log.specs.Laws.{IsFirstBreach}
+use Rattle.lawful_log.specs.Rules.{Keeps}
+use Rattle.lawful_log.specs.declared.facts.Facts.{Facts}
+use Rattle.lawful_log.specs.declared.followed.Followed.{Followed}
+use Rattle.lawful_log.specs.declared.rule.LogRule.{LogRule}
+use Rattle.lawful_log.specs.declared.rule.LogRule.TheVariants.{InOrder}
+use Rattle.lawful_log.specs.declared.rule.LogVerdict.{LogVerdict}
+use Rattle.lawful_log.specs.declared.rule.LogVerdict.TheVariants.{Lawful, Unlawful}
+use Rattle.trace_recorder.specs.declared.logged.Logged.{Logged}
+
+-- no rule is broken
+pub keeps_all : (log : List Logged) (e : Logged) (f : Facts) (o : Option LogRule) → f ≡ facts_of e.hart e.message log → o ≡ None → FindsBreach f e o → (rule : LogRule) → Keeps rule log e
+keeps_all log e f o known is found rule =
+    let none : FindsBreach f e None = subst (λ (p : Option LogRule). FindsBreach f e p) is found in
+    (keeps_by_facts rule e log).0 (subst (λ (f : Facts). FindsBreach f e None) known none rule)
+
+module _ (log : List Logged) (i : ℕ) (d : Logged) (within : i < length log) where
+  pub lawful_further : IsLawfulLog (take i log) → ((rule : LogRule) → Keeps rule (take i log) (get_or log i d)) → IsLawfulLog (take (i + 1) log)
+  lawful_further lawful each = subst IsLawfulLog (sym (take_more log i d within)) (lawful_with (take i log) (get_or log i d) lawful each)
+
+  pub follows_further : (f : Followed) → Follows f (take i log ++ get_or log i d ∷ []) → Follows f (take (i + 1) log)
+  follows_further f follows = subst (Follows f) (sym (take_more log i d within)) follows
+
+  pub first_breach : (f : Facts) (rule : LogRule) (o : Option LogRule) → f ≡ facts_of (get_or log i d).hart (get_or log i d).message (take i log) → IsLawfulLog (take i log) → o ≡ Some rule → FindsBreach f (get_or log i d) o → IsFirstBreach log rule i
+  first_breach f rule o known lawful is told =
+      let found : FindsBreach f (get_or log i d) (Some rule) = subst (λ (p : Option LogRule). FindsBreach f (get_or log i d) p) is told in
+      let here : FindsBreach (facts_of (get_or log i d).hart (get_or log i d).message (take i log)) (get_or log i d) (Some rule) = subst (λ (f : Facts). FindsBreach f (get_or log i d) (Some rule)) known found in
+      record {
+        entry = get_or log i d;
+        stands = slice_get-get_or log i d within;
+        lawful_before = lawful;
+        unlawful_with = λ all. here.0 ((keeps_by_facts rule (get_or log i d) (take i log)).1 (lawful_keeps (take i log) [] (get_or log i d) (subst IsLawfulLog (take_more log i d within) all) rule));
+        broken = λ kept. here.0 ((keeps_by_facts rule (get_or log i d) (take i log)).1 kept);
+        first = λ r below. (keeps_by_facts r (get_or log i d) (take i log)).0 (here.1 r below);
+      }
+
+-- a breach tells that the log isn't lawful
+pub breach_decides : (log : List Logged) (rule : LogRule) (i : ℕ) → IsFirstBreach log rule i → (Unlawful rule i ≡ Lawful) ↔ IsLawfulLog log
+breach_decides log rule i breach = (λ same. cc same, λ all. absurd (breach.unlawful_with (beginning_lawful (take (i + 1) log) (drop (i + 1) log) (subst IsLawfulLog (sym (take-append-drop (i + 1) log)) all))))
+
+pub lawful_decides : (log : List Logged) (i : ℕ) → length log ≤ i → IsLawfulLog (take i log) → (Lawful ≡ Lawful) ↔ IsLawfulLog log
+lawful_decides log i past lawful = (λ same. subst IsLawfulLog (take_all i log past) lawful, λ all. refl)
+
+-- one entry further, where it breaks no rule
+pub passes : (log : List Logged) (i : ℕ) (d : Logged) (within : i < length log) (f : Facts) (o : Option LogRule) (next : Followed) → f ≡ facts_of (get_or log i d).hart (get_or log i d).message (take i log) → IsLawfulLog (take i log) → o ≡ None → FindsBreach f (get_or log i d) o
+    → (Keeps InOrder (take i log) (get_or log i d) → Follows next (take i log ++ get_or log i d ∷ [])) → Follows next (take (i + 1) log) × IsLawfulLog (take (i + 1) log)
+passes log i d within f o next known lawful is found noted =
+    let each : (rule : LogRule) → Keeps rule (take i log) (get_or log i d) = keeps_all (take i log) (get_or log i d) f o known is found in
+    (follows_further log i d within next (noted (each InOrder)), lawful_further log i d within lawful each)

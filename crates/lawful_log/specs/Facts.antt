@@ -1,0 +1,182 @@
+-- What is counted of a log, and the rules in terms of it.
+use Rattle.std.specs.Prelude.{ℕ, ◌≡◌, ◌<◌, ◌+◌, ◌^◌, Bool, true, false, ◌&&◌, not, ◌==◌, nat_lt, List, Option, Some, None, IsTrue, is_some, unwrap_or, length, slice_get}
+use Rattle.machine_model.specs.LawfulLog.{asked_by_next, concerns, is_acquire, is_BtoT, is_for, is_grant, is_grant_ack, is_of_line, is_probe, is_probe_ack, is_release, is_release_ack, lost_since_asking, sent_count, sent_on, taken_count, taken_on}
+use Rattle.lawful_log.specs.Rules as rules
+use Rattle.lawful_log.specs.Rules.{rank}
+use Rattle.lawful_log.specs.declared.facts.Facts.{Facts}
+use Rattle.lawful_log.specs.declared.rule.LogRule.{LogRule}
+use Rattle.lawful_log.specs.declared.rule.LogRule.TheVariants.{InOrder, Question, Permission, Data, AcquireOnce, ProbeOnce, GrantAlone, ReleaseAlone}
+use Rattle.lawful_log.specs.declared.tallies.Tallies.{Tallies}
+use Rattle.lawful_log.specs.declared.tallies.Tally.{Tally}
+use Rattle.tl_types.specs.Message.{channel_of}
+use Rattle.tl_types.specs.declared.message.Body.{Body}
+use Rattle.tl_types.specs.declared.message.Body.TheVariants.{AcquireBlock, ProbeBlock, ProbeAck, ProbeAckData, Release, ReleaseData, Grant, GrantData, ReleaseAck, GrantAck}
+use Rattle.tl_types.specs.declared.message.Msg.{Msg}
+use Rattle.tl_types.specs.declared.permission.Cap.{Cap}
+use Rattle.tl_types.specs.declared.permission.Grow.{Grow}
+use Rattle.trace_recorder.specs.declared.logged.Direction.{Direction}
+use Rattle.trace_recorder.specs.declared.logged.Direction.TheVariants.{Sent, Taken}
+use Rattle.trace_recorder.specs.declared.logged.Logged.{Logged}
+
+-- ---- tallies
+
+abbrev pub no_tally : Tally
+no_tally = record { sent = 0; taken = 0 }
+
+abbrev pub no_tallies : Tallies
+no_tallies = record { acquires = no_tally; probes = no_tally; probe_acks = no_tally; releases = no_tally; release_acks = no_tally; grants = no_tally; grant_acks = no_tally }
+
+abbrev pub goes_up : Direction → Tally → Tally
+goes_up Sent t = record { sent = t.sent + 1; taken = t.taken }
+goes_up Taken t = record { sent = t.sent; taken = t.taken + 1 }
+
+abbrev pub counted_as : Body → Direction → Tallies → Tallies
+counted_as (AcquireBlock grow) d t = record t { acquires = goes_up d t.acquires }
+counted_as (ProbeBlock cap) d t = record t { probes = goes_up d t.probes }
+counted_as (ProbeAck change) d t = record t { probe_acks = goes_up d t.probe_acks }
+counted_as (ProbeAckData change bytes) d t = record t { probe_acks = goes_up d t.probe_acks }
+counted_as (Release change) d t = record t { releases = goes_up d t.releases }
+counted_as (ReleaseData change bytes) d t = record t { releases = goes_up d t.releases }
+counted_as (Grant cap) d t = record t { grants = goes_up d t.grants }
+counted_as (GrantData cap bytes) d t = record t { grants = goes_up d t.grants }
+counted_as ReleaseAck d t = record t { release_acks = goes_up d t.release_acks }
+counted_as GrantAck d t = record t { grant_acks = goes_up d t.grant_acks }
+
+abbrev pub counted : Logged → Tallies → Tallies
+counted e t = counted_as e.message.body e.direction t
+
+-- a further message can be counted
+pub record HasRoom (t : Tally) : Type 0 where
+  pub for_sent : t.sent + 1 < 2 ^ 64
+  pub for_taken : t.taken + 1 < 2 ^ 64
+
+pub record HaveRoom (t : Tallies) : Type 0 where
+  pub acquires : HasRoom t.acquires
+  pub probes : HasRoom t.probes
+  pub probe_acks : HasRoom t.probe_acks
+  pub releases : HasRoom t.releases
+  pub release_acks : HasRoom t.release_acks
+  pub grants : HasRoom t.grants
+  pub grant_acks : HasRoom t.grant_acks
+
+-- the tallies of a log
+abbrev pub tally_of : (Body → Bool) → (Logged → Bool) → List Logged → Tally
+tally_of kind who log = record { sent = sent_count kind who log; taken = taken_count kind who log }
+
+abbrev pub tallies_of : (Logged → Bool) → List Logged → Tallies
+tallies_of who log = record {
+  acquires = tally_of is_acquire who log;
+  probes = tally_of is_probe who log;
+  probe_acks = tally_of is_probe_ack who log;
+  releases = tally_of is_release who log;
+  release_acks = tally_of is_release_ack who log;
+  grants = tally_of is_grant who log;
+  grant_acks = tally_of is_grant_ack who log;
+}
+
+-- ---- what an entry is judged by
+
+-- of what went into the message's queue, the first that hasn't come out
+abbrev pub front_for : ℕ → Msg → List Logged → Option Msg
+front_for h m log = slice_get (sent_on (channel_of m) h log) (length (taken_on (channel_of m) h log))
+
+abbrev pub facts_of : ℕ → Msg → List Logged → Facts
+facts_of h m log = record {
+  front = front_for h m log;
+  hart = tallies_of (concerns h m.line) log;
+  line = tallies_of (is_of_line m.line) log;
+  asked = asked_by_next h m.line log;
+  lost = lost_since_asking h m.line false log;
+}
+
+-- ---- the rules
+
+abbrev pub has_question : Body → Facts → Bool
+has_question (AcquireBlock grow) f = true
+has_question (ProbeBlock cap) f = true
+has_question (ProbeAck change) f = nat_lt f.hart.probe_acks.sent f.hart.probes.taken
+has_question (ProbeAckData change bytes) f = nat_lt f.hart.probe_acks.sent f.hart.probes.taken
+has_question (Release change) f = true
+has_question (ReleaseData change bytes) f = true
+has_question (Grant cap) f = is_some f.asked
+has_question (GrantData cap bytes) f = is_some f.asked
+has_question ReleaseAck f = nat_lt f.hart.release_acks.sent f.hart.releases.taken
+has_question GrantAck f = nat_lt f.hart.grant_acks.sent f.hart.grants.taken
+
+abbrev pub is_asked : Option Grow → Cap → Bool
+is_asked None cap = true
+is_asked (Some grow) cap = is_for grow cap
+
+abbrev pub has_permission : Body → Facts → Bool
+has_permission (Grant cap) f = is_asked f.asked cap
+has_permission (GrantData cap bytes) f = is_asked f.asked cap
+has_permission _ f = true
+
+abbrev pub without_data : Option Grow → (lost : Bool) → Option Bool
+without_data None lost = None
+without_data (Some grow) lost = Some (is_BtoT grow && not lost)
+
+abbrev pub goes_without_data : Facts → Option Bool
+goes_without_data f = without_data f.asked f.lost
+
+abbrev pub has_right_data : Body → Facts → Bool
+has_right_data (Grant cap) f = unwrap_or (goes_without_data f) true
+has_right_data (GrantData cap bytes) f = not (unwrap_or (goes_without_data f) false)
+has_right_data _ f = true
+
+abbrev pub is_no_acquire_open : Facts → Bool
+is_no_acquire_open f = f.hart.acquires.sent == f.hart.grants.taken
+
+abbrev pub is_acquired_once : Body → Facts → Bool
+is_acquired_once (AcquireBlock grow) f = is_no_acquire_open f
+is_acquired_once _ f = true
+
+abbrev pub is_probed_once : Body → Facts → Bool
+is_probed_once (ProbeBlock cap) f = f.hart.probes.sent == f.hart.probe_acks.taken
+is_probed_once _ f = true
+
+abbrev pub is_no_grant_open : Facts → Bool
+is_no_grant_open f = f.line.grants.sent == f.line.grant_acks.taken
+
+abbrev pub leaves_grant_alone : Body → Facts → Bool
+leaves_grant_alone (ProbeBlock cap) f = is_no_grant_open f
+leaves_grant_alone (Grant cap) f = f.line.probes.sent == f.line.probe_acks.taken && is_no_grant_open f
+leaves_grant_alone (GrantData cap bytes) f = f.line.probes.sent == f.line.probe_acks.taken && is_no_grant_open f
+leaves_grant_alone _ f = true
+
+abbrev pub is_no_release_open : Facts → Bool
+is_no_release_open f = f.hart.releases.sent == f.hart.release_acks.taken
+
+abbrev pub leaves_release_alone : Body → Facts → Bool
+leaves_release_alone (AcquireBlock grow) f = is_no_release_open f
+leaves_release_alone (ProbeAck change) f = is_no_release_open f
+leaves_release_alone (ProbeAckData change bytes) f = is_no_release_open f
+leaves_release_alone (Release change) f = is_no_release_open f && is_no_acquire_open f
+leaves_release_alone (ReleaseData change bytes) f = is_no_release_open f && is_no_acquire_open f
+leaves_release_alone _ f = true
+
+abbrev pub may_go_by : LogRule → Body → Facts → Bool
+may_go_by InOrder body f = true
+may_go_by Question body f = has_question body f
+may_go_by Permission body f = has_permission body f
+may_go_by Data body f = has_right_data body f
+may_go_by AcquireOnce body f = is_acquired_once body f
+may_go_by ProbeOnce body f = is_probed_once body f
+may_go_by GrantAlone body f = leaves_grant_alone body f
+may_go_by ReleaseAlone body f = leaves_release_alone body f
+
+abbrev pub MayComeBy : LogRule → Msg → Facts → Type 0
+MayComeBy InOrder m f = f.front ≡ Some m
+MayComeBy _ m f = IsTrue true
+
+abbrev pub GoesBy : Direction → LogRule → Msg → Facts → Type 0
+GoesBy Sent rule m f = IsTrue (may_go_by rule m.body f)
+GoesBy Taken rule m f = MayComeBy rule m f
+
+abbrev pub KeepsBy : LogRule → Facts → Logged → Type 0
+KeepsBy rule f e = GoesBy e.direction rule e.message f
+
+-- all rules are kept, or this is the first that is broken
+abbrev pub FindsBreach : Facts → Logged → Option LogRule → Type 0
+FindsBreach f e None = (r : LogRule) → KeepsBy r f e
+FindsBreach f e (Some rule) = (¬ KeepsBy rule f e) × ((r : LogRule) → rank r < rank rule → KeepsBy r f e)

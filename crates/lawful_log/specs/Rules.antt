@@ -1,0 +1,118 @@
+-- The rules of the lawful log entry by entry: what each asks of an entry, behind the entries before it.
+use Rattle.std.specs.Prelude.{ℕ, ◌≡◌, ◌<◌, Bool, true, false, ◌&&◌, not, List, ◌∷◌, ◌++◌, Option, Some, None, IsTrue, is_some, length, slice_get}
+use Rattle.machine_model.specs.LawfulLog.{asked_by_next, concerns, goes_without_data, is_for, is_grant, is_grant_ack, is_owed, is_probe, is_probe_ack, is_release, is_release_ack, no_acquire_open, no_grant_open, no_hart_probed, no_probe_open, no_release_open, sent_on, taken_on}
+use Rattle.lawful_log.specs.declared.rule.LogRule.{LogRule}
+use Rattle.lawful_log.specs.declared.rule.LogRule.TheVariants.{InOrder, Question, Permission, Data, AcquireOnce, ProbeOnce, GrantAlone, ReleaseAlone}
+use Rattle.tl_types.specs.Message.{channel_of}
+use Rattle.tl_types.specs.declared.message.Body.{Body}
+use Rattle.tl_types.specs.declared.message.Body.TheVariants.{AcquireBlock, ProbeBlock, ProbeAck, ProbeAckData, Release, ReleaseData, Grant, GrantData, ReleaseAck, GrantAck}
+use Rattle.tl_types.specs.declared.message.Msg.{Msg}
+use Rattle.tl_types.specs.declared.permission.Cap.{Cap}
+use Rattle.tl_types.specs.declared.permission.Grow.{Grow}
+use Rattle.trace_recorder.specs.declared.logged.Direction.{Direction}
+use Rattle.trace_recorder.specs.declared.logged.Direction.TheVariants.{Sent, Taken}
+use Rattle.trace_recorder.specs.declared.logged.Logged.{Logged}
+
+-- ---- what a message that is sent owes, behind a log
+
+-- an answer has a question of its kind that has arrived and wasn't answered yet; a Grant answers the next Acquire
+abbrev pub has_question : Body → ℕ → ℕ → List Logged → Bool
+has_question (AcquireBlock grow) h line log = true
+has_question (ProbeBlock cap) h line log = true
+has_question (ProbeAck change) h line log = is_owed is_probe is_probe_ack (concerns h line) log
+has_question (ProbeAckData change bytes) h line log = is_owed is_probe is_probe_ack (concerns h line) log
+has_question (Release change) h line log = true
+has_question (ReleaseData change bytes) h line log = true
+has_question (Grant cap) h line log = is_some (asked_by_next h line log)
+has_question (GrantData cap bytes) h line log = is_some (asked_by_next h line log)
+has_question ReleaseAck h line log = is_owed is_release is_release_ack (concerns h line) log
+has_question GrantAck h line log = is_owed is_grant is_grant_ack (concerns h line) log
+
+-- a Grant gives the permission that was asked for; where nothing was asked that is the last rule's matter
+abbrev pub is_asked : Option Grow → Cap → Bool
+is_asked None cap = true
+is_asked (Some grow) cap = is_for grow cap
+
+abbrev pub has_permission : Body → ℕ → ℕ → List Logged → Bool
+has_permission (Grant cap) h line log = is_asked (asked_by_next h line log) cap
+has_permission (GrantData cap bytes) h line log = is_asked (asked_by_next h line log) cap
+has_permission _ h line log = true
+
+-- a Grant has data unless it goes without
+abbrev pub fits_data : Option Grow → (with_data : Bool) → ℕ → ℕ → List Logged → Bool
+fits_data None with_data h line log = true
+fits_data (Some grow) true h line log = not (goes_without_data h line log grow)
+fits_data (Some grow) false h line log = goes_without_data h line log grow
+
+abbrev pub has_right_data : Body → ℕ → ℕ → List Logged → Bool
+has_right_data (Grant cap) h line log = fits_data (asked_by_next h line log) false h line log
+has_right_data (GrantData cap bytes) h line log = fits_data (asked_by_next h line log) true h line log
+has_right_data _ h line log = true
+
+abbrev pub is_acquired_once : Body → ℕ → ℕ → List Logged → Bool
+is_acquired_once (AcquireBlock grow) h line log = no_acquire_open h line log
+is_acquired_once _ h line log = true
+
+abbrev pub is_probed_once : Body → ℕ → ℕ → List Logged → Bool
+is_probed_once (ProbeBlock cap) h line log = no_probe_open h line log
+is_probed_once _ h line log = true
+
+-- no Probe and no Grant beside a Grant, and no Grant beside a Probe
+abbrev pub leaves_grant_alone : Body → ℕ → ℕ → List Logged → Bool
+leaves_grant_alone (ProbeBlock cap) h line log = no_grant_open line log
+leaves_grant_alone (Grant cap) h line log = no_hart_probed line log && no_grant_open line log
+leaves_grant_alone (GrantData cap bytes) h line log = no_hart_probed line log && no_grant_open line log
+leaves_grant_alone _ h line log = true
+
+-- no Acquire, ProbeAck or Release beside a Release, and no Release beside an Acquire
+abbrev pub leaves_release_alone : Body → ℕ → ℕ → List Logged → Bool
+leaves_release_alone (AcquireBlock grow) h line log = no_release_open h line log
+leaves_release_alone (ProbeAck change) h line log = no_release_open h line log
+leaves_release_alone (ProbeAckData change bytes) h line log = no_release_open h line log
+leaves_release_alone (Release change) h line log = no_release_open h line log && no_acquire_open h line log
+leaves_release_alone (ReleaseData change bytes) h line log = no_release_open h line log && no_acquire_open h line log
+leaves_release_alone _ h line log = true
+
+abbrev pub may_go_by : LogRule → Body → ℕ → ℕ → List Logged → Bool
+may_go_by InOrder body h line log = true
+may_go_by Question body h line log = has_question body h line log
+may_go_by Permission body h line log = has_permission body h line log
+may_go_by Data body h line log = has_right_data body h line log
+may_go_by AcquireOnce body h line log = is_acquired_once body h line log
+may_go_by ProbeOnce body h line log = is_probed_once body h line log
+may_go_by GrantAlone body h line log = leaves_grant_alone body h line log
+may_go_by ReleaseAlone body h line log = leaves_release_alone body h line log
+
+-- ---- what a message that is taken owes
+
+-- of what went into its queue, it is the first that hasn't come out
+abbrev pub IsFront : ℕ → Msg → List Logged → Type 0
+IsFront h m log = slice_get (sent_on (channel_of m) h log) (length (taken_on (channel_of m) h log)) ≡ Some m
+
+abbrev pub MayComeBy : LogRule → ℕ → Msg → List Logged → Type 0
+MayComeBy InOrder h m log = IsFront h m log
+MayComeBy _ h m log = IsTrue true
+
+-- ---- an entry keeps a rule, behind a log
+
+abbrev pub KeepsGoing : Direction → LogRule → ℕ → Msg → List Logged → Type 0
+KeepsGoing Sent rule h m log = IsTrue (may_go_by rule m.body h m.line log)
+KeepsGoing Taken rule h m log = MayComeBy rule h m log
+
+abbrev pub Keeps : LogRule → List Logged → Logged → Type 0
+Keeps rule log e = KeepsGoing e.direction rule e.hart e.message log
+
+-- each entry keeps each rule, behind those before it
+abbrev pub IsLawfulByEntries : List Logged → Type 0
+IsLawfulByEntries log = (rule : LogRule) (before rest : List Logged) (e : Logged) → before ++ e ∷ rest ≡ log → Keeps rule before e
+
+-- the rules' order
+abbrev pub rank : LogRule → ℕ
+rank InOrder = 0
+rank Question = 1
+rank Permission = 2
+rank Data = 3
+rank AcquireOnce = 4
+rank ProbeOnce = 5
+rank GrantAlone = 6
+rank ReleaseAlone = 7

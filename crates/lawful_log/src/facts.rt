@@ -1,0 +1,172 @@
+//! What the rules ask of an entry, judged by what was counted before it.
+ghost use Rattle.std.specs.Prelude.{◌≡◌, ◌↔◌, IsTrue, Some};
+ghost use Rattle.lawful_log.specs.Facts.{KeepsBy, FindsBreach};
+ghost use Rattle.lawful_log.specs.Facts as spec;
+
+use crate::rule::LogRule;
+use crate::tallies::Tallies;
+use tl_types::{Body, Cap, Grow, Msg};
+use trace_recorder::{Direction, Logged};
+
+/// What a log says that the next entry is judged by.
+#[derive(Clone, Copy, Debug)]
+pub(crate) struct Facts {
+    /// The front of the queue that the entry's message goes by.
+    pub(crate) front: Option<Msg>,
+    /// The messages of the entry's line in the queues of its hart.
+    pub(crate) hart: Tallies,
+    /// The messages of the entry's line in all queues.
+    pub(crate) line: Tallies,
+    /// What the Acquire asked for that the hart's next Grant of the line answers.
+    pub(crate) asked: Option<Grow>,
+    /// Whether the hart lost its Branch copy of the line since it last asked for it.
+    pub(crate) lost: bool,
+}
+
+impl Facts {
+    /// The first rule that the entry breaks.
+    pub(crate) fn broken(&self, entry: &Logged) -> Option<LogRule>
+        ensures { FindsBreach self.now entry.now result }
+    {
+        for rule in LogRule::ALL {
+            if !self.keeps(rule, entry) {
+                return Some(rule);
+            }
+        }
+        None
+    }
+
+    /// Whether the entry keeps the rule.
+    pub(crate) fn keeps(&self, rule: LogRule, entry: &Logged) -> bool
+        ensures { IsTrue result ↔ KeepsBy rule self.now entry.now }
+    {
+        match entry.direction {
+            Direction::Sent => self.may_go_by(rule, &entry.message.body),
+            Direction::Taken => rule != LogRule::InOrder || self.is_front(&entry.message),
+        }
+    }
+
+    fn is_front(&self, message: &Msg) -> bool
+        ensures { IsTrue result ↔ (self.now.front ≡ Some message.now) }
+    {
+        match &self.front {
+            Some(front) => front == message,
+            None => false,
+        }
+    }
+
+    fn may_go_by(&self, rule: LogRule, body: &Body) -> bool
+        ensures { result ≡ spec.may_go_by rule body.now self.now }
+    {
+        match rule {
+            LogRule::InOrder => true,
+            LogRule::Question => self.has_question(body),
+            LogRule::Permission => self.has_permission(body),
+            LogRule::Data => self.has_right_data(body),
+            LogRule::AcquireOnce => self.is_acquired_once(body),
+            LogRule::ProbeOnce => self.is_probed_once(body),
+            LogRule::GrantAlone => self.leaves_grant_alone(body),
+            LogRule::ReleaseAlone => self.leaves_release_alone(body),
+        }
+    }
+
+    fn has_question(&self, body: &Body) -> bool
+        ensures { result ≡ spec.has_question body.now self.now }
+    {
+        match body {
+            Body::ProbeAck(_) | Body::ProbeAckData { .. } => {
+                self.hart.probe_acks.sent < self.hart.probes.taken
+            }
+            Body::ReleaseAck => self.hart.release_acks.sent < self.hart.releases.taken,
+            Body::GrantAck => self.hart.grant_acks.sent < self.hart.grants.taken,
+            Body::Grant(_) | Body::GrantData { .. } => self.asked.is_some(),
+            _ => true,
+        }
+    }
+
+    fn has_permission(&self, body: &Body) -> bool
+        ensures { result ≡ spec.has_permission body.now self.now }
+    {
+        match body {
+            Body::Grant(cap) | Body::GrantData { cap, .. } => is_asked(self.asked, *cap),
+            _ => true,
+        }
+    }
+
+    fn has_right_data(&self, body: &Body) -> bool
+        ensures { result ≡ spec.has_right_data body.now self.now }
+    {
+        match body {
+            Body::Grant(_) => self.goes_without_data().unwrap_or(true),
+            Body::GrantData { .. } => !self.goes_without_data().unwrap_or(false),
+            _ => true,
+        }
+    }
+
+    // Whether the next Grant is without data, if there is a next Grant.
+    fn goes_without_data(&self) -> Option<bool>
+        ensures { result ≡ spec.goes_without_data self.now }
+    {
+        let grow = self.asked?;
+        Some(grow == Grow::BtoT && !self.lost)
+    }
+
+    fn is_acquired_once(&self, body: &Body) -> bool
+        ensures { result ≡ spec.is_acquired_once body.now self.now }
+    {
+        match body {
+            Body::AcquireBlock(_) => self.is_no_acquire_open(),
+            _ => true,
+        }
+    }
+
+    fn is_probed_once(&self, body: &Body) -> bool
+        ensures { result ≡ spec.is_probed_once body.now self.now }
+    {
+        match body {
+            Body::ProbeBlock(_) => self.hart.probes.sent == self.hart.probe_acks.taken,
+            _ => true,
+        }
+    }
+
+    fn leaves_grant_alone(&self, body: &Body) -> bool
+        ensures { result ≡ spec.leaves_grant_alone body.now self.now }
+    {
+        let no_grant = self.line.grants.sent == self.line.grant_acks.taken;
+        match body {
+            Body::ProbeBlock(_) => no_grant,
+            Body::Grant(_) | Body::GrantData { .. } => {
+                self.line.probes.sent == self.line.probe_acks.taken && no_grant
+            }
+            _ => true,
+        }
+    }
+
+    fn leaves_release_alone(&self, body: &Body) -> bool
+        ensures { result ≡ spec.leaves_release_alone body.now self.now }
+    {
+        let no_release = self.hart.releases.sent == self.hart.release_acks.taken;
+        match body {
+            Body::AcquireBlock(_) | Body::ProbeAck(_) | Body::ProbeAckData { .. } => no_release,
+            Body::Release(_) | Body::ReleaseData { .. } => no_release && self.is_no_acquire_open(),
+            _ => true,
+        }
+    }
+
+    fn is_no_acquire_open(&self) -> bool
+        ensures { result ≡ spec.is_no_acquire_open self.now }
+    {
+        self.hart.acquires.sent == self.hart.grants.taken
+    }
+}
+
+// Whether this is the permission that was asked for; it is where nothing was.
+fn is_asked(asked: Option<Grow>, cap: Cap) -> bool
+    ensures { result ≡ spec.is_asked asked cap }
+{
+    match asked {
+        Some(Grow::NtoB) => cap == Cap::ToB,
+        Some(Grow::NtoT | Grow::BtoT) => cap == Cap::ToT,
+        None => true,
+    }
+}

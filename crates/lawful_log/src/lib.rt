@@ -1,0 +1,12 @@
+//! Whether a log of messages is lawful, and the first entry that breaks a rule where it isn't.
+#![tactic(auto)]
+
+mod checking;
+mod facts;
+mod followed;
+mod queues;
+mod rule;
+mod tallies;
+
+pub use checking::check_log;
+pub use rule::{LogRule, LogVerdict, entries_decide};

@@ -1,0 +1,95 @@
+//! The rules of the lawful log, and the verdict on a log.
+ghost use Rattle.lawful_log.specs.Laws.{EntriesDecide};
+
+use std::fmt;
+use std::fmt::Display;
+
+/// A rule that each entry of a log keeps, in the order in which they are asked.
+#[derive(Clone, Copy, Debug, PartialEq, Eq)]
+pub enum LogRule {
+    /// A message that is taken was the front of its queue.
+    InOrder,
+    /// An answer is sent where a question of its kind has arrived that wasn't answered yet.
+    Question,
+    /// A Grant gives the permission that its Acquire asked for.
+    Permission,
+    /// A Grant is without data exactly where its Acquire was BtoT and the Branch copy wasn't lost meanwhile.
+    Data,
+    /// No second Acquire before the first one's Grant is taken.
+    AcquireOnce,
+    /// No second Probe to a hart before its ProbeAck is taken.
+    ProbeOnce,
+    /// No Probe and no other Grant of the line from a Grant's sending until its GrantAck is taken, and no
+    /// Grant while a ProbeAck of the line is outstanding.
+    GrantAlone,
+    /// No ProbeAck, Acquire or Release from a Release until its ReleaseAck is taken, and no Release while
+    /// the hart's Acquire is unanswered.
+    ReleaseAlone,
+}
+
+impl LogRule {
+    /// All rules, in their order.
+    pub const ALL: [LogRule; 8] = [
+        LogRule::InOrder,
+        LogRule::Question,
+        LogRule::Permission,
+        LogRule::Data,
+        LogRule::AcquireOnce,
+        LogRule::ProbeOnce,
+        LogRule::GrantAlone,
+        LogRule::ReleaseAlone,
+    ];
+
+    /// What stands against an entry that breaks the rule, in words.
+    pub fn objection(self) -> &'static str {
+        match self {
+            LogRule::InOrder => "the message isn't the front of its queue",
+            LogRule::Question => "no question that it answers has arrived and is unanswered",
+            LogRule::Permission => "the hart's Acquire of this line asked for another permission",
+            LogRule::Data => "a Grant is without data exactly where a BtoT's copy wasn't lost",
+            LogRule::AcquireOnce => "the hart's Acquire of this line is unanswered",
+            LogRule::ProbeOnce => "the hart's ProbeAck of this line is outstanding",
+            LogRule::GrantAlone => "a GrantAck or a ProbeAck of this line is outstanding",
+            LogRule::ReleaseAlone =>
+                "a Release or an Acquire of this line by the hart is unanswered",
+        }
+    }
+}
+
+impl Display for LogRule {
+    fn fmt<W: fmt::Write>(&self, f: &mut fmt::Formatter<W>) -> fmt::Result {
+        f.write_str(match self {
+            LogRule::InOrder => "in-order",
+            LogRule::Question => "question",
+            LogRule::Permission => "permission",
+            LogRule::Data => "data",
+            LogRule::AcquireOnce => "acquire-once",
+            LogRule::ProbeOnce => "probe-once",
+            LogRule::GrantAlone => "grant-alone",
+            LogRule::ReleaseAlone => "release-alone",
+        })
+    }
+}
+
+/// What is said of a log.
+#[derive(Clone, Copy, Debug, PartialEq, Eq)]
+pub enum LogVerdict {
+    Lawful,
+    /// The entry at `index`, counted from 0, is the first that breaks a rule, and `rule` the first of the
+    /// rules that it breaks.
+    Unlawful { rule: LogRule, index: usize },
+}
+
+impl Display for LogVerdict {
+    fn fmt<W: fmt::Write>(&self, f: &mut fmt::Formatter<W>) -> fmt::Result {
+        match self {
+            LogVerdict::Lawful => f.write_str("lawful"),
+            LogVerdict::Unlawful { rule, index } => write!(f, "unlawful {rule} {index}"),
+        }
+    }
+}
+
+/// A log is lawful exactly where each entry keeps each rule, behind the entries before it.
+pub fn entries_decide()
+    ensures { EntriesDecide }
+{}

@@ -1,0 +1,3 @@
+pub mod Played
+pub mod Shorter
+pub mod Told

@@ -1,0 +1,52 @@
+-- Lists that leave out elements of lists.
+use Rattle.std.proofs.Common.{inl, inr, refl, sym, ap, subst, ℕ, ◌+◌, ◌<◌, List, [], ◌∷◌, ◌++◌, length, take, get_or}
+use Rattle.std.proofs.lemmas.List.{append-nil, take_more}
+use Rattle.machine_model.specs.declared.event.Event.{Event}
+use Rattle.schedules.specs.Schedules.{Keeps}
+use Rattle.schedules.specs.Sublists.{IsSublist}
+
+pub whole : {A : Type 0} (xs : List A) → IsSublist xs xs
+whole [] = refl
+whole (x ∷ xs) = inr (xs, refl, whole xs)
+
+nothing : {A : Type 0} (ys : List A) → IsSublist [] ys
+nothing [] = refl
+nothing (y ∷ ys) = inl (nothing ys)
+
+pub through : {A : Type 0} (xs ys zs : List A) → IsSublist xs ys → IsSublist ys zs → IsSublist xs zs
+through xs ys [] p q = subst (λ l. IsSublist xs l) q p
+through xs ys (z ∷ zs) p q =
+    elim q [
+      | inl left ↦ inl (through xs ys zs p left)
+      | inr kept ↦
+          elim (subst (λ l. IsSublist xs l) kept.1 p) [
+            | inl out ↦ inl (through xs kept.0 zs out kept.2)
+            | inr also ↦ inr (also.0, also.1, through also.0 kept.0 zs also.2 kept.2)
+          ]
+    ]
+
+pub beside : {A : Type 0} (xs ys vs ws : List A) → IsSublist xs ys → IsSublist vs ws → IsSublist (xs ++ vs) (ys ++ ws)
+beside xs [] vs ws p q = subst (λ l. IsSublist (l ++ vs) ws) (sym p) q
+beside xs (y ∷ ys) vs ws p q =
+    elim p [
+      | inl left ↦ inl (beside xs ys vs ws left q)
+      | inr kept ↦ inr (kept.0 ++ vs, ap (λ l. l ++ vs) kept.1, beside kept.0 ys vs ws kept.2 q)
+    ]
+
+-- one more element, that is left out or kept
+pub one_left_out : {A : Type 0} (xs ys : List A) (y : A) → IsSublist xs ys → IsSublist xs (ys ++ y ∷ [])
+one_left_out xs ys y p = subst (λ l. IsSublist l (ys ++ y ∷ [])) (append-nil xs) (beside xs ys [] (y ∷ []) p (nothing (y ∷ [])))
+
+pub one_more : (xs ys : List Event) (y : Event) (new : List Event) → IsSublist xs ys → Keeps xs y new → IsSublist new (ys ++ y ∷ [])
+one_more xs ys y new p k =
+    elim k [
+      | inl out ↦ subst (λ l. IsSublist l (ys ++ y ∷ [])) (sym out) (one_left_out xs ys y p)
+      | inr kept ↦ subst (λ l. IsSublist l (ys ++ y ∷ [])) (sym kept) (beside xs ys (y ∷ []) (y ∷ []) p (whole (y ∷ [])))
+    ]
+
+-- of the first elements of a list, and one more
+pub skip_next : (xs events : List Event) (i : ℕ) (d : Event) → i < length events → IsSublist xs (take i events) → IsSublist xs (take (i + 1) events)
+skip_next xs events i d below p = subst (IsSublist xs) (sym (take_more events i d below)) (one_left_out xs (take i events) (get_or events i d) p)
+
+pub take_next : (xs events : List Event) (i : ℕ) (d : Event) (new : List Event) → i < length events → Keeps xs (get_or events i d) new → IsSublist xs (take i events) → IsSublist new (take (i + 1) events)
+take_next xs events i d new below k p = subst (IsSublist new) (sym (take_more events i d below)) (one_more xs (take i events) (get_or events i d) new p k)

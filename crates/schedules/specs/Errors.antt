@@ -1,0 +1,21 @@
+-- Which errors a machine that isn't made and an event that isn't taken come to.
+use Rattle.std.specs.Prelude.{ℕ, ◌<◌}
+use Rattle.coherent_machine.specs.declared.errors.NewError.{NewError}
+use Rattle.coherent_machine.specs.declared.errors.NewError.TheVariants as new
+use Rattle.schedules.specs.declared.errors.Fault.{Fault}
+use Rattle.schedules.specs.declared.errors.Fault.TheVariants as fault
+use Rattle.schedules.specs.declared.errors.RealiseError.{RealiseError}
+use Rattle.schedules.specs.declared.errors.RealiseError.TheVariants.{Config, NoMemory, Limit, Unrealised}
+
+abbrev pub of_new : NewError → RealiseError
+of_new new.Config = Config
+of_new new.NoMemory = NoMemory
+
+abbrev pub of_fault : Fault → RealiseError
+of_fault fault.NoMemory = NoMemory
+of_fault fault.Limit = Limit
+
+-- an event that wasn't realised is one of so many
+abbrev pub IsOneOf : (count : ℕ) → RealiseError → Type 0
+IsOneOf count (Unrealised index) = index < count
+IsOneOf count _ = Unit {0}

@@ -1,0 +1,23 @@
+//! Lists of machine events: made of the steps of a flat machine, sampled, and shortened.
+#![tactic(auto)]
+
+mod errors;
+mod player;
+mod quiet;
+mod realising;
+mod results;
+mod sampling;
+mod schedule;
+mod shortening;
+mod spare;
+mod transactions;
+
+pub use errors::RealiseError;
+pub use realising::realise;
+pub use results::{HartResult, results_of};
+pub use sampling::sample;
+pub use schedule::Schedule;
+pub use shortening::shorten;
+
+#[cfg(test)]
+mod tests;

@@ -1,0 +1,118 @@
+//! A machine with the events that changed it.
+
+ghost use Rattle.std.specs.Prelude.{◌≡◌, ◌↔◌, [], Err, IfOk, IsTrue, false};
+ghost use Rattle.flat_model.specs.Shown.{results};
+ghost use Rattle.machine_model.specs.Config.{is_within_limits};
+ghost use Rattle.machine_model.specs.Events.{after_events};
+ghost use Rattle.machine_model.specs.Views.{opening};
+ghost use Rattle.coherent_machine.specs.Machine.{Replayed, replayed_from};
+ghost use Rattle.schedules.specs.Schedules.{Keeps, Played, start_of, told};
+
+use crate::errors::Fault;
+use crate::results::results_of;
+use crate::schedule::Schedule;
+use coherent_machine::{ApplyError, Machine, NewError, Views};
+use elf_loader::Image;
+use machine_model::{Config, Event, Outcome, changes_are_counted};
+use std::alloc::{AllocError, Global};
+use std::marker::Model;
+
+/// The most harts that a machine has.
+pub(crate) const MOST_HARTS: u8 = 8;
+
+/// A machine, and the events that changed it since its reset, the first one first.
+#[derive(Drop)]
+pub(crate) struct Player {
+    machine: Machine,
+    events: Vec<Event>,
+}
+
+impl Model for Player {
+    ghost use Rattle.schedules.specs.Schedules.{IsPlayed, Played};
+    ghost use Rattle.std.specs.Coded.{codes};
+    ghost use Rattle.machine_parts.specs.Codes.{cache_coded};
+
+    ghost Value = { Played };
+
+    ghost coded = { Prim.hlevel (codes, cache_coded) };
+
+    ghost view = { λ p. record { machine = p.machine; events = p.events.items } };
+
+    ghost invariant = { λ p. IsPlayed (record { machine = p.machine; events = p.events.items }) };
+}
+
+impl Player {
+    /// A machine at reset, and no event yet. It errs as `Machine::new` does.
+    pub(crate) fn new(alloc: Global, image: Image, config: Config) -> Result<Player, NewError>
+        ensures ok { IfOk result (λ player. player ≡ record { machine = opening image config; events = [] }) }
+        ensures config { (result ≡ Err NewError.Config) ↔ (is_within_limits config ≡ false) }
+    {
+        let machine = Machine::new(alloc, image, config)?;
+        Ok(Player {
+            machine,
+            events: Vec::new(alloc),
+        })
+    }
+
+    /// Applies an event, and keeps it where it changes the machine. None where it names a hart, word,
+    /// line or count that there isn't.
+    pub(crate) fn apply(&mut self, event: Event) -> Result<Option<Outcome>, Fault>
+        ensures start { start_of self.new ≡ start_of self.old }
+        ensures kept { Keeps self.old.events event self.new.events }
+    {
+        changes_are_counted();
+        self.events.reserve(1)?;
+        let changes = self.machine.views().changes();
+        match self.machine.apply(event) {
+            Ok(outcome) => {
+                if self.machine.views().changes() != changes {
+                    self.events.push_reserved(event);
+                }
+                Ok(Some(outcome))
+            }
+            Err(ApplyError::BadEvent) => Ok(None),
+            Err(ApplyError::Limit) => Err(Fault::Limit),
+            Err(ApplyError::NoMemory) => Err(Fault::NoMemory),
+        }
+    }
+
+    /// The machine as it stands.
+    pub(crate) fn views(&self) -> Views<'_>
+        ensures now { result ≡ self.now.machine }
+        ensures within { IsTrue (is_within_limits self.now.machine.views.config) }
+    {
+        self.machine.views()
+    }
+
+    pub(crate) fn image(&self) -> &Image
+        ensures { result.now ≡ self.now.machine.trace.image }
+    {
+        self.machine.trace().image()
+    }
+
+    /// The events with what they led to.
+    pub(crate) fn into_schedule(self, alloc: Global) -> Result<Schedule, AllocError>
+        ensures leads { IfOk result (λ schedule. after_events (start_of self) schedule.events.items ≡ schedule.machine) }
+        ensures replays { IfOk result (λ schedule. replayed_from 0 (start_of self) schedule.events.items ≡ Replayed.Reached schedule.machine) }
+        ensures results { IfOk result (λ schedule. told schedule.results.items ≡ results schedule.machine) }
+        ensures events { IfOk result (λ schedule. schedule.events.items ≡ self.events) }
+    {
+        let results = results_of(alloc, &self.machine.views())?;
+        let Player { machine, events } = self;
+        Ok(Schedule {
+            events,
+            machine,
+            results,
+        })
+    }
+
+    /// The events alone.
+    pub(crate) fn into_events(self) -> Vec<Event>
+        ensures leads { after_events (start_of self) result.items ≡ self.machine }
+        ensures replays { replayed_from 0 (start_of self) result.items ≡ Replayed.Reached self.machine }
+        ensures events { result.items ≡ self.events }
+    {
+        let Player { machine: _, events } = self;
+        events
+    }
+}

@@ -1,0 +1,95 @@
+//! The machine's events that do what a flat machine's events do.
+
+ghost use Rattle.std.specs.Prelude.{◌≡◌, ◌↔◌, Err, IfErr, IfOk, false, length};
+ghost use Rattle.flat_model.specs.Shown.{results};
+ghost use Rattle.machine_model.specs.Config.{is_within_limits};
+ghost use Rattle.schedules.specs.Errors.{IsOneOf};
+ghost use Rattle.schedules.specs.Schedules.{Replays, led, start_of, told};
+
+use crate::errors::{Fault, RealiseError};
+use crate::player::Player;
+use crate::quiet::{has_stepped, next_plan};
+use crate::schedule::Schedule;
+use elf_loader::Image;
+use flat_model::FlatEvent;
+use machine_model::{Config, Event, Outcome};
+use rv32_exec::Plan;
+use std::alloc::Global;
+
+/// An event may find its cache's set full, and then miss.
+const MOST_TRIES: u32 = 3;
+
+/// The events that bring a machine from reset through these flat events. Before each of them, and behind
+/// the last one, all harts take their quiet steps, up to 1000 each, in rising order of harts: private
+/// instructions, calls, stops, fences that don't stall, store conditionals that fail, and stores to words
+/// that their open group hasn't; a list of flat events leaves those out. In between no message waits, so
+/// each flat event takes at most 6 events and 2 a hart.
+pub fn realise(
+    alloc: Global,
+    image: Image,
+    config: Config,
+    steps: &[FlatEvent],
+) -> Result<Schedule, RealiseError>
+    ensures real { IfOk result (λ schedule. schedule.machine ≡ led image config schedule.events.items) }
+    ensures replays { IfOk result (λ schedule. Replays image config schedule.events.items) }
+    ensures results { IfOk result (λ schedule. told schedule.results.items ≡ results schedule.machine) }
+    ensures config { (result ≡ Err RealiseError.Config) ↔ (is_within_limits config ≡ false) }
+    ensures index { IfErr result (IsOneOf (length steps.now)) }
+{
+    let mut player = Player::new(alloc, image, config)?;
+    for index in 0..steps.len() {
+        player.settle(alloc)?;
+        if !player.bring_about(steps[index])? {
+            return Err(RealiseError::Unrealised(index));
+        }
+    }
+    player.settle(alloc)?;
+    Ok(player.into_schedule(alloc)?)
+}
+
+impl Player {
+    // Whether it was brought about.
+    fn bring_about(&mut self, step: FlatEvent) -> Result<bool, Fault>
+        ensures { start_of self.new ≡ start_of self.old }
+    {
+        match step {
+            FlatEvent::Step { hart } => self.access(hart, Event::Step { hart }),
+            FlatEvent::Drain { hart, word } => self.access(hart, Event::Drain { hart, word }),
+            FlatEvent::Fail { hart } => self.fail(hart),
+        }
+    }
+
+    // A step or a drain, for which the line is fetched where it is missing.
+    fn access(&mut self, hart: u8, event: Event) -> Result<bool, Fault>
+        ensures { start_of self.new ≡ start_of self.old }
+    {
+        for _try in 0..MOST_TRIES {
+            let outcome = self.apply(event)?;
+            match outcome {
+                Some(Outcome::Missed(_)) => self.finish_miss(hart)?,
+                Some(Outcome::SetFull) => self.make_room(hart, event)?,
+                _ => return Ok(has_stepped(outcome) || outcome == Some(Outcome::Drained)),
+            }
+        }
+        Ok(false)
+    }
+
+    // A store conditional, whose hart has lost the line of its reserved word.
+    fn fail(&mut self, hart: u8) -> Result<bool, Fault>
+        ensures { start_of self.new ≡ start_of self.old }
+    {
+        let views = self.views();
+        let place = usize::from(hart);
+        if place >= views.harts() {
+            return Ok(false);
+        }
+        let Some(Plan::Sc { .. }) = next_plan(self.image(), views.hart(place)) else {
+            return Ok(false);
+        };
+        if let Some(word) = views.reserved(place) {
+            let line = word - word % views.config().line;
+            self.give_up(hart, line)?;
+        }
+        Ok(has_stepped(self.apply(Event::Step { hart })?))
+    }
+}

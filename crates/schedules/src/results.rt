@@ -1,0 +1,51 @@
+//! What a run leaves of its harts.
+
+ghost use Rattle.std.specs.Prelude.{◌≡◌, IfOk, IsTrue};
+ghost use Rattle.flat_model.specs.Shown.{results};
+ghost use Rattle.schedules.specs.Schedules.{told};
+
+use coherent_machine::Views;
+use hart::Status;
+use std::alloc::{AllocError, Global};
+
+/// How a hart stands, and the numbers that it put out, the first one first.
+#[derive(Clone, Debug, PartialEq, Eq, Drop)]
+pub struct HartResult {
+    pub status: Status,
+    pub output: Vec<u32>,
+}
+
+/// How the machine's harts stand and what they put out, by hart.
+pub fn results_of(alloc: Global, views: &Views<'_>) -> Result<Vec<HartResult>, AllocError>
+    ensures { IfOk result (λ all. told all.items ≡ results views.now) }
+{
+    let harts = views.harts();
+    let mut all = Vec::with_capacity(alloc, harts)?;
+    for hart in 0..harts {
+        let mut output = Vec::new(alloc);
+        output.extend_from_slice(views.output(hart))?;
+        all.push_reserved(HartResult {
+            status: views.hart(hart).status,
+            output,
+        });
+    }
+    Ok(all)
+}
+
+/// Whether the harts stand as these results say, and put out the same.
+pub(crate) fn are_results(views: &Views<'_>, goal: &[HartResult]) -> bool
+    ensures { IsTrue result → told goal.now ≡ results views.now }
+{
+    if goal.len() != views.harts() {
+        return false;
+    }
+    for hart in 0..goal.len() {
+        let wanted = &goal[hart];
+        if wanted.status != views.hart(hart).status
+            || wanted.output.as_slice() != views.output(hart)
+        {
+            return false;
+        }
+    }
+    true
+}

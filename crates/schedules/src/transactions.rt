@@ -1,0 +1,85 @@
+//! Whole transactions, each of whose messages arrives before anything else happens.
+
+ghost use Rattle.std.specs.Prelude.{◌≡◌};
+ghost use Rattle.schedules.specs.Schedules.{start_of};
+
+use crate::errors::Fault;
+use crate::player::{MOST_HARTS, Player};
+use crate::quiet::next_plan;
+use crate::spare::lowest_held;
+use machine_model::Event;
+use rv32_exec::Plan;
+use tl_types::Channel;
+
+impl Player {
+    fn deliver(&mut self, channel: Channel, hart: u8) -> Result<(), Fault>
+        ensures { start_of self.new ≡ start_of self.old }
+    {
+        self.apply(Event::Deliver { channel, hart })?;
+        Ok(())
+    }
+
+    /// The line that the hart has just asked for comes into its cache: its Acquire arrives, the Probes
+    /// and their answers, the Grant and its acknowledgement. An empty queue delivers nothing.
+    pub(crate) fn finish_miss(&mut self, hart: u8) -> Result<(), Fault>
+        ensures { start_of self.new ≡ start_of self.old }
+    {
+        self.deliver(Channel::A, hart)?;
+        for other in 0..MOST_HARTS {
+            self.deliver(Channel::B, other)?;
+            self.deliver(Channel::C, other)?;
+        }
+        self.deliver(Channel::D, hart)?;
+        self.deliver(Channel::E, hart)
+    }
+
+    /// The hart's cache gives up a line, and is told that memory has it.
+    pub(crate) fn give_up(&mut self, hart: u8, line: u32) -> Result<(), Fault>
+        ensures { start_of self.new ≡ start_of self.old }
+    {
+        self.apply(Event::Evict { hart, line })?;
+        self.deliver(Channel::C, hart)?;
+        self.deliver(Channel::D, hart)
+    }
+
+    /// The hart's cache gives up a line of the set of what the event accesses, where it holds one: not
+    /// the line of its reserved word, if there is another.
+    pub(crate) fn make_room(&mut self, hart: u8, event: Event) -> Result<(), Fault>
+        ensures { start_of self.new ≡ start_of self.old }
+    {
+        if let Some(line) = self.spare_line(hart, event) {
+            self.give_up(hart, line)?;
+        }
+        Ok(())
+    }
+
+    fn spare_line(&self, hart: u8, event: Event) -> Option<u32> {
+        let views = self.views();
+        let place = usize::from(hart);
+        if place >= views.harts() {
+            return None;
+        }
+        let address = self.accessed(hart, event)?;
+        let size = self.image().size();
+        let cache = views.cache(place);
+        let other = lowest_held(cache, views.config(), size, address, views.reserved(place));
+        other.or(lowest_held(cache, views.config(), size, address, None))
+    }
+
+    /// The address that the event reads or writes in memory.
+    fn accessed(&self, hart: u8, event: Event) -> Option<u32> {
+        let views = self.views();
+        let place = usize::from(hart);
+        if place >= views.harts() {
+            return None;
+        }
+        match event {
+            Event::Drain { word, .. } => Some(word),
+            Event::Step { .. } => match next_plan(self.image(), views.hart(place))? {
+                Plan::Load { addr, .. } | Plan::Lr { addr } | Plan::Amo { addr, .. } => Some(addr),
+                _ => None,
+            },
+            _ => None,
+        }
+    }
+}

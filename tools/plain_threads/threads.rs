@@ -1,0 +1,359 @@
+//! A run by threads in plain Rust: the machine behind one `std::sync::Mutex`, a `std::thread` a hart, and what
+//! they draw and publish in atomics. `plain_threads HARTS MODEL LIMIT ELF` prints how many events changed the
+//! machine and how many were drawn, and how each hart ended.
+
+use coherent_machine::{AdoptError, ApplyError, Machine, Views};
+use elf_loader::{BASE, Image, load};
+use hart::{Batch, Hart, run_local};
+use kit::alloc::Global;
+use kit::ledger::{Blank, Brand};
+use machine_model::{Config, Event, Model, Outcome};
+use rv32_decode::decode;
+use rv32_exec::{Plan, plan};
+use std::sync::Mutex;
+use std::sync::atomic::{AtomicBool, AtomicU64, Ordering};
+use tl_types::{Channel, Ticks};
+
+const MOST_ALONE: u32 = 256;
+const MOST_HARTS: usize = 8;
+
+// ---- what the threads share
+
+struct Board {
+    counter: AtomicU64,
+    halted: AtomicU64,
+    lengths: [AtomicU64; MOST_HARTS],
+    stop: AtomicBool,
+}
+
+struct Fabric {
+    machine: Machine,
+    journal: Vec<Event>,
+}
+
+#[derive(Debug)]
+enum Fault {
+    Limit,
+    NoMemory,
+    BadEvent,
+    Stale,
+}
+
+impl From<ApplyError> for Fault {
+    fn from(error: ApplyError) -> Fault {
+        match error {
+            ApplyError::BadEvent => Fault::BadEvent,
+            ApplyError::Limit => Fault::Limit,
+            ApplyError::NoMemory => Fault::NoMemory,
+        }
+    }
+}
+
+impl Fabric {
+    fn apply(&mut self, event: Event) -> Result<Outcome, Fault> {
+        self.journal.try_reserve(1).map_err(|_| Fault::NoMemory)?;
+        let changes = self.machine.views().changes();
+        let outcome = self.machine.apply(event)?;
+        if self.machine.views().changes() != changes {
+            self.journal.push(event);
+        }
+        Ok(outcome)
+    }
+
+    fn commit(&mut self, batch: &Batch) -> Result<Outcome, Fault> {
+        self.journal.try_reserve(1).map_err(|_| Fault::NoMemory)?;
+        let hart = batch.first().id;
+        let outcome = self.machine.adopt(hart, batch).map_err(|error| match error {
+            AdoptError::Limit => Fault::Limit,
+            AdoptError::NoMemory => Fault::NoMemory,
+            AdoptError::Stale | AdoptError::Empty => Fault::Stale,
+        })?;
+        let count = batch.entries().len() as u32;
+        self.journal.push(Event::Local { hart, count });
+        Ok(outcome)
+    }
+}
+
+// ---- the rounds of one hart's events
+
+#[derive(Clone, Copy, PartialEq)]
+enum Place {
+    Step,
+    Drain,
+    Evict,
+    Deliver(Channel),
+}
+
+const ROUND: [Place; 8] = [
+    Place::Deliver(Channel::D),
+    Place::Step,
+    Place::Drain,
+    Place::Evict,
+    Place::Deliver(Channel::A),
+    Place::Deliver(Channel::C),
+    Place::Deliver(Channel::E),
+    Place::Deliver(Channel::B),
+];
+
+struct Rounds<'a> {
+    hart: u8,
+    image: &'a Image,
+    config: Config,
+    next: usize,
+    picked: Option<Event>,
+    full: Option<u32>,
+}
+
+fn accessed(image: &Image, hart: &Hart) -> Option<u32> {
+    if !image.has_word(hart.pc) {
+        return None;
+    }
+    let instr = decode(image.word(hart.pc))?;
+    match plan(&instr, hart.pc, &hart.regs, image.size()) {
+        Plan::Load { addr, .. } | Plan::Lr { addr } | Plan::Amo { addr, .. } => Some(addr),
+        _ => None,
+    }
+}
+
+impl Rounds<'_> {
+    fn wanted(&self, hart: &Hart) -> Option<u32> {
+        match self.picked {
+            Some(Event::Step { .. }) => accessed(self.image, hart),
+            Some(Event::Drain { word, .. }) => Some(word),
+            _ => None,
+        }
+    }
+
+    fn lowest_spare(&self, views: &Views<'_>, address: u32) -> Option<u32> {
+        let cache = views.cache(usize::from(self.hart));
+        let stride = self.config.sets * self.config.line;
+        let first = BASE + address / self.config.line % self.config.sets * self.config.line;
+        (first..BASE + self.image.size()).step_by(stride as usize).find(|line| {
+            let mut ticks = Ticks::<Brand>::new(Blank::new(1));
+            cache.copy(*line, &mut ticks).is_some() && !cache.is_acquiring(*line)
+        })
+    }
+
+    fn event_at(&self, place: Place, views: &Views<'_>) -> Option<Event> {
+        let hart = self.hart;
+        let index = usize::from(hart);
+        match place {
+            Place::Step => views.hart(index).status.is_running().then_some(Event::Step { hart }),
+            Place::Drain => views.buffer(index).lowest().map(|word| Event::Drain { hart, word }),
+            Place::Evict => {
+                let line = self.lowest_spare(views, self.full?)?;
+                Some(Event::Evict { hart, line })
+            }
+            Place::Deliver(channel) => {
+                (views.queues(index).len(channel) > 0).then_some(Event::Deliver { channel, hart })
+            }
+        }
+    }
+
+    fn pick(&mut self, views: &Views<'_>, last: Option<Outcome>) -> Option<Event> {
+        if last == Some(Outcome::SetFull) {
+            self.full = self.wanted(views.hart(usize::from(self.hart))).or(self.full);
+        }
+        for step in 0..ROUND.len() {
+            let place = (self.next + step) % ROUND.len();
+            if let Some(event) = self.event_at(ROUND[place], views) {
+                self.next = (place + 1) % ROUND.len();
+                self.picked = Some(event);
+                if ROUND[place] != Place::Drain {
+                    self.full = None;
+                }
+                return Some(event);
+            }
+        }
+        self.picked = None;
+        None
+    }
+}
+
+// ---- one thread
+
+fn is_change(outcome: Outcome) -> bool {
+    matches!(
+        outcome,
+        Outcome::Retired
+            | Outcome::Stopped(_)
+            | Outcome::Exited(_)
+            | Outcome::Drained
+            | Outcome::Delivered
+            | Outcome::Evicted
+            | Outcome::Missed(_)
+    )
+}
+
+/// For how long a worker has found nothing to do: it spins a little longer each time, and then yields.
+struct Idle(u32);
+
+impl Idle {
+    fn snooze(&mut self) {
+        if self.0 > 6 {
+            return std::thread::yield_now();
+        }
+        for _ in 0..1 << self.0 {
+            std::hint::spin_loop();
+        }
+        self.0 += 1;
+    }
+}
+
+struct Worker<'a> {
+    hart: u8,
+    harts: usize,
+    image: &'a Image,
+    limit: u64,
+    board: &'a Board,
+    lock: &'a Mutex<Fabric>,
+    rounds: Rounds<'a>,
+    seen: Option<Hart>,
+    last: Option<Outcome>,
+    has_halted: bool,
+    receipts: u64,
+    idle: Idle,
+}
+
+impl Worker<'_> {
+    fn run(mut self) -> (u64, Option<Fault>) {
+        let fault = loop {
+            if self.board.stop.load(Ordering::SeqCst) {
+                break None;
+            }
+            let mut lengths = [0; MOST_HARTS];
+            for (length, word) in lengths.iter_mut().zip(&self.board.lengths[..self.harts]) {
+                *length = word.load(Ordering::SeqCst);
+            }
+            std::hint::black_box(&lengths);
+            match self.take_turn() {
+                Ok(true) => {}
+                Ok(false) => break None,
+                Err(fault) => {
+                    self.board.stop.store(true, Ordering::SeqCst);
+                    break Some(fault).filter(|fault| !matches!(fault, Fault::Limit));
+                }
+            }
+        };
+        self.halt();
+        (self.receipts, fault)
+    }
+
+    fn take_turn(&mut self) -> Result<bool, Fault> {
+        if self.board.halted.load(Ordering::SeqCst) == (1 << self.harts) - 1 {
+            return Ok(false);
+        }
+        let picked = {
+            let fabric = self.lock.lock().unwrap();
+            let views = fabric.machine.views();
+            self.seen = Some(*views.hart(usize::from(self.hart)));
+            self.rounds.pick(&views, self.last)
+        };
+        if self.seen.is_some_and(|hart| !hart.status.is_running()) {
+            self.halt();
+        }
+        let Some(event) = picked else {
+            self.idle.snooze();
+            return Ok(true);
+        };
+        if self.board.counter.fetch_add(1, Ordering::SeqCst) >= self.limit {
+            return Ok(false);
+        }
+        let outcome = self.carry_out(event)?;
+        self.last = Some(outcome);
+        if is_change(outcome) {
+            self.receipts += 1;
+            self.idle = Idle(0);
+            self.publish();
+        } else {
+            self.idle.snooze();
+        }
+        Ok(true)
+    }
+
+    fn carry_out(&mut self, event: Event) -> Result<Outcome, Fault> {
+        if event == (Event::Step { hart: self.hart }) {
+            if let Some(hart) = &self.seen {
+                let batch = run_local(Global, self.image, hart, MOST_ALONE).map_err(|_| Fault::NoMemory)?;
+                if !batch.entries().is_empty() {
+                    match self.lock.lock().unwrap().commit(&batch) {
+                        Err(Fault::Stale) => {}
+                        answer => return answer,
+                    }
+                }
+            }
+        }
+        self.lock.lock().unwrap().apply(event)
+    }
+
+    fn publish(&mut self) {
+        let (length, status) = {
+            let fabric = self.lock.lock().unwrap();
+            let trace = fabric.machine.trace();
+            let hart = usize::from(self.hart);
+            (trace.entries(hart).len() as u64, trace.statuses()[hart])
+        };
+        self.board.lengths[usize::from(self.hart)].fetch_max(length, Ordering::SeqCst);
+        if !status.is_running() {
+            self.halt();
+        }
+    }
+
+    fn halt(&mut self) {
+        if !self.has_halted {
+            self.board.halted.fetch_or(1 << self.hart, Ordering::SeqCst);
+            self.has_halted = true;
+        }
+    }
+}
+
+fn main() {
+    let words: Vec<String> = std::env::args().collect();
+    let [_, harts, model, limit, file] = words.as_slice() else {
+        panic!("plain_threads HARTS MODEL LIMIT ELF");
+    };
+    let harts: u32 = harts.parse().unwrap();
+    let model = if model == "ztso" { Model::Ztso } else { Model::Rvwmo };
+    let limit: u64 = limit.parse().unwrap();
+    let image = load(Global, &std::fs::read(file).unwrap(), 64 * 1024).unwrap();
+    let config = Config { harts, sets: 4, ways: 2, line: 16, model };
+    let own = image.try_copy(Global).unwrap();
+    let machine = Machine::new(Global, image, config).ok().unwrap();
+    let lock = Mutex::new(Fabric { machine, journal: Vec::new() });
+    let board = Board {
+        counter: AtomicU64::new(0),
+        halted: AtomicU64::new(0),
+        lengths: [const { AtomicU64::new(0) }; MOST_HARTS],
+        stop: AtomicBool::new(false),
+    };
+    let receipts: Vec<(u64, Option<Fault>)> = std::thread::scope(|scope| {
+        let threads: Vec<_> = (0..harts as u8)
+            .map(|hart| {
+                let rounds = Rounds { hart, image: &own, config, next: 0, picked: None, full: None };
+                let worker = Worker {
+                    hart,
+                    harts: harts as usize,
+                    image: &own,
+                    limit,
+                    board: &board,
+                    lock: &lock,
+                    rounds,
+                    seen: None,
+                    last: None,
+                    has_halted: false,
+                    receipts: 0,
+                    idle: Idle(0),
+                };
+                scope.spawn(move || worker.run())
+            })
+            .collect();
+        threads.into_iter().map(|thread| thread.join().unwrap()).collect()
+    });
+    let fabric = lock.into_inner().unwrap();
+    let trace = fabric.machine.trace();
+    assert_eq!(receipts.iter().map(|one| one.0).sum::<u64>(), fabric.journal.len() as u64);
+    for (hart, status) in trace.statuses().iter().enumerate() {
+        println!("hart {hart}: {status:?}, {} instructions", trace.entries(hart).len());
+    }
+    println!("{} events of {}", fabric.journal.len(), board.counter.load(Ordering::SeqCst));
+}
