@@ -7,3 +7,4 @@ mod Reservations
 mod Changes
 mod QuietSteps
 mod Listed
+mod Numbering

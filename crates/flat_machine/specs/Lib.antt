@@ -5,3 +5,4 @@ pub mod Accesses
 pub mod States
 pub mod Parts
 pub mod Moves
+pub mod SamePatches
