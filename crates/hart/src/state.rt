@@ -7,7 +7,7 @@ use rv32_decode::Instr;
 use rv32_exec::{Regs, finish};
 
 /// A hart: its number from 0, the address of its next instruction, its registers and its status.
-#[derive(Clone, Copy, Debug, PartialEq, Eq)]
+#[derive(Clone, Copy, Debug, PartialEq, Eq, Hash)]
 pub struct Hart {
     pub id: u8,
     pub pc: u32,

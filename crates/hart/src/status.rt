@@ -12,7 +12,7 @@ const CALL_ARGUMENT: u8 = 10;
 
 /// Whether a hart runs, was stopped by an instruction that can't be carried out (codes 0 to 8), or was
 /// ended by its program with an exit code.
-#[derive(Clone, Copy, Debug, PartialEq, Eq)]
+#[derive(Clone, Copy, Debug, PartialEq, Eq, Hash)]
 pub enum Status {
     Running,
     Stopped(u8),

@@ -6,7 +6,7 @@ use std::marker::Model;
 use tl_types::LineSize;
 
 /// At most one reserved word, named by its address, which is a multiple of 4.
-#[derive(Clone, Copy, Debug, PartialEq, Eq)]
+#[derive(Clone, Copy, Debug, PartialEq, Eq, Hash)]
 pub struct Reservation {
     word: Option<u32>,
 }

@@ -6,7 +6,7 @@ use rv32_decode::Register;
 use std::marker::Model;
 
 /// The registers x0 to x31, of which x0 is always 0.
-#[derive(Clone, Copy, Debug, PartialEq, Eq)]
+#[derive(Clone, Copy, Debug, PartialEq, Eq, Hash)]
 pub struct Regs {
     values: [u32; 32],
 }

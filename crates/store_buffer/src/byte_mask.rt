@@ -5,7 +5,7 @@ ghost use Rattle.store_buffer.specs.ByteMask.{no_marks, marks_of_access, united,
 use std::marker::Model;
 
 /// Four marks, one for each byte of an aligned word; the first is of the byte at the word's address.
-#[derive(Clone, Copy, Debug, PartialEq, Eq)]
+#[derive(Clone, Copy, Debug, PartialEq, Eq, Hash)]
 pub struct ByteMask {
     marks: [bool; 4],
 }

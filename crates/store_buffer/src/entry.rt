@@ -7,7 +7,7 @@ use std::alloc::{AllocError, Global};
 use std::default::MadeWith;
 
 /// A retired store to bytes of one aligned word.
-#[derive(Clone, Copy, Debug, PartialEq, Eq)]
+#[derive(Clone, Copy, Debug, PartialEq, Eq, Hash)]
 pub struct Store {
     /// The word's address, a multiple of 4.
     pub word: u32,
