@@ -6,6 +6,3 @@ mod operands;
 mod writing;
 
 pub use writing::spell_assembly;
-
-#[cfg(test)]
-mod tests;

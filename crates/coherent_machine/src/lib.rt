@@ -11,6 +11,3 @@ pub use errors::{AdoptError, NewError, ReplayError};
 pub use machine::{Machine, replay};
 pub use machine_parts::ApplyError;
 pub use views::Views;
-
-#[cfg(test)]
-mod tests;

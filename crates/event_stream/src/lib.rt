@@ -15,6 +15,3 @@ pub use laws::stream_is_the_trace;
 pub use spellings::outcome_name;
 pub use strictness::Strictness;
 pub use writing::write_stream;
-
-#[cfg(test)]
-mod tests;

@@ -19,6 +19,3 @@ pub use gate::Gate;
 pub use report::{Report, RunError};
 pub use rounds::Rounds;
 pub use running::{run, run_with};
-
-#[cfg(test)]
-mod tests;

@@ -11,6 +11,3 @@ pub use fabric::Fabric;
 pub use port::Port;
 pub use share::Share;
 pub use turn::Turn;
-
-#[cfg(test)]
-mod tests;

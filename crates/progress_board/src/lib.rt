@@ -8,10 +8,7 @@
 mod board;
 mod laws;
 mod rule;
-mod seat;
-#[cfg(test)]
-mod tests;
-mod view;
+mod seat;mod view;
 
 pub use board::Board;
 pub use laws::{each_number_is_drawn_once, no_number_from_the_counter_on_is_drawn};

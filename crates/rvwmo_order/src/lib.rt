@@ -30,6 +30,3 @@ pub use limits::{MAX_OPERATIONS, is_within_limits};
 pub use memory_model::Model;
 pub use orders::has_too_many;
 pub use verdict::{Code, Rule, Verdict};
-
-#[cfg(test)]
-mod tests;

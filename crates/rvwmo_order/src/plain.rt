@@ -8,7 +8,8 @@ mod dependencies;
 mod judging;
 mod orders;
 mod rules;
-pub(crate) mod sources;
+mod sources;
 
 pub use checking::check_model;
 pub use orders::completed;
+pub use sources::source;

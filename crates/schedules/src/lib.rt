@@ -18,6 +18,3 @@ pub use results::{HartResult, results_of};
 pub use sampling::sample;
 pub use schedule::Schedule;
 pub use shortening::shorten;
-
-#[cfg(test)]
-mod tests;

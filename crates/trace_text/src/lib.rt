@@ -10,10 +10,7 @@ mod script;
 mod script_faults;
 mod script_reading;
 mod script_writing;
-mod spellings;
-#[cfg(test)]
-mod tests;
-mod trace_faults;
+mod spellings;mod trace_faults;
 mod trace_lines;
 mod trace_reading;
 mod trace_writing;

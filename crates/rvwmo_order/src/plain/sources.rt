@@ -10,7 +10,7 @@ use memory_model::Operation;
 
 /// The last of the stores that byte `x` of a load may come from; none where it is the image's byte. The
 /// load itself is never one, also where it is an AMO.
-pub(crate) fn source(order: &[Operation], load: &Operation, x: u64) -> Option<Operation>
+pub fn source(order: &[Operation], load: &Operation, x: u64) -> Option<Operation>
     ensures { result ≡ spec.source order.now load.now x }
 {
     let mut last = None;

@@ -1,0 +1,12 @@
+//! Tests of the machine, of its fabric under a lock, and of the threads that run it, apart from them, so
+//! that none of them is proved a second time for its tests.
+#![tactic(auto)]
+
+#[cfg(test)]
+mod batches;
+#[cfg(test)]
+mod drawing;
+#[cfg(test)]
+mod fabric;
+#[cfg(test)]
+mod threads;

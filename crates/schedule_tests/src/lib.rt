@@ -1,0 +1,8 @@
+//! Tests of schedules and of searches over states, apart from them, so that neither is proved a second
+//! time for its tests.
+#![tactic(auto)]
+
+#[cfg(test)]
+mod realising;
+#[cfg(test)]
+mod searching;

@@ -1,0 +1,12 @@
+//! Tests of the texts of instructions, traces, scripts and event streams, and of the checker, apart from
+//! them, so that none of them is proved a second time for its tests.
+#![tactic(auto)]
+
+#[cfg(test)]
+mod judging;
+#[cfg(test)]
+mod spelling;
+#[cfg(test)]
+mod streams;
+#[cfg(test)]
+mod traces;
