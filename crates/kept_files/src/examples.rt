@@ -1,6 +1,5 @@
 //! Plays the examples of the repository, and prints how each ends: the trace's last lines, and what the
 //! harts put out.
-#![tactic(auto)]
 
 use command_line::{SystemFiles, run_line};
 use std::io::{self, Write};
@@ -24,12 +23,15 @@ const EXAMPLES: [&str; 9] = [
 /// How many lines of each trace are printed: the harts' statuses.
 const LAST_LINES: usize = 2;
 
-fn main(rt: HostRuntime) -> io::Result<()> {
-    let mut out = rt.stdout();
+/// Plays each example, and prints how it ends.
+pub fn play_all<R: Files + Threads + Wait + Sync + AllocGlobal, W: Write>(
+    rt: &R,
+    out: &mut W,
+) -> io::Result<()> {
     for name in EXAMPLES {
-        play(&rt, name, &mut out)?;
+        play(rt, name, out)?;
     }
-    out.flush()
+    Ok(())
 }
 
 fn play<R: Files + Threads + Wait + Sync + AllocGlobal, W: Write>(

@@ -1,16 +1,13 @@
 //! Spoils kept images, scripts and traces, by cutting them short and by setting bytes, and runs the program
 //! over each. A run may still succeed, or judge what a trace still says; any other prints nothing and tells
 //! why in one line.
-#![tactic(auto)]
-
-mod files;
-mod spoiling;
 
 use anyhow::{Result, ensure};
 use command_line::run_line;
-use files::{File, MemoryFiles};
-use spoiling::{Stream, cut, reset};
+use crate::memory::{File, MemoryFiles};
+use crate::spoiling::{Stream, cut, reset};
 use std::fs;
+use std::rt::Files;
 use std::sync::Wait;
 use std::thread::Threads;
 
@@ -47,11 +44,12 @@ impl Kind {
     }
 }
 
-fn main(rt: HostRuntime) -> Result<()> {
+/// Spoils each file in each way, and runs the program over what comes of it.
+pub fn spoil_all<R: Files + Threads + Wait + Sync + AllocGlobal>(rt: &R) -> Result<()> {
     let mut stream = Stream::new();
     for (image, script, kind) in REPLAYS {
-        let image = fs::read(&rt, image)?;
-        let script = fs::read(&rt, script)?;
+        let image = fs::read(rt, image)?;
+        let script = fs::read(rt, script)?;
         let image = File {
             name: "image",
             bytes: image.as_slice(),
@@ -60,18 +58,17 @@ fn main(rt: HostRuntime) -> Result<()> {
             name: "script",
             bytes: script.as_slice(),
         };
-        spoil(&rt, kind.words(), image, script, &mut stream)?;
-        spoil(&rt, kind.words(), script, image, &mut stream)?;
+        spoil(rt, kind.words(), image, script, &mut stream)?;
+        spoil(rt, kind.words(), script, image, &mut stream)?;
     }
     for trace in TRACES {
-        let bytes = fs::read(&rt, trace)?;
+        let bytes = fs::read(rt, trace)?;
         let trace = File {
             name: "trace",
             bytes: bytes.as_slice(),
         };
-        spoil(&rt, &["rvtl", "check", "trace"], trace, trace, &mut stream)?;
+        spoil(rt, &["rvtl", "check", "trace"], trace, trace, &mut stream)?;
     }
-    println!(rt; "every spoiled file was taken, judged or refused in one line")?;
     Ok(())
 }
 

@@ -1,6 +1,5 @@
 //! Judges kept traces under a memory model, and prints the status and what the program prints of each. What is wanted is
 //! kept beside it: verdicts that other implementations of the same rules have given.
-#![tactic(auto)]
 
 use command_line::{SystemFiles, run_line};
 use std::io::{self, Write};
@@ -67,10 +66,13 @@ const CASES: [(&str, &str); 55] = [
     ("S_rwrw_po-6cd2-rvwmo-0", "rvwmo"),
 ];
 
-fn main(rt: HostRuntime) -> io::Result<()> {
-    let mut out = rt.stdout();
+/// Judges each case, and prints its verdict.
+pub fn judge_all<R: Files + Threads + Wait + Sync + AllocGlobal, W: Write>(
+    rt: &R,
+    out: &mut W,
+) -> io::Result<()> {
     for (name, model) in CASES {
-        print_verdict(&rt, name, model, &mut out)?;
+        print_verdict(rt, name, model, out)?;
     }
     Ok(())
 }

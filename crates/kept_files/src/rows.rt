@@ -4,21 +4,16 @@
 //! named by words are written by hand. A line of the file `cases` has a case's name, the kind of its image
 //! and its memory model. Each case is played with the plain flat machine beside the machine, too, and each
 //! wrong variant of the flat machine is refuted by a script.
-#![tactic(auto)]
-
-mod flat;
-mod machines;
-mod play;
 
 use anyhow::{Result, bail, ensure};
 use coherent_machine::Machine;
 use command_line::{SystemFiles, run_line};
-use flat::{Kept, Shown, WRONG, play_beside};
+use crate::flat::{Kept, Shown, WRONG, play_beside};
 use flat_lockstep::{Counts, Failures};
 use machine_model::Model;
-use machines::Playable;
+use crate::machines::Playable;
 use plain_machine::{PlainMachine, Variant};
-use play::{ImageKind, Played, play};
+use crate::play::{ImageKind, Played, play};
 use std::alloc::Global;
 use std::rt::Files;
 use std::sync::Wait;
@@ -261,23 +256,24 @@ fn refutation<R: Files + AllocGlobal>(rt: &R, name: &str, variant: Variant) -> R
     Ok(wrong)
 }
 
-fn main(rt: HostRuntime) -> Result<()> {
-    let cases = fs::read_to_string(&rt, "cases")?;
+/// Plays each case, and prints what of it isn't as kept.
+pub fn play_all<R: Files + Threads + Wait + Sync + AllocGlobal>(rt: &R) -> Result<()> {
+    let cases = fs::read_to_string(rt, "cases")?;
     let mut all_kept = true;
     let mut all_counts = Counts::nothing();
     for line in cases.as_str().lines() {
         let Some(case) = case_of(line) else {
             bail!("no case: {line}");
         };
-        let differences = Differences::of(&rt, &case)?;
+        let differences = Differences::of(rt, &case)?;
         let name = case.name;
         println!(rt; "{name}: {differences}")?;
         all_kept = all_kept && differences.is_as_kept();
-        all_counts = all_counts.and(flat_counts(&rt, &case)?);
+        all_counts = all_counts.and(flat_counts(rt, &case)?);
     }
     println!(rt; "flat: {all_counts}")?;
     for (name, variant) in WRONG {
-        let wrong = refutation(&rt, name, variant)?;
+        let wrong = refutation(rt, name, variant)?;
         println!(rt; "flat, {name}: {wrong}")?;
     }
     ensure!(all_kept, "a case differs");
