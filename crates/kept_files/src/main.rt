@@ -16,8 +16,8 @@ use anyhow::Result;
 use std::io::Write;
 
 fn main(rt: HostRuntime) -> Result<()> {
-    rows::play_all(&rt)?;
     let mut out = rt.stdout();
+    rows::play_all(&rt, &mut out)?;
     verdicts::judge_all(&rt, &mut out)?;
     examples::play_all(&rt, &mut out)?;
     out.flush()?;

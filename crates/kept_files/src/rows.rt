@@ -5,16 +5,17 @@
 //! and its memory model. Each case is played with the plain flat machine beside the machine, too, and each
 //! wrong variant of the flat machine is refuted by a script.
 
+use crate::flat::{Kept, Shown, WRONG, play_beside};
+use crate::machines::Playable;
+use crate::play::{ImageKind, Played, play};
 use anyhow::{Result, bail, ensure};
 use coherent_machine::Machine;
 use command_line::{SystemFiles, run_line};
-use crate::flat::{Kept, Shown, WRONG, play_beside};
 use flat_lockstep::{Counts, Failures};
 use machine_model::Model;
-use crate::machines::Playable;
 use plain_machine::{PlainMachine, Variant};
-use crate::play::{ImageKind, Played, play};
 use std::alloc::Global;
+use std::io::Write;
 use std::rt::Files;
 use std::sync::Wait;
 use std::thread::Threads;
@@ -257,7 +258,10 @@ fn refutation<R: Files + AllocGlobal>(rt: &R, name: &str, variant: Variant) -> R
 }
 
 /// Plays each case, and prints what of it isn't as kept.
-pub fn play_all<R: Files + Threads + Wait + Sync + AllocGlobal>(rt: &R) -> Result<()> {
+pub fn play_all<R: Files + Threads + Wait + Sync + AllocGlobal, W: Write>(
+    rt: &R,
+    out: &mut W,
+) -> Result<()> {
     let cases = fs::read_to_string(rt, "cases")?;
     let mut all_kept = true;
     let mut all_counts = Counts::nothing();
@@ -267,14 +271,14 @@ pub fn play_all<R: Files + Threads + Wait + Sync + AllocGlobal>(rt: &R) -> Resul
         };
         let differences = Differences::of(rt, &case)?;
         let name = case.name;
-        println!(rt; "{name}: {differences}")?;
+        writeln!(out, "{name}: {differences}")?;
         all_kept = all_kept && differences.is_as_kept();
         all_counts = all_counts.and(flat_counts(rt, &case)?);
     }
-    println!(rt; "flat: {all_counts}")?;
+    writeln!(out, "flat: {all_counts}")?;
     for (name, variant) in WRONG {
         let wrong = refutation(rt, name, variant)?;
-        println!(rt; "flat, {name}: {wrong}")?;
+        writeln!(out, "flat, {name}: {wrong}")?;
     }
     ensure!(all_kept, "a case differs");
     Ok(())

@@ -2,10 +2,10 @@
 //! over each. A run may still succeed, or judge what a trace still says; any other prints nothing and tells
 //! why in one line.
 
-use anyhow::{Result, ensure};
-use command_line::run_line;
 use crate::memory::{File, MemoryFiles};
 use crate::spoiling::{Stream, cut, reset};
+use anyhow::{Result, ensure};
+use command_line::run_line;
 use std::fs;
 use std::rt::Files;
 use std::sync::Wait;

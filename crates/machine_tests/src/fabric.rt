@@ -3,10 +3,10 @@
 
 ghost use Rattle.std.specs.Prelude.{◌≡◌, ◌<◌};
 
-use locked_fabric::{Fabric, Port, Share, Turn};
 use coherent_machine::{AdoptError, ApplyError, Views};
 use elf_loader::{Image, raw, size_of_kib};
 use hart::{Hart, Retired, Status, run_local};
+use locked_fabric::{Fabric, Port, Share, Turn};
 use machine_model::{Config, Event, Model, Outcome};
 use progress_board::{Board, Seat};
 use std::alloc::{AllocError, Global};

@@ -1,9 +1,9 @@
 //! Runs with threads: worked rows, and how a run ends.
 
-use host_threads::{Gate, Report, RunError, run, run_with};
 use coherent_machine::{Views, replay};
 use elf_loader::{Image, raw, size_of_kib};
 use hart::Status;
+use host_threads::{Gate, Report, RunError, run, run_with};
 use locked_fabric::Turn;
 use machine_model::{Config, Event, Model, Outcome};
 use std::alloc::Global;

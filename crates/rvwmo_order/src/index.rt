@@ -87,10 +87,11 @@ impl Index {
         })
     }
 
-    pub(crate) fn order(&self) -> &[Operation]
+    /// The operations, in their order.
+    pub fn order(&self) -> &[Operation]
         ensures { result.now ≡ self.now }
     {
-        &self.order
+        self.order.as_slice()
     }
 
     /// How far behind each operation the last one stands that precedes it in program order; 0 where none

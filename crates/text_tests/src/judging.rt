@@ -1,9 +1,9 @@
 //! How many operations are judged, and where bytes come from.
 mod plain;
 
-use rvwmo_order::{CheckError, Verdict, check, completed, is_within_limits};
 use elf_loader::{raw, size_of_kib};
 use hart::{Retired, Status};
+use rvwmo_order::{CheckError, Verdict, check, completed, is_within_limits};
 use std::alloc::Global;
 use std::test::Fail;
 use tl_types::LineSize;

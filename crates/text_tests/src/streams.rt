@@ -1,8 +1,8 @@
 //! Whole streams of small programs, where they end, and writers that fail.
 
-use event_stream::{StreamError, Strictness, write_stream};
 use coherent_machine::ApplyError;
 use elf_loader::{Image, raw, size_of_kib};
+use event_stream::{StreamError, Strictness, write_stream};
 use machine_model::{Config, Event, Model, Outcome};
 use std::alloc::Global;
 use std::io::{Error, ErrorKind, Result as IoResult, Write};

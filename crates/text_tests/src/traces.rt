@@ -2,11 +2,11 @@
 
 mod texts;
 
-use trace_text::{TextCode, read_script, read_trace, write_script, write_trace};
 use std::alloc::Global;
 use std::io::{Error, ErrorKind, Result as IoResult, Write};
 use std::test::Fail;
 use texts::Answers;
+use trace_text::{TextCode, read_script, read_trace, write_script, write_trace};
 
 /// The line and the code of the fault, or zeros.
 fn script_answer(alloc: Global, bytes: &[u8]) -> (usize, u8) {
