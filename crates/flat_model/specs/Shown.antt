@@ -4,6 +4,7 @@ use Rattle.elf_loader.specs.Image.{end_of}
 use Rattle.elf_loader.specs.Size.{base}
 use Rattle.flat_model.specs.Flat.{Flat, FlatNode, byte_in}
 use Rattle.flat_model.specs.Flat as flat
+use Rattle.flat_model.specs.declared.results.HartResult.{HartResult}
 use Rattle.hart.specs.declared.status.Status.{Status}
 use Rattle.machine_model.specs.Views.{Node, State, node_at}
 use Rattle.memory_model.specs.Traces.{last_performed}
@@ -46,3 +47,7 @@ results s = map (λ (n : Node). record { status = n.hart.status; output = n.outp
 
 abbrev pub flat_results : Flat → List Result
 flat_results f = map (λ (n : FlatNode). record { status = n.hart.status; output = n.output }) f.nodes
+
+-- as code tells them
+abbrev pub told : List HartResult → List Result
+told = map (λ (r : HartResult). record { status = r.status; output = r.output.items })

@@ -4,8 +4,10 @@
 
 mod event;
 mod laws;
+mod results;
 
 pub use event::FlatEvent;
 pub use laws::{
     flat_order_always, flat_results_always, projection_decides, shown_always, worked_plays,
 };
+pub use results::HartResult;

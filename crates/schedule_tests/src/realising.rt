@@ -1,10 +1,10 @@
 //! Small programs whose flat plays and random runs were worked out by hand.
 
 use elf_loader::{Image, raw, size_of_kib};
-use flat_model::FlatEvent;
+use flat_model::{FlatEvent, HartResult};
 use hart::Status;
 use machine_model::{Config, Event, Model};
-use schedules::{HartResult, RealiseError, Schedule, realise, sample, shorten};
+use schedules::{RealiseError, Schedule, realise, sample, shorten};
 use std::alloc::Global;
 use std::test::Fail;
 use tl_types::Channel;

@@ -1,7 +1,8 @@
 -- A machine with the events that changed it stays where they lead.
 use Rattle.std.proofs.Common.{◌≡◌, ◌≢◌, ◌∙◌, refl, sym, ap, subst, ℕ, ◌+◌, List, [], ◌∷◌, ◌++◌, Ok, inl, inr, IsTrue, arith}
 use Rattle.elf_loader.specs.Image.{Initial}
-use Rattle.flat_model.specs.Shown.{results}
+use Rattle.flat_model.specs.declared.results.HartResult.{HartResult}
+use Rattle.flat_model.specs.Shown.{results, told}
 use Rattle.coherent_machine.specs.Machine.{Replayed, replayed_from, unless_refused}
 use Rattle.machine_model.specs.declared.config.Config.{Config}
 use Rattle.machine_model.specs.declared.event.Event.{Event}
@@ -12,8 +13,7 @@ use Rattle.machine_model.specs.Events.Verdict.{IsBad, Keeps, IsLimited, Moves}
 use Rattle.machine_model.specs.Laws.{ChangesAreCounted, KeepsImageAndConfig}
 use Rattle.machine_model.specs.Views.{State, opening}
 use Rattle.machine_parts.specs.Applying.{Answers}
-use Rattle.schedules.specs.declared.results.HartResult.{HartResult}
-use Rattle.schedules.specs.Schedules.{IsPlayed, ComesTo, told}
+use Rattle.schedules.specs.Schedules.{IsPlayed, ComesTo}
 
 -- where the number of changes stays, the machine does
 pub still : ChangesAreCounted → (old : State) (e : Event) (new : State) → new ≡ happens old e → new.views.changes ≡ old.views.changes → new ≡ old

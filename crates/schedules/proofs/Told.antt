@@ -1,11 +1,10 @@
 -- Results that are told of one hart after the other.
 use Rattle.std.proofs.Common.{◌≡◌, ◌∙◌, sym, ap, ℕ, ◌+◌, ◌<◌, List, [], ◌∷◌, ◌++◌, length, map, take, get_or}
 use Rattle.std.proofs.lemmas.List.{map-append, take_more}
-use Rattle.flat_model.specs.Shown.{Result}
+use Rattle.flat_model.specs.declared.results.HartResult.{HartResult}
+use Rattle.flat_model.specs.Shown.{Result, told}
 use Rattle.hart.specs.declared.status.Status.{Status}
 use Rattle.machine_model.specs.Views.{Node, State, node_at, no_node}
-use Rattle.schedules.specs.declared.results.HartResult.{HartResult}
-use Rattle.schedules.specs.Schedules.{told}
 
 abbrev pub shown : Node → Result
 shown n = record { status = n.hart.status; output = n.output }

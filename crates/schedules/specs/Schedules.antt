@@ -2,13 +2,13 @@
 use Rattle.std.specs.Prelude.{◌≡◌, ◌⊎◌, List, [], ◌∷◌, ◌++◌, map, IsTrue}
 use Rattle.elf_loader.specs.Image.{Initial}
 use Rattle.coherent_machine.specs.Machine.{Replayed, replayed_from}
-use Rattle.flat_model.specs.Shown.{Result, results}
+use Rattle.flat_model.specs.declared.results.HartResult.{HartResult}
+use Rattle.flat_model.specs.Shown.{results, told}
 use Rattle.machine_model.specs.declared.config.Config.{Config}
 use Rattle.machine_model.specs.declared.event.Event.{Event}
 use Rattle.machine_model.specs.Config.{is_within_limits}
 use Rattle.machine_model.specs.Events.{after_events}
 use Rattle.machine_model.specs.Views.{State, opening}
-use Rattle.schedules.specs.declared.results.HartResult.{HartResult}
 
 -- where events lead from reset
 abbrev pub led : Initial → Config → List Event → State
@@ -17,10 +17,6 @@ led image config events = after_events (opening image config) events
 -- no event is refused on the way there
 abbrev pub Replays : Initial → Config → List Event → Type 0
 Replays image config events = replayed_from 0 (opening image config) events ≡ Replayed.Reached (led image config events)
-
--- statuses and outputs as they are told
-abbrev pub told : List HartResult → List Result
-told = map (λ (r : HartResult). record { status = r.status; output = r.output.items })
 
 -- events of which none is refused lead to these results
 pub record ComesTo (image : Initial) (config : Config) (goal : List HartResult) (events : List Event) : Type 0 where

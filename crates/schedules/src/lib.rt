@@ -14,7 +14,7 @@ mod transactions;
 
 pub use errors::RealiseError;
 pub use realising::realise;
-pub use results::{HartResult, results_of};
+pub use results::results_of;
 pub use sampling::sample;
 pub use schedule::Schedule;
 pub use shortening::shorten;

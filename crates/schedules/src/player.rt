@@ -1,12 +1,12 @@
 //! A machine with the events that changed it.
 
 ghost use Rattle.std.specs.Prelude.{◌≡◌, ◌↔◌, [], Err, IfOk, IsTrue, false};
-ghost use Rattle.flat_model.specs.Shown.{results};
+ghost use Rattle.flat_model.specs.Shown.{results, told};
 ghost use Rattle.machine_model.specs.Config.{is_within_limits};
 ghost use Rattle.machine_model.specs.Events.{after_events};
 ghost use Rattle.machine_model.specs.Views.{opening};
 ghost use Rattle.coherent_machine.specs.Machine.{Replayed, replayed_from};
-ghost use Rattle.schedules.specs.Schedules.{Keeps, Played, start_of, told};
+ghost use Rattle.schedules.specs.Schedules.{Keeps, Played, start_of};
 
 use crate::errors::Fault;
 use crate::results::results_of;

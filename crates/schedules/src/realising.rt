@@ -1,10 +1,10 @@
 //! The machine's events that do what a flat machine's events do.
 
 ghost use Rattle.std.specs.Prelude.{◌≡◌, ◌↔◌, Err, IfErr, IfOk, false, length};
-ghost use Rattle.flat_model.specs.Shown.{results};
+ghost use Rattle.flat_model.specs.Shown.{results, told};
 ghost use Rattle.machine_model.specs.Config.{is_within_limits};
 ghost use Rattle.schedules.specs.Errors.{IsOneOf};
-ghost use Rattle.schedules.specs.Schedules.{Replays, led, start_of, told};
+ghost use Rattle.schedules.specs.Schedules.{Replays, led, start_of};
 
 use crate::errors::{Fault, RealiseError};
 use crate::player::Player;

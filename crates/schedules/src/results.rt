@@ -1,19 +1,11 @@
 //! What a run leaves of its harts.
 
 ghost use Rattle.std.specs.Prelude.{◌≡◌, IfOk, IsTrue};
-ghost use Rattle.flat_model.specs.Shown.{results};
-ghost use Rattle.schedules.specs.Schedules.{told};
+ghost use Rattle.flat_model.specs.Shown.{results, told};
 
 use coherent_machine::Views;
-use hart::Status;
+use flat_model::HartResult;
 use std::alloc::{AllocError, Global};
-
-/// How a hart stands, and the numbers that it put out, the first one first.
-#[derive(Clone, Debug, PartialEq, Eq, Drop)]
-pub struct HartResult {
-    pub status: Status,
-    pub output: Vec<u32>,
-}
 
 /// How the machine's harts stand and what they put out, by hart.
 pub fn results_of(alloc: Global, views: &Views<'_>) -> Result<Vec<HartResult>, AllocError>

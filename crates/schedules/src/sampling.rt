@@ -2,9 +2,9 @@
 
 ghost use Rattle.std.specs.Prelude.{◌≡◌, ◌↔◌, Err, IfOk, false};
 ghost use Rattle.coherent_machine.specs.declared.errors.NewError.TheVariants as making;
-ghost use Rattle.flat_model.specs.Shown.{results};
+ghost use Rattle.flat_model.specs.Shown.{results, told};
 ghost use Rattle.machine_model.specs.Config.{is_within_limits};
-ghost use Rattle.schedules.specs.Schedules.{Replays, led, start_of, told};
+ghost use Rattle.schedules.specs.Schedules.{Replays, led, start_of};
 
 use crate::errors::Fault;
 use crate::player::{MOST_HARTS, Player};

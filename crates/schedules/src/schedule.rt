@@ -1,7 +1,7 @@
 //! A list of events with what it leads to.
 
-use crate::results::HartResult;
 use coherent_machine::Machine;
+use flat_model::HartResult;
 use machine_model::Event;
 
 /// Events, the first one first, each of which changes the machine, and what they lead to from reset.

@@ -4,17 +4,18 @@ ghost use Rattle.std.specs.Prelude.{◌≡◌, ◌≢◌, ◌↔◌, ◌<◌, []
 ghost use Rattle.coherent_machine.specs.Machine.{IsFirstRefusal};
 ghost use Rattle.coherent_machine.specs.declared.errors.NewError.TheVariants as making;
 ghost use Rattle.coherent_machine.specs.declared.errors.ReplayError.TheVariants as replaying;
-ghost use Rattle.flat_model.specs.Shown.{results};
+ghost use Rattle.flat_model.specs.Shown.{results, told};
 ghost use Rattle.machine_model.specs.Config as limits;
 ghost use Rattle.machine_model.specs.Views.{opening};
-ghost use Rattle.schedules.specs.Schedules.{ComesTo, Replays, led, start_of, told};
+ghost use Rattle.schedules.specs.Schedules.{ComesTo, Replays, led, start_of};
 ghost use Rattle.schedules.specs.Sublists.{IsSublist};
 
 use crate::errors::Fault;
 use crate::player::Player;
-use crate::results::{HartResult, are_results, results_of};
+use crate::results::{are_results, results_of};
 use coherent_machine::{Machine, NewError, ReplayError, replay};
 use elf_loader::Image;
+use flat_model::HartResult;
 use machine_model::{Config, Event};
 use machine_parts::is_within_limits;
 use std::alloc::Global;

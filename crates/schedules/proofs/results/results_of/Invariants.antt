@@ -1,6 +1,6 @@
 use Rattle.std.proofs.Common.{◌≡◌, ◌≤◌, length, vec_capacity}
 use Rattle.schedules.proofs.Told.{first_results}
-use Rattle.schedules.specs.Schedules.{told}
+use Rattle.flat_model.specs.Shown.{told}
 use Rattle.schedules.proofs.results.results_of.Given as goal
 
 abbrev pub invariant-loop-hart : goal.invariant-loop-hart

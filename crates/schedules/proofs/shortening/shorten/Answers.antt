@@ -2,7 +2,7 @@ use Rattle.std.proofs.Common.{◌≡◌, ◌∙◌, sym, ap, subst}
 use Rattle.coherent_machine.specs.Machine.{Replayed, replayed_from}
 use Rattle.elf_loader.specs.Image.{Initial}
 use Rattle.machine_model.specs.Views.{opening}
-use Rattle.schedules.specs.Schedules.{told}
+use Rattle.flat_model.specs.Shown.{told}
 use Rattle.schedules.proofs.Played.{replayed_to}
 use Rattle.schedules.proofs.shortening.shorten.Goals as goal
 
