@@ -1,15 +1,14 @@
 //! Judges the message logs of kept traces, which are lawful, and each of them with an entry left out,
 //! doubled, exchanged with the next one, or changed in permission, kind or hart, and compares the verdicts
 //! with those of a plain body that counts in the log anew at each entry.
-#![tactic(auto)]
 
-mod changes;
-mod plain;
-
+use crate::{changes, plain};
 use anyhow::{Context, Result, bail, ensure};
 use lawful_log::{LogRule, LogVerdict, check_log};
 use std::alloc::Global;
 use std::fs;
+use std::io::Write;
+use std::rt::Files;
 use trace_recorder::Logged;
 use trace_text::read_trace;
 
@@ -24,8 +23,9 @@ struct Judged {
     broken: [usize; 8],
 }
 
-fn main(rt: HostRuntime) -> Result<()> {
-    let bytes = fs::read(&rt, "logs")?;
+/// Judges each log and its changes, and says how many break which rule.
+pub fn judge_logs<R: Files + AllocGlobal, W: Write>(rt: &R, out: &mut W) -> Result<()> {
+    let bytes = fs::read(rt, "logs")?;
     let mut rest = bytes.as_slice();
     let mut judged = Judged::none();
     for number in 0..TRACES {
@@ -40,10 +40,13 @@ fn main(rt: HostRuntime) -> Result<()> {
         rest = rest.get(length..).context("a trace beyond the file")?;
     }
     ensure!(rest.is_empty(), "the file has more traces");
-    println!(rt; "{TRACES} logs are lawful; of their changed logs, judged alike, so many are")?;
-    println!(rt; "lawful {}", judged.lawful)?;
+    writeln!(
+        out,
+        "{TRACES} logs are lawful; of their changed logs, judged alike, so many are"
+    )?;
+    writeln!(out, "lawful {}", judged.lawful)?;
     for (rule, number) in LogRule::ALL.iter().zip(&judged.broken) {
-        println!(rt; "{rule} {number}")?;
+        writeln!(out, "{rule} {number}")?;
     }
     Ok(())
 }

@@ -1,7 +1,6 @@
 //! Judges kept traces with the checker and with its plain body, each in its completed order and with every
 //! two neighbouring performed operations exchanged, under both memory models, and compares what they answer.
 //! A file has one trace behind another.
-#![tactic(auto)]
 
 ghost use Rattle.rvwmo_order.specs.Limits.{IsWithinLimits};
 
@@ -9,6 +8,7 @@ use anyhow::{Context, Result, bail, ensure};
 use rvwmo_order::{Model, is_within_limits, plain};
 use std::alloc::Global;
 use std::fs;
+use std::io::Write;
 use std::rt::Files;
 use trace_recorder::{OpId, Trace};
 use trace_text::read_trace;
@@ -16,10 +16,11 @@ use trace_text::read_trace;
 /// The files, each with how many traces it has.
 const FILES: [(&str, usize); 3] = [("rows", 74), ("programs", 200), ("shapes", 137)];
 
-fn main(rt: HostRuntime) -> Result<()> {
+/// Judges each file, and says how many orders were judged alike.
+pub fn judge_files<R: Files + AllocGlobal, W: Write>(rt: &R, out: &mut W) -> Result<()> {
     for (name, traces) in FILES {
-        let orders = judge_file(&rt, name, traces)?;
-        println!(rt; "{name}: {traces} traces, {orders} orders judged alike")?;
+        let orders = judge_file(rt, name, traces)?;
+        writeln!(out, "{name}: {traces} traces, {orders} orders judged alike")?;
     }
     Ok(())
 }
