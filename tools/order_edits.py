@@ -7,7 +7,8 @@ The gate tries a crate's edits by their names, each over what the one before it 
 breaks is refused, and at once so is each function that calls it; where the next edit does not break them too,
 all of them are proved again. So an edit comes before those of functions that its function calls. Who calls whom
 is read from the text, by names alone; what a function costs is taken to grow with its lines.
-Without --write it prints what would be proved again, in lines of code, by the names and by the order found.
+Without --write it prints what would be proved again, in lines of code, by the names and by the order found;
+with it, it numbers the edits where that saves a tenth.
 """
 import os
 import re
@@ -120,7 +121,7 @@ class Order:
 
 
 def number(order, found):
-    """Renames the edits by their place; a name that has come to stand for another edit meanwhile is never lost."""
+    """Renames the edits by their place, over names that no edit has."""
     digits = len(str(len(found)))
     for at, edit in enumerate(found, 1):
         os.rename(f"{order.folder}/{edit}", f"{order.folder}/{edit}.moved")
@@ -135,8 +136,9 @@ def main(words):
         if len(order.edits) < 3:
             continue
         found = order.found()
-        print(f"{name}: {len(found)} edits, lines proved again {order.cost(order.edits)} by their names, {order.cost(found)} by the order found")
-        if "--write" in words:
+        before, behind = order.cost(order.edits), order.cost(found)
+        print(f"{name}: {len(found)} edits, lines proved again {before} by their names, {behind} by the order found")
+        if "--write" in words and 10 * behind < 9 * before:
             number(order, found)
 
 
