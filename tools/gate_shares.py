@@ -6,7 +6,8 @@ usage: tools/gate_shares.py [COMMAND..]     (from the top of the repository; COM
 It looks twice a second at the processes of the toolchain that run below the command, by Linux's /proc, and
 adds up the processor time that each had taken when it was last seen. So a process's last half second isn't
 counted, and what runs beside the toolchain's own program (the linker, the tests) stands under `other`.
-The command's output goes to standard output; the shares follow it.
+The command's output goes to standard output; the shares follow it, and the slowest edits: of a crate's edits
+the first is left out, which proves the crate from nothing, and so is the last check, which is of no edit.
 """
 import collections
 import os
@@ -15,6 +16,7 @@ import sys
 import time
 
 TICK = os.sysconf("SC_CLK_TCK")
+SLOWEST = 20
 
 
 def children_of():
@@ -40,19 +42,35 @@ def below(top, parents):
 
 
 def share_of(pid):
-    """Returns the crate and the kind of work that a process is at."""
+    """Returns the crate, the kind of work that a process is at, and, of an edit, the folder where it is tried."""
     try:
         with open(f"/proc/{pid}/cmdline", "rb") as file:
             words = file.read().decode(errors="replace").split("\0")
-        folder = os.readlink(f"/proc/{pid}/cwd")
+        folder = os.readlink(f"/proc/{pid}/cwd").partition(" (deleted)")[0]
     except OSError:
         return None
     if not words[0].endswith("/rattle"):
-        return ("other", "other")
+        return ("other", "other", "")
     crate = words[words.index("--crate-name") + 1] if "--crate-name" in words else "other"
     if "/rt-edit-" in folder:
-        return (crate, "edits")
-    return (crate, "tests" if "--test" in words else "proof")
+        return (crate, "edits", folder)
+    return (crate, "tests" if "--test" in words else "proof", "")
+
+
+def slowest(seen):
+    """Returns each edit's seconds and name, the slowest first: the gate tries a crate's edits by their names."""
+    by_crate = collections.defaultdict(collections.Counter)
+    for (_, (crate, kind, folder)), seconds in seen.items():
+        if kind == "edits":
+            by_crate[crate][folder] += seconds
+    found = []
+    for crate, checks in by_crate.items():
+        checks = [*checks.values()]
+        folder = f"crates/{crate}/must-fail"
+        names = sorted(it for it in os.listdir(folder) if it.endswith(".edit"))
+        if len(checks) == len(names) + 1:
+            found += [(seconds, f"{crate}/{name}") for seconds, name in zip(checks[1:-1], names[1:])]
+    return sorted(found, reverse=True)
 
 
 def main():
@@ -66,13 +84,16 @@ def main():
                 seen[pid, share] = max(seconds, seen.get((pid, share), 0))
         time.sleep(0.5)
     shares = collections.defaultdict(lambda: collections.Counter())
-    for (_, (crate, kind)), seconds in seen.items():
+    for (_, (crate, kind, _)), seconds in seen.items():
         shares[crate][kind] += seconds
     total = sum(sum(kinds.values()) for kinds in shares.values())
     print(f"\nprocessor minutes {total / 60:.1f}, wall minutes {(time.time() - started) / 60:.1f}")
     print(f"{'crate':24}{'proof':>8}{'tests':>8}{'edits':>8}{'other':>8}   processor seconds")
     for crate, kinds in sorted(shares.items(), key=lambda it: -sum(it[1].values())):
         print(f"{crate:24}" + "".join(f"{kinds[kind]:8.0f}" for kind in ("proof", "tests", "edits", "other")))
+    print("the slowest edits")
+    for seconds, name in slowest(seen)[:SLOWEST]:
+        print(f"{seconds:8.0f}   {name}")
     return run.returncode
 
 
