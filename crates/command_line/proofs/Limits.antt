@@ -1,17 +1,12 @@
--- What a text holds is within the limits of a machine and of an order.
-use Rattle.std.proofs.Common.{◌≡◌, ◌≤◌, ◌<◌, ◌&&◌, ℕ, Bool, List, [], ◌∷◌, arith, false, length, suc, true, zero, refl}
-use Rattle.std.specs.List.{AllByRecursion, slice_index_or}
+-- What a script's text holds is within the limits of a machine.
+use Rattle.std.proofs.Common.{◌≡◌, ◌&&◌, ℕ, Bool, arith, false, true, refl}
 use Rattle.std.proofs.lemmas.Bool.{eq-eqb, false≢true, le-leb}
 use Rattle.std.proofs.lemmas.Bool.Decides.{nat_tests}
 use Rattle.command_line.specs.Composition.{config_of}
 use Rattle.elf_loader.specs.Size.{IsMemoryKib}
 use Rattle.machine_model.specs.Config.{is_power_to_64, is_within_limits}
 use Rattle.memory_model.specs.declared.Model.{Model}
-use Rattle.rvwmo_order.specs.Limits.{IsWithinLimits}
-use Rattle.trace_recorder.specs.History.{History}
-use Rattle.hart.specs.declared.retired.Retired.{Retired}
 use Rattle.trace_text.specs.Scripts.{IsScript, head_of, is_head}
-use Rattle.trace_text.specs.TraceLimits.{IsHart, IsTrace}
 use Rattle.trace_text.specs.declared.script.Script.{Script}
 use Rattle.std.specs.Prelude.{nat_le, ◌==◌, ◌||◌, ◌%◌}
 
@@ -41,17 +36,6 @@ pub memory_within : (s : Script) → IsScript s → IsMemoryKib s.kib
 memory_within s is =
     kib_within s.kib
     (size_alone (nat_le 1 s.harts) (nat_le s.harts 8) (nat_le 4 s.kib && nat_le s.kib 1024 && s.kib % 4 == 0) (is_power_to_64 s.sets) (nat_le 1 s.ways) (nat_le s.ways 4) (s.line == 16 || s.line == 64) is.head)
-
-places : (lists : List (List Retired)) → AllByRecursion IsHart lists → (k : ℕ) (d : List Retired) → k < length lists → length (slice_index_or lists k d) ≤ 1000000
-places [] all k d lt = absurd (omega arith)
-places (x ∷ xs) all zero d lt = all.0.1
-places (x ∷ xs) all (suc k) d lt = places xs all.1 k d (omega arith)
-
-pub order_within : (t : History) → IsTrace t → IsWithinLimits t
-order_within t is = record {
-  harts = let most : length t.statuses ≤ 8 = is.head.at_most_8 in omega (arith, is.lists);
-  places = places t.entries is.entries;
-}
 
 -- ---- and back: a machine within the limits, and its memory, have a head
 

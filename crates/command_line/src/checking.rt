@@ -2,7 +2,6 @@
 
 ghost use Rattle.std.specs.Prelude.{◌≡◌, IfErr, IfOk};
 ghost use Rattle.text_fields.specs.Writing.{Writes};
-ghost use Rattle.rvwmo_order.specs.Limits.{IsWithinLimits};
 ghost use Rattle.command_line.specs.Lines.{IsJudged, IsVerdict, IsVerdictCutOff, verdict_text};
 ghost use Rattle.command_line.specs.Turns.{IsCheckFault, Leaves};
 
@@ -10,7 +9,7 @@ use crate::fault::Fault;
 use crate::files::Files;
 use crate::replaying::contents;
 use machine_model::Model;
-use rvwmo_order::{CheckError, Verdict, check_model, completed, has_too_many, is_within_limits};
+use rvwmo_order::{CheckError, Verdict, check_model, completed, has_too_many};
 use std::alloc::Global;
 use std::io::{self, Write};
 use text_fields::{Piece, put_pieces};
@@ -39,10 +38,6 @@ pub(crate) fn check_file<'a, F: Files, O: Write>(
     if length < bytes.len() {
         return Err(Fault::BytesAfterTrace { file });
     }
-    // A text can't spell a trace beyond the limits.
-    if !is_within_limits(&trace) {
-        unreachable!()
-    }
     let verdict = match judged(alloc, &trace, model) {
         Ok(verdict) => verdict,
         Err(error) => return Err(Fault::check(file, error)),
@@ -54,7 +49,6 @@ pub(crate) fn check_file<'a, F: Files, O: Write>(
 }
 
 fn judged(alloc: Global, trace: &Trace, model: Model) -> Result<Verdict, CheckError>
-    requires { IsWithinLimits trace.now.history }
     ensures { IfOk result (IsVerdict model trace.now.history) }
 {
     if has_too_many(trace) {

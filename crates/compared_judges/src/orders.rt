@@ -2,10 +2,8 @@
 //! two neighbouring performed operations exchanged, under both memory models, and compares what they answer.
 //! A file has one trace behind another.
 
-ghost use Rattle.rvwmo_order.specs.Limits.{IsWithinLimits};
-
 use anyhow::{Context, Result, bail, ensure};
-use rvwmo_order::{Model, is_within_limits, plain};
+use rvwmo_order::{Model, plain};
 use std::alloc::Global;
 use std::fs;
 use std::io::Write;
@@ -48,9 +46,6 @@ fn judge_file<R: Files + AllocGlobal>(rt: &R, name: &str, traces: usize) -> Resu
 
 // Compares the verdicts on a trace's completed order, and on that with each two neighbours exchanged.
 fn judge_trace(alloc: Global, trace: &Trace, model: Model) -> Result<usize> {
-    if !is_within_limits(trace) {
-        bail!("a trace beyond the limits");
-    }
     let mut order = rvwmo_order::completed(alloc, trace)?;
     let plain = plain::completed(alloc, trace)?;
     ensure!(order == plain, "completed orders differ");
@@ -65,9 +60,7 @@ fn judge_trace(alloc: Global, trace: &Trace, model: Model) -> Result<usize> {
 }
 
 // Fails where the two bodies answer differently.
-fn compare(alloc: Global, trace: &Trace, order: &[OpId], model: Model) -> Result<()>
-    requires { IsWithinLimits trace.now.history }
-{
+fn compare(alloc: Global, trace: &Trace, order: &[OpId], model: Model) -> Result<()> {
     let indexed = rvwmo_order::check_model(alloc, trace, order, model);
     let plain = plain::check_model(alloc, trace, order, model);
     ensure!(indexed == plain, "{indexed:?} and {plain:?}");

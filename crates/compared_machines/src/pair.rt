@@ -82,7 +82,7 @@ impl Pair {
 
     /// Whether the texts of both traces, and what the harts put out, are the same.
     pub fn has_one_trace(self, alloc: Global) -> Result<bool> {
-        let (expected, expected_outputs) = self.plain.into_parts()?;
+        let (expected, expected_outputs) = self.plain.into_parts()?.context("a trace")?;
         let (trace, outputs) = self.coherent.into_parts();
         let mut expected_text = Vec::new(alloc);
         write_trace(&expected, &mut expected_text)?;

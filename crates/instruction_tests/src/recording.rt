@@ -3,7 +3,7 @@ use elf_loader::{raw, size_of_kib};
 use hart::{Retired, Status};
 use std::test::Fail;
 use tl_types::{Body, LineSize, Msg};
-use trace_recorder::{Direction, Logged, OpId, Trace};
+use trace_recorder::{Direction, Logged, OpId, Trace, are_within_limits};
 
 const ENTRY: Retired = Retired {
     pc: 0x8000_0000,
@@ -48,6 +48,7 @@ fn a_trace_is_made_of_lists(rt: HostRuntime) -> Result<(), Fail> {
     let image = raw(alloc, &[0x13, 0, 0, 0], size)?;
     let mut entries = Vec::new(alloc);
     entries.push(vec![in alloc; ENTRY; 3]?)?;
+    assert!(rt; are_within_limits(&entries));
     let statuses = vec![in alloc; Status::Exited(7); 1]?;
     let performed = vec![in alloc; OpId { hart: 0, place: 2 }; 1]?;
     let sent = Logged {

@@ -31,7 +31,7 @@ impl Playable for PlainMachine {
     }
 
     fn ended(self) -> Result<(Trace, Vec<Vec<u32>>)> {
-        Ok(self.into_parts()?)
+        self.into_parts()?.context("a trace")
     }
 }
 

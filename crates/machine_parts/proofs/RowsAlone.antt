@@ -1,12 +1,13 @@
 -- How a row of private instructions goes on, and where it ends.
-use Rattle.std.proofs.Common.{◌≡◌, ℕ, zero, suc, ◌-◌, ◌<◌, ◌≤◌, List, [], ◌∷◌, Bool, true, false, Option, Some, None, slice_index, slice_set, cond, refl, sym, ap, ◌∙◌, subst, arith}
+use Rattle.std.proofs.Common.{◌≡◌, ℕ, zero, suc, ◌+◌, ◌-◌, ◌<◌, ◌≤◌, List, [], ◌∷◌, ◌++◌, length, Bool, true, false, Option, Some, None, slice_index, slice_set, cond, refl, sym, ap, ◌∙◌, subst, arith}
+use Rattle.std.proofs.lemmas.List.{get_or-set_same, length-append}
 use Rattle.elf_loader.specs.Image.{Initial}
 use Rattle.hart.specs.Local.{can_go_alone, next_entry, next_step, private_row}
 use Rattle.hart.specs.Run.{after, reached}
 use Rattle.hart.specs.declared.retired.Retired.{Retired}
 use Rattle.hart.specs.declared.state.Hart.{Hart}
 use Rattle.machine_model.specs.Changing.{with_entries}
-use Rattle.trace_recorder.specs.History.{History, with_entry}
+use Rattle.trace_recorder.specs.History.{History, entries_of, with_entry}
 
 abbrev pair : Retired → Hart → Retired × Hart
 pair entry hart = (entry, hart)
@@ -63,6 +64,13 @@ row_goes h image last room entry next old new whole g n e =
 pub row_leads : (image : Initial) (last : Hart) (room : ℕ) (entry : Retired) (next end : Hart) → Goes image last room entry next → reached last (private_row image last room) ≡ end → reached next (private_row image next (room - 1)) ≡ end
 row_leads image last room entry next end g e =
     ap (λ (h : Hart). reached h (private_row image next (room - 1))) g.leads ∙ (sym (ap (reached last) g.row) ∙ e)
+
+-- one entry more in a hart's list, and one less to come
+pub place_left : (h left : ℕ) (t : History) (entry : Retired) → h < length t.entries → 0 < left → length (entries_of t h) + left ≤ 1000000 → length (entries_of (with_entry h entry t) h) + (left - 1) ≤ 1000000
+place_left h left t entry there l few =
+    let one : length (entries_of (with_entry h entry t) h) ≡ length (entries_of t h) + 1 =
+    ap (λ (es : List Retired). length es) (get_or-set_same t.entries h (entries_of t h ++ entry ∷ []) [] there) ∙ length-append (entries_of t h) (entry ∷ []) in
+    omega (arith, one, l, few)
 
 pub room_left : (h left : ℕ) (xs : List ℕ) → 0 < left → left ≤ slice_index xs h → left - 1 ≤ slice_index (slice_set xs h (slice_index xs h - 1)) h
 room_left h zero xs l r = absurd (omega (arith, l))

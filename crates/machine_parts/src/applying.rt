@@ -1,6 +1,6 @@
 //! An event: decided, limited, given room, and only then performed.
 
-ghost use Rattle.std.specs.Prelude.{◌≡◌, ◌<◌, ℕ, IsOk, IsTrue, OnOk, OnErr, length};
+ghost use Rattle.std.specs.Prelude.{◌≡◌, ◌+◌, ◌<◌, ◌≤◌, ℕ, IsOk, IsTrue, OnOk, OnErr, length};
 ghost use Rattle.machine_model.specs.Changing as changing;
 ghost use Rattle.machine_model.specs.Events as events;
 ghost use Rattle.machine_model.specs.Events.{verdict};
@@ -25,6 +25,7 @@ fn perform(parts: &mut Parts, hart: u8, act: &Act) -> Result<(), AllocError>
     requires sound { IsSound (state_of parts.old) }
     requires hart { hart < length parts.old.nodes.items }
     requires ready { IsReady hart act.now (state_of parts.old) }
+    requires fits { changing.place_at (state_of parts.old) hart + events.entries_by act.now ≤ 1000000 }
     requires room { HasRoom hart (needs_of (state_of parts.old) hart act.now) parts.old.trace.room }
     ensures ok { OnOk result (state_of parts.new ≡ changing.acted hart act.now (state_of parts.old)) }
     ensures err { OnErr result (state_of parts.new ≡ state_of parts.old) }

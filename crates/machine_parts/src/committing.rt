@@ -1,6 +1,6 @@
 //! A row of private instructions that a hart has run by itself, committed as it is.
 
-ghost use Rattle.std.specs.Prelude.{◌≡◌, ◌≢◌, ◌<◌, ◌≤◌, [], length, slice_index};
+ghost use Rattle.std.specs.Prelude.{◌≡◌, ◌≢◌, ◌+◌, ◌<◌, ◌≤◌, [], length, slice_index};
 ghost use Rattle.hart.specs.Local.{row_of};
 ghost use Rattle.machine_model.specs.Changing.{went_alone, with_entries};
 ghost use Rattle.machine_model.specs.Events.{verdict};
@@ -8,6 +8,7 @@ ghost use Rattle.machine_model.specs.Ready.{IsSound};
 ghost use Rattle.machine_model.specs.Views.{node_at};
 ghost use Rattle.machine_parts.specs.Applying.{Answers};
 ghost use Rattle.machine_parts.specs.Parts.{state_of};
+ghost use Rattle.trace_recorder.specs.History.{entries_of};
 
 use crate::errors::ApplyError;
 use crate::limits::{is_limited, reserve};
@@ -41,6 +42,7 @@ impl Parts {
 fn take_over(parts: &mut Parts, hart: u8, batch: &Batch)
     requires hart { hart < length parts.old.nodes.items }
     requires entries { hart < length parts.old.trace.history.entries }
+    requires few { length (entries_of parts.old.trace.history hart) + length batch.now.entries ≤ 1000000 }
     requires room { length batch.now.entries ≤ slice_index parts.old.trace.room.entries hart }
     requires row { batch.now ≡ row_of parts.old.trace.history.image (node_at (state_of parts.old) hart).hart (length batch.now.entries) }
     ensures { state_of parts.new ≡ went_alone hart (length batch.now.entries) (state_of parts.old) }
@@ -51,6 +53,7 @@ fn take_over(parts: &mut Parts, hart: u8, batch: &Batch)
 
 fn retire_all(trace: &mut Trace, hart: u8, entries: &[Retired])
     requires hart { hart < length trace.old.history.entries }
+    requires few { length (entries_of trace.old.history hart) + length entries.now ≤ 1000000 }
     requires room { length entries.now ≤ slice_index trace.old.room.entries hart }
     ensures { trace.new.history ≡ with_entries hart entries.now trace.old.history }
 {

@@ -10,7 +10,6 @@ ghost use Rattle.machine_parts.specs.Lists.{KeepsLists};
 ghost use Rattle.machine_parts.specs.Parts.{state_of};
 ghost use Rattle.store_buffer.specs.ByteMask.{marks_of_access};
 ghost use Rattle.store_buffer.specs.Groups.{after_seal, fits};
-ghost use Rattle.trace_recorder.specs.History.{entries_of};
 
 use crate::caches::write_word;
 use crate::parts::Parts;
@@ -118,7 +117,6 @@ fn seal(parts: &mut Parts, hart: u8)
 // The operation of the instruction that retires is performed.
 fn perform_own(parts: &mut Parts, hart: u8)
     requires hart { hart < length parts.old.trace.history.entries }
-    requires places { length (entries_of parts.old.trace.history hart) ≤ 1000000 }
     requires room { 0 < parts.old.trace.room.performed }
     ensures state { state_of parts.new ≡ performs_own hart (state_of parts.old) }
     ensures kept { KeepsLists parts.old parts.new }

@@ -1,8 +1,8 @@
 //! The limits of a machine, the room that an act needs, and what comes of it.
 
-ghost use Rattle.std.specs.Prelude.{◌≡◌, ◌<◌, ◌^◌, ℕ, IsOk, IsTrue, OnOk, length};
+ghost use Rattle.std.specs.Prelude.{◌≡◌, ◌+◌, ◌<◌, ◌≤◌, ◌^◌, ℕ, IsOk, IsTrue, OnOk, false, length};
 ghost use Rattle.machine_model.specs.declared.act.Act.{Act};
-ghost use Rattle.machine_model.specs.Changing.{outcome_of as spec_outcome_of};
+ghost use Rattle.machine_model.specs.Changing.{place_at, outcome_of as spec_outcome_of};
 ghost use Rattle.machine_model.specs.Changing.{outcome_by as spec_outcome_by};
 ghost use Rattle.machine_model.specs.Events.{entries_by as spec_entries_by, is_limited as spec_is_limited};
 ghost use Rattle.machine_model.specs.Ready.{IsReadyAct, IsSound};
@@ -16,21 +16,20 @@ use crate::parts::Parts;
 use hart::Status;
 use machine_model::{Act, Outcome};
 use std::alloc::AllocError;
+use trace_recorder::MAX_ENTRIES;
 
 /// How many events may change a machine.
 const MOST_CHANGES: u32 = 4_000_000;
-
-/// How many instructions a hart may retire.
-const MOST_ENTRIES: usize = 1_000_000;
 
 /// Whether a limit is met.
 pub(crate) fn is_limited(parts: &Parts, hart: u8, act: &Act) -> bool
     requires sound { IsSound (state_of parts.now) }
     requires hart { hart < length parts.now.nodes.items }
-    ensures { result ≡ spec_is_limited (state_of parts.now) hart act.now }
+    ensures exact { result ≡ spec_is_limited (state_of parts.now) hart act.now }
+    ensures fits { result ≡ false → place_at (state_of parts.now) hart + spec_entries_by act.now ≤ 1000000 }
 {
     let entries = parts.trace.entries(hart as usize).len();
-    parts.changes >= MOST_CHANGES || entries + entries_by(act) > MOST_ENTRIES
+    parts.changes >= MOST_CHANGES || entries + entries_by(act) > MAX_ENTRIES
 }
 
 // How many entries an act adds to its hart's list.

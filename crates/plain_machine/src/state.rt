@@ -10,7 +10,7 @@ use hart::{Hart, Retired};
 use machine_model::Config;
 use std::alloc::{AllocError, Global};
 use tl_types::{LineData, LineSize, Msg};
-use trace_recorder::{Direction, Logged, OpId, Trace};
+use trace_recorder::{Direction, Logged, OpId, Trace, are_within_limits};
 
 /// What belongs to one hart.
 #[derive(Debug, Drop)]
@@ -188,8 +188,9 @@ impl PlainMachine {
         Ok(())
     }
 
-    /// The trace, and what each hart put out.
-    pub fn into_parts(self) -> Result<(Trace, Vec<Vec<u32>>), AllocError> {
+    /// The trace, and what each hart put out; none where the lists are larger than a trace's, which no events
+    /// lead to.
+    pub fn into_parts(self) -> Result<Option<(Trace, Vec<Vec<u32>>)>, AllocError> {
         let size = self.line_size();
         let alloc = self.alloc;
         let mut entries = Vec::new(alloc);
@@ -200,6 +201,9 @@ impl PlainMachine {
             entries.push(node.entries)?;
             outputs.push(node.output)?;
         }
+        if !are_within_limits(&entries) {
+            return Ok(None);
+        }
         let trace = Trace::from_parts(
             self.image,
             size,
@@ -208,6 +212,6 @@ impl PlainMachine {
             self.performed,
             self.log,
         );
-        Ok((trace, outputs))
+        Ok(Some((trace, outputs)))
     }
 }

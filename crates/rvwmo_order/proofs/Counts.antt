@@ -3,13 +3,10 @@ use Rattle.std.proofs.Common.{◌≡◌, ◌+◌, ◌<◌, ◌≤◌, ℕ, suc, 
 use Rattle.std.proofs.lemmas.Bool.{lt-ltb}
 use Rattle.std.proofs.lemmas.List.{at_drop_more, length-append}
 use Rattle.std.proofs.lemmas.List.Sums.{count_by-le-length, length-filter}
-use Rattle.std.proofs.lemmas.List.Elements.{All-get_or}
 use Rattle.std.specs.Prelude.{nat_lt}
 use Rattle.hart.specs.declared.retired.Retired.{Retired}
-use Rattle.trace_recorder.specs.History.{History}
 use Rattle.memory_model.specs.Items.{has_operation}
 use Rattle.memory_model.specs.Traces.{names_from, names_of_harts}
-use Rattle.rvwmo_order.specs.Limits.{IsWithinLimits}
 
 named_as_given : (id place : ℕ) (es : List Retired) → length (names_from id place es) ≡ length (filter has_operation es)
 named_as_given id place [] = refl
@@ -28,12 +25,12 @@ hart_counted id es h =
     ∙ (length-append (names_from id 0 (get_or es id [])) (names_of_harts (id + 1) (drop (id + 1) es))
     ∙ ap (λ (n : ℕ). n + length (names_of_harts (id + 1) (drop (id + 1) es))) (named_as_given id 0 (get_or es id [])))
 
-pub few_given : (t : History) (id : ℕ) → id < length t.entries → IsWithinLimits t → length (filter has_operation (get_or t.entries id [])) ≤ 1000000
-few_given t id h limits =
-    let a = count_by-le-length has_operation (get_or t.entries id []) in
-    let e = length-filter has_operation (get_or t.entries id []) in
-    let b : length (get_or t.entries id []) ≤ 1000000 = All-get_or (λ es. length es ≤ 1000000) t.entries id [] h limits.places in
-    omega arith
+-- no more operations than instructions
+pub few_given : (es : List Retired) → length es ≤ 1000000 → length (filter has_operation es) ≤ 1000000
+few_given es few =
+    let a = count_by-le-length has_operation es in
+    let e = length-filter has_operation es in
+    omega (arith, a, e, few)
 
 -- more than 4,096 up to a hart are more than 4,096 altogether
 pub too_many : (count more rest all : ℕ) → count + (more + rest) ≡ all → 4096 < count + more → true ≡ nat_lt 4096 all

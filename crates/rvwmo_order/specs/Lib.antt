@@ -1,5 +1,4 @@
 pub mod Codes
-pub mod Limits
 pub mod Scans
 pub mod Answers
 pub mod Indexed

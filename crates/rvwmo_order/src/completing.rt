@@ -1,7 +1,6 @@
 //! The order that a trace comes with.
 ghost use Rattle.std.specs.Prelude.{◌≡◌, IfOk};
 ghost use Rattle.memory_model.specs.Traces as spec;
-ghost use Rattle.rvwmo_order.specs.Limits.{IsWithinLimits};
 
 use crate::names::{has, names_of};
 use crate::orders::names_in;
@@ -11,7 +10,6 @@ use trace_recorder::{OpId, Trace};
 /// The performed operations as they stand, then each operation that isn't among them, by hart and then by
 /// place: stores that were still waiting.
 pub fn completed(alloc: Global, trace: &Trace) -> Result<Vec<OpId>, AllocError>
-    requires { IsWithinLimits trace.now.history }
     ensures { IfOk result (λ order. order.items ≡ spec.completed trace.now.history) }
 {
     let names = names_in(alloc, trace)?;

@@ -13,7 +13,6 @@ ghost use Rattle.memory_model.specs.Traces as traces;
 ghost use Rattle.memory_model.specs.Verdict as verdict;
 ghost use Rattle.rvwmo_order.specs.Indexed as indexed;
 ghost use Rattle.rvwmo_order.specs.Indexed.{is_reserve_of, name_cmp, place_from, reaches_of, stored_from};
-ghost use Rattle.rvwmo_order.specs.Limits.{IsWithinLimits};
 
 use crate::accesses::{end_of, is_reserve, name_of, writes};
 use crate::items::Harts;
@@ -63,7 +62,6 @@ impl Model for Index {
 impl Index {
     /// The operations of these names, in their order; a name that there isn't is passed over.
     pub fn new(alloc: Global, trace: &Trace, order: &[OpId]) -> Result<Index, AllocError>
-        requires { IsWithinLimits trace.now.history }
         ensures { IfOk result (λ index. index ≡ traces.operations_at (traces.instructions trace.now.history) order.now) }
     {
         let harts = Harts::of(alloc, trace)?;

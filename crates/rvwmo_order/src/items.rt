@@ -10,7 +10,6 @@ ghost use Rattle.rv32_exec.specs.Arithmetic as arithmetic;
 ghost use Rattle.rv32_exec.specs.Meaning as meaning;
 ghost use Rattle.memory_model.specs.Items as spec;
 ghost use Rattle.memory_model.specs.Traces as traces;
-ghost use Rattle.rvwmo_order.specs.Limits.{IsWithinLimits};
 ghost use Rattle.rvwmo_order.specs.Placed.{GivesOwn, IsPlaced};
 
 use crate::runs::after;
@@ -200,7 +199,6 @@ impl Model for Harts {
 impl Harts {
     /// Those of a trace.
     pub(crate) fn of(alloc: Global, trace: &Trace) -> Result<Harts, AllocError>
-        requires { IsWithinLimits trace.now.history }
         ensures { IfOk result (λ harts. harts ≡ traces.instructions trace.now.history) }
     {
         Ok(Harts {
@@ -228,7 +226,6 @@ impl Harts {
 }
 
 fn instructions(alloc: Global, trace: &Trace) -> Result<Vec<Items>, AllocError>
-    requires { IsWithinLimits trace.now.history }
     ensures { IfOk result (λ lists. lists.items ≡ traces.instructions trace.now.history) }
 {
     let count = trace.harts();

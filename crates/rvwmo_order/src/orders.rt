@@ -3,19 +3,19 @@ ghost use Rattle.std.specs.Prelude.{◌≡◌, ◌≤◌, ◌^◌, ◌&&◌, ◌
 ghost use Rattle.std.specs.List.{list_all};
 ghost use Rattle.memory_model.specs.Items as items;
 ghost use Rattle.memory_model.specs.Traces as spec;
-ghost use Rattle.rvwmo_order.specs.Limits.{IsWithinLimits};
 
 use crate::items::{Harts, has_operation};
-use crate::limits::MAX_OPERATIONS;
 use crate::names::{has, is_distinct, names_of};
 use hart::Retired;
 use memory_model::Operation;
 use std::alloc::{AllocError, Global};
 use trace_recorder::{OpId, Trace};
 
+/// A trace with more memory operations isn't judged.
+pub const MAX_OPERATIONS: usize = 4096;
+
 /// The names of a trace's operations, by hart and then by place.
 pub(crate) fn names_in(alloc: Global, trace: &Trace) -> Result<Vec<OpId>, AllocError>
-    requires { IsWithinLimits trace.now.history }
     ensures { IfOk result (λ names. names.items ≡ spec.names_in trace.now.history) }
 {
     let mut names = Vec::new(alloc);
@@ -43,7 +43,6 @@ fn push_names(names: &mut Vec<OpId>, hart: u8, entries: &[Retired]) -> Result<()
 
 /// Whether a trace has more operations than are judged, 4,096.
 pub fn has_too_many(trace: &Trace) -> bool
-    requires { IsWithinLimits trace.now.history }
     ensures { result ≡ nat_lt 4096 (length (spec.names_in trace.now.history)) }
 {
     let mut count = 0;

@@ -8,7 +8,6 @@ ghost use Rattle.rv32_decode.specs.Rows.{decoded};
 ghost use Rattle.rv32_exec.specs.Arithmetic as arithmetic;
 ghost use Rattle.rv32_exec.specs.Meaning as meaning;
 ghost use Rattle.memory_model.specs.Traces.{are_runs as spec_are_runs};
-ghost use Rattle.rvwmo_order.specs.Limits.{IsWithinLimits};
 
 use elf_loader::Image;
 use hart::{Hart, Retired, Status};
@@ -18,7 +17,6 @@ use trace_recorder::Trace;
 
 /// Whether each hart's list and status are those of a run.
 pub(crate) fn are_runs(trace: &Trace) -> bool
-    requires { IsWithinLimits trace.now.history }
     ensures { result ≡ spec_are_runs trace.now.history }
 {
     let harts = trace.harts();

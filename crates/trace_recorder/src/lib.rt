@@ -1,10 +1,12 @@
 //! What is kept of a run: each hart's retired instructions, the performed order and the message log.
 #![tactic(auto)]
 
+mod limits;
 mod logged;
 mod operation;
 mod trace;
 
+pub use limits::{MAX_ENTRIES, MAX_HARTS, are_within_limits};
 pub use logged::{Direction, Logged};
 pub use operation::OpId;
 pub use trace::Trace;

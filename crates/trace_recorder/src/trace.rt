@@ -1,7 +1,8 @@
 //! The trace of a run. Its lists only grow.
-ghost use Rattle.std.specs.Prelude.{◌≡◌, ◌+◌, ◌-◌, ◌<◌, ◌≤◌, [], ◌∷◌, ◌++◌, length, map, replicate, IfOk, OnOk, IsOk, slice_get, slice_index, Some};
+ghost use Rattle.std.specs.Prelude.{◌≡◌, ◌+◌, ◌-◌, ◌<◌, ◌≤◌, [], ◌∷◌, ◌++◌, All, length, map, replicate, IfOk, OnOk, IsOk, slice_get, slice_index, Some};
 ghost use Rattle.elf_loader.specs.Image.{Initial};
 ghost use Rattle.trace_recorder.specs.History.{Recorded, opening, retired, performed, logged, halted, entries_of};
+ghost use Rattle.trace_recorder.specs.Limits.{AreWithinLimits, IsWithinLimits};
 
 use crate::logged::{Direction, Logged};
 use crate::operation::OpId;
@@ -12,7 +13,8 @@ use std::marker::Model;
 use tl_types::{LineSize, Msg};
 
 /// What is kept of a run: its image, its line size, and by hart the retired instructions and the status,
-/// then the performed operations and the messages in the order in which they came.
+/// then the performed operations and the messages in the order in which they came. It has at most 8 harts, each
+/// with at most 1,000,000 retired instructions.
 #[derive(Debug, Drop)]
 pub struct Trace {
     image: Image,
@@ -26,6 +28,7 @@ pub struct Trace {
 impl Model for Trace {
     ghost use Rattle.std.specs.Prelude.{◌≡◌, length};
     ghost use Rattle.trace_recorder.specs.History.{Recorded};
+    ghost use Rattle.trace_recorder.specs.Limits.{AreWithinLimits};
 
     ghost Value = { Recorded };
 
@@ -33,7 +36,7 @@ impl Model for Trace {
 
     ghost view = { recorded_of };
 
-    ghost invariant = { λ t. length t.statuses.items ≡ length t.entries.items };
+    ghost invariant = { λ t. (length t.statuses.items ≡ length t.entries.items) × AreWithinLimits t.entries.items };
 }
 
 impl Trace {
@@ -44,6 +47,7 @@ impl Trace {
         line: LineSize,
         harts: usize,
     ) -> Result<Trace, AllocError>
+        requires { harts ≤ 8 }
         ensures { IfOk result (λ t. t.history ≡ opening image line harts) }
     {
         Ok(Trace {
@@ -56,7 +60,8 @@ impl Trace {
         })
     }
 
-    /// The trace of these lists, `entries` and `statuses` by hart. It takes no memory.
+    /// The trace of these lists, `entries` and `statuses` by hart. It takes no memory. Whether the lists are within
+    /// the limits, [`are_within_limits`](crate::are_within_limits) says.
     pub fn from_parts(
         image: Image,
         line: LineSize,
@@ -65,7 +70,8 @@ impl Trace {
         performed: Vec<OpId>,
         log: Vec<Logged>,
     ) -> Trace
-        requires { length statuses.items ≡ length entries.items }
+        requires statuses { length statuses.items ≡ length entries.items }
+        requires limits { AreWithinLimits entries.items }
         ensures { result.history ≡ record { image = image; line = line; entries = map (λ v. v.items) entries.items; statuses = statuses.items; performed = performed.items; log = log.items } }
     {
         Trace {
@@ -96,6 +102,8 @@ impl Trace {
     pub fn harts(&self) -> usize
         ensures entries { result ≡ length self.now.history.entries }
         ensures statuses { result ≡ length self.now.history.statuses }
+        ensures few { result ≤ 8 }
+        ensures within { IsWithinLimits self.now.history }
     {
         self.statuses.len()
     }
@@ -103,7 +111,8 @@ impl Trace {
     /// What a hart has retired, the first instruction first.
     pub fn entries(&self, hart: usize) -> &[Retired]
         requires { hart < length self.now.history.entries }
-        ensures { result.now ≡ entries_of self.now.history hart }
+        ensures list { result.now ≡ entries_of self.now.history hart }
+        ensures few { length result.now ≤ 1000000 }
     {
         &self.entries[hart]
     }
@@ -151,9 +160,10 @@ impl Trace {
         Ok(())
     }
 
-    /// One more retired instruction, for which there is room.
+    /// One more retired instruction, for which there is room, of a hart that has fewer than 1,000,000.
     pub fn retire(&mut self, hart: usize, entry: Retired)
         requires hart { hart < length self.old.history.entries }
+        requires few { length (entries_of self.old.history hart) < 1000000 }
         requires room { 0 < slice_index self.old.room.entries hart }
         ensures { self.new ≡ retired hart entry self.old }
     {
@@ -202,7 +212,8 @@ impl Trace {
 }
 
 fn empty_lists(alloc: Global, harts: usize) -> Result<Vec<Vec<Retired>>, AllocError>
-    ensures { IfOk result (λ lists. map (λ list. list.items) lists.items ≡ replicate harts []) }
+    ensures lists { IfOk result (λ lists. map (λ list. list.items) lists.items ≡ replicate harts []) }
+    ensures empty { IfOk result (λ lists. All (λ list. list.items ≡ []) lists.items) }
 {
     let mut lists = Vec::new(alloc);
     for _ in 0..harts {

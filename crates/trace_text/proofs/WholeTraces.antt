@@ -1,9 +1,10 @@
 -- What is read as a trace is spelled so, and what is spelled so is read, whatever follows.
-use Rattle.std.proofs.Common.{◌≡◌, ℕ, suc, ◌+◌, ◌-◌, ◌*◌, ◌/◌, ◌^◌, ◌<◌, ◌≤◌, false, eqb, leb, List, [], ◌∷◌, ◌++◌, length, take, Option, Some, None, Result, Ok, Err, refl, sym, ap, subst, ◌∙◌, append_assoc, arith, inl, inr}
+use Rattle.std.proofs.Common.{◌≡◌, ℕ, suc, ◌+◌, ◌-◌, ◌*◌, ◌/◌, ◌^◌, ◌<◌, ◌≤◌, false, eqb, leb, List, [], ◌∷◌, ◌++◌, length, map, take, Global, Vec, Option, Some, None, Result, Ok, Err, refl, sym, ap, subst, ◌∙◌, append_assoc, arith, inl, inr}
 use Rattle.std.specs.Prelude.{codes, IfOk}
-use Rattle.std.specs.List.{flat_map, AllByRecursion}
+use Rattle.std.specs.List.{All, flat_map, AllByRecursion}
 use Rattle.std.proofs.lemmas.Bool.{leb-true, le-leb}
-use Rattle.std.proofs.lemmas.List.{length-append, take_at}
+use Rattle.std.proofs.lemmas.List.{length-append, length-map, take_at}
+use Rattle.std.proofs.lemmas.List.Elements.{All-cons, All-nil}
 use Rattle.std.proofs.lemmas.List.Concat.{flat_map-cons}
 use Rattle.std.proofs.lemmas.Option.{some_pair_parts}
 use Rattle.elf_loader.specs.Size.{base}
@@ -19,6 +20,7 @@ use Rattle.text_fields.proofs.Numbered.{numbered_takes, numbered_again}
 use Rattle.trace_recorder.specs.declared.operation.OpId.{OpId}
 use Rattle.trace_recorder.specs.declared.logged.Logged.{Logged}
 use Rattle.trace_recorder.specs.History.{History, Recorded}
+use Rattle.trace_recorder.specs.Limits.{AreWithinLimits}
 use Rattle.trace_text.specs.Reading.{Answers, IsNoMemory}
 use Rattle.trace_text.specs.declared.fault.TextError.{TextError}
 use Rattle.trace_text.specs.declared.head.TraceHead.{TraceHead}
@@ -66,6 +68,9 @@ later_entries k h ((x ∷ xs) ∷ more) rest lt le f =
     ∙ append_assoc (retired_lead h) (retired x) (entries h xs ++ others) in
     let lead_law : Reads retired_lead (λ n. n ≤ 7) (led_at (codes "R ") (number_at 32 7)) = led_reads (codes "R ") (number_reads 32 7 (omega arith) (omega arith)) in
     ap (after (retired_lead k)) parts ∙ leads_apart lead_law k h (retired x ++ (entries h xs ++ others)) (omega arith) (omega arith) (λ e. omega arith)
+
+abbrev items_of : Vec Retired Global → List Retired
+items_of v = v.items
 
 lists_take : (n : ℕ) (bytes : List ℕ) (es : List (List Retired)) (rest : List ℕ) → numbered_at entries_at n 0 bytes ≡ Some (es, rest) → (bytes ≡ numbered entries 0 es ++ rest) × ((length es ≡ n) × AllByRecursion IsHart es)
 lists_take n bytes es rest e = numbered_takes entries IsHart entries_at entries_take n 0 bytes es rest e
@@ -139,6 +144,17 @@ memory_count h bytes m rest e = (image_take h.line h.kib bytes m rest e).1.len
 
 pub lists_count : (n : ℕ) (bytes : List ℕ) (es : List (List Retired)) (rest : List ℕ) → numbered_at entries_at n 0 bytes ≡ Some (es, rest) → length es ≡ n
 lists_count n bytes es rest e = (lists_take n bytes es rest e).1.0
+
+-- no list is longer than a hart's can be
+short_lists : (vs : List (Vec Retired Global)) → AllByRecursion IsHart (map items_of vs) → All (λ (v : Vec Retired Global). length v.items ≤ 1000000) vs
+short_lists [] all = All-nil (λ (v : Vec Retired Global). length v.items ≤ 1000000)
+short_lists (v ∷ vs) all = All-cons (λ (v : Vec Retired Global). length v.items ≤ 1000000) v vs all.0.1 (short_lists vs all.1)
+
+pub lists_within : (n : ℕ) (bytes : List ℕ) (vs : List (Vec Retired Global)) (rest : List ℕ) → n ≤ 8 → numbered_at entries_at n 0 bytes ≡ Some (map items_of vs, rest) → AreWithinLimits vs
+lists_within n bytes vs rest few e =
+    let t = lists_take n bytes (map items_of vs) rest e in
+    let same : length (map items_of vs) ≡ length vs = length-map _ _ in
+    record { harts = omega (arith, same, t.1.0, few); places = short_lists vs t.1.1 }
 
 pub statuses_count : (n : ℕ) (bytes : List ℕ) (xs : List Status) (rest : List ℕ) → numbered_at status_line_at n 0 bytes ≡ Some (xs, rest) → length xs ≡ n
 statuses_count n bytes xs rest e = (statuses_take n bytes xs rest e).1.0

@@ -14,10 +14,7 @@ use elf_loader::BASE;
 use hart::{Retired, Status};
 use text_fields::{after, hex_into, number_at, word_at, word_text};
 use tl_types::{Channel, LineSize};
-use trace_recorder::{Logged, OpId};
-
-/// Places of a hart's retired instructions are below this, so a hart has at most as many.
-pub(crate) const MAX_ENTRIES: u32 = 1_000_000;
+use trace_recorder::{Logged, MAX_ENTRIES, OpId};
 
 /// Whether a machine can have such a header.
 fn is_trace_head(head: &TraceHead) -> bool
@@ -207,7 +204,7 @@ pub(crate) fn operation_at(bytes: &[u8], harts: u8) -> Option<(OpId, &[u8])>
     ensures { option_map (λ x. (x.0, x.1.now)) result ≡ reads.operation_at harts bytes.now }
 {
     let (hart, rest) = number_at(bytes, b' ', harts as u32 - 1)?;
-    let (place, rest) = number_at(rest, b'\n', MAX_ENTRIES - 1)?;
+    let (place, rest) = number_at(rest, b'\n', MAX_ENTRIES as u32 - 1)?;
     let hart = hart as u8;
     Some((OpId { hart, place }, rest))
 }

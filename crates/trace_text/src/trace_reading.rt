@@ -16,13 +16,13 @@ use crate::fault::{Stop, TextError};
 use crate::head::TraceHead;
 use crate::trace_faults::trace_fault;
 use crate::trace_lines::{
-    MAX_ENTRIES, head_at, image_line_into, logged_at, operation_at, retired_at, status_at,
+    head_at, image_line_into, logged_at, operation_at, retired_at, status_at,
 };
 use elf_loader::{BASE, Image};
 use hart::{Retired, Status};
 use std::alloc::Global;
 use text_fields::after;
-use trace_recorder::{Logged, OpId, Trace};
+use trace_recorder::{Logged, MAX_ENTRIES, OpId, Trace};
 
 /// Memory at reset, line by line.
 #[tactic(auto, using(crate::proofs::TraceHeads::first_line, crate::proofs::TraceHeads::line_inside, crate::proofs::TraceHeads::line_fits, crate::proofs::TraceHeads::line_small, crate::proofs::TraceHeads::address_small, crate::proofs::TraceHeads::line_nearer, crate::proofs::TraceHeads::next_line))]
@@ -67,7 +67,7 @@ fn retired_of(alloc: Global, bytes: &[u8], hart: u8) -> Result<(Vec<Retired>, &[
         let Some((entry, later)) = retired_at(fields) else {
             return Err(Stop::Bytes { left: rest.len() });
         };
-        if entries.len() == MAX_ENTRIES as usize {
+        if entries.len() == MAX_ENTRIES {
             return Err(Stop::Bytes { left: rest.len() });
         }
         match entries.push(entry) {
@@ -89,7 +89,7 @@ fn entries_of(alloc: Global, bytes: &[u8], harts: u8) -> Result<(Vec<Vec<Retired
         match retired_of(alloc, rest, hart) {
             Ok((list, later)) => match lists.push(list) {
                 Ok(()) => rest = later,
-                Err(_) => return Err(Stop::Memory { left: rest.len() }),
+                Err(_) => return Err(Stop::Memory { left: later.len() }),
             },
             Err(stop) => return Err(stop),
         }

@@ -4,7 +4,6 @@ ghost use Rattle.memory_model.specs.Traces as traces;
 ghost use Rattle.memory_model.specs.Traces.{IsLegalOrder};
 ghost use Rattle.memory_model.specs.Verdict.{fault_in};
 ghost use Rattle.rvwmo_order.specs.Answers.{IsSound, fault_told, refusal, refusal_of};
-ghost use Rattle.rvwmo_order.specs.Limits.{IsWithinLimits};
 ghost use Rattle.rvwmo_order.specs.Scans.{judged};
 
 use crate::error::CheckError;
@@ -25,7 +24,6 @@ pub fn check_model(
     order: &[OpId],
     model: Model,
 ) -> Result<Verdict, CheckError>
-    requires { IsWithinLimits trace.now.history }
     ensures no_run { traces.are_runs trace.now.history ≡ false → result ≡ Err CheckError.NotARun }
     ensures too_long { traces.are_runs trace.now.history ≡ true → 4096 < length (traces.names_in trace.now.history) → result ≡ Err CheckError.TooLong }
     ensures refused { ¬ IsErrOf result CheckError.NoMemory → refusal_of result ≡ refusal trace.now.history order.now }
@@ -53,7 +51,6 @@ fn verdict_on(
     order: &[OpId],
     model: Model,
 ) -> Result<Verdict, AllocError>
-    requires { IsWithinLimits trace.now.history }
     ensures { IfOk result (λ v. v ≡ judged model (traces.image_of trace.now.history) (traces.instructions trace.now.history) (traces.operations_at (traces.instructions trace.now.history) order.now)) }
 {
     let harts = Harts::of(alloc, trace)?;

@@ -2,7 +2,6 @@
 ghost use Rattle.std.specs.Prelude.{◌≡◌, ◌&&◌, IfOk};
 ghost use Rattle.std.specs.List.{list_all};
 ghost use Rattle.memory_model.specs.Traces as spec;
-ghost use Rattle.rvwmo_order.specs.Limits.{IsWithinLimits};
 
 use crate::orders::names_in;
 use std::alloc::{AllocError, Global};
@@ -53,7 +52,6 @@ fn is_distinct(order: &[OpId]) -> bool
 /// The performed operations as they stand, then each operation that isn't among them, by hart and then by
 /// place: stores that were still waiting.
 pub fn completed(alloc: Global, trace: &Trace) -> Result<Vec<OpId>, AllocError>
-    requires { IsWithinLimits trace.now.history }
     ensures { IfOk result (λ order. order.items ≡ spec.completed trace.now.history) }
 {
     let names = names_in(alloc, trace)?;

@@ -4,7 +4,7 @@ use Rattle.hart.specs.Run.{reached}
 use Rattle.hart.specs.declared.retired.Retired.{Retired}
 use Rattle.machine_model.specs.Changing.{with_entries}
 use Rattle.trace_recorder.specs.History.{Recorded}
-use Rattle.machine_parts.proofs.RowsAlone.{ends, goes, room_left, row_goes, row_leads}
+use Rattle.machine_parts.proofs.RowsAlone.{ends, goes, place_left, room_left, row_goes, row_leads}
 use Rattle.machine_parts.proofs.retiring_rows.retire_row.Goals as goal
 
 pub loop-left-preserved : goal.loop-left-preserved
@@ -18,6 +18,7 @@ loop-left-preserved c =
       row = row_goes h i c.loop-left.last c.loop-left.left c.in-Some.entry c.in-Some.next t.history c.retire.new.self.history _ g e c.loop-left.invariant.row;
       leads = row_leads i c.loop-left.last c.loop-left.left c.in-Some.entry c.in-Some.next _ g c.loop-left.invariant.leads;
       image = ap (λ (r : Recorded). r.history.image) c.retire.ensures ∙ c.loop-left.invariant.image;
+      few = rw c.retire.ensures (place_left h c.loop-left.left t.history c.in-Some.entry c.loop-left.invariant.hart c.loop-left-test.true c.loop-left.invariant.few);
       hart = rw (c.retire.ensures, length-set) c.loop-left.invariant.hart;
       room = rw c.retire.ensures (room_left h c.loop-left.left t.room.entries c.loop-left-test.true c.loop-left.invariant.room);
     }

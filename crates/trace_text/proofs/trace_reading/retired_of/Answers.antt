@@ -17,16 +17,16 @@ loop-fields-smaller c =
 
 pub loop-fields-preserved : goal.loop-fields-preserved
 loop-fields-preserved c =
-    let room : length c.loop-fields.entries.items < 1000000 = omega (arith, c.loop-fields.invariant.few, c.if-len.false) in
+    let room : length c.loop-fields.entries.items < 1000000 = omega (arith, c.loop-fields.invariant.few, c.if-len-eq-MAX_ENTRIES.false) in
     rw c.in-Ok.ensures.items
     (entries_more c.args.hart c.loop-fields.entries.items c.loop-fields.rest.now c.in-Some.fields.now c.in-Some-retired_at.later.now c.args.bytes.now c.in-Some-retired_at.entry room (rw c.hart_lead-lead.ensures at c.in-Some.ensures) c.in-Some-retired_at.ensures c.loop-fields.invariant)
 
 pub returns-in_default-retired_at : goal.returns-in_default-retired_at
 returns-in_default-retired_at c = entries_fail c.args.hart c.loop-fields.entries.items c.loop-fields.rest.now c.in-Some.fields.now c.args.bytes.now (rw c.hart_lead-lead.ensures at c.in-Some.ensures) c.in_default-retired_at.ensures c.loop-fields.invariant
 
-pub returns-then-len : goal.returns-then-len
-returns-then-len c =
-    let full : length c.loop-fields.entries.items ≡ 1000000 = omega (arith, c.if-len.true) in
+pub returns-then-len-eq-MAX_ENTRIES : goal.returns-then-len-eq-MAX_ENTRIES
+returns-then-len-eq-MAX_ENTRIES c =
+    let full : length c.loop-fields.entries.items ≡ 1000000 = omega (arith, c.if-len-eq-MAX_ENTRIES.true) in
     entries_full c.args.hart c.loop-fields.entries.items c.loop-fields.rest.now c.in-Some.fields.now c.in-Some-retired_at.later.now c.args.bytes.now c.in-Some-retired_at.entry full (rw c.hart_lead-lead.ensures at c.in-Some.ensures) c.in-Some-retired_at.ensures c.loop-fields.invariant
 
 pub returns : goal.returns

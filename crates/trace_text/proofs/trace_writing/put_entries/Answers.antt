@@ -14,13 +14,13 @@ returns-in_err-put_list g c =
     let lt : c.loop-hart.hart < length c.args.trace.now.history.entries = omega (arith, c.loop-hart-test.true, c.harts-hart-end.ensures.entries) in
     page_stops _ _ _ _ _ _ c.from_residual.ensures.0
     (page_fails _ _ _ _ _ _ _ (page_as _ _ _ _ _ _ (numbered_at_place entries c.loop-hart.hart c.args.trace.now.history.entries [] lt) c.loop-hart.invariant)
-    (subst (λ (t : List Retired). Begins (g.W.Write.contents c.loop-hart.out) (g.W.Write.contents c.put_list.new.out) (c.loop-hart.page ++ entries c.loop-hart.hart t)) c.entries.ensures c.in_err-put_list.ensures))
+    (subst (λ (t : List Retired). Begins (g.W.Write.contents c.loop-hart.out) (g.W.Write.contents c.put_list.new.out) (c.loop-hart.page ++ entries c.loop-hart.hart t)) c.entries.ensures.list c.in_err-put_list.ensures))
 
 pub loop-hart-preserved : goal.loop-hart-preserved
 loop-hart-preserved g c =
     let lt : c.loop-hart.hart < length c.args.trace.now.history.entries = omega (arith, c.loop-hart-test.true, c.harts-hart-end.ensures.entries) in
     page_more _ _ _ _ _ _ _ _ (page_as _ _ _ _ _ _ (numbered_at_place entries c.loop-hart.hart c.args.trace.now.history.entries [] lt) c.loop-hart.invariant)
-    (subst (λ (t : List Retired). Paged (g.W.Write.contents c.loop-hart.out) (g.W.Write.contents c.put_list.new.out) c.loop-hart.page c.put_list.new.page (entries c.loop-hart.hart t)) c.entries.ensures c.in_ok-put_list.ensures)
+    (subst (λ (t : List Retired). Paged (g.W.Write.contents c.loop-hart.out) (g.W.Write.contents c.put_list.new.out) c.loop-hart.page c.put_list.new.page (entries c.loop-hart.hart t)) c.entries.ensures.list c.in_ok-put_list.ensures)
 
 pub returns : goal.returns
 returns g c =

@@ -6,16 +6,16 @@ pub returns-then-is_limited : goal.returns-then-is_limited
 returns-then-is_limited c =
     limited c.args.hart c.args.batch.now (state_of c.args.self.now) c.entries.result.now c.is_limited.result
     (record { there = c.requires.hart; few = c.entries.ensures.row.few; some = c.requires.some; next = c.requires.row })
-    c.entries.ensures.entries c.is_limited.ensures c.if-is_limited.true
+    c.entries.ensures.entries c.is_limited.ensures.exact c.if-is_limited.true
 
 pub returns-in_err-reserve : goal.returns-in_err-reserve
 returns-in_err-reserve c =
     wanting c.args.hart c.args.batch.now (state_of c.args.self.now) (state_of c.reserve.new.parts) c.from_residual.result c.entries.result.now c.is_limited.result
     (record { there = c.requires.hart; few = c.entries.ensures.row.few; some = c.requires.some; next = c.requires.row })
-    c.entries.ensures.entries c.is_limited.ensures c.if-is_limited.false c.from_residual.ensures.1 c.reserve.ensures.same
+    c.entries.ensures.entries c.is_limited.ensures.exact c.if-is_limited.false c.from_residual.ensures.1 c.reserve.ensures.same
 
 pub returns : goal.returns
 returns c =
     committed c.args.hart c.args.batch.now (state_of c.args.self.now) (state_of c.reserve.new.parts) (state_of c.take_over.new.parts) c.entries.result.now c.is_limited.result
     (record { there = c.requires.hart; few = c.entries.ensures.row.few; some = c.requires.some; next = c.requires.row })
-    c.entries.ensures.entries c.is_limited.ensures c.if-is_limited.false c.reserve.ensures.same c.take_over.ensures
+    c.entries.ensures.entries c.is_limited.ensures.exact c.if-is_limited.false c.reserve.ensures.same c.take_over.ensures
