@@ -1,6 +1,6 @@
 -- The lawful log by entries: what one more entry asks, and that a log is lawful exactly where no entry breaks a rule.
 use Rattle.std.proofs.Common.{ℕ, Bool, true, false, List, [], ◌∷◌, ◌++◌, ◌≡◌, Some, None, refl, ap, sym, ◌∙◌, subst, length}
-use Rattle.std.specs.Prelude.{◌↔◌, ◌==◌, IsTrue, slice_get}
+use Rattle.std.specs.Prelude.{◌==◌, IsTrue, slice_get}
 use Rattle.std.proofs.lemmas.Bool.{eq-eqb}
 use Rattle.std.proofs.lemmas.Bool.Decides.{eqb_tells}
 use Rattle.std.proofs.lemmas.List.{append-nil, append_assoc}

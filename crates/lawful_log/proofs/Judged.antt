@@ -1,7 +1,9 @@
--- The rules by facts are the rules by the log.
-use Rattle.std.proofs.Common.{ℕ, Bool, true, false, List, ◌≡◌, Some, None, refl, sym, subst}
-use Rattle.std.specs.Prelude.{◌↔◌, IsTrue, Option, not, unwrap_or}
-use Rattle.machine_model.specs.LawfulLog.{asked_by_next, lost_since_asking}
+-- The rules by facts are the rules by the log, where the log is lawful so far.
+use Rattle.std.proofs.Common.{ℕ, Bool, true, false, List, ◌≡◌, ◌∙◌, Some, None, ap, refl, sym, subst}
+use Rattle.std.specs.Prelude.{◌↔◌, ◌&&◌, IsTrue, Option, not, unwrap_or}
+use Rattle.machine_model.specs.LawfulLog.{IsLawfulLog, asked_by_next, is_grant, is_grant_ack, is_of_line, is_probe, is_probe_ack, is_settled, lost_since_asking, no_grant_open, no_hart_probed}
+use Rattle.machine_model.specs.LogLaws.{AgreeInSum}
+use Rattle.machine_model.proofs.LogSums.{sums_agree}
 use Rattle.lawful_log.specs.Facts as by_facts
 use Rattle.lawful_log.specs.Facts.{GoesBy, KeepsBy, facts_of, without_data}
 use Rattle.lawful_log.specs.Rules.{Keeps, KeepsGoing, fits_data, is_asked, may_go_by}
@@ -16,7 +18,7 @@ use Rattle.trace_recorder.specs.declared.logged.Direction.{Direction}
 use Rattle.trace_recorder.specs.declared.logged.Direction.TheVariants.{Sent, Taken}
 use Rattle.trace_recorder.specs.declared.logged.Logged.{Logged}
 
-module _ (h line : ℕ) (log : List Logged) where
+module _ (h line : ℕ) (log : List Logged) (agree : AgreeInSum line log) where
   asked_same : (o : Option Grow) (p : Cap) → is_asked o p ≡ by_facts.is_asked o p
   asked_same None p = refl
   asked_same (Some g) p = refl
@@ -28,6 +30,10 @@ module _ (h line : ℕ) (log : List Logged) where
   with_same : (o : Option Grow) → fits_data o true h line log ≡ not (unwrap_or (without_data o (lost_since_asking h line false log)) false)
   with_same None = refl
   with_same (Some g) = refl
+
+  -- the facts have the numbers of all harts together
+  alone : (no_hart_probed line log && no_grant_open line log) ≡ (is_settled is_probe is_probe_ack (is_of_line line) log && is_settled is_grant is_grant_ack (is_of_line line) log)
+  alone = sym (ap (λ (b : Bool). b && is_settled is_grant is_grant_ack (is_of_line line) log) agree.probes ∙ ap (λ (b : Bool). no_hart_probed line log && b) agree.grants)
 
   same : (rule : LogRule) (body : Body) → may_go_by rule body h line log ≡ by_facts.may_go_by rule body (facts_of h (record { line = line; body = body }) log)
   same InOrder body = refl
@@ -82,13 +88,13 @@ module _ (h line : ℕ) (log : List Logged) where
   same ProbeOnce ReleaseAck = refl
   same ProbeOnce GrantAck = refl
   same GrantAlone (AcquireBlock g) = refl
-  same GrantAlone (ProbeBlock c) = refl
+  same GrantAlone (ProbeBlock c) = sym agree.grants
   same GrantAlone (ProbeAck c) = refl
   same GrantAlone (ProbeAckData c b) = refl
   same GrantAlone (Release c) = refl
   same GrantAlone (ReleaseData c b) = refl
-  same GrantAlone (Grant c) = refl
-  same GrantAlone (GrantData c b) = refl
+  same GrantAlone (Grant c) = alone
+  same GrantAlone (GrantData c b) = alone
   same GrantAlone ReleaseAck = refl
   same GrantAlone GrantAck = refl
   same ReleaseAlone (AcquireBlock g) = refl
@@ -102,16 +108,16 @@ module _ (h line : ℕ) (log : List Logged) where
   same ReleaseAlone ReleaseAck = refl
   same ReleaseAlone GrantAck = refl
 
-going : (d : Direction) (rule : LogRule) (h : ℕ) (m : Msg) (log : List Logged) → GoesBy d rule m (facts_of h m log) ↔ KeepsGoing d rule h m log
-going Sent rule h m log = (λ t. subst IsTrue (sym (same h m.line log rule m.body)) t, λ t. subst IsTrue (same h m.line log rule m.body) t)
-going Taken InOrder h m log = (λ t. t, λ t. t)
-going Taken Question h m log = (λ t. t, λ t. t)
-going Taken Permission h m log = (λ t. t, λ t. t)
-going Taken Data h m log = (λ t. t, λ t. t)
-going Taken AcquireOnce h m log = (λ t. t, λ t. t)
-going Taken ProbeOnce h m log = (λ t. t, λ t. t)
-going Taken GrantAlone h m log = (λ t. t, λ t. t)
-going Taken ReleaseAlone h m log = (λ t. t, λ t. t)
+going : (d : Direction) (rule : LogRule) (h : ℕ) (m : Msg) (log : List Logged) → AgreeInSum m.line log → GoesBy d rule m (facts_of h m log) ↔ KeepsGoing d rule h m log
+going Sent rule h m log agree = (λ t. subst IsTrue (sym (same h m.line log agree rule m.body)) t, λ t. subst IsTrue (same h m.line log agree rule m.body) t)
+going Taken InOrder h m log agree = (λ t. t, λ t. t)
+going Taken Question h m log agree = (λ t. t, λ t. t)
+going Taken Permission h m log agree = (λ t. t, λ t. t)
+going Taken Data h m log agree = (λ t. t, λ t. t)
+going Taken AcquireOnce h m log agree = (λ t. t, λ t. t)
+going Taken ProbeOnce h m log agree = (λ t. t, λ t. t)
+going Taken GrantAlone h m log agree = (λ t. t, λ t. t)
+going Taken ReleaseAlone h m log agree = (λ t. t, λ t. t)
 
-pub keeps_by_facts : (rule : LogRule) (e : Logged) (log : List Logged) → KeepsBy rule (facts_of e.hart e.message log) e ↔ Keeps rule log e
-keeps_by_facts rule e log = going e.direction rule e.hart e.message log
+pub keeps_by_facts : (rule : LogRule) (e : Logged) (log : List Logged) → IsLawfulLog log → KeepsBy rule (facts_of e.hart e.message log) e ↔ Keeps rule log e
+keeps_by_facts rule e log lawful = going e.direction rule e.hart e.message log (sums_agree e.message.line log lawful)

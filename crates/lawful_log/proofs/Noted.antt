@@ -1,5 +1,5 @@
 -- The maps say of a log what the rules ask for, and go on to when it grows by an entry.
-use Rattle.std.proofs.Common.{ℕ, ◌+◌, ◌<◌, ◌^◌, Bool, true, false, List, [], ◌∷◌, ◌++◌, ◌≡◌, refl, ap, sym, ◌∙◌, length}
+use Rattle.std.proofs.Common.{ℕ, ◌+◌, Bool, false, List, [], ◌∷◌, ◌++◌, ◌≡◌, ap, sym, ◌∙◌}
 use Rattle.std.specs.Prelude.{if◌then◌else◌, slice_get}
 use Rattle.machine_model.specs.LawfulLog.{concerns, is_of_line, lost_after, sent_on, taken_on}
 use Rattle.lawful_log.proofs.Counted.{grows_more, lost_more, tallies_more}

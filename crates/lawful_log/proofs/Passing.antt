@@ -1,5 +1,5 @@
 -- One pass over a log: each entry that breaks no rule leaves it lawful, and the first that breaks one is found.
-use Rattle.std.proofs.Common.{ℕ, ◌+◌, ◌<◌, ◌≤◌, List, [], ◌∷◌, ◌++◌, ◌≡◌, Some, None, refl, sym, subst, length, take, drop, arith, get_or}
+use Rattle.std.proofs.Common.{ℕ, ◌+◌, ◌<◌, ◌≤◌, List, [], ◌∷◌, ◌++◌, ◌≡◌, Some, None, refl, sym, subst, length, take, drop, get_or}
 use Rattle.std.specs.Prelude.{◌↔◌, Option, slice_get}
 use Rattle.std.proofs.lemmas.List.{take-append-drop, take_all, take_more}
 use Rattle.std.proofs.lemmas.Option.{slice_get-get_or}
@@ -19,10 +19,10 @@ use Rattle.lawful_log.specs.declared.rule.LogVerdict.TheVariants.{Lawful, Unlawf
 use Rattle.trace_recorder.specs.declared.logged.Logged.{Logged}
 
 -- no rule is broken
-pub keeps_all : (log : List Logged) (e : Logged) (f : Facts) (o : Option LogRule) → f ≡ facts_of e.hart e.message log → o ≡ None → FindsBreach f e o → (rule : LogRule) → Keeps rule log e
-keeps_all log e f o known is found rule =
+pub keeps_all : (log : List Logged) (e : Logged) (f : Facts) (o : Option LogRule) → IsLawfulLog log → f ≡ facts_of e.hart e.message log → o ≡ None → FindsBreach f e o → (rule : LogRule) → Keeps rule log e
+keeps_all log e f o lawful known is found rule =
     let none : FindsBreach f e None = subst (λ (p : Option LogRule). FindsBreach f e p) is found in
-    (keeps_by_facts rule e log).0 (subst (λ (f : Facts). FindsBreach f e None) known none rule)
+    (keeps_by_facts rule e log lawful).0 (subst (λ (f : Facts). FindsBreach f e None) known none rule)
 
 module _ (log : List Logged) (i : ℕ) (d : Logged) (within : i < length log) where
   pub lawful_further : IsLawfulLog (take i log) → ((rule : LogRule) → Keeps rule (take i log) (get_or log i d)) → IsLawfulLog (take (i + 1) log)
@@ -39,9 +39,9 @@ module _ (log : List Logged) (i : ℕ) (d : Logged) (within : i < length log) wh
         entry = get_or log i d;
         stands = slice_get-get_or log i d within;
         lawful_before = lawful;
-        unlawful_with = λ all. here.0 ((keeps_by_facts rule (get_or log i d) (take i log)).1 (lawful_keeps (take i log) [] (get_or log i d) (subst IsLawfulLog (take_more log i d within) all) rule));
-        broken = λ kept. here.0 ((keeps_by_facts rule (get_or log i d) (take i log)).1 kept);
-        first = λ r below. (keeps_by_facts r (get_or log i d) (take i log)).0 (here.1 r below);
+        unlawful_with = λ all. here.0 ((keeps_by_facts rule (get_or log i d) (take i log) lawful).1 (lawful_keeps (take i log) [] (get_or log i d) (subst IsLawfulLog (take_more log i d within) all) rule));
+        broken = λ kept. here.0 ((keeps_by_facts rule (get_or log i d) (take i log) lawful).1 kept);
+        first = λ r below. (keeps_by_facts r (get_or log i d) (take i log) lawful).0 (here.1 r below);
       }
 
 -- a breach tells that the log isn't lawful
@@ -55,5 +55,5 @@ lawful_decides log i past lawful = (λ same. subst IsLawfulLog (take_all i log p
 pub passes : (log : List Logged) (i : ℕ) (d : Logged) (within : i < length log) (f : Facts) (o : Option LogRule) (next : Followed) → f ≡ facts_of (get_or log i d).hart (get_or log i d).message (take i log) → IsLawfulLog (take i log) → o ≡ None → FindsBreach f (get_or log i d) o
     → (Keeps InOrder (take i log) (get_or log i d) → Follows next (take i log ++ get_or log i d ∷ [])) → Follows next (take (i + 1) log) × IsLawfulLog (take (i + 1) log)
 passes log i d within f o next known lawful is found noted =
-    let each : (rule : LogRule) → Keeps rule (take i log) (get_or log i d) = keeps_all (take i log) (get_or log i d) f o known is found in
+    let each : (rule : LogRule) → Keeps rule (take i log) (get_or log i d) = keeps_all (take i log) (get_or log i d) f o lawful known is found in
     (follows_further log i d within next (noted (each InOrder)), lawful_further log i d within lawful each)

@@ -1,12 +1,11 @@
 -- What waits in a queue behind one more entry.
-use Rattle.std.proofs.Common.{ℕ, Bool, true, false, List, [], ◌∷◌, ◌++◌, ◌≡◌, Some, None, refl, ap, sym, ◌∙◌, subst, length, drop}
+use Rattle.std.proofs.Common.{ℕ, Bool, true, false, List, [], ◌∷◌, ◌++◌, ◌≡◌, Some, refl, ap, sym, ◌∙◌, subst, length, drop}
 use Rattle.std.specs.Prelude.{◌==◌, ◌&&◌, if◌then◌else◌, slice_get}
 use Rattle.std.proofs.lemmas.List.{append-nil}
 use mathlib.Core.Logic.{◌⊎◌, inl, inr}
 use Rattle.machine_model.proofs.LogLists.{comes_first, comes_out, goes_behind, goes_in, is_in, part, sent_on_sent, sent_on_taken, taken_on_sent, taken_on_taken}
 use Rattle.machine_model.specs.LawfulLog.{is_on, sent_on, taken_on}
 use Rattle.lawful_log.proofs.Entries.{is_own_or_other}
-use Rattle.lawful_log.specs.Facts.{front_for}
 use Rattle.lawful_log.specs.Followed.{moved, waiting_after}
 use Rattle.lawful_log.specs.Rules.{IsFront, KeepsGoing}
 use Rattle.lawful_log.specs.declared.rule.LogRule.TheVariants.{InOrder}

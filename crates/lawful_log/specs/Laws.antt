@@ -1,5 +1,5 @@
 -- The lawful log, whole and by entries.
-use Rattle.std.specs.Prelude.{ℕ, ◌≡◌, ◌<◌, ◌+◌, ◌↔◌, List, Option, Some, slice_get, take}
+use Rattle.std.specs.Prelude.{ℕ, ◌≡◌, ◌<◌, ◌+◌, ◌↔◌, List, Some, slice_get, take}
 use Rattle.machine_model.specs.LawfulLog.{IsLawfulLog}
 use Rattle.lawful_log.specs.Rules.{IsLawfulByEntries, Keeps, rank}
 use Rattle.lawful_log.specs.declared.rule.LogRule.{LogRule}

@@ -1,5 +1,5 @@
 -- The rules of the lawful log entry by entry: what each asks of an entry, behind the entries before it.
-use Rattle.std.specs.Prelude.{ℕ, ◌≡◌, ◌<◌, Bool, true, false, ◌&&◌, not, List, ◌∷◌, ◌++◌, Option, Some, None, IsTrue, is_some, length, slice_get}
+use Rattle.std.specs.Prelude.{ℕ, ◌≡◌, Bool, true, false, ◌&&◌, not, List, ◌∷◌, ◌++◌, Option, Some, None, IsTrue, is_some, length, slice_get}
 use Rattle.machine_model.specs.LawfulLog.{asked_by_next, concerns, goes_without_data, is_for, is_grant, is_grant_ack, is_owed, is_probe, is_probe_ack, is_release, is_release_ack, no_acquire_open, no_grant_open, no_hart_probed, no_probe_open, no_release_open, sent_on, taken_on}
 use Rattle.lawful_log.specs.declared.rule.LogRule.{LogRule}
 use Rattle.lawful_log.specs.declared.rule.LogRule.TheVariants.{InOrder, Question, Permission, Data, AcquireOnce, ProbeOnce, GrantAlone, ReleaseAlone}

@@ -1,5 +1,5 @@
 //! What a log says so far of each line, each hart and each queue, kept as the log grows.
-ghost use Rattle.std.specs.Prelude.{◌≡◌, None, ◌==◌, ◌&&◌, ◌+◌, ◌<◌, ◌^◌, ℕ, List, ◌∷◌, ◌++◌, [], OnOk, if◌then◌else◌, length, slice_get};
+ghost use Rattle.std.specs.Prelude.{◌≡◌, None, ◌==◌, ◌&&◌, ◌+◌, ◌<◌, ℕ, List, ◌∷◌, ◌++◌, [], OnOk, if◌then◌else◌, slice_get};
 ghost use Rattle.std.specs.BTreeMap as tree;
 ghost use Rattle.std.specs.BTreeMap.{is_at};
 ghost use Rattle.lawful_log.specs.Facts.{HaveRoom, counted, facts_of};

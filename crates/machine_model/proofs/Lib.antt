@@ -58,6 +58,7 @@ pub mod LogPlans
 pub mod LogEvents
 pub mod LogCounts
 pub mod LogAlways
+pub mod LogParts
 pub mod LogAnswers
 pub mod LogFlags
 pub mod LogWanted
@@ -84,6 +85,7 @@ pub mod LogManagerKept
 pub mod LogManagerProbes
 pub mod LogManagerAcks
 pub mod LogManagerAlways
+pub mod LogSums
 pub mod RangeRuns
 pub mod RangeLines
 pub mod RangeLog

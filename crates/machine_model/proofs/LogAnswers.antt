@@ -8,7 +8,7 @@ use Rattle.machine_model.specs.Changing.{acted}
 use Rattle.machine_model.specs.Deliveries.{probe_ack_body, taken}
 use Rattle.machine_model.specs.Events.{hart_of, plan_of}
 use Rattle.machine_model.specs.LawfulLog.{is_grant, is_grant_ack, is_probe, is_probe_ack, is_release, is_release_ack}
-use Rattle.machine_model.specs.LogLaws.{AnswersDueAlways, is_due}
+use Rattle.machine_model.proofs.LogParts.{AnswersDueAlways, is_due}
 use Rattle.machine_model.specs.Views.{State, opening, sent}
 use Rattle.machine_model.specs.declared.act.Act.{Act}
 use Rattle.machine_model.specs.declared.act.Act.TheVariants as act

@@ -7,7 +7,7 @@ use Rattle.machine_model.specs.Changing.{acted}
 use Rattle.machine_model.specs.Deliveries.{taken}
 use Rattle.machine_model.specs.Events.{counted, happens, hart_of, plan_of}
 use Rattle.machine_model.specs.Laws.{Always}
-use Rattle.machine_model.specs.LogLaws.{LogInOrderAlways}
+use Rattle.machine_model.proofs.LogParts.{LogInOrderAlways}
 use Rattle.machine_model.specs.Views.{Node, State, node_at, opening, opening_node}
 use Rattle.machine_model.specs.declared.act.Act.{Act}
 use Rattle.machine_model.specs.declared.act.Act.TheVariants as act

@@ -10,7 +10,7 @@ use Rattle.machine_model.specs.Deliveries.{handled, taken}
 use Rattle.machine_model.specs.Events.{after_events, counted, happens, hart_of, plan_of}
 use Rattle.machine_model.specs.LawfulLog.{may_send}
 use Rattle.machine_model.specs.Laws.{Always, LogLawfulAlways}
-use Rattle.machine_model.specs.LogLaws.{is_probe_or_grant}
+use Rattle.machine_model.proofs.LogParts.{is_probe_or_grant}
 use Rattle.machine_model.specs.Views.{State, line_size, node_at, opening, place_of, size_of_config}
 use Rattle.machine_model.specs.declared.act.Act.{Act}
 use Rattle.machine_model.specs.declared.act.Act.TheVariants as act

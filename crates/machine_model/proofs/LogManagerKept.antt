@@ -21,7 +21,7 @@ use Rattle.machine_model.specs.Changing.{acted, given_up, missed, sent_if_evicte
 use Rattle.machine_model.specs.Deliveries.{on_grant, on_grant_ack, on_probe, on_release, on_release_ack, sent_if_answered, taken, with_less, with_memory, with_notes}
 use Rattle.machine_model.specs.Events.{is_piece}
 use Rattle.machine_model.specs.LawfulLog.{is_acquire, may_send}
-use Rattle.machine_model.specs.LogLaws.{is_probe_or_grant}
+use Rattle.machine_model.proofs.LogParts.{is_probe_or_grant}
 use Rattle.machine_model.specs.Views.{State, line_size, node_at, place_of, sent, size_of_config, with_node}
 use Rattle.machine_model.specs.declared.act.Act.{Act}
 use Rattle.machine_model.specs.declared.config.Config.{Config}

@@ -47,21 +47,21 @@ acquires_on : GoesOn is_acquire A
 acquires_on (AcquireBlock grow) f = cc f
 acquires_on _ f = refl
 
-probes_on : GoesOn is_probe B
+pub probes_on : GoesOn is_probe B
 probes_on (ProbeBlock cap) f = cc f
 probes_on _ f = refl
 
-probe_acks_on : GoesOn is_probe_ack C
+pub probe_acks_on : GoesOn is_probe_ack C
 probe_acks_on (ProbeAck change) f = cc f
 probe_acks_on (ProbeAckData change bytes) f = cc f
 probe_acks_on _ f = refl
 
-grants_on : GoesOn is_grant D
+pub grants_on : GoesOn is_grant D
 grants_on (Grant cap) f = cc f
 grants_on (GrantData cap bytes) f = cc f
 grants_on _ f = refl
 
-grant_acks_on : GoesOn is_grant_ack E
+pub grant_acks_on : GoesOn is_grant_ack E
 grant_acks_on GrantAck f = cc f
 grant_acks_on _ f = refl
 

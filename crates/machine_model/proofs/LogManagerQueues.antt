@@ -1,10 +1,11 @@
 -- The messages of a kind that were sent and not taken yet wait in their queue.
-use Rattle.std.proofs.Common.{ℕ, suc, ◌+◌, ◌<◌, Bool, true, false, List, [], ◌∷◌, ◌++◌, ◌≡◌, Some, None, refl, ap, cond, sym, ◌∙◌, length, slice_index_or}
+use Rattle.std.proofs.Common.{ℕ, suc, ◌+◌, ◌<◌, ◌≤◌, Bool, true, false, List, [], ◌∷◌, ◌++◌, ◌≡◌, Some, None, refl, ap, cond, sym, ◌∙◌, length, slice_index_or}
 use Rattle.std.specs.Prelude.{◌==◌, ◌&&◌, not, filter}
 use Rattle.std.specs.List.{cons_option}
 use Rattle.std.proofs.lemmas.List.{length-append}
 use Rattle.std.proofs.lemmas.List.Elements.{filter-append}
-use Rattle.machine_model.specs.LawfulLog.{concerns, is_on, is_sent, sent_count, sent_on, taken_count, taken_on}
+use native.Mathlib.Omega.{arith}
+use Rattle.machine_model.specs.LawfulLog.{IsBeginningOf, concerns, is_on, is_sent, sent_count, sent_on, taken_count, taken_on}
 use Rattle.machine_model.specs.Views.{Node, State}
 use Rattle.machine_model.proofs.LineViews.{of_line}
 use Rattle.machine_model.proofs.LogQueues.{IsInOrder}
@@ -68,6 +69,15 @@ module _ (kind : Body → Bool) (c : Channel) (on : GoesOn kind c) (k l : ℕ) w
   taken_waits : (log : List Logged) → taken_count kind (concerns k l) log ≡ waiting kind l (taken_on c k log)
   taken_waits [] = refl
   taken_waits (e ∷ log) = one e _ (taken_on c k log) (not (is_sent e.direction)) (e.hart == k) (is_on c (channel_of e.message)) refl (taken_waits log)
+
+  -- of what went into a queue no more came out
+  pub few_taken : (log : List Logged) → IsBeginningOf (taken_on c k log) (sent_on c k log) → taken_count kind (concerns k l) log ≤ sent_count kind (concerns k l) log
+  few_taken log begins =
+      let out = taken_waits log in
+      let in' = sent_waits log in
+      let parts = waiting_append kind l (taken_on c k log) begins.0 in
+      let whole = ap (waiting kind l) begins.1 in
+      omega (arith, out, in', parts, whole)
 
   pub taken_in_line : (log : List Logged) → taken_count kind (concerns k l) log ≡ count_in kind (of_line l (taken_on c k log))
   taken_in_line log = taken_waits log ∙ waiting_of_line kind l (taken_on c k log)

@@ -1,12 +1,13 @@
--- Where two numbers of messages agree for each hart, they agree for all harts together.
-use Rattle.std.proofs.Common.{ℕ, zero, suc, ◌+◌, ◌<◌, Bool, true, false, List, [], ◌∷◌, ◌++◌, ◌≡◌, refl, ap, cond, sym, ◌∙◌, length}
+-- Numbers of messages by hart and of all harts together: where they agree for each hart, and no answer came too many, they agree together, and the other way round.
+use Rattle.std.proofs.Common.{ℕ, zero, suc, ◌+◌, ◌<◌, ◌≤◌, Bool, true, false, List, [], ◌∷◌, ◌++◌, ◌≡◌, refl, ap, cond, sym, ◌∙◌, length}
 use Rattle.std.specs.Prelude.{◌==◌, ◌&&◌, not, filter}
+use Rattle.std.specs.List.{list_all}
 use Rattle.std.proofs.lemmas.Bool.Decides.{eqb_tells}
 use mathlib.Core.Logic.{◌⊎◌, inl, inr}
 use native.Mathlib.Omega.{arith}
-use Rattle.machine_model.specs.LawfulLog.{concerns, is_of_line, is_sent, is_settled, sent_count, taken_count}
+use Rattle.machine_model.specs.LawfulLog.{concerns, is_of_line, is_sent, is_settled, is_settled_for_all, sent_count, taken_count}
 use Rattle.machine_model.proofs.LogCounts.{bit}
-use Rattle.std.proofs.lemmas.Bool.{eq-eqb}
+use Rattle.std.proofs.lemmas.Bool.{and_from, and_parts, eq-eqb, eqb-true}
 use Rattle.tl_types.specs.declared.message.Body.{Body}
 use Rattle.trace_recorder.specs.declared.logged.Logged.{Logged}
 
@@ -95,9 +96,105 @@ module _ (x y z : Logged → Bool) where
       let first : of_all (e ∷ log) ≡ bit (x e && y e && z e) + of_all log = step e (filter (λ (e : Logged). x e && y e && z e) log) (x e && y e && z e) in
       omega (arith, rest, here, plus, all, first)
 
-pub settled_by_all : (question answer : Body → Bool) (n l : ℕ) (log : List Logged) → AreBelow n log → ((k : ℕ) → k < n → sent_count question (concerns k l) log ≡ taken_count answer (concerns k l) log) → is_settled question answer (is_of_line l) log ≡ true
-settled_by_all question answer n l log below each =
-    eq-eqb _ _ (
-    spread (λ e. is_sent e.direction) (is_of_line l) (λ e. question e.message.body) n log below
-    ∙ sum_same n _ _ each
-    ∙ sym (spread (λ e. not (is_sent e.direction)) (is_of_line l) (λ e. answer e.message.body) n log below))
+-- ---- a test of every hart that entries name
+
+all_of : (f : ℕ → Bool) (n : ℕ) (log : List Logged) → AreBelow n log → ((k : ℕ) → k < n → f k ≡ true) → list_all (λ (e : Logged). f e.hart) log ≡ true
+all_of f n [] below each = refl
+all_of f n (e ∷ log) below each = and_from _ _ (each e.hart below.0) (all_of f n log below.1 each)
+
+pub settled_by_all : (question answer : Body → Bool) (n l : ℕ) (log : List Logged) → AreBelow n log → ((k : ℕ) → k < n → sent_count question (concerns k l) log ≡ taken_count answer (concerns k l) log) → is_settled_for_all question answer l log ≡ true
+settled_by_all question answer n l log below each = all_of (λ k. is_settled question answer (concerns k l) log) n log below (λ k in_k. eq-eqb _ _ (each k in_k))
+
+-- no entry is of this hart
+abbrev NoneOf : ℕ → List Logged → Type 0
+NoneOf k [] = Unit {0}
+NoneOf k (e ∷ log) = (e.hart ≡ k → ⊥) × NoneOf k log
+
+-- what holds of every hart that entries name holds of a hart, or none is of it
+named : (f : ℕ → Bool) (k : ℕ) (log : List Logged) → list_all (λ (e : Logged). f e.hart) log ≡ true → (f k ≡ true) ⊎ NoneOf k log
+named f k [] all = inr tt
+named f k (e ∷ log) all = go (eqb_tells e.hart k) (named f k log (and_parts _ _ all).1)
+  where
+    go : (((e.hart == k) ≡ true) × (e.hart ≡ k)) ⊎ (((e.hart == k) ≡ false) × (e.hart ≡ k → ⊥)) → (f k ≡ true) ⊎ NoneOf k log → (f k ≡ true) ⊎ NoneOf k (e ∷ log)
+    go (inl is) rest = inl (ap f (sym is.1) ∙ (and_parts _ _ all).0)
+    go (inr is) (inl rest) = inl rest
+    go (inr is) (inr rest) = inr (is.1, rest)
+
+module _ (x y z : Logged → Bool) where
+  none_counted : (k : ℕ) (log : List Logged) → NoneOf k log → of_hart x y z log k ≡ 0
+  none_counted k [] none = refl
+  none_counted k (e ∷ log) none =
+      let rest : of_hart x y z log k ≡ 0 = none_counted k log none.1 in
+      let off : bit (x e && (e.hart == k && y e) && z e) ≡ 0 = other x y z e k none.0 in
+      let first = step x y z e (filter (λ (e : Logged). x e && (e.hart == k && y e) && z e) log) (x e && (e.hart == k && y e) && z e) in
+      omega (arith, rest, off, first)
+
+-- ---- sums that agree, of numbers of which none is above its other
+
+sum_low : (n : ℕ) (f g : ℕ → ℕ) → ((k : ℕ) → f k ≤ g k) → sum_to n f ≤ sum_to n g
+sum_low zero f g low = omega arith
+sum_low (suc n) f g low = let a = sum_low n f g low in let b = low n in omega (arith, a, b)
+
+sum_tight : (n : ℕ) (f g : ℕ → ℕ) → ((k : ℕ) → f k ≤ g k) → sum_to n g ≡ sum_to n f → (k : ℕ) → k < n → g k ≡ f k
+sum_tight zero f g low same k in_k = absurd (omega (arith, in_k))
+sum_tight (suc n) f g low same k in_k =
+    let a : sum_to n f ≤ sum_to n g = sum_low n f g low in
+    let b : f n ≤ g n = low n in
+    let last : g n ≡ f n = omega (arith, a, b, same) in
+    let rest : sum_to n g ≡ sum_to n f = omega (arith, a, b, same) in
+    go last (λ in_n. sum_tight n f g low rest k in_n) (eqb_tells k n)
+  where
+    go : g n ≡ f n → (k < n → g k ≡ f k) → (((k == n) ≡ true) × (k ≡ n)) ⊎ (((k == n) ≡ false) × (k ≡ n → ⊥)) → g k ≡ f k
+    go last rest (inl is) = ap g is.1 ∙ (last ∙ ap f (sym is.1))
+    go last rest (inr is) = rest (omega (arith, in_k, is.1))
+
+-- ---- the numbers of all harts together agree exactly where those of every hart do
+
+abbrev top : List Logged → ℕ
+top [] = 0
+top (e ∷ log) = suc e.hart + top log
+
+below_up : (m n : ℕ) (log : List Logged) → m ≤ n → AreBelow m log → AreBelow n log
+below_up m n [] le below = tt
+below_up m n (e ∷ log) le below = (omega (arith, le, below.0), below_up m n log le below.1)
+
+below_top : (log : List Logged) → AreBelow (top log) log
+below_top [] = tt
+below_top (e ∷ log) = (omega arith, below_up (top log) (suc e.hart + top log) log (omega arith) (below_top log))
+
+same_by : (a b : Bool) → (a ≡ true → b ≡ true) → (b ≡ true → a ≡ true) → a ≡ b
+same_by true b there back = sym (there refl)
+same_by false true there back = back refl
+same_by false false there back = refl
+
+pub sums_settle : (question answer : Body → Bool) (l : ℕ) (log : List Logged) → ((k : ℕ) → taken_count answer (concerns k l) log ≤ sent_count question (concerns k l) log)
+    → is_settled question answer (is_of_line l) log ≡ is_settled_for_all question answer l log
+sums_settle question answer l log low = same_by _ _ there back
+  where
+    n : ℕ
+    n = top log
+
+    asked : ℕ → ℕ
+    asked k = sent_count question (concerns k l) log
+
+    answered : ℕ → ℕ
+    answered k = taken_count answer (concerns k l) log
+
+    all_asked : sent_count question (is_of_line l) log ≡ sum_to n asked
+    all_asked = spread (λ e. is_sent e.direction) (is_of_line l) (λ e. question e.message.body) n log (below_top log)
+
+    all_answered : taken_count answer (is_of_line l) log ≡ sum_to n answered
+    all_answered = spread (λ e. not (is_sent e.direction)) (is_of_line l) (λ e. answer e.message.body) n log (below_top log)
+
+    there : is_settled question answer (is_of_line l) log ≡ true → is_settled_for_all question answer l log ≡ true
+    there t = settled_by_all question answer n l log (below_top log) (sum_tight n answered asked low (sym all_asked ∙ (eqb-true _ _ t ∙ all_answered)))
+
+    each : is_settled_for_all question answer l log ≡ true → (k : ℕ) → asked k ≡ answered k
+    each t k = go (named (λ k. is_settled question answer (concerns k l) log) k log t)
+      where
+        go : (is_settled question answer (concerns k l) log ≡ true) ⊎ NoneOf k log → asked k ≡ answered k
+        go (inl is) = eqb-true _ _ is
+        go (inr none) = none_counted (λ e. is_sent e.direction) (is_of_line l) (λ e. question e.message.body) k log none ∙ sym (none_counted (λ e. not (is_sent e.direction)) (is_of_line l) (λ e. answer e.message.body) k log none)
+
+    back : is_settled_for_all question answer l log ≡ true → is_settled question answer (is_of_line l) log ≡ true
+    back t = eq-eqb _ _ (all_asked ∙ (sum_same n asked answered (λ k in_k. each t k) ∙ sym all_answered))

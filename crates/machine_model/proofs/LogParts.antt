@@ -1,17 +1,13 @@
--- Parts of the lawful log, each of every state that a list of events leads to.
-use Rattle.std.specs.Prelude.{ℕ, ◌≡◌, Bool, true, not, ◌||◌, List, ◌∷◌, ◌++◌, IsTrue}
-use Rattle.machine_model.specs.LawfulLog.{IsBeginningOf, concerns, is_grant, is_grant_ack, is_owed, is_probe, is_probe_ack, is_release, is_release_ack, may_send, sent_on, taken_on}
+-- Parts of the lawful log, each of every state that a list of events leads to; the lawful log is put together of them.
+use Rattle.std.proofs.Common.{ℕ, ◌≡◌, Bool, true, List, ◌∷◌, ◌++◌}
+use Rattle.std.specs.Prelude.{not, ◌||◌, IsTrue}
+use Rattle.machine_model.specs.LawfulLog.{IsLogInOrder, concerns, is_grant, is_grant_ack, is_owed, is_probe, is_probe_ack, is_release, is_release_ack, may_send}
 use Rattle.machine_model.specs.Laws.{Always}
 use Rattle.tl_types.specs.declared.message.Body.{Body}
 use Rattle.tl_types.specs.declared.message.Body.TheVariants.{ProbeAck, ProbeAckData, ReleaseAck, GrantAck}
-use Rattle.tl_types.specs.declared.message.Channel.{Channel}
 use Rattle.tl_types.specs.declared.message.Msg.{Msg}
 use Rattle.trace_recorder.specs.declared.logged.Direction.TheVariants.{Sent}
 use Rattle.trace_recorder.specs.declared.logged.Logged.{Logged}
-
--- at each moment, what came out of a queue is a beginning of what went into it
-abbrev pub IsLogInOrder : List Logged → Type 0
-IsLogInOrder log = (c : Channel) (h : ℕ) (before rest : List Logged) → before ++ rest ≡ log → IsBeginningOf (taken_on c h before) (sent_on c h before)
 
 abbrev pub LogInOrderAlways : Type 0
 LogInOrderAlways = Always (λ image config s. IsLogInOrder s.trace.log)

@@ -17,7 +17,7 @@ use Rattle.machine_model.specs.Changing.{acted}
 use Rattle.machine_model.specs.Deliveries.{handled, on_release, taken, with_memory, with_notes}
 use Rattle.machine_model.specs.Events.{counted, happens, hart_of, plan_of}
 use Rattle.machine_model.specs.LawfulLog.{may_send}
-use Rattle.machine_model.specs.LogLaws.{OthersLawfulAlways, is_due, is_probe_or_grant}
+use Rattle.machine_model.proofs.LogParts.{OthersLawfulAlways, is_due, is_probe_or_grant}
 use Rattle.machine_model.specs.Views.{Node, State, line_size, node_at, opening, opening_node, place_of}
 use Rattle.machine_model.specs.declared.act.Act.{Act}
 use Rattle.machine_model.specs.declared.act.Act.TheVariants as act

@@ -13,8 +13,8 @@ use Rattle.hart.specs.Run.{after, at_reset}
 use Rattle.machine_model.specs.declared.config.Config.{Config}
 use Rattle.machine_model.specs.declared.event.Event.{Event}
 use Rattle.machine_model.specs.Events.{after_events, happens}
-use Rattle.machine_model.specs.Laws.{IsPerformedOnce}
-use Rattle.machine_model.specs.OrderLaws.{PerformedOnceAlways, OrderAlways, PreservedAlways}
+use Rattle.machine_model.specs.Laws.{Always, IsPerformedOnce}
+use Rattle.machine_model.specs.OrderLaws.{OrderAlways, PreservedAlways}
 use Rattle.machine_model.specs.Views.{State, opening}
 use Rattle.machine_model.proofs.Growth.{happens_follows}
 use Rattle.machine_model.proofs.Runs.{AllStand}
@@ -122,7 +122,7 @@ performed_once s o = record {
   once = is_distinct-from_Pairwise s.trace.performed (names_apart s.trace s.trace.performed o.resolved o.distinct);
 }
 
-pub performed_once_always : PerformedOnceAlways
+pub performed_once_always : Always (λ image config s. IsPerformedOnce s.trace)
 performed_once_always image config events i c = performed_once (after_events (opening image config) events) (order_kept image config events).1
 
 pub order_always : OrderAlways

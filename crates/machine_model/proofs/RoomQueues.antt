@@ -7,8 +7,7 @@ use Rattle.std.proofs.lemmas.List.{get_or_past}
 use mathlib.Core.Logic.{◌⊎◌, inl, inr}
 use native.Mathlib.Omega.{arith}
 use Rattle.machine_model.specs.Events.{after_events}
-use Rattle.machine_model.specs.Laws.{QueuesFit}
-use Rattle.machine_model.specs.Rooms.{QueuesFitAlways}
+use Rattle.machine_model.specs.Laws.{Always, QueuesFit}
 use Rattle.machine_model.specs.Views.{Node, State, no_node, node_at, opening}
 use Rattle.machine_model.proofs.RoomEvents.{after_events_small, opening_small}
 use Rattle.machine_model.proofs.RoomLines.{LineHasFew, asked_but, few_others, line_few}
@@ -75,7 +74,7 @@ queues_fit s fit k h channel = go (cases_lt h (length s.views.nodes))
     go (inl in_h) = queue_fits s fit k h channel in_h
     go (inr past) = subst (λ (n : Node). length (queue_of n.queues channel) ≤ room_of channel) (sym (get_or_past s.views.nodes h (no_node s) past)) (none_fit channel)
 
-pub queues_fit_always : QueuesFitAlways
+pub queues_fit_always : Always (λ image config s. QueuesFit s)
 queues_fit_always image config events is within = queues_fit (after_events (opening image config) events)
     (after_events_fit events (opening image config) (opening_fits image config is.legal_size.whole_pages))
     (after_events_small events (opening image config) (opening_small image config within))

@@ -1,6 +1,6 @@
 -- The lawful log: which message may be sent or taken after which (TileLink 1.8.1, "TL-C", the transfers of Acquire, Probe and Release). The four serialization rules and the rule on Grants without data are this machine's own.
 use Rattle.std.specs.Prelude.{ℕ, ◌≡◌, Bool, true, false, ◌&&◌, ◌||◌, not, ◌==◌, if◌then◌else◌, List, [], ◌∷◌, ◌++◌, Option, Some, None, IsTrue, filter, length, nat_lt, slice_get}
-use Rattle.std.specs.List.{filter_map}
+use Rattle.std.specs.List.{filter_map, list_all}
 use Rattle.tl_types.specs.Message.{channel_of}
 use Rattle.tl_types.specs.declared.message.Body.{Body}
 use Rattle.tl_types.specs.declared.message.Body.TheVariants.{AcquireBlock, ProbeBlock, ProbeAck, ProbeAckData, Release, ReleaseData, Grant, GrantData, ReleaseAck, GrantAck}
@@ -70,9 +70,13 @@ sent_count kind who log = length (filter (λ (e : Logged). is_sent e.direction &
 abbrev pub taken_count : (Body → Bool) → (Logged → Bool) → List Logged → ℕ
 taken_count kind who log = length (filter (λ (e : Logged). not (is_sent e.direction) && who e && kind e.message.body) log)
 
--- each question of this kind was answered, and the answer has arrived; where several harts are asked, the sums agree exactly where each hart's numbers do, since no answer arrives before its question was sent
+-- each question of this kind was answered, and the answer has arrived
 abbrev pub is_settled : (question answer : Body → Bool) → (Logged → Bool) → List Logged → Bool
 is_settled question answer who log = sent_count question who log == taken_count answer who log
+
+-- the same of a line for every hart: each that an entry names, since nothing was sent to another, or taken
+abbrev pub is_settled_for_all : (question answer : Body → Bool) → ℕ → List Logged → Bool
+is_settled_for_all question answer line log = list_all (λ (e : Logged). is_settled question answer (concerns e.hart line) log) log
 
 -- a question of this kind has arrived that wasn't answered yet
 abbrev pub is_owed : (question answer : Body → Bool) → (Logged → Bool) → List Logged → Bool
@@ -90,11 +94,11 @@ no_probe_open h line log = is_settled is_probe is_probe_ack (concerns h line) lo
 
 -- grant-alone: no Probe and no other Grant of the line, to any hart, from a Grant's sending until its GrantAck is taken
 abbrev pub no_grant_open : ℕ → List Logged → Bool
-no_grant_open line log = is_settled is_grant is_grant_ack (is_of_line line) log
+no_grant_open line log = is_settled_for_all is_grant is_grant_ack line log
 
 -- and no Grant while a ProbeAck of the line is outstanding
 abbrev pub no_hart_probed : ℕ → List Logged → Bool
-no_hart_probed line log = is_settled is_probe is_probe_ack (is_of_line line) log
+no_hart_probed line log = is_settled_for_all is_probe is_probe_ack line log
 
 -- release-alone: no ProbeAck, Acquire or Release from a Release until its ReleaseAck is taken, and no Release while the hart's Acquire is unanswered
 abbrev pub no_release_open : ℕ → ℕ → List Logged → Bool
@@ -201,8 +205,11 @@ IsBeginningOf {X} xs ys = (rest : List X) × (xs ++ rest ≡ ys)
 
 -- ---- the log
 
+-- at each moment, what came out of a queue is a beginning of what went into it
+abbrev pub IsLogInOrder : List Logged → Type 0
+IsLogInOrder log = (c : Channel) (h : ℕ) (before rest : List Logged) → before ++ rest ≡ log → IsBeginningOf (taken_on c h before) (sent_on c h before)
+
 pub record IsLawfulLog (log : List Logged) : Type 0 where
-  -- at each moment, what came out of a queue is a beginning of what went into it
-  pub in_order : (c : Channel) (h : ℕ) (before rest : List Logged) → before ++ rest ≡ log → IsBeginningOf (taken_on c h before) (sent_on c h before)
+  pub in_order : IsLogInOrder log
   -- each message was sent where it may be
   pub each_sent : (h : ℕ) (m : Msg) (before rest : List Logged) → before ++ (record { direction = Sent; hart = h; message = m }) ∷ rest ≡ log → IsTrue (may_send m.body h m.line before)

@@ -9,7 +9,6 @@ pub mod Events
 pub mod Coherent
 pub mod LawfulLog
 pub mod Laws
-pub mod Rooms
 pub mod OrderLaws
 pub mod JointLaws
 pub mod LogLaws

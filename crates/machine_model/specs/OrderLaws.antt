@@ -1,12 +1,8 @@
 -- Laws of the completed order that need no coherence.
 use Rattle.std.specs.Prelude.{IsTrue}
-use Rattle.machine_model.specs.Laws.{Always, IsPerformedOnce}
+use Rattle.machine_model.specs.Laws.{Always}
 use Rattle.memory_model.specs.Legal.{keeps_preserved_order}
 use Rattle.memory_model.specs.Traces.{IsOrder, completed, instructions, operations_at}
-
--- what is performed are operations, each once
-abbrev pub PerformedOnceAlways : Type 0
-PerformedOnceAlways = Always (λ image config s. IsPerformedOnce s.trace)
 
 -- the completed order has every operation once
 abbrev pub OrderAlways : Type 0

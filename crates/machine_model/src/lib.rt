@@ -23,12 +23,10 @@ pub use laws::{
     changes_are_counted, image_and_config_stay, local_is_steps, nothing_is_rewritten, runs_always,
     stops_change_status_alone,
 };
-pub use log_laws::{
-    answers_due_always, log_in_order_always, log_lawful_always, others_lawful_always,
-};
+pub use log_laws::{log_lawful_always, sums_agree};
 pub use memory_model::Model;
-pub use order_laws::{order_always, performed_once_always, preserved_always};
+pub use order_laws::{order_always, preserved_always};
 pub use outcome::Outcome;
 pub use range_laws::in_range_always;
 pub use ready_laws::{ready_always, sound_always};
-pub use room_laws::{queues_fit_always, room_always};
+pub use room_laws::room_always;

@@ -1,12 +1,6 @@
 //! Laws of the order in which a machine's operations are performed, each the contract of a function
 //! that does nothing.
-ghost use Rattle.machine_model.specs.OrderLaws.{PerformedOnceAlways, OrderAlways, PreservedAlways};
-
-/// Whatever events come in whatever order, what is performed are operations of the harts' lists, each
-/// once.
-pub fn performed_once_always()
-    ensures { PerformedOnceAlways }
-{}
+ghost use Rattle.machine_model.specs.OrderLaws.{OrderAlways, PreservedAlways};
 
 /// Whatever events come, the completed order has every operation once.
 pub fn order_always()
