@@ -8,7 +8,10 @@ stand in docs/DEFINITIONS.md: module by module, each behind those that it uses, 
 import re
 from pathlib import Path
 
-HEADLINE = [("machine_model", "Laws", "Headline")]
+HEADLINE = [
+    ("machine_model", "Laws", "Headline"),
+    ("machine_model", "Laws", "LogLawfulAlways"),
+]
 TEXTS = [
     ("text_fields", "Writing", "Writes"),
     ("trace_text", "Reading", "IsNoMemory"),
