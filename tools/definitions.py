@@ -1,8 +1,8 @@
 #!/usr/bin/env python3
 """Lists the definitions that the headline and the theorems on texts rest on: `definitions.py`, from the top.
 
-Reads the `specs/` of all crates and follows the names that each definition uses. Prints the two lists as they
-stand in docs/DEFINITIONS.md: module by module, each behind those that it uses, its definitions as they stand.
+Reads the `specs/` of all crates, follows the names that each definition uses, and writes the two lists into
+docs/DEFINITIONS.md: module by module, each behind those that it uses, its definitions as they stand.
 """
 
 import re
@@ -90,16 +90,29 @@ def in_order(found, used):
     return done
 
 
+def written(text, title, count, lines):
+    """The document with this section's number and list."""
+    start = text.index(f"## {title}\n")
+    end = text.index("\n## ", start)
+    part = re.sub(r"by these \d+", f"by these {count}", text[start:end])
+    part = re.sub(r"(?:^- .*\n?)+", "".join(f"{line}\n" for line in lines), part, count=1, flags=re.M)
+    return text[:start] + part + text[end:]
+
+
 def main():
     found = modules()
+    document = Path("docs/DEFINITIONS.md")
+    text = document.read_text(encoding="utf-8")
     before = set()
-    for title, starts in [("Headline", HEADLINE), ("Texts", TEXTS)]:
+    for title, starts in [("What the headline rests on", HEADLINE), ("What the theorems on texts rest on", TEXTS)]:
         used = rests_on(found, starts) - before
-        print(f"{title}: {len(used)} definitions")
+        lines = []
         for part in in_order(found, used):
             names = [name for name in found[part][0] if (*part, name) in used]
-            print(f"- `{part[0]}` {part[1]}: " + ", ".join(f"`{name}`" for name in names))
+            lines.append(f"- `{part[0]}` {part[1]}: " + ", ".join(f"`{name}`" for name in names))
+        text = written(text, title, len(used), lines)
         before |= used
+    document.write_text(text, encoding="utf-8")
 
 
 main()
