@@ -17,7 +17,7 @@ use Rattle.client_cache.specs.declared.slot.Slot.{Slot}
 use Rattle.client_cache.specs.Shape.{set_of}
 use Rattle.client_cache.specs.Row.{is_used, holds, place_at, IsClear}
 use Rattle.client_cache.specs.Cache.{put}
-use Rattle.client_cache.specs.Array.{IsRow, IsPlaced, row_of, add_copy, add_row, copies_below, copies_of, copy_in, acquiring_in, place_of}
+use Rattle.client_cache.specs.Array.{IsSetRow, IsLaidOut, row_of, add_copy, add_row, copies_below, copies_of, copy_in, acquiring_in, place_of}
 use Rattle.client_cache.proofs.Rows.{shown, holds_parts, holds_from, not_held, held_unused}
 use Rattle.client_cache.proofs.Writes.{place_at-set, IsRow-set}
 
@@ -83,7 +83,7 @@ step q p xs o alone = elim (cases_eq q p.line) [
         let t : nat_eq q p.line ≡ true = grind (arith, same) in
         rw (t, held_unused q p e, unused_copy p e) refl
 
-get-add_row : (shape : Shape) (s : ℕ) (xs : List Slot) (m : FinMap nat_cmp Held) (q : ℕ) → IsRow shape s xs → get (add_row xs m) q ≡ either (copy_in (place_at q xs)) (get m q)
+get-add_row : (shape : Shape) (s : ℕ) (xs : List Slot) (m : FinMap nat_cmp Held) (q : ℕ) → IsSetRow shape s xs → get (add_row xs m) q ≡ either (copy_in (place_at q xs)) (get m q)
 get-add_row shape s [] m q h = refl
 get-add_row shape s (x ∷ xs) m q h =
     get-add_copy x.place.line x.place.copy (add_row xs m) q
@@ -91,7 +91,7 @@ get-add_row shape s (x ∷ xs) m q h =
     ∙ step q x.place xs (get m q) h.1
 
 -- a row has no line of another set
-pub not_home : (shape : Shape) (s : ℕ) (xs : List Slot) (q : ℕ) → IsRow shape s xs → set_of shape q ≢ s → place_at q xs ≡ None
+pub not_home : (shape : Shape) (s : ℕ) (xs : List Slot) (q : ℕ) → IsSetRow shape s xs → set_of shape q ≢ s → place_at q xs ≡ None
 not_home shape s [] q h n = refl
 not_home shape s (x ∷ xs) q h n = go (holds q x.place) refl (not_home shape s xs q h.2 n)
   where
@@ -101,7 +101,7 @@ not_home shape s (x ∷ xs) q h n = go (holds q x.place) refl (not_home shape s 
         absurd (n (ap (λ k. set_of shape k) (sym parts.1) ∙ h.0 parts.0))
     go false e none = none
 
-get-copies_below : (shape : Shape) (n : ℕ) (row : ℕ → List Slot) (q : ℕ) → ((s : ℕ) → s < n → IsRow shape s (row s)) → get (copies_below n row) q ≡ cond (nat_lt (set_of shape q) n) (copy_in (place_at q (row (set_of shape q)))) None
+get-copies_below : (shape : Shape) (n : ℕ) (row : ℕ → List Slot) (q : ℕ) → ((s : ℕ) → s < n → IsSetRow shape s (row s)) → get (copies_below n row) q ≡ cond (nat_lt (set_of shape q) n) (copy_in (place_at q (row (set_of shape q)))) None
 get-copies_below shape zero row q h = get-empty nat_cmp q ∙ ap (λ b. cond b (copy_in (place_at q (row (set_of shape q)))) None) (let e : false ≡ nat_lt (set_of shape q) 0 = grind arith in e)
 get-copies_below shape (suc n) row q h =
     get-add_row shape n (row n) (copies_below n row) q (h n (omega arith))
@@ -143,7 +143,7 @@ length-row shape slots s room l =
     simp (length-take, length-drop) (omega (arith, apart))
 
 -- the map at a line is the copy in the line's place
-pub get-copies_of : (shape : Shape) (slots : List Slot) (acquiring : FinSet nat_cmp) → IsPlaced shape slots acquiring → (q : ℕ) → get (copies_of shape slots) q ≡ copy_in (place_of shape slots q)
+pub get-copies_of : (shape : Shape) (slots : List Slot) (acquiring : FinSet nat_cmp) → IsLaidOut shape slots acquiring → (q : ℕ) → get (copies_of shape slots) q ≡ copy_in (place_of shape slots q)
 unfolding copies_of
 get-copies_of shape slots acquiring h q =
     get-copies_below shape shape.sets (row_of shape slots) q h.rows
@@ -158,7 +158,7 @@ pub record IsWrite (shape : Shape) (slots : List Slot) (line i : ℕ) (p : Place
 abbrev pub after_write : Shape → List Slot → ℕ → ℕ → Place → List Slot
 after_write shape slots line i p = set slots (set_of shape line * shape.ways + i) (record { place = p })
 
-place_case : (shape : Shape) (slots : List Slot) (acquiring : FinSet nat_cmp) (line i : ℕ) (p : Place) → IsPlaced shape slots acquiring → IsWrite shape slots line i p
+place_case : (shape : Shape) (slots : List Slot) (acquiring : FinSet nat_cmp) (line i : ℕ) (p : Place) → IsLaidOut shape slots acquiring → IsWrite shape slots line i p
     → (q : ℕ) → ((set_of shape q) ≡ (set_of shape line)) ⊎ ((set_of shape q) ≢ (set_of shape line)) → place_of shape (after_write shape slots line i p) q ≡ cond (nat_eq q line) (shown p) (place_of shape slots q)
 place_case shape slots acquiring line i p h w q (inl same) =
     let low = h.sets_low in
@@ -176,7 +176,7 @@ place_case shape slots acquiring line i p h w q (inr n) =
     not_same : (a b : ℕ) → a ≢ b → nat_eq a b ≡ false
     not_same a b d = grind (arith, d)
 
-pub place_of-write : (shape : Shape) (slots : List Slot) (acquiring : FinSet nat_cmp) (line i : ℕ) (p : Place) → IsPlaced shape slots acquiring → IsWrite shape slots line i p
+pub place_of-write : (shape : Shape) (slots : List Slot) (acquiring : FinSet nat_cmp) (line i : ℕ) (p : Place) → IsLaidOut shape slots acquiring → IsWrite shape slots line i p
     → (q : ℕ) → place_of shape (after_write shape slots line i p) q ≡ cond (nat_eq q line) (shown p) (place_of shape slots q)
 place_of-write shape slots acquiring line i p h w q = place_case shape slots acquiring line i p h w q (cases_eq (set_of shape q) (set_of shape line))
 
@@ -195,20 +195,20 @@ acquiring_in-shown p = go p.copy p.acquiring
     go None true = refl
     go None false = refl
 
-rows_case : (shape : Shape) (slots : List Slot) (acquiring : FinSet nat_cmp) (line i : ℕ) (p : Place) → IsPlaced shape slots acquiring → IsWrite shape slots line i p
-    → (s : ℕ) → s < shape.sets → (s ≡ (set_of shape line)) ⊎ (s ≢ (set_of shape line)) → IsRow shape s (row_of shape (after_write shape slots line i p) s)
+rows_case : (shape : Shape) (slots : List Slot) (acquiring : FinSet nat_cmp) (line i : ℕ) (p : Place) → IsLaidOut shape slots acquiring → IsWrite shape slots line i p
+    → (s : ℕ) → s < shape.sets → (s ≡ (set_of shape line)) ⊎ (s ≢ (set_of shape line)) → IsSetRow shape s (row_of shape (after_write shape slots line i p) s)
 rows_case shape slots acquiring line i p h w s l (inl same) =
     let here = row_here shape slots (set_of shape line) i (record { place = p }) w.within in
     let low = h.sets_low in
     let long = length-row shape slots (set_of shape line) h.room (omega arith) in
     let done = IsRow-set shape (set_of shape line) line (row_of shape slots (set_of shape line)) i p (let within = w.within in omega (arith, long)) w.clear w.named refl (h.rows (set_of shape line) (omega arith)) in
-    subst (λ k. IsRow shape k (row_of shape (after_write shape slots line i p) k)) (sym same) (subst (IsRow shape (set_of shape line)) (sym here) done)
+    subst (λ k. IsSetRow shape k (row_of shape (after_write shape slots line i p) k)) (sym same) (subst (IsSetRow shape (set_of shape line)) (sym here) done)
 rows_case shape slots acquiring line i p h w s l (inr n) =
-    subst (IsRow shape s) (sym (row_elsewhere shape slots (set_of shape line) s i (record { place = p }) w.within n)) (h.rows s l)
+    subst (IsSetRow shape s) (sym (row_elsewhere shape slots (set_of shape line) s i (record { place = p }) w.within n)) (h.rows s l)
 
 -- the array is in order again where the Acquire's tracker tells what the place tells
-pub IsPlaced-write : (shape : Shape) (slots : List Slot) (acquiring later : FinSet nat_cmp) (line i : ℕ) (p : Place) → IsPlaced shape slots acquiring → IsWrite shape slots line i p
-    → ((q : ℕ) → fset.contains later q ≡ cond (nat_eq q line) p.acquiring (fset.contains acquiring q)) → IsPlaced shape (after_write shape slots line i p) later
+pub IsPlaced-write : (shape : Shape) (slots : List Slot) (acquiring later : FinSet nat_cmp) (line i : ℕ) (p : Place) → IsLaidOut shape slots acquiring → IsWrite shape slots line i p
+    → ((q : ℕ) → fset.contains later q ≡ cond (nat_eq q line) p.acquiring (fset.contains acquiring q)) → IsLaidOut shape (after_write shape slots line i p) later
 IsPlaced-write shape slots acquiring later line i p h w tells = record {
   sets_low = h.sets_low;
   sets_high = h.sets_high;
@@ -224,8 +224,8 @@ IsPlaced-write shape slots acquiring later line i p h w tells = record {
     go q false = h.tracked q
 
 -- the map has the place's copy there, and what it had elsewhere
-pub copies_of-write : (shape : Shape) (slots : List Slot) (acquiring later : FinSet nat_cmp) (line i : ℕ) (p : Place) → IsPlaced shape slots acquiring → IsWrite shape slots line i p
-    → IsPlaced shape (after_write shape slots line i p) later → copies_of shape (after_write shape slots line i p) ≡ put (copies_of shape slots) line p.copy
+pub copies_of-write : (shape : Shape) (slots : List Slot) (acquiring later : FinSet nat_cmp) (line i : ℕ) (p : Place) → IsLaidOut shape slots acquiring → IsWrite shape slots line i p
+    → IsLaidOut shape (after_write shape slots line i p) later → copies_of shape (after_write shape slots line i p) ≡ put (copies_of shape slots) line p.copy
 copies_of-write shape slots acquiring later line i p h w after = same_copies _ _ (λ q.
     get-copies_of shape (after_write shape slots line i p) later after q
     ∙ ap copy_in (place_of-write shape slots acquiring line i p h w q)

@@ -15,8 +15,8 @@ use Rattle.client_cache.specs.declared.slot.Slot.{Slot}
 use Rattle.client_cache.specs.Distinct.{IsDistinct}
 use Rattle.client_cache.specs.Shape.{set_of}
 use Rattle.client_cache.specs.Row.{is_used, place_at, AllUsed}
-use Rattle.client_cache.specs.Cache.{Cache, taken}
-use Rattle.client_cache.specs.Array.{IsRow, IsPlaced, row_of, copies_of, copy_in, acquiring_in, place_of}
+use Rattle.client_cache.specs.Cache.{Cache, lines_in_set}
+use Rattle.client_cache.specs.Array.{IsSetRow, IsLaidOut, row_of, copies_of, copy_in, acquiring_in, place_of}
 use Rattle.client_cache.proofs.Lines.{len-distinct}
 use Rattle.client_cache.proofs.Copies.{get-copies_of, not_home}
 
@@ -37,7 +37,7 @@ any_used q (x ∷ xs) = go (is_used x.place) (nat_eq x.place.line q) (any_used q
         inner false h = h
     go false same h = h
 
-distinct_used : (shape : Shape) (s : ℕ) (xs : List Slot) → IsRow shape s xs → IsDistinct (used_lines xs)
+distinct_used : (shape : Shape) (s : ℕ) (xs : List Slot) → IsSetRow shape s xs → IsDistinct (used_lines xs)
 distinct_used shape s [] h = tt
 distinct_used shape s (x ∷ xs) h = go (is_used x.place) refl (distinct_used shape s xs h.2)
   where
@@ -60,9 +60,9 @@ pub keys-get : (m : FinMap nat_cmp Held) (q : ℕ) → fset.contains (from_list 
 keys-get m q = contains-from_list nat_cmp_total (map.keys m) q ∙ sym (contains_key-keys m q)
 
 -- the lines of a set that callers count are those of its row
-pub taken-used : (c : Cache) (slots : List Slot) → IsPlaced c.shape slots c.acquiring → c.copies ≡ copies_of c.shape slots → (line : ℕ)
-    → taken c line ≡ from_list (used_lines (row_of c.shape slots (set_of c.shape line)))
-taken-used c slots h same line = same_set nat_cmp_total nat_cmp-IsAntisymmetric _ _ (λ q.
+pub lines_in_set-used : (c : Cache) (slots : List Slot) → IsLaidOut c.shape slots c.acquiring → c.copies ≡ copies_of c.shape slots → (line : ℕ)
+    → lines_in_set c line ≡ from_list (used_lines (row_of c.shape slots (set_of c.shape line)))
+lines_in_set-used c slots h same line = same_set nat_cmp_total nat_cmp-IsAntisymmetric _ _ (λ q.
     contains-retain (fset.union (from_list (map.keys c.copies)) c.acquiring) (λ k. nat_eq (set_of c.shape k) (set_of c.shape line)) q
     (λ x tie. ap (λ k. nat_eq (set_of c.shape k) (set_of c.shape line)) (sym (nat_cmp-IsAntisymmetric q x tie)))
     ∙ ap (λ b. b && nat_eq (set_of c.shape q) (set_of c.shape line))
@@ -92,11 +92,11 @@ taken-used c slots h same line = same_set nat_cmp_total nat_cmp-IsAntisymmetric 
         and_false true = refl
         and_false false = refl
 
-pub len-taken : (c : Cache) (slots : List Slot) → IsPlaced c.shape slots c.acquiring → c.copies ≡ copies_of c.shape slots → (line : ℕ)
-    → fset.len (taken c line) ≡ length (used_lines (row_of c.shape slots (set_of c.shape line)))
-len-taken c slots h same line =
+pub len-lines_in_set : (c : Cache) (slots : List Slot) → IsLaidOut c.shape slots c.acquiring → c.copies ≡ copies_of c.shape slots → (line : ℕ)
+    → fset.len (lines_in_set c line) ≡ length (used_lines (row_of c.shape slots (set_of c.shape line)))
+len-lines_in_set c slots h same line =
     let low = h.sets_low in
-    ap fset.len (taken-used c slots h same line)
+    ap fset.len (lines_in_set-used c slots h same line)
     ∙ len-distinct _ (distinct_used c.shape (set_of c.shape line) _ (h.rows (set_of c.shape line) (omega arith)))
 
 pub length-all_used : (xs : List Slot) → AllUsed xs → length (used_lines xs) ≡ length xs

@@ -12,10 +12,10 @@ use Rattle.client_cache.specs.declared.cache.ClientCache.TheInside.{Inside}
 use Rattle.client_cache.specs.declared.answers.Want.TheVariants.{SetFull, Missed}
 use Rattle.client_cache.specs.Shape.{set_of}
 use Rattle.client_cache.specs.Row.{IsAt}
-use Rattle.client_cache.specs.Cache.{Cache, put, copy_at, taken, is_set_full, wanted}
-use Rattle.client_cache.specs.Array.{IsPlaced, IsRoom, IsFull, row_of, copies_of, copy_in, acquiring_in, place_of}
+use Rattle.client_cache.specs.Cache.{Cache, put, copy_at, lines_in_set, is_set_full, wanted}
+use Rattle.client_cache.specs.Array.{IsLaidOut, IsRoom, IsFull, row_of, copies_of, copy_in, acquiring_in, place_of}
 use Rattle.client_cache.proofs.Copies.{get-copies_of, length-row, IsWrite, after_write, IsPlaced-write, copies_of-write, put-same}
-use Rattle.client_cache.proofs.Counts.{used_place, len-taken, length-all_used, length-free}
+use Rattle.client_cache.proofs.Counts.{used_place, len-lines_in_set, length-all_used, length-free}
 use Rattle.client_cache.proofs.Rooms.{write_found, write_room, tells_same, tells_insert}
 
 abbrev pub seen : Inside → Cache
@@ -23,7 +23,7 @@ seen s = record { shape = s.array.shape; copies = copies_of s.array.shape s.arra
 
 -- what every cache keeps of its fields
 abbrev pub IsOrdered : Inside → Type 0
-IsOrdered s = IsPlaced s.array.shape s.array.slots.items s.acquiring
+IsOrdered s = IsLaidOut s.array.shape s.array.slots.items s.acquiring
 
 -- where a search found the line
 abbrev pub IsFound : Inside → ℕ → ℕ → Place → Type 0
@@ -41,7 +41,7 @@ acquiring-found s h x e line way p at = ap (λ (y : Cache). fset.contains y.acqu
 
 -- after one place was written
 pub record IsRewritten (s : Inside) (a : Array) (later : FinSet nat_cmp) (line : ℕ) (copy : Option Held) : Type 0 where
-  pub placed : IsPlaced a.shape a.slots.items later
+  pub placed : IsLaidOut a.shape a.slots.items later
   pub seen_as : (releasing : FinSet nat_cmp) → ◌≡◌ {A = Cache} (record { shape = a.shape; copies = copies_of a.shape a.slots.items; acquiring = later; releasing = releasing })
       (record { shape = s.array.shape; copies = put (seen s).copies line copy; acquiring = later; releasing = releasing })
 
@@ -87,21 +87,21 @@ kept-room s h line way copy room =
 is_set_full-full : (s : Inside) → IsOrdered s → (line : ℕ) → IsFull s.array.shape s.array.slots.items line → is_set_full (seen s) line ≡ true
 is_set_full-full s h line f =
     let low = h.sets_low in
-    let count = len-taken (seen s) s.array.slots.items h refl line in
+    let count = len-lines_in_set (seen s) s.array.slots.items h refl line in
     let all = length-all_used (row_of s.array.shape s.array.slots.items (set_of s.array.shape line)) f.used in
     let long = length-row s.array.shape s.array.slots.items (set_of s.array.shape line) h.room (omega arith) in
     let none : copy_at (seen s) line ≡ None = copy_at-seen s h (seen s) refl line ∙ ap copy_in f.missing in
-    let full : nat_le s.array.shape.ways (fset.len (taken (seen s) line)) ≡ true = rw (count, all, long) (grind arith) in
+    let full : nat_le s.array.shape.ways (fset.len (lines_in_set (seen s) line)) ≡ true = rw (count, all, long) (grind arith) in
     rw (none, full) refl
 
 is_set_full-room : (s : Inside) → IsOrdered s → (line way : ℕ) (copy : Option Held) → IsRoom s.array.shape s.array.slots.items line way copy → fset.contains s.acquiring line ≡ false → is_set_full (seen s) line ≡ false
 is_set_full-room s h line way copy r none = go (place_of s.array.shape s.array.slots.items line) refl
   where
-    fewer : place_of s.array.shape s.array.slots.items line ≡ None → fset.len (taken (seen s) line) < s.array.shape.ways
+    fewer : place_of s.array.shape s.array.slots.items line ≡ None → fset.len (lines_in_set (seen s) line) < s.array.shape.ways
     fewer missing =
         let free = r.free missing in
         let low = h.sets_low in
-        let count = len-taken (seen s) s.array.slots.items h refl line in
+        let count = len-lines_in_set (seen s) s.array.slots.items h refl line in
         let less = length-free (row_of s.array.shape s.array.slots.items (set_of s.array.shape line)) way (record { place = free.here.0 }) free.here.1.0 free.here.1.1 in
         let long = length-row s.array.shape s.array.slots.items (set_of s.array.shape line) h.room (omega arith) in
         omega (arith, count, less, long)
@@ -117,7 +117,7 @@ is_set_full-room s h line way copy r none = go (place_of s.array.shape s.array.s
         left_true false b e f = sym f ∙ e
 
     go : (o : Option Place) → place_of s.array.shape s.array.slots.items line ≡ o → is_set_full (seen s) line ≡ false
-    go None is = let less = fewer is in let f : nat_le s.array.shape.ways (fset.len (taken (seen s) line)) ≡ false = grind (arith, less) in rw f (and_false _)
+    go None is = let less = fewer is in let f : nat_le s.array.shape.ways (fset.len (lines_in_set (seen s) line)) ≡ false = grind (arith, less) in rw f (and_false _)
       where
         and_false : (b : Bool) → (b && false) ≡ false
         and_false true = refl

@@ -15,12 +15,12 @@ use Rattle.client_cache.specs.declared.slot.Place.{Place}
 use Rattle.client_cache.specs.declared.slot.Slot.{Slot}
 use Rattle.client_cache.specs.Shape.{set_of}
 use Rattle.client_cache.specs.Row.{free_slot, place_at, IsAt, IsFreeAt}
-use Rattle.client_cache.specs.Array.{IsRow, IsPlaced, IsRoom, row_of, copies_of, copy_in, acquiring_in, place_of}
+use Rattle.client_cache.specs.Array.{IsSetRow, IsLaidOut, IsRoom, row_of, copies_of, copy_in, acquiring_in, place_of}
 use Rattle.client_cache.proofs.Writes.{clear_at, clear_free}
 use Rattle.client_cache.proofs.Copies.{get-copies_of, length-row, IsWrite, same_copies, rows_apart}
 
 pub room_found : (shape : Shape) (slots : List Slot) (line way : ℕ) (p : Place) → 0 < shape.sets → length slots ≡ shape.sets * shape.ways
-    → IsRow shape (set_of shape line) (row_of shape slots (set_of shape line)) → IsAt line (row_of shape slots (set_of shape line)) way p → IsRoom shape slots line way p.copy
+    → IsSetRow shape (set_of shape line) (row_of shape slots (set_of shape line)) → IsAt line (row_of shape slots (set_of shape line)) way p → IsRoom shape slots line way p.copy
 room_found shape slots line way p low room row at =
     let long = length-row shape slots (set_of shape line) room (omega arith) in
     let within = at.within in
@@ -47,7 +47,7 @@ room_free shape slots line way low room none at =
     }
 
 -- a place that was found may be written
-pub write_found : (shape : Shape) (slots : List Slot) (acquiring : FinSet nat_cmp) (line way : ℕ) (p p' : Place) → IsPlaced shape slots acquiring
+pub write_found : (shape : Shape) (slots : List Slot) (acquiring : FinSet nat_cmp) (line way : ℕ) (p p' : Place) → IsLaidOut shape slots acquiring
     → IsAt line (row_of shape slots (set_of shape line)) way p → p'.line ≡ line → IsWrite shape slots line way p'
 write_found shape slots acquiring line way p p' h at named =
     let low = h.sets_low in
@@ -84,7 +84,7 @@ place_at-free : (q n : ℕ) → place_at q (replicate n free_slot) ≡ None
 place_at-free q zero = refl
 place_at-free q (suc n) = place_at-free q n
 
-IsRow-free : (shape : Shape) (s n : ℕ) → IsRow shape s (replicate n free_slot)
+IsRow-free : (shape : Shape) (s n : ℕ) → IsSetRow shape s (replicate n free_slot)
 IsRow-free shape s zero = tt
 IsRow-free shape s (suc n) = (λ u. absurd (false_true u), λ u. absurd (false_true u), IsRow-free shape s n)
   where
@@ -99,7 +99,7 @@ row_of-free shape s l =
 place_of-free : (shape : Shape) → 0 < shape.sets → (q : ℕ) → place_of shape (replicate (shape.sets * shape.ways) free_slot) q ≡ None
 place_of-free shape low q = ap (place_at q) (row_of-free shape (set_of shape q) (omega arith)) ∙ place_at-free q shape.ways
 
-pub IsPlaced-free : (shape : Shape) → 0 < shape.sets → shape.sets ≤ 64 → 0 < shape.ways → shape.ways ≤ 4 → IsPlaced shape (replicate (shape.sets * shape.ways) free_slot) fset.empty
+pub IsPlaced-free : (shape : Shape) → 0 < shape.sets → shape.sets ≤ 64 → 0 < shape.ways → shape.ways ≤ 4 → IsLaidOut shape (replicate (shape.sets * shape.ways) free_slot) fset.empty
 IsPlaced-free shape a b c d = record {
   sets_low = a;
   sets_high = b;

@@ -7,7 +7,7 @@ use Rattle.client_cache.specs.declared.slot.Place.{Place}
 use Rattle.client_cache.specs.declared.slot.Slot.{Slot}
 use Rattle.client_cache.specs.Shape.{set_of}
 use Rattle.client_cache.specs.Row.{is_used, holds, place_at, IsClear}
-use Rattle.client_cache.specs.Array.{IsRow}
+use Rattle.client_cache.specs.Array.{IsSetRow}
 use Rattle.client_cache.proofs.Rows.{shown, holds_parts, holds_from, not_held, held_unused, held_shown}
 
 true_false : true ≡ false → ⊥
@@ -56,7 +56,7 @@ place_at-set q line (x ∷ xs) (suc i) p l clear e =
     ])
 
 pub IsRow-set : (shape : Shape) (s line : ℕ) (xs : List Slot) (i : ℕ) (p : Place) → i < length xs → IsClear line xs i → p.line ≡ line → set_of shape line ≡ s
-    → IsRow shape s xs → IsRow shape s (set xs i (record { place = p }))
+    → IsSetRow shape s xs → IsSetRow shape s (set xs i (record { place = p }))
 IsRow-set shape s line [] i p l clear e home h = h
 IsRow-set shape s line (x ∷ xs) zero p l clear e home h =
     (λ _. ap (λ k. set_of shape k) e ∙ home, λ _. ap (λ k. place_at k xs) e ∙ clear.0, h.2)
@@ -80,7 +80,7 @@ not_none line (x ∷ xs) (suc i) y here held none =
     not_none line xs i y here held parts.1
 
 -- where the line has its place, that slot may be written
-pub clear_at : (shape : Shape) (s line : ℕ) (xs : List Slot) (i : ℕ) (p : Place) → IsRow shape s xs → slice_get xs i ≡ Some (record { place = p }) → holds line p ≡ true → IsClear line xs i
+pub clear_at : (shape : Shape) (s line : ℕ) (xs : List Slot) (i : ℕ) (p : Place) → IsSetRow shape s xs → slice_get xs i ≡ Some (record { place = p }) → holds line p ≡ true → IsClear line xs i
 clear_at shape s line [] i p h here held = tt
 clear_at shape s line (x ∷ xs) zero p h here held =
     let slot : x ≡ record { place = p } = cc here in

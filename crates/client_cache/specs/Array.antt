@@ -46,17 +46,17 @@ abbrev pub place_of : Shape → List Slot → ℕ → Option Place
 place_of shape slots line = place_at line (row_of shape slots (set_of shape line))
 
 -- each line of a row belongs to its set, and stands there once
-abbrev pub IsRow : Shape → ℕ → List Slot → Type 0
-IsRow shape s [] = Unit {0}
-IsRow shape s (x ∷ xs) = (is_used x.place ≡ true → set_of shape x.place.line ≡ s) × (is_used x.place ≡ true → place_at x.place.line xs ≡ None) × IsRow shape s xs
+abbrev pub IsSetRow : Shape → ℕ → List Slot → Type 0
+IsSetRow shape s [] = Unit {0}
+IsSetRow shape s (x ∷ xs) = (is_used x.place ≡ true → set_of shape x.place.line ≡ s) × (is_used x.place ≡ true → place_at x.place.line xs ≡ None) × IsSetRow shape s xs
 
-pub record IsPlaced (shape : Shape) (slots : List Slot) (acquiring : FinSet nat_cmp) : Type 0 where
+pub record IsLaidOut (shape : Shape) (slots : List Slot) (acquiring : FinSet nat_cmp) : Type 0 where
   pub sets_low : 0 < shape.sets
   pub sets_high : shape.sets ≤ 64
   pub ways_low : 0 < shape.ways
   pub ways_high : shape.ways ≤ 4
   pub room : length slots ≡ shape.sets * shape.ways
-  pub rows : (s : ℕ) → s < shape.sets → IsRow shape s (row_of shape slots s)
+  pub rows : (s : ℕ) → s < shape.sets → IsSetRow shape s (row_of shape slots s)
   pub tracked : (line : ℕ) → set.contains acquiring line ≡ acquiring_in (place_of shape slots line)
 
 -- the line's slot, or one that is free for it: where it is, and the copy that the line has

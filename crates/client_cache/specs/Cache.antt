@@ -51,12 +51,12 @@ put m line None = map.remove m line
 put m line (Some h) = map.insert m line h
 
 -- the lines of this line's set that are held or of which an Acquire is outstanding, each once
-abbrev pub taken : Cache → ℕ → FinSet nat_cmp
-taken c line = set.retain (set.union (set.from_list (map.keys c.copies)) c.acquiring) (λ k. nat_eq (set_of c.shape k) (set_of c.shape line))
+abbrev pub lines_in_set : Cache → ℕ → FinSet nat_cmp
+lines_in_set c line = set.retain (set.union (set.from_list (map.keys c.copies)) c.acquiring) (λ k. nat_eq (set_of c.shape k) (set_of c.shape line))
 
 -- the line isn't held, and each way of its set is taken
 abbrev pub is_set_full : Cache → ℕ → Bool
-is_set_full c line = not (is_some (copy_at c line)) && nat_le c.shape.ways (set.len (taken c line))
+is_set_full c line = not (is_some (copy_at c line)) && nat_le c.shape.ways (set.len (lines_in_set c line))
 
 -- a miss on a line: what it waits for, or the Acquire
 abbrev pub wanted : Cache → ℕ → Grow → Want × Cache

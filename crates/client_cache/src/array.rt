@@ -2,7 +2,7 @@
 ghost use Rattle.std.specs.Prelude.{◌≡◌, ◌<◌, ◌≤◌, ◌+◌, ◌*◌, length, IfSome, IfNone, IfOk, None, slice_set, replicate};
 ghost use Rattle.client_cache.specs.Row.{IsAt, free_slot};
 ghost use Rattle.client_cache.specs.Shape.{set_of};
-ghost use Rattle.client_cache.specs.Array.{row_of, place_of, copy_in, IsRow, IsRoom, IsFull};
+ghost use Rattle.client_cache.specs.Array.{row_of, place_of, copy_in, IsSetRow, IsRoom, IsFull};
 
 use crate::held::Held;
 use crate::shape::Shape;
@@ -80,7 +80,7 @@ impl Array {
         line: u32,
         ticks: &mut Ticks<L>,
     ) -> Option<(usize, Option<Held>)>
-        requires { IsRow self.now.shape (set_of self.now.shape line) (row_of self.now.shape self.now.slots.items (set_of self.now.shape line)) }
+        requires { IsSetRow self.now.shape (set_of self.now.shape line) (row_of self.now.shape self.now.slots.items (set_of self.now.shape line)) }
         ensures room { IfSome result (λ r. IsRoom self.now.shape self.now.slots.items line r.0 r.1) }
         ensures full { IfNone result (IsFull self.now.shape self.now.slots.items line) }
         ensures looks { ticks.new ≤ ticks.old + 2 * self.now.shape.ways }

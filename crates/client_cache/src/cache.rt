@@ -36,7 +36,7 @@ impl Model for ClientCache {
     ghost use Rattle.client_cache.specs.contracts.held.Held as held;
     ghost use Rattle.client_cache.specs.contracts.shape.Shape as shape;
     ghost use Rattle.client_cache.specs.Cache.{Cache, cache_code};
-    ghost use Rattle.client_cache.specs.Array.{IsPlaced, copies_of};
+    ghost use Rattle.client_cache.specs.Array.{IsLaidOut, copies_of};
 
     ghost Value = { Cache };
 
@@ -49,7 +49,7 @@ impl Model for ClientCache {
       releasing = c.releasing;
     } };
 
-    ghost invariant = { λ c. IsPlaced c.array.shape c.array.slots.items c.acquiring };
+    ghost invariant = { λ c. IsLaidOut c.array.shape c.array.slots.items c.acquiring };
 }
 
 impl ClientCache {

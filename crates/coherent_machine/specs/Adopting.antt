@@ -26,8 +26,8 @@ abbrev pub local_of : ℕ → Row → Event
 local_of hart row = Local hart (length row.entries)
 
 -- the errors by their numbers, in the order of testing
-abbrev pub number_of : AdoptError → ℕ
-number_of Stale = 1
-number_of Empty = 2
-number_of Limit = 3
-number_of NoMemory = 4
+abbrev pub adopt_error_number : AdoptError → ℕ
+adopt_error_number Stale = 1
+adopt_error_number Empty = 2
+adopt_error_number Limit = 3
+adopt_error_number NoMemory = 4

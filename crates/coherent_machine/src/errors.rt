@@ -1,7 +1,7 @@
 //! Why a machine isn't made, a list of events isn't replayed, or a batch isn't adopted.
 
 ghost use Rattle.std.specs.Prelude.{◌≡◌};
-ghost use Rattle.coherent_machine.specs.Adopting.{number_of};
+ghost use Rattle.coherent_machine.specs.Adopting.{adopt_error_number};
 
 use machine_parts::ApplyError;
 use std::alloc::AllocError;
@@ -70,7 +70,7 @@ pub enum AdoptError {
 impl AdoptError {
     /// 1 to 4, in the order of testing.
     pub fn number(self) -> u8
-        ensures { result ≡ number_of self }
+        ensures { result ≡ adopt_error_number self }
     {
         self as u8
     }

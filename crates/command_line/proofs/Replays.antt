@@ -14,9 +14,9 @@ use Rattle.trace_text.specs.declared.script.Script.{Script}
 pub readable : EveryTraceHasAText → (s : State) → IsReached s → IsTrace s.trace
 readable law s r = subst (λ (s : State). IsTrace s.trace) r.leads (law s.trace.image s.views.config r.events r.loaded r.within)
 
-pub led : (image : Initial) (script : Script) (model : Model) (config : Config) (events : List Event) (s : State)
+pub leads_there : (image : Initial) (script : Script) (model : Model) (config : Config) (events : List Event) (s : State)
     → config ≡ config_of script model → events ≡ script.events
     → replayed_from 0 (opening image config) events ≡ Replayed.Reached s → Leads image script model s
-led image script model config events s config_is events_are p =
+leads_there image script model config events s config_is events_are p =
     subst (λ (c : Config). replayed_from 0 (opening image c) script.events ≡ Replayed.Reached s) config_is
     (subst (λ (e : List Event). replayed_from 0 (opening image config) e ≡ Replayed.Reached s) events_are p)

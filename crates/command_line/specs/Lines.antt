@@ -18,7 +18,7 @@ use Rattle.memory_model.specs.Traces.{IsLegalOrder, completed}
 use Rattle.memory_model.specs.Verdict.{fault_in}
 use Rattle.memory_model.specs.declared.Model.{Model}
 use Rattle.rvwmo_order.specs.Answers.{fault_told, refusal}
-use Rattle.rvwmo_order.specs.Codes.{number_of}
+use Rattle.rvwmo_order.specs.Codes.{code_number}
 use Rattle.rvwmo_order.specs.declared.verdict.Verdict.{Verdict}
 use Rattle.rvwmo_order.specs.declared.verdict.Verdict.TheVariants.{Legal, Fault}
 use Rattle.trace_recorder.specs.History.{History}
@@ -75,7 +75,7 @@ operation_text o = decimal o.hart ++ (codes ":" ++ decimal o.place)
 abbrev pub verdict_text : Verdict → List ℕ
 verdict_text Legal = codes "legal\n"
 verdict_text (Fault code a b) =
-    codes "fault " ++ (decimal (number_of code) ++ (codes " " ++ (operation_text a ++ (codes " " ++ (operation_text b ++ codes "\n")))))
+    codes "fault " ++ (decimal (code_number code) ++ (codes " " ++ (operation_text a ++ (codes " " ++ (operation_text b ++ codes "\n")))))
 
 -- the verdict on a trace's completed order, where the checker doesn't refuse it: legal, or the first fault that the order has
 pub record IsVerdict (model : Model) (trace : History) (verdict : Verdict) : Type 0 where

@@ -15,7 +15,7 @@ use Rattle.directory.specs.declared.answer.Sent.TheVariants.{Probes}
 use Rattle.directory.specs.declared.entry.Entry.{Entry}
 use Rattle.directory.specs.Harts.{has, harts_below}
 use Rattle.directory.specs.Lines.{Line, known_at, conflicts, probe_cap, is_probed, probed, probing, acquired, acquired_by, acquired_in, acknowledged, is_any_awaited, answered_in, probe_acked}
-use Rattle.directory.specs.Entries.{perm_of, known_of, line_of, IsSound}
+use Rattle.directory.specs.Entries.{perm_of, known_of, line_of, IsSoundEntry}
 use Rattle.directory.proofs.Entries.{known_at-line_of, length-line_of, line_of-transaction}
 use Rattle.directory.proofs.Sets.{harts_below-same, harts_below-fewer, harts_below-below, has-harts_below}
 use Rattle.directory.proofs.Sound.{in_the_way, perm_of-none}
@@ -31,14 +31,14 @@ conflicts-Nothing BtoT false = refl
 is_probed-line_of : (harts : ℕ) (e : Entry) (requester : ℕ) (grow : Grow) (h : ℕ) → h < harts → is_probed (line_of harts e) requester grow h ≡ (not (nat_eq h requester) && conflicts grow (perm_of e h))
 is_probed-line_of harts e requester grow h l = ap (λ (k : Known). not (nat_eq h requester) && conflicts grow k.perm) (known_at-line_of harts e h l)
 
-pub in_the_way-fewer : (harts : ℕ) (e : Entry) (requester : ℕ) (grow : Grow) → IsSound harts e → harts ≤ 8 → in_the_way e requester grow ≡ harts_below harts (λ h. not (nat_eq h requester) && conflicts grow (perm_of e h))
+pub in_the_way-fewer : (harts : ℕ) (e : Entry) (requester : ℕ) (grow : Grow) → IsSoundEntry harts e → harts ≤ 8 → in_the_way e requester grow ≡ harts_below harts (λ h. not (nat_eq h requester) && conflicts grow (perm_of e h))
 in_the_way-fewer harts e requester grow sound few = harts_below-fewer harts 8 (λ h. not (nat_eq h requester) && conflicts grow (perm_of e h)) few (λ h u v. ap (λ p. not (nat_eq h requester) && conflicts grow p) (perm_of-none harts e h sound u) ∙ conflicts-Nothing grow (not (nat_eq h requester)))
 
 -- only harts that are there are probed
-pub in_the_way-below : (harts : ℕ) (e : Entry) (requester : ℕ) (grow : Grow) (w : List ℕ) → w ≡ in_the_way e requester grow → IsSound harts e → harts ≤ 8 → All (λ h. h < harts) w
+pub in_the_way-below : (harts : ℕ) (e : Entry) (requester : ℕ) (grow : Grow) (w : List ℕ) → w ≡ in_the_way e requester grow → IsSoundEntry harts e → harts ≤ 8 → All (λ h. h < harts) w
 in_the_way-below harts e requester grow w w_is sound few = subst (λ (hs : List ℕ). All (λ h. h < harts) hs) (sym (w_is ∙ in_the_way-fewer harts e requester grow sound few)) (harts_below-below harts _)
 
-pub probed-line_of : (harts : ℕ) (e : Entry) (requester : ℕ) (grow : Grow) → IsSound harts e → harts ≤ 8 → probed (line_of harts e) requester grow ≡ in_the_way e requester grow
+pub probed-line_of : (harts : ℕ) (e : Entry) (requester : ℕ) (grow : Grow) → IsSoundEntry harts e → harts ≤ 8 → probed (line_of harts e) requester grow ≡ in_the_way e requester grow
 probed-line_of harts e requester grow sound few =
     ap (λ n. harts_below n (is_probed (line_of harts e) requester grow)) (length-line_of harts e)
     ∙ harts_below-same harts (is_probed (line_of harts e) requester grow) (λ h. not (nat_eq h requester) && conflicts grow (perm_of e h)) (λ h l. is_probed-line_of harts e requester grow h l)
@@ -71,7 +71,7 @@ acquired_by-some : (l : Line) (requester : ℕ) (grow : Grow) (harts : List ℕ)
 acquired_by-some l requester grow [] some = absurd (some refl)
 acquired_by-some l requester grow (h ∷ hs) some = refl
 
-pub begun_by_probes : (harts : ℕ) (e : Entry) (requester : ℕ) (grow : Grow) (w : List ℕ) → w ≡ in_the_way e requester grow → w ≢ [] → IsSound harts e → harts ≤ 8 → (Handled (Probes (probe_cap grow) w), line_of harts (record e { awaited = w; transaction = Probing requester grow })) ≡ acquired_by (line_of harts e) requester grow (probed (line_of harts e) requester grow)
+pub begun_by_probes : (harts : ℕ) (e : Entry) (requester : ℕ) (grow : Grow) (w : List ℕ) → w ≡ in_the_way e requester grow → w ≢ [] → IsSoundEntry harts e → harts ≤ 8 → (Handled (Probes (probe_cap grow) w), line_of harts (record e { awaited = w; transaction = Probing requester grow })) ≡ acquired_by (line_of harts e) requester grow (probed (line_of harts e) requester grow)
 begun_by_probes harts e requester grow w w_is some sound few =
     ap (λ (l : Line). (Handled (Probes (probe_cap grow) w), l)) (line_of-probing harts e requester grow w w_is few)
     ∙ sym (acquired_by-some (line_of harts e) requester grow w some)
@@ -110,7 +110,7 @@ one_of f a (suc n) h l u found = go (cases_eq a h) (one_of f (a + 1) n h)
     go (inl e_is) rest = ap (λ i. (f i).awaited || list_any (λ (k : Known). k.awaited) (map f (range_with_len (a + 1) n))) e_is ∙ ap (λ b. b || list_any (λ (k : Known). k.awaited) (map f (range_with_len (a + 1) n))) found
     go (inr d) rest = ap (λ b. (f a).awaited || b) (rest (omega arith) (omega arith) found) ∙ or_true (f a).awaited
 
-pub some-awaited : (harts : ℕ) (e : Entry) → IsSound harts e → e.awaited ≢ [] → is_any_awaited (line_of harts e) ≡ true
+pub some-awaited : (harts : ℕ) (e : Entry) → IsSoundEntry harts e → e.awaited ≢ [] → is_any_awaited (line_of harts e) ≡ true
 unfolding line_of
 some-awaited harts e sound some = go e.awaited refl
   where

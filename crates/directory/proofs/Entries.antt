@@ -16,7 +16,7 @@ use Rattle.directory.specs.declared.answer.Transaction.{Transaction}
 use Rattle.directory.specs.declared.answer.Transaction.TheVariants.{Idle, Granted}
 use Rattle.directory.specs.declared.entry.Entry.{Entry}
 use Rattle.directory.specs.Harts.{has, harts_below}
-use Rattle.directory.specs.Lines.{Line, unknown, known_at, noted, acknowledged, granted}
+use Rattle.directory.specs.Lines.{Line, unknown, known_at, noted, acknowledged, granting}
 use Rattle.directory.specs.Directory.{quiet}
 use Rattle.directory.specs.Entries.{perm_of, known_of, line_of, IsNoted}
 use Rattle.directory.proofs.Masks.{gone, stays}
@@ -98,9 +98,9 @@ line_of-acknowledged harts e later h change w n w_is l few =
         rw (p, a) refl
 
 -- the Grant was sent
-pub line_of-granted : (harts : ℕ) (e later : Entry) (h : ℕ) (grow : Grow) → IsNoted e later h (named_by (granted_for grow)) → h < harts → harts ≤ 8 → line_of harts (record later { transaction = Granted h }) ≡ granted (line_of harts e) h grow
+pub line_of-granting : (harts : ℕ) (e later : Entry) (h : ℕ) (grow : Grow) → IsNoted e later h (named_by (granted_for grow)) → h < harts → harts ≤ 8 → line_of harts (record later { transaction = Granted h }) ≡ granting (line_of harts e) h grow
 unfolding line_of
-line_of-granted harts e later h grow n l few =
+line_of-granting harts e later h grow n l few =
     ap (λ (x : Line). record x { transaction = Granted h }) (line_of-noted harts e later h (named_by (granted_for grow)) n l few)
 
 pub line_of-ended : (harts : ℕ) (e : Entry) → line_of harts (record e { transaction = Idle }) ≡ record (line_of harts e) { transaction = Idle }

@@ -7,7 +7,7 @@ use Rattle.directory.specs.declared.entry.Entry.{Entry}
 use Rattle.directory.specs.declared.entry.Slot.{Slot}
 use Rattle.directory.specs.Lines.{Line}
 use Rattle.directory.specs.Directory.{Notes, quiet, line_at, with_line}
-use Rattle.directory.specs.Entries.{line_of, lines_of, IsSound, AreSound}
+use Rattle.directory.specs.Entries.{line_of, lines_of, IsSoundEntry, AreSound}
 
 abbrev shown : ℕ → Slot → Line
 shown harts s = line_of harts s.entry
@@ -23,10 +23,10 @@ line_at-notes harts slots d i y e is l y_is e_is =
     ∙ ap (shown harts) (sym y_is)
     ∙ ap (line_of harts) (sym e_is)
 
-pub sound-at : (harts : ℕ) (slots : List Slot) (d : Notes) (i : ℕ) (y : Slot) (e : Entry) → notes harts slots ≡ d → AreSound harts slots → i < length d.lines → y ≡ get_or slots i y → e ≡ y.entry → IsSound harts e
+pub sound-at : (harts : ℕ) (slots : List Slot) (d : Notes) (i : ℕ) (y : Slot) (e : Entry) → notes harts slots ≡ d → AreSound harts slots → i < length d.lines → y ≡ get_or slots i y → e ≡ y.entry → IsSoundEntry harts e
 sound-at harts slots d i y e is sound l y_is e_is =
-    subst (IsSound harts) (ap (λ (s : Slot). s.entry) (sym y_is) ∙ sym e_is)
-    (All-get_or (λ (s : Slot). IsSound harts s.entry) slots i y (subst (λ n. i < n) (ap (λ (d : Notes). length d.lines) (sym is) ∙ length-map slots (shown harts)) l) sound.each)
+    subst (IsSoundEntry harts) (ap (λ (s : Slot). s.entry) (sym y_is) ∙ sym e_is)
+    (All-get_or (λ (s : Slot). IsSoundEntry harts s.entry) slots i y (subst (λ n. i < n) (ap (λ (d : Notes). length d.lines) (sym is) ∙ length-map slots (shown harts)) l) sound.each)
 
 -- a line is written
 pub notes-set : (harts : ℕ) (slots : List Slot) (d : Notes) (i : ℕ) (s : Slot) (e : Entry) → notes harts slots ≡ d → s.entry ≡ e → notes harts (set slots i s) ≡ with_line d i (line_of harts e)

@@ -13,7 +13,7 @@ use Rattle.directory.specs.declared.answer.Transaction.TheVariants.{Idle, Probin
 use Rattle.directory.specs.declared.entry.Entry.{Entry}
 use Rattle.directory.specs.Harts.{has, harts_below}
 use Rattle.directory.specs.Lines.{conflicts}
-use Rattle.directory.specs.Entries.{is_owner, perm_of, other_than, owner_after, IsNoted, OwnerBelow, is_asked_back, TransactionFits, IsSound}
+use Rattle.directory.specs.Entries.{is_owner, perm_of, other_than, owner_after, IsNoted, OwnerBelow, is_asked_back, TransactionFits, IsSoundEntry}
 use Rattle.directory.proofs.Masks.{stays, none_added, without}
 use Rattle.directory.proofs.Sets.{has-harts_below, has-harts_below_out}
 
@@ -26,7 +26,7 @@ owner-below harts (Some one) h below = go (nat_eq one h)
     go false = below
 
 -- a hart whose record isn't there
-pub perm_of-none : (harts : ℕ) (e : Entry) (h : ℕ) → IsSound harts e → harts ≤ h → perm_of e h ≡ Nothing
+pub perm_of-none : (harts : ℕ) (e : Entry) (h : ℕ) → IsSoundEntry harts e → harts ≤ h → perm_of e h ≡ Nothing
 perm_of-none harts e h sound l =
     let owner_is : is_owner e.owner h ≡ false = go e.owner sound.owner in
     rw (owner_is, sound.sharers h l) refl
@@ -35,7 +35,7 @@ perm_of-none harts e h sound l =
     go None below = refl
     go (Some one) below = grind (arith, below, l)
 
-pub sound-eight : (harts : ℕ) (e : Entry) → IsSound harts e → harts ≤ 8 → IsSound 8 e
+pub sound-eight : (harts : ℕ) (e : Entry) → IsSoundEntry harts e → harts ≤ 8 → IsSoundEntry 8 e
 sound-eight harts e sound few = record {
   sharers = λ h l. sound.sharers h (omega arith);
   awaited = λ h l. sound.awaited h (omega arith);
@@ -63,7 +63,7 @@ asked_after harts (Some one) awaited h requester few below asked = go (cases_eq 
         let kept : has (without awaited h) one ≡ has awaited one = stays awaited h one (omega arith) d in
         rw (off, kept) asked
 
-pub sound-acknowledged : (harts : ℕ) (e later : Entry) (h : ℕ) (change : Change) (w : List ℕ) → IsNoted e later h (left_by change) → w ≡ harts_below 8 (λ i. not (nat_eq i h) && has later.awaited i) → left_by change ≢ Trunk → h < harts → harts ≤ 8 → IsSound harts e → IsSound harts (record later { awaited = w })
+pub sound-acknowledged : (harts : ℕ) (e later : Entry) (h : ℕ) (change : Change) (w : List ℕ) → IsNoted e later h (left_by change) → w ≡ harts_below 8 (λ i. not (nat_eq i h) && has later.awaited i) → left_by change ≢ Trunk → h < harts → harts ≤ 8 → IsSoundEntry harts e → IsSoundEntry harts (record later { awaited = w })
 sound-acknowledged harts e later h change w n w_is shrinks l few sound = record {
   sharers = λ i u. n.sharers i (λ e_is. absurd (omega arith)) (sound.sharers i u);
   awaited = λ i u. ap (λ s. has s i) awaited_is ∙ none_added e.awaited h i (sound.awaited i u);
@@ -132,7 +132,7 @@ alone (Some one) awaited requester asked none = go (nat_eq one requester) (ap (�
     go true e_is = refl
     go false e_is = cc
 
-pub sound-probing : (harts : ℕ) (e : Entry) (requester : ℕ) (grow : Grow) (w : List ℕ) → w ≡ in_the_way e requester grow → requester < harts → harts ≤ 8 → IsSound harts e → IsSound harts (record e { awaited = w; transaction = Probing requester grow })
+pub sound-probing : (harts : ℕ) (e : Entry) (requester : ℕ) (grow : Grow) (w : List ℕ) → w ≡ in_the_way e requester grow → requester < harts → harts ≤ 8 → IsSoundEntry harts e → IsSoundEntry harts (record e { awaited = w; transaction = Probing requester grow })
 sound-probing harts e requester grow w w_is l few sound = record {
   sharers = sound.sharers;
   awaited = λ h u. ap (λ s. has s h) w_is ∙ out h u (cases_lt h 8);
@@ -148,5 +148,5 @@ sound-probing harts e requester grow w w_is l few sound = record {
     out h u (inl low) = has-harts_below 8 _ h low ∙ ap (λ p. not (nat_eq h requester) && conflicts grow p) (perm_of-none harts e h sound u) ∙ ap (λ b. not (nat_eq h requester) && b) (conflicts-Nothing grow) ∙ and_false (not (nat_eq h requester))
     out h u (inr high) = has-harts_below_out 8 _ h high
 
-pub requester-below : (harts : ℕ) (e : Entry) (requester : ℕ) (grow : Grow) → IsSound harts e → e.transaction ≡ Probing requester grow → (requester < harts) × (is_asked_back e.owner e.awaited requester ≡ true)
+pub requester-below : (harts : ℕ) (e : Entry) (requester : ℕ) (grow : Grow) → IsSoundEntry harts e → e.transaction ≡ Probing requester grow → (requester < harts) × (is_asked_back e.owner e.awaited requester ≡ true)
 requester-below harts e requester grow sound is = subst (λ t. TransactionFits harts t e.owner e.awaited) is sound.transaction

@@ -61,7 +61,7 @@ TransactionFits harts (Probing requester grow) owner awaited = (requester < hart
 TransactionFits harts (Granted hart) owner awaited = Unit {0}
 
 -- an entry names none but the harts that are there, and no other owner is left when a Grant is due
-pub record IsSound (harts : ℕ) (e : Entry) : Type 0 where
+pub record IsSoundEntry (harts : ℕ) (e : Entry) : Type 0 where
   pub sharers : (h : ℕ) → harts ≤ h → has e.sharers h ≡ false
   pub awaited : (h : ℕ) → harts ≤ h → has e.awaited h ≡ false
   pub owner : OwnerBelow harts e.owner
@@ -69,4 +69,4 @@ pub record IsSound (harts : ℕ) (e : Entry) : Type 0 where
 
 pub record AreSound (harts : ℕ) (slots : List Slot) : Type 0 where
   pub few : harts ≤ 8
-  pub each : All (λ (s : Slot). IsSound harts s.entry) slots
+  pub each : All (λ (s : Slot). IsSoundEntry harts s.entry) slots

@@ -80,12 +80,12 @@ abbrev pub grant_for : Line → ℕ → Grow → Grant
 grant_for l requester grow = record { hart = requester; cap = granted_for grow; with_data = needs_data grow (known_at l requester).perm }
 
 -- and the record takes what it grants
-abbrev pub granted : Line → ℕ → Grow → Line
-granted l requester grow = record (noted l requester (named_by (granted_for grow))) { transaction = Granted requester }
+abbrev pub granting : Line → ℕ → Grow → Line
+granting l requester grow = record (noted l requester (named_by (granted_for grow))) { transaction = Granted requester }
 
 -- an Acquire: the Probes, or the Grant where there is nobody to probe
 abbrev pub acquired_by : Line → ℕ → Grow → List ℕ → Acquired × Line
-acquired_by l requester grow [] = (Handled (Granting (grant_for l requester grow)), granted l requester grow)
+acquired_by l requester grow [] = (Handled (Granting (grant_for l requester grow)), granting l requester grow)
 acquired_by l requester grow (hart ∷ harts) = (Handled (Probes (probe_cap grow) (hart ∷ harts)), probing l requester grow)
 
 -- Busy while the line has a transaction
@@ -107,7 +107,7 @@ is_any_awaited l = list_any (λ (k : Known). k.awaited) l.known
 -- the last ProbeAck of a transaction sends its Grant
 abbrev pub answered_in : Transaction → Line → Option Grant × Line
 answered_in Idle l = (None, l)
-answered_in (Probing requester grow) l = if is_any_awaited l then (None, l) else (Some (grant_for l requester grow), granted l requester grow)
+answered_in (Probing requester grow) l = if is_any_awaited l then (None, l) else (Some (grant_for l requester grow), granting l requester grow)
 answered_in (Granted hart) l = (None, l)
 
 abbrev pub probe_acked : Line → ℕ → Change → Option Grant × Line

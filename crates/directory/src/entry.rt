@@ -2,9 +2,9 @@
 ghost use Rattle.std.specs.Prelude.{◌≡◌, ◌≢◌, ◌+◌, ◌<◌, ◌≤◌, ℕ, None, not, ◌&&◌, nat_eq, IfSome, IsTrue};
 ghost use Rattle.tl_types.specs.Permission.{left_by};
 ghost use Rattle.directory.specs.Harts.{has, harts_below};
-ghost use Rattle.directory.specs.Lines.{known_at, conflicts, probe_cap, needs_data, probed, grant_for, granted, acquired, acquired_by, answered_in, acknowledged, probe_acked, released, grant_acked};
+ghost use Rattle.directory.specs.Lines.{known_at, conflicts, probe_cap, needs_data, probed, grant_for, granting, acquired, acquired_by, answered_in, acknowledged, probe_acked, released, grant_acked};
 ghost use Rattle.directory.specs.Directory.{AnswersHarts, quiet};
-ghost use Rattle.directory.specs.Entries.{perm_of, known_of, line_of, other_than, IsNoted, OwnerBelow, is_asked_back, IsSound};
+ghost use Rattle.directory.specs.Entries.{perm_of, known_of, line_of, other_than, IsNoted, OwnerBelow, is_asked_back, IsSoundEntry};
 
 use crate::answer::{Acquired, Grant, Known, Sent, Transaction};
 use crate::harts::HartSet;
@@ -52,7 +52,7 @@ impl Entry {
     /// Nobody has the line.
     pub fn new() -> Entry
         ensures line { (harts : ℕ) → line_of harts result ≡ quiet harts }
-        ensures sound { (harts : ℕ) → IsSound harts result }
+        ensures sound { (harts : ℕ) → IsSoundEntry harts result }
     {
         Entry {
             sharers: HartSet::new(),
@@ -141,8 +141,8 @@ impl Entry {
         requires numbered { requester < 8 }
         requires alone { other_than self.owner requester ≡ None }
         ensures grant { (harts : ℕ) → requester < harts → result.0 ≡ grant_for (line_of harts self) requester grow }
-        ensures line { (harts : ℕ) → requester < harts → harts ≤ 8 → line_of harts result.1 ≡ granted (line_of harts self) requester grow }
-        ensures sound { (harts : ℕ) → requester < harts → harts ≤ 8 → IsSound harts self → IsSound harts result.1 }
+        ensures line { (harts : ℕ) → requester < harts → harts ≤ 8 → line_of harts result.1 ≡ granting (line_of harts self) requester grow }
+        ensures sound { (harts : ℕ) → requester < harts → harts ≤ 8 → IsSoundEntry harts self → IsSoundEntry harts result.1 }
     {
         let cap = grow.granted();
         let with_data = needs_data(grow, self.perm(requester));
@@ -162,10 +162,10 @@ impl Entry {
     /// A transaction begins: by Probes, or by the Grant where there is nobody to probe.
     fn begin(self, requester: u8, grow: Grow) -> (Acquired, Entry)
         requires numbered { requester < 8 }
-        requires sound { IsSound 8 self }
-        ensures meaning { (harts : ℕ) → requester < harts → harts ≤ 8 → IsSound harts self → (result.0, line_of harts result.1) ≡ acquired_by (line_of harts self) requester grow (probed (line_of harts self) requester grow) }
-        ensures harts { (harts : ℕ) → requester < harts → harts ≤ 8 → IsSound harts self → AnswersHarts harts result.0 }
-        ensures sound { (harts : ℕ) → requester < harts → harts ≤ 8 → IsSound harts self → IsSound harts result.1 }
+        requires sound { IsSoundEntry 8 self }
+        ensures meaning { (harts : ℕ) → requester < harts → harts ≤ 8 → IsSoundEntry harts self → (result.0, line_of harts result.1) ≡ acquired_by (line_of harts self) requester grow (probed (line_of harts self) requester grow) }
+        ensures harts { (harts : ℕ) → requester < harts → harts ≤ 8 → IsSoundEntry harts self → AnswersHarts harts result.0 }
+        ensures sound { (harts : ℕ) → requester < harts → harts ≤ 8 → IsSoundEntry harts self → IsSoundEntry harts result.1 }
     {
         let probes = self.probes(requester, grow);
         if probes.is_empty() {
@@ -186,10 +186,10 @@ impl Entry {
     /// An Acquire is taken.
     pub fn acquire(self, requester: u8, grow: Grow) -> (Acquired, Entry)
         requires numbered { requester < 8 }
-        requires sound { IsSound 8 self }
-        ensures meaning { (harts : ℕ) → requester < harts → harts ≤ 8 → IsSound harts self → (result.0, line_of harts result.1) ≡ acquired (line_of harts self) requester grow }
-        ensures harts { (harts : ℕ) → requester < harts → harts ≤ 8 → IsSound harts self → AnswersHarts harts result.0 }
-        ensures sound { (harts : ℕ) → requester < harts → harts ≤ 8 → IsSound harts self → IsSound harts result.1 }
+        requires sound { IsSoundEntry 8 self }
+        ensures meaning { (harts : ℕ) → requester < harts → harts ≤ 8 → IsSoundEntry harts self → (result.0, line_of harts result.1) ≡ acquired (line_of harts self) requester grow }
+        ensures harts { (harts : ℕ) → requester < harts → harts ≤ 8 → IsSoundEntry harts self → AnswersHarts harts result.0 }
+        ensures sound { (harts : ℕ) → requester < harts → harts ≤ 8 → IsSoundEntry harts self → IsSoundEntry harts result.1 }
     {
         match self.transaction {
             Transaction::Idle => self.begin(requester, grow),
@@ -202,7 +202,7 @@ impl Entry {
         requires numbered { hart < 8 }
         requires shrinks { left_by change ≢ Perm.Trunk }
         ensures line { (harts : ℕ) → hart < harts → harts ≤ 8 → line_of harts result ≡ acknowledged (line_of harts self) hart change }
-        ensures sound { (harts : ℕ) → hart < harts → harts ≤ 8 → IsSound harts self → IsSound harts result }
+        ensures sound { (harts : ℕ) → hart < harts → harts ≤ 8 → IsSoundEntry harts self → IsSoundEntry harts result }
     {
         let noted = self.note(hart, change.left());
         Entry {
@@ -215,9 +215,9 @@ impl Entry {
     fn answer(self, requester: u8, grow: Grow) -> (Option<Grant>, Entry)
         requires numbered { requester < 8 }
         requires asked { IsTrue (is_asked_back self.owner self.awaited requester) }
-        ensures meaning { (harts : ℕ) → requester < harts → harts ≤ 8 → IsSound harts self → (result.0, line_of harts result.1) ≡ answered_in (Transaction.Probing requester grow) (line_of harts self) }
-        ensures harts { (harts : ℕ) → requester < harts → harts ≤ 8 → IsSound harts self → IfSome result.0 (λ grant. grant.hart < harts) }
-        ensures sound { (harts : ℕ) → requester < harts → harts ≤ 8 → IsSound harts self → IsSound harts result.1 }
+        ensures meaning { (harts : ℕ) → requester < harts → harts ≤ 8 → IsSoundEntry harts self → (result.0, line_of harts result.1) ≡ answered_in (Transaction.Probing requester grow) (line_of harts self) }
+        ensures harts { (harts : ℕ) → requester < harts → harts ≤ 8 → IsSoundEntry harts self → IfSome result.0 (λ grant. grant.hart < harts) }
+        ensures sound { (harts : ℕ) → requester < harts → harts ≤ 8 → IsSoundEntry harts self → IsSoundEntry harts result.1 }
     {
         if self.awaited.is_empty() {
             let (grant, entry) = self.grant(requester, grow);
@@ -230,10 +230,10 @@ impl Entry {
     pub fn probe_ack(self, hart: u8, change: Change) -> (Option<Grant>, Entry)
         requires numbered { hart < 8 }
         requires shrinks { left_by change ≢ Perm.Trunk }
-        requires sound { IsSound 8 self }
-        ensures meaning { (harts : ℕ) → hart < harts → harts ≤ 8 → IsSound harts self → (result.0, line_of harts result.1) ≡ probe_acked (line_of harts self) hart change }
-        ensures harts { (harts : ℕ) → hart < harts → harts ≤ 8 → IsSound harts self → IfSome result.0 (λ grant. grant.hart < harts) }
-        ensures sound { (harts : ℕ) → hart < harts → harts ≤ 8 → IsSound harts self → IsSound harts result.1 }
+        requires sound { IsSoundEntry 8 self }
+        ensures meaning { (harts : ℕ) → hart < harts → harts ≤ 8 → IsSoundEntry harts self → (result.0, line_of harts result.1) ≡ probe_acked (line_of harts self) hart change }
+        ensures harts { (harts : ℕ) → hart < harts → harts ≤ 8 → IsSoundEntry harts self → IfSome result.0 (λ grant. grant.hart < harts) }
+        ensures sound { (harts : ℕ) → hart < harts → harts ≤ 8 → IsSoundEntry harts self → IsSoundEntry harts result.1 }
     {
         let acknowledged = self.acknowledge(hart, change);
         match acknowledged.transaction {
@@ -246,7 +246,7 @@ impl Entry {
     pub fn release(self, hart: u8) -> Entry
         requires { hart < 8 }
         ensures line { (harts : ℕ) → hart < harts → harts ≤ 8 → line_of harts result ≡ released (line_of harts self) hart }
-        ensures sound { (harts : ℕ) → hart < harts → harts ≤ 8 → IsSound harts self → IsSound harts result }
+        ensures sound { (harts : ℕ) → hart < harts → harts ≤ 8 → IsSoundEntry harts self → IsSoundEntry harts result }
     {
         self.note(hart, Perm::Nothing)
     }
@@ -254,7 +254,7 @@ impl Entry {
     /// A GrantAck is taken.
     pub fn grant_ack(self) -> Entry
         ensures line { (harts : ℕ) → line_of harts result ≡ grant_acked (line_of harts self) }
-        ensures sound { (harts : ℕ) → IsSound harts self → IsSound harts result }
+        ensures sound { (harts : ℕ) → IsSoundEntry harts self → IsSoundEntry harts result }
     {
         Entry {
             transaction: Transaction::Idle,

@@ -1,6 +1,6 @@
 //! Why a file is refused.
 ghost use Rattle.std.specs.Prelude.{◌≡◌};
-ghost use Rattle.elf_loader.specs.Error.{number_of};
+ghost use Rattle.elf_loader.specs.Error.{load_error_number};
 ghost use Rattle.elf_loader.specs.declared.error.LoadError.TheVariants.{NoMemory};
 
 use std::alloc::AllocError;
@@ -50,7 +50,7 @@ pub enum LoadError {
 impl LoadError {
     /// 1 to 11, in the order of testing.
     pub fn number(self) -> u8
-        ensures { result ≡ number_of self }
+        ensures { result ≡ load_error_number self }
     {
         self as u8
     }

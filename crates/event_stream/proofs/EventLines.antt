@@ -9,7 +9,7 @@ use Rattle.machine_model.specs.declared.event.Event.TheVariants.{Step, Drain, Ev
 use Rattle.rv32_decode.specs.declared.instruction.Instr.{Instr}
 use Rattle.text_fields.specs.Fields.{number, word}
 use Rattle.trace_text.specs.Scripts.{event, event_ended}
-use Rattle.trace_text.specs.Traces.{retired, retired_ended, retired_lead}
+use Rattle.trace_text.specs.Traces.{retired_text, retired_ended, retired_lead}
 use Rattle.trace_text.specs.Words as words
 use Rattle.event_stream.specs.Lines.{disassembled, unended}
 use Rattle.event_stream.proofs.Unended.{unended_is}
@@ -48,15 +48,15 @@ done_split : (h : ℕ) (r : Retired) (end : ℕ) → retired_lead h ++ retired_e
 done_split h r end = five (retired_lead h) (word r.pc ++ 32 ∷ []) (word r.word ++ 32 ∷ []) (words.loaded r.loaded ++ 32 ∷ []) (words.answer r.sc_ok) end
 
 -- an R line with another byte at its end
-pub retired_as : (h : ℕ) (r : Retired) (end : ℕ) → retired_lead h ++ retired_ended end r ≡ unended (retired_lead h ++ retired r) ++ end ∷ []
-retired_as h r end = done_split h r end ∙ ap (λ (t : List ℕ). t ++ end ∷ []) (unended_is (retired_lead h ++ retired r) (retired_lead h ++ done_of r) (done_split h r 10))
+pub retired_as : (h : ℕ) (r : Retired) (end : ℕ) → retired_lead h ++ retired_ended end r ≡ unended (retired_lead h ++ retired_text r) ++ end ∷ []
+retired_as h r end = done_split h r end ∙ ap (λ (t : List ℕ). t ++ end ∷ []) (unended_is (retired_lead h ++ retired_text r) (retired_lead h ++ done_of r) (done_split h r 10))
 
 regrouped : (p x a : List ℕ) (e f g : ℕ) → (((p ++ (x ++ e ∷ [])) ++ (f ∷ g ∷ [])) ++ a) ++ 10 ∷ [] ≡ p ++ (x ++ (((e ∷ f ∷ g ∷ []) ++ a) ++ 10 ∷ []))
 regrouped p x a e f g = simp append_assoc
 
-pub disassembled_line : (p : List ℕ) (h : ℕ) (r : Retired) (i : Instr) → (((p ++ (retired_lead h ++ retired_ended 32 r)) ++ codes "; ") ++ assembly (Some r.pc) i) ++ 10 ∷ [] ≡ p ++ (unended (retired_lead h ++ retired r) ++ (disassembled r.pc (Some i) ++ 10 ∷ []))
+pub disassembled_line : (p : List ℕ) (h : ℕ) (r : Retired) (i : Instr) → (((p ++ (retired_lead h ++ retired_ended 32 r)) ++ codes "; ") ++ assembly (Some r.pc) i) ++ 10 ∷ [] ≡ p ++ (unended (retired_lead h ++ retired_text r) ++ (disassembled r.pc (Some i) ++ 10 ∷ []))
 disassembled_line p h r i =
-    ap (λ (t : List ℕ). (((p ++ t) ++ codes "; ") ++ assembly (Some r.pc) i) ++ 10 ∷ []) (retired_as h r 32) ∙ regrouped p (unended (retired_lead h ++ retired r)) (assembly (Some r.pc) i) 32 59 32
+    ap (λ (t : List ℕ). (((p ++ t) ++ codes "; ") ++ assembly (Some r.pc) i) ++ 10 ∷ []) (retired_as h r 32) ∙ regrouped p (unended (retired_lead h ++ retired_text r)) (assembly (Some r.pc) i) 32 59 32
 
 events_parts : (p l w o : List ℕ) → ((((p ++ codes "E ") ++ (l ++ 32 ∷ [])) ++ (w ++ 32 ∷ [])) ++ o) ++ 10 ∷ [] ≡ p ++ (codes "E " ++ (l ++ (32 ∷ (w ++ (32 ∷ (o ++ 10 ∷ []))))))
 events_parts p l w o = simp append_assoc

@@ -33,7 +33,7 @@ disassembled pc (Some i) = codes " ; " ++ assembly (Some pc) i
 
 -- a trace's R line, and the instruction behind it
 abbrev pub retired_line : ℕ → Retired → List ℕ
-retired_line h r = unended (trace.retired_lead h ++ trace.retired r) ++ (disassembled r.pc (decoded r.word) ++ 10 ∷ [])
+retired_line h r = unended (trace.retired_lead h ++ trace.retired_text r) ++ (disassembled r.pc (decoded r.word) ++ 10 ∷ [])
 
 -- a number that a hart put out
 abbrev pub output_line : ℕ → ℕ → List ℕ

@@ -13,7 +13,7 @@ use Rattle.std.proofs.lemmas.Bool.{leb-false, eq-eqb}
 use Rattle.std.proofs.lemmas.Bool.Decides.{eqb_tells}
 use Rattle.client_cache.proofs.AtLines.{insert_other, put_other, remove_other}
 use Rattle.client_cache.proofs.Counts.{keys-get}
-use Rattle.client_cache.specs.Cache.{Cache, copy_at, evicted, evicted_copy, granted, opening as cache_opening, probed, probed_copy, put, taken as taken_ways, wanted, word_written, word_written_in}
+use Rattle.client_cache.specs.Cache.{Cache, copy_at, evicted, evicted_copy, granted, opening as cache_opening, probed, probed_copy, put, lines_in_set as taken_ways, wanted, word_written, word_written_in}
 use Rattle.client_cache.specs.Held.{bytes_in, eviction_of, granted_copy, shrunk_copy}
 use Rattle.client_cache.specs.Shape.{set_of}
 use Rattle.client_cache.specs.Word.{with_word}

@@ -8,7 +8,7 @@ use Rattle.flat_model.specs.Events.{IsBad, Keeps, after_events, verdict}
 use Rattle.flat_model.specs.Flat.{Flat, node_at, opening, word_in}
 use Rattle.machine_model.specs.declared.config.Config.{Config}
 use Rattle.machine_model.specs.declared.outcome.Outcome.TheVariants.{MustDrain, NoEntry}
-use Rattle.machine_model.specs.Words.{number_of}
+use Rattle.machine_model.specs.Words.{number_of_bytes}
 use Rattle.memory_model.specs.Examples.{bytes_of_words}
 use Rattle.memory_model.specs.declared.Model.TheVariants.{Rvwmo}
 
@@ -31,7 +31,7 @@ abbrev pub register : Flat → (hart number : ℕ) → ℕ
 register f h r = slice_index (node_at f h).hart.regs r
 
 abbrev pub word_of_memory : Flat → ℕ → ℕ
-word_of_memory f address = number_of (word_in f.memory address)
+word_of_memory f address = number_of_bytes (word_in f.memory address)
 
 -- ---- a load takes its word from a store that waits, and memory has it when the store drains
 -- auipc x5, 0; sw x5, 0(x5); lw x6, 0(x5)

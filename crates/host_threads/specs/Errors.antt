@@ -7,12 +7,12 @@ use Rattle.host_threads.specs.declared.report.Fault.TheVariants as fault
 use Rattle.host_threads.specs.declared.report.RunError.{RunError}
 use Rattle.host_threads.specs.declared.report.RunError.TheVariants.{Config, NoMemory, Thread, Mismatch, BadEvent}
 
-abbrev pub number_of : RunError → ℕ
-number_of Config = 1
-number_of NoMemory = 2
-number_of Thread = 3
-number_of Mismatch = 4
-number_of BadEvent = 5
+abbrev pub run_error_number : RunError → ℕ
+run_error_number Config = 1
+run_error_number NoMemory = 2
+run_error_number Thread = 3
+run_error_number Mismatch = 4
+run_error_number BadEvent = 5
 
 abbrev pub of_new : NewError → RunError
 of_new new.Config = Config

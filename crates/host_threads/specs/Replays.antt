@@ -8,16 +8,16 @@ use Rattle.machine_model.specs.Events.{after_events}
 use Rattle.machine_model.specs.Views.{State, opening}
 
 -- where the report's journal leads from reset
-abbrev pub led : Initial → Config → Report → State
-led image config report = after_events (opening image config) report.journal.items
+abbrev pub end_of_journal : Initial → Config → Report → State
+end_of_journal image config report = after_events (opening image config) report.journal.items
 
 -- trace and outputs are those to which the journal leads, and the receipts, one a hart, add up to its length
 pub record IsOf (image : Initial) (config : Config) (report : Report) : Type 0 where
-  pub trace : report.trace.history ≡ (led image config report).trace
-  pub outputs : map (λ output. output.items) report.outputs.items ≡ map (λ node. node.output) (led image config report).views.nodes
+  pub trace : report.trace.history ≡ (end_of_journal image config report).trace
+  pub outputs : map (λ output. output.items) report.outputs.items ≡ map (λ node. node.output) (end_of_journal image config report).views.nodes
   pub receipts : sum report.receipts.items ≡ length report.journal.items
   pub harts : length report.receipts.items ≡ config.harts
 
 -- no event of the journal is refused on the way there
-abbrev pub Replays : Initial → Config → Report → Type 0
-Replays image config report = replayed_from 0 (opening image config) report.journal.items ≡ Replayed.Reached (led image config report)
+abbrev pub JournalReplays : Initial → Config → Report → Type 0
+JournalReplays image config report = replayed_from 0 (opening image config) report.journal.items ≡ Replayed.Reached (end_of_journal image config report)

@@ -1,7 +1,7 @@
 //! What a run leaves, or why it leaves nothing.
 
 ghost use Rattle.std.specs.Prelude.{◌≡◌};
-ghost use Rattle.host_threads.specs.Errors.{number_of};
+ghost use Rattle.host_threads.specs.Errors.{run_error_number};
 
 use coherent_machine::NewError;
 use machine_model::Event;
@@ -44,7 +44,7 @@ pub enum RunError {
 impl RunError {
     /// 1 to 5.
     pub fn number(self) -> u8
-        ensures { result ≡ number_of self }
+        ensures { result ≡ run_error_number self }
     {
         self as u8
     }

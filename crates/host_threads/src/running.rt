@@ -3,7 +3,7 @@
 ghost use Rattle.std.specs.Prelude.{◌≡◌, ◌≢◌, ◌↔◌, ◌⊎◌, Err, IfOk, IsTrue, false, vec_len};
 ghost use Rattle.std.specs.List.{All};
 ghost use Rattle.coherent_machine.specs.Machine.{IsReached};
-ghost use Rattle.host_threads.specs.Replays.{IsOf, Replays, led};
+ghost use Rattle.host_threads.specs.Replays.{IsOf, JournalReplays, end_of_journal};
 ghost use Rattle.machine_model.specs.Config as limits;
 ghost use Rattle.machine_model.specs.LawfulLog.{IsLawfulLog};
 ghost use Rattle.machine_model.specs.Laws.{IsHeadline};
@@ -38,9 +38,9 @@ pub fn run<G: Gate + Sync, R: Threads + Wait + Sync>(
     gate: &G,
 ) -> Result<Report, RunError>
     ensures report { IfOk result (λ report. IsOf image config report) }
-    ensures replays { IfOk result (λ report. Replays image config report) }
-    ensures reached { IfOk result (λ report. IsReached (led image config report)) }
-    ensures headline { IfOk result (λ report. IsHeadline image config (led image config report)) }
+    ensures replays { IfOk result (λ report. JournalReplays image config report) }
+    ensures reached { IfOk result (λ report. IsReached (end_of_journal image config report)) }
+    ensures headline { IfOk result (λ report. IsHeadline image config (end_of_journal image config report)) }
     ensures log { IfOk result (λ report. IsLawfulLog report.trace.history.log) }
     ensures config { (result ≡ Err RunError.Config) ↔ (limits.is_within_limits config ≡ false) }
 {
@@ -75,9 +75,9 @@ pub fn run_with<G: Gate + Sync, T: Turn + Drop + Send, R: Threads + Wait + Sync>
     turns: Vec<T>,
 ) -> Result<Report, RunError>
     ensures report { IfOk result (λ report. IsOf image config report) }
-    ensures replays { IfOk result (λ report. Replays image config report) }
-    ensures reached { IfOk result (λ report. IsReached (led image config report)) }
-    ensures headline { IfOk result (λ report. IsHeadline image config (led image config report)) }
+    ensures replays { IfOk result (λ report. JournalReplays image config report) }
+    ensures reached { IfOk result (λ report. IsReached (end_of_journal image config report)) }
+    ensures headline { IfOk result (λ report. IsHeadline image config (end_of_journal image config report)) }
     ensures log { IfOk result (λ report. IsLawfulLog report.trace.history.log) }
     ensures config { (result ≡ Err RunError.Config) ↔ ((limits.is_within_limits config ≡ false) ⊎ (vec_len turns ≢ config.harts)) }
 {
@@ -122,9 +122,9 @@ fn run_counted<
     requires seats { vec_len seats ≡ common.now.config.harts }
     requires turns { vec_len turns ≡ common.now.config.harts }
     ensures report { IfOk result (λ report. IsOf image common.now.config report) }
-    ensures replays { IfOk result (λ report. Replays image common.now.config report) }
-    ensures reached { IfOk result (λ report. IsReached (led image common.now.config report)) }
-    ensures headline { IfOk result (λ report. IsHeadline image common.now.config (led image common.now.config report)) }
+    ensures replays { IfOk result (λ report. JournalReplays image common.now.config report) }
+    ensures reached { IfOk result (λ report. IsReached (end_of_journal image common.now.config report)) }
+    ensures headline { IfOk result (λ report. IsHeadline image common.now.config (end_of_journal image common.now.config report)) }
     ensures log { IfOk result (λ report. IsLawfulLog report.trace.history.log) }
     ensures config { result ≢ Err RunError.Config }
 {

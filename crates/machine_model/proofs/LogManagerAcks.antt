@@ -7,7 +7,7 @@ use Rattle.std.proofs.lemmas.List.{get_or-set_other}
 use mathlib.Core.Logic.{◌⊎◌, inl, inr}
 use native.Mathlib.Omega.{arith}
 use Rattle.directory.specs.Directory.{Notes, line_at, with_line}
-use Rattle.directory.specs.Lines.{Line, acknowledged, answered_in, grant_for, granted, is_any_awaited, known_at, unknown}
+use Rattle.directory.specs.Lines.{Line, acknowledged, answered_in, grant_for, granting, is_any_awaited, known_at, unknown}
 use Rattle.directory.specs.declared.answer.Grant.{Grant as Granting}
 use Rattle.directory.specs.declared.answer.Known.{Known}
 use Rattle.directory.specs.declared.answer.Transaction.{Transaction}
@@ -186,12 +186,12 @@ module _ (s : State) (p : IsPlain s) (h : ℕ) (in_h : h < length s.views.nodes)
         ∙ ap (λ b. not (is_BtoT g && not b)) (sym (lost_out r l log h m (ap (λ b. b && is_loss body) elsewhere))))
 
     -- `u` is the state once the data, if any, went to memory
-    grants_last : (u : State) → u.trace ≡ s1.trace → u.views.config ≡ s1.views.config → u.views.notes ≡ s1.views.notes → IsGoverned u → IsGoverned (sent_grant l (grant_for y r g) (with_notes (with_line s.views.notes place (granted y r g)) u))
+    grants_last : (u : State) → u.trace ≡ s1.trace → u.views.config ≡ s1.views.config → u.views.notes ≡ s1.views.notes → IsGoverned u → IsGoverned (sent_grant l (grant_for y r g) (with_notes (with_line s.views.notes place (granting y r g)) u))
     grants_last u trace config notes j =
-        let noted_now : State = with_notes (with_line s.views.notes place (granted y r g)) u in
+        let noted_now : State = with_notes (with_line s.views.notes place (granting y r g)) u in
         sent_governed r (record { line = l; body = grant_body (grant_for y r g) (line_in_memory noted_now l) }) noted_now (subst (λ c. r < c) (ap (λ (c : Config). c.harts) (sym config)) (in_c r in_r))
         (λ _. subst (λ logged. may_send (grant_body (grant_for y r g) (line_in_memory noted_now l)) r l logged ≡ true) (ap (λ (t : History). t.log) (sym trace)) (may_grant_now y g r l log1 (line_in_memory noted_now l) may_grant_it lacks))
-        (same_governed u noted_now (noted_same u noted_now place (granted y r g) refl refl (ap (λ (x : Notes). with_line x place (granted y r g)) (sym notes)) (λ k grow e. cc e)) j)
+        (same_governed u noted_now (noted_same u noted_now place (granting y r g) refl refl (ap (λ (x : Notes). with_line x place (granting y r g)) (sym notes)) (λ k grow e. cc e)) j)
 
   then_granted : (u : State) → u.trace ≡ s1.trace → u.views.config ≡ s1.views.config → u.views.notes ≡ s1.views.notes → IsGoverned u →
       IsGoverned (sent_if_granted l (answered_in own.transaction y).0 (with_notes (with_line s.views.notes place (answered_in own.transaction y).1) u))
@@ -201,7 +201,7 @@ module _ (s : State) (p : IsPlain s) (h : ℕ) (in_h : h < length s.views.nodes)
       stays = same_governed u (with_notes (with_line s.views.notes place y) u) (noted_same u (with_notes (with_line s.views.notes place y) u) place y refl refl (ap (λ (x : Notes). with_line x place y) (sym notes)) (λ k grow e. ap (λ (x : Notes). (line_at x place).transaction) notes ∙ e)) j
 
       choice : Bool → ℕ → Grow → Option Granting × Line
-      choice t r g = if t then (None, y) else (Some (grant_for y r g), granted y r g)
+      choice t r g = if t then (None, y) else (Some (grant_for y r g), granting y r g)
 
       asks : (r : ℕ) (g : Grow) → own.transaction ≡ Probing r g → (t : Bool) → is_any_awaited y ≡ t → IsGoverned (sent_if_granted l (choice t r g).0 (with_notes (with_line s.views.notes place (choice t r g).1) u))
       asks r g e true a = stays

@@ -27,17 +27,17 @@ Same c d = (is_on c d ≡ true) × (c ≡ d) × ((w : Waiting) (ms : List Msg) �
 abbrev Other : Channel → Channel → Type 0
 Other c d = (is_on c d ≡ false) × ((w : Waiting) (ms : List Msg) → queue_of (with_queue w d ms) c ≡ queue_of w c)
 
-told : (c d : Channel) → Same c d ⊎ Other c d
-told A A = inl (refl, refl, λ w ms. refl)
-told A _ = inr (refl, λ w ms. refl)
-told B B = inl (refl, refl, λ w ms. refl)
-told B _ = inr (refl, λ w ms. refl)
-told C C = inl (refl, refl, λ w ms. refl)
-told C _ = inr (refl, λ w ms. refl)
-told D D = inl (refl, refl, λ w ms. refl)
-told D _ = inr (refl, λ w ms. refl)
-told E E = inl (refl, refl, λ w ms. refl)
-told E _ = inr (refl, λ w ms. refl)
+compared : (c d : Channel) → Same c d ⊎ Other c d
+compared A A = inl (refl, refl, λ w ms. refl)
+compared A _ = inr (refl, λ w ms. refl)
+compared B B = inl (refl, refl, λ w ms. refl)
+compared B _ = inr (refl, λ w ms. refl)
+compared C C = inl (refl, refl, λ w ms. refl)
+compared C _ = inr (refl, λ w ms. refl)
+compared D D = inl (refl, refl, λ w ms. refl)
+compared D _ = inr (refl, λ w ms. refl)
+compared E E = inl (refl, refl, λ w ms. refl)
+compared E _ = inr (refl, λ w ms. refl)
 
 -- what stands at a place doesn't depend on what would stand beyond the end
 pub same_within : (nodes : List Node) (h : ℕ) (d e : Node) → h < length nodes → slice_index_or nodes h d ≡ slice_index_or nodes h e
@@ -62,7 +62,7 @@ module _ (nodes : List Node) (h : ℕ) (none : Node) (m : Msg) (ms : List Msg) w
   IsOther k d c = (is_in c k h m ≡ false) × (waits (slice_set nodes h put) k d c ≡ waits nodes k d c)
 
   look : (k : ℕ) (d : Node) (c : Channel) → k < length nodes → IsOwn k d c ⊎ IsOther k d c
-  look k d c l = go (eqb_tells h k) (told c (channel_of m))
+  look k d c l = go (eqb_tells h k) (compared c (channel_of m))
     where
       within : h ≡ k → h < length nodes
       within e = subst (λ j. j < length nodes) (sym e) l
@@ -202,7 +202,7 @@ behind_are_on c [] ys all = all
 behind_are_on c (x ∷ xs) ys all = behind_are_on c xs ys all.1
 
 pub front_channel : (s : State) → IsInOrder s → (c : Channel) (h : ℕ) (m : Msg) (rest : List Msg) → h < length s.views.nodes → queue_of (node_at s h).queues c ≡ m ∷ rest → c ≡ channel_of m
-front_channel s i c h m rest in_h front = go (told c (channel_of m))
+front_channel s i c h m rest in_h front = go (compared c (channel_of m))
   where
     on : is_on c (channel_of m) ≡ true
     on = (behind_are_on c (taken_on c h s.trace.log) (m ∷ rest) (subst (AreOn c) (sym (i.waiting c h (no_node s) in_h) ∙ ap (λ q. taken_on c h s.trace.log ++ q) front) (sent_are_on c h s.trace.log))).0

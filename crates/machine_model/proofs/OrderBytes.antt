@@ -3,7 +3,7 @@ use Rattle.std.proofs.Common.{◌≡◌, ℕ, zero, suc, ◌+◌, ◌-◌, ◌*�
 use Rattle.std.specs.Prelude.{nat_eq, nat_le, nat_lt, is_some, unwrap_or, slice_index}
 use Rattle.std.specs.List.{AllByRecursion as Each, filter, last_or}
 use Rattle.std.proofs.lemmas.Bool.{false≢true, true≢false, and_parts, and_from, eqb-true, eqb-false, leb-true, ltb-true, le-leb, lt-ltb, false_from_ne_true}
-use Rattle.machine_model.specs.Words.{word_of, number_of, read_from, bytes_of_word}
+use Rattle.machine_model.specs.Words.{word_of, number_of_bytes, read_from, bytes_of_word}
 use Rattle.machine_model.proofs.OrderKept.{IsWaiting}
 use Rattle.machine_model.proofs.OrderRules.{touches_word}
 use Rattle.machine_model.proofs.OrderSteps.{store_of_operation, stores_of}
@@ -17,7 +17,7 @@ use Rattle.store_buffer.specs.Stores.{last_byte, stored_byte}
 -- ---- numbers
 
 -- a number's byte is one of its four digits
-digit_at : (b0 b1 b2 b3 k : ℕ) → b0 < 256 → b1 < 256 → b2 < 256 → b3 < 256 → k < 4 → number_of (b0 ∷ b1 ∷ b2 ∷ b3 ∷ []) / 256 ^ k % 256 ≡ slice_index (b0 ∷ b1 ∷ b2 ∷ b3 ∷ []) k
+digit_at : (b0 b1 b2 b3 k : ℕ) → b0 < 256 → b1 < 256 → b2 < 256 → b3 < 256 → k < 4 → number_of_bytes (b0 ∷ b1 ∷ b2 ∷ b3 ∷ []) / 256 ^ k % 256 ≡ slice_index (b0 ∷ b1 ∷ b2 ∷ b3 ∷ []) k
 digit_at b0 b1 b2 b3 zero l0 l1 l2 l3 l = omega (arith, l0, l1, l2, l3)
 digit_at b0 b1 b2 b3 (suc zero) l0 l1 l2 l3 l = omega (arith, l0, l1, l2, l3)
 digit_at b0 b1 b2 b3 (suc (suc zero)) l0 l1 l2 l3 l = omega (arith, l0, l1, l2, l3)
@@ -97,8 +97,8 @@ mark_at f (suc (suc (suc (suc k)))) l = absurd (omega (arith, l))
 pub read_byte : (f : ℕ → ℕ) → ((k : ℕ) → k < 4 → f k < 256) → (address bytes x : ℕ) → address % 4 + bytes ≤ 4 → address ≤ x → x < address + bytes → byte_at address (read_from (each_place f) address bytes) x ≡ f (x - word_of address)
 read_byte f small address bytes x fit l m =
     let k : address % 4 + (x - address) < 4 = omega (arith, fit, l, m) in
-    low_bytes (number_of (each_place f) / 256 ^ (address % 4)) bytes (x - address) (omega (arith, l, m)) (omega (arith, fit))
-    ∙ (shifted_on (number_of (each_place f)) (address % 4) (x - address) k
+    low_bytes (number_of_bytes (each_place f) / 256 ^ (address % 4)) bytes (x - address) (omega (arith, l, m)) (omega (arith, fit))
+    ∙ (shifted_on (number_of_bytes (each_place f)) (address % 4) (x - address) k
     ∙ (digit_at (f 0) (f 1) (f 2) (f 3) (address % 4 + (x - address)) (small 0 (omega arith)) (small 1 (omega arith)) (small 2 (omega arith)) (small 3 (omega arith)) k
     ∙ (place_at f (address % 4 + (x - address)) k ∙ ap f (omega (arith, l)))))
 

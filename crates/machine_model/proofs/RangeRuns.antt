@@ -14,7 +14,7 @@ use Rattle.hart.specs.declared.status.Status.{Status}
 use Rattle.hart.specs.declared.status.Status.TheVariants.{Stopped, Exited}
 use Rattle.hart.specs.Run.{after, are_steps, at_reset, can_fetch, does, has_answers, is_below, is_code, is_run, is_running, is_step, next_stop, reached, status_fits, stop_with}
 use Rattle.hart.proofs.Endings.{runs_end_as_their_lists, step_does}
-use Rattle.machine_model.specs.Ranges.{HasCode, HasWords, IsPlaced}
+use Rattle.machine_model.specs.Ranges.{HasCode, HasWords, NamesPlace}
 use Rattle.memory_model.specs.Items.{has_operation}
 use Rattle.memory_model.specs.Traces.{are_runs_from, is_among, is_named, names_from, names_in, names_of_harts}
 use Rattle.rv32_decode.specs.Rows.{decoded}
@@ -202,7 +202,7 @@ in_lists id (entries ∷ lists) name e =
     go behind (inl f) = let p = in_list id 0 entries name f in (zero, omega (arith, p.0), omega arith, omega (arith, p.1))
     go behind (inr f) = let p = behind f in (suc p.0, omega (arith, p.1), omega (arith, p.2), p.3)
 
-pub named_in_range : (t : History) (names : List OpId) → list_all (is_among (names_in t)) names ≡ true → AllByRecursion (IsPlaced t) names
+pub named_in_range : (t : History) (names : List OpId) → list_all (is_among (names_in t)) names ≡ true → AllByRecursion (NamesPlace t) names
 named_in_range t [] e = tt
 named_in_range t (name ∷ names) e =
     let p = and_parts (is_among (names_in t) name) (list_all (is_among (names_in t)) names) e in

@@ -20,7 +20,7 @@ use Rattle.machine_model.specs.declared.outcome.Outcome.TheVariants as outcome
 use Rattle.machine_model.specs.Deciding.{miss_by, reading, reading_by, writing, writing_by}
 use Rattle.machine_model.specs.Steps.{Fetched, retires, plan_load, plan_store, plan_reserve, plan_conditional, plan_amo, plan_fence, plan_access, plan_instr, plan_unless, plan_step, waits_for_stores, write_waits, update}
 use Rattle.machine_model.specs.Views.{Node, line_of}
-use Rattle.machine_model.specs.Words.{word_of, word_in, number_of, read_from, store_of}
+use Rattle.machine_model.specs.Words.{word_of, word_in, number_of_bytes, read_from, store_of}
 use Rattle.memory_model.specs.declared.Model.{Model}
 use Rattle.memory_model.specs.declared.operation.Kind.TheVariants.{Load, Store}
 use Rattle.memory_model.specs.Rules.{fences}
@@ -65,7 +65,7 @@ writing_answers n f a go c line (Some (Trunk dirty bytes)) g = g bytes
 
 -- a raw value fits its bytes
 fits_bytes : (word : List ℕ) (address bytes : ℕ) → nat_lt (read_from word address bytes) (256 ^ bytes) ≡ true
-fits_bytes word address bytes = lt-ltb (read_from word address bytes) (256 ^ bytes) (mod-lt (number_of word / 256 ^ (address % 4)) (one-le-pow bytes 256 (omega arith)))
+fits_bytes word address bytes = lt-ltb (read_from word address bytes) (256 ^ bytes) (mod-lt (number_of_bytes word / 256 ^ (address % 4)) (one-le-pow bytes 256 (omega arith)))
 
 fits_load : (word : List ℕ) (address bytes : ℕ) → (nat_lt (read_from word address bytes) (256 ^ bytes) && true) ≡ true
 fits_load word address bytes = and_from _ _ (fits_bytes word address bytes) refl

@@ -12,7 +12,7 @@ use Rattle.directory.specs.Directory as directory
 use Rattle.directory.specs.Directory.{Notes, line_at, quiet, with_line}
 use Rattle.directory.proofs.Sets.{has-harts_below}
 use Rattle.directory.specs.Harts.{harts_below, has}
-use Rattle.directory.specs.Lines.{Line, acknowledged, acquired_by, acquired_in, answered_in, grant_for, granted, is_any_awaited, is_probed, known_at, probe_cap, probed, probing, unknown}
+use Rattle.directory.specs.Lines.{Line, acknowledged, acquired_by, acquired_in, answered_in, grant_for, granting, is_any_awaited, is_probed, known_at, probe_cap, probed, probing, unknown}
 use Rattle.directory.specs.declared.answer.Acquired.TheVariants.{Handled}
 use Rattle.directory.specs.declared.answer.Grant.{Grant as Granting}
 use Rattle.directory.specs.declared.answer.Known.{Known}
@@ -151,15 +151,15 @@ module _ (l : ℕ) (cap : Cap) where
 
 -- once nobody is awaited, the Grant is sent
 grant_fits : (s : State) (last : ℕ → LineData) (l r : ℕ) (g : Grow) → IsFit s last → is_line s.trace.image (line_size s) (length s.views.nodes) l ≡ true → (y : Line) → line_at s.views.notes (place_of (line_size s) l) ≡ y → y.transaction ≡ Probing r g → is_any_awaited y ≡ false →
-    IsFit (sent_grant l (grant_for y r g) (with_notes (with_line s.views.notes (place_of (line_size s) l) (granted y r g)) s)) last
-grant_fits s last l r g i on y e asks none = subst (λ (z : Line). IsFit (sent_grant l (grant_for z r g) (with_notes (with_line s.views.notes (place_of (line_size s) l) (granted z r g)) s)) last) e
+    IsFit (sent_grant l (grant_for y r g) (with_notes (with_line s.views.notes (place_of (line_size s) l) (granting y r g)) s)) last
+grant_fits s last l r g i on y e asks none = subst (λ (z : Line). IsFit (sent_grant l (grant_for z r g) (with_notes (with_line s.views.notes (place_of (line_size s) l) (granting z r g)) s)) last) e
     (fits_queues s t last i (keeps_framed s t r _ f refl refl) (grants s.trace.image (line_size s) (length s.views.nodes) (kit_at s) (kit_at t) s.views.notes s.views.memory last l on i.well r g (ap (λ (z : Line). z.transaction) e ∙ asks) (ap is_any_awaited e ∙ none) (kit_changed s t r _ f)))
   where
     own : Line
     own = line_at s.views.notes (place_of (line_size s) l)
 
     s1 : State
-    s1 = with_notes (with_line s.views.notes (place_of (line_size s) l) (granted own r g)) s
+    s1 = with_notes (with_line s.views.notes (place_of (line_size s) l) (granting own r g)) s
 
     t : State
     t = sent_grant l (grant_for own r g) s1
@@ -310,11 +310,11 @@ module _ (s : State) (last : ℕ → LineData) (i : IsFit s last) (h : ℕ) (in_
       twice later = ap (λ c. with_line w.views.notes (place_of (size_of_config c) l) later) config ∙ ap (λ ls. record s.views.notes { lines = ls }) (set-set s.views.notes.lines p y later)
 
       choice : Bool → ℕ → Grow → Option Granting × Line
-      choice t r g = if t then (None, y) else (Some (grant_for y r g), granted y r g)
+      choice t r g = if t then (None, y) else (Some (grant_for y r g), granting y r g)
 
       asks : (r : ℕ) (g : Grow) → y.transaction ≡ Probing r g → (t : Bool) → is_any_awaited y ≡ t → IsFit (sent_if_granted l (choice t r g).0 (with_notes (with_line s.views.notes p (choice t r g).1) u)) last
       asks r g e true a = fit
-      asks r g e false a = subst (λ ns. IsFit (sent_grant l (grant_for y r g) (with_notes ns u)) last) (twice (granted y r g)) (grant_fits w last l r g fit on y at_place e a)
+      asks r g e false a = subst (λ ns. IsFit (sent_grant l (grant_for y r g) (with_notes ns u)) last) (twice (granting y r g)) (grant_fits w last l r g fit on y at_place e a)
 
       go : (t : Transaction) → y.transaction ≡ t → IsFit (sent_if_granted l (answered_in t y).0 (with_notes (with_line s.views.notes p (answered_in t y).1) u)) last
       go Idle e = fit
@@ -362,7 +362,7 @@ module _ (s : State) (last : ℕ → LineData) (i : IsFit s last) (h : ℕ) (in_
     f1 = framed_taken s h (record { line = l; body = AcquireBlock g }) in_h
 
     -- the Grant at once
-    at_once : (own l).transaction ≡ Idle → probed (own l) h g ≡ [] → IsFit (sent_grant l (grant_for (own l) h g) (with_notes (with_line s.views.notes (place_of (line_size s) l) (granted (own l) h g)) s1)) last
+    at_once : (own l).transaction ≡ Idle → probed (own l) h g ≡ [] → IsFit (sent_grant l (grant_for (own l) h g) (with_notes (with_line s.views.notes (place_of (line_size s) l) (granting (own l) h g)) s1)) last
     at_once idle none = fits_queues s t last i (keeps_framed s t h _ f refl refl)
         (grants_at_once s.trace.image (line_size s) (length s.views.nodes) (kit_at s) (kit_at t) s.views.notes s.views.memory last l on i.well h g (kit_of (sent_to m n1)) (of_line l rest) idle (front_here l n.queues.a (AcquireBlock g) rest front)
         (λ j lt. unprobed j (rw (i.well.known l on) lt)) in_h (kit_changed s t h _ f)
@@ -373,10 +373,10 @@ module _ (s : State) (last : ℕ → LineData) (i : IsFit s last) (h : ℕ) (in_
         m = record { line = l; body = grant_body (grant_for (own l) h g) (line_in_memory s l) }
 
         t : State
-        t = sent_grant l (grant_for (own l) h g) (with_notes (with_line s.views.notes (place_of (line_size s) l) (granted (own l) h g)) s1)
+        t = sent_grant l (grant_for (own l) h g) (with_notes (with_line s.views.notes (place_of (line_size s) l) (granting (own l) h g)) s1)
 
         f : Framed s t h (sent_to m n1)
-        f = framed_sent s (with_notes (with_line s.views.notes (place_of (line_size s) l) (granted (own l) h g)) s1) h n1 m in_h (record { here = f1.here; there = f1.there; count = f1.count; image = refl; config = refl })
+        f = framed_sent s (with_notes (with_line s.views.notes (place_of (line_size s) l) (granting (own l) h g)) s1) h n1 m in_h (record { here = f1.here; there = f1.there; count = f1.count; image = refl; config = refl })
 
         unprobed : (j : ℕ) → j < length (own l).known → is_probed (own l) h g j ≡ false
         unprobed j lt = sym (has-harts_below (length (own l).known) (is_probed (own l) h g) j lt) ∙ ap (λ hs. has hs j) none

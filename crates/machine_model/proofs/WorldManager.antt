@@ -9,7 +9,7 @@ use mathlib.Core.Logic.{◌⊎◌, inl, inr}
 use native.Mathlib.Omega.{arith}
 use Rattle.backing_memory.specs.Memory as memory
 use Rattle.directory.specs.Directory.{Notes, with_line}
-use Rattle.directory.specs.Lines.{Line, conflicts, grant_acked, grant_for, granted, is_any_awaited, is_probed, known_at, probe_cap, probing, unknown}
+use Rattle.directory.specs.Lines.{Line, conflicts, grant_acked, grant_for, granting, is_any_awaited, is_probed, known_at, probe_cap, probing, unknown}
 use Rattle.directory.specs.declared.answer.Grant.{Grant as Granting}
 use Rattle.directory.specs.declared.answer.Known.{Known}
 use Rattle.directory.specs.declared.answer.Transaction.TheVariants.{Idle, Probing}
@@ -130,8 +130,8 @@ module _ (image : Initial) (size : LineSize) (harts : ℕ) (f k : ℕ → Kit) (
 
   -- the Grant, once nobody is awaited
   pub grants : (r : ℕ) (g : Grow) → own.transaction ≡ Probing r g → is_any_awaited own ≡ false →
-      KitChanged f k r (record (f r) { queues = pushed (f r).queues (record { line = l; body = grant_body (grant_for own r g) at_home }) }) → IsWell image size harts k (given_notes (granted own r g)) cells last
-  grants r g e none c = keeps_memory (granted own r g) (step image size harts f k notes cells last last l (granted own r g) at_home on i
+      KitChanged f k r (record (f r) { queues = pushed (f r).queues (record { line = l; body = grant_body (grant_for own r g) at_home }) }) → IsWell image size harts k (given_notes (granting own r g)) cells last
+  grants r g e none c = keeps_memory (granting own r g) (step image size harts f k notes cells last last l (granting own r g) at_home on i
       (elsewhere_by r _ c (λ q ne z. pushed_elsewhere _ (f r).queues z q (record { line = l; body = grant_body (grant_for own r g) at_home }) (λ s. ne (sym s))))
       (λ q ne. refl)
       (kept.granted (sides image size harts f own l) _ at_home (last l) r g (subst (λ t. IsKept (sides image size harts f own l) at_home t (last l)) e (i.kept l on)) (none_awaited own.known none) (record {
@@ -187,8 +187,8 @@ module _ (image : Initial) (size : LineSize) (harts : ℕ) (f k : ℕ → Kit) (
     -- an Acquire with nobody to probe: the Grant goes out at once
     pub grants_at_once : ((j : ℕ) → j < harts → is_probed own h g j ≡ false) → h < harts → KitChanged f k h x → ((q : ℕ) → q ≢ l → (z : Known) → side x z q ≡ side (f h) z q) →
         ((z : Known) → side x z l ≡ (let y = side (f h) z l in record y { a = rest; d = y.d ++ grant_body (grant_for own h g) at_home ∷ [] })) →
-        IsWell image size harts k (given_notes (granted own h g)) cells last
-    grants_at_once none in_h c elsewhere same = keeps_memory (granted own h g) (step image size harts f k notes cells last last l (granted own h g) at_home on i (elsewhere_by h x c elsewhere) (λ q ne. refl)
+        IsWell image size harts k (given_notes (granting own h g)) cells last
+    grants_at_once none in_h c elsewhere same = keeps_memory (granting own h g) (step image size harts f k notes cells last last l (granting own h g) at_home on i (elsewhere_by h x c elsewhere) (λ q ne. refl)
         (kept.granted middle _ at_home (last l) h g middle_kept unawaited (record {
           here = rw (c.here, get_or-set_same own.known h noted_now unknown in_known) (same noted_now ∙ rw (eq-eqb h h refl) refl);
           there = λ j nj. rw (c.there j nj, get_or-set_other own.known h j noted_now unknown nj, not_eq j h nj) refl;

@@ -28,8 +28,8 @@ pub record HasCode (status : Status) : Type 0 where
   pub exited : (code : ℕ) → status ≡ Exited code → code ≤ 255
 
 -- the name is a place's in a hart's list
-abbrev pub IsPlaced : History → OpId → Type 0
-IsPlaced t name = (name.hart < length t.entries) × (name.place < length (entries_of t name.hart))
+abbrev pub NamesPlace : History → OpId → Type 0
+NamesPlace t name = (name.hart < length t.entries) × (name.place < length (entries_of t name.hart))
 
 -- a line of this size, all of its bytes
 pub record IsWhole (size : LineSize) (line : LineData) : Type 0 where
@@ -53,7 +53,7 @@ pub record IsOfMachine (s : State) (e : Logged) : Type 0 where
 pub record IsInRange (s : State) : Type 0 where
   pub entries : AllByRecursion (AllByRecursion HasWords) s.trace.entries
   pub statuses : AllByRecursion HasCode s.trace.statuses
-  pub performed : AllByRecursion (IsPlaced s.trace) s.trace.performed
+  pub performed : AllByRecursion (NamesPlace s.trace) s.trace.performed
   pub log : AllByRecursion (IsOfMachine s) s.trace.log
 
 abbrev pub InRangeAlways : Type 0

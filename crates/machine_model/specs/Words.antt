@@ -14,9 +14,9 @@ abbrev pub word_in : LineData → ℕ → List ℕ
 word_in line word = each_place (λ k. slice_index (bytes_of line) (word % length_of (size_of line) + k))
 
 -- the number that bytes are, the first the lowest
-abbrev pub number_of : List ℕ → ℕ
-number_of [] = 0
-number_of (byte ∷ bytes) = byte + 256 * number_of bytes
+abbrev pub number_of_bytes : List ℕ → ℕ
+number_of_bytes [] = 0
+number_of_bytes (byte ∷ bytes) = byte + 256 * number_of_bytes bytes
 
 -- the four bytes of a number
 abbrev pub bytes_of_word : ℕ → List ℕ
@@ -24,7 +24,7 @@ bytes_of_word number = each_place (λ k. number / 256 ^ k % 256)
 
 -- the number that an access of so many bytes reads, where the bytes of its word are these
 abbrev pub read_from : List ℕ → (address bytes : ℕ) → ℕ
-read_from word address bytes = number_of word / 256 ^ (address % 4) % 256 ^ bytes
+read_from word address bytes = number_of_bytes word / 256 ^ (address % 4) % 256 ^ bytes
 
 -- a store of a number of so many bytes, by the entry at this place of its hart's list
 abbrev pub store_of : (address bytes value op : ℕ) → Store

@@ -4,9 +4,9 @@ use Rattle.std.specs.Prelude.{ℕ, ◌≡◌, ◌<◌, ◌*◌, ◌/◌, ◌%◌
 use Rattle.std.proofs.lemmas.Nat.{and_mask}
 use Rattle.std.proofs.Math.Nat.{mod-eq_of_lt}
 use Rattle.std.specs.Int.{w32, from_le_bytes}
-use Rattle.machine_model.specs.Words.{number_of}
+use Rattle.machine_model.specs.Words.{number_of_bytes}
 
-number-again : (bs : List ℕ) → length bs ≡ 4 → from_le_bytes w32 bs ≡ number_of bs
+number-again : (bs : List ℕ) → length bs ≡ 4 → from_le_bytes w32 bs ≡ number_of_bytes bs
 number-again [] l = absurd (omega arith)
 number-again (a ∷ []) l = absurd (omega arith)
 number-again (a ∷ b ∷ []) l = absurd (omega arith)
@@ -21,15 +21,15 @@ shift-by-bytes (suc (suc zero)) l = refl
 shift-by-bytes (suc (suc (suc zero))) l = refl
 shift-by-bytes (suc (suc (suc (suc k)))) l = absurd (omega arith)
 
-shifted : (bs : List ℕ) (k r : ℕ) → length bs ≡ 4 → k < 4 → r ≡ from_le_bytes w32 bs → r / 2 ^ (8 * k) ≡ number_of bs / 256 ^ k
+shifted : (bs : List ℕ) (k r : ℕ) → length bs ≡ 4 → k < 4 → r ≡ from_le_bytes w32 bs → r / 2 ^ (8 * k) ≡ number_of_bytes bs / 256 ^ k
 shifted bs k r l below is = ap (λ p. r / p) (shift-by-bytes k below) ∙ ap (λ n. n / 256 ^ k) (is ∙ number-again bs l)
 
-pub read-byte : (bs : List ℕ) (k r : ℕ) → length bs ≡ 4 → k < 4 → r ≡ from_le_bytes w32 bs → bit_and (r / 2 ^ (8 * k)) 255 ≡ number_of bs / 256 ^ k % 256 ^ 1
+pub read-byte : (bs : List ℕ) (k r : ℕ) → length bs ≡ 4 → k < 4 → r ≡ from_le_bytes w32 bs → bit_and (r / 2 ^ (8 * k)) 255 ≡ number_of_bytes bs / 256 ^ k % 256 ^ 1
 read-byte bs k r l below is = and_mask (r / 2 ^ (8 * k)) 8 ∙ ap (λ n. n % 256) (shifted bs k r l below is)
 
-pub read-half : (bs : List ℕ) (k r : ℕ) → length bs ≡ 4 → k < 4 → r ≡ from_le_bytes w32 bs → bit_and (r / 2 ^ (8 * k)) 65535 ≡ number_of bs / 256 ^ k % 256 ^ 2
+pub read-half : (bs : List ℕ) (k r : ℕ) → length bs ≡ 4 → k < 4 → r ≡ from_le_bytes w32 bs → bit_and (r / 2 ^ (8 * k)) 65535 ≡ number_of_bytes bs / 256 ^ k % 256 ^ 2
 read-half bs k r l below is = and_mask (r / 2 ^ (8 * k)) 16 ∙ ap (λ n. n % 65536) (shifted bs k r l below is)
 
 -- a quotient is no more than what is divided
-pub read-word : (bs : List ℕ) (k r : ℕ) → length bs ≡ 4 → k < 4 → r < 2 ^ 32 → r / 2 ^ (8 * k) < 2 ^ 32 → r ≡ from_le_bytes w32 bs → r / 2 ^ (8 * k) ≡ number_of bs / 256 ^ k % 256 ^ 4
+pub read-word : (bs : List ℕ) (k r : ℕ) → length bs ≡ 4 → k < 4 → r < 2 ^ 32 → r / 2 ^ (8 * k) < 2 ^ 32 → r ≡ from_le_bytes w32 bs → r / 2 ^ (8 * k) ≡ number_of_bytes bs / 256 ^ k % 256 ^ 4
 read-word bs k r l below small less is = sym (mod-eq_of_lt less) ∙ ap (λ n. n % 4294967296) (shifted bs k r l below is)

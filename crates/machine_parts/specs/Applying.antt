@@ -17,7 +17,7 @@ Answers IsLimited old result new = (result ≡ Err Limit) × (new ≡ old)
 Answers (Moves o moved) old result new = ((result ≡ Ok o) × (new ≡ moved)) ⊎ ((result ≡ Err NoMemory) × (new ≡ old) × ((code : ℕ) → o ≢ Stopped code))
 
 -- the errors by their numbers, in the order of testing
-abbrev pub number_of : ApplyError → ℕ
-number_of BadEvent = 1
-number_of Limit = 2
-number_of NoMemory = 3
+abbrev pub apply_error_number : ApplyError → ℕ
+apply_error_number BadEvent = 1
+apply_error_number Limit = 2
+apply_error_number NoMemory = 3

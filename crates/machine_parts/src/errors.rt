@@ -1,7 +1,7 @@
 //! Why an event isn't applied.
 
 ghost use Rattle.std.specs.Prelude.{◌≡◌};
-ghost use Rattle.machine_parts.specs.Applying.{number_of};
+ghost use Rattle.machine_parts.specs.Applying.{apply_error_number};
 
 use std::alloc::AllocError;
 use thiserror::Error;
@@ -24,7 +24,7 @@ pub enum ApplyError {
 impl ApplyError {
     /// 1 to 3, in the order of testing.
     pub fn number(self) -> u8
-        ensures { result ≡ number_of self }
+        ensures { result ≡ apply_error_number self }
     {
         self as u8
     }

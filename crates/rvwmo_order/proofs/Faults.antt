@@ -17,8 +17,8 @@ use Rattle.memory_model.proofs.Forms.{same-self}
 use Rattle.memory_model.proofs.Lists.{Contains-from_Member, Member}
 use Rattle.trace_recorder.specs.History.{History}
 use Rattle.trace_recorder.specs.declared.operation.OpId.{OpId}
-use Rattle.rvwmo_order.specs.Answers.{IsSound}
-use Rattle.rvwmo_order.specs.Codes.{number_of, rule_of}
+use Rattle.rvwmo_order.specs.Answers.{IsSoundVerdict}
+use Rattle.rvwmo_order.specs.Codes.{code_number, rule_of}
 use Rattle.rvwmo_order.specs.Scans.{all_rules, first_broken_pair, first_broken_rule, first_out_of_order, found_or, is_broken_pair, judged, ruled_or, verdict_by, wrong_load}
 use Rattle.rvwmo_order.specs.declared.verdict.Code.TheVariants.{Order}
 use Rattle.rvwmo_order.specs.declared.verdict.Rule.{Rule}
@@ -33,7 +33,7 @@ abbrev pub is_named_by : Model → (ℕ → ℕ) → List (List Item) → List O
 is_named_by model image harts order number a b = list_any (λ (c : Code). nat_eq c.number number && c.broken a b) (codes model image harts order)
 
 module _ (model : Model) (image : ℕ → ℕ) (harts : List (List Item)) (order : List Operation) where
-  rule_named : (r : Rule) (a b : Operation) → (asked_by model harts order (rule_of r) a b && not (before order a b)) ≡ true → is_named_by model image harts order (number_of (Order r)) a b ≡ true
+  rule_named : (r : Rule) (a b : Operation) → (asked_by model harts order (rule_of r) a b && not (before order a b)) ≡ true → is_named_by model image harts order (code_number (Order r)) a b ≡ true
   rule_named OverlappingStore a b e = or_left _ _ e
   rule_named SameByteLoads a b e = or_left _ _ e
   rule_named AtomicSource a b e = or_left _ _ e
@@ -69,7 +69,7 @@ module _ (model : Model) (image : ℕ → ℕ) (harts : List (List Item)) (order
           let at_q : first_out_of_order (asked_by model harts order (rule_of q)) order ≡ Some (pair a b) = f ∙ ap Some same_pair in
           out_of_order (asked_by model harts order (rule_of r)) order a b d (subst (λ (z : Rule). first_out_of_order (asked_by model harts order (rule_of z)) order ≡ Some (pair a b)) same_rule at_q)
 
-  rule_breaks : (r : Rule) (a b : Operation) → OutOfOrder (asked_by model harts order (rule_of r)) order a b → Breaks model image harts order (number_of (Order r)) a b
+  rule_breaks : (r : Rule) (a b : Operation) → OutOfOrder (asked_by model harts order (rule_of r)) order a b → Breaks model image harts order (code_number (Order r)) a b
   rule_breaks r a b o = record {
     has_a = Contains-from_Member order a o.has_a;
     has_b = Contains-from_Member order b o.has_b;
@@ -97,14 +97,14 @@ module _ (model : Model) (image : ℕ → ℕ) (harts : List (List Item)) (order
           (subst (λ (y : Operation). is_broken_pair harts order a y ≡ true) same_w (subst (λ (x : Operation). is_broken_pair harts order x w ≡ true) same_r t.0), subst (λ (x : Operation). Member x order) same_r t.1, inl (sym same_w))
 
 pub sound : (model : Model) (t : History) (names : List OpId) → EachOnce (operations_at (instructions t) names)
-    → IsSound model t names (judged model (image_of t) (instructions t) (operations_at (instructions t) names))
+    → IsSoundVerdict model t names (judged model (image_of t) (instructions t) (operations_at (instructions t) names))
 sound model t names d =
     go (first_broken_rule model (instructions t) (operations_at (instructions t) names) all_rules) refl (wrong_load (image_of t) (operations_at (instructions t) names)) refl (first_broken_pair (instructions t) (operations_at (instructions t) names) (operations_at (instructions t) names)) refl
   where
     go : (f : Option (Rule × Operation × Operation)) → first_broken_rule model (instructions t) (operations_at (instructions t) names) all_rules ≡ f
         → (v : Option Operation) → wrong_load (image_of t) (operations_at (instructions t) names) ≡ v
         → (p : Option (Operation × Operation)) → first_broken_pair (instructions t) (operations_at (instructions t) names) (operations_at (instructions t) names) ≡ p
-        → IsSound model t names (verdict_by f v p)
+        → IsSoundVerdict model t names (verdict_by f v p)
     go (Some f) e v g p h = record {
       first = f.1;
       second = f.2;

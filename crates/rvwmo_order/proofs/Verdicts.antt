@@ -11,7 +11,7 @@ use Rattle.memory_model.proofs.Named.{EachOnce, Pairwise-from_is_distinct, opera
 use Rattle.trace_recorder.specs.History.{History}
 use Rattle.trace_recorder.specs.declared.operation.OpId.{OpId}
 use Rattle.memory_model.specs.Verdict.{fault_in}
-use Rattle.rvwmo_order.specs.Answers.{IsSound, fault_told}
+use Rattle.rvwmo_order.specs.Answers.{IsSoundVerdict, fault_told}
 use Rattle.rvwmo_order.specs.Scans.{judged}
 use Rattle.rvwmo_order.specs.declared.verdict.Verdict.{Verdict}
 use Rattle.rvwmo_order.specs.declared.verdict.Verdict.TheVariants.{Legal}
@@ -30,8 +30,8 @@ legal_verdict model t order v e = (
   λ l. e ∙ judged-from_legal model (image_of t) (instructions t) (operations_at (instructions t) order) l,
 )
 
-pub sound_verdict : (model : Model) (t : History) (order : List OpId) (v : Verdict) → has_each_operation_once t order ≡ true → v ≡ judged model (image_of t) (instructions t) (operations_at (instructions t) order) → IsSound model t order v
-sound_verdict model t order v o e = subst (λ (w : Verdict). IsSound model t order w) (sym e) (sound model t order (distinct_in t order o))
+pub sound_verdict : (model : Model) (t : History) (order : List OpId) (v : Verdict) → has_each_operation_once t order ≡ true → v ≡ judged model (image_of t) (instructions t) (operations_at (instructions t) order) → IsSoundVerdict model t order v
+sound_verdict model t order v o e = subst (λ (w : Verdict). IsSoundVerdict model t order w) (sym e) (sound model t order (distinct_in t order o))
 
 pub first_verdict : (model : Model) (t : History) (order : List OpId) (v : Verdict) → has_each_operation_once t order ≡ true → v ≡ judged model (image_of t) (instructions t) (operations_at (instructions t) order) → fault_told v ≡ fault_in model t order
 first_verdict model t order v o e = ap fault_told e ∙ first_told model (image_of t) (instructions t) (operations_at (instructions t) order) (distinct_in t order o)

@@ -7,7 +7,7 @@ use Rattle.memory_model.specs.Verdict as verdict
 use Rattle.memory_model.specs.Verdict.{Breaks, name_of}
 use Rattle.trace_recorder.specs.History.{History}
 use Rattle.trace_recorder.specs.declared.operation.OpId.{OpId}
-use Rattle.rvwmo_order.specs.Codes.{number_of}
+use Rattle.rvwmo_order.specs.Codes.{code_number}
 use Rattle.rvwmo_order.specs.declared.error.CheckError.{CheckError}
 use Rattle.rvwmo_order.specs.declared.error.CheckError.TheVariants.{NotAnOrder, NotARun, TooLong}
 use Rattle.rvwmo_order.specs.declared.verdict.Code.{Code}
@@ -31,14 +31,14 @@ pub record IsBroken (model : Model) (t : History) (order : List OpId) (code : Co
   pub second : Operation
   pub first_name : name_of first ≡ a
   pub second_name : name_of second ≡ b
-  pub breaks : Breaks model (image_of t) (instructions t) (operations_at (instructions t) order) (number_of code) first second
+  pub breaks : Breaks model (image_of t) (instructions t) (operations_at (instructions t) order) (code_number code) first second
 
 -- a fault's operations do
-abbrev pub IsSound : Model → History → List OpId → Verdict → Type 0
-IsSound model t order Legal = ⊤
-IsSound model t order (Fault code a b) = IsBroken model t order code a b
+abbrev pub IsSoundVerdict : Model → History → List OpId → Verdict → Type 0
+IsSoundVerdict model t order Legal = ⊤
+IsSoundVerdict model t order (Fault code a b) = IsBroken model t order code a b
 
 -- the fault that a verdict tells
 abbrev pub fault_told : Verdict → Option verdict.Fault
 fault_told Legal = None
-fault_told (Fault code a b) = Some (record { code = number_of code; a = a; b = b })
+fault_told (Fault code a b) = Some (record { code = code_number code; a = a; b = b })

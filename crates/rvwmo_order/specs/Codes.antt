@@ -25,10 +25,10 @@ rule_of DependentStore = rules.dependent_store
 rule_of DependentAddress = rules.dependent_address
 
 -- 1 to 13 the rules, 14 the load value axiom, 15 the atomicity axiom
-abbrev pub number_of : Code → ℕ
-number_of (Order r) = (rule_of r).number
-number_of LoadValue = 14
-number_of Atomicity = 15
+abbrev pub code_number : Code → ℕ
+code_number (Order r) = (rule_of r).number
+code_number LoadValue = 14
+code_number Atomicity = 15
 
 abbrev pub error_number : CheckError → ℕ
 error_number NotAnOrder = 1

@@ -43,14 +43,14 @@ sources_of DependentStore order b = map (λ x. source order b x) (bytes_of b)
 sources_of _ order b = []
 
 -- one of these sources is the operation, and it is a store
-abbrev pub is_among : List (Option Operation) → Option Operation → Bool
-is_among stores None = false
-is_among stores (Some s) = writes s.kind && list_any (λ store. same_source store (Some s)) stores
+abbrev pub is_source_among : List (Option Operation) → Option Operation → Bool
+is_source_among stores None = false
+is_source_among stores (Some s) = writes s.kind && list_any (λ store. same_source store (Some s)) stores
 
 -- the registers that an instruction before b asks for, where b's bytes come from these sources
 abbrev pub asked_before : Rule → List (Option Operation) → Item → List ℕ
 asked_before Control stores m = steering m
-asked_before DependentStore stores m = if is_among stores m.operation then (uses_in m.instr).address ++ (uses_in m.instr).stored else []
+asked_before DependentStore stores m = if is_source_among stores m.operation then (uses_in m.instr).address ++ (uses_in m.instr).stored else []
 asked_before DependentAddress stores m = addressing m
 asked_before _ stores m = []
 

@@ -215,17 +215,17 @@ fn want_passed(
     operation: Option<Operation>,
     instr: &Instr,
 )
-    ensures { wanted.new ≡ with_flags wanted.old true (if spec.is_among sources.now operation then (uses_of instr.now).address ++ (uses_of instr.now).stored else []) }
+    ensures { wanted.new ≡ with_flags wanted.old true (if spec.is_source_among sources.now operation then (uses_of instr.now).address ++ (uses_of instr.now).stored else []) }
 {
-    if is_among(sources, operation) {
+    if is_source_among(sources, operation) {
         want(wanted, address_register(instr));
         want(wanted, stored_register(instr));
     }
 }
 
 // Whether it is a store, and one of these.
-fn is_among(sources: &[Option<Operation>], operation: Option<Operation>) -> bool
-    ensures { result ≡ spec.is_among sources.now operation }
+fn is_source_among(sources: &[Option<Operation>], operation: Option<Operation>) -> bool
+    ensures { result ≡ spec.is_source_among sources.now operation }
 {
     match operation {
         Some(store) => writes(store.kind) && has_source(sources, &store),

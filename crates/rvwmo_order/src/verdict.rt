@@ -1,6 +1,6 @@
 //! What the checker answers.
 ghost use Rattle.std.specs.Prelude.{◌≡◌};
-ghost use Rattle.rvwmo_order.specs.Codes.{number_of};
+ghost use Rattle.rvwmo_order.specs.Codes.{code_number};
 
 use trace_recorder::OpId;
 
@@ -65,7 +65,7 @@ pub enum Code {
 impl Code {
     /// A rule has its own number, 1 to 13; 14 is the load value axiom, 15 the atomicity axiom.
     pub fn number(self) -> u8
-        ensures { result ≡ number_of self }
+        ensures { result ≡ code_number self }
     {
         match self {
             Code::Order(rule) => rule as u8,

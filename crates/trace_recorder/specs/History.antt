@@ -50,8 +50,8 @@ with_logged entry t = record t { log = t.log ++ entry ∷ [] }
 abbrev pub with_status : ℕ → Status → History → History
 with_status hart status t = record t { statuses = slice_set t.statuses hart status }
 
-abbrev pub retired : ℕ → Retired → Recorded → Recorded
-retired hart entry r = record { history = with_entry hart entry r.history; room = record r.room { entries = slice_set r.room.entries hart (slice_index r.room.entries hart - 1) } }
+abbrev pub listed : ℕ → Retired → Recorded → Recorded
+listed hart entry r = record { history = with_entry hart entry r.history; room = record r.room { entries = slice_set r.room.entries hart (slice_index r.room.entries hart - 1) } }
 
 abbrev pub performed : OpId → Recorded → Recorded
 performed op r = record { history = with_performed op r.history; room = record r.room { performed = r.room.performed - 1 } }

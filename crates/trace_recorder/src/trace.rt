@@ -1,7 +1,7 @@
 //! The trace of a run. Its lists only grow.
 ghost use Rattle.std.specs.Prelude.{◌≡◌, ◌+◌, ◌-◌, ◌<◌, ◌≤◌, [], ◌∷◌, ◌++◌, All, length, map, replicate, IfOk, OnOk, IsOk, slice_get, slice_index, Some};
 ghost use Rattle.elf_loader.specs.Image.{Initial};
-ghost use Rattle.trace_recorder.specs.History.{Recorded, opening, retired, performed, logged, halted, entries_of};
+ghost use Rattle.trace_recorder.specs.History.{Recorded, opening, listed, performed, logged, halted, entries_of};
 ghost use Rattle.trace_recorder.specs.Limits.{AreWithinLimits, IsWithinLimits};
 
 use crate::logged::{Direction, Logged};
@@ -165,7 +165,7 @@ impl Trace {
         requires hart { hart < length self.old.history.entries }
         requires few { length (entries_of self.old.history hart) < 1000000 }
         requires room { 0 < slice_index self.old.room.entries hart }
-        ensures { self.new ≡ retired hart entry self.old }
+        ensures { self.new ≡ listed hart entry self.old }
     {
         self.entries[hart].push_reserved(entry);
     }

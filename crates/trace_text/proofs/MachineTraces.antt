@@ -9,7 +9,7 @@ use Rattle.hart.specs.declared.retired.Retired.{Retired}
 use Rattle.hart.specs.declared.status.Status.{Status}
 use Rattle.hart.specs.declared.status.Status.TheVariants.{Running, Stopped, Exited}
 use Rattle.machine_model.specs.Events.{after_events}
-use Rattle.machine_model.specs.Ranges.{CarriesWhole, HasCode, HasWords, IsInRange, IsOfMachine, IsPlaced, IsWhole}
+use Rattle.machine_model.specs.Ranges.{CarriesWhole, HasCode, HasWords, IsInRange, IsOfMachine, NamesPlace, IsWhole}
 use Rattle.machine_model.specs.Ready.{IsSound}
 use Rattle.machine_model.specs.Views.{State, line_size, opening}
 use Rattle.machine_model.proofs.LinePlaces.{IsPiece, piece}
@@ -135,7 +135,7 @@ every_trace_has_a_text image config events is within = record {
   memory = record { len = sym (whole_kib (length t.image.bytes) sound.image.legal_size); small = bytes_small t.image.bytes sound.image.bytes_fit };
   lists = lists;
   entries = harts_fit t.entries ranges.entries sound.places;
-  performed = all_map (IsPlaced t) (IsOperation (length t.statuses)) placed t.performed ranges.performed;
+  performed = all_map (NamesPlace t) (IsOperation (length t.statuses)) placed t.performed ranges.performed;
   log = all_map (IsOfMachine s) (IsLogged (head_of t)) (logged_fits s (head_of t) sound.line sound.statuses (whole_kib (length t.image.bytes) sound.image.legal_size)) t.log ranges.log;
   statuses = all_map HasCode IsStatus status_fits t.statuses ranges.statuses;
 }
@@ -155,5 +155,5 @@ every_trace_has_a_text image config events is within = record {
     lists : length t.entries ≡ length t.statuses
     lists = sound.entries ∙ sym sound.statuses
 
-    placed : (name : OpId) → IsPlaced t name → IsOperation (length t.statuses) name
+    placed : (name : OpId) → NamesPlace t name → IsOperation (length t.statuses) name
     placed name at = let few = sound.places name.hart in let below = at.1 in (subst (λ n. name.hart < n) lists at.0, omega (arith, few, below))

@@ -15,7 +15,7 @@ use Rattle.trace_text.specs.declared.fault.Stop.{Stop}
 use Rattle.trace_text.specs.declared.fault.Stop.TheVariants as stops
 use Rattle.trace_text.specs.Reading.{Fails}
 use Rattle.trace_text.specs.TraceHeads.{IsTraceHead}
-use Rattle.trace_text.specs.Traces.{retired_lead, retired}
+use Rattle.trace_text.specs.Traces.{retired_lead, retired_text}
 use Rattle.trace_text.specs.TraceLines.{retired_at, operation_at, logged_at}
 use Rattle.trace_text.specs.TraceSections.{entries_at, performed_at, log_at}
 use Rattle.tl_types.specs.Message.{channel_of}
@@ -38,7 +38,7 @@ pub operation_shortens : (harts : ℕ) → 0 < harts → harts ≤ 8 → (bytes 
 operation_shortens harts some le bytes x rest e = omega (arith, ap length ((operation_reads harts some le).takes bytes x rest e).0, length-append (op x) rest, op_long x)
 
 pub retired_shortens : (bytes : List ℕ) (x : Retired) (rest : List ℕ) → retired_at bytes ≡ Some (x, rest) → length rest < length bytes
-retired_shortens bytes x rest e = let long : 0 < length (retired x) = omega arith in omega (arith, ap length (retired_reads.takes bytes x rest e).0, length-append (retired x) rest, long)
+retired_shortens bytes x rest e = let long : 0 < length (retired_text x) = omega arith in omega (arith, ap length (retired_reads.takes bytes x rest e).0, length-append (retired_text x) rest, long)
 
 logged_long : (l : Logged) → 0 < length (logged_fields l)
 logged_long l =

@@ -25,7 +25,7 @@ use Rattle.trace_text.specs.Reading.{Answers, IsNoMemory}
 use Rattle.trace_text.specs.declared.fault.TextError.{TextError}
 use Rattle.trace_text.specs.declared.head.TraceHead.{TraceHead}
 use Rattle.trace_text.specs.TraceHeads.{IsTraceHead}
-use Rattle.trace_text.specs.Traces.{head_of, head, image_lines, image, retired_lead, retired, entries, operation, logged, status, text}
+use Rattle.trace_text.specs.Traces.{head_of, head, image_lines, image, retired_lead, retired_text, entries, operation, logged, status, text}
 use Rattle.trace_text.specs.TraceLimits.{IsHart, IsOperation, IsLogged, IsStatus, IsTrace, IsReadAs}
 use Rattle.trace_text.specs.TraceLines.{head_at, retired_at}
 use Rattle.trace_text.specs.TraceSections.{image_lines_at, entries_at, performed_at, log_at, status_lead, status_line_at, trace_at, counted}
@@ -53,7 +53,7 @@ starts_entries : (c h : ℕ) (es : List (List Retired)) (rest : List ℕ) → eq
 starts_entries c h [] rest e f = f
 starts_entries c h (xs ∷ more) rest e f =
     ap (starts c) (append_assoc (entries h xs) (numbered entries (suc h) more) rest)
-    ∙ starts_section c 82 (32 ∷ number 32 h) retired xs (numbered entries (suc h) more ++ rest) e (starts_entries c (suc h) more rest e f)
+    ∙ starts_section c 82 (32 ∷ number 32 h) retired_text xs (numbered entries (suc h) more ++ rest) e (starts_entries c (suc h) more rest e f)
 
 -- no later hart's lines are this one's
 later_entries : (k h : ℕ) (es : List (List Retired)) (rest : List ℕ) → k < h → h + length es ≤ 8 → starts 82 rest ≡ false → after (retired_lead k) (numbered entries h es ++ rest) ≡ None
@@ -61,13 +61,13 @@ later_entries k h [] rest lt le f = after_not 82 (32 ∷ number 32 k) rest f
 later_entries k h ([] ∷ more) rest lt le f = later_entries k (suc h) more rest (omega arith) (omega arith) f
 later_entries k h ((x ∷ xs) ∷ more) rest lt le f =
     let others : List ℕ = numbered entries (suc h) more ++ rest in
-    let parts : numbered entries h ((x ∷ xs) ∷ more) ++ rest ≡ retired_lead h ++ (retired x ++ (entries h xs ++ others)) =
+    let parts : numbered entries h ((x ∷ xs) ∷ more) ++ rest ≡ retired_lead h ++ (retired_text x ++ (entries h xs ++ others)) =
     append_assoc (entries h (x ∷ xs)) (numbered entries (suc h) more) rest
-    ∙ ap (λ t. t ++ others) (flat_map-cons (λ r. retired_lead h ++ retired r) x xs)
-    ∙ append_assoc (retired_lead h ++ retired x) (entries h xs) others
-    ∙ append_assoc (retired_lead h) (retired x) (entries h xs ++ others) in
+    ∙ ap (λ t. t ++ others) (flat_map-cons (λ r. retired_lead h ++ retired_text r) x xs)
+    ∙ append_assoc (retired_lead h ++ retired_text x) (entries h xs) others
+    ∙ append_assoc (retired_lead h) (retired_text x) (entries h xs ++ others) in
     let lead_law : Reads retired_lead (λ n. n ≤ 7) (led_at (codes "R ") (number_at 32 7)) = led_reads (codes "R ") (number_reads 32 7 (omega arith) (omega arith)) in
-    ap (after (retired_lead k)) parts ∙ leads_apart lead_law k h (retired x ++ (entries h xs ++ others)) (omega arith) (omega arith) (λ e. omega arith)
+    ap (after (retired_lead k)) parts ∙ leads_apart lead_law k h (retired_text x ++ (entries h xs ++ others)) (omega arith) (omega arith) (λ e. omega arith)
 
 abbrev items_of : Vec Retired Global → List Retired
 items_of v = v.items

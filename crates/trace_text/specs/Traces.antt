@@ -49,11 +49,11 @@ retired_lead h = codes "R " ++ number 32 h
 abbrev pub retired_ended : ℕ → Retired → List ℕ
 retired_ended end r = (word r.pc ++ 32 ∷ []) ++ ((word r.word ++ 32 ∷ []) ++ ((words.loaded r.loaded ++ 32 ∷ []) ++ (words.answer r.sc_ok ++ end ∷ [])))
 
-abbrev pub retired : Retired → List ℕ
-retired r = retired_ended 10 r
+abbrev pub retired_text : Retired → List ℕ
+retired_text r = retired_ended 10 r
 
 abbrev pub entries : ℕ → List Retired → List ℕ
-entries h rs = flat_map (λ r. retired_lead h ++ retired r) rs
+entries h rs = flat_map (λ r. retired_lead h ++ retired_text r) rs
 
 -- a performed operation
 abbrev pub operation : OpId → List ℕ

@@ -1,6 +1,6 @@
 //! Why a text can't be read.
 ghost use Rattle.std.specs.Prelude.{◌≡◌};
-ghost use Rattle.trace_text.specs.Faults.{number_of};
+ghost use Rattle.trace_text.specs.Faults.{text_code_number};
 
 use text_fields::after;
 use thiserror::Error;
@@ -32,7 +32,7 @@ pub enum TextCode {
 impl TextCode {
     /// 1 to 6, the number by which the fault is printed.
     pub fn number(self) -> u8
-        ensures { result ≡ number_of self }
+        ensures { result ≡ text_code_number self }
     {
         self as u8
     }

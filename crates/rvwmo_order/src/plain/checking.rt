@@ -3,7 +3,7 @@ ghost use Rattle.std.specs.Prelude.{◌≡◌, ◌↔◌, ◌<◌, true, false, 
 ghost use Rattle.memory_model.specs.Traces as traces;
 ghost use Rattle.memory_model.specs.Traces.{IsLegalOrder};
 ghost use Rattle.memory_model.specs.Verdict.{fault_in};
-ghost use Rattle.rvwmo_order.specs.Answers.{IsSound, fault_told, refusal, refusal_of};
+ghost use Rattle.rvwmo_order.specs.Answers.{IsSoundVerdict, fault_told, refusal, refusal_of};
 ghost use Rattle.rvwmo_order.specs.Scans.{judged};
 
 use crate::error::CheckError;
@@ -28,7 +28,7 @@ pub fn check_model(
     ensures too_long { traces.are_runs trace.now.history ≡ true → 4096 < length (traces.names_in trace.now.history) → result ≡ Err CheckError.TooLong }
     ensures refused { ¬ IsErrOf result CheckError.NoMemory → refusal_of result ≡ refusal trace.now.history order.now }
     ensures legal { IfOk result (λ v. (v ≡ Verdict.Legal) ↔ IsLegalOrder model trace.now.history order.now) }
-    ensures sound { IfOk result (λ v. IsSound model trace.now.history order.now v) }
+    ensures sound { IfOk result (λ v. IsSoundVerdict model trace.now.history order.now v) }
     ensures first { IfOk result (λ v. fault_told v ≡ fault_in model trace.now.history order.now) }
 {
     if !are_runs(trace) {

@@ -4,7 +4,7 @@ use Rattle.command_line.specs.Files.{HoldsImage}
 use Rattle.command_line.specs.Held.{Held, HoldsBytes}
 use Rattle.command_line.specs.Lines.{IsKept}
 use Rattle.command_line.specs.Sizes.{config_named, script_named}
-use Rattle.host_threads.specs.Replays.{led}
+use Rattle.host_threads.specs.Replays.{end_of_journal}
 use Rattle.command_line.specs.Turns.{IsRunFault}
 use Rattle.command_line.specs.declared.fault.Fault.{Fault}
 use Rattle.command_line.specs.declared.fault.Fault.TheVariants.{CannotWrite, OutOfMemory}
@@ -26,7 +26,7 @@ use Rattle.trace_text.specs.Traces.{text}
 use Rattle.trace_text.specs.declared.script.Script.{Script}
 use Rattle.command_line.proofs.Left.{handed_up, spoiled}
 use Rattle.command_line.proofs.Limits.{script_within}
-use Rattle.command_line.proofs.Replays.{led as leading, readable}
+use Rattle.command_line.proofs.Replays.{end_of_journal as leading, readable}
 use Rattle.command_line.proofs.threads.run_files.Goals as goal
 
 kept : (held left : Held) (run : Run) (config : Config) (image : Initial) (script : Script) (events : List Event) → script ≡ script_named run events → config ≡ config_named run
@@ -63,7 +63,7 @@ either_told held run fault is = elim is [
 pub print-requires : goal.print-requires
 print-requires g c =
     subst IsTrace (sym c.in-Ok.ensures.report.trace)
-    (readable c.every_trace_has_a_text.ensures (led c.in_ok-image.image c.in-Some.config c.in-Ok.report) c.in-Ok.ensures.reached)
+    (readable c.every_trace_has_a_text.ensures (end_of_journal c.in_ok-image.image c.in-Some.config c.in-Ok.report) c.in-Ok.ensures.reached)
 
 pub returns-in_err-print-clause-told : goal.returns-in_err-print-clause-told
 returns-in_err-print-clause-told g c =
@@ -74,7 +74,7 @@ returns-in_err-print-clause-unfinished g c =
     let run = c.args.wanted in
     let script = c.script_of-script.result in
     let image = c.in_ok-image.image in
-    let s = led image c.in-Some.config c.in-Ok.report in
+    let s = end_of_journal image c.in-Some.config c.in-Ok.report in
     let named = c.in-Some.ensures.config in
     let same = c.script_of-script.ensures.script in
     let config_same : c.in-Some.config ≡ config_of script run.model = named.0 ∙ sym (ap (λ (t : Script). config_of t run.model) same) in
@@ -97,7 +97,7 @@ returns-clause-ran g c =
     let run = c.args.wanted in
     let script = c.script_of-script.result in
     let image = c.in_ok-image.image in
-    let s = led image c.in-Some.config c.in-Ok.report in
+    let s = end_of_journal image c.in-Some.config c.in-Ok.report in
     let named = c.in-Some.ensures.config in
     let same = c.script_of-script.ensures.script in
     let config_same : c.in-Some.config ≡ config_of script run.model = named.0 ∙ sym (ap (λ (t : Script). config_of t run.model) same) in

@@ -1,5 +1,5 @@
 use Rattle.std.proofs.Common.{◌++◌, [], arith}
-use Rattle.trace_text.specs.Traces.{retired_lead, retired}
+use Rattle.trace_text.specs.Traces.{retired_lead, retired_text}
 use Rattle.text_fields.proofs.Pages.{page_stops, page_fails, page_more, page_as, page_spelled, page_ends, item_next, item_none}
 use Rattle.trace_text.proofs.trace_writing.put_list.Goals as goal
 
@@ -8,7 +8,7 @@ returns-in_err-make_room g c = page_stops _ _ _ _ _ _ c.from_residual.ensures.0 
 
 pub loop-entry-preserved : goal.loop-entry-preserved
 loop-entry-preserved g c =
-    page_spelled _ _ _ _ _ _ _ (page_as _ _ _ _ _ _ (item_next (λ r. retired_lead c.args.hart ++ retired r) c.args.entries.now c.loop-entry.entry-index _ c.loop-entry-test.true) (page_more _ _ _ _ _ [] _ _ c.loop-entry.invariant c.in_ok-make_room.ensures.sent)) c.spell_retired.ensures.value
+    page_spelled _ _ _ _ _ _ _ (page_as _ _ _ _ _ _ (item_next (λ r. retired_lead c.args.hart ++ retired_text r) c.args.entries.now c.loop-entry.entry-index _ c.loop-entry-test.true) (page_more _ _ _ _ _ [] _ _ c.loop-entry.invariant c.in_ok-make_room.ensures.sent)) c.spell_retired.ensures.value
 
 pub returns : goal.returns
-returns g c = page_ends _ _ _ _ _ (page_as _ _ _ _ _ _ (item_none (λ r. retired_lead c.args.hart ++ retired r) c.args.entries.now c.loop-entry.entry-index (omega (arith, c.loop-entry-test.false))) c.loop-entry.invariant)
+returns g c = page_ends _ _ _ _ _ (page_as _ _ _ _ _ _ (item_none (λ r. retired_lead c.args.hart ++ retired_text r) c.args.entries.now c.loop-entry.entry-index (omega (arith, c.loop-entry-test.false))) c.loop-entry.invariant)

@@ -1,7 +1,8 @@
 use Rattle.std.proofs.Common.{refl}
+use Rattle.machine_model.specs.LawfulLog.{IsLawfulLog}
 use Rattle.machine_parts.specs.Parts.{state_of}
 use Rattle.coherent_machine.proofs.Batches.{Fits, fits_by, limited_when, moved_when, never_bad}
-use Rattle.coherent_machine.proofs.Reached.{headline_of}
+use Rattle.coherent_machine.proofs.Reached.{headline_of, law_of}
 use Rattle.coherent_machine.proofs.machine.Machine.adopt.Goals as goal
 
 pub returns-then-not-is_current-clause-headline : goal.returns-then-not-is_current-clause-headline
@@ -9,6 +10,12 @@ returns-then-not-is_current-clause-headline c = rw (← c.self.view_is) (headlin
 
 pub returns-then-is_empty-clause-headline : goal.returns-then-is_empty-clause-headline
 returns-then-is_empty-clause-headline c = rw (← c.self.view_is) (headline_of c.headline.ensures (state_of c.self.inside.parts) c.self.invariant)
+
+pub returns-then-not-is_current-clause-log : goal.returns-then-not-is_current-clause-log
+returns-then-not-is_current-clause-log c = rw (← c.self.view_is) (law_of (λ image config s. IsLawfulLog s.trace.log) c.log_lawful_always.ensures (state_of c.self.inside.parts) c.self.invariant)
+
+pub returns-then-is_empty-clause-log : goal.returns-then-is_empty-clause-log
+returns-then-is_empty-clause-log c = rw (← c.self.view_is) (law_of (λ image config s. IsLawfulLog s.trace.log) c.log_lawful_always.ensures (state_of c.self.inside.parts) c.self.invariant)
 
 fits-Ok : (c : goal.In-Ok) → Fits c.args.hart c.args.batch.now c.args.self.now
 fits-Ok c = fits_by c.args.hart c.args.batch.now c.args.self.now (state_of c.self.inside.parts) c.entries.result.now c.is_empty.result c.entries.ensures.row c.entries.ensures.entries c.self.view_is (c.is_current.ensures.0 c.if-not-is_current.false) c.is_empty.ensures c.if-is_empty.false

@@ -2,7 +2,7 @@ use Rattle.std.proofs.Common.{◌≡◌, ◌∙◌, ap, sym}
 use Rattle.tl_types.specs.Permission.{named_by, granted_for}
 use Rattle.directory.specs.declared.answer.Known.{Known}
 use Rattle.directory.specs.Lines.{needs_data}
-use Rattle.directory.proofs.Entries.{line_of-granted, known_at-line_of}
+use Rattle.directory.proofs.Entries.{line_of-granting, known_at-line_of}
 use Rattle.directory.proofs.entry.Entry.grant.Goals as goal
 
 pub returns-clause-grant : goal.returns-clause-grant
@@ -13,4 +13,4 @@ returns-clause-grant c = λ harts l.
 pub returns-clause-line : goal.returns-clause-line
 returns-clause-line c = λ harts l few.
     let perm_is : c.perm-2.result ≡ named_by (granted_for c.args.grow) = c.perm-2.ensures ∙ ap named_by c.granted-cap.ensures in
-    line_of-granted harts c.args.self c.note-noted.result c.args.requester c.args.grow (rw perm_is at c.note-noted.ensures) l few
+    line_of-granting harts c.args.self c.note-noted.result c.args.requester c.args.grow (rw perm_is at c.note-noted.ensures) l few
