@@ -1,0 +1,9 @@
+-- The numbers that the words may give are numbers of 32 bits.
+use Rattle.std.proofs.Common.{◌<◌, ◌^◌, arith}
+use Rattle.command_settings.specs.Usage.{most_limit, most_size}
+
+pub small_size : most_size < 2 ^ 32
+small_size = omega arith
+
+pub small_limit : most_limit < 2 ^ 32
+small_limit = omega arith

@@ -1,0 +1,16 @@
+use Rattle.std.proofs.Common.{◌∙◌, codes, refl}
+use Rattle.clap.proofs.WalkLemmas.{one_text-rows}
+use Rattle.clap.specs.Words.{found_of}
+use Rattle.command_settings.proofs.Missing.{flag_read}
+use Rattle.command_settings.proofs.usage.explain_of.Goals as goal
+
+pub returns-clause-meant : goal.returns-clause-meant
+returns-clause-meant c = λ whole.
+    let flag = one_text-rows (found_of c.args.matches.now) (codes "strict") in
+    record {
+      replay = c.in_ok-replay.ensures.meant whole.1;
+      strict = flag_read _ whole.0.0 _ whole.0.1 (λ h. c.get_flag.ensures.value (flag ∙ h)) (λ h. c.get_flag.ensures.other (flag ∙ h));
+    }
+
+pub returns-in_err-replay-clause-missing : goal.returns-in_err-replay-clause-missing
+returns-in_err-replay-clause-missing c = λ none whole. c.in_err-replay.ensures.missing refl whole.1

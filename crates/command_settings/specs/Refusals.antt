@@ -1,0 +1,37 @@
+-- When the program's words are refused, as the kit lists the kinds of error that the words may give.
+use Rattle.std.specs.Prelude.{◌≡◌, ◌≢◌, ◌⊎◌, [], List}
+use Rattle.clap.specs.Words.{App, IsAmong, Kinds, Text, fault_of, kind_of}
+use Rattle.clap.specs.declared.error.Error.{Error}
+use Rattle.clap.specs.declared.error.kind.ErrorKind.{ErrorKind}
+use Rattle.clap.specs.declared.error.kind.ErrorKind.TheVariants.{DisplayHelp, DisplayVersion, OutOfMemory}
+use Rattle.command_settings.specs.Usage.{IsUsage}
+use Rattle.command_settings.specs.declared.wanted.SettingsError.{SettingsError}
+use Rattle.command_settings.specs.declared.wanted.SettingsError.TheVariants.{NoMemory, Usage}
+
+-- want of memory is told as that, and each other error as it is
+abbrev pub Tells : Error → SettingsError → Type 0
+Tells error NoMemory = kind_of error ≡ OutOfMemory
+Tells error (Usage told) = (kind_of error ≢ OutOfMemory) × (told ≡ error)
+
+-- P holds of the kinds of error that the words, the first of which is the program's name, may give by the usage: none where they fit
+abbrev pub HasFaults : List Text → (Kinds → Type 0) → Type 0
+HasFaults words P = (app : App) × IsUsage app × P (fault_of app words)
+
+abbrev pub IsFitting : List Text → Type 0
+IsFitting words = HasFaults words (λ kinds. kinds ≡ [])
+
+-- memory ran out, or the error is of a kind that the words may give
+abbrev pub IsRefused : List Text → SettingsError → Type 0
+IsRefused words NoMemory = Unit {0}
+IsRefused words (Usage error) = HasFaults words (IsAmong (kind_of error))
+
+abbrev pub IsHelp : ErrorKind → Type 0
+IsHelp kind = (kind ≡ DisplayHelp) ⊎ (kind ≡ DisplayVersion)
+
+-- the words ask for a text about the program
+abbrev pub IsForHelp : List Text → Type 0
+IsForHelp words = HasFaults words (λ kinds. (kind : ErrorKind) × IsAmong kind kinds × IsHelp kind)
+
+-- the words may be refused by the usage: another kind than help is listed (after the word `help` both are)
+abbrev pub IsUnfit : List Text → Type 0
+IsUnfit words = HasFaults words (λ kinds. (kind : ErrorKind) × IsAmong kind kinds × (¬ IsHelp kind))

@@ -1,0 +1,123 @@
+-- What the program's words ask for, as the kit reads the words for the program's usage.
+use Rattle.std.specs.Prelude.{ℕ, ◌≡◌, ◌≤◌, ◌∷◌, [], Bool, true, false, List, None, Option, Some, codes, if◌then◌else◌}
+use Rattle.std.specs.Str.{bytes_eq}
+use Rattle.std.specs.Str.Parse.{IsNumeral, digits_value, without_leading_plus}
+use Rattle.clap.specs.Values.{IsUnsignedIn}
+use Rattle.clap.specs.Words.{App, Row, Text, first_of, one_of, subcommand_of}
+use Rattle.command_settings.specs.Usage.{Argument, IsUsage, Subcommand, least_limit, most_limit, subcommands}
+use Rattle.command_settings.specs.declared.wanted.Check.{Check}
+use Rattle.command_settings.specs.declared.wanted.Explain.{Explain}
+use Rattle.command_settings.specs.declared.wanted.MachineOptions.{MachineOptions}
+use Rattle.command_settings.specs.declared.wanted.Replay.{Replay}
+use Rattle.command_settings.specs.declared.wanted.Run.{Run}
+use Rattle.command_settings.specs.declared.wanted.Settings.{Settings}
+use Rattle.command_settings.specs.declared.wanted.Settings.TheVariants as settings
+use Rattle.memory_model.specs.declared.Model.{Model}
+use Rattle.memory_model.specs.declared.Model.TheVariants.{Rvwmo, Ztso}
+
+-- ---- the settings
+
+abbrev pub name_of : Model → Text
+name_of Rvwmo = codes "rvwmo"
+name_of Ztso = codes "ztso"
+
+abbrev pub flag_text : Bool → Text
+flag_text true = codes "true"
+flag_text false = codes "false"
+
+-- the flag was given, or not
+abbrev pub IsFlag : Text → List Row → Bool → Type 0
+IsFlag id rows given = one_of id rows ≡ Some (flag_text given)
+
+abbrev pub IsText : Text → List Row → Text → Type 0
+IsText id rows text = first_of id rows ≡ Some text
+
+abbrev pub IsModel : List Row → Model → Type 0
+IsModel rows model = IsText (codes "model") rows (name_of model)
+
+-- the text is the number in decimal digits, before which a plus may stand
+abbrev pub Spells : Text → ℕ → Type 0
+Spells text n = IsNumeral 10 (without_leading_plus text) × (digits_value 10 (without_leading_plus text) ≡ n)
+
+-- the argument has this number
+abbrev pub IsNumber : Text → List Row → ℕ → Type 0
+IsNumber id rows n = (text : Text) × (one_of id rows ≡ Some text) × Spells text n
+
+-- the arguments of `replay` have these texts
+pub record IsReplayMeant (rows : List Row) (replay : Replay) : Type 0 where
+  pub raw : IsFlag (codes "raw") rows replay.raw
+  pub model : IsModel rows replay.model
+  pub image : IsText (codes "IMAGE") rows replay.image.now
+  pub script : IsText (codes "SCRIPT") rows replay.script.now
+
+-- the arguments of `explain` have these texts
+pub record IsExplainMeant (rows : List Row) (explain : Explain) : Type 0 where
+  pub replay : IsReplayMeant rows explain.replay
+  pub strict : IsFlag (codes "strict") rows explain.strict
+
+-- the arguments of a machine have these numbers, and its model this name
+pub record IsMachineMeant (rows : List Row) (machine : MachineOptions) : Type 0 where
+  pub harts : IsNumber (codes "harts") rows machine.harts
+  pub memory : IsNumber (codes "memory") rows machine.memory
+  pub sets : IsNumber (codes "sets") rows machine.sets
+  pub ways : IsNumber (codes "ways") rows machine.ways
+  pub line : IsNumber (codes "line") rows machine.line
+  pub model : IsModel rows machine.model
+
+-- the arguments of `run` have these texts and numbers, and the limit is in its range
+pub record IsRunMeant (rows : List Row) (run : Run) : Type 0 where
+  pub raw : IsFlag (codes "raw") rows run.raw
+  pub machine : IsMachineMeant rows run.machine
+  pub limit : IsNumber (codes "limit") rows run.limit
+  pub least : least_limit ≤ run.limit
+  pub most : run.limit ≤ most_limit
+  pub journal : IsText (codes "journal") rows run.journal.now
+  pub image : IsText (codes "IMAGE") rows run.image.now
+
+-- the arguments of `check` have these texts
+pub record IsCheckMeant (rows : List Row) (check : Check) : Type 0 where
+  pub model : IsModel rows check.model
+  pub trace : IsText (codes "TRACE") rows check.trace.now
+
+-- the settings are those of the subcommand of this name, whose arguments have these texts
+abbrev pub IsMeant : Text → List Row → Settings → Type 0
+IsMeant name rows (settings.Replay replay) = (name ≡ codes "replay") × IsReplayMeant rows replay
+IsMeant name rows (settings.Explain explain) = (name ≡ codes "explain") × IsExplainMeant rows explain
+IsMeant name rows (settings.Run run) = (name ≡ codes "run") × IsRunMeant rows run
+IsMeant name rows (settings.Check check) = (name ≡ codes "check") × IsCheckMeant rows check
+
+-- the settings are what the words, the first of which is the program's name, say by the usage
+abbrev pub IsNamed : List Text → Settings → Type 0
+IsNamed words wanted = (app : App) × IsUsage app × (name : Text) × (rows : List Row)
+    × (subcommand_of app words ≡ Some (name, rows)) × IsMeant name rows wanted
+
+-- ---- what words without a fault have given
+
+-- the argument has a text that is a number in the range
+abbrev pub HasNumber : Text → (low high : ℕ) → List Row → Type 0
+HasNumber id low high rows = (text : Text) × (one_of id rows ≡ Some text) × IsUnsignedIn low high text
+
+-- the argument has such a text as it takes
+abbrev pub Has : List Row → Argument → Type 0
+Has rows (Argument.flag id) = (given : Bool) × IsFlag id rows given
+Has rows Argument.model = (meant : Model) × IsModel rows meant
+Has rows (Argument.number id default low high) = HasNumber id low high rows
+Has rows (Argument.required_option id) = (text : Text) × IsText id rows text
+Has rows (Argument.file id) = (text : Text) × IsText id rows text
+
+abbrev pub HasAll : List Row → List Argument → Type 0
+HasAll rows [] = Unit {0}
+HasAll rows (argument ∷ rest) = Has rows argument × HasAll rows rest
+
+-- the arguments of the subcommand of this name
+abbrev pub arguments_of : List Subcommand → Text → Option (List Argument)
+arguments_of [] name = None
+arguments_of (s ∷ rest) name = if bytes_eq s.name name then Some s.arguments else arguments_of rest name
+
+abbrev pub HasAllOf : List Row → Option (List Argument) → Type 0
+HasAllOf rows None = ⊥
+HasAllOf rows (Some arguments) = HasAll rows arguments
+
+-- the subcommand of this name has each argument that it asks for
+abbrev pub IsComplete : Text → List Row → Type 0
+IsComplete name rows = HasAllOf rows (arguments_of subcommands name)

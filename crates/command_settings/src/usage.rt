@@ -1,0 +1,134 @@
+//! How the program's words are read by its usage.
+
+ghost use Rattle.std.specs.Prelude.{ℕ, ◌≡◌, ◌≢◌, ◌<◌, ◌≤◌, ◌^◌, IfErr, IfOk, IfSome, IsNone, List, OnOk, Some, map};
+ghost use Rattle.clap.specs.Words.{Row, Text, found_of, rows_of, subcommand_rows_of};
+ghost use Rattle.command_settings.specs.Refusals.{IsFitting, IsRefused};
+ghost use Rattle.command_settings.specs.Settings.{HasAll, HasNumber, IsCheckMeant, IsComplete, IsExplainMeant, IsMachineMeant, IsMeant, IsNamed, IsNumber, IsReplayMeant, IsRunMeant, name_of};
+ghost use Rattle.command_settings.specs.Usage.{check_arguments, explain_arguments, machine_arguments, replay_arguments, run_arguments};
+
+use crate::commands::command;
+use crate::wanted::{Check, Explain, MachineOptions, Replay, Run, Settings, SettingsError};
+use clap::ArgMatches;
+use clap::error::ErrorKind;
+use memory_model::Model;
+use std::alloc::Global;
+use std::convert::AsStr;
+
+/// What the words ask for, of which the first is the program's name.
+pub fn settings<'a, S: AsStr>(alloc: Global, words: &'a [S]) -> Result<Settings<'a>, SettingsError>
+    ensures named { IfOk result (IsNamed (map S.text words.entry.now)) }
+    ensures fitting { OnOk result (IsFitting (map S.text words.entry.now)) }
+    ensures refused { IfErr result (IsRefused (map S.text words.entry.now)) }
+{
+    let mut command = command(alloc)?;
+    let matches = command.try_get_matches_from_mut(words)?;
+    match settings_of(&matches) {
+        Some(settings) => Ok(settings),
+        // The usage asks for a subcommand and its files, so that the parse has refused such words.
+        None => {
+            let missing = command.error(
+                ErrorKind::MissingSubcommand,
+                "replay, explain, run or check is wanted",
+            )?;
+            Err(SettingsError::Usage(missing))
+        }
+    }
+}
+
+fn settings_of<'a>(matches: &ArgMatches<'a>) -> Option<Settings<'a>>
+    ensures meant { IfSome result (λ settings. (name : Text) × (rows : List Row)
+        × (subcommand_rows_of matches.now ≡ Some (name, rows)) × (IsComplete name rows → IsMeant name rows settings)) }
+    ensures missing { IsNone result → (name : Text) → (rows : List Row)
+        → subcommand_rows_of matches.now ≡ Some (name, rows) → IsComplete name rows → ⊥ }
+{
+    match matches.subcommand()? {
+        ("replay", replay) => Some(Settings::Replay(replay_of(replay)?)),
+        ("explain", explain) => Some(Settings::Explain(explain_of(explain)?)),
+        ("run", run) => Some(Settings::Run(run_of(run)?)),
+        ("check", check) => Some(Settings::Check(check_of(check)?)),
+        _ => None,
+    }
+}
+
+fn replay_of<'a>(matches: &ArgMatches<'a>) -> Option<Replay<'a>>
+    ensures meant { IfSome result (λ replay. HasAll (rows_of (found_of matches.now)) replay_arguments
+        → IsReplayMeant (rows_of (found_of matches.now)) replay) }
+    ensures missing { IsNone result → HasAll (rows_of (found_of matches.now)) replay_arguments → ⊥ }
+{
+    Some(Replay {
+        raw: matches.get_flag("raw"),
+        model: model_of(matches.get_str("model")?)?,
+        image: matches.get_str("IMAGE")?,
+        script: matches.get_str("SCRIPT")?,
+    })
+}
+
+fn explain_of<'a>(matches: &ArgMatches<'a>) -> Option<Explain<'a>>
+    ensures meant { IfSome result (λ explain. HasAll (rows_of (found_of matches.now)) explain_arguments
+        → IsExplainMeant (rows_of (found_of matches.now)) explain) }
+    ensures missing { IsNone result → HasAll (rows_of (found_of matches.now)) explain_arguments → ⊥ }
+{
+    let replay = replay_of(matches)?;
+    Some(Explain {
+        replay,
+        strict: matches.get_flag("strict"),
+    })
+}
+
+fn machine_of(matches: &ArgMatches<'_>) -> Option<MachineOptions>
+    ensures meant { IfSome result (λ machine. HasAll (rows_of (found_of matches.now)) machine_arguments
+        → IsMachineMeant (rows_of (found_of matches.now)) machine) }
+    ensures missing { IsNone result → HasAll (rows_of (found_of matches.now)) machine_arguments → ⊥ }
+{
+    Some(MachineOptions {
+        harts: number_of(matches, "harts")?,
+        memory: number_of(matches, "memory")?,
+        sets: number_of(matches, "sets")?,
+        ways: number_of(matches, "ways")?,
+        line: number_of(matches, "line")?,
+        model: model_of(matches.get_str("model")?)?,
+    })
+}
+
+fn run_of<'a>(matches: &ArgMatches<'a>) -> Option<Run<'a>>
+    ensures meant { IfSome result (λ run. HasAll (rows_of (found_of matches.now)) run_arguments
+        → IsRunMeant (rows_of (found_of matches.now)) run) }
+    ensures missing { IsNone result → HasAll (rows_of (found_of matches.now)) run_arguments → ⊥ }
+{
+    Some(Run {
+        raw: matches.get_flag("raw"),
+        machine: machine_of(matches)?,
+        limit: number_of(matches, "limit")?,
+        journal: matches.get_str("journal")?,
+        image: matches.get_str("IMAGE")?,
+    })
+}
+
+fn check_of<'a>(matches: &ArgMatches<'a>) -> Option<Check<'a>>
+    ensures meant { IfSome result (λ check. HasAll (rows_of (found_of matches.now)) check_arguments
+        → IsCheckMeant (rows_of (found_of matches.now)) check) }
+    ensures missing { IsNone result → HasAll (rows_of (found_of matches.now)) check_arguments → ⊥ }
+{
+    let model = model_of(matches.get_str("model")?)?;
+    let trace = matches.get_str("TRACE")?;
+    Some(Check { model, trace })
+}
+
+fn number_of(matches: &ArgMatches<'_>, id: &str) -> Option<u32>
+    ensures meant { IfSome result (λ n. (low high : ℕ) → HasNumber id.now low high (rows_of (found_of matches.now))
+        → IsNumber id.now (rows_of (found_of matches.now)) n × (low ≤ n) × (n ≤ high)) }
+    ensures missing { IsNone result → (low high : ℕ) → high < 2 ^ 32 → HasNumber id.now low high (rows_of (found_of matches.now)) → ⊥ }
+{
+    matches.get_one(id)
+}
+
+fn model_of(name: &str) -> Option<Model>
+    ensures known { IfSome result (λ model. name.now ≡ name_of model) }
+    ensures unknown { IsNone result → (model : Model) → name.now ≢ name_of model }
+{
+    match name {
+        "rvwmo" => Some(Model::Rvwmo),
+        "ztso" => Some(Model::Ztso),
+        _ => None,
+    }
+}

@@ -1,0 +1,105 @@
+//! What the words of the command line ask for.
+
+use clap::error::ErrorKind;
+use memory_model::Model;
+use std::alloc::AllocError;
+use thiserror::Error;
+
+/// Apply the events of the file `script` to a machine that begins with the file `image`, which has bare
+/// words where `raw` is set, and else is an ELF file.
+#[derive(Clone, Copy, Debug, PartialEq, Eq)]
+pub struct Replay<'a> {
+    pub raw: bool,
+    /// Under which the machine runs.
+    pub model: Model,
+    pub image: &'a str,
+    pub script: &'a str,
+}
+
+/// The machine that the words name. Its numbers are as they were given: no machine need be of that size.
+#[derive(Clone, Copy, Debug, PartialEq, Eq)]
+pub struct MachineOptions {
+    /// How many harts the machine has.
+    pub harts: u32,
+    /// Main memory's size in KiB.
+    pub memory: u32,
+    /// How many sets each cache has.
+    pub sets: u32,
+    /// How many lines a set holds.
+    pub ways: u32,
+    /// How many bytes a line has.
+    pub line: u32,
+    /// Under which the machine runs.
+    pub model: Model,
+}
+
+/// Run the file `image` with a thread for each hart, and write the events that happened into the file
+/// `journal` as a script. The image has bare words where `raw` is set, and else is an ELF file.
+#[derive(Clone, Copy, Debug, PartialEq, Eq)]
+pub struct Run<'a> {
+    pub raw: bool,
+    pub machine: MachineOptions,
+    /// After how many events, those that change nothing among them, the run ends: 1 to 1000000000.
+    pub limit: u32,
+    pub journal: &'a str,
+    pub image: &'a str,
+}
+
+/// Replay, and tell of each event what it did.
+#[derive(Clone, Copy, Debug, PartialEq, Eq)]
+pub struct Explain<'a> {
+    pub replay: Replay<'a>,
+    /// End before the first event that changes nothing.
+    pub strict: bool,
+}
+
+/// Judge the order of the trace in the file `trace`.
+#[derive(Clone, Copy, Debug, PartialEq, Eq)]
+pub struct Check<'a> {
+    /// Under which the order is judged.
+    pub model: Model,
+    pub trace: &'a str,
+}
+
+/// What the program is to do.
+#[derive(Clone, Copy, Debug, PartialEq, Eq)]
+pub enum Settings<'a> {
+    Replay(Replay<'a>),
+    Run(Run<'a>),
+    Explain(Explain<'a>),
+    Check(Check<'a>),
+}
+
+/// Why the words ask for nothing that the program can do.
+#[derive(Debug, Drop, Error)]
+pub enum SettingsError {
+    /// The words don't fit the usage, or ask for help: the text to print.
+    #[error("{0}")]
+    Usage(clap::Error),
+    #[error("out of memory")]
+    NoMemory,
+}
+
+impl From<AllocError> for SettingsError {
+    ghost use Rattle.std.specs.Prelude.{◌≡◌};
+    ghost use Rattle.command_settings.specs.declared.wanted.SettingsError.TheVariants.{NoMemory};
+
+    ghost from_gives = { λ _ error. error ≡ NoMemory };
+
+    fn from(_error: AllocError) -> Self {
+        SettingsError::NoMemory
+    }
+}
+
+impl From<clap::Error> for SettingsError {
+    ghost use Rattle.command_settings.specs.Refusals.{Tells};
+
+    ghost from_gives = { Tells };
+
+    fn from(error: clap::Error) -> Self {
+        match error.kind() {
+            ErrorKind::OutOfMemory => SettingsError::NoMemory,
+            _ => SettingsError::Usage(error),
+        }
+    }
+}
