@@ -54,10 +54,10 @@ runs_replay held left run replay old new before after of ran replayed =
     let journal = known_bytes (left run.journal.now) _ of.kept kept.journal_file.bytes in
     let script_same : replayed.script ≡ ran.script = replayed.only ran.script kept.journal_file.is_script (ap left of.script ∙ journal) in
     let image_same : replayed.image ≡ ran.image =
-    one_image held left run.raw replay.raw run.image.now replay.image.now run.memory replayed.script.kib ran.image replayed.image of.bytes of.raw of.image
+    one_image held left run.raw replay.raw run.image.now replay.image.now run.machine.memory replayed.script.kib ran.image replayed.image of.bytes of.raw of.image
     (ap (λ (s : Script). s.kib) script_same ∙ kept.memory) of.read of.still kept.image_file replayed.image_file in
     let state_same : replayed.reached ≡ ran.reached =
-    one_state ran.image replayed.image ran.script replayed.script run.model replay.model ran.reached replayed.reached image_same script_same of.model ran.composed.replayed replayed.composed.replayed in
+    one_state ran.image replayed.image ran.script replayed.script run.machine.model replay.model ran.reached replayed.reached image_same script_same of.model ran.composed.replayed replayed.composed.replayed in
     record {
       printed = text ran.reached.trace;
       once = ran.composed.printed;

@@ -6,8 +6,8 @@ use Rattle.command_line.specs.Status.{status_of}
 use Rattle.command_line.specs.Turns.{HasScript, IsCheckFault, IsExplainFault, IsImageFault, IsReadFault, IsReplayFault, IsRunFault, IsScriptFault, Leaves, Name}
 use Rattle.command_line.specs.declared.fault.Fault.{Fault}
 use Rattle.command_line.specs.declared.fault.Fault.TheVariants.{BadEvent, BytesAfterTrace, CannotMake, CannotRead, CannotWrite, Check, Configuration, Event, Image, Mismatch, NoThread, NothingHappens, OutOfMemory, Text}
-use Rattle.command_line.specs.declared.wanted.Replay.{Replay}
-use Rattle.command_line.specs.declared.wanted.Run.{Run}
+use Rattle.command_settings.specs.declared.wanted.Replay.{Replay}
+use Rattle.command_settings.specs.declared.wanted.Run.{Run}
 
 module _ (old new : Option (List ℕ)) (broken : Type 0) where
   -- any fault but the output's leaves it as it was

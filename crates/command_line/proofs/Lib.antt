@@ -1,10 +1,6 @@
 mod Again
-mod Fitting
 mod Left
 mod Limits
-mod Missing
-mod Numbers
 mod Replays
 mod Streams
-mod Walked
 mod Written

@@ -26,7 +26,7 @@ use Rattle.command_line.specs.Status.{IsStreamFault, line_at}
 use Rattle.command_line.specs.Turns.{IsExplainFault}
 use Rattle.command_line.specs.declared.fault.Fault.{Fault}
 use Rattle.command_line.specs.declared.fault.Fault.TheVariants.{CannotWrite, Configuration, OutOfMemory}
-use Rattle.command_line.specs.declared.wanted.Replay.{Replay}
+use Rattle.command_settings.specs.declared.wanted.Replay.{Replay}
 use Rattle.command_line.proofs.Written.{all_begun, kept_on}
 
 begun_on : (old mid new : Option (List ℕ)) (text : List ℕ) → Begins old mid text → Keeps mid new → Begins old new text

@@ -2,10 +2,8 @@ pub mod Composition
 pub mod Files
 pub mod Held
 pub mod Lines
-pub mod Refusals
 pub mod Running
 pub mod Runs
-pub mod Settings
 pub mod Sizes
 pub mod Status
 pub mod Turns

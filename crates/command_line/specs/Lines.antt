@@ -30,8 +30,8 @@ use Rattle.command_line.specs.Composition.{IsComposition, Leads, config_of}
 use Rattle.command_line.specs.Files.{HoldsImage, HoldsScript, HoldsTrace, IsTheScriptIn}
 use Rattle.command_line.specs.Held.{Held}
 use Rattle.command_line.specs.Sizes.{config_named}
-use Rattle.command_line.specs.declared.wanted.Replay.{Replay}
-use Rattle.command_line.specs.declared.wanted.Run.{Run}
+use Rattle.command_settings.specs.declared.wanted.Replay.{Replay}
+use Rattle.command_settings.specs.declared.wanted.Run.{Run}
 
 -- what was appended is the text of the trace that the script in the one file means for the image in the other; no other script has that file's text
 pub record IsReplayed (held : Held) (replay : Replay) (old new : Option (List ℕ)) : Type 0 where
@@ -55,9 +55,9 @@ pub record IsExplained (held : Held) (replay : Replay) (strictness : Strictness)
 
 -- the run of the image in the one file has left this script in the other: it is for the machine that was named
 pub record IsKept (held left : Held) (run : Run) (image : Initial) (script : Script) : Type 0 where
-  pub image_file : HoldsImage held run.raw run.image.now run.memory image
-  pub config : config_of script run.model ≡ config_named run
-  pub memory : script.kib ≡ run.memory
+  pub image_file : HoldsImage held run.raw run.image.now run.machine.memory image
+  pub config : config_of script run.machine.model ≡ config_named run.machine
+  pub memory : script.kib ≡ run.machine.memory
   pub journal_file : HoldsScript left run.journal.now script
 
 -- and what was appended is the text of the trace that this script means for that image
@@ -66,7 +66,7 @@ pub record IsRun (held left : Held) (run : Run) (old new : Option (List ℕ)) : 
   pub image : Initial
   pub reached : State
   pub kept : IsKept held left run image script
-  pub composed : IsComposition image script run.model old new reached
+  pub composed : IsComposition image script run.machine.model old new reached
 
 -- an operation as HART:PLACE
 abbrev pub operation_text : OpId → List ℕ
@@ -126,7 +126,7 @@ pub record IsRunCutOff (held left : Held) (run : Run) (old new : Option (List �
   pub image : Initial
   pub reached : State
   pub kept : IsKept held left run image script
-  pub replayed : Leads image script run.model reached
+  pub replayed : Leads image script run.machine.model reached
   pub begun : Begins old new (text reached.trace)
 
 -- it took no more than a beginning of the verdict on the trace in the file

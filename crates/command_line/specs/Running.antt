@@ -1,13 +1,15 @@
 -- What a run of the program has done, by its status.
-use Rattle.std.specs.Prelude.{◌≡◌, ◌≢◌, ◌⊎◌, ℕ, List, Option}
+use Rattle.std.specs.Prelude.{◌≡◌, ◌≢◌, ◌⊎◌, ℕ, Bool, false, true, List, Option}
 use Rattle.clap.specs.Words.{Text}
 use Rattle.command_line.specs.Held.{Held}
 use Rattle.command_line.specs.Lines.{IsCutOff, IsExplained, IsJudged, IsReplayed, IsRun, IsRunCutOff, IsStopped, IsVerdictCutOff}
-use Rattle.command_line.specs.Refusals.{IsFitting, IsForHelp}
-use Rattle.command_line.specs.Settings.{IsNamed}
+use Rattle.command_settings.specs.Refusals.{IsFitting, IsForHelp}
+use Rattle.command_settings.specs.Settings.{IsNamed}
 use Rattle.command_line.specs.Sizes.{IsOutside}
-use Rattle.command_line.specs.declared.wanted.Settings.{Settings}
-use Rattle.command_line.specs.declared.wanted.Settings.TheVariants.{Check, Explain, Replay, Run}
+use Rattle.command_settings.specs.declared.wanted.Settings.{Settings}
+use Rattle.command_settings.specs.declared.wanted.Settings.TheVariants.{Check, Explain, Replay, Run}
+use Rattle.event_stream.specs.declared.strictness.Strictness.{Strictness}
+use Rattle.event_stream.specs.declared.strictness.Strictness.TheVariants.{Lenient, Strict}
 use Rattle.rvwmo_order.specs.declared.verdict.Code.{Code}
 use Rattle.rvwmo_order.specs.declared.verdict.Verdict.TheVariants.{Fault, Legal}
 use Rattle.trace_recorder.specs.declared.operation.OpId.{OpId}
@@ -16,12 +18,16 @@ use Rattle.trace_recorder.specs.declared.operation.OpId.{OpId}
 abbrev pub HasNamed : List Text → (Settings → Type 0) → Type 0
 HasNamed words P = (wanted : Settings) × IsNamed words wanted × IsFitting words × P wanted
 
+abbrev pub strictness_of : Bool → Strictness
+strictness_of false = Lenient
+strictness_of true = Strict
+
 -- the script was replayed and its trace printed, or what each of its events did; the program ran and its journal was kept and its trace printed, or the trace's order is legal
 abbrev pub IsDone : Held → Held → Option (List ℕ) → Option (List ℕ) → Settings → Type 0
 IsDone held left old new (Replay replay) = IsReplayed held replay old new
-IsDone held left old new (Explain replay strictness) = IsExplained held replay strictness old new
+IsDone held left old new (Explain explain) = IsExplained held explain.replay (strictness_of explain.strict) old new
 IsDone held left old new (Run run) = IsRun held left run old new
-IsDone held left old new (Check model trace) = IsJudged held trace.now model Legal old new
+IsDone held left old new (Check check) = IsJudged held check.trace.now check.model Legal old new
 
 -- the words ask for help, or what they name was done
 unfoldable pub IsCarriedOut : List Text → Held → Held → Option (List ℕ) → Option (List ℕ) → Type 0
@@ -30,10 +36,10 @@ IsCarriedOut words held left old new = IsForHelp words ⊎ HasNamed words (IsDon
 -- the trace's order is not legal, and the fault that shows it was printed
 abbrev pub IsFaulty : Held → Option (List ℕ) → Option (List ℕ) → Settings → Type 0
 IsFaulty held old new (Replay replay) = ⊥
-IsFaulty held old new (Explain replay strictness) = ⊥
+IsFaulty held old new (Explain explain) = ⊥
 IsFaulty held old new (Run run) = ⊥
-IsFaulty held old new (Check model trace) =
-    (code : Code) × (a : OpId) × (b : OpId) × IsJudged held trace.now model (Fault code a b) old new
+IsFaulty held old new (Check check) =
+    (code : Code) × (a : OpId) × (b : OpId) × IsJudged held check.trace.now check.model (Fault code a b) old new
 
 unfoldable pub IsNotLegal : List Text → Held → Option (List ℕ) → Option (List ℕ) → Type 0
 IsNotLegal words held old new = HasNamed words (IsFaulty held old new)
@@ -41,9 +47,9 @@ IsNotLegal words held old new = HasNamed words (IsFaulty held old new)
 -- no more than a beginning of what was to be printed went out: of a stream, all that stands before the event at which it ends
 abbrev pub IsBroken : Held → Held → Option (List ℕ) → Option (List ℕ) → Settings → Type 0
 IsBroken held left old new (Replay replay) = IsCutOff held replay old new
-IsBroken held left old new (Explain replay strictness) = IsStopped held replay strictness old new
+IsBroken held left old new (Explain explain) = IsStopped held explain.replay (strictness_of explain.strict) old new
 IsBroken held left old new (Run run) = IsRunCutOff held left run old new
-IsBroken held left old new (Check model trace) = IsVerdictCutOff held trace.now model old new
+IsBroken held left old new (Check check) = IsVerdictCutOff held check.trace.now check.model old new
 
 -- nothing was printed, or a beginning of a trace, a stream or a verdict; or there was help to print, whatever of it went out
 unfoldable pub IsUnprinted : List Text → Held → Held → Option (List ℕ) → Option (List ℕ) → Type 0
@@ -51,7 +57,7 @@ IsUnprinted words held left old new = (new ≡ old) ⊎ (IsForHelp words ⊎ Has
 
 -- the words name a machine that can't be made
 abbrev pub IsBeyond : Settings → Type 0
-IsBeyond (Run run) = IsOutside run
+IsBeyond (Run run) = IsOutside run.machine
 IsBeyond _ = ⊥
 
 -- the file is the journal of a run

@@ -3,13 +3,13 @@ use Rattle.std.specs.Prelude.{◌≡◌, ℕ, List, Option, Some, true, is_some}
 use Rattle.std.specs.Io.KnownBytes.{Appends}
 use Rattle.command_line.specs.Held.{Held}
 use Rattle.command_line.specs.Lines.{IsReplayed, IsRun}
-use Rattle.command_line.specs.declared.wanted.Replay.{Replay}
-use Rattle.command_line.specs.declared.wanted.Run.{Run}
+use Rattle.command_settings.specs.declared.wanted.Replay.{Replay}
+use Rattle.command_settings.specs.declared.wanted.Run.{Run}
 
 -- the replay is of the run's journal, for the same image under the same model; the journal's bytes are known, and the image's file still has the bytes that it had
 pub record IsOfRun (held left : Held) (run : Run) (replay : Replay) : Type 0 where
   pub raw : replay.raw ≡ run.raw
-  pub model : replay.model ≡ run.model
+  pub model : replay.model ≡ run.machine.model
   pub script : replay.script.now ≡ run.journal.now
   pub image : replay.image.now ≡ run.image.now
   pub kept : is_some (left run.journal.now) ≡ true

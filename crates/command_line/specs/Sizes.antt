@@ -1,19 +1,19 @@
--- The machine that the words of a run name.
+-- The machine that the words name.
 use Rattle.std.specs.Prelude.{◌≡◌, ◌⊎◌, List, false}
-use Rattle.command_line.specs.declared.wanted.Run.{Run}
+use Rattle.command_settings.specs.declared.wanted.MachineOptions.{MachineOptions}
 use Rattle.elf_loader.specs.Size.{IsMemoryKib}
 use Rattle.machine_model.specs.Config.{is_within_limits}
 use Rattle.machine_model.specs.declared.config.Config.{Config}
 use Rattle.machine_model.specs.declared.event.Event.{Event}
 use Rattle.trace_text.specs.declared.script.Script.{Script}
 
-abbrev pub config_named : Run → Config
-config_named run = record { harts = run.harts; sets = run.sets; ways = run.ways; line = run.line; model = run.model }
+abbrev pub config_named : MachineOptions → Config
+config_named machine = record { harts = machine.harts; sets = machine.sets; ways = machine.ways; line = machine.line; model = machine.model }
 
 -- the script of these events for that machine
-abbrev pub script_named : Run → List Event → Script
-script_named run events = record { harts = run.harts; kib = run.memory; sets = run.sets; ways = run.ways; line = run.line; events = events }
+abbrev pub script_named : MachineOptions → List Event → Script
+script_named machine events = record { harts = machine.harts; kib = machine.memory; sets = machine.sets; ways = machine.ways; line = machine.line; events = events }
 
 -- no machine is of the size that was named
-abbrev pub IsOutside : Run → Type 0
-IsOutside run = (is_within_limits (config_named run) ≡ false) ⊎ (¬ IsMemoryKib run.memory)
+abbrev pub IsOutside : MachineOptions → Type 0
+IsOutside machine = (is_within_limits (config_named machine) ≡ false) ⊎ (¬ IsMemoryKib machine.memory)

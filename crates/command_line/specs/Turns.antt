@@ -15,8 +15,8 @@ use Rattle.command_line.specs.Held.{Held}
 use Rattle.command_line.specs.Sizes.{IsOutside}
 use Rattle.command_line.specs.declared.fault.Fault.{Fault}
 use Rattle.command_line.specs.declared.fault.Fault.TheVariants.{BadEvent, BytesAfterTrace, CannotMake, CannotRead, CannotWrite, Check, Configuration, Event, Image, Mismatch, NoThread, NothingHappens, OutOfMemory, Text}
-use Rattle.command_line.specs.declared.wanted.Replay.{Replay}
-use Rattle.command_line.specs.declared.wanted.Run.{Run}
+use Rattle.command_settings.specs.declared.wanted.Replay.{Replay}
+use Rattle.command_settings.specs.declared.wanted.Run.{Run}
 use Rattle.elf_loader.specs.Image.{Initial}
 use Rattle.machine_model.specs.Views.{opening}
 use Rattle.machine_parts.specs.declared.errors.ApplyError.{ApplyError}
@@ -87,13 +87,13 @@ IsExplainFault held replay strictness old new fault = IsReplayFault held replay 
 
 -- the machine's size is judged first, then the image, then the run, then the journal is written
 abbrev pub IsRunFault : Held → Run → Fault → Type 0
-IsRunFault held run Configuration = IsOutside run
+IsRunFault held run Configuration = IsOutside run.machine
 IsRunFault held run (CannotRead file) = file ≡ run.image
 IsRunFault held run (Image file error) = file ≡ run.image
-IsRunFault held run NoThread = (image : Initial) × HoldsImage held run.raw run.image.now run.memory image
-IsRunFault held run Mismatch = (image : Initial) × HoldsImage held run.raw run.image.now run.memory image
-IsRunFault held run BadEvent = (image : Initial) × HoldsImage held run.raw run.image.now run.memory image
-IsRunFault held run (CannotMake file) = (file ≡ run.journal) × ((image : Initial) × HoldsImage held run.raw run.image.now run.memory image)
+IsRunFault held run NoThread = (image : Initial) × HoldsImage held run.raw run.image.now run.machine.memory image
+IsRunFault held run Mismatch = (image : Initial) × HoldsImage held run.raw run.image.now run.machine.memory image
+IsRunFault held run BadEvent = (image : Initial) × HoldsImage held run.raw run.image.now run.machine.memory image
+IsRunFault held run (CannotMake file) = (file ≡ run.journal) × ((image : Initial) × HoldsImage held run.raw run.image.now run.machine.memory image)
 IsRunFault held run CannotWrite = Unit {0}
 IsRunFault held run OutOfMemory = Unit {0}
 IsRunFault held run _ = ⊥

@@ -8,7 +8,7 @@ use crate::composing::config_of;
 use crate::fault::Fault;
 use crate::files::Files;
 use crate::replaying::{image_in, script_in};
-use crate::wanted::Replay;
+use command_settings::Replay;
 use event_stream::{Strictness, write_stream};
 use std::alloc::Global;
 use std::io::Write;

@@ -15,46 +15,47 @@ use std::io::{self, ErrorKind};
 use thiserror::Error;
 use trace_text::{TextCode, TextError};
 
-/// What went wrong, with the file in which it did. Its text is the program's message.
+/// What went wrong, with the file in which it did. Its text is the program's message, of one line: what
+/// would end a line or steer a terminal is escaped in a file's name.
 #[derive(Debug, Drop, Error)]
 pub enum Fault<'a> {
-    #[error("rvtl: {file}: cannot read")]
+    #[error("rvtl: {}: cannot read", .file.escape_debug())]
     CannotRead {
         file: &'a str,
     },
-    #[error("rvtl: {file}: cannot write")]
+    #[error("rvtl: {}: cannot write", .file.escape_debug())]
     CannotMake {
         file: &'a str,
     },
     #[error("rvtl: cannot write")]
     CannotWrite,
-    #[error("rvtl: {file}: image fault {} {error}", .error.number())]
+    #[error("rvtl: {}: image fault {} {error}", .file.escape_debug(), .error.number())]
     Image {
         file: &'a str,
         error: LoadError,
     },
-    #[error("rvtl: {file}: line {}: text fault {} {}", .error.line, .error.code.number(), .error.code)]
+    #[error("rvtl: {}: line {}: text fault {} {}", .file.escape_debug(), .error.line, .error.code.number(), .error.code)]
     Text {
         file: &'a str,
         error: TextError,
     },
-    #[error("rvtl: {file}: line {line}: event fault {} {error}", .error.number())]
+    #[error("rvtl: {}: line {line}: event fault {} {error}", .file.escape_debug(), .error.number())]
     Event {
         file: &'a str,
         line: usize,
         error: ApplyError,
     },
-    #[error("rvtl: {file}: line {line}: nothing happens: {}", outcome_name(*.outcome))]
+    #[error("rvtl: {}: line {line}: nothing happens: {}", .file.escape_debug(), outcome_name(*.outcome))]
     NothingHappens {
         file: &'a str,
         line: usize,
         outcome: Outcome,
     },
-    #[error("rvtl: {file}: bytes after the trace")]
+    #[error("rvtl: {}: bytes after the trace", .file.escape_debug())]
     BytesAfterTrace {
         file: &'a str,
     },
-    #[error("rvtl: {file}: check fault {} {error}", .error.number())]
+    #[error("rvtl: {}: check fault {} {error}", .file.escape_debug(), .error.number())]
     Check {
         file: &'a str,
         error: CheckError,

@@ -12,8 +12,6 @@ mod replaying;
 mod running;
 mod system;
 mod threads;
-mod usage;
-mod wanted;
 
 pub use composing::{CompositionError, replay_and_write};
 pub use fault::Fault;
@@ -21,8 +19,6 @@ pub use files::Files;
 pub use laws::runs_replay;
 pub use running::run_line;
 pub use system::SystemFiles;
-pub use usage::settings;
-pub use wanted::{Replay, Run, Settings, SettingsError};
 
 #[cfg(test)]
 mod tests;

@@ -10,8 +10,8 @@ ghost use Rattle.command_line.specs.Turns.{IsImageFault, IsReadFault, IsReplayFa
 use crate::composing::{CompositionError, replay_and_write};
 use crate::fault::Fault;
 use crate::files::Files;
-use crate::wanted::Replay;
 use coherent_machine::Machine;
+use command_settings::Replay;
 use elf_loader::{Image, load, raw, size_of_kib};
 use hart::Status;
 use std::alloc::Global;

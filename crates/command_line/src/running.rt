@@ -2,8 +2,8 @@
 
 ghost use Rattle.std.specs.Prelude.{◌≡◌, ◌≢◌, ◌⊎◌, ◌≤◌, ◌<◌, map};
 ghost use Rattle.clap.specs.Words.{kind_of};
-ghost use Rattle.command_line.specs.Refusals.{IsHelp, IsUnfit};
-ghost use Rattle.command_line.specs.Running.{HasNamed, IsBeyond, IsCarriedOut, IsNotLegal, IsUnprinted, Spares};
+ghost use Rattle.command_settings.specs.Refusals.{IsHelp, IsUnfit};
+ghost use Rattle.command_line.specs.Running.{HasNamed, IsBeyond, IsCarriedOut, IsNotLegal, IsUnprinted, Spares, strictness_of};
 
 use crate::checking::check_file;
 use crate::explaining::explain_files;
@@ -11,8 +11,8 @@ use crate::fault::Fault;
 use crate::files::Files;
 use crate::replaying::replay_files;
 use crate::threads::run_files;
-use crate::usage::settings;
-use crate::wanted::{Settings, SettingsError};
+use command_settings::{Settings, SettingsError, settings};
+use event_stream::Strictness;
 use rvwmo_order::Verdict;
 use std::alloc::Global;
 use std::convert::AsStr;
@@ -47,8 +47,9 @@ pub fn run_line<R: Threads + Wait + Sync, S: AsStr, F: Files, O: Write, E: Write
             Ok(()) => return 0,
             Err(fault) => fault,
         },
-        Ok(Settings::Explain { replay, strictness }) => {
-            match explain_files(alloc, files, replay, strictness, out) {
+        Ok(Settings::Explain(wanted)) => {
+            let strictness = strictness_of(wanted.strict);
+            match explain_files(alloc, files, wanted.replay, strictness, out) {
                 Ok(()) => return 0,
                 Err(fault) => fault,
             }
@@ -57,8 +58,8 @@ pub fn run_line<R: Threads + Wait + Sync, S: AsStr, F: Files, O: Write, E: Write
             Ok(()) => return 0,
             Err(fault) => fault,
         },
-        Ok(Settings::Check { model, trace }) => {
-            match check_file(alloc, files, trace, model, out) {
+        Ok(Settings::Check(wanted)) => {
+            match check_file(alloc, files, wanted.trace, wanted.model, out) {
                 Ok(Verdict::Legal) => return 0,
                 Ok(Verdict::Fault(_, _, _)) => return NOT_LEGAL,
                 Err(fault) => fault,
@@ -69,6 +70,16 @@ pub fn run_line<R: Threads + Wait + Sync, S: AsStr, F: Files, O: Write, E: Write
     };
     let _ = writeln!(err, "{fault}");
     fault.status()
+}
+
+fn strictness_of(strict: bool) -> Strictness
+    ensures { result ≡ strictness_of strict }
+{
+    if strict {
+        Strictness::Strict
+    } else {
+        Strictness::Lenient
+    }
 }
 
 /// Help goes to standard output with status 0, a usage fault to standard error with status 2.

@@ -364,6 +364,16 @@ fn usage_and_help(rt: HostRuntime) {
     }
 }
 
+#[test]
+fn a_name_stays_on_its_line(rt: HostRuntime) {
+    let ran = line(&rt, &["rvtl", "replay", "image", "a\nb\x1b[2J"], &[]);
+    assert_eq!(rt;
+        ran.err.as_slice(),
+        b"rvtl: a\\nb\\u{1b}[2J: cannot read\n".as_slice()
+    );
+    assert_eq!(rt; ran.status, 1);
+}
+
 /// Numbers that a run's options don't take.
 #[test]
 fn usage_of_a_run(rt: HostRuntime) {

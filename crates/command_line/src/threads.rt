@@ -18,7 +18,7 @@ ghost use Rattle.trace_text.specs.Traces.{text as trace_text};
 use crate::fault::Fault;
 use crate::files::Files;
 use crate::replaying::{image_in, print_ends};
-use crate::wanted::Run;
+use command_settings::{MachineOptions, Run};
 use elf_loader::size_of_kib;
 use host_threads::{Gate, Report, run};
 use machine_model::{Config, Event};
@@ -48,17 +48,23 @@ pub(crate) fn run_files<'a, R: Threads + Wait + Sync, F: Files, O: Write, E: Wri
     err: &mut E,
 ) -> Result<(), Fault<'a>>
     ensures ran { OnOk result (IsRun (F.held files.old) (F.held files.new) wanted.entry (O.contents out.old) (O.contents out.new)) }
-    ensures outside { IsOutside wanted.entry → result ≡ Err Fault.Configuration }
+    ensures outside { IsOutside wanted.entry.machine → result ≡ Err Fault.Configuration }
     ensures told { IfErr result (IsRunFault (F.held files.old) wanted.entry) }
     ensures unfinished { IfErr result (λ fault. Leaves fault (O.contents out.old) (O.contents out.new)
         (IsRunCutOff (F.held files.old) (F.held files.new) wanted.entry (O.contents out.old) (O.contents out.new))) }
     ensures spared { (other : List ℕ) → other ≢ wanted.entry.journal.now → F.held files.new other ≡ F.held files.old other }
 {
     every_trace_has_a_text();
-    let Some(config) = config_of(&wanted) else {
+    let Some(config) = config_of(wanted.machine) else {
         return Err(Fault::Configuration);
     };
-    let image = image_in(alloc, files, wanted.raw, wanted.image, wanted.memory)?;
+    let image = image_in(
+        alloc,
+        files,
+        wanted.raw,
+        wanted.image,
+        wanted.machine.memory,
+    )?;
     let limit = u64::from(wanted.limit);
     let report = match run(rt, alloc, image, config, limit, &Open) {
         Ok(report) => report,
@@ -70,7 +76,7 @@ pub(crate) fn run_files<'a, R: Threads + Wait + Sync, F: Files, O: Write, E: Wri
         journal,
         receipts: _,
     } = report;
-    let script = script_of(&wanted, journal);
+    let script = script_of(wanted.machine, journal);
     keep(alloc, files, wanted.journal, &script)?;
     print(&trace, out)?;
     // Standard error has no other place to tell that it takes no more.
@@ -79,9 +85,9 @@ pub(crate) fn run_files<'a, R: Threads + Wait + Sync, F: Files, O: Write, E: Wri
 }
 
 /// The machine that is wanted, where one of that size can be made.
-fn config_of(wanted: &Run<'_>) -> Option<Config>
-    ensures config { IfSome result (λ config. (config ≡ config_named wanted.now) × (is_within config ≡ true) × IsMemoryKib wanted.now.memory) }
-    ensures outside { IsNone result → IsOutside wanted.now }
+fn config_of(wanted: MachineOptions) -> Option<Config>
+    ensures config { IfSome result (λ config. (config ≡ config_named wanted) × (is_within config ≡ true) × IsMemoryKib wanted.memory) }
+    ensures outside { IsNone result → IsOutside wanted }
 {
     let config = Config {
         harts: wanted.harts,
@@ -98,8 +104,8 @@ fn config_of(wanted: &Run<'_>) -> Option<Config>
 }
 
 /// The script of a run: the machine that is wanted, and what happened to it.
-fn script_of(wanted: &Run<'_>, journal: Vec<Event>) -> Script
-    ensures script { result ≡ script_named wanted.now journal.items }
+fn script_of(wanted: MachineOptions, journal: Vec<Event>) -> Script
+    ensures script { result ≡ script_named wanted journal.items }
     ensures events { AllByRecursion IsEvent result.events }
 {
     all_spelt(journal.as_slice());

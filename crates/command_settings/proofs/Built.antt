@@ -1,5 +1,5 @@
 -- What words without a fault have given, where a subcommand's rules are built of its arguments.
-use Rattle.std.proofs.Common.{◌≡◌, ◌∙◌, ◌⊎◌, ◌&&◌, ◌||◌, ℕ, fold, Bor, Bool, true, false, cond, codes, List, [], ◌∷◌, ◌++◌, Option, Some, None, ap, inl, inr, is_some, map, not, refl, subst, sym}
+use Rattle.std.proofs.Common.{◌≡◌, ◌∙◌, ◌⊎◌, ◌&&◌, ◌||◌, ℕ, fold, Bor, Bool, true, false, cond, codes, List, [], ◌∷◌, ◌++◌, Option, Some, None, ap, inl, inr, not, refl, subst, sym}
 use Rattle.std.specs.Prelude.{find}
 use Rattle.std.specs.List.{list_any}
 use Rattle.std.specs.Option.{option_map_or}
@@ -22,7 +22,7 @@ use Rattle.clap.specs.declared.builder.value_parser.ValueParser.TheVariants as p
 use Rattle.clap.specs.declared.error.kind.ErrorKind.{ErrorKind}
 use Rattle.clap.specs.declared.error.kind.ErrorKind.TheVariants as kind
 use Rattle.clap.specs.declared.parser.matches.ValueSource.{ValueSource}
-use Rattle.command_settings.specs.Settings.{Has, HasAll, HasNumber, IsFlag, IsModel, IsText}
+use Rattle.command_settings.specs.Settings.{Has, HasAll, IsModel, IsText}
 use Rattle.command_settings.specs.Usage.{AreModelNames, Argument, ModelNames, rule_for}
 use Rattle.memory_model.specs.declared.Model.{Model}
 use Rattle.memory_model.specs.declared.Model.TheVariants.{Rvwmo, Ztso}

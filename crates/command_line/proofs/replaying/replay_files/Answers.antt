@@ -12,7 +12,7 @@ use Rattle.command_line.specs.declared.composing.CompositionError.{CompositionEr
 use Rattle.command_line.specs.declared.composing.CompositionError.TheVariants as composition
 use Rattle.command_line.specs.declared.fault.Fault.{Fault}
 use Rattle.command_line.specs.declared.fault.Fault.TheVariants.{CannotWrite, Configuration, Event, OutOfMemory}
-use Rattle.command_line.specs.declared.wanted.Replay.{Replay}
+use Rattle.command_settings.specs.declared.wanted.Replay.{Replay}
 use Rattle.elf_loader.specs.Image.{Initial}
 use Rattle.machine_model.specs.Config.{is_within_limits}
 use Rattle.machine_model.specs.Views.{opening}

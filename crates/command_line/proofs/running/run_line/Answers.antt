@@ -1,4 +1,4 @@
-use Rattle.std.proofs.Common.{◌≡◌, ◌≢◌, ◌∙◌, ◌⊎◌, ℕ, Bool, true, false, List, Option, Bor, ap, inl, inr, refl, subst, sym}
+use Rattle.std.proofs.Common.{◌≡◌, ◌≢◌, ◌∙◌, ◌⊎◌, ℕ, Bool, true, false, List, Option, ap, inl, inr, refl, subst, sym}
 use Rattle.std.proofs.lemmas.Bool.{false≢true}
 use Rattle.std.proofs.lemmas.Slice.Eq.{bytes_eq-Decides}
 use Rattle.std.specs.Str.{bytes_eq}
@@ -7,19 +7,21 @@ use Rattle.clap.specs.declared.error.Error.{Error}
 use Rattle.clap.specs.declared.error.kind.ErrorKind.{ErrorKind}
 use Rattle.command_line.proofs.Left.{check_never_misused, either, explain_never_misused, only_configuration, replay_never_misused}
 use Rattle.command_line.specs.Held.{Held}
-use Rattle.command_line.specs.Lines.{IsJudged}
-use Rattle.command_line.specs.Refusals.{HasKinds, IsFitting, IsHelp, IsRefused, IsUnfit}
-use Rattle.command_line.specs.Running.{HasNamed, IsBeyond, IsBroken, IsCarriedOut, IsDone, IsFaulty, IsJournal, IsNotLegal, IsUnprinted, Spares}
-use Rattle.command_line.specs.Settings.{IsNamed}
+use Rattle.command_line.specs.Lines.{IsExplained as IsTold, IsJudged, IsStopped}
+use Rattle.command_settings.specs.Refusals.{HasFaults, IsFitting, IsHelp, IsRefused, IsUnfit}
+use Rattle.command_line.specs.Running.{HasNamed, IsBeyond, IsBroken, IsCarriedOut, IsDone, IsFaulty, IsJournal, IsNotLegal, IsUnprinted, Spares, strictness_of}
+use Rattle.command_settings.specs.Settings.{IsNamed}
 use Rattle.command_line.specs.Status.{status_of}
 use Rattle.command_line.specs.Turns.{IsRunFault, Leaves}
 use Rattle.command_line.specs.declared.fault.Fault.{Fault as Trouble}
-use Rattle.command_line.specs.declared.wanted.Run.{Run as Asked}
-use Rattle.command_line.specs.declared.wanted.Settings.{Settings}
-use Rattle.command_line.specs.declared.wanted.Settings.TheVariants.{Check, Run}
-use Rattle.command_line.specs.declared.wanted.SettingsError.{SettingsError}
-use Rattle.command_line.specs.declared.wanted.SettingsError.TheVariants.{Usage}
-use Rattle.memory_model.specs.declared.Model.{Model}
+use Rattle.command_settings.specs.declared.wanted.Check.{Check as Judged}
+use Rattle.command_settings.specs.declared.wanted.Explain.{Explain as Explained}
+use Rattle.command_settings.specs.declared.wanted.Run.{Run as Asked}
+use Rattle.command_settings.specs.declared.wanted.Settings.{Settings}
+use Rattle.command_settings.specs.declared.wanted.Settings.TheVariants.{Check, Explain, Run}
+use Rattle.command_settings.specs.declared.wanted.SettingsError.{SettingsError}
+use Rattle.command_settings.specs.declared.wanted.SettingsError.TheVariants.{Usage}
+use Rattle.event_stream.specs.declared.strictness.Strictness.{Strictness}
 use Rattle.rvwmo_order.specs.declared.verdict.Code.{Code}
 use Rattle.rvwmo_order.specs.declared.verdict.Verdict.{Verdict}
 use Rattle.rvwmo_order.specs.declared.verdict.Verdict.TheVariants.{Fault, Legal}
@@ -28,19 +30,28 @@ use Rattle.command_line.proofs.running.run_line.Goals as goal
 use Rattle.command_line.proofs.running.run_line.Goals.{in-Ok-Replay+in-Err, in-Ok-Explain+in-Err-explain_files, in-Ok-Run+in-Err-run_files, in-Ok-Check+in-Err-check_file, in-Err-NoMemory}
 
 told_of : (words : List Text) (refusal : SettingsError) (usage : Error) (P : ErrorKind → Type 0) → refusal ≡ Usage usage → IsRefused words refusal → P (kind_of usage)
-    → HasKinds words (λ kinds. (kind : ErrorKind) × IsAmong kind kinds × P kind)
+    → HasFaults words (λ kinds. (kind : ErrorKind) × IsAmong kind kinds × P kind)
 told_of words refusal usage P is refused asks =
     let told : IsRefused words (Usage usage) = subst (IsRefused words) is refused in (told.0, told.1, (kind_of usage, told.2, asks))
 
-legal : (held left : Held) (old new : Option (List ℕ)) (wanted : Settings) (model : Model) (trace : Bor (List ℕ)) (verdict : Verdict) → wanted ≡ Check model trace → verdict ≡ Legal
-    → IsJudged held trace.now model verdict old new → IsDone held left old new wanted
-legal held left old new wanted model trace verdict is is_legal judged =
-    subst (IsDone held left old new) (sym is) (subst (λ v. IsJudged held trace.now model v old new) is_legal judged)
+explained : (held left : Held) (old new : Option (List ℕ)) (wanted : Settings) (explain : Explained) (strictness : Strictness) → wanted ≡ Explain explain → strictness ≡ strictness_of explain.strict
+    → IsTold held explain.replay strictness old new → IsDone held left old new wanted
+explained held left old new wanted explain strictness is is_strict told =
+    subst (IsDone held left old new) (sym is) (subst (λ s. IsTold held explain.replay s old new) is_strict told)
 
-faulty : (held : Held) (old new : Option (List ℕ)) (wanted : Settings) (model : Model) (trace : Bor (List ℕ)) (verdict : Verdict) (code : Code) (a b : OpId) → wanted ≡ Check model trace
-    → verdict ≡ Fault code a b → IsJudged held trace.now model verdict old new → IsFaulty held old new wanted
-faulty held old new wanted model trace verdict code a b is at_fault judged =
-    subst (IsFaulty held old new) (sym is) (code, a, b, subst (λ v. IsJudged held trace.now model v old new) at_fault judged)
+broken_off : (held : Held) (old new : Option (List ℕ)) (explain : Explained) (strictness : Strictness) → strictness ≡ strictness_of explain.strict
+    → (new ≡ old) ⊎ IsStopped held explain.replay strictness old new → (new ≡ old) ⊎ IsStopped held explain.replay (strictness_of explain.strict) old new
+broken_off held old new explain strictness is_strict so = subst (λ s. (new ≡ old) ⊎ IsStopped held explain.replay s old new) is_strict so
+
+legal : (held left : Held) (old new : Option (List ℕ)) (wanted : Settings) (check : Judged) (verdict : Verdict) → wanted ≡ Check check → verdict ≡ Legal
+    → IsJudged held check.trace.now check.model verdict old new → IsDone held left old new wanted
+legal held left old new wanted check verdict is is_legal judged =
+    subst (IsDone held left old new) (sym is) (subst (λ v. IsJudged held check.trace.now check.model v old new) is_legal judged)
+
+faulty : (held : Held) (old new : Option (List ℕ)) (wanted : Settings) (check : Judged) (verdict : Verdict) (code : Code) (a b : OpId) → wanted ≡ Check check → verdict ≡ Fault code a b
+    → IsJudged held check.trace.now check.model verdict old new → IsFaulty held old new wanted
+faulty held old new wanted check verdict code a b is at_fault judged =
+    subst (IsFaulty held old new) (sym is) (code, a, b, subst (λ v. IsJudged held check.trace.now check.model v old new) at_fault judged)
 
 cut_short : (words : List Text) (held left : Held) (old new : Option (List ℕ)) (wanted meant : Settings) (fault : Trouble) → wanted ≡ meant → IsNamed words wanted → IsFitting words
     → Leaves fault old new (IsBroken held left old new meant) → IsUnprinted words held left old new
@@ -98,7 +109,7 @@ returns-in-Ok-explain_files-clause-carried_out g c = λ _. inr (
   c.in-Ok-Explain.field-0,
   c.in-Ok-Explain.ensures.named,
   c.in-Ok-Explain.ensures.fitting,
-  subst (IsDone _ _ _ _) (sym c.in-Ok-Explain.field-0-is) c.in-Ok-explain_files.ensures.explained,
+  explained _ _ _ _ c.in-Ok-Explain.field-0 c.in-Ok-Explain.wanted c.strictness_of-strictness.result c.in-Ok-Explain.field-0-is c.strictness_of-strictness.ensures c.in-Ok-explain_files.ensures.explained,
 )
 
 pub returns-in-Ok-run_files-clause-carried_out : goal.returns-in-Ok-run_files-clause-carried_out
@@ -116,7 +127,7 @@ returns-in-Ok-Legal-clause-carried_out g c = λ _. inr (
   c.in-Ok-Check.field-0,
   c.in-Ok-Check.ensures.named,
   c.in-Ok-Check.ensures.fitting,
-  legal _ _ _ _ c.in-Ok-Check.field-0 c.in-Ok-Check.model c.in-Ok-Check.trace c.in-Ok-Legal.field-0 c.in-Ok-Check.field-0-is c.in-Ok-Legal.field-0-is c.in-Ok-Legal.ensures.judged,
+  legal _ _ _ _ c.in-Ok-Check.field-0 c.in-Ok-Check.wanted c.in-Ok-Legal.field-0 c.in-Ok-Check.field-0-is c.in-Ok-Legal.field-0-is c.in-Ok-Legal.ensures.judged,
 )
 
 pub returns-in-Ok-Fault-clause-not_legal : goal.returns-in-Ok-Fault-clause-not_legal
@@ -125,7 +136,7 @@ returns-in-Ok-Fault-clause-not_legal g c = λ _. (
   c.in-Ok-Check.field-0,
   c.in-Ok-Check.ensures.named,
   c.in-Ok-Check.ensures.fitting,
-  faulty _ _ _ c.in-Ok-Check.field-0 c.in-Ok-Check.model c.in-Ok-Check.trace c.in-Ok-Fault.field-0 _ _ _ c.in-Ok-Check.field-0-is c.in-Ok-Fault.field-0-is c.in-Ok-Fault.ensures.judged,
+  faulty _ _ _ c.in-Ok-Check.field-0 c.in-Ok-Check.wanted c.in-Ok-Fault.field-0 _ _ _ c.in-Ok-Check.field-0-is c.in-Ok-Fault.field-0-is c.in-Ok-Fault.ensures.judged,
 )
 
 -- a fault's status is not 0, and that of a legal order not 3
@@ -153,7 +164,8 @@ pub returns-clause-unprinted : goal.returns-clause-unprinted
 unfolding IsUnprinted
 returns-clause-unprinted g c = λ some other. elim c.match-settings.branch [
   | in-Ok-Replay+in-Err w ↦ rw (w.out-is) (cut_short _ _ _ _ _ w.in-Ok-Replay.field-0 _ _ w.in-Ok-Replay.field-0-is w.in-Ok-Replay.ensures.named w.in-Ok-Replay.ensures.fitting w.in-Err.ensures.unfinished)
-  | in-Ok-Explain+in-Err-explain_files w ↦ rw (w.out-is) (stopped _ _ _ _ _ w.in-Ok-Explain.field-0 _ w.in-Ok-Explain.field-0-is w.in-Ok-Explain.ensures.named w.in-Ok-Explain.ensures.fitting w.in-Err-explain_files.ensures.unfinished)
+  | in-Ok-Explain+in-Err-explain_files w ↦ rw (w.out-is) (stopped _ _ _ _ _ w.in-Ok-Explain.field-0 _ w.in-Ok-Explain.field-0-is w.in-Ok-Explain.ensures.named w.in-Ok-Explain.ensures.fitting
+      (broken_off _ _ _ w.in-Ok-Explain.wanted w.strictness_of-strictness.result w.strictness_of-strictness.ensures w.in-Err-explain_files.ensures.unfinished))
   | in-Ok-Run+in-Err-run_files w ↦ rw (w.out-is, w.files-is) (cut_short _ _ _ _ _ w.in-Ok-Run.field-0 _ _ w.in-Ok-Run.field-0-is w.in-Ok-Run.ensures.named w.in-Ok-Run.ensures.fitting w.in-Err-run_files.ensures.unfinished)
   | in-Ok-Check+in-Err-check_file w ↦ rw (w.out-is) (cut_short _ _ _ _ _ w.in-Ok-Check.field-0 _ _ w.in-Ok-Check.field-0-is w.in-Ok-Check.ensures.named w.in-Ok-Check.ensures.fitting w.in-Err-check_file.ensures.unfinished)
   | in-Err-NoMemory w ↦ rw (w.out-is) (inl refl)

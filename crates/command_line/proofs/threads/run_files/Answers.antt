@@ -8,7 +8,7 @@ use Rattle.host_threads.specs.Replays.{end_of_journal}
 use Rattle.command_line.specs.Turns.{IsRunFault}
 use Rattle.command_line.specs.declared.fault.Fault.{Fault}
 use Rattle.command_line.specs.declared.fault.Fault.TheVariants.{CannotWrite, OutOfMemory}
-use Rattle.command_line.specs.declared.wanted.Run.{Run}
+use Rattle.command_settings.specs.declared.wanted.Run.{Run}
 use Rattle.elf_loader.specs.Image.{Initial}
 use Rattle.elf_loader.specs.Size.{IsMemoryKib}
 use Rattle.machine_model.specs.Config.{is_within_limits}
@@ -29,11 +29,11 @@ use Rattle.command_line.proofs.Limits.{script_within}
 use Rattle.command_line.proofs.Replays.{end_of_journal as leading, readable}
 use Rattle.command_line.proofs.threads.run_files.Goals as goal
 
-kept : (held left : Held) (run : Run) (config : Config) (image : Initial) (script : Script) (events : List Event) → script ≡ script_named run events → config ≡ config_named run
-    → is_within_limits config ≡ true → IsMemoryKib run.memory → HoldsImage held run.raw run.image.now run.memory image → AllByRecursion IsEvent script.events
+kept : (held left : Held) (run : Run) (config : Config) (image : Initial) (script : Script) (events : List Event) → script ≡ script_named run.machine events → config ≡ config_named run.machine
+    → is_within_limits config ≡ true → IsMemoryKib run.machine.memory → HoldsImage held run.raw run.image.now run.machine.memory image → AllByRecursion IsEvent script.events
     → HoldsBytes left run.journal.now (script_text script) → IsKept held left run image script
 kept held left run config image script events script_is config_is within sized image_file spelt bytes =
-    let config_same : config_of script run.model ≡ config_named run = ap (λ (s : Script). config_of s run.model) script_is in
+    let config_same : config_of script run.machine.model ≡ config_named run.machine = ap (λ (s : Script). config_of s run.machine.model) script_is in
     let memory_same = ap (λ (s : Script). s.kib) script_is in
     record {
       image_file = image_file;
@@ -41,7 +41,7 @@ kept held left run config image script events script_is config_is within sized i
       memory = memory_same;
       journal_file = record {
         is_script = record {
-          head = script_within script run.model (subst (λ (c : Config). is_within_limits c ≡ true) (config_is ∙ sym config_same) within) (subst IsMemoryKib (sym memory_same) sized);
+          head = script_within script run.machine.model (subst (λ (c : Config). is_within_limits c ≡ true) (config_is ∙ sym config_same) within) (subst IsMemoryKib (sym memory_same) sized);
           events = spelt;
         };
         bytes = bytes;
@@ -77,7 +77,7 @@ returns-in_err-print-clause-unfinished g c =
     let s = end_of_journal image c.in-Some.config c.in-Ok.report in
     let named = c.in-Some.ensures.config in
     let same = c.script_of-script.ensures.script in
-    let config_same : c.in-Some.config ≡ config_of script run.model = named.0 ∙ sym (ap (λ (t : Script). config_of t run.model) same) in
+    let config_same : c.in-Some.config ≡ config_of script run.machine.model = named.0 ∙ sym (ap (λ (t : Script). config_of t run.machine.model) same) in
     handed_up _ c.from_residual-in_err-print.result _ c.from_residual-in_err-print.ensures.1
     (spoiled _ _ _ _ c.in_err-print.ensures.told
     (record {
@@ -85,7 +85,7 @@ returns-in_err-print-clause-unfinished g c =
       image = image;
       reached = s;
       kept = kept _ _ run c.in-Some.config image script c.in-Ok.report.journal.items same named.0 named.1 named.2 c.in_ok-image.ensures.image c.script_of-script.ensures.events c.in_ok-keep.ensures.kept;
-      replayed = leading image script run.model c.in-Some.config c.in-Ok.report.journal.items s config_same (sym (ap (λ (t : Script). t.events) same)) c.in-Ok.ensures.replays;
+      replayed = leading image script run.machine.model c.in-Some.config c.in-Ok.report.journal.items s config_same (sym (ap (λ (t : Script). t.events) same)) c.in-Ok.ensures.replays;
       begun = begun_same _ _ _ _ c.in-Ok.ensures.report.trace c.in_err-print.ensures.begun;
     }))
 
@@ -100,7 +100,7 @@ returns-clause-ran g c =
     let s = end_of_journal image c.in-Some.config c.in-Ok.report in
     let named = c.in-Some.ensures.config in
     let same = c.script_of-script.ensures.script in
-    let config_same : c.in-Some.config ≡ config_of script run.model = named.0 ∙ sym (ap (λ (t : Script). config_of t run.model) same) in
+    let config_same : c.in-Some.config ≡ config_of script run.machine.model = named.0 ∙ sym (ap (λ (t : Script). config_of t run.machine.model) same) in
     let trace_same = c.in-Ok.ensures.report.trace in
     record {
       script = script;
@@ -108,7 +108,7 @@ returns-clause-ran g c =
       reached = s;
       kept = kept _ _ run c.in-Some.config image script c.in-Ok.report.journal.items same named.0 named.1 named.2 c.in_ok-image.ensures.image c.script_of-script.ensures.events c.in_ok-keep.ensures.kept;
       composed = record {
-        replayed = leading image script run.model c.in-Some.config c.in-Ok.report.journal.items s config_same (sym (ap (λ (t : Script). t.events) same)) c.in-Ok.ensures.replays;
+        replayed = leading image script run.machine.model c.in-Some.config c.in-Ok.report.journal.items s config_same (sym (ap (λ (t : Script). t.events) same)) c.in-Ok.ensures.replays;
         printed = printed_same _ _ _ _ trace_same c.in_ok-print.ensures.printed;
         readable = readable c.every_trace_has_a_text.ensures s c.in-Ok.ensures.reached;
         headline = subst (λ (config : Config). IsHeadline image config s) config_same c.in-Ok.ensures.headline;

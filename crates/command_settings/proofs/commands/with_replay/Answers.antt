@@ -1,6 +1,6 @@
-use Rattle.std.proofs.Common.{◌≡◌, ◌∙◌, ap, ap₂, refl}
+use Rattle.std.proofs.Common.{◌∙◌, ap, ap₂}
 use Rattle.std.proofs.lemmas.Result.{IfOk-weaker}
-use Rattle.clap.specs.Words.{App, rule_of, with_rule}
+use Rattle.clap.specs.Words.{with_rule}
 use Rattle.command_settings.proofs.commands.with_replay.Goals as goal
 
 pub returns : goal.returns

@@ -1,4 +1,4 @@
-use Rattle.std.proofs.Common.{◌≡◌, ◌∙◌, Bor, Err, IfErr, IsErrAnd, List, Ok, Result, Some, [], ap, ap₂, inl, inr, refl, subst, sym, true}
+use Rattle.std.proofs.Common.{◌∙◌, Err, IfErr, IsErrAnd, List, Ok, Result, inl, inr, refl, subst, sym}
 use Rattle.clap.specs.Kinds.{HasKind}
 use Rattle.clap.specs.Words.{App, IsAmong, Text, app_of, fault_of, kind_of}
 use Rattle.clap.specs.declared.error.Error.{Error}
