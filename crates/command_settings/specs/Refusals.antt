@@ -14,24 +14,24 @@ Tells error NoMemory = kind_of error ≡ OutOfMemory
 Tells error (Usage told) = (kind_of error ≢ OutOfMemory) × (told ≡ error)
 
 -- P holds of the kinds of error that the words, the first of which is the program's name, may give by the usage: none where they fit
-abbrev pub HasFaults : List Text → (Kinds → Type 0) → Type 0
-HasFaults words P = (app : App) × IsUsage app × P (fault_of app words)
+abbrev pub HasKinds : List Text → (Kinds → Type 0) → Type 0
+HasKinds words P = (app : App) × IsUsage app × P (fault_of app words)
 
 abbrev pub IsFitting : List Text → Type 0
-IsFitting words = HasFaults words (λ kinds. kinds ≡ [])
+IsFitting words = HasKinds words (λ kinds. kinds ≡ [])
 
 -- memory ran out, or the error is of a kind that the words may give
 abbrev pub IsRefused : List Text → SettingsError → Type 0
 IsRefused words NoMemory = Unit {0}
-IsRefused words (Usage error) = HasFaults words (IsAmong (kind_of error))
+IsRefused words (Usage error) = HasKinds words (IsAmong (kind_of error))
 
 abbrev pub IsHelp : ErrorKind → Type 0
 IsHelp kind = (kind ≡ DisplayHelp) ⊎ (kind ≡ DisplayVersion)
 
 -- the words ask for a text about the program
 abbrev pub IsForHelp : List Text → Type 0
-IsForHelp words = HasFaults words (λ kinds. (kind : ErrorKind) × IsAmong kind kinds × IsHelp kind)
+IsForHelp words = HasKinds words (λ kinds. (kind : ErrorKind) × IsAmong kind kinds × IsHelp kind)
 
 -- the words may be refused by the usage: another kind than help is listed (after the word `help` both are)
 abbrev pub IsUnfit : List Text → Type 0
-IsUnfit words = HasFaults words (λ kinds. (kind : ErrorKind) × IsAmong kind kinds × (¬ IsHelp kind))
+IsUnfit words = HasKinds words (λ kinds. (kind : ErrorKind) × IsAmong kind kinds × (¬ IsHelp kind))

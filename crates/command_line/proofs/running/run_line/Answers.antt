@@ -8,7 +8,7 @@ use Rattle.clap.specs.declared.error.kind.ErrorKind.{ErrorKind}
 use Rattle.command_line.proofs.Left.{check_never_misused, either, explain_never_misused, only_configuration, replay_never_misused}
 use Rattle.command_line.specs.Held.{Held}
 use Rattle.command_line.specs.Lines.{IsExplained as IsTold, IsJudged, IsStopped}
-use Rattle.command_settings.specs.Refusals.{HasFaults, IsFitting, IsHelp, IsRefused, IsUnfit}
+use Rattle.command_settings.specs.Refusals.{HasKinds, IsFitting, IsHelp, IsRefused, IsUnfit}
 use Rattle.command_line.specs.Running.{HasNamed, IsBeyond, IsBroken, IsCarriedOut, IsDone, IsFaulty, IsJournal, IsNotLegal, IsUnprinted, Spares, strictness_of}
 use Rattle.command_settings.specs.Settings.{IsNamed}
 use Rattle.command_line.specs.Status.{status_of}
@@ -30,7 +30,7 @@ use Rattle.command_line.proofs.running.run_line.Goals as goal
 use Rattle.command_line.proofs.running.run_line.Goals.{in-Ok-Replay+in-Err, in-Ok-Explain+in-Err-explain_files, in-Ok-Run+in-Err-run_files, in-Ok-Check+in-Err-check_file, in-Err-NoMemory}
 
 told_of : (words : List Text) (refusal : SettingsError) (usage : Error) (P : ErrorKind → Type 0) → refusal ≡ Usage usage → IsRefused words refusal → P (kind_of usage)
-    → HasFaults words (λ kinds. (kind : ErrorKind) × IsAmong kind kinds × P kind)
+    → HasKinds words (λ kinds. (kind : ErrorKind) × IsAmong kind kinds × P kind)
 told_of words refusal usage P is refused asks =
     let told : IsRefused words (Usage usage) = subst (IsRefused words) is refused in (told.0, told.1, (kind_of usage, told.2, asks))
 
