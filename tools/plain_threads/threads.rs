@@ -208,7 +208,7 @@ struct Worker<'a> {
     board: &'a Board,
     lock: &'a Mutex<Fabric>,
     rounds: Rounds<'a>,
-    seen: Option<Hart>,
+    may_go_alone: bool,
     last: Option<Outcome>,
     has_halted: bool,
     receipts: u64,
@@ -243,13 +243,16 @@ impl Worker<'_> {
         if self.board.halted.load(Ordering::SeqCst) == (1 << self.harts) - 1 {
             return Ok(false);
         }
-        let picked = {
+        let (picked, has_ended, stepping) = {
             let fabric = self.lock.lock().unwrap();
             let views = fabric.machine.views();
-            self.seen = Some(*views.hart(usize::from(self.hart)));
-            self.rounds.pick(&views, self.last)
+            let picked = self.rounds.pick(&views, self.last);
+            let own = views.hart(usize::from(self.hart));
+            let is_step = picked == Some(Event::Step { hart: self.hart });
+            let stepping = (self.may_go_alone && is_step).then_some(*own);
+            (picked, !own.status.is_running(), stepping)
         };
-        if self.seen.is_some_and(|hart| !hart.status.is_running()) {
+        if has_ended {
             self.halt();
         }
         let Some(event) = picked else {
@@ -259,7 +262,7 @@ impl Worker<'_> {
         if self.board.counter.fetch_add(1, Ordering::SeqCst) >= self.limit {
             return Ok(false);
         }
-        let outcome = self.carry_out(event)?;
+        let outcome = self.carry_out(event, stepping)?;
         self.last = Some(outcome);
         if is_change(outcome) {
             self.receipts += 1;
@@ -271,19 +274,20 @@ impl Worker<'_> {
         Ok(true)
     }
 
-    fn carry_out(&mut self, event: Event) -> Result<Outcome, Fault> {
-        if event == (Event::Step { hart: self.hart }) {
-            if let Some(hart) = &self.seen {
-                let batch = run_local(Global, self.image, hart, MOST_ALONE).map_err(|_| Fault::NoMemory)?;
-                if !batch.entries().is_empty() {
-                    match self.lock.lock().unwrap().commit(&batch) {
-                        Err(Fault::Stale) => {}
-                        answer => return answer,
-                    }
+    fn carry_out(&mut self, event: Event, stepping: Option<Hart>) -> Result<Outcome, Fault> {
+        if let Some(hart) = &stepping {
+            let batch = run_local(Global, self.image, hart, MOST_ALONE).map_err(|_| Fault::NoMemory)?;
+            self.may_go_alone = batch.entries().len() == MOST_ALONE as usize;
+            if !batch.entries().is_empty() {
+                match self.lock.lock().unwrap().commit(&batch) {
+                    Err(Fault::Stale) => {}
+                    answer => return answer,
                 }
             }
         }
-        self.lock.lock().unwrap().apply(event)
+        let outcome = self.lock.lock().unwrap().apply(event)?;
+        self.may_go_alone |= outcome == Outcome::Retired;
+        Ok(outcome)
     }
 
     fn publish(&mut self) {
@@ -338,7 +342,7 @@ fn main() {
                     board: &board,
                     lock: &lock,
                     rounds,
-                    seen: None,
+                    may_go_alone: true,
                     last: None,
                     has_halted: false,
                     receipts: 0,

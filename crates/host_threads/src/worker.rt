@@ -65,7 +65,9 @@ impl<'a, L: Ledger, T: Turn + Drop> Worker<'a, L, T> {
         let turn = Watched {
             turn,
             hart,
-            state: None,
+            may_go_alone: true,
+            has_ended: false,
+            stepping: None,
         };
         Worker {
             common,
@@ -88,7 +90,7 @@ impl<'a, L: Ledger, T: Turn + Drop> Worker<'a, L, T> {
             }
             self.pass(gate, turn);
             turn = turn.wrapping_add(1);
-            match self.take_turn(rt) {
+            match self.take_turn(rt, gate) {
                 Ok(true) => {}
                 Ok(false) => break,
                 Err(error) => {
@@ -114,17 +116,13 @@ impl<'a, L: Ledger, T: Turn + Drop> Worker<'a, L, T> {
     }
 
     // One turn. Whether another one follows.
-    fn take_turn<R: Wait>(&mut self, rt: &R) -> Result<bool, Fault> {
+    fn take_turn<R: Wait, G: Gate>(&mut self, rt: &R, gate: &G) -> Result<bool, Fault> {
         let board = &self.common.board;
         if board.halted(self.port.seat()) == (1 << board.harts()) - 1 {
             return Ok(false);
         }
         let picked = self.port.pick(rt, &mut self.turn, self.last);
-        if self
-            .turn
-            .state
-            .is_some_and(|hart| !hart.status.is_running())
-        {
+        if self.turn.has_ended {
             self.halt();
         }
         let Some(event) = picked else {
@@ -132,7 +130,7 @@ impl<'a, L: Ledger, T: Turn + Drop> Worker<'a, L, T> {
             return Ok(true);
         };
         match self.common.board.draw(self.port.seat()) {
-            Ok(number) if number < self.common.limit => {}
+            Ok(number) if number < self.common.limit => gate.draw(self.hart, number),
             _ => return Ok(false),
         }
         let Some(outcome) = self.carry_out(rt, event)? else {
@@ -150,30 +148,39 @@ impl<'a, L: Ledger, T: Turn + Drop> Worker<'a, L, T> {
 
     // What comes of the event, or `None` where the machine is at a limit.
     fn carry_out<R: Wait>(&mut self, rt: &R, event: Event) -> Result<Option<Outcome>, Fault> {
-        if event == (Event::Step { hart: self.hart }) {
-            match self.commit(rt) {
-                Ok(outcome) => return Ok(Some(outcome)),
-                Err(AdoptError::Limit) => return Ok(None),
-                Err(AdoptError::NoMemory) => return Err(Fault::NoMemory),
-                Err(AdoptError::Stale | AdoptError::Empty) => {}
-            }
+        match self.commit(rt) {
+            Ok(outcome) => return Ok(Some(outcome)),
+            Err(AdoptError::Limit) => return Ok(None),
+            Err(AdoptError::NoMemory) => return Err(Fault::NoMemory),
+            Err(AdoptError::Stale | AdoptError::Empty) => {}
         }
         match self.port.apply(rt, event) {
-            Ok(outcome) => Ok(Some(outcome)),
+            Ok(outcome) => {
+                // Behind the instruction may stand private ones.
+                self.turn.may_go_alone |= outcome == Outcome::Retired;
+                Ok(Some(outcome))
+            }
             Err(ApplyError::Limit) => Ok(None),
             Err(ApplyError::NoMemory) => Err(Fault::NoMemory),
             Err(ApplyError::BadEvent) => Err(Fault::BadEvent),
         }
     }
 
-    // Runs what the hart does next alone, from where it stood when the turn was asked, and commits it.
+    // Where the hart's step was picked, runs what it does next alone, from where it stood, and commits it.
+    // Behind a batch that isn't full stands an instruction that isn't private, so the next step is no batch.
     fn commit<R: Wait>(&mut self, rt: &R) -> Result<Outcome, AdoptError> {
-        let Some(hart) = &self.turn.state else {
+        let Some(hart) = &self.turn.stepping else {
             return Err(AdoptError::Empty);
         };
         match &row_from(self.common.alloc, &self.common.image, hart) {
-            Ok(batch) if batch.entries().is_empty() => Err(AdoptError::Empty),
-            Ok(batch) => self.port.commit(rt, batch),
+            Ok(batch) => {
+                let length = batch.entries().len();
+                self.turn.may_go_alone = length == MOST_ALONE as usize;
+                if length == 0 {
+                    return Err(AdoptError::Empty);
+                }
+                self.port.commit(rt, batch)
+            }
             Err(_) => Err(AdoptError::NoMemory),
         }
     }
