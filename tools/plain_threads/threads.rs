@@ -209,6 +209,8 @@ struct Worker<'a> {
     lock: &'a Mutex<Fabric>,
     rounds: Rounds<'a>,
     may_go_alone: bool,
+    is_stepping: bool,
+    state: Hart,
     last: Option<Outcome>,
     has_halted: bool,
     receipts: u64,
@@ -243,14 +245,16 @@ impl Worker<'_> {
         if self.board.halted.load(Ordering::SeqCst) == (1 << self.harts) - 1 {
             return Ok(false);
         }
-        let (picked, has_ended, stepping) = {
+        let (picked, has_ended) = {
             let fabric = self.lock.lock().unwrap();
             let views = fabric.machine.views();
             let picked = self.rounds.pick(&views, self.last);
             let own = views.hart(usize::from(self.hart));
-            let is_step = picked == Some(Event::Step { hart: self.hart });
-            let stepping = (self.may_go_alone && is_step).then_some(*own);
-            (picked, !own.status.is_running(), stepping)
+            self.is_stepping = self.may_go_alone && picked == Some(Event::Step { hart: self.hart });
+            if self.is_stepping {
+                self.state = *own;
+            }
+            (picked, !own.status.is_running())
         };
         if has_ended {
             self.halt();
@@ -262,7 +266,7 @@ impl Worker<'_> {
         if self.board.counter.fetch_add(1, Ordering::SeqCst) >= self.limit {
             return Ok(false);
         }
-        let outcome = self.carry_out(event, stepping)?;
+        let outcome = self.carry_out(event)?;
         self.last = Some(outcome);
         if is_change(outcome) {
             self.receipts += 1;
@@ -274,9 +278,9 @@ impl Worker<'_> {
         Ok(true)
     }
 
-    fn carry_out(&mut self, event: Event, stepping: Option<Hart>) -> Result<Outcome, Fault> {
-        if let Some(hart) = &stepping {
-            let batch = run_local(Global, self.image, hart, MOST_ALONE).map_err(|_| Fault::NoMemory)?;
+    fn carry_out(&mut self, event: Event) -> Result<Outcome, Fault> {
+        if self.is_stepping {
+            let batch = run_local(Global, self.image, &self.state, MOST_ALONE).map_err(|_| Fault::NoMemory)?;
             self.may_go_alone = batch.entries().len() == MOST_ALONE as usize;
             if !batch.entries().is_empty() {
                 match self.lock.lock().unwrap().commit(&batch) {
@@ -343,6 +347,8 @@ fn main() {
                     lock: &lock,
                     rounds,
                     may_go_alone: true,
+                    is_stepping: false,
+                    state: Hart::at_reset(hart, own.entry(), harts),
                     last: None,
                     has_halted: false,
                     receipts: 0,
