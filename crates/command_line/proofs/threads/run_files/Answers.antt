@@ -26,7 +26,7 @@ use Rattle.trace_text.specs.Traces.{text}
 use Rattle.trace_text.specs.declared.script.Script.{Script}
 use Rattle.command_line.proofs.Left.{handed_up, spoiled}
 use Rattle.command_line.proofs.Limits.{script_within}
-use Rattle.command_line.proofs.Replays.{end_of_journal as leading, readable}
+use Rattle.command_line.proofs.Replays.{leads_there, readable}
 use Rattle.command_line.proofs.threads.run_files.Goals as goal
 
 kept : (held left : Held) (run : Run) (config : Config) (image : Initial) (script : Script) (events : List Event) → script ≡ script_named run.machine events → config ≡ config_named run.machine
@@ -85,7 +85,7 @@ returns-in_err-print-clause-unfinished g c =
       image = image;
       reached = s;
       kept = kept _ _ run c.in-Some.config image script c.in-Ok.report.journal.items same named.0 named.1 named.2 c.in_ok-image.ensures.image c.script_of-script.ensures.events c.in_ok-keep.ensures.kept;
-      replayed = leading image script run.machine.model c.in-Some.config c.in-Ok.report.journal.items s config_same (sym (ap (λ (t : Script). t.events) same)) c.in-Ok.ensures.replays;
+      replayed = leads_there image script run.machine.model c.in-Some.config c.in-Ok.report.journal.items s config_same (sym (ap (λ (t : Script). t.events) same)) c.in-Ok.ensures.replays;
       begun = begun_same _ _ _ _ c.in-Ok.ensures.report.trace c.in_err-print.ensures.begun;
     }))
 
@@ -108,7 +108,7 @@ returns-clause-ran g c =
       reached = s;
       kept = kept _ _ run c.in-Some.config image script c.in-Ok.report.journal.items same named.0 named.1 named.2 c.in_ok-image.ensures.image c.script_of-script.ensures.events c.in_ok-keep.ensures.kept;
       composed = record {
-        replayed = leading image script run.machine.model c.in-Some.config c.in-Ok.report.journal.items s config_same (sym (ap (λ (t : Script). t.events) same)) c.in-Ok.ensures.replays;
+        replayed = leads_there image script run.machine.model c.in-Some.config c.in-Ok.report.journal.items s config_same (sym (ap (λ (t : Script). t.events) same)) c.in-Ok.ensures.replays;
         printed = printed_same _ _ _ _ trace_same c.in_ok-print.ensures.printed;
         readable = readable c.every_trace_has_a_text.ensures s c.in-Ok.ensures.reached;
         headline = subst (λ (config : Config). IsHeadline image config s) config_same c.in-Ok.ensures.headline;
