@@ -8,3 +8,14 @@ mod Changes
 mod QuietSteps
 mod Listed
 mod Numbering
+mod ToldResults
+mod Following
+mod Settings
+mod Standing
+mod Kept
+mod Ends
+mod Followed
+mod Numbered
+mod Keeping
+mod Followings
+mod Opened

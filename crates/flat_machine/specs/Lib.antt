@@ -6,3 +6,11 @@ pub mod States
 pub mod Parts
 pub mod Moves
 pub mod SamePatches
+pub mod BareGroups
+pub mod Nodes
+pub mod SameResults
+pub mod Keys
+pub mod Following
+pub mod OnePatching
+pub mod SameNodes
+pub mod OneKey
