@@ -3,6 +3,8 @@
 #![tactic(auto)]
 
 #[cfg(test)]
+mod exploring;
+#[cfg(test)]
 mod realising;
 #[cfg(test)]
 mod searching;

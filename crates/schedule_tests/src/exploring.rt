@@ -1,7 +1,7 @@
 //! Small programs whose outcomes were worked out by hand.
 
-use crate::{FlatMachine, Key, Results, Tables};
 use elf_loader::{Image, raw, size_of_kib};
+use flat_machine::{FlatMachine, Key, Results, Tables};
 use flat_model::FlatEvent;
 use hart::Status;
 use machine_model::{Config, Model};
