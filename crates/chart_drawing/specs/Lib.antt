@@ -1,0 +1,5 @@
+pub mod Markup
+pub mod Laws
+pub mod Plan
+pub mod Shapes
+pub mod Sheet
