@@ -1,9 +1,16 @@
-//! Ends that a machine can bring a program to: what the explored states tell of them, and the order in which they
-//! are told.
+//! All ends that the machine can bring a program to, each with the events that lead to it.
 #![tactic(auto)]
 
+mod exploration;
+mod exploring;
+mod found;
 mod laws;
 mod ranks;
+mod scripts;
 
+pub use exploration::{Exploration, Stuck};
+pub use exploring::explore;
+pub use found::{Found, Script};
 pub use laws::{each_end_is_seen, ends_are_real, stuck_is_seen};
 pub use ranks::compare;
+pub use scripts::Program;
