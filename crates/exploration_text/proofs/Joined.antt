@@ -1,0 +1,6 @@
+-- Three texts, each put behind what was there.
+use Rattle.std.proofs.Common.{◌≡◌, ◌∙◌, ap, ℕ, List, ◌++◌}
+use Rattle.std.proofs.lemmas.List.{append_assoc}
+
+pub joined : (i a b d x y z : List ℕ) → x ≡ i ++ a → y ≡ x ++ b → z ≡ y ++ d → z ≡ i ++ (a ++ (b ++ d))
+joined i a b d x y z e f g = g ∙ (ap (λ xs. xs ++ d) (f ∙ ap (λ xs. xs ++ b) e) ∙ (append_assoc (i ++ a) b d ∙ append_assoc i a (b ++ d)))

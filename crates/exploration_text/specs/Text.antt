@@ -1,0 +1,59 @@
+-- The lines in which an exploration is told.
+use Rattle.std.specs.Prelude.{ℕ, zero, suc, ◌+◌, List, [], ◌∷◌, ◌++◌, Option, Some, None, codes, decimal, length}
+use Rattle.explorer.specs.declared.exploration.Exploration.{Exploration}
+use Rattle.explorer.specs.declared.exploration.Stuck.{Stuck}
+use Rattle.explorer.specs.Ends.{outcomes_of}
+use Rattle.flat_model.specs.Shown.{Result}
+use Rattle.hart.specs.declared.status.Status.{Status}
+use Rattle.hart.specs.declared.status.Status.TheVariants.{Running, Stopped, Exited}
+use Rattle.state_search.specs.declared.findings.Extent.{Extent}
+use Rattle.state_search.specs.declared.findings.Extent.TheVariants.{Complete, LimitMet, OutOfMemory}
+
+-- ---- harts
+
+abbrev pub status_text : Status → List ℕ
+status_text Running = codes "run"
+status_text (Stopped code) = codes "stop " ++ decimal code
+status_text (Exited code) = codes "exit " ++ decimal code
+
+abbrev pub numbers_text : List ℕ → List ℕ
+numbers_text [] = []
+numbers_text (n ∷ ns) = codes " " ++ (decimal n ++ numbers_text ns)
+
+abbrev pub output_text : List ℕ → List ℕ
+output_text [] = []
+output_text (n ∷ ns) = codes " output" ++ numbers_text (n ∷ ns)
+
+abbrev pub gap_before : ℕ → List ℕ
+gap_before zero = codes "  "
+gap_before (suc h) = codes "   "
+
+abbrev pub hart_text : ℕ → Result → List ℕ
+hart_text h r = gap_before h ++ (codes "hart " ++ (decimal h ++ (codes ": " ++ (status_text r.status ++ output_text r.output))))
+
+-- from hart h on
+abbrev pub harts_text : ℕ → List Result → List ℕ
+harts_text h [] = []
+harts_text h (r ∷ rs) = hart_text h r ++ harts_text (h + 1) rs
+
+-- ---- lines
+
+abbrev pub outcome_line : ℕ → List Result → List ℕ
+outcome_line number outcome = decimal number ++ (harts_text 0 outcome ++ codes "\n")
+
+-- counted from a number on
+abbrev pub outcome_lines : ℕ → List (List Result) → List ℕ
+outcome_lines number [] = []
+outcome_lines number (o ∷ os) = outcome_line number o ++ outcome_lines (number + 1) os
+
+abbrev pub stuck_line : Option Stuck → List ℕ
+stuck_line None = []
+stuck_line (Some stuck) = codes "stuck: " ++ (decimal stuck.states ++ codes " states from which no schedule ends\n")
+
+abbrev pub last_line : Extent → (outcomes states : ℕ) → List ℕ
+last_line Complete outcomes states = codes "complete: " ++ (decimal outcomes ++ (codes " outcomes, " ++ (decimal states ++ codes " states\n")))
+last_line LimitMet outcomes states = codes "incomplete: " ++ (decimal states ++ codes " states met\n")
+last_line OutOfMemory outcomes states = codes "incomplete: out of memory\n"
+
+abbrev pub exploration_text : Exploration → List ℕ
+exploration_text e = outcome_lines 1 (outcomes_of e.outcomes.items) ++ (stuck_line e.stuck ++ last_line e.extent (length e.outcomes.items) e.states)

@@ -1,0 +1,6 @@
+//! What is found of a program, as the lines that are printed.
+#![tactic(auto)]
+
+mod spelling;
+
+pub use spelling::text_of;

@@ -1,0 +1,173 @@
+//! The lines.
+ghost use Rattle.std.specs.Prelude.{◌≡◌, ◌++◌, IfOk, OnOk, decimal};
+ghost use Rattle.exploration_text.specs.Text as text;
+ghost use Rattle.explorer.specs.Ends.{outcome_of, outcomes_of};
+ghost use Rattle.explorer.specs.Ranks.{result_of};
+ghost use Rattle.flat_model.specs.Shown.{told};
+
+use explorer::{Exploration, Found, Stuck};
+use flat_model::HartResult;
+use hart::Status;
+use itoa::Buffer;
+use state_search::Extent;
+use std::alloc::{AllocError, Global};
+
+fn spell_number(into: &mut Vec<u8>, number: u64) -> Result<(), AllocError>
+    ensures { OnOk result (into.new.items ≡ into.old.items ++ decimal number) }
+{
+    let mut digits = Buffer::new();
+    into.extend_from_slice(digits.format(number).as_bytes())?;
+    Ok(())
+}
+
+fn spell_status(into: &mut Vec<u8>, status: Status) -> Result<(), AllocError>
+    ensures { OnOk result (into.new.items ≡ into.old.items ++ text.status_text status) }
+{
+    match status {
+        Status::Running => {
+            into.extend_from_slice(b"run")?;
+            Ok(())
+        }
+        Status::Stopped(code) => {
+            into.extend_from_slice(b"stop ")?;
+            spell_number(into, u64::from(code))
+        }
+        Status::Exited(code) => {
+            into.extend_from_slice(b"exit ")?;
+            spell_number(into, u64::from(code))
+        }
+    }
+}
+
+fn spell_numbers(into: &mut Vec<u8>, numbers: &[u32]) -> Result<(), AllocError>
+    ensures { OnOk result (into.new.items ≡ into.old.items ++ text.numbers_text numbers.now) }
+{
+    let mut rest = numbers;
+    while let [first, tail @ ..] = rest {
+        into.extend_from_slice(b" ")?;
+        spell_number(into, u64::from(*first))?;
+        rest = tail;
+    }
+    Ok(())
+}
+
+fn spell_output(into: &mut Vec<u8>, output: &[u32]) -> Result<(), AllocError>
+    ensures { OnOk result (into.new.items ≡ into.old.items ++ text.output_text output.now) }
+{
+    if output.is_empty() {
+        return Ok(());
+    }
+    into.extend_from_slice(b" output")?;
+    spell_numbers(into, output)
+}
+
+fn spell_gap(into: &mut Vec<u8>, hart: usize) -> Result<(), AllocError>
+    ensures { OnOk result (into.new.items ≡ into.old.items ++ text.gap_before hart) }
+{
+    if hart == 0 {
+        into.extend_from_slice(b"  ")?;
+    } else {
+        into.extend_from_slice(b"   ")?;
+    }
+    Ok(())
+}
+
+fn spell_hart(into: &mut Vec<u8>, hart: usize, ended: &HartResult) -> Result<(), AllocError>
+    ensures { OnOk result (into.new.items ≡ into.old.items ++ text.hart_text hart (result_of ended.now)) }
+{
+    spell_gap(into, hart)?;
+    into.extend_from_slice(b"hart ")?;
+    spell_number(into, hart as u64)?;
+    into.extend_from_slice(b": ")?;
+    spell_status(into, ended.status)?;
+    spell_output(into, &ended.output)
+}
+
+fn spell_harts(into: &mut Vec<u8>, harts: &[HartResult]) -> Result<(), AllocError>
+    ensures { OnOk result (into.new.items ≡ into.old.items ++ text.harts_text 0 (told harts.now)) }
+{
+    let mut rest = harts;
+    let mut hart = 0;
+    while let [first, tail @ ..] = rest {
+        spell_hart(into, hart, first)?;
+        rest = tail;
+        hart += 1;
+    }
+    Ok(())
+}
+
+fn spell_outcome(into: &mut Vec<u8>, number: usize, found: &Found) -> Result<(), AllocError>
+    ensures { OnOk result (into.new.items ≡ into.old.items ++ text.outcome_line number (outcome_of found.now)) }
+{
+    spell_number(into, number as u64)?;
+    spell_harts(into, &found.harts)?;
+    into.extend_from_slice(b"\n")?;
+    Ok(())
+}
+
+fn spell_outcomes(into: &mut Vec<u8>, outcomes: &[Found]) -> Result<(), AllocError>
+    ensures { OnOk result (into.new.items ≡ into.old.items ++ text.outcome_lines 1 (outcomes_of outcomes.now)) }
+{
+    let mut rest = outcomes;
+    let mut number = 1;
+    while let [first, tail @ ..] = rest {
+        spell_outcome(into, number, first)?;
+        rest = tail;
+        number += 1;
+    }
+    Ok(())
+}
+
+fn spell_stuck(into: &mut Vec<u8>, stuck: &Option<Stuck>) -> Result<(), AllocError>
+    ensures { OnOk result (into.new.items ≡ into.old.items ++ text.stuck_line stuck.now) }
+{
+    if let Some(stuck) = stuck {
+        into.extend_from_slice(b"stuck: ")?;
+        spell_number(into, stuck.states as u64)?;
+        into.extend_from_slice(b" states from which no schedule ends\n")?;
+    }
+    Ok(())
+}
+
+fn spell_extent(
+    into: &mut Vec<u8>,
+    extent: Extent,
+    outcomes: usize,
+    states: usize,
+) -> Result<(), AllocError>
+    ensures { OnOk result (into.new.items ≡ into.old.items ++ text.last_line extent outcomes states) }
+{
+    match extent {
+        Extent::Complete => {
+            into.extend_from_slice(b"complete: ")?;
+            spell_number(into, outcomes as u64)?;
+            into.extend_from_slice(b" outcomes, ")?;
+            spell_number(into, states as u64)?;
+            into.extend_from_slice(b" states\n")?;
+        }
+        Extent::LimitMet => {
+            into.extend_from_slice(b"incomplete: ")?;
+            spell_number(into, states as u64)?;
+            into.extend_from_slice(b" states met\n")?;
+        }
+        Extent::OutOfMemory => into.extend_from_slice(b"incomplete: out of memory\n")?,
+    }
+    Ok(())
+}
+
+/// A line for each outcome, in order and counted from 1; one for the states from which no schedule ends, if there are
+/// any; and one that says whether these are all outcomes.
+pub fn text_of(alloc: Global, exploration: &Exploration) -> Result<Vec<u8>, AllocError>
+    ensures { IfOk result (λ bytes. bytes.items ≡ text.exploration_text exploration.now) }
+{
+    let mut bytes = Vec::new(alloc);
+    spell_outcomes(&mut bytes, &exploration.outcomes)?;
+    spell_stuck(&mut bytes, &exploration.stuck)?;
+    spell_extent(
+        &mut bytes,
+        exploration.extent,
+        exploration.outcomes.len(),
+        exploration.states,
+    )?;
+    Ok(bytes)
+}
