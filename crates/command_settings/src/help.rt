@@ -9,16 +9,28 @@ A check takes a trace and tells whether the memory model allows its order.
 
 Example: rvtl replay --raw examples/exit.bin examples/exit.script";
 
-pub(crate) const REPLAY_HELP: &str =
-    "The script's first line is rvtl-script 1 HARTS KIB SETS WAYS, then comes an event a line:
+pub(crate) const REPLAY_HELP: &str = "The script's first line is one of
+  rvtl-script 1 HARTS KIB SETS WAYS        up to 4 harts, with lines of 16 bytes
+  rvtl-script 2 HARTS KIB SETS WAYS LINE   more harts, or lines of 64 bytes
+HARTS is 1 to 8, KIB (main memory) a multiple of 4 from 4 to 1024, SETS (of each cache) a power of two
+to 64, WAYS (lines a set) 1 to 4, LINE 16 or 64. Then comes an event a line:
   step HART              the hart retires its next instruction, or asks for what it lacks
   drain HART ADDRESS     a store leaves the store buffer for the cache
   evict HART ADDRESS     the cache gives a line up
   deliver CHANNEL HART   the oldest message on channel A, B, C, D or E arrives
-  local HART COUNT       so many instructions at once that touch no memory
+  local HART COUNT       so many instructions at once, 1 to 256, that touch no memory
+
+Each hart has a store buffer of 8 entries, and a cache of which at most 4 Acquires (its MSHRs) and 4
+Releases are outstanding; AMOs are carried out in the cache. A hart begins with its number in a0
+and the number of harts in a1. An ECALL with 1 in a7 puts a0 out, with 0 it ends the hart, whose exit
+code is a0 modulo 256. Compressed and floating-point instructions are not supported.
 
 The trace goes to standard output. Of each hart how it ended (run, stop CODE or exit CODE) and what
 it put out go to standard error. Where something is wrong, standard error tells it in one line.
+A hart stops at an instruction that it can't carry out:
+  0 jump target misaligned    3 EBREAK                 6 store, LR, SC or AMO misaligned
+  1 fetch outside memory      4 load misaligned        7 store, LR, SC or AMO outside memory
+  2 illegal instruction       5 load outside memory    8 unknown call
 
 Example: rvtl replay --raw examples/exit.bin examples/exit.script";
 
@@ -29,6 +41,26 @@ and below it what it added to the trace, each R line with its instruction,
   O HART NUMBER          and what its hart put out
 and at the end each hart's H line. An event that changes nothing has its E line alone; with --strict
 the stream ends before it, the status is 1, and standard error tells the line and the outcome.
+
+Retired, Drained, Delivered, Evicted, Missed LINE (an Acquire of the line went out), Stopped CODE and
+Exited CODE change the machine. The other outcomes tell why nothing happened:
+  Halted          the hart has ended
+  WaitRelease     the cache's Release of the line is unanswered
+  WaitGrant       the cache's Acquire of the line is unanswered
+  NoTracker       4 Acquires are outstanding (each MSHR is taken)
+  SetFull         the line's set has no room for it: evict a line of the set
+  BufferFull      the store buffer is full: drain an entry
+  MustDrain       stores that wait have to drain first
+  NoEntry         no store to this word waits
+  NotOldest       of the oldest stores that wait, none is to this word
+  Empty           no message waits there
+  Busy            the line's transaction isn't over
+  Releasing       the probed cache's Release of the line is unanswered
+  AckFull         4 GrantAcks wait: deliver one on channel E
+  NotHeld         the cache doesn't hold the line
+  AcquirePending  the cache's Acquire of the line is unanswered
+  ReleaseFull     4 Releases are unanswered
+  NotLocal        one of the next instructions touches memory, or stops
 
 Example: rvtl explain --raw examples/load.bin examples/load.script";
 
@@ -42,7 +74,21 @@ Example: rvtl run --raw --journal exit.journal examples/exit.bin";
 
 pub(crate) const CHECK_HELP: &str =
     "Prints legal, or with status 3 a fault: its code and two operations, as HART:PLACE, that show it.
-Codes 1 to 13 are the rules of preserved program order, which the two break, 14 is the load value
-axiom and 15 the atomicity axiom.
+PLACE counts the hart's R lines from 0. Codes 1 to 13 are the rules of preserved program order, by which
+the first has to be performed before the second:
+   1 the second is a store, and they overlap
+   2 both load a byte to which no store stands between them, from different stores
+   3 the second loads what the first, an AMO or SC, wrote
+   4 a FENCE orders them
+   5 the first acquires, as every load does under Ztso
+   6 the second releases, as every store does under Ztso
+   7 both have RCsc annotations
+   8 they are an LR and its SC
+   9 the second's address depends on the first
+  10 what the second stores depends on the first
+  11 the second is a store, behind a branch that depends on the first
+  12 the second loads from a store between them that depends on the first
+  13 the second is a store, behind an access whose address depends on the first
+14 is the load value axiom (both are the load), 15 the atomicity axiom (an LR and its SC).
 
 Example: rvtl check examples/legal.trace";
