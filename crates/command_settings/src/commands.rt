@@ -2,7 +2,7 @@
 
 ghost use Rattle.std.specs.Prelude.{◌≡◌, IfOk, codes, false};
 ghost use Rattle.clap.specs.Words.{app_of, rule_of};
-ghost use Rattle.command_settings.specs.Usage.{AreModelNames, IsUsage, app_for, check, explain, file_rule, flag_rule, least_limit, machine_arguments, model_rule, most_limit, most_size, number_rule, replay, replay_arguments, required_rule, run, with_arguments};
+ghost use Rattle.command_settings.specs.Usage.{AreModelNames, IsUsage, app_for, check, explain, file_rule, flag_rule, machine_arguments, model_rule, most_size, number_rule, replay, replay_arguments, required_rule, run, with_arguments};
 
 use crate::help::{CHECK_HELP, EXPLAIN_HELP, PROGRAM_HELP, REPLAY_HELP, RUN_HELP};
 use clap::builder::ValueParser;
@@ -72,12 +72,6 @@ fn run_command<'a>(alloc: Global, models: &'a [&'a str]) -> Result<Command<'a>, 
         LIMIT_RANGE,
         "how many events the harts may try before the run ends",
     );
-    let journal = required_option(
-        alloc,
-        "journal",
-        "FILE",
-        "the file to write what happened into, as a script for replay",
-    );
     let image = file(alloc, "IMAGE", "the program that the harts run");
     let command = Command::new(alloc, "run")
         .about("Runs a program with a thread for each hart, and prints the trace")
@@ -85,7 +79,7 @@ fn run_command<'a>(alloc: Global, models: &'a [&'a str]) -> Result<Command<'a>, 
         .arg(raw(alloc))?;
     with_machine(alloc, models, command)?
         .arg(limit)?
-        .arg(journal)?
+        .arg(journal(alloc))?
         .arg(image)
 }
 
@@ -184,6 +178,18 @@ fn raw<'a>(alloc: Global) -> Arg<'a>
         alloc,
         "raw",
         "IMAGE has bare little-endian words, the first at 0x80000000",
+    )
+}
+
+fn journal<'a>(alloc: Global) -> Arg<'a>
+    ensures rule { rule_of result ≡ required_rule (codes "journal") }
+    ensures local { result.global ≡ false }
+{
+    required_option(
+        alloc,
+        "journal",
+        "FILE",
+        "the file to write what happened into, as a script for replay",
     )
 }
 

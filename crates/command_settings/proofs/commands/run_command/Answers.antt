@@ -12,5 +12,5 @@ returns c =
     let raw_is = c.in_ok-command.ensures.shape c.raw.ensures.local ∙ ap₂ with_rule new_is c.raw.ensures.rule in
     let machine_is = c.in_ok-with_machine.ensures ∙ ap (λ (a : App). with_arguments c.args.models a machine_arguments) raw_is in
     let limit_is = c.in_ok-arg.ensures.shape c.number-limit.ensures.local ∙ ap₂ with_rule machine_is c.number-limit.ensures.rule in
-    let journal_is = c.in_ok-arg-2.ensures.shape c.required_option-journal.ensures.local ∙ ap₂ with_rule limit_is c.required_option-journal.ensures.rule in
+    let journal_is = c.in_ok-arg-2.ensures.shape c.journal.ensures.local ∙ ap₂ with_rule limit_is c.journal.ensures.rule in
     IfOk-weaker c.arg-4.result _ _ (λ made added. added.shape c.file-image.ensures.local ∙ ap₂ with_rule journal_is c.file-image.ensures.rule) c.arg-4.ensures
