@@ -143,10 +143,9 @@ fn a_store_conditional_may_fail(rt: HostRuntime) -> Result<(), Fail> {
 fn an_own_access_ends_a_reservation_in_one_way(rt: HostRuntime) -> Result<(), Fail> {
     let one = explored(rt.alloc(), &RIVAL, 1, 1)?;
     assert_eq!(rt; one.outcomes.outcomes.len(), 1);
-    assert_eq!(rt;
-        one.outcomes.outcomes.as_slice()[0].harts()[0].status,
-        Status::Exited(1)
-    );
+    let harts = one.outcomes.outcomes.as_slice()[0].harts();
+    let first = harts.first().ok_or("a hart")?;
+    assert_eq!(rt; first.status, Status::Exited(1));
     let two = explored(rt.alloc(), &RIVAL, 1, 2)?;
     assert_eq!(rt; two.outcomes.outcomes.len(), 2);
     Ok(())
@@ -159,7 +158,8 @@ fn what_is_put_out_is_told(rt: HostRuntime) -> Result<(), Fail> {
     assert!(rt; ends_with(&found, 0, 1) && ends_with(&found, 1, 0));
     for results in found.outcomes.outcomes.as_slice() {
         let harts = results.harts();
-        let (first, second) = (harts[0].output.as_slice(), harts[1].output.as_slice());
+        let first = harts.first().ok_or("a first hart")?.output.as_slice();
+        let second = harts.get(1).ok_or("a second hart")?.output.as_slice();
         assert!(rt;
             (first == [0].as_slice() && second == [1].as_slice())
                 || (first == [1].as_slice() && second == [0].as_slice())
