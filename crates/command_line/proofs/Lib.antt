@@ -1,6 +1,1 @@
 mod Again
-mod Left
-mod Limits
-mod Replays
-mod Streams
-mod Written

@@ -1,9 +1,2 @@
-pub mod Composition
-pub mod Files
-pub mod Held
-pub mod Lines
 pub mod Running
 pub mod Runs
-pub mod Sizes
-pub mod Status
-pub mod Turns

@@ -1,11 +1,14 @@
 -- What a run of the program has done, by its status.
 use Rattle.std.specs.Prelude.{◌≡◌, ◌≢◌, ◌⊎◌, ℕ, Bool, false, true, List, Option}
 use Rattle.clap.specs.Words.{Text}
-use Rattle.command_line.specs.Held.{Held}
-use Rattle.command_line.specs.Lines.{IsCutOff, IsExplained, IsJudged, IsReplayed, IsRun, IsRunCutOff, IsStopped, IsVerdictCutOff}
+use Rattle.command_files.specs.Held.{Held}
+use Rattle.replay_command.specs.Replaying.{IsCutOff, IsReplayed}
+use Rattle.explain_command.specs.Explaining.{IsExplained, IsStopped}
+use Rattle.check_command.specs.Checking.{IsJudged, IsVerdictCutOff}
+use Rattle.run_command.specs.Running.{IsRun, IsRunCutOff}
 use Rattle.command_settings.specs.Refusals.{IsFitting, IsForHelp}
 use Rattle.command_settings.specs.Settings.{IsNamed}
-use Rattle.command_line.specs.Sizes.{IsOutside}
+use Rattle.command_files.specs.Sizes.{IsOutside}
 use Rattle.command_settings.specs.declared.wanted.Settings.{Settings}
 use Rattle.command_settings.specs.declared.wanted.Settings.TheVariants.{Check, Explain, Replay, Run}
 use Rattle.event_stream.specs.declared.strictness.Strictness.{Strictness}

@@ -1,8 +1,9 @@
 -- What a replay of a run's journal prints.
 use Rattle.std.specs.Prelude.{◌≡◌, ℕ, List, Option, Some, true, is_some}
 use Rattle.std.specs.Io.KnownBytes.{Appends}
-use Rattle.command_line.specs.Held.{Held}
-use Rattle.command_line.specs.Lines.{IsReplayed, IsRun}
+use Rattle.command_files.specs.Held.{Held}
+use Rattle.replay_command.specs.Replaying.{IsReplayed}
+use Rattle.run_command.specs.Running.{IsRun}
 use Rattle.command_settings.specs.declared.wanted.Replay.{Replay}
 use Rattle.command_settings.specs.declared.wanted.Run.{Run}
 

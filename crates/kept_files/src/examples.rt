@@ -1,7 +1,8 @@
 //! Plays the examples of the repository, and prints how each ends: the trace's last lines, and what the
 //! harts put out.
 
-use command_line::{SystemFiles, run_line};
+use command_files::SystemFiles;
+use command_line::run_line;
 use std::io::{self, Write};
 use std::rt::Files;
 use std::sync::Wait;

@@ -1,6 +1,6 @@
 //! Files that are kept in memory.
 
-use command_line::Files;
+use command_files::Files;
 use std::io::{self, ErrorKind};
 
 /// A file's name and its bytes.

@@ -1,7 +1,8 @@
 //! Judges kept traces under a memory model, and prints the status and what the program prints of each. What is wanted is
 //! kept beside it: verdicts that other implementations of the same rules have given.
 
-use command_line::{SystemFiles, run_line};
+use command_files::SystemFiles;
+use command_line::run_line;
 use std::io::{self, Write};
 use std::rt::Files;
 use std::sync::Wait;

@@ -4,7 +4,8 @@
 ghost use Rattle.std.specs.Prelude.{◌≡◌, MatchResult};
 ghost use Rattle.std.specs.Process.{exit_status};
 
-use command_line::{SystemFiles, run_line};
+use command_files::SystemFiles;
+use command_line::run_line;
 use std::env;
 use std::io::{self, BufWriter, Write};
 use std::process::ExitCode;

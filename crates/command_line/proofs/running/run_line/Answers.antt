@@ -5,15 +5,20 @@ use Rattle.std.specs.Str.{bytes_eq}
 use Rattle.clap.specs.Words.{IsAmong, Text, kind_of}
 use Rattle.clap.specs.declared.error.Error.{Error}
 use Rattle.clap.specs.declared.error.kind.ErrorKind.{ErrorKind}
-use Rattle.command_line.proofs.Left.{check_never_misused, either, explain_never_misused, only_configuration, replay_never_misused}
-use Rattle.command_line.specs.Held.{Held}
-use Rattle.command_line.specs.Lines.{IsExplained as IsTold, IsJudged, IsStopped}
+use Rattle.check_command.proofs.Told.{check_never_misused}
+use Rattle.command_files.proofs.Left.{either, only_configuration}
+use Rattle.explain_command.proofs.Told.{explain_never_misused}
+use Rattle.replay_command.proofs.Told.{replay_never_misused}
+use Rattle.command_files.specs.Held.{Held}
+use Rattle.explain_command.specs.Explaining.{IsExplained as IsTold, IsStopped}
+use Rattle.check_command.specs.Checking.{IsJudged}
 use Rattle.command_settings.specs.Refusals.{HasKinds, IsFitting, IsHelp, IsRefused, IsUnfit}
 use Rattle.command_line.specs.Running.{HasNamed, IsBeyond, IsBroken, IsCarriedOut, IsDone, IsFaulty, IsJournal, IsNotLegal, IsUnprinted, Spares, strictness_of}
 use Rattle.command_settings.specs.Settings.{IsNamed}
-use Rattle.command_line.specs.Status.{status_of}
-use Rattle.command_line.specs.Turns.{IsRunFault, Leaves}
-use Rattle.command_line.specs.declared.fault.Fault.{Fault as Trouble}
+use Rattle.command_files.specs.Status.{status_of}
+use Rattle.run_command.specs.Running.{IsRunFault}
+use Rattle.command_files.specs.Faults.{Leaves}
+use Rattle.command_files.specs.declared.fault.Fault.{Fault as Trouble}
 use Rattle.command_settings.specs.declared.wanted.Check.{Check as Judged}
 use Rattle.command_settings.specs.declared.wanted.Explain.{Explain as Explained}
 use Rattle.command_settings.specs.declared.wanted.Run.{Run as Asked}

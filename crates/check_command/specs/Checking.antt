@@ -1,0 +1,59 @@
+-- What a check has done, and which faults it tells.
+use Rattle.command_files.specs.Files.{HoldsTrace}
+use Rattle.command_files.specs.Held.{Held}
+use Rattle.command_files.specs.declared.fault.Fault.TheVariants.{BytesAfterTrace, CannotRead, CannotWrite, Check, OutOfMemory, Text}
+use Rattle.command_files.specs.declared.fault.Fault.{Fault}
+use Rattle.command_files.specs.Faults.{HasTrace, Name}
+use Rattle.memory_model.specs.Traces.{IsLegalOrder, completed}
+use Rattle.memory_model.specs.Verdict.{fault_in}
+use Rattle.memory_model.specs.declared.Model.{Model}
+use Rattle.rvwmo_order.specs.Answers.{fault_told, refusal}
+use Rattle.rvwmo_order.specs.Codes.{code_number}
+use Rattle.rvwmo_order.specs.declared.verdict.Verdict.TheVariants.{Legal, Fault as AtFault}
+use Rattle.rvwmo_order.specs.declared.verdict.Verdict.{Verdict}
+use Rattle.std.specs.Fmt.{decimal}
+use Rattle.std.specs.Io.KnownBytes.{Appends}
+use Rattle.std.specs.Prelude.{◌≡◌, ◌↔◌, ℕ, List, ◌++◌, None, Option, codes}
+use Rattle.text_fields.specs.Writing.{Begins}
+use Rattle.trace_recorder.specs.History.{History}
+use Rattle.trace_recorder.specs.declared.operation.OpId.{OpId}
+
+-- an operation as HART:PLACE
+abbrev pub operation_text : OpId → List ℕ
+operation_text o = decimal o.hart ++ (codes ":" ++ decimal o.place)
+
+abbrev pub verdict_text : Verdict → List ℕ
+verdict_text Legal = codes "legal\n"
+verdict_text (AtFault code a b) =
+    codes "fault " ++ (decimal (code_number code) ++ (codes " " ++ (operation_text a ++ (codes " " ++ (operation_text b ++ codes "\n")))))
+
+-- the verdict on a trace's completed order, where the checker doesn't refuse it: legal, or the first fault that the order has
+pub record IsVerdict (model : Model) (trace : History) (verdict : Verdict) : Type 0 where
+  pub judged : refusal trace (completed trace) ≡ None
+  pub legal : (verdict ≡ Legal) ↔ IsLegalOrder model trace (completed trace)
+  pub first : fault_told verdict ≡ fault_in model trace (completed trace)
+
+-- what was appended is the verdict on the trace in the file
+pub record IsJudged (held : Held) (name : List ℕ) (model : Model) (verdict : Verdict) (old new : Option (List ℕ)) : Type 0 where
+  pub trace : History
+  pub file : HoldsTrace held name trace
+  pub judged : IsVerdict model trace verdict
+  pub printed : Appends old new (verdict_text verdict)
+
+-- it took no more than a beginning of the verdict on the trace in the file
+pub record IsVerdictCutOff (held : Held) (name : List ℕ) (model : Model) (old new : Option (List ℕ)) : Type 0 where
+  pub trace : History
+  pub verdict : Verdict
+  pub file : HoldsTrace held name trace
+  pub judged : IsVerdict model trace verdict
+  pub begun : Begins old new (verdict_text verdict)
+
+-- the trace is read first, then its end, then its order is judged
+abbrev pub IsCheckFault : Held → Name → Fault → Type 0
+IsCheckFault held name (CannotRead file) = file ≡ name
+IsCheckFault held name (Text file error) = file ≡ name
+IsCheckFault held name (BytesAfterTrace file) = file ≡ name
+IsCheckFault held name (Check file error) = (file ≡ name) × HasTrace held name.now
+IsCheckFault held name CannotWrite = Unit {0}
+IsCheckFault held name OutOfMemory = Unit {0}
+IsCheckFault held name _ = ⊥

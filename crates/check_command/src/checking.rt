@@ -1,0 +1,90 @@
+//! `rvtl check`: the order of a trace's memory operations is judged, and the verdict printed.
+
+ghost use Rattle.std.specs.Prelude.{◌≡◌, IfErr, IfOk};
+ghost use Rattle.text_fields.specs.Writing.{Writes};
+ghost use Rattle.check_command.specs.Checking.{IsJudged, IsVerdict, IsVerdictCutOff, verdict_text};
+ghost use Rattle.check_command.specs.Checking.{IsCheckFault};
+ghost use Rattle.command_files.specs.Faults.{Leaves};
+
+use command_files::{Fault, Files, contents};
+use machine_model::Model;
+use rvwmo_order::{CheckError, Verdict, check_model, completed, has_too_many};
+use std::alloc::Global;
+use std::io::{self, Write};
+use text_fields::{Piece, put_pieces};
+use trace_recorder::Trace;
+use trace_text::read_trace;
+
+/// Reads a trace, judges its completed order under the model, and prints the verdict on `out`.
+pub fn check_file<'a, F: Files, O: Write>(
+    alloc: Global,
+    files: &mut F,
+    file: &'a str,
+    model: Model,
+    out: &mut O,
+) -> Result<Verdict, Fault<'a>>
+    ensures judged { IfOk result (λ verdict. IsJudged (F.held files.old) file.entry.now model verdict (O.contents out.old) (O.contents out.new)) }
+    ensures unfinished { IfErr result (λ fault. Leaves fault (O.contents out.old) (O.contents out.new)
+        (IsVerdictCutOff (F.held files.old) file.entry.now model (O.contents out.old) (O.contents out.new))) }
+    ensures told { IfErr result (IsCheckFault (F.held files.old) file.entry) }
+    ensures spared { F.held files.new ≡ F.held files.old }
+{
+    let bytes = contents(alloc, files, file)?;
+    let (trace, length) = match read_trace(alloc, bytes.as_slice()) {
+        Ok(read) => read,
+        Err(error) => return Err(Fault::text(file, error)),
+    };
+    if length < bytes.len() {
+        return Err(Fault::BytesAfterTrace { file });
+    }
+    let verdict = match judged(alloc, &trace, model) {
+        Ok(verdict) => verdict,
+        Err(error) => return Err(Fault::check(file, error)),
+    };
+    match print(verdict, out) {
+        Ok(()) => Ok(verdict),
+        Err(error) => Err(Fault::writing(error)),
+    }
+}
+
+fn judged(alloc: Global, trace: &Trace, model: Model) -> Result<Verdict, CheckError>
+    ensures { IfOk result (IsVerdict model trace.now.history) }
+{
+    if has_too_many(trace) {
+        // An order of so many isn't looked at.
+        return check_model(alloc, trace, &[], model);
+    }
+    let order = completed(alloc, trace)?;
+    check_model(alloc, trace, order.as_slice(), model)
+}
+
+fn print<O: Write>(verdict: Verdict, out: &mut O) -> io::Result<()>
+    ensures { Writes (O.contents out.old) (O.contents out.new) (verdict_text verdict) result }
+{
+    put_verdict(verdict, out)?;
+    out.flush()
+}
+
+fn put_verdict<O: Write>(verdict: Verdict, out: &mut O) -> io::Result<()>
+    ensures { Writes (O.contents out.old) (O.contents out.new) (verdict_text verdict) result }
+{
+    match verdict {
+        Verdict::Legal => put_pieces(out, &[Piece::Text(b"legal\n")]),
+        Verdict::Fault(code, a, b) => put_pieces(
+            out,
+            &[
+                Piece::Text(b"fault "),
+                Piece::Number(u64::from(code.number())),
+                Piece::Text(b" "),
+                Piece::Number(u64::from(a.hart)),
+                Piece::Text(b":"),
+                Piece::Number(u64::from(a.place)),
+                Piece::Text(b" "),
+                Piece::Number(u64::from(b.hart)),
+                Piece::Text(b":"),
+                Piece::Number(u64::from(b.place)),
+                Piece::Text(b"\n"),
+            ],
+        ),
+    }
+}

@@ -1,0 +1,76 @@
+-- What a fault has left on the output, and which faults a caller hands up.
+use Rattle.std.proofs.Common.{◌≡◌, ◌⊎◌, ℕ, Err, IfErr, IsErrAnd, List, Ok, Option, Result, inl, inr, refl, subst, sym}
+use Rattle.command_files.specs.Status.{status_of}
+use Rattle.command_files.specs.Faults.{IsImageFault, IsReadFault, IsScriptFault, Leaves, Name}
+use Rattle.command_files.specs.declared.fault.Fault.{Fault}
+use Rattle.command_files.specs.declared.fault.Fault.TheVariants.{BadEvent, BytesAfterTrace, CannotMake, CannotRead, CannotWrite, Check, Configuration, Event, Image, Mismatch, NoThread, NothingHappens, OutOfMemory, Text}
+
+module _ (old new : Option (List ℕ)) (broken : Type 0) where
+  -- any fault but the output's leaves it as it was
+  pub left : (fault : Fault) → (fault ≡ CannotWrite → ⊥) → new ≡ old → Leaves fault old new broken
+  left CannotWrite other same = absurd (other refl)
+  left OutOfMemory other same = inl same
+  left (CannotRead file) other same = same
+  left (CannotMake file) other same = same
+  left (Image file error) other same = same
+  left (Text file error) other same = same
+  left (Event file line error) other same = same
+  left (BytesAfterTrace file) other same = same
+  left (NothingHappens file line outcome) other same = same
+  left (Check file error) other same = same
+  left NoThread other same = same
+  left Mismatch other same = same
+  left BadEvent other same = same
+  left Configuration other same = same
+
+  pub spoiled : (fault : Fault) → (fault ≡ CannotWrite) ⊎ (fault ≡ OutOfMemory) → broken → Leaves fault old new broken
+  spoiled fault is so = elim is [
+    | inl at ↦ subst (λ f. Leaves f old new broken) (sym at) so
+    | inr at ↦ subst (λ f. Leaves f old new broken) (sym at) (inr so)
+  ]
+
+  pub either : (fault : Fault) → Leaves fault old new broken → (new ≡ old) ⊎ broken
+  either CannotWrite so = inr so
+  either OutOfMemory so = so
+  either (CannotRead file) so = inl so
+  either (CannotMake file) so = inl so
+  either (Image file error) so = inl so
+  either (Text file error) so = inl so
+  either (Event file line error) so = inl so
+  either (BytesAfterTrace file) so = inl so
+  either (NothingHappens file line outcome) so = inl so
+  either (Check file error) so = inl so
+  either NoThread so = inl so
+  either Mismatch so = inl so
+  either BadEvent so = inl so
+  either Configuration so = inl so
+
+-- what `?` hands up is the fault itself
+pub handed_up : {T : Type 0} (P : Fault → Type 0) (r : Result T Fault) (fault : Fault) → IsErrAnd r (λ told. told ≡ fault) → P fault → IfErr r P
+handed_up P (Ok x) fault is so = absurd is
+handed_up P (Err told) fault is so = subst P (sym is) so
+
+pub script_is_not_write : (name : Name) (fault : Fault) → IsScriptFault name fault → fault ≡ CannotWrite → ⊥
+script_is_not_write name fault is at = subst (IsScriptFault name) at is
+
+pub image_is_not_write : (name : Name) (fault : Fault) → IsImageFault name fault → fault ≡ CannotWrite → ⊥
+image_is_not_write name fault is at = subst (IsImageFault name) at is
+
+pub read_is_not_write : (name : Name) (fault : Fault) → IsReadFault name fault → fault ≡ CannotWrite → ⊥
+read_is_not_write name fault is at = subst (IsReadFault name) at is
+
+pub only_configuration : (fault : Fault) → status_of fault ≡ 2 → fault ≡ Configuration
+only_configuration CannotWrite two = cc
+only_configuration OutOfMemory two = cc
+only_configuration (CannotRead file) two = cc
+only_configuration (CannotMake file) two = cc
+only_configuration (Image file error) two = cc
+only_configuration (Text file error) two = cc
+only_configuration (Event file line error) two = cc
+only_configuration (BytesAfterTrace file) two = cc
+only_configuration (NothingHappens file line outcome) two = cc
+only_configuration (Check file error) two = cc
+only_configuration NoThread two = cc
+only_configuration Mismatch two = cc
+only_configuration BadEvent two = cc
+only_configuration Configuration two = refl

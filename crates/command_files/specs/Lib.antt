@@ -1,0 +1,5 @@
+pub mod Faults
+pub mod Files
+pub mod Held
+pub mod Sizes
+pub mod Status

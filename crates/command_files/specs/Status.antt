@@ -1,0 +1,57 @@
+-- With which status the program ends where something went wrong, and which fault a run's error is.
+use Rattle.std.specs.Prelude.{◌≡◌, ◌⊎◌, ◌+◌, ◌-◌, ◌^◌, ℕ, List, min}
+use Rattle.std.specs.Borrow.{Bor}
+use Rattle.command_files.specs.declared.fault.Fault.{Fault}
+use Rattle.command_files.specs.declared.fault.Fault.TheVariants as fault
+use Rattle.command_files.specs.declared.fault.Fault.TheVariants.{BytesAfterTrace, CannotMake, CannotRead, CannotWrite, Check, Configuration, Event, Image, NoThread, NothingHappens, OutOfMemory, Text}
+use Rattle.coherent_machine.specs.declared.errors.NewError.TheVariants as making
+use Rattle.coherent_machine.specs.declared.errors.ReplayError.{ReplayError}
+use Rattle.coherent_machine.specs.declared.errors.ReplayError.TheVariants as replay
+use Rattle.machine_parts.specs.declared.errors.ApplyError.TheVariants as applying
+use Rattle.event_stream.specs.declared.errors.StreamError.{StreamError}
+use Rattle.event_stream.specs.declared.errors.StreamError.TheVariants as stream
+use Rattle.host_threads.specs.declared.report.RunError.{RunError}
+use Rattle.host_threads.specs.declared.report.RunError.TheVariants as run
+
+-- 1 for files, streams, threads and what files hold, 2 for a configuration that no machine has, 4 for want of memory
+abbrev pub status_of : Fault → ℕ
+status_of (CannotRead file) = 1
+status_of (CannotMake file) = 1
+status_of CannotWrite = 1
+status_of (Image file error) = 1
+status_of (Text file error) = 1
+status_of (Event file line error) = 1
+status_of (NothingHappens file line outcome) = 1
+status_of (BytesAfterTrace file) = 1
+status_of (Check file error) = 1
+status_of NoThread = 1
+status_of fault.Mismatch = 1
+status_of fault.BadEvent = 1
+status_of Configuration = 2
+status_of OutOfMemory = 4
+
+abbrev pub run_fault : RunError → Fault
+run_fault run.Config = Configuration
+run_fault run.NoMemory = OutOfMemory
+run_fault run.Thread = NoThread
+run_fault run.Mismatch = fault.Mismatch
+run_fault run.BadEvent = fault.BadEvent
+
+-- the line of the script on which the event of this index stands, the first on line 2, as far as a number of 64 bits tells it
+abbrev pub line_at : ℕ → ℕ
+line_at index = min (index + 2) (2 ^ 64 - 1)
+
+-- which fault tells why a stream of this script is not whole
+abbrev pub IsStreamFault : Bor (List ℕ) → StreamError → Fault → Type 0
+IsStreamFault script (stream.New making.Config) told = told ≡ Configuration
+IsStreamFault script (stream.New making.NoMemory) told = told ≡ OutOfMemory
+IsStreamFault script (stream.Refused index applying.NoMemory) told = told ≡ OutOfMemory
+IsStreamFault script (stream.Refused index applying.BadEvent) told = told ≡ Event script (line_at index) applying.BadEvent
+IsStreamFault script (stream.Refused index applying.Limit) told = told ≡ Event script (line_at index) applying.Limit
+IsStreamFault script (stream.Idle index outcome) told = told ≡ NothingHappens script (line_at index) outcome
+IsStreamFault script (stream.Writing error) told = (told ≡ CannotWrite) ⊎ (told ≡ OutOfMemory)
+
+-- no memory for the machine, or for what an event adds
+abbrev pub IsNoMemory : ReplayError → Type 0
+IsNoMemory (replay.New error) = error ≡ making.NoMemory
+IsNoMemory (replay.Event index error) = error ≡ applying.NoMemory

@@ -1,0 +1,231 @@
+//! Why the program ends with another status than 0.
+
+ghost use Rattle.std.specs.Prelude.{◌≡◌, ◌≢◌, ◌↔◌, ◌⊎◌, ◌+◌, ◌-◌, ◌^◌, ℕ, min};
+ghost use Rattle.std.specs.IoError.{error_kind};
+ghost use Rattle.command_files.specs.Status.{IsNoMemory, IsStreamFault, run_fault, status_of};
+
+use coherent_machine::{ApplyError, NewError, ReplayError};
+use elf_loader::LoadError;
+use event_stream::{StreamError, outcome_name};
+use host_threads::RunError;
+use machine_model::Outcome;
+use rvwmo_order::CheckError;
+use std::alloc::AllocError;
+use std::io::{self, ErrorKind};
+use thiserror::Error;
+use trace_text::{TextCode, TextError};
+
+/// What went wrong, with the file in which it did. Its text is the program's message, of one line: what
+/// would end a line or steer a terminal is escaped in a file's name.
+#[derive(Debug, Drop, Error)]
+pub enum Fault<'a> {
+    #[error("rvtl: {}: cannot read", .file.escape_debug())]
+    CannotRead {
+        file: &'a str,
+    },
+    #[error("rvtl: {}: cannot write", .file.escape_debug())]
+    CannotMake {
+        file: &'a str,
+    },
+    #[error("rvtl: cannot write")]
+    CannotWrite,
+    #[error("rvtl: {}: image fault {} {error}", .file.escape_debug(), .error.number())]
+    Image {
+        file: &'a str,
+        error: LoadError,
+    },
+    #[error("rvtl: {}: line {}: text fault {} {}", .file.escape_debug(), .error.line, .error.code.number(), .error.code)]
+    Text {
+        file: &'a str,
+        error: TextError,
+    },
+    #[error("rvtl: {}: line {line}: event fault {} {error}", .file.escape_debug(), .error.number())]
+    Event {
+        file: &'a str,
+        line: usize,
+        error: ApplyError,
+    },
+    #[error("rvtl: {}: line {line}: nothing happens: {}", .file.escape_debug(), outcome_name(*.outcome))]
+    NothingHappens {
+        file: &'a str,
+        line: usize,
+        outcome: Outcome,
+    },
+    #[error("rvtl: {}: bytes after the trace", .file.escape_debug())]
+    BytesAfterTrace {
+        file: &'a str,
+    },
+    #[error("rvtl: {}: check fault {} {error}", .file.escape_debug(), .error.number())]
+    Check {
+        file: &'a str,
+        error: CheckError,
+    },
+    #[error("rvtl: cannot start a thread")]
+    NoThread,
+    /// The machine that the threads gave back is of another image or configuration.
+    #[error("rvtl: fabric mismatch")]
+    Mismatch,
+    /// A thread picked an event that no machine has.
+    #[error("rvtl: bad event")]
+    BadEvent,
+    /// No machine is of this size. A script can't name one.
+    #[error("rvtl: bad configuration")]
+    Configuration,
+    #[error("rvtl: out of memory")]
+    OutOfMemory,
+}
+
+impl Fault<'_> {
+    /// The program's exit status: 1 for files, streams, threads and what files hold, 2 for a
+    /// configuration that no machine has, 4 for want of memory.
+    pub fn status(&self) -> u8
+        ensures { result ≡ status_of self.now }
+    {
+        match self {
+            Fault::CannotRead { .. }
+            | Fault::CannotMake { .. }
+            | Fault::CannotWrite
+            | Fault::Image { .. }
+            | Fault::Text { .. }
+            | Fault::Event { .. }
+            | Fault::NothingHappens { .. }
+            | Fault::BytesAfterTrace { .. }
+            | Fault::Check { .. }
+            | Fault::NoThread
+            | Fault::Mismatch
+            | Fault::BadEvent => 1,
+            Fault::Configuration => 2,
+            Fault::OutOfMemory => 4,
+        }
+    }
+}
+
+impl<'a> Fault<'a> {
+    /// A file could not be opened or read.
+    pub fn reading(file: &'a str, error: io::Error) -> Fault<'a>
+        ensures told { (result ≡ Fault.CannotRead file.entry) ⊎ (result ≡ Fault.OutOfMemory) }
+        ensures memory { (result ≡ Fault.OutOfMemory) ↔ (error_kind error ≡ ErrorKind.OutOfMemory) }
+    {
+        match error.kind() {
+            ErrorKind::OutOfMemory => Fault::OutOfMemory,
+            _ => Fault::CannotRead { file },
+        }
+    }
+
+    /// A file could not be made or written.
+    pub fn making(file: &'a str, error: io::Error) -> Fault<'a>
+        ensures told { (result ≡ Fault.CannotMake file.entry) ⊎ (result ≡ Fault.OutOfMemory) }
+        ensures memory { (result ≡ Fault.OutOfMemory) ↔ (error_kind error ≡ ErrorKind.OutOfMemory) }
+    {
+        match error.kind() {
+            ErrorKind::OutOfMemory => Fault::OutOfMemory,
+            _ => Fault::CannotMake { file },
+        }
+    }
+
+    /// Standard output took no more.
+    pub fn writing(error: io::Error) -> Fault<'a>
+        ensures told { (result ≡ Fault.CannotWrite) ⊎ (result ≡ Fault.OutOfMemory) }
+        ensures memory { (result ≡ Fault.OutOfMemory) ↔ (error_kind error ≡ ErrorKind.OutOfMemory) }
+    {
+        match error.kind() {
+            ErrorKind::OutOfMemory => Fault::OutOfMemory,
+            _ => Fault::CannotWrite,
+        }
+    }
+
+    pub fn text(file: &'a str, error: TextError) -> Fault<'a>
+        ensures told { (result ≡ Fault.Text file.entry error) ⊎ (result ≡ Fault.OutOfMemory) }
+        ensures memory { (result ≡ Fault.OutOfMemory) ↔ (error.code ≡ TextCode.NoMemory) }
+    {
+        match error.code {
+            TextCode::NoMemory => Fault::OutOfMemory,
+            _ => Fault::Text { file, error },
+        }
+    }
+
+    pub fn image(file: &'a str, error: LoadError) -> Fault<'a>
+        ensures told { (result ≡ Fault.Image file.entry error) ⊎ (result ≡ Fault.OutOfMemory) }
+        ensures memory { (result ≡ Fault.OutOfMemory) ↔ (error ≡ LoadError.NoMemory) }
+    {
+        match error {
+            LoadError::NoMemory => Fault::OutOfMemory,
+            _ => Fault::Image { file, error },
+        }
+    }
+
+    pub fn check(file: &'a str, error: CheckError) -> Fault<'a>
+        ensures told { (result ≡ Fault.Check file.entry error) ⊎ (result ≡ Fault.OutOfMemory) }
+        ensures memory { (result ≡ Fault.OutOfMemory) ↔ (error ≡ CheckError.NoMemory) }
+    {
+        match error {
+            CheckError::NoMemory => Fault::OutOfMemory,
+            _ => Fault::Check { file, error },
+        }
+    }
+
+    /// The script's first event stands on line 2.
+    pub fn replay(script: &'a str, error: ReplayError) -> Fault<'a>
+        ensures told { (result ≡ Fault.Configuration) ⊎ ((result ≡ Fault.OutOfMemory) ⊎ ((index : ℕ) × (refusal : _)
+            × (error ≡ ReplayError.Event index refusal) × (result ≡ Fault.Event script.entry (min (index + 2) (2 ^ 64 - 1)) refusal))) }
+        ensures configuration { (result ≡ Fault.Configuration) ↔ (error ≡ ReplayError.New NewError.Config) }
+        ensures memory { (result ≡ Fault.OutOfMemory) ↔ IsNoMemory error }
+    {
+        match error {
+            ReplayError::New(NewError::Config) => Fault::Configuration,
+            ReplayError::New(NewError::NoMemory) | ReplayError::Event(_, ApplyError::NoMemory) => {
+                Fault::OutOfMemory
+            }
+            ReplayError::Event(index, error) => Fault::Event {
+                file: script,
+                line: index.saturating_add(2),
+                error,
+            },
+        }
+    }
+}
+
+impl<'a> Fault<'a> {
+    /// Why a stream is not whole. The script's first event stands on line 2.
+    pub fn explaining(script: &'a str, error: StreamError) -> Fault<'a>
+        ensures { IsStreamFault script.entry error result }
+    {
+        match error {
+            StreamError::New(NewError::Config) => Fault::Configuration,
+            StreamError::New(NewError::NoMemory) | StreamError::Refused(_, ApplyError::NoMemory) =>
+                Fault::OutOfMemory,
+            StreamError::Refused(index, error) => Fault::Event {
+                file: script,
+                line: index.saturating_add(2),
+                error,
+            },
+            StreamError::Idle(index, outcome) => Fault::NothingHappens {
+                file: script,
+                line: index.saturating_add(2),
+                outcome,
+            },
+            StreamError::Writing(error) => Fault::writing(error),
+        }
+    }
+}
+
+impl Fault<'_> {
+    /// Why a run left no report.
+    pub fn running<'a>(error: RunError) -> Fault<'a>
+        ensures { result ≡ run_fault error }
+    {
+        match error {
+            RunError::Config => Fault::Configuration,
+            RunError::NoMemory => Fault::OutOfMemory,
+            RunError::Thread => Fault::NoThread,
+            RunError::Mismatch => Fault::Mismatch,
+            RunError::BadEvent => Fault::BadEvent,
+        }
+    }
+}
+
+impl From<AllocError> for Fault<'_> {
+    fn from(_error: AllocError) -> Self {
+        Fault::OutOfMemory
+    }
+}

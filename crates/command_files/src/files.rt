@@ -1,0 +1,24 @@
+//! Where the program's files come from, and where it makes one.
+
+ghost use Rattle.std.specs.Prelude.{◌≡◌, ◌≢◌, ℕ, IfOk, List, None, OnOk, Option};
+ghost use Rattle.command_files.specs.Held.{Gives, HoldsBytes};
+
+use std::io::{self, Read};
+
+/// Files by their names: those of the system, or some that are kept in memory.
+pub trait Files {
+    type Reader: Read + Drop;
+
+    // The bytes of the file of each name, where they are known.
+    ghost held: { Self → List ℕ → Option (List ℕ) } = { λ _ _. None };
+
+    /// Opens a file for reading.
+    fn open(&mut self, name: &str) -> io::Result<Self::Reader>
+        ensures reader { IfOk result (λ reader. Gives (held self.old name.now) (Self.Reader.remaining reader)) }
+        ensures stays { held self.new ≡ held self.old };
+
+    /// Makes a file of these bytes, in place of the one that has the name.
+    fn write(&mut self, name: &str, bytes: &[u8]) -> io::Result<()>
+        ensures written { OnOk result (HoldsBytes (held self.new) name.now bytes.now) }
+        ensures others { (other : List ℕ) → other ≢ name.now → held self.new other ≡ held self.old other };
+}

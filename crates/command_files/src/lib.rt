@@ -1,0 +1,17 @@
+//! What the commands of `rvtl` share: files by their names and what they hold, the machine that is meant,
+//! how harts ended, and why a command ends with another status than 0.
+#![tactic(auto)]
+
+mod ends;
+mod fault;
+mod files;
+mod machines;
+mod reading;
+mod system;
+
+pub use ends::print_ends;
+pub use fault::Fault;
+pub use files::Files;
+pub use machines::{config_of, named_config};
+pub use reading::{contents, image_in, script_in};
+pub use system::SystemFiles;

@@ -1,0 +1,433 @@
+//! The program's texts and statuses, over files and streams in memory.
+
+mod explaining;
+mod judging;
+mod memory;
+mod orders;
+mod running;
+mod texts;
+
+use command_line::run_line;
+use memory::{File, MemoryFiles, Narrow, Stuck};
+use std::alloc::Global;
+use std::process::Abort;
+use std::sync::Wait;
+use std::test::Fail;
+use std::thread::Threads;
+
+/// What a run of the program gave.
+#[derive(Drop)]
+struct Ran {
+    status: u8,
+    out: Vec<u8>,
+    err: Vec<u8>,
+}
+
+/// `rvtl replay --raw image script` over these two files.
+fn replay<R: Threads + Wait + Sync + AllocGlobal>(rt: &R, image: &[u8], script: &[u8]) -> Ran {
+    let files = [File::whole("image", image), File::whole("script", script)];
+    line(rt, &["rvtl", "replay", "--raw", "image", "script"], &files)
+}
+
+fn line<R: Threads + Wait + Sync + AllocGlobal>(rt: &R, words: &[&str], files: &[File<'_>]) -> Ran {
+    line_over(rt, words, &mut MemoryFiles::new(rt.alloc(), files))
+}
+
+fn line_over<R: Threads + Wait + Sync + AllocGlobal>(
+    rt: &R,
+    words: &[&str],
+    files: &mut MemoryFiles<'_>,
+) -> Ran {
+    let alloc = rt.alloc();
+    let mut out = Vec::new(alloc);
+    let mut err = Vec::new(alloc);
+    let status = run_line(rt, alloc, words, files, &mut out, &mut err);
+    Ran { status, out, err }
+}
+
+fn image_of(alloc: Global, words: &[u32]) -> Result<Vec<u8>, Fail> {
+    let mut bytes = Vec::new(alloc);
+    for word in words {
+        bytes.extend_from_slice(&word.to_le_bytes())?;
+    }
+    Ok(bytes)
+}
+
+fn replays(
+    rt: &(impl Abort + Threads + Wait + Sync + AllocGlobal),
+    words: &[u32],
+    script: &str,
+    trace: &str,
+    ends: &str,
+) -> Result<(), Fail> {
+    let image = image_of(rt.alloc(), words)?;
+    let ran = replay(rt, image.as_slice(), script.as_bytes());
+    assert_eq!(rt; ran.err.as_slice(), ends.as_bytes());
+    assert_eq!(rt; ran.out.as_slice(), trace.as_bytes());
+    assert_eq!(rt; ran.status, 0);
+    Ok(())
+}
+
+/// It also refuses a program that always tells want of memory, as each contract allows.
+#[test]
+fn row_1(rt: HostRuntime) -> Result<(), Fail> {
+    replays(
+        &rt,
+        &texts::EXIT,
+        texts::EXIT_SCRIPT,
+        texts::EXIT_TRACE,
+        "hart 0: exit 5\n",
+    )
+}
+
+#[test]
+fn a_step_of_a_halted_hart_changes_nothing(rt: HostRuntime) -> Result<(), Fail> {
+    let script = "rvtl-script 1 1 4 4 2\nstep 0\nstep 0\nstep 0\n";
+    replays(
+        &rt,
+        &texts::EXIT,
+        script,
+        texts::EXIT_TRACE,
+        "hart 0: exit 5\n",
+    )
+}
+
+#[test]
+fn row_2(rt: HostRuntime) -> Result<(), Fail> {
+    let script = "rvtl-script 1 1 4 4 2\n";
+    replays(
+        &rt,
+        &texts::EXIT,
+        script,
+        texts::NO_EVENTS_TRACE,
+        "hart 0: run\n",
+    )
+}
+
+#[test]
+fn row_18(rt: HostRuntime) -> Result<(), Fail> {
+    replays(
+        &rt,
+        &texts::LOAD,
+        texts::LOAD_SCRIPT,
+        texts::LOAD_TRACE,
+        "hart 0: run\n",
+    )
+}
+
+#[test]
+fn row_27(rt: HostRuntime) -> Result<(), Fail> {
+    replays(
+        &rt,
+        &texts::STORE,
+        texts::STORE_SCRIPT,
+        texts::STORE_TRACE,
+        "hart 0: run\n",
+    )
+}
+
+#[test]
+fn outputs_stand_behind_the_status(rt: HostRuntime) -> Result<(), Fail> {
+    let image = image_of(
+        rt.alloc(),
+        &[0x0010_0893, 0xfff0_0513, 0x0000_0073, 0x0000_0073],
+    )?;
+    let script = "rvtl-script 1 1 4 4 2\nstep 0\nstep 0\nstep 0\nstep 0\n";
+    let ran = replay(&rt, image.as_slice(), script.as_bytes());
+    assert_eq!(rt;
+        ran.err.as_slice(),
+        b"hart 0: run output 4294967295 4294967295\n".as_slice()
+    );
+    assert_eq!(rt; ran.status, 0);
+    Ok(())
+}
+
+#[test]
+fn stops_are_told(rt: HostRuntime) {
+    let ran = replay(&rt, &[0; 4], b"rvtl-script 1 1 4 4 2\nstep 0\n");
+    assert_eq!(rt; ran.err.as_slice(), b"hart 0: stop 2\n".as_slice());
+    assert_eq!(rt; ran.status, 0);
+}
+
+/// An image, a script, and the message and status that they give.
+const FAULTS: [(&[u8], &[u8], &str, u8); 9] = [
+    (
+        &[0; 4],
+        b"rvtl-script 1 1 4 4 2\nstep 00\n",
+        "rvtl: script: line 2: text fault 3 Fields\n",
+        1,
+    ),
+    (&[0; 4], b"", "rvtl: script: line 1: text fault 5 End\n", 1),
+    (
+        &[0; 4],
+        b"rvtl-script 1 1 6 4 2\n",
+        "rvtl: script: line 1: text fault 1 Header\n",
+        1,
+    ),
+    (
+        &[0; 4],
+        b"rvtl-script 1 1 4 4 2\nstop 0\n",
+        "rvtl: script: line 2: text fault 2 Word\n",
+        1,
+    ),
+    (
+        &[0; 3],
+        b"rvtl-script 1 1 4 4 2\n",
+        "rvtl: image: image fault 1 Short\n",
+        1,
+    ),
+    (
+        &[0; 4100],
+        b"rvtl-script 1 1 4 4 2\n",
+        "rvtl: image: image fault 8 SegmentOutside\n",
+        1,
+    ),
+    (
+        &[0; 3],
+        b"rvtl-script 1 1 4 4",
+        "rvtl: script: line 1: text fault 5 End\n",
+        1,
+    ),
+    (
+        &[0; 4],
+        b"rvtl-script 1 1 4 4 2\nstep 0\nstep 9\n",
+        "rvtl: script: line 3: event fault 1 BadEvent\n",
+        1,
+    ),
+    (
+        &[0; 4],
+        b"rvtl-script 1 1 4 4 2\ndrain 0 0x80000102\n",
+        "rvtl: script: line 2: event fault 1 BadEvent\n",
+        1,
+    ),
+];
+
+/// Each fault has its message and status, and nothing goes to standard output.
+#[test]
+fn row_23_and_the_other_faults(rt: HostRuntime) {
+    for (image, script, message, status) in FAULTS {
+        let ran = replay(&rt, image, script);
+        assert_eq!(rt; ran.err.as_slice(), message.as_bytes(), "{message}");
+        assert_eq!(rt; ran.status, status, "{message}");
+        assert!(rt; ran.out.is_empty(), "{message}");
+    }
+}
+
+/// The script is judged first.
+#[test]
+fn files_that_are_not_there(rt: HostRuntime) {
+    let script = [File::whole("script", b"rvtl-script 1 1 4 4 2\n")];
+    for (words, message, status) in [
+        (
+            ["rvtl", "replay", "--raw", "image", "gone"].as_slice(),
+            "rvtl: gone: cannot read\n",
+            1,
+        ),
+        (
+            &["rvtl", "replay", "--raw", "image", "script"],
+            "rvtl: image: cannot read\n",
+            1,
+        ),
+        (
+            &["rvtl", "replay", "image", "gone"],
+            "rvtl: gone: cannot read\n",
+            1,
+        ),
+    ] {
+        let ran = line(&rt, words, &script);
+        assert_eq!(rt; ran.err.as_slice(), message.as_bytes(), "{message}");
+        assert_eq!(rt; ran.status, status, "{message}");
+        assert!(rt; ran.out.is_empty(), "{message}");
+    }
+}
+
+/// A read that fails in mid-stream is no end of the file.
+#[test]
+fn files_that_break(rt: HostRuntime) {
+    let words = ["rvtl", "replay", "--raw", "image", "script"];
+    let script = File::whole("script", texts::EXIT_SCRIPT.as_bytes());
+    let broken = File::broken("script", texts::EXIT_SCRIPT.as_bytes());
+    let ran = line(&rt, &words, &[broken, File::whole("image", &[0; 4])]);
+    assert_eq!(rt;
+        ran.err.as_slice(),
+        b"rvtl: script: cannot read\n".as_slice()
+    );
+    assert_eq!(rt; ran.status, 1);
+    let ran = line(&rt, &words, &[script, File::broken("image", &[0; 4])]);
+    assert_eq!(rt;
+        ran.err.as_slice(),
+        b"rvtl: image: cannot read\n".as_slice()
+    );
+    assert_eq!(rt; ran.status, 1);
+}
+
+/// Standard output that takes no more than so many bytes: they are the text's first, no hart is told of.
+#[test]
+fn streams_that_break(rt: HostRuntime) -> Result<(), Fail> {
+    let image = image_of(rt.alloc(), &texts::LOAD)?;
+    let files = [
+        File::whole("image", image.as_slice()),
+        File::whole("script", texts::LOAD_SCRIPT.as_bytes()),
+    ];
+    let words = ["rvtl", "replay", "--raw", "image", "script"];
+    let text = texts::LOAD_TRACE.as_bytes();
+    for room in 0..text.len() {
+        let mut out = Narrow {
+            taken: Vec::new(rt.alloc()),
+            room,
+        };
+        let mut err = Vec::new(rt.alloc());
+        let status = run_line(
+            &rt,
+            rt.alloc(),
+            &words,
+            &mut MemoryFiles::new(rt.alloc(), &files),
+            &mut out,
+            &mut err,
+        );
+        assert_eq!(rt; status, 1);
+        assert_eq!(rt; err.as_slice(), b"rvtl: cannot write\n".as_slice());
+        assert_eq!(rt; out.taken.len(), room);
+        assert!(rt; text.starts_with(out.taken.as_slice()));
+    }
+    Ok(())
+}
+
+/// What was not passed on is not printed: neither a trace nor a verdict, legal or not, ends well.
+#[test]
+fn streams_that_lose_the_end(rt: HostRuntime) -> Result<(), Fail> {
+    let image = image_of(rt.alloc(), &texts::LOAD)?;
+    let files = [
+        File::whole("image", image.as_slice()),
+        File::whole("script", texts::LOAD_SCRIPT.as_bytes()),
+        File::whole("legal", texts::LOAD_TRACE.as_bytes()),
+        File::whole("passing", orders::MESSAGE_PASSING.as_bytes()),
+    ];
+    for words in [
+        ["rvtl", "replay", "--raw", "image", "script"].as_slice(),
+        &["rvtl", "check", "legal"],
+        &["rvtl", "check", "--model", "ztso", "passing"],
+        &["rvtl", "run", "--raw", "--journal", "journal", "image"],
+    ] {
+        let mut out = Stuck {
+            taken: Vec::new(rt.alloc()),
+        };
+        let mut err = Vec::new(rt.alloc());
+        let status = run_line(
+            &rt,
+            rt.alloc(),
+            words,
+            &mut MemoryFiles::new(rt.alloc(), &files),
+            &mut out,
+            &mut err,
+        );
+        assert_eq!(rt; status, 1, "{words:?}");
+        assert_eq!(rt;
+            err.as_slice(),
+            b"rvtl: cannot write\n".as_slice(),
+            "{words:?}"
+        );
+    }
+    Ok(())
+}
+
+/// Each hart has its line.
+#[test]
+fn two_harts_end(rt: HostRuntime) -> Result<(), Fail> {
+    let image = image_of(rt.alloc(), &texts::EXIT)?;
+    let script = "rvtl-script 1 2 4 4 2\nstep 1\nstep 1\nstep 0\n";
+    let ran = replay(&rt, image.as_slice(), script.as_bytes());
+    assert_eq!(rt;
+        ran.err.as_slice(),
+        b"hart 0: run\nhart 1: exit 5\n".as_slice()
+    );
+    assert_eq!(rt; ran.status, 0);
+    Ok(())
+}
+
+#[test]
+fn usage_and_help(rt: HostRuntime) {
+    for (words, status) in [
+        (["rvtl"].as_slice(), 2),
+        (&["rvtl", "play"], 2),
+        (&["rvtl", "replay", "--raw", "image"], 2),
+        (&["rvtl", "replay", "--row", "image", "script"], 2),
+        (&["rvtl", "run", "--raw", "image"], 2),
+        (&["rvtl", "explain", "--strict", "image"], 2),
+        (&["rvtl", "--help"], 0),
+        (&["rvtl", "replay", "--help"], 0),
+        (&["rvtl", "explain", "--help"], 0),
+    ] {
+        let ran = line(&rt, words, &[]);
+        assert_eq!(rt; ran.status, status, "{words:?}");
+        assert!(rt; ran.out.is_empty() == (status == 2), "{words:?}");
+        assert!(rt; ran.err.is_empty() == (status == 0), "{words:?}");
+    }
+}
+
+#[test]
+fn a_name_stays_on_its_line(rt: HostRuntime) {
+    let ran = line(&rt, &["rvtl", "replay", "image", "a\nb\x1b[2J"], &[]);
+    assert_eq!(rt;
+        ran.err.as_slice(),
+        b"rvtl: a\\nb\\u{1b}[2J: cannot read\n".as_slice()
+    );
+    assert_eq!(rt; ran.status, 1);
+}
+
+/// Numbers that a run's options don't take.
+#[test]
+fn usage_of_a_run(rt: HostRuntime) {
+    for (option, number) in [
+        ("--limit", "0"),
+        ("--limit", "1000000001"),
+        ("--harts", "4294967296"),
+        ("--line", "wide"),
+    ] {
+        let words = ["rvtl", "run", option, number, "--journal", "j", "image"];
+        let ran = line(&rt, &words, &[]);
+        assert_eq!(rt; ran.status, 2, "{option} {number}");
+        assert!(rt; ran.out.is_empty(), "{option} {number}");
+        assert!(rt; !ran.err.is_empty(), "{option} {number}");
+    }
+}
+
+/// Each help says how the words go, and has an example.
+#[test]
+fn help_teaches(rt: HostRuntime) {
+    for (words, usage, example) in [
+        (
+            ["rvtl", "--help"].as_slice(),
+            "Usage: rvtl <COMMAND>\n",
+            "Example: rvtl replay --raw examples/exit.bin examples/exit.script\n",
+        ),
+        (
+            &["rvtl", "replay", "--help"],
+            "Usage: rvtl replay [OPTIONS] <IMAGE> <SCRIPT>\n",
+            "Example: rvtl replay --raw examples/exit.bin examples/exit.script\n",
+        ),
+        (
+            &["rvtl", "explain", "--help"],
+            "Usage: rvtl explain [OPTIONS] <IMAGE> <SCRIPT>\n",
+            "Example: rvtl explain --raw examples/load.bin examples/load.script\n",
+        ),
+        (
+            &["rvtl", "run", "--help"],
+            "Usage: rvtl run [OPTIONS] --journal <FILE> <IMAGE>\n",
+            "Example: rvtl run --raw --journal exit.journal examples/exit.bin\n",
+        ),
+        (
+            &["rvtl", "check", "--help"],
+            "Usage: rvtl check [OPTIONS] <TRACE>\n",
+            "Example: rvtl check examples/legal.trace\n",
+        ),
+    ] {
+        let ran = line(&rt, words, &[]);
+        let Ok(text) = std::str::from_utf8(ran.out.as_slice()) else {
+            assert!(rt; false, "{words:?}");
+            return;
+        };
+        assert!(rt; text.contains(usage), "{words:?}");
+        assert!(rt; text.ends_with(example), "{words:?}");
+    }
+}

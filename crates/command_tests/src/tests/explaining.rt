@@ -1,0 +1,141 @@
+//! What `rvtl explain` prints, and how it ends.
+
+use super::memory::{File, MemoryFiles, Narrow, Stuck};
+use super::{Ran, image_of, line, texts};
+use command_line::run_line;
+use std::process::Abort;
+use std::sync::Wait;
+use std::test::Fail;
+use std::thread::Threads;
+
+/// The I, R, P, M and H lines are those of the worked row's trace, below the events of its script.
+const LOAD_STREAM: &str = "rvtl-stream 1
+T 1 4 0x80000000
+I 0x80000000 37060080032706000000000000000000
+E 2 step 0 Retired
+R 0 0x80000000 0x80000637 - - ; lui a2, 0x80000
+E 3 step 0 Missed 0x80000000
+M s A 0 AcquireBlock 0x80000000 NtoB
+E 4 deliver A 0 Delivered
+M t A 0 AcquireBlock 0x80000000 NtoB
+M s D 0 GrantData 0x80000000 toB 37060080032706000000000000000000
+E 5 deliver D 0 Delivered
+M t D 0 GrantData 0x80000000 toB 37060080032706000000000000000000
+M s E 0 GrantAck 0x80000000
+E 6 deliver E 0 Delivered
+M t E 0 GrantAck 0x80000000
+E 7 step 0 Retired
+R 0 0x80000004 0x00062703 0x80000637 - ; lw a4, 0(a2)
+P 0 1
+H 0 run
+";
+
+/// The second step asks for the line, so the third has to wait for its Grant.
+const WAITING_SCRIPT: &str = "rvtl-script 1 1 4 4 2\nstep 0\nstep 0\nstep 0\n";
+
+const WAITING_START: &str = "rvtl-stream 1
+T 1 4 0x80000000
+I 0x80000000 37060080032706000000000000000000
+E 2 step 0 Retired
+R 0 0x80000000 0x80000637 - - ; lui a2, 0x80000
+E 3 step 0 Missed 0x80000000
+M s A 0 AcquireBlock 0x80000000 NtoB
+";
+
+const REFUSED_SCRIPT: &str = "rvtl-script 1 1 4 4 2\nstep 0\nstep 0\nstep 1\n";
+
+fn explain<R: Abort + Threads + Wait + Sync + AllocGlobal>(
+    rt: &R,
+    options: &[&str],
+    script: &str,
+) -> Result<Ran, Fail> {
+    let image = image_of(rt.alloc(), &texts::LOAD)?;
+    let files = [
+        File::whole("image", image.as_slice()),
+        File::whole("script", script.as_bytes()),
+    ];
+    let mut words = Vec::new(rt.alloc());
+    words.extend_from_slice(&["rvtl", "explain", "--raw", "image", "script"])?;
+    words.extend_from_slice(options)?;
+    Ok(line(rt, words.as_slice(), &files))
+}
+
+#[test]
+fn row_18_is_explained(rt: HostRuntime) -> Result<(), Fail> {
+    for options in [[].as_slice(), &["--strict"]] {
+        let ran = explain(&rt, options, texts::LOAD_SCRIPT)?;
+        assert!(rt; ran.err.is_empty());
+        assert_eq!(rt; ran.out.as_slice(), LOAD_STREAM.as_bytes());
+        assert_eq!(rt; ran.status, 0);
+    }
+    Ok(())
+}
+
+#[test]
+fn a_strict_stream_ends_where_nothing_happens(rt: HostRuntime) -> Result<(), Fail> {
+    let ran = explain(&rt, &["--strict"], WAITING_SCRIPT)?;
+    assert_eq!(rt;
+        ran.err.as_slice(),
+        b"rvtl: script: line 4: nothing happens: WaitGrant\n".as_slice()
+    );
+    assert_eq!(rt; ran.out.as_slice(), WAITING_START.as_bytes());
+    assert_eq!(rt; ran.status, 1);
+    let ran = explain(&rt, &[], WAITING_SCRIPT)?;
+    assert!(rt; ran.err.is_empty());
+    assert!(rt; ran.out.as_slice().starts_with(WAITING_START.as_bytes()));
+    assert!(rt;
+        ran.out
+            .as_slice()
+            .ends_with(b"E 4 step 0 WaitGrant\nH 0 run\n")
+    );
+    assert_eq!(rt; ran.status, 0);
+    Ok(())
+}
+
+#[test]
+fn what_came_before_a_refused_event_is_told(rt: HostRuntime) -> Result<(), Fail> {
+    let ran = explain(&rt, &[], REFUSED_SCRIPT)?;
+    assert_eq!(rt;
+        ran.err.as_slice(),
+        b"rvtl: script: line 4: event fault 1 BadEvent\n".as_slice()
+    );
+    assert_eq!(rt; ran.out.as_slice(), WAITING_START.as_bytes());
+    assert_eq!(rt; ran.status, 1);
+    Ok(())
+}
+
+/// Standard output that takes no more than so many bytes: they are the stream's first.
+#[test]
+fn streams_that_break(rt: HostRuntime) -> Result<(), Fail> {
+    let image = image_of(rt.alloc(), &texts::LOAD)?;
+    let files = [
+        File::whole("image", image.as_slice()),
+        File::whole("script", texts::LOAD_SCRIPT.as_bytes()),
+        File::whole("waiting", WAITING_SCRIPT.as_bytes()),
+    ];
+    for (script, text) in [("script", LOAD_STREAM), ("waiting", WAITING_START)] {
+        let words = ["rvtl", "explain", "--strict", "--raw", "image", script];
+        for room in 0..text.len() {
+            let mut out = Narrow {
+                taken: Vec::new(rt.alloc()),
+                room,
+            };
+            let mut err = Vec::new(rt.alloc());
+            let mut held = MemoryFiles::new(rt.alloc(), &files);
+            let status = run_line(&rt, rt.alloc(), &words, &mut held, &mut out, &mut err);
+            assert_eq!(rt; status, 1);
+            assert_eq!(rt; err.as_slice(), b"rvtl: cannot write\n".as_slice());
+            assert_eq!(rt; out.taken.len(), room);
+            assert!(rt; text.as_bytes().starts_with(out.taken.as_slice()));
+        }
+        let mut out = Stuck {
+            taken: Vec::new(rt.alloc()),
+        };
+        let mut err = Vec::new(rt.alloc());
+        let mut held = MemoryFiles::new(rt.alloc(), &files);
+        let status = run_line(&rt, rt.alloc(), &words, &mut held, &mut out, &mut err);
+        assert_eq!(rt; status, 1);
+        assert_eq!(rt; err.as_slice(), b"rvtl: cannot write\n".as_slice());
+    }
+    Ok(())
+}

@@ -1,0 +1,290 @@
+//! Worked rows of `rvtl run`, and its faults.
+
+use super::memory::{File, MemoryFiles, Narrow};
+use super::{Ran, image_of, line, line_over, replay, texts};
+use command_line::run_line;
+use std::process::Abort;
+use std::sync::Wait;
+use std::test::Fail;
+use std::thread::Threads;
+
+/// Each hart adds 1 to a word 100 times.
+const COUNT: [u32; 8] = [
+    0x8000_0637,
+    0x1006_0613,
+    0x0010_0693,
+    0x0640_0713,
+    0x00d6_27af,
+    0xfff7_0713,
+    0xfe07_1ce3,
+    0x0000_0073,
+];
+
+/// A run of the image, and the journal that it left.
+fn run<R: Threads + Wait + Sync + AllocGlobal>(
+    rt: &R,
+    words: &[&str],
+    image: &[u8],
+) -> (Ran, Vec<u8>) {
+    let files = [File::whole("image", image)];
+    let mut files = MemoryFiles::new(rt.alloc(), &files);
+    let ran = line_over(rt, words, &mut files);
+    (ran, files.written)
+}
+
+#[test]
+fn row_16(rt: HostRuntime) -> Result<(), Fail> {
+    let image = image_of(rt.alloc(), &texts::EXIT)?;
+    let words = [
+        "rvtl",
+        "run",
+        "--raw",
+        "--memory",
+        "4",
+        "--journal",
+        "j",
+        "image",
+    ];
+    let (ran, journal) = run(&rt, &words, image.as_slice());
+    assert_eq!(rt; ran.err.as_slice(), b"hart 0: exit 5\n".as_slice());
+    assert_eq!(rt; ran.out.as_slice(), texts::EXIT_TRACE.as_bytes());
+    assert_eq!(rt; ran.status, 0);
+    let again = replay(&rt, image.as_slice(), journal.as_slice());
+    assert_eq!(rt; again.out.as_slice(), texts::EXIT_TRACE.as_bytes());
+    Ok(())
+}
+
+/// The trace with its first two `P` lines exchanged.
+fn exchanged(rt: &impl AllocGlobal, trace: &str) -> Result<Vec<u8>, Fail> {
+    let mut made = Vec::new(rt.alloc());
+    let mut first = "";
+    let mut seen = 0;
+    for row in trace.lines() {
+        if row.starts_with("P ") && seen < 2 {
+            seen += 1;
+            if seen == 1 {
+                first = row;
+                continue;
+            }
+            made.extend_from_slice(row.as_bytes())?;
+            made.push(b'\n')?;
+            made.extend_from_slice(first.as_bytes())?;
+        } else {
+            made.extend_from_slice(row.as_bytes())?;
+        }
+        made.push(b'\n')?;
+    }
+    Ok(made)
+}
+
+/// All harts count, each adds once for each time that is loaded, the journal is replayed to the same trace,
+/// whose order is legal, and no other order of the same additions is.
+fn counts(
+    rt: &(impl Abort + Threads + Wait + Sync + AllocGlobal),
+    words: &[&str],
+    harts: u8,
+    last: &str,
+) -> Result<(), Fail> {
+    let image = image_of(rt.alloc(), &COUNT)?;
+    let (ran, journal) = run(rt, words, image.as_slice());
+    assert_eq!(rt; ran.status, 0);
+    let Ok(trace) = std::str::from_utf8(ran.out.as_slice()) else {
+        panic!(rt; "the trace is no text")
+    };
+    let performed = trace.lines().filter(|row| row.starts_with("P ")).count();
+    assert_eq!(rt; performed, usize::from(harts) * 100);
+    assert!(rt; trace.contains(last));
+    let Ok(events) = std::str::from_utf8(journal.as_slice()) else {
+        panic!(rt; "the journal is no text")
+    };
+    for hart in 0..harts {
+        let row = format!(in rt.alloc(); "local {hart} 4\n")?;
+        assert!(rt; events.contains(row.as_str()));
+    }
+    let again = replay(rt, image.as_slice(), journal.as_slice());
+    assert!(rt; again.out.as_slice() == ran.out.as_slice());
+    assert!(rt; again.err.as_slice() == ran.err.as_slice());
+    let other = exchanged(rt, trace)?;
+    let files = [
+        File::whole("trace", ran.out.as_slice()),
+        File::whole("other", other.as_slice()),
+    ];
+    assert_eq!(rt; line(rt, &["rvtl", "check", "trace"], &files).status, 0);
+    assert_eq!(rt; line(rt, &["rvtl", "check", "other"], &files).status, 3);
+    Ok(())
+}
+
+#[test]
+fn row_16_counts(rt: HostRuntime) -> Result<(), Fail> {
+    let words = [
+        "rvtl",
+        "run",
+        "--raw",
+        "--memory",
+        "4",
+        "--harts",
+        "4",
+        "--limit",
+        "1000000000",
+        "--journal",
+        "j",
+        "image",
+    ];
+    counts(&rt, &words, 4, " 0x0000018f -\n")
+}
+
+#[test]
+fn row_53(rt: HostRuntime) -> Result<(), Fail> {
+    let words = [
+        "rvtl",
+        "run",
+        "--raw",
+        "--memory",
+        "4",
+        "--harts",
+        "8",
+        "--line",
+        "64",
+        "--limit",
+        "1000000000",
+        "--journal",
+        "j",
+        "image",
+    ];
+    counts(&rt, &words, 8, " 0x0000031f -\n")
+}
+
+/// Nothing goes to standard output where the journal is not written.
+#[test]
+fn journals_that_break(rt: HostRuntime) -> Result<(), Fail> {
+    let image = image_of(rt.alloc(), &texts::EXIT)?;
+    let files = [File::whole("image", image.as_slice())];
+    let mut full = MemoryFiles::new(rt.alloc(), &files);
+    full.is_full = true;
+    let words = ["rvtl", "run", "--raw", "--journal", "j", "image"];
+    let ran = line_over(&rt, &words, &mut full);
+    assert_eq!(rt; ran.err.as_slice(), b"rvtl: j: cannot write\n".as_slice());
+    assert!(rt; ran.out.is_empty());
+    assert_eq!(rt; ran.status, 1);
+    Ok(())
+}
+
+/// The journal is there where standard output breaks, and no hart is told of.
+#[test]
+fn runs_whose_stream_breaks(rt: HostRuntime) -> Result<(), Fail> {
+    let image = image_of(rt.alloc(), &texts::EXIT)?;
+    let given = [File::whole("image", image.as_slice())];
+    let mut files = MemoryFiles::new(rt.alloc(), &given);
+    let mut out = Narrow {
+        taken: Vec::new(rt.alloc()),
+        room: 20,
+    };
+    let mut err = Vec::new(rt.alloc());
+    let words = [
+        "rvtl",
+        "run",
+        "--raw",
+        "--memory",
+        "4",
+        "--journal",
+        "j",
+        "image",
+    ];
+    let status = run_line(&rt, rt.alloc(), &words, &mut files, &mut out, &mut err);
+    assert_eq!(rt; status, 1);
+    assert_eq!(rt; err.as_slice(), b"rvtl: cannot write\n".as_slice());
+    assert!(rt;
+        texts::EXIT_TRACE
+            .as_bytes()
+            .starts_with(out.taken.as_slice())
+    );
+    let again = replay(&rt, image.as_slice(), files.written.as_slice());
+    assert_eq!(rt; again.out.as_slice(), texts::EXIT_TRACE.as_bytes());
+    Ok(())
+}
+
+#[test]
+fn a_limit_of_one(rt: HostRuntime) -> Result<(), Fail> {
+    let image = image_of(rt.alloc(), &texts::EXIT)?;
+    let words = [
+        "rvtl",
+        "run",
+        "--raw",
+        "--limit",
+        "1",
+        "--journal",
+        "j",
+        "image",
+    ];
+    let (ran, journal) = run(&rt, &words, image.as_slice());
+    assert_eq!(rt; ran.status, 0);
+    let lines = journal.iter().filter(|byte| **byte == b'\n').count();
+    assert!(rt; lines <= 2);
+    Ok(())
+}
+
+/// One hart exits while the other jumps to itself.
+#[test]
+fn a_hart_that_spins(rt: HostRuntime) -> Result<(), Fail> {
+    let image = image_of(rt.alloc(), &[0x0005_0463, 0x0000_006f, 0x0000_0073])?;
+    let words = [
+        "rvtl",
+        "run",
+        "--raw",
+        "--harts",
+        "2",
+        "--limit",
+        "1000",
+        "--journal",
+        "j",
+        "image",
+    ];
+    let (ran, _) = run(&rt, &words, image.as_slice());
+    assert_eq!(rt; ran.status, 0);
+    let Ok(ends) = std::str::from_utf8(ran.err.as_slice()) else {
+        panic!(rt; "the harts' ends are no text")
+    };
+    assert!(rt; ends.ends_with("hart 1: run\n"));
+    Ok(())
+}
+
+/// No machine is of this size, whatever the files hold.
+#[test]
+fn machines_that_cannot_be(rt: HostRuntime) {
+    for (option, number) in [
+        ("--harts", "0"),
+        ("--harts", "9"),
+        ("--memory", "6"),
+        ("--memory", "4294967295"),
+        ("--sets", "3"),
+        ("--ways", "5"),
+        ("--line", "32"),
+    ] {
+        let words = ["rvtl", "run", option, number, "--journal", "j", "gone"];
+        let ran = line(&rt, &words, &[]);
+        assert_eq!(rt;
+            ran.err.as_slice(),
+            b"rvtl: bad configuration\n".as_slice(),
+            "{option} {number}"
+        );
+        assert_eq!(rt; ran.status, 2, "{option} {number}");
+        assert!(rt; ran.out.is_empty(), "{option} {number}");
+    }
+}
+
+#[test]
+fn images_that_cannot_run(rt: HostRuntime) {
+    let words = ["rvtl", "run", "--raw", "--journal", "j", "image"];
+    let ran = line(&rt, &words, &[]);
+    assert_eq!(rt;
+        ran.err.as_slice(),
+        b"rvtl: image: cannot read\n".as_slice()
+    );
+    assert_eq!(rt; ran.status, 1);
+    let ran = line(&rt, &words, &[File::whole("image", &[0; 3])]);
+    assert_eq!(rt;
+        ran.err.as_slice(),
+        b"rvtl: image: image fault 1 Short\n".as_slice()
+    );
+    assert_eq!(rt; ran.status, 1);
+}

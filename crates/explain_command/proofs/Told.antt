@@ -1,0 +1,58 @@
+-- Which faults an explanation hands up.
+use Rattle.std.proofs.Common.{◌≡◌, ℕ, List, Option, inl, inr}
+use Rattle.event_stream.specs.declared.strictness.Strictness.{Strictness}
+use Rattle.command_files.specs.Held.{Held}
+use Rattle.command_files.specs.Status.{status_of}
+use Rattle.command_files.specs.Faults.{HasScript, IsImageFault, IsScriptFault}
+use Rattle.explain_command.specs.Explaining.{IsExplainFault}
+use Rattle.command_files.specs.declared.fault.Fault.{Fault}
+use Rattle.command_files.specs.declared.fault.Fault.TheVariants.{BadEvent, BytesAfterTrace, CannotMake, CannotRead, CannotWrite, Check, Configuration, Event, Image, Mismatch, NoThread, NothingHappens, OutOfMemory, Text}
+use Rattle.command_settings.specs.declared.wanted.Replay.{Replay}
+
+pub of_explained_script : (held : Held) (replay : Replay) (strictness : Strictness) (old new : Option (List ℕ)) (fault : Fault) → IsScriptFault replay.script fault → IsExplainFault held replay strictness old new fault
+of_explained_script held replay strictness old new (CannotRead file) is = inl is
+of_explained_script held replay strictness old new (Text file error) is = is
+of_explained_script held replay strictness old new OutOfMemory is = tt
+of_explained_script held replay strictness old new (CannotMake file) is = absurd is
+of_explained_script held replay strictness old new CannotWrite is = absurd is
+of_explained_script held replay strictness old new (Image file error) is = absurd is
+of_explained_script held replay strictness old new (Event file line error) is = absurd is
+of_explained_script held replay strictness old new (NothingHappens file line outcome) is = absurd is
+of_explained_script held replay strictness old new (BytesAfterTrace file) is = absurd is
+of_explained_script held replay strictness old new (Check file error) is = absurd is
+of_explained_script held replay strictness old new NoThread is = absurd is
+of_explained_script held replay strictness old new Mismatch is = absurd is
+of_explained_script held replay strictness old new BadEvent is = absurd is
+of_explained_script held replay strictness old new Configuration is = absurd is
+
+pub of_explained_image : (held : Held) (replay : Replay) (strictness : Strictness) (old new : Option (List ℕ)) (fault : Fault) → HasScript held replay.script.now → IsImageFault replay.image fault → IsExplainFault held replay strictness old new fault
+of_explained_image held replay strictness old new (CannotRead file) has is = inr (is, has)
+of_explained_image held replay strictness old new (Image file error) has is = (is, has)
+of_explained_image held replay strictness old new OutOfMemory has is = tt
+of_explained_image held replay strictness old new (Text file error) has is = absurd is
+of_explained_image held replay strictness old new (CannotMake file) has is = absurd is
+of_explained_image held replay strictness old new CannotWrite has is = absurd is
+of_explained_image held replay strictness old new (Event file line error) has is = absurd is
+of_explained_image held replay strictness old new (NothingHappens file line outcome) has is = absurd is
+of_explained_image held replay strictness old new (BytesAfterTrace file) has is = absurd is
+of_explained_image held replay strictness old new (Check file error) has is = absurd is
+of_explained_image held replay strictness old new NoThread has is = absurd is
+of_explained_image held replay strictness old new Mismatch has is = absurd is
+of_explained_image held replay strictness old new BadEvent has is = absurd is
+of_explained_image held replay strictness old new Configuration has is = absurd is
+
+pub explain_never_misused : (held : Held) (replay : Replay) (strictness : Strictness) (old new : Option (List ℕ)) (fault : Fault) → IsExplainFault held replay strictness old new fault → status_of fault ≡ 2 → ⊥
+explain_never_misused held replay strictness old new CannotWrite so two = cc
+explain_never_misused held replay strictness old new OutOfMemory so two = cc
+explain_never_misused held replay strictness old new (CannotRead file) so two = cc
+explain_never_misused held replay strictness old new (CannotMake file) so two = cc
+explain_never_misused held replay strictness old new (Image file error) so two = cc
+explain_never_misused held replay strictness old new (Text file error) so two = cc
+explain_never_misused held replay strictness old new (Event file line error) so two = cc
+explain_never_misused held replay strictness old new (NothingHappens file line outcome) so two = cc
+explain_never_misused held replay strictness old new (BytesAfterTrace file) so two = cc
+explain_never_misused held replay strictness old new (Check file error) so two = cc
+explain_never_misused held replay strictness old new NoThread so two = cc
+explain_never_misused held replay strictness old new Mismatch so two = cc
+explain_never_misused held replay strictness old new BadEvent so two = cc
+explain_never_misused held replay strictness old new Configuration so two = so

@@ -1,0 +1,79 @@
+use Rattle.std.proofs.Common.{◌∙◌, Err, ap, false, inr, subst, sym}
+use Rattle.std.proofs.lemmas.Bool.{false≢true}
+use Rattle.event_stream.specs.declared.errors.StreamError.TheVariants as stream
+use Rattle.machine_model.specs.Config.{is_within_limits}
+use Rattle.command_files.specs.Files.{HoldsImage}
+use Rattle.command_files.specs.Held.{Held}
+use Rattle.command_files.proofs.Left.{handed_up}
+use Rattle.explain_command.proofs.Told.{of_explained_image, of_explained_script}
+use Rattle.command_files.proofs.Limits.{machine_within, memory_within}
+use Rattle.explain_command.proofs.Streams.{lost_told, part_at, part_of, part_on, told_as, whole_at}
+use Rattle.explain_command.proofs.explaining.explain_files.Goals as goal
+
+pub image_in-requires : goal.image_in-requires
+image_in-requires g c = memory_within c.in_ok-script.script c.in_ok-script.ensures.script.is_script
+
+pub returns-in_err-script-clause-told : goal.returns-in_err-script-clause-told
+returns-in_err-script-clause-told g c =
+    handed_up _ c.from_residual.result _ c.from_residual.ensures.1 (of_explained_script _ c.args.wanted _ _ _ _ c.in_err-script.ensures.fault)
+
+pub returns-in_err-image-clause-told : goal.returns-in_err-image-clause-told
+returns-in_err-image-clause-told g c =
+    handed_up _ c.from_residual-in_err-image.result _ c.from_residual-in_err-image.ensures.1
+    (of_explained_image _ c.args.wanted _ _ _ _ (c.in_ok-script.script, c.in_ok-script.ensures.script) c.in_err-image.ensures.fault)
+
+pub returns-in-Ok-clause-explained : goal.returns-in-Ok-clause-explained
+returns-in-Ok-clause-explained g c = record {
+  script = c.in_ok-script.script;
+  image = c.in_ok-image.image;
+  reached = c.in-Ok.field-0;
+  script_file = c.in_ok-script.ensures.script;
+  image_file =
+      subst (λ (held : Held). HoldsImage held c.args.wanted.raw c.args.wanted.image.now c.in_ok-script.script.kib c.in_ok-image.image)
+      c.in_ok-script.ensures.stays c.in_ok-image.ensures.image;
+  only = c.in_ok-script.ensures.only;
+  whole = whole_at _ _ _ _ _ _ _ _ _ _ c.config_of-config.ensures c.as_slice-events.ensures c.flush.ensures.bytes c.in-Ok.ensures.whole;
+}
+
+pub returns-in-Err-clause-unfinished : goal.returns-in-Err-clause-unfinished
+returns-in-Err-clause-unfinished g c =
+    let part =
+    part_of c.args.strictness c.in_ok-image.image c.config_of-config.result c.as_slice-events.result.now (g.O.Write.contents c.args.out.now) (g.O.Write.contents c.write_stream-told.new.out)
+    (g.O.Write.contents c.flush.new.self) c.write_stream-told.result (stream.Writing c.in-Err.error) (λ begun. begun) c.flush.ensures.bytes c.write_stream-told.ensures.whole c.write_stream-told.ensures.unfinished in
+    inr (record {
+      script = c.in_ok-script.script;
+      image = c.in_ok-image.image;
+      error = part.0;
+      script_file = c.in_ok-script.ensures.script;
+      image_file =
+          subst (λ (held : Held). HoldsImage held c.args.wanted.raw c.args.wanted.image.now c.in_ok-script.script.kib c.in_ok-image.image)
+          c.in_ok-script.ensures.stays c.in_ok-image.ensures.image;
+      part = part_at _ _ _ _ _ _ _ _ _ c.config_of-config.ensures c.as_slice-events.ensures part.1;
+    })
+
+pub returns-in-Err-clause-told : goal.returns-in-Err-clause-told
+returns-in-Err-clause-told g c = lost_told _ c.args.wanted _ _ _ _ c.writing.ensures.told
+
+pub returns-clause-unfinished : goal.returns-clause-unfinished
+returns-clause-unfinished g c = inr (record {
+  script = c.in_ok-script.script;
+  image = c.in_ok-image.image;
+  error = c.in-Err-told.error;
+  script_file = c.in_ok-script.ensures.script;
+  image_file =
+      subst (λ (held : Held). HoldsImage held c.args.wanted.raw c.args.wanted.image.now c.in_ok-script.script.kib c.in_ok-image.image)
+      c.in_ok-script.ensures.stays c.in_ok-image.ensures.image;
+  part = part_at _ _ _ _ _ _ _ _ _ c.config_of-config.ensures c.as_slice-events.ensures
+      (part_on c.args.strictness c.in_ok-image.image c.config_of-config.result c.as_slice-events.result.now (g.O.Write.contents c.args.out.now) (g.O.Write.contents c.write_stream-told.new.out)
+      (g.O.Write.contents c.flush.new.self) c.in-Err-told.error c.flush.ensures.bytes c.in-Err-told.ensures.unfinished);
+})
+
+pub returns-clause-told : goal.returns-clause-told
+returns-clause-told g c =
+    told_as _ c.args.wanted c.args.strictness c.in_ok-script.script c.in_ok-image.image _ _ c.in-Err-told.error _ c.in_ok-script.ensures.script
+    (subst (λ (held : Held). HoldsImage held c.args.wanted.raw c.args.wanted.image.now c.in_ok-script.script.kib c.in_ok-image.image) c.in_ok-script.ensures.stays c.in_ok-image.ensures.image)
+    (λ at. false≢true (sym (c.write_stream-told.ensures.limits.0 (c.in-Err-told.is ∙ ap Err at)) ∙ (ap is_within_limits c.config_of-config.ensures ∙ machine_within c.in_ok-script.script c.args.wanted.model c.in_ok-script.ensures.script.is_script)))
+    (part_at _ _ _ _ _ _ _ _ _ c.config_of-config.ensures c.as_slice-events.ensures
+    (part_on c.args.strictness c.in_ok-image.image c.config_of-config.result c.as_slice-events.result.now (g.O.Write.contents c.args.out.now) (g.O.Write.contents c.write_stream-told.new.out)
+    (g.O.Write.contents c.flush.new.self) c.in-Err-told.error c.flush.ensures.bytes c.in-Err-told.ensures.unfinished))
+    c.explaining.ensures

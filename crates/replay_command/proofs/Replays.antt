@@ -1,0 +1,23 @@
+-- Where a script leads, and that the trace there is read back.
+use Rattle.std.proofs.Common.{◌≡◌, List, subst}
+use Rattle.coherent_machine.specs.Machine.{IsReached, Replayed, replayed_from}
+use Rattle.replay_command.specs.Composition.{Leads}
+use Rattle.command_files.specs.Sizes.{config_of}
+use Rattle.elf_loader.specs.Image.{Initial}
+use Rattle.machine_model.specs.Views.{State, opening}
+use Rattle.machine_model.specs.declared.config.Config.{Config}
+use Rattle.machine_model.specs.declared.event.Event.{Event}
+use Rattle.memory_model.specs.declared.Model.{Model}
+use Rattle.trace_text.specs.MachineTraces.{EveryTraceHasAText}
+use Rattle.trace_text.specs.TraceLimits.{IsTrace}
+use Rattle.trace_text.specs.declared.script.Script.{Script}
+
+pub readable : EveryTraceHasAText → (s : State) → IsReached s → IsTrace s.trace
+readable law s r = subst (λ (s : State). IsTrace s.trace) r.leads (law s.trace.image s.views.config r.events r.loaded r.within)
+
+pub leads_there : (image : Initial) (script : Script) (model : Model) (config : Config) (events : List Event) (s : State)
+    → config ≡ config_of script model → events ≡ script.events
+    → replayed_from 0 (opening image config) events ≡ Replayed.Reached s → Leads image script model s
+leads_there image script model config events s config_is events_are p =
+    subst (λ (c : Config). replayed_from 0 (opening image c) script.events ≡ Replayed.Reached s) config_is
+    (subst (λ (e : List Event). replayed_from 0 (opening image config) e ≡ Replayed.Reached s) events_are p)

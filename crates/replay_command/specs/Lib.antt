@@ -1,0 +1,2 @@
+pub mod Composition
+pub mod Replaying

@@ -1,0 +1,46 @@
+//! `rvtl replay`: a script of events is applied to a machine, and the trace printed.
+
+ghost use Rattle.std.specs.Prelude.{◌≡◌, IfErr, IfOk, OnOk};
+ghost use Rattle.elf_loader.specs.Size.{IsMemoryKib};
+ghost use Rattle.command_files.specs.Files.{HoldsImage, HoldsScript, IsTheScriptIn};
+ghost use Rattle.command_files.specs.Held.{HoldsBytes};
+ghost use Rattle.replay_command.specs.Replaying.{IsCutOff, IsReplayed};
+ghost use Rattle.command_files.specs.Faults.{IsImageFault, IsReadFault, IsScriptFault, Leaves};
+ghost use Rattle.replay_command.specs.Replaying.{IsReplayFault};
+
+use crate::composing::{CompositionError, replay_and_write};
+use command_files::{Fault, Files, image_in, print_ends, script_in};
+use command_settings::Replay;
+use std::alloc::Global;
+use std::io::Write;
+
+/// Reads and judges the script, then the image, replays, and prints the trace on `out` and each hart's
+/// end on `err`. Where an event is refused nothing is printed.
+pub fn replay_files<'a, F: Files, O: Write, E: Write>(
+    alloc: Global,
+    files: &mut F,
+    wanted: Replay<'a>,
+    out: &mut O,
+    err: &mut E,
+) -> Result<(), Fault<'a>>
+    ensures replayed { OnOk result (IsReplayed (F.held files.old) wanted.entry (O.contents out.old) (O.contents out.new)) }
+    ensures unfinished { IfErr result (λ fault. Leaves fault (O.contents out.old) (O.contents out.new)
+        (IsCutOff (F.held files.old) wanted.entry (O.contents out.old) (O.contents out.new))) }
+    ensures told { IfErr result (IsReplayFault (F.held files.old) wanted.entry) }
+    ensures spared { F.held files.new ≡ F.held files.old }
+{
+    let script = script_in(alloc, files, wanted.script)?;
+    let image = image_in(alloc, files, wanted.raw, wanted.image, script.kib)?;
+    let machine = match replay_and_write(alloc, image, &script, wanted.model, out) {
+        Ok(machine) => machine,
+        Err(CompositionError::Replay(error)) => return Err(Fault::replay(wanted.script, error)),
+        Err(CompositionError::Writing(error)) => return Err(Fault::writing(error)),
+    };
+    if let Err(error) = out.flush() {
+        return Err(Fault::writing(error));
+    }
+    let (trace, outputs) = machine.into_parts();
+    // Standard error has no other place to tell that it takes no more.
+    let _ = print_ends(trace.statuses(), outputs.as_slice(), err);
+    Ok(())
+}

@@ -1,0 +1,118 @@
+use Rattle.std.proofs.Common.{◌≡◌, ◌∙◌, ◌⊎◌, ℕ, List, Option, ap, inl, inr, subst, sym, true}
+use Rattle.command_files.specs.Sizes.{config_of, config_named, script_named}
+use Rattle.command_files.specs.Files.{HoldsImage}
+use Rattle.command_files.specs.Held.{Held, HoldsBytes}
+use Rattle.run_command.specs.Running.{IsJournalled, IsRunFault}
+use Rattle.host_threads.specs.Replays.{end_of_journal}
+use Rattle.command_files.specs.declared.fault.Fault.{Fault}
+use Rattle.command_files.specs.declared.fault.Fault.TheVariants.{CannotWrite, OutOfMemory}
+use Rattle.command_settings.specs.declared.wanted.Run.{Run}
+use Rattle.elf_loader.specs.Image.{Initial}
+use Rattle.elf_loader.specs.Size.{IsMemoryKib}
+use Rattle.machine_model.specs.Config.{is_within_limits}
+use Rattle.machine_model.specs.LawfulLog.{IsLawfulLog}
+use Rattle.machine_model.specs.Laws.{IsHeadline}
+use Rattle.machine_model.specs.declared.config.Config.{Config}
+use Rattle.machine_model.specs.declared.event.Event.{Event}
+use Rattle.std.specs.Io.KnownBytes.{Appends}
+use Rattle.std.specs.List.{AllByRecursion}
+use Rattle.text_fields.specs.Writing.{Begins}
+use Rattle.trace_recorder.specs.History.{History}
+use Rattle.trace_text.specs.Scripts.{IsEvent, text as script_text}
+use Rattle.trace_text.specs.TraceLimits.{IsTrace}
+use Rattle.trace_text.specs.Traces.{text}
+use Rattle.trace_text.specs.declared.script.Script.{Script}
+use Rattle.command_files.proofs.Left.{handed_up, spoiled}
+use Rattle.command_files.proofs.Limits.{script_within}
+use Rattle.replay_command.proofs.Replays.{leads_there, readable}
+use Rattle.run_command.proofs.running.run_files.Goals as goal
+
+kept : (held left : Held) (run : Run) (config : Config) (image : Initial) (script : Script) (events : List Event) → script ≡ script_named run.machine events → config ≡ config_named run.machine
+    → is_within_limits config ≡ true → IsMemoryKib run.machine.memory → HoldsImage held run.raw run.image.now run.machine.memory image → AllByRecursion IsEvent script.events
+    → HoldsBytes left run.journal.now (script_text script) → IsJournalled held left run image script
+kept held left run config image script events script_is config_is within sized image_file spelt bytes =
+    let config_same : config_of script run.machine.model ≡ config_named run.machine = ap (λ (s : Script). config_of s run.machine.model) script_is in
+    let memory_same = ap (λ (s : Script). s.kib) script_is in
+    record {
+      image_file = image_file;
+      config = config_same;
+      memory = memory_same;
+      journal_file = record {
+        is_script = record {
+          head = script_within script run.machine.model (subst (λ (c : Config). is_within_limits c ≡ true) (config_is ∙ sym config_same) within) (subst IsMemoryKib (sym memory_same) sized);
+          events = spelt;
+        };
+        bytes = bytes;
+      };
+    }
+
+printed_same : (old new : Option (List ℕ)) (t u : History) → t ≡ u → Appends old new (text t) → Appends old new (text u)
+printed_same old new t u same is = subst (λ (h : History). Appends old new (text h)) same is
+
+begun_same : (old new : Option (List ℕ)) (t u : History) → t ≡ u → Begins old new (text t) → Begins old new (text u)
+begun_same old new t u same is = subst (λ (h : History). Begins old new (text h)) same is
+
+either_told : (held : Held) (run : Run) (fault : Fault) → (fault ≡ CannotWrite) ⊎ (fault ≡ OutOfMemory) → IsRunFault held run fault
+either_told held run fault is = elim is [
+  | inl at ↦ subst (IsRunFault held run) (sym at) tt
+  | inr at ↦ subst (IsRunFault held run) (sym at) tt
+]
+
+pub print-requires : goal.print-requires
+print-requires g c =
+    subst IsTrace (sym c.in-Ok.ensures.report.trace)
+    (readable c.every_trace_has_a_text.ensures (end_of_journal c.in_ok-image.image c.in-Some.config c.in-Ok.report) c.in-Ok.ensures.reached)
+
+pub returns-in_err-print-clause-told : goal.returns-in_err-print-clause-told
+returns-in_err-print-clause-told g c =
+    handed_up _ c.from_residual-in_err-print.result _ c.from_residual-in_err-print.ensures.1 (either_told _ c.args.wanted _ c.in_err-print.ensures.told)
+
+pub returns-in_err-print-clause-unfinished : goal.returns-in_err-print-clause-unfinished
+returns-in_err-print-clause-unfinished g c =
+    let run = c.args.wanted in
+    let script = c.script_of-script.result in
+    let image = c.in_ok-image.image in
+    let s = end_of_journal image c.in-Some.config c.in-Ok.report in
+    let named = c.in-Some.ensures.config in
+    let same = c.script_of-script.ensures.script in
+    let config_same : c.in-Some.config ≡ config_of script run.machine.model = named.0 ∙ sym (ap (λ (t : Script). config_of t run.machine.model) same) in
+    handed_up _ c.from_residual-in_err-print.result _ c.from_residual-in_err-print.ensures.1
+    (spoiled _ _ _ _ c.in_err-print.ensures.told
+    (record {
+      script = script;
+      image = image;
+      reached = s;
+      kept = kept _ _ run c.in-Some.config image script c.in-Ok.report.journal.items same named.0 named.1 named.2 c.in_ok-image.ensures.image c.script_of-script.ensures.events c.in_ok-keep.ensures.kept;
+      replayed = leads_there image script run.machine.model c.in-Some.config c.in-Ok.report.journal.items s config_same (sym (ap (λ (t : Script). t.events) same)) c.in-Ok.ensures.replays;
+      begun = begun_same _ _ _ _ c.in-Ok.ensures.report.trace c.in_err-print.ensures.begun;
+    }))
+
+pub returns-in_err-print-clause-spared : goal.returns-in_err-print-clause-spared
+returns-in_err-print-clause-spared g c = λ other another. c.keep.ensures.others other another ∙ ap (λ (h : Held). h other) c.in_ok-image.ensures.stays
+
+pub returns-clause-ran : goal.returns-clause-ran
+returns-clause-ran g c =
+    let run = c.args.wanted in
+    let script = c.script_of-script.result in
+    let image = c.in_ok-image.image in
+    let s = end_of_journal image c.in-Some.config c.in-Ok.report in
+    let named = c.in-Some.ensures.config in
+    let same = c.script_of-script.ensures.script in
+    let config_same : c.in-Some.config ≡ config_of script run.machine.model = named.0 ∙ sym (ap (λ (t : Script). config_of t run.machine.model) same) in
+    let trace_same = c.in-Ok.ensures.report.trace in
+    record {
+      script = script;
+      image = image;
+      reached = s;
+      kept = kept _ _ run c.in-Some.config image script c.in-Ok.report.journal.items same named.0 named.1 named.2 c.in_ok-image.ensures.image c.script_of-script.ensures.events c.in_ok-keep.ensures.kept;
+      composed = record {
+        replayed = leads_there image script run.machine.model c.in-Some.config c.in-Ok.report.journal.items s config_same (sym (ap (λ (t : Script). t.events) same)) c.in-Ok.ensures.replays;
+        printed = printed_same _ _ _ _ trace_same c.in_ok-print.ensures.printed;
+        readable = readable c.every_trace_has_a_text.ensures s c.in-Ok.ensures.reached;
+        headline = subst (λ (config : Config). IsHeadline image config s) config_same c.in-Ok.ensures.headline;
+        log = subst (λ (t : History). IsLawfulLog t.log) trace_same c.in-Ok.ensures.log;
+      };
+    }
+
+pub returns-clause-spared : goal.returns-clause-spared
+returns-clause-spared g c = λ other another. c.keep.ensures.others other another ∙ ap (λ (h : Held). h other) c.in_ok-image.ensures.stays

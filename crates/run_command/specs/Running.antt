@@ -1,0 +1,51 @@
+-- What a run by threads has done, and which faults it tells.
+use Rattle.replay_command.specs.Composition.{IsComposition, Leads}
+use Rattle.command_files.specs.Sizes.{config_of, IsOutside, config_named}
+use Rattle.command_files.specs.Files.{HoldsImage, HoldsScript}
+use Rattle.command_files.specs.Held.{Held}
+use Rattle.command_files.specs.declared.fault.Fault.TheVariants.{BadEvent, CannotMake, CannotRead, CannotWrite, Configuration, Image, Mismatch, NoThread, OutOfMemory}
+use Rattle.command_files.specs.declared.fault.Fault.{Fault}
+use Rattle.command_settings.specs.declared.wanted.Run.{Run}
+use Rattle.elf_loader.specs.Image.{Initial}
+use Rattle.machine_model.specs.Views.{State}
+use Rattle.std.specs.Prelude.{◌≡◌, ℕ, List, Option}
+use Rattle.text_fields.specs.Writing.{Begins}
+use Rattle.trace_text.specs.Traces.{text}
+use Rattle.trace_text.specs.declared.script.Script.{Script}
+
+-- the run of the image in the one file has left this script in the other: it is for the machine that was named
+pub record IsJournalled (held left : Held) (run : Run) (image : Initial) (script : Script) : Type 0 where
+  pub image_file : HoldsImage held run.raw run.image.now run.machine.memory image
+  pub config : config_of script run.machine.model ≡ config_named run.machine
+  pub memory : script.kib ≡ run.machine.memory
+  pub journal_file : HoldsScript left run.journal.now script
+
+-- and what was appended is the text of the trace that this script means for that image
+pub record IsRun (held left : Held) (run : Run) (old new : Option (List ℕ)) : Type 0 where
+  pub script : Script
+  pub image : Initial
+  pub reached : State
+  pub kept : IsJournalled held left run image script
+  pub composed : IsComposition image script run.machine.model old new reached
+
+-- the run's script is kept, and the output took no more than a beginning of the text of the trace that it means
+pub record IsRunCutOff (held left : Held) (run : Run) (old new : Option (List ℕ)) : Type 0 where
+  pub script : Script
+  pub image : Initial
+  pub reached : State
+  pub kept : IsJournalled held left run image script
+  pub replayed : Leads image script run.machine.model reached
+  pub begun : Begins old new (text reached.trace)
+
+-- the machine's size is judged first, then the image, then the run, then the journal is written
+abbrev pub IsRunFault : Held → Run → Fault → Type 0
+IsRunFault held run Configuration = IsOutside run.machine
+IsRunFault held run (CannotRead file) = file ≡ run.image
+IsRunFault held run (Image file error) = file ≡ run.image
+IsRunFault held run NoThread = (image : Initial) × HoldsImage held run.raw run.image.now run.machine.memory image
+IsRunFault held run Mismatch = (image : Initial) × HoldsImage held run.raw run.image.now run.machine.memory image
+IsRunFault held run BadEvent = (image : Initial) × HoldsImage held run.raw run.image.now run.machine.memory image
+IsRunFault held run (CannotMake file) = (file ≡ run.journal) × ((image : Initial) × HoldsImage held run.raw run.image.now run.machine.memory image)
+IsRunFault held run CannotWrite = Unit {0}
+IsRunFault held run OutOfMemory = Unit {0}
+IsRunFault held run _ = ⊥

@@ -1,0 +1,6 @@
+//! `rvtl run`, over threads, files and streams that the caller hands in.
+#![tactic(auto)]
+
+mod running;
+
+pub use running::run_files;

@@ -1,0 +1,150 @@
+//! `rvtl run`: a program runs with a thread for each hart, what happened is kept as a script, and the
+//! trace printed.
+
+ghost use Rattle.std.specs.Prelude.{◌≡◌, ◌≢◌, ◌⊎◌, ℕ, Err, IfErr, IfSome, IsNone, List, OnErr, OnOk, true};
+ghost use Rattle.std.specs.Io.KnownBytes.{Appends};
+ghost use Rattle.std.specs.List.{AllByRecursion};
+ghost use Rattle.command_files.specs.Held.{HoldsBytes};
+ghost use Rattle.run_command.specs.Running.{IsRun, IsRunCutOff};
+ghost use Rattle.command_files.specs.Sizes.{IsOutside, config_named, script_named};
+ghost use Rattle.run_command.specs.Running.{IsRunFault};
+ghost use Rattle.command_files.specs.Faults.{Leaves};
+ghost use Rattle.elf_loader.specs.Size.{IsMemoryKib};
+ghost use Rattle.machine_model.specs.Config.{is_within_limits as is_within};
+ghost use Rattle.text_fields.specs.Writing.{Begins};
+ghost use Rattle.trace_text.specs.Scripts.{IsEvent, text};
+ghost use Rattle.trace_text.specs.TraceLimits.{IsTrace};
+ghost use Rattle.trace_text.specs.Traces.{text as trace_text};
+
+use command_files::{Fault, Files, image_in, named_config, print_ends};
+use command_settings::{MachineOptions, Run};
+use host_threads::{Gate, Report, run};
+use machine_model::Event;
+use std::alloc::Global;
+use std::io::Write;
+use std::sync::Wait;
+use std::thread::Threads;
+use trace_recorder::Trace;
+use trace_text::{Events, Script, every_trace_has_a_text, write_script, write_trace};
+
+/// Holds no hart up.
+struct Open;
+
+impl Gate for Open {
+    fn pass(&self, _hart: u8, _turn: u64, _lengths: &[u64]) {}
+}
+
+/// Judges the machine's size, reads the image, runs it, writes the journal, and then prints the trace on
+/// `out` and each hart's end on `err`. Where the journal is not written nothing is printed.
+pub fn run_files<'a, R: Threads + Wait + Sync, F: Files, O: Write, E: Write>(
+    rt: &R,
+    alloc: Global,
+    files: &mut F,
+    wanted: Run<'a>,
+    out: &mut O,
+    err: &mut E,
+) -> Result<(), Fault<'a>>
+    ensures ran { OnOk result (IsRun (F.held files.old) (F.held files.new) wanted.entry (O.contents out.old) (O.contents out.new)) }
+    ensures outside { IsOutside wanted.entry.machine → result ≡ Err Fault.Configuration }
+    ensures told { IfErr result (IsRunFault (F.held files.old) wanted.entry) }
+    ensures unfinished { IfErr result (λ fault. Leaves fault (O.contents out.old) (O.contents out.new)
+        (IsRunCutOff (F.held files.old) (F.held files.new) wanted.entry (O.contents out.old) (O.contents out.new))) }
+    ensures spared { (other : List ℕ) → other ≢ wanted.entry.journal.now → F.held files.new other ≡ F.held files.old other }
+{
+    every_trace_has_a_text();
+    let Some(config) = named_config(wanted.machine) else {
+        return Err(Fault::Configuration);
+    };
+    let image = image_in(
+        alloc,
+        files,
+        wanted.raw,
+        wanted.image,
+        wanted.machine.memory,
+    )?;
+    let limit = u64::from(wanted.limit);
+    let report = match run(rt, alloc, image, config, limit, &Open) {
+        Ok(report) => report,
+        Err(error) => return Err(Fault::running(error)),
+    };
+    let Report {
+        trace,
+        outputs,
+        journal,
+        receipts: _,
+    } = report;
+    let script = script_of(wanted.machine, journal);
+    keep(alloc, files, wanted.journal, &script)?;
+    print(&trace, out)?;
+    // Standard error has no other place to tell that it takes no more.
+    let _ = print_ends(trace.statuses(), outputs.as_slice(), err);
+    Ok(())
+}
+
+/// The script of a run: the machine that is wanted, and what happened to it.
+fn script_of(wanted: MachineOptions, journal: Vec<Event>) -> Script
+    ensures script { result ≡ script_named wanted journal.items }
+    ensures events { AllByRecursion IsEvent result.events }
+{
+    all_spelt(journal.as_slice());
+    Script {
+        harts: wanted.harts,
+        kib: wanted.memory,
+        sets: wanted.sets,
+        ways: wanted.ways,
+        line: wanted.line,
+        events: Events::new(journal),
+    }
+}
+
+/// Each event's numbers have a spelling.
+fn all_spelt(events: &[Event])
+    ensures { AllByRecursion IsEvent events.now }
+{
+    let mut rest = events;
+    while let [event, tail @ ..] = rest {
+        spelt(*event);
+        rest = tail;
+    }
+}
+
+fn spelt(_event: Event)
+    ensures { IsEvent _event }
+{}
+
+/// Writes a script into the file of this name.
+fn keep<'a, F: Files>(
+    alloc: Global,
+    files: &mut F,
+    name: &'a str,
+    script: &Script,
+) -> Result<(), Fault<'a>>
+    ensures kept { OnOk result (HoldsBytes (F.held files.new) name.entry.now (text script.now)) }
+    ensures told { IfErr result (λ fault. (fault ≡ Fault.CannotMake name.entry) ⊎ (fault ≡ Fault.OutOfMemory)) }
+    ensures others { (other : List ℕ) → other ≢ name.entry.now → F.held files.new other ≡ F.held files.old other }
+{
+    let mut bytes = Vec::new(alloc);
+    // Only memory can be wanting.
+    if let Err(error) = write_script(script, &mut bytes) {
+        return Err(Fault::making(name, error));
+    }
+    match files.write(name, bytes.as_slice()) {
+        Ok(()) => Ok(()),
+        Err(error) => Err(Fault::making(name, error)),
+    }
+}
+
+fn print<'a, O: Write>(trace: &Trace, out: &mut O) -> Result<(), Fault<'a>>
+    requires { IsTrace trace.now.history }
+    ensures printed { OnOk result (Appends (O.contents out.old) (O.contents out.new) (trace_text trace.now.history)) }
+    ensures told { IfErr result (λ fault. (fault ≡ Fault.CannotWrite) ⊎ (fault ≡ Fault.OutOfMemory)) }
+    ensures begun { OnErr result (Begins (O.contents out.old) (O.contents out.new) (trace_text trace.now.history)) }
+{
+    if let Err(error) = write_trace(trace, out) {
+        return Err(Fault::writing(error));
+    }
+    match out.flush() {
+        Ok(()) => Ok(()),
+        Err(error) => Err(Fault::writing(error)),
+    }
+}
