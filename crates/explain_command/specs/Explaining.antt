@@ -4,7 +4,7 @@ use Rattle.command_files.specs.Sizes.{config_of}
 use Rattle.command_files.specs.Files.{HoldsImage, HoldsScript, IsTheScriptIn}
 use Rattle.command_files.specs.Held.{Held}
 use Rattle.command_files.specs.Status.{line_at}
-use Rattle.command_files.specs.declared.fault.Fault.TheVariants.{Event, NothingHappens}
+use Rattle.command_files.specs.declared.fault.Fault.TheVariants.{Event as Refused, NothingHappens}
 use Rattle.command_files.specs.declared.fault.Fault.{Fault}
 use Rattle.command_settings.specs.declared.wanted.Replay.{Replay}
 use Rattle.elf_loader.specs.Image.{Initial}
@@ -65,7 +65,7 @@ pub record IsToldUpTo (held : Held) (replay : Replay) (strictness : Strictness) 
 
 -- as in a replay, but an event that is refused comes behind what the events before it did, and so does one that changes nothing, where the stream is strict
 abbrev pub IsExplainFault : Held → Replay → Strictness → Option (List ℕ) → Option (List ℕ) → Fault → Type 0
-IsExplainFault held replay strictness old new (Event file line error) = (file ≡ replay.script) × IsToldUpTo held replay strictness line (Refuses error) old new
+IsExplainFault held replay strictness old new (Refused file line error) = (file ≡ replay.script) × IsToldUpTo held replay strictness line (Refuses error) old new
 IsExplainFault held replay strictness old new (NothingHappens file line outcome) =
     (file ≡ replay.script) × ((strictness ≡ Strict) × IsToldUpTo held replay strictness line (λ v. v ≡ Keeps outcome) old new)
 IsExplainFault held replay strictness old new fault = IsReplayFault held replay fault

@@ -1,6 +1,7 @@
 -- What a replay prints: the text of the trace that the script's events lead to.
 use Rattle.std.specs.Prelude.{ℕ, ◌≡◌, List, Option}
 use Rattle.coherent_machine.specs.Machine.{IsFirstRefusal, Replayed, replayed_from}
+use Rattle.command_files.specs.Sizes.{config_of}
 use Rattle.replay_command.specs.declared.composing.CompositionError.{CompositionError}
 use Rattle.replay_command.specs.declared.composing.CompositionError.TheVariants as errors
 use Rattle.elf_loader.specs.Image.{Initial}

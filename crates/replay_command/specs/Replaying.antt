@@ -10,7 +10,6 @@ use Rattle.command_files.specs.declared.fault.Fault.{Fault}
 use Rattle.command_settings.specs.declared.wanted.Replay.{Replay}
 use Rattle.elf_loader.specs.Image.{Initial}
 use Rattle.machine_model.specs.Views.{State, opening}
-use Rattle.machine_model.specs.declared.event.Event.{Event}
 use Rattle.machine_parts.specs.declared.errors.ApplyError.{ApplyError}
 use Rattle.std.specs.Prelude.{◌≡◌, ◌⊎◌, ℕ, List, Option, ◌+◌, ◌^◌, ◌-◌, min}
 use Rattle.text_fields.specs.Writing.{Begins}
