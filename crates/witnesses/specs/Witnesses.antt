@@ -1,0 +1,57 @@
+-- Which runs a memory model allows, and what they are witnesses of.
+use Rattle.std.specs.Prelude.{◌≡◌, ℕ, ◌≤◌, Bool, true, not, [], length, map}
+use Rattle.std.specs.List.{list_all}
+use Rattle.elf_loader.specs.Image.{Initial}
+use Rattle.flat_model.specs.Shown.{told}
+use Rattle.hart.specs.declared.status.Status.{Status}
+use Rattle.hart.specs.Run.{is_running}
+use Rattle.machine_model.specs.declared.config.Config.{Config}
+use Rattle.machine_model.specs.Views.{size_of_config}
+use Rattle.memory_model.specs.declared.Model.{Model}
+use Rattle.memory_model.specs.Traces.{IsLegalOrder, IsOrder, are_runs, names_in}
+use Rattle.trace_recorder.specs.History.{History}
+use Rattle.trace_recorder.specs.Limits.{AreWithinLimits}
+use Rattle.witnesses.specs.Outcomes.{outcome_of}
+use Rattle.witnesses.specs.declared.witness.Run.{Run}
+use Rattle.witnesses.specs.declared.witness.Witness.{Witness}
+
+abbrev pub has_ended : Status → Bool
+has_ended status = not (is_running status)
+
+-- each hart's list is a run of the image from reset, and the performed order has each operation once and is legal under the model
+pub record IsAllowed (model : Model) (t : History) : Type 0 where
+  pub runs : are_runs t ≡ true
+  pub order : IsOrder t t.performed
+  pub legal : IsLegalOrder model t t.performed
+
+-- the trace of a run
+abbrev pub history_of : Initial → Config → Run → History
+history_of image config run = record {
+  image = image;
+  line = size_of_config config;
+  entries = map (λ list. list.items) run.entries.items;
+  statuses = run.statuses.items;
+  performed = run.order.items;
+  log = [];
+}
+
+-- a list and a status for each hart, none too long for a trace, and all harts have ended
+pub record IsWhole (harts : ℕ) (run : Run) : Type 0 where
+  pub lists : length run.entries.items ≡ harts
+  pub ends : length run.statuses.items ≡ harts
+  pub limits : AreWithinLimits run.entries.items
+  pub ended : list_all has_ended run.statuses.items ≡ true
+
+-- a run that is told as a witness
+pub record CanBeJudged (image : Initial) (config : Config) (run : Run) : Type 0 where
+  pub whole : IsWhole config.harts run
+  pub allowed : IsAllowed config.model (history_of image config run)
+  pub few : length (names_in (history_of image config run)) ≤ 4096
+
+-- an outcome that the model allows: it is read off lists that are runs of the image from reset to their ends, and these have a legal order
+pub record IsWitness (image : Initial) (config : Config) (witness : Witness) : Type 0 where
+  pub image_is : witness.trace.history.image ≡ image
+  pub harts : length witness.trace.history.entries ≡ config.harts
+  pub ended : list_all has_ended witness.trace.history.statuses ≡ true
+  pub allowed : IsAllowed config.model witness.trace.history
+  pub outcome : told witness.harts.items ≡ outcome_of witness.trace.history

@@ -1,0 +1,10 @@
+//! Witnesses of outcomes: runs of a program whose order a memory model allows, each judged by the checker.
+#![tactic(auto)]
+
+mod judging;
+mod output;
+mod results;
+mod witness;
+
+pub use judging::judge;
+pub use witness::{Run, Witness};

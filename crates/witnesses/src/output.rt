@@ -1,0 +1,70 @@
+//! What a hart put out, read off its list.
+ghost use Rattle.std.specs.Prelude.{◌≡◌, IfOk};
+ghost use Rattle.rv32_exec.specs.Meaning.{access_of};
+ghost use Rattle.witnesses.specs.Outcomes.{number_out, numbers_in, output_from};
+
+use hart::{Hart, Retired};
+use rv32_decode::{Instr, Register, SystemOp, decode};
+use rv32_exec::Regs;
+use std::alloc::{AllocError, Global};
+
+/// The number of an ECALL stands in x17, and its argument in x10.
+const CALL_NUMBER: u8 = 17;
+
+const CALL_ARGUMENT: u8 = 10;
+
+/// The call that puts its argument out.
+const PUT_OUT: u32 = 1;
+
+/// The number that an instruction puts out.
+fn put_out(instr: &Instr, regs: &Regs) -> Option<u32>
+    ensures { numbers_in result ≡ number_out (access_of instr.now regs.now) }
+{
+    match *instr {
+        Instr::System(SystemOp::Ecall) => {
+            if regs.get(Register::new(CALL_NUMBER)) == PUT_OUT {
+                Some(regs.get(Register::new(CALL_ARGUMENT)))
+            } else {
+                None
+            }
+        }
+        Instr::System(SystemOp::Ebreak)
+        | Instr::Load { .. }
+        | Instr::Lr { .. }
+        | Instr::Amo { .. }
+        | Instr::Sc { .. }
+        | Instr::Store { .. }
+        | Instr::Upper { .. }
+        | Instr::Jal { .. }
+        | Instr::Jalr { .. }
+        | Instr::Branch { .. }
+        | Instr::Immediate { .. }
+        | Instr::Shift { .. }
+        | Instr::Register { .. }
+        | Instr::Fence(_)
+        | Instr::FenceTso => None,
+    }
+}
+
+/// The numbers that a hart puts out as it retires these entries, from where it stands.
+pub(crate) fn output_of(
+    alloc: Global,
+    reset: &Hart,
+    entries: &[Retired],
+) -> Result<Vec<u32>, AllocError>
+    ensures { IfOk result (λ output. output.items ≡ output_from reset.now entries.now) }
+{
+    let mut output = Vec::new(alloc);
+    let mut hart = *reset;
+    let mut rest = entries;
+    while let [entry, tail @ ..] = rest {
+        if let Some(instr) = decode(entry.word) {
+            if let Some(number) = put_out(&instr, &hart.regs) {
+                output.push(number)?;
+            }
+            hart.retire(entry, &instr);
+        }
+        rest = tail;
+    }
+    Ok(output)
+}
