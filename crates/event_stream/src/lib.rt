@@ -12,6 +12,7 @@ mod writing;
 
 pub use errors::StreamError;
 pub use laws::stream_is_the_trace;
+pub use report::{Lengths, Report, hart_of};
 pub use spellings::outcome_name;
 pub use strictness::Strictness;
 pub use writing::write_stream;

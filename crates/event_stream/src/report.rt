@@ -12,7 +12,7 @@ use trace_recorder::{Logged, OpId, Trace};
 
 /// How long the lists are before an event of a hart, and how many events have changed the machine.
 #[derive(Clone, Copy, Debug)]
-pub(crate) struct Lengths {
+pub struct Lengths {
     pub entries: usize,
     pub performed: usize,
     pub log: usize,
@@ -22,7 +22,7 @@ pub(crate) struct Lengths {
 
 /// An event by its index in the script, from 0, its outcome, and what it added to the lists.
 #[derive(Clone, Copy)]
-pub(crate) struct Report<'a> {
+pub struct Report<'a> {
     pub index: usize,
     pub event: Event,
     pub outcome: Outcome,
@@ -33,7 +33,7 @@ pub(crate) struct Report<'a> {
 }
 
 /// The hart that an event is of.
-pub(crate) fn hart_of(event: Event) -> u8
+pub fn hart_of(event: Event) -> u8
     ensures { result ≡ hart_of event }
 {
     match event {
@@ -79,7 +79,8 @@ fn tail<T>(items: &[T], from: usize) -> &[T]
 }
 
 impl Lengths {
-    pub(crate) fn of(machine: &Machine, hart: u8) -> Lengths
+    /// The lengths in a machine, of this hart's lists and of all harts' together.
+    pub fn of(machine: &Machine, hart: u8) -> Lengths
         ensures { result ≡ lengths_of machine.now hart }
     {
         let trace = machine.trace();
@@ -95,7 +96,7 @@ impl Lengths {
 
 impl<'a> Report<'a> {
     /// What stands in a machine's lists behind these lengths.
-    pub(crate) fn behind(
+    pub fn behind(
         before: &Lengths,
         machine: &'a Machine,
         index: usize,

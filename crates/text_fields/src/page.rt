@@ -106,6 +106,13 @@ impl Page {
         }
     }
 
+    /// The bytes.
+    pub fn as_slice(&self) -> &[u8]
+        ensures { result.now ≡ self.now }
+    {
+        &self.bytes[..self.len]
+    }
+
     /// Hands the bytes on, all of them. A write that takes no byte is a fault.
     pub fn hand_on<W: Write>(&mut self, out: &mut W) -> Result<()>
         ensures sent { Writes (W.contents out.old) (W.contents out.new) self.old result }

@@ -1,9 +1,11 @@
 -- What a message carries, in two parts.
-use Rattle.std.specs.Prelude.{ℕ, List, [], Option, Some, None}
+use Rattle.std.specs.Prelude.{ℕ, List, [], ◌++◌, Option, Some, None}
+use Rattle.text_fields.specs.Fields.{word}
 use Rattle.tl_types.specs.declared.line.LineData.{LineData}
 use Rattle.tl_types.specs.declared.message.Body.{Body}
 use Rattle.tl_types.specs.declared.message.Body.TheVariants.{AcquireBlock, ProbeBlock, ProbeAck, ProbeAckData, Release, ReleaseData, Grant, GrantData, ReleaseAck, GrantAck}
-use Rattle.trace_text.specs.Words.{grow, cap, change, payload}
+use Rattle.tl_types.specs.declared.message.Msg.{Msg}
+use Rattle.trace_text.specs.Words.{name, grow, cap, change, payload}
 
 -- the permissions that it names
 abbrev pub permissions : Body → List ℕ
@@ -17,6 +19,10 @@ permissions (Grant c) = cap c
 permissions (GrantData c bytes) = cap c
 permissions ReleaseAck = []
 permissions GrantAck = []
+
+-- a message without the bytes that it carries
+abbrev pub heading : Msg → List ℕ
+heading m = name m.body ++ (word m.line ++ permissions m.body)
 
 -- the bytes that it carries
 abbrev pub data_of : Body → Option LineData

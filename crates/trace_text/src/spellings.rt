@@ -114,6 +114,18 @@ pub(crate) fn spell_permissions(page: &mut Page, message: &Msg)
     }
 }
 
+/// Appends a message without the bytes that it carries, as `AcquireBlock 0x80000100 NtoB`: at most 28
+/// bytes.
+pub fn spell_message(page: &mut Page, message: &Msg)
+    requires { length page.old + 28 ≤ size }
+    ensures value { page.new ≡ page.old ++ parts.heading message.now }
+    ensures len { length page.new ≤ length page.old + 28 }
+{
+    spell_name(page, message);
+    page.word(message.line);
+    spell_permissions(page, message);
+}
+
 /// The line's bytes, if the message carries them.
 fn data(message: &Msg) -> Option<&LineData>
     ensures { option_map (λ d. d.now) result ≡ parts.data_of message.now.body }
