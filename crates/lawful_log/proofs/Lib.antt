@@ -7,3 +7,4 @@ pub mod Waiting
 pub mod Noted
 pub mod Passing
 pub mod Maps
+pub mod Tallied

@@ -2,3 +2,4 @@ pub mod Rules
 pub mod Laws
 pub mod Facts
 pub mod Followed
+pub mod Awaited

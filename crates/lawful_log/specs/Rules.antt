@@ -1,5 +1,5 @@
 -- The rules of the lawful log entry by entry: what each asks of an entry, behind the entries before it.
-use Rattle.std.specs.Prelude.{ℕ, ◌≡◌, Bool, true, false, ◌&&◌, not, List, ◌∷◌, ◌++◌, Option, Some, None, IsTrue, is_some, length, slice_get}
+use Rattle.std.specs.Prelude.{ℕ, ◌≡◌, Bool, true, false, ◌&&◌, not, List, ◌∷◌, ◌++◌, Option, Some, None, IsTrue, codes, is_some, length, slice_get}
 use Rattle.machine_model.specs.LawfulLog.{asked_by_next, concerns, goes_without_data, is_for, is_grant, is_grant_ack, is_owed, is_probe, is_probe_ack, is_release, is_release_ack, no_acquire_open, no_grant_open, no_hart_probed, no_probe_open, no_release_open, sent_on, taken_on}
 use Rattle.lawful_log.specs.declared.rule.LogRule.{LogRule}
 use Rattle.lawful_log.specs.declared.rule.LogRule.TheVariants.{InOrder, Question, Permission, Data, AcquireOnce, ProbeOnce, GrantAlone, ReleaseAlone}
@@ -116,3 +116,14 @@ rank AcquireOnce = 4
 rank ProbeOnce = 5
 rank GrantAlone = 6
 rank ReleaseAlone = 7
+
+-- their names
+abbrev pub rule_name : LogRule → List ℕ
+rule_name InOrder = codes "in-order"
+rule_name Question = codes "question"
+rule_name Permission = codes "permission"
+rule_name Data = codes "data"
+rule_name AcquireOnce = codes "acquire-once"
+rule_name ProbeOnce = codes "probe-once"
+rule_name GrantAlone = codes "grant-alone"
+rule_name ReleaseAlone = codes "release-alone"

@@ -1,5 +1,7 @@
 //! The rules of the lawful log, and the verdict on a log.
+ghost use Rattle.std.specs.Prelude.{◌≡◌};
 ghost use Rattle.lawful_log.specs.Laws.{EntriesDecide};
+ghost use Rattle.lawful_log.specs.Rules.{rule_name};
 
 use std::fmt;
 use std::fmt::Display;
@@ -40,6 +42,22 @@ impl LogRule {
         LogRule::ReleaseAlone,
     ];
 
+    /// The rule's name.
+    pub fn name(self) -> &'static str
+        ensures { result.now ≡ rule_name self }
+    {
+        match self {
+            LogRule::InOrder => "in-order",
+            LogRule::Question => "question",
+            LogRule::Permission => "permission",
+            LogRule::Data => "data",
+            LogRule::AcquireOnce => "acquire-once",
+            LogRule::ProbeOnce => "probe-once",
+            LogRule::GrantAlone => "grant-alone",
+            LogRule::ReleaseAlone => "release-alone",
+        }
+    }
+
     /// What stands against an entry that breaks the rule, in words.
     pub fn objection(self) -> &'static str {
         match self {
@@ -58,16 +76,7 @@ impl LogRule {
 
 impl Display for LogRule {
     fn fmt<W: fmt::Write>(&self, f: &mut fmt::Formatter<W>) -> fmt::Result {
-        f.write_str(match self {
-            LogRule::InOrder => "in-order",
-            LogRule::Question => "question",
-            LogRule::Permission => "permission",
-            LogRule::Data => "data",
-            LogRule::AcquireOnce => "acquire-once",
-            LogRule::ProbeOnce => "probe-once",
-            LogRule::GrantAlone => "grant-alone",
-            LogRule::ReleaseAlone => "release-alone",
-        })
+        f.write_str(self.name())
     }
 }
 
