@@ -1,0 +1,4 @@
+pub mod Ending
+pub mod Objections
+pub mod Places
+pub mod Verdicts

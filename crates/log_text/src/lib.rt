@@ -1,0 +1,13 @@
+//! Logs of messages as texts: a trace that ends behind its log, the verdict on a log as a line, where in
+//! the text a message stands, and what stands against it in words.
+#![tactic(auto)]
+
+mod ending;
+mod objection;
+mod place;
+mod verdict;
+
+pub use ending::end_text;
+pub use objection::Objection;
+pub use place::line_of_message;
+pub use verdict::put_verdict;

@@ -1,0 +1,116 @@
+//! What stands against a message, in words.
+ghost use Rattle.log_text.specs.Objections.{ObjectsTo};
+
+use lawful_log::{Awaited, LogRule, first_awaited};
+use std::fmt;
+use std::fmt::Display;
+use tl_types::{Body, Cap, Change, Channel, Grow, Msg};
+use trace_recorder::Logged;
+
+/// An entry that breaks a rule of the lawful log, and what stands against it. Its text is as
+/// `GrantData 0x80000100 toT to hart 1: hart 0's GrantAck of this line is outstanding`.
+#[derive(Clone, Copy, Debug)]
+pub struct Objection {
+    pub rule: LogRule,
+    pub entry: Logged,
+    /// The answer of the line that was outstanding before the entry.
+    pub awaited: Option<Awaited>,
+}
+
+impl Objection {
+    /// To the entry at `index` of a log of so many harts, which breaks the rule. None beyond the log.
+    pub fn to(log: &[Logged], rule: LogRule, index: usize, harts: u8) -> Option<Objection>
+        ensures { ObjectsTo rule index harts log.now result }
+    {
+        let entry = *log.get(index)?;
+        Some(Objection {
+            rule,
+            entry,
+            awaited: first_awaited(&log[..index], entry.message.line, harts),
+        })
+    }
+}
+
+impl Display for Objection {
+    fn fmt<W: fmt::Write>(&self, f: &mut fmt::Formatter<W>) -> fmt::Result {
+        let hart = self.entry.hart;
+        let message = Spelt(self.entry.message);
+        match self.entry.message.channel() {
+            Channel::A | Channel::C | Channel::E => write!(f, "{message} from hart {hart}: ")?,
+            Channel::B | Channel::D => write!(f, "{message} to hart {hart}: ")?,
+        }
+        match (self.rule, self.awaited) {
+            (LogRule::GrantAlone, Some(awaited)) => {
+                write!(f, "{awaited} of this line is outstanding")
+            }
+            _ => f.write_str(self.rule.objection()),
+        }
+    }
+}
+
+/// A message as a trace spells it, without the bytes that it carries.
+#[derive(Drop)]
+struct Spelt(Msg);
+
+impl Display for Spelt {
+    fn fmt<W: fmt::Write>(&self, f: &mut fmt::Formatter<W>) -> fmt::Result {
+        let name = name(&self.0.body);
+        let permissions = permissions(&self.0.body);
+        write!(f, "{name} {:#010x}{permissions}", self.0.line)
+    }
+}
+
+fn name(body: &Body) -> &'static str {
+    match body {
+        Body::AcquireBlock(_) => "AcquireBlock",
+        Body::ProbeBlock(_) => "ProbeBlock",
+        Body::ProbeAck(_) => "ProbeAck",
+        Body::ProbeAckData { .. } => "ProbeAckData",
+        Body::Release(_) => "Release",
+        Body::ReleaseData { .. } => "ReleaseData",
+        Body::Grant(_) => "Grant",
+        Body::GrantData { .. } => "GrantData",
+        Body::ReleaseAck => "ReleaseAck",
+        Body::GrantAck => "GrantAck",
+    }
+}
+
+/// The permissions that a message names, behind a space, if it names some.
+fn permissions(body: &Body) -> &'static str {
+    match body {
+        Body::AcquireBlock(grow) => grow_name(*grow),
+        Body::ProbeBlock(cap) | Body::Grant(cap) | Body::GrantData { cap, .. } => cap_name(*cap),
+        Body::ProbeAck(change)
+        | Body::ProbeAckData { change, .. }
+        | Body::Release(change)
+        | Body::ReleaseData { change, .. } => change_name(*change),
+        Body::ReleaseAck | Body::GrantAck => "",
+    }
+}
+
+fn grow_name(grow: Grow) -> &'static str {
+    match grow {
+        Grow::NtoB => " NtoB",
+        Grow::NtoT => " NtoT",
+        Grow::BtoT => " BtoT",
+    }
+}
+
+fn cap_name(cap: Cap) -> &'static str {
+    match cap {
+        Cap::ToT => " toT",
+        Cap::ToB => " toB",
+        Cap::ToN => " toN",
+    }
+}
+
+fn change_name(change: Change) -> &'static str {
+    match change {
+        Change::TtoB => " TtoB",
+        Change::TtoN => " TtoN",
+        Change::BtoN => " BtoN",
+        Change::TtoT => " TtoT",
+        Change::BtoB => " BtoB",
+        Change::NtoN => " NtoN",
+    }
+}
