@@ -3,4 +3,4 @@
 
 mod spelling;
 
-pub use spelling::text_of;
+pub use spelling::{harts_text, text_of};

@@ -155,6 +155,15 @@ fn spell_extent(
     Ok(())
 }
 
+/// How each hart ended, by hart, as a line of `text_of` has it behind its number: two spaces stand before the first hart.
+pub fn harts_text(alloc: Global, harts: &[HartResult]) -> Result<Vec<u8>, AllocError>
+    ensures { IfOk result (λ bytes. bytes.items ≡ text.harts_text 0 (told harts.now)) }
+{
+    let mut bytes = Vec::new(alloc);
+    spell_harts(&mut bytes, harts)?;
+    Ok(bytes)
+}
+
 /// A line for each outcome, in order and counted from 1; one for the states from which no schedule ends, if there are
 /// any; and one that says whether these are all outcomes.
 pub fn text_of(alloc: Global, exploration: &Exploration) -> Result<Vec<u8>, AllocError>
