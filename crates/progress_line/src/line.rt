@@ -1,0 +1,128 @@
+//! The line of a terminal that tells how far a command is.
+
+ghost use Rattle.std.specs.Prelude.{◌≡◌, ◌/◌, ◌^◌, ◌-◌, min};
+ghost use Rattle.std.specs.Duration.{as_nanos};
+
+use crate::progress::{Progress, Stage};
+use std::fmt::{self, Display, Formatter};
+use std::io::{self, Eprint};
+use std::sync::atomic::{AtomicU64, Ordering};
+use std::time::{Clock, Duration, Instant};
+
+/// The half second before which nothing is told, counted from 0: a command that takes no longer than a
+/// second tells nothing.
+const FIRST_TOLD: u64 = 2;
+
+/// Erases a terminal's line from the cursor on.
+const ERASE: &str = "\x1b[K";
+
+/// Tells how far a command is on standard error, which is a terminal: behind the first second, once in each
+/// half second, each line over the last one. A line that can't be written is left out.
+#[derive(Drop)]
+pub struct ProgressLine<'r, R> {
+    rt: &'r R,
+    started: Instant,
+    // The half second from which the next line may be told.
+    next: AtomicU64,
+}
+
+impl<'r, R: Clock> ProgressLine<'r, R> {
+    /// For a command that starts now. It errs where the clock does.
+    pub fn start(rt: &'r R) -> io::Result<ProgressLine<'r, R>> {
+        Ok(ProgressLine {
+            rt,
+            started: Instant::now(rt)?,
+            next: AtomicU64::new(FIRST_TOLD),
+        })
+    }
+
+    // The seconds since the start, where a line is due. Of several threads one is answered so.
+    fn due(&self) -> Option<u64> {
+        let elapsed = self.started.elapsed(self.rt).ok()?;
+        let half = half_seconds(elapsed);
+        let next = self.next.load(Ordering::SeqCst);
+        if half < next {
+            return None;
+        }
+        let following = half.saturating_add(1);
+        self.next
+            .compare_exchange(next, following, Ordering::SeqCst, Ordering::SeqCst)
+            .ok()?;
+        Some(elapsed.as_secs())
+    }
+}
+
+impl<R: Clock + Eprint> Progress for ProgressLine<'_, R> {
+    fn tell(&self, stage: Stage<'_>) {
+        if let Some(seconds) = self.due() {
+            let _ = self.rt.eprint(Line { seconds, stage });
+        }
+    }
+
+    fn end(&self) {
+        if self.next.load(Ordering::SeqCst) != FIRST_TOLD {
+            let _ = self.rt.eprint(ERASE);
+        }
+    }
+}
+
+/// How many half seconds have passed, as far as a number of 64 bits tells it.
+fn half_seconds(elapsed: Duration) -> u64
+    ensures { result ≡ min (as_nanos elapsed / 1000000 / 500) (2 ^ 64 - 1) }
+{
+    u64::try_from(elapsed.as_millis() / 500).unwrap_or(u64::MAX)
+}
+
+// What stands on the line; the cursor stays at its beginning. It is shorter than 80 columns while the
+// command takes less than a day.
+#[derive(Drop)]
+struct Line<'a> {
+    seconds: u64,
+    stage: Stage<'a>,
+}
+
+impl Display for Line<'_> {
+    fn fmt<W: fmt::Write>(&self, f: &mut Formatter<W>) -> fmt::Result {
+        write!(f, "{} s, ", self.seconds)?;
+        match self.stage {
+            Stage::Run { events, retired } => {
+                write!(f, "{} events, retired", Rounded(events))?;
+                put_each(retired, f)?;
+            }
+            Stage::Explore { states, outcomes } => {
+                let rate = states / self.seconds.max(1);
+                write!(
+                    f,
+                    "{} states ({} a second), {outcomes} outcomes",
+                    Rounded(states),
+                    Rounded(rate)
+                )?;
+            }
+        }
+        write!(f, "{ERASE}\r")
+    }
+}
+
+fn put_each<W: fmt::Write>(numbers: &[u64], f: &mut Formatter<W>) -> fmt::Result {
+    for number in numbers {
+        write!(f, " {}", Rounded(*number))?;
+    }
+    Ok(())
+}
+
+/// A number in four digits, with k for thousands and M for millions.
+#[derive(Drop)]
+struct Rounded(u64);
+
+impl Display for Rounded {
+    fn fmt<W: fmt::Write>(&self, f: &mut Formatter<W>) -> fmt::Result {
+        let number = self.0;
+        if number < 10_000 {
+            write!(f, "{number}")
+        } else if number < 10_000_000 {
+            write!(f, "{}k", number / 1_000)
+        } else {
+            write!(f, "{}M", number / 1_000_000)
+        }
+    }
+}

@@ -1,0 +1,43 @@
+//! What a command tells of its way.
+
+/// How far a command is.
+#[derive(Clone, Copy, Debug)]
+pub enum Stage<'a> {
+    /// The events that harts have tried, and how many instructions each has retired, by hart.
+    Run { events: u64, retired: &'a [u64] },
+    /// The states and the outcomes that were found.
+    Explore { states: u64, outcomes: u64 },
+}
+
+/// Is told how far a command is, as often as the command likes.
+pub trait Progress {
+    /// The command has come this far.
+    fn tell(&self, stage: Stage<'_>);
+
+    /// The command is about to print, or has ended.
+    fn end(&self);
+}
+
+/// Listens to nothing.
+#[derive(Clone, Copy, Debug)]
+pub struct Silent;
+
+impl Progress for Silent {
+    fn tell(&self, _stage: Stage<'_>) {}
+
+    fn end(&self) {}
+}
+
+impl<P: Progress> Progress for Option<P> {
+    fn tell(&self, stage: Stage<'_>) {
+        if let Some(progress) = self {
+            progress.tell(stage);
+        }
+    }
+
+    fn end(&self) {
+        if let Some(progress) = self {
+            progress.end();
+        }
+    }
+}
