@@ -1,0 +1,119 @@
+//! What is wrong with a script's first line.
+
+use crate::lines::split_once;
+use crate::quoted::Quoted;
+use std::fmt::{self, Display, Formatter};
+
+/// A number of the first line.
+#[derive(Clone, Copy, Debug)]
+enum Field {
+    Harts,
+    Kib,
+    Sets,
+    Ways,
+    Line,
+}
+
+impl Field {
+    fn takes(self, number: u32) -> bool {
+        match self {
+            Field::Harts => (1..=8).contains(&number),
+            Field::Kib => (4..=1024).contains(&number) && number % 4 == 0,
+            Field::Sets => number <= 64 && number.is_power_of_two(),
+            Field::Ways => (1..=4).contains(&number),
+            Field::Line => number == 16 || number == 64,
+        }
+    }
+
+    fn range(self) -> &'static str {
+        match self {
+            Field::Harts => "HARTS is 1 to 8",
+            Field::Kib => "KIB is a multiple of 4 from 4 to 1024",
+            Field::Sets => "SETS is a power of two to 64",
+            Field::Ways => "WAYS is 1 to 4",
+            Field::Line => "LINE is 16 or 64",
+        }
+    }
+}
+
+/// What is wrong with the first line of a script that isn't one.
+#[derive(Clone, Copy, Debug)]
+pub(crate) struct HeaderRemark<'a>(pub(crate) &'a [u8]);
+
+impl Display for HeaderRemark<'_> {
+    fn fmt<W: fmt::Write>(&self, f: &mut Formatter<W>) -> fmt::Result {
+        let (lead, Some(rest)) = split_once(self.0, b' ') else {
+            return wanted(self.0, f);
+        };
+        if lead != b"rvtl-script".as_slice() {
+            return wanted(self.0, f);
+        }
+        let (version, numbers) = split_once(rest, b' ');
+        let numbers = numbers.unwrap_or_default();
+        if version == b"1".as_slice() {
+            const FIRST: [Field; 4] = [Field::Harts, Field::Kib, Field::Sets, Field::Ways];
+            fields(
+                numbers,
+                &FIRST,
+                "5 to 8 harts are for version 2, `rvtl-script 2 HARTS KIB SETS WAYS LINE`",
+                f,
+            )
+        } else if version == b"2".as_slice() {
+            const SECOND: [Field; 5] = [
+                Field::Harts,
+                Field::Kib,
+                Field::Sets,
+                Field::Ways,
+                Field::Line,
+            ];
+            fields(
+                numbers,
+                &SECOND,
+                "up to 4 harts with lines of 16 bytes are for version 1, `rvtl-script 1 HARTS KIB SETS WAYS`",
+                f,
+            )
+        } else {
+            write!(f, "the version is 1 or 2, not {}", Quoted(version))
+        }
+    }
+}
+
+fn wanted<W: fmt::Write>(line: &[u8], f: &mut Formatter<W>) -> fmt::Result {
+    write!(
+        f,
+        "a script begins with `rvtl-script 1 HARTS KIB SETS WAYS`, not with {}",
+        Quoted(line)
+    )
+}
+
+// The first of these fields that is wrong, what follows them, or else what is wrong with all of them.
+fn fields<W: fmt::Write>(
+    numbers: &[u8],
+    expected: &[Field],
+    otherwise: &str,
+    f: &mut Formatter<W>,
+) -> fmt::Result {
+    let mut rest = Some(numbers);
+    for field in expected {
+        let Some(later) = rest else {
+            return write!(f, "{}, and is missing", field.range());
+        };
+        let (word, behind) = split_once(later, b' ');
+        match number_of(word) {
+            Some(number) if field.takes(number) => rest = behind,
+            _ => return write!(f, "{}, not {}", field.range(), Quoted(word)),
+        }
+    }
+    match rest {
+        Some(more) => write!(f, "no further number is due: {}", Quoted(more)),
+        None => f.write_str(otherwise),
+    }
+}
+
+// A number without leading zeros, up to 9999.
+fn number_of(word: &[u8]) -> Option<u32> {
+    if word.len() > 4 || (word.len() > 1 && word.starts_with(b"0")) {
+        return None;
+    }
+    std::str::from_utf8(word).ok()?.parse().ok()
+}

@@ -1,0 +1,22 @@
+//! What a user may want to know where a file is refused: what stands there, what should, and what the file
+//! looks like. Each remark is a line of text without its line feed.
+#![tactic(auto)]
+
+mod event;
+mod file;
+mod header;
+mod image;
+mod kind;
+mod lines;
+mod quoted;
+mod script;
+mod trace;
+
+pub use event::EventRemark;
+pub use file::FileRemark;
+pub use image::ImageRemark;
+pub use script::ScriptRemark;
+pub use trace::TraceRemark;
+
+#[cfg(test)]
+mod tests;
