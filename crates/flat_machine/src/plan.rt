@@ -1,4 +1,6 @@
 //! What an event comes to.
+ghost use Rattle.std.specs.Prelude.{◌≡◌};
+ghost use Rattle.flat_machine.specs.Plans.{does_change, meant};
 
 use hart::Retired;
 use machine_model::{Deed, Outcome};
@@ -23,4 +25,16 @@ pub enum Plan {
     },
     /// The word's entry leaves the oldest group of the store buffer.
     Drains(u32),
+}
+
+impl Plan {
+    /// Whether anything changes.
+    pub(crate) fn changes(&self) -> bool
+        ensures { result ≡ does_change (meant self.now) }
+    {
+        match self {
+            Plan::Refused | Plan::Stays(_) => false,
+            Plan::Stops(_) | Plan::Retires { .. } | Plan::Drains(_) => true,
+        }
+    }
 }
