@@ -1,8 +1,8 @@
 #!/usr/bin/env python3
-"""Lists the definitions that the headline and the theorems on texts rest on: `definitions.py`, from the top.
+"""Lists the definitions that the theorems rest on: of the headline, then what those on texts and on the flat memory add.
 
-Reads the `specs/` of all crates, follows the names that each definition uses, and writes the two lists into
-docs/DEFINITIONS.md: module by module, each behind those that it uses, its definitions as they stand.
+usage: tools/definitions.py    from the top of the repository. Reads the `specs/` of all crates, follows the names that
+each definition uses, and prints module by module, each behind those that it uses, its definitions as they stand.
 """
 
 import re
@@ -21,6 +21,13 @@ TEXTS = [
     ("trace_text", "TraceLimits", "IsReadAs"),
     ("trace_text", "TraceLimits", "NoTextBeginsAnother"),
     ("trace_text", "Traces", "text"),
+]
+
+FLAT = [
+    ("flat_model", "Laws", "ShownAlways"),
+    ("explorer", "Outcomes", "HasEachEnd"),
+    ("explorer", "Outcomes", "CanAlwaysEnd"),
+    ("explorer", "Outcomes", "IsFlatEnd"),
 ]
 
 NAME = r"[A-Za-z_][\w']*(?:-[\w'≤≡]+)*"
@@ -90,29 +97,17 @@ def in_order(found, used):
     return done
 
 
-def written(text, title, count, lines):
-    """The document with this section's number and list."""
-    start = text.index(f"## {title}\n")
-    end = text.index("\n## ", start)
-    part = re.sub(r"by these \d+", f"by these {count}", text[start:end])
-    part = re.sub(r"(?:^- .*\n?)+", "".join(f"{line}\n" for line in lines), part, count=1, flags=re.M)
-    return text[:start] + part + text[end:]
-
-
 def main():
     found = modules()
-    document = Path("docs/DEFINITIONS.md")
-    text = document.read_text(encoding="utf-8")
     before = set()
-    for title, starts in [("What the headline rests on", HEADLINE), ("What the theorems on texts rest on", TEXTS)]:
+    lists = [("the headline", HEADLINE), ("the theorems on texts", TEXTS), ("the flat memory and exploring", FLAT)]
+    for title, starts in lists:
         used = rests_on(found, starts) - before
-        lines = []
+        print(f"{title}: {len(used)} definitions" + (" more" if before else ""))
         for part in in_order(found, used):
             names = [name for name in found[part][0] if (*part, name) in used]
-            lines.append(f"- `{part[0]}` {part[1]}: " + ", ".join(f"`{name}`" for name in names))
-        text = written(text, title, len(used), lines)
+            print(f"  {part[0]} {part[1]}: " + ", ".join(names))
         before |= used
-    document.write_text(text, encoding="utf-8")
 
 
 main()
