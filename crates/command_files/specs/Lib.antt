@@ -1,3 +1,4 @@
+pub mod Composition
 pub mod Faults
 pub mod Files
 pub mod Held

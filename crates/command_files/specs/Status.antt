@@ -1,4 +1,4 @@
--- With which status the program ends where something went wrong, and which fault a run's error is.
+-- With which status the program ends where something went wrong, and which fault a stream's error is.
 use Rattle.std.specs.Prelude.{◌≡◌, ◌⊎◌, ◌+◌, ◌-◌, ◌^◌, ℕ, List, min}
 use Rattle.std.specs.Borrow.{Bor}
 use Rattle.command_files.specs.declared.fault.Fault.{Fault}
@@ -10,8 +10,6 @@ use Rattle.coherent_machine.specs.declared.errors.ReplayError.TheVariants as rep
 use Rattle.machine_parts.specs.declared.errors.ApplyError.TheVariants as applying
 use Rattle.event_stream.specs.declared.errors.StreamError.{StreamError}
 use Rattle.event_stream.specs.declared.errors.StreamError.TheVariants as stream
-use Rattle.host_threads.specs.declared.report.RunError.{RunError}
-use Rattle.host_threads.specs.declared.report.RunError.TheVariants as run
 
 -- 1 for files, streams, threads and what files hold, 2 for a configuration that no machine has, 4 for want of memory
 abbrev pub status_of : Fault → ℕ
@@ -29,13 +27,6 @@ status_of fault.Mismatch = 1
 status_of fault.BadEvent = 1
 status_of Configuration = 2
 status_of OutOfMemory = 4
-
-abbrev pub run_fault : RunError → Fault
-run_fault run.Config = Configuration
-run_fault run.NoMemory = OutOfMemory
-run_fault run.Thread = NoThread
-run_fault run.Mismatch = fault.Mismatch
-run_fault run.BadEvent = fault.BadEvent
 
 -- the line of the script on which the event of this index stands, the first on line 2, as far as a number of 64 bits tells it
 abbrev pub line_at : ℕ → ℕ

@@ -2,12 +2,11 @@
 
 ghost use Rattle.std.specs.Prelude.{◌≡◌, ◌≢◌, ◌↔◌, ◌⊎◌, ◌+◌, ◌-◌, ◌^◌, ℕ, min};
 ghost use Rattle.std.specs.IoError.{error_kind};
-ghost use Rattle.command_files.specs.Status.{IsNoMemory, IsStreamFault, run_fault, status_of};
+ghost use Rattle.command_files.specs.Status.{IsNoMemory, IsStreamFault, status_of};
 
 use coherent_machine::{ApplyError, NewError, ReplayError};
 use elf_loader::LoadError;
 use event_stream::{StreamError, outcome_name};
-use host_threads::RunError;
 use machine_model::Outcome;
 use rvwmo_order::CheckError;
 use std::alloc::AllocError;
@@ -205,21 +204,6 @@ impl<'a> Fault<'a> {
                 outcome,
             },
             StreamError::Writing(error) => Fault::writing(error),
-        }
-    }
-}
-
-impl Fault<'_> {
-    /// Why a run left no report.
-    pub fn running<'a>(error: RunError) -> Fault<'a>
-        ensures { result ≡ run_fault error }
-    {
-        match error {
-            RunError::Config => Fault::Configuration,
-            RunError::NoMemory => Fault::OutOfMemory,
-            RunError::Thread => Fault::NoThread,
-            RunError::Mismatch => Fault::Mismatch,
-            RunError::BadEvent => Fault::BadEvent,
         }
     }
 }

@@ -2,7 +2,7 @@
 use Rattle.std.proofs.Common.{◌≡◌, ◌∙◌, ◌*◌, ℕ, Bool, true, IfSome, List, None, Ok, Option, Result, Some, ap, is_some, subst, sym}
 use Rattle.std.specs.Prelude.{unwrap_or}
 use Rattle.coherent_machine.specs.Machine.{Replayed, replayed_from}
-use Rattle.replay_command.specs.Composition.{Leads}
+use Rattle.command_files.specs.Composition.{Leads}
 use Rattle.command_files.specs.Sizes.{config_of}
 use Rattle.command_files.specs.Files.{HoldsImage, image_answer}
 use Rattle.command_files.specs.Held.{Held}

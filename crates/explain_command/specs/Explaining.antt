@@ -19,7 +19,7 @@ use Rattle.machine_model.specs.Events.{Verdict}
 use Rattle.machine_model.specs.Views.{State, opening}
 use Rattle.machine_model.specs.declared.config.Config.{Config}
 use Rattle.machine_model.specs.declared.event.Event.{Event}
-use Rattle.replay_command.specs.Replaying.{IsReplayFault}
+use Rattle.command_files.specs.Faults.{IsReplayFault}
 use Rattle.std.specs.Io.KnownBytes.{Appends}
 use Rattle.std.specs.Prelude.{◌≡◌, ℕ, List, [], Option}
 use Rattle.text_fields.specs.Writing.{Begins}

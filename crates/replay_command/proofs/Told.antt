@@ -3,7 +3,7 @@ use Rattle.std.proofs.Common.{◌≡◌, inl, inr}
 use Rattle.command_files.specs.Held.{Held}
 use Rattle.command_files.specs.Status.{status_of}
 use Rattle.command_files.specs.Faults.{HasScript, IsImageFault, IsScriptFault}
-use Rattle.replay_command.specs.Replaying.{IsReplayFault}
+use Rattle.command_files.specs.Faults.{IsReplayFault}
 use Rattle.command_files.specs.declared.fault.Fault.{Fault}
 use Rattle.command_files.specs.declared.fault.Fault.TheVariants.{BadEvent, BytesAfterTrace, CannotMake, CannotRead, CannotWrite, Check, Configuration, Event, Image, Mismatch, NoThread, NothingHappens, OutOfMemory, Text}
 use Rattle.command_settings.specs.declared.wanted.Replay.{Replay}

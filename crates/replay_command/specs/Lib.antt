@@ -1,2 +1,2 @@
-pub mod Composition
 pub mod Replaying
+pub mod Unfinished

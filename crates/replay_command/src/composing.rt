@@ -4,7 +4,8 @@ ghost use Rattle.std.specs.Prelude.{◌≡◌, ◌↔◌, Err, IfErr, IfOk, fals
 ghost use Rattle.coherent_machine.specs.declared.errors.NewError.TheVariants as making;
 ghost use Rattle.coherent_machine.specs.declared.errors.ReplayError.TheVariants as refusal;
 ghost use Rattle.machine_model.specs.Config.{is_within_limits};
-ghost use Rattle.replay_command.specs.Composition.{IsComposition, IsUnfinished};
+ghost use Rattle.command_files.specs.Composition.{IsComposition};
+ghost use Rattle.replay_command.specs.Unfinished.{IsUnfinished};
 ghost use Rattle.command_files.specs.Sizes.{config_of};
 
 use coherent_machine::{Machine, ReplayError, replay};

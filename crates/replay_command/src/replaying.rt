@@ -6,7 +6,7 @@ ghost use Rattle.command_files.specs.Files.{HoldsImage, HoldsScript, IsTheScript
 ghost use Rattle.command_files.specs.Held.{HoldsBytes};
 ghost use Rattle.replay_command.specs.Replaying.{IsCutOff, IsReplayed};
 ghost use Rattle.command_files.specs.Faults.{IsImageFault, IsReadFault, IsScriptFault, Leaves};
-ghost use Rattle.replay_command.specs.Replaying.{IsReplayFault};
+ghost use Rattle.command_files.specs.Faults.{IsReplayFault};
 
 use crate::composing::{CompositionError, replay_and_write};
 use command_files::{Fault, Files, image_in, print_ends, script_in};

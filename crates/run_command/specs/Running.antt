@@ -1,5 +1,5 @@
 -- What a run by threads has done, and which faults it tells.
-use Rattle.replay_command.specs.Composition.{IsComposition, Leads}
+use Rattle.command_files.specs.Composition.{IsComposition, Leads}
 use Rattle.command_files.specs.Sizes.{config_of, IsOutside, config_named}
 use Rattle.command_files.specs.Files.{HoldsImage, HoldsScript}
 use Rattle.command_files.specs.Held.{Held}
@@ -7,6 +7,8 @@ use Rattle.command_files.specs.declared.fault.Fault.TheVariants.{BadEvent, Canno
 use Rattle.command_files.specs.declared.fault.Fault.{Fault}
 use Rattle.command_settings.specs.declared.wanted.Run.{Run}
 use Rattle.elf_loader.specs.Image.{Initial}
+use Rattle.host_threads.specs.declared.report.RunError.{RunError}
+use Rattle.host_threads.specs.declared.report.RunError.TheVariants as threads
 use Rattle.machine_model.specs.Views.{State}
 use Rattle.std.specs.Prelude.{◌≡◌, ℕ, List, Option}
 use Rattle.text_fields.specs.Writing.{Begins}
@@ -49,3 +51,11 @@ IsRunFault held run (CannotMake file) = (file ≡ run.journal) × ((image : Init
 IsRunFault held run CannotWrite = Unit {0}
 IsRunFault held run OutOfMemory = Unit {0}
 IsRunFault held run _ = ⊥
+
+-- which fault an error of the threads is
+abbrev pub run_fault : RunError → Fault
+run_fault threads.Config = Configuration
+run_fault threads.NoMemory = OutOfMemory
+run_fault threads.Thread = NoThread
+run_fault threads.Mismatch = Mismatch
+run_fault threads.BadEvent = BadEvent

@@ -5,7 +5,7 @@ ghost use Rattle.std.specs.Prelude.{◌≡◌, ◌≢◌, ◌⊎◌, ℕ, Err, I
 ghost use Rattle.std.specs.Io.KnownBytes.{Appends};
 ghost use Rattle.std.specs.List.{AllByRecursion};
 ghost use Rattle.command_files.specs.Held.{HoldsBytes};
-ghost use Rattle.run_command.specs.Running.{IsRun, IsRunCutOff};
+ghost use Rattle.run_command.specs.Running.{IsRun, IsRunCutOff, run_fault};
 ghost use Rattle.command_files.specs.Sizes.{IsOutside, config_named, script_named};
 ghost use Rattle.run_command.specs.Running.{IsRunFault};
 ghost use Rattle.command_files.specs.Faults.{Leaves};
@@ -18,7 +18,7 @@ ghost use Rattle.trace_text.specs.Traces.{text as trace_text};
 
 use command_files::{Fault, Files, image_in, named_config, print_ends};
 use command_settings::{MachineOptions, Run};
-use host_threads::{Gate, Report, run};
+use host_threads::{Gate, Report, RunError, run};
 use machine_model::Event;
 use std::alloc::Global;
 use std::io::Write;
@@ -65,7 +65,7 @@ pub fn run_files<'a, R: Threads + Wait + Sync, F: Files, O: Write, E: Write>(
     let limit = u64::from(wanted.limit);
     let report = match run(rt, alloc, image, config, limit, &Open) {
         Ok(report) => report,
-        Err(error) => return Err(Fault::running(error)),
+        Err(error) => return Err(fault_of(error)),
     };
     let Report {
         trace,
@@ -79,6 +79,19 @@ pub fn run_files<'a, R: Threads + Wait + Sync, F: Files, O: Write, E: Write>(
     // Standard error has no other place to tell that it takes no more.
     let _ = print_ends(trace.statuses(), outputs.as_slice(), err);
     Ok(())
+}
+
+/// Why a run left no report.
+fn fault_of<'a>(error: RunError) -> Fault<'a>
+    ensures { result ≡ run_fault error }
+{
+    match error {
+        RunError::Config => Fault::Configuration,
+        RunError::NoMemory => Fault::OutOfMemory,
+        RunError::Thread => Fault::NoThread,
+        RunError::Mismatch => Fault::Mismatch,
+        RunError::BadEvent => Fault::BadEvent,
+    }
 }
 
 /// The script of a run: the machine that is wanted, and what happened to it.

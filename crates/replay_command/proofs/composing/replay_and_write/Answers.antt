@@ -1,7 +1,7 @@
 use Rattle.std.proofs.Common.{subst}
 use Rattle.machine_model.specs.Laws.{IsHeadline}
 use Rattle.machine_model.specs.declared.config.Config.{Config}
-use Rattle.replay_command.proofs.Replays.{leads_there, readable}
+use Rattle.command_files.proofs.Replays.{leads_there, readable}
 use Rattle.replay_command.proofs.composing.replay_and_write.Goals as goal
 
 pub returns-in-Ok-write_trace-clause-written : goal.returns-in-Ok-write_trace-clause-written

@@ -7,7 +7,7 @@ use Rattle.coherent_machine.specs.declared.errors.ReplayError.{ReplayError}
 use Rattle.coherent_machine.specs.declared.errors.ReplayError.TheVariants as refusals
 use Rattle.coherent_machine.specs.declared.errors.ReplayError.TheVariants.{New}
 use Rattle.command_files.specs.Sizes.{config_of}
-use Rattle.replay_command.specs.Replaying.{IsReplayFault}
+use Rattle.command_files.specs.Faults.{IsReplayFault}
 use Rattle.replay_command.specs.declared.composing.CompositionError.{CompositionError}
 use Rattle.replay_command.specs.declared.composing.CompositionError.TheVariants as composition
 use Rattle.command_files.specs.declared.fault.Fault.{Fault}

@@ -24,7 +24,7 @@ use Rattle.trace_text.specs.Traces.{text}
 use Rattle.trace_text.specs.declared.script.Script.{Script}
 use Rattle.command_files.proofs.Left.{handed_up, spoiled}
 use Rattle.command_files.proofs.Limits.{script_within}
-use Rattle.replay_command.proofs.Replays.{leads_there, readable}
+use Rattle.command_files.proofs.Replays.{leads_there, readable}
 use Rattle.run_command.proofs.running.run_files.Goals as goal
 
 kept : (held left : Held) (run : Run) (config : Config) (image : Initial) (script : Script) (events : List Event) → script ≡ script_named run.machine events → config ≡ config_named run.machine

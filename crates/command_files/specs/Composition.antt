@@ -1,16 +1,13 @@
 -- What a replay prints: the text of the trace that the script's events lead to.
 use Rattle.std.specs.Prelude.{ℕ, ◌≡◌, List, Option}
-use Rattle.coherent_machine.specs.Machine.{IsFirstRefusal, Replayed, replayed_from}
 use Rattle.command_files.specs.Sizes.{config_of}
-use Rattle.replay_command.specs.declared.composing.CompositionError.{CompositionError}
-use Rattle.replay_command.specs.declared.composing.CompositionError.TheVariants as errors
 use Rattle.elf_loader.specs.Image.{Initial}
 use Rattle.machine_model.specs.LawfulLog.{IsLawfulLog}
 use Rattle.machine_model.specs.Laws.{IsHeadline}
 use Rattle.machine_model.specs.Views.{State, opening}
 use Rattle.memory_model.specs.declared.Model.{Model}
+use Rattle.coherent_machine.specs.Machine.{Replayed, replayed_from}
 use Rattle.std.specs.Io.KnownBytes.{Appends}
-use Rattle.text_fields.specs.Writing.{Begins}
 use Rattle.trace_text.specs.TraceLimits.{IsTrace}
 use Rattle.trace_text.specs.Traces.{text}
 use Rattle.trace_text.specs.declared.script.Script.{Script}
@@ -26,8 +23,3 @@ pub record IsComposition (image : Initial) (script : Script) (model : Model) (ol
   pub readable : IsTrace s.trace
   pub headline : IsHeadline image (config_of script model) s
   pub log : IsLawfulLog s.trace.log
-
--- why the text isn't there: an event is refused or no machine was made, and nothing went out; or the writer had a fault, and a beginning of the text did
-abbrev pub IsUnfinished : Initial → Script → Model → Option (List ℕ) → Option (List ℕ) → CompositionError → Type 0
-IsUnfinished image script model old new (errors.Replay error) = (new ≡ old) × IsFirstRefusal (opening image (config_of script model)) script.events error
-IsUnfinished image script model old new (errors.Writing fault) = (s : State) × Leads image script model s × Begins old new (text s.trace)

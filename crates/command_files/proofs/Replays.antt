@@ -1,7 +1,7 @@
 -- Where a script leads, and that the trace there is read back.
 use Rattle.std.proofs.Common.{◌≡◌, List, subst}
 use Rattle.coherent_machine.specs.Machine.{IsReached, Replayed, replayed_from}
-use Rattle.replay_command.specs.Composition.{Leads}
+use Rattle.command_files.specs.Composition.{Leads}
 use Rattle.command_files.specs.Sizes.{config_of}
 use Rattle.elf_loader.specs.Image.{Initial}
 use Rattle.machine_model.specs.Views.{State, opening}
