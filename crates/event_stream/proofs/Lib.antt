@@ -4,4 +4,5 @@ pub mod EventLines
 pub mod Telling
 pub mod Wholes
 pub mod OtherHarts
+pub mod Outputs
 pub mod TraceOfStream

@@ -4,7 +4,7 @@ use Rattle.std.proofs.lemmas.Bool.{eq-eqb, eqb-true}
 use Rattle.std.proofs.lemmas.List.{append-nil}
 use Rattle.std.proofs.lemmas.List.Concat.{flat_map-cons}
 use Rattle.std.proofs.Math.Seq.{drop-append_seam}
-use Rattle.std.specs.List.{flat_map}
+use Rattle.std.specs.List.{flat_map, range_with_len}
 use Rattle.coherent_machine.specs.Machine.{Replayed, replayed_from, unless_refused}
 use Rattle.hart.specs.declared.retired.Retired.{Retired}
 use Rattle.machine_model.specs.declared.event.Event.{Event}
@@ -13,13 +13,14 @@ use Rattle.machine_model.specs.Events.{Verdict, happens, hart_of, verdict}
 use Rattle.machine_model.specs.Events.Verdict.{IsBad, Keeps, IsLimited, Moves}
 use Rattle.machine_model.specs.LawfulLog.{IsBeginningOf}
 use Rattle.machine_model.specs.Laws.{NothingIsRewritten}
-use Rattle.machine_model.specs.Views.{State, opening}
+use Rattle.machine_model.specs.Views.{State, no_node, opening}
 use Rattle.trace_recorder.specs.History.{entries_of}
 use Rattle.event_stream.specs.declared.strictness.Strictness.{Strictness}
 use Rattle.event_stream.specs.declared.strictness.Strictness.TheVariants.{Lenient, Strict}
-use Rattle.event_stream.specs.Laws.{StreamIsTheTrace, entries_in}
-use Rattle.event_stream.specs.Reports.{Report, Ending, ending, ending_by, grown, report, reports, reports_by}
+use Rattle.event_stream.specs.Laws.{StreamIsTheTrace, entries_in, output_in}
+use Rattle.event_stream.specs.Reports.{Report, Ending, ending, ending_by, grown, outputs_of, report, reports, reports_by}
 use Rattle.event_stream.proofs.OtherHarts.{others_stay}
+use Rattle.event_stream.proofs.Outputs.{nothing_at, puts_out}
 
 -- a list and what it has grown by
 grows_to : {X : Type 0} (old new : List X) → IsBeginningOf old new → old ++ grown old new ≡ new
@@ -65,6 +66,15 @@ entries_by grows h i s e o = go (hart_of e == h) refl
         ap (λ (k : ℕ). entries_of s.trace h ++ grown (entries_of s.trace k) (entries_of (happens s e).trace k)) own ∙ grows_to (entries_of s.trace h) (entries_of (happens s e).trace h) ((grows s e).entries h)
     go false is = append-nil (entries_of s.trace h) ∙ sym (others_stay s e h (λ own. let yes = eq-eqb (hart_of e) h own in cc))
 
+outputs_by : (h : ℕ) (i : ℕ) (s : State) (e : Event) (o : Outcome) → outputs_of s h ++ output_in h (report i s e o) ≡ outputs_of (happens s e) h
+outputs_by h i s e o = go (hart_of e == h) refl
+  where
+    go : (same : Bool) → (hart_of e == h) ≡ same → outputs_of s h ++ cond same (grown (outputs_of s (hart_of e)) (outputs_of (happens s e) (hart_of e))) [] ≡ outputs_of (happens s e) h
+    go true is =
+        let own = eqb-true (hart_of e) h is in
+        ap (λ (k : ℕ). outputs_of s h ++ grown (outputs_of s k) (outputs_of (happens s e) k)) own ∙ grows_to (outputs_of s h) (outputs_of (happens s e) h) (puts_out s e h).0
+    go false is = append-nil (outputs_of s h) ∙ sym ((puts_out s e h).1 (λ own. let yes = eq-eqb (hart_of e) h own in cc))
+
 -- nothing has retired at reset
 none_at : (harts h : ℕ) → slice_index_or (replicate {A = List Retired} harts []) h [] ≡ []
 none_at zero h = refl
@@ -88,11 +98,16 @@ replays m (e ∷ events) i s final h =
 pub stream_is_the_trace : NothingIsRewritten → StreamIsTheTrace
 stream_is_the_trace grows m image config events s h = (
   replays m events 0 (opening image config) s h,
-  record {
-    entries = λ k.
-        ap (λ (l : List Retired). l ++ flat_map (entries_in k) (reports m 0 (opening image config) events)) (sym (none_at config.harts k))
-        ∙ all_events (entries_in k) (λ t. entries_of t.trace k) (entries_by grows k) m events 0 (opening image config) s h;
-    performed = all_events (λ r. r.performed) (λ t. t.trace.performed) (λ i t e o. grows_to _ _ (grows t e).performed) m events 0 (opening image config) s h;
-    log = all_events (λ r. r.log) (λ t. t.trace.log) (λ i t e o. grows_to _ _ (grows t e).log) m events 0 (opening image config) s h;
-  },
+  (
+    record {
+      entries = λ k.
+          ap (λ (l : List Retired). l ++ flat_map (entries_in k) (reports m 0 (opening image config) events)) (sym (none_at config.harts k))
+          ∙ all_events (entries_in k) (λ t. entries_of t.trace k) (entries_by grows k) m events 0 (opening image config) s h;
+      performed = all_events (λ r. r.performed) (λ t. t.trace.performed) (λ i t e o. grows_to _ _ (grows t e).performed) m events 0 (opening image config) s h;
+      log = all_events (λ r. r.log) (λ t. t.trace.log) (λ i t e o. grows_to _ _ (grows t e).log) m events 0 (opening image config) s h;
+    },
+    λ k.
+        ap (λ (l : List ℕ). l ++ flat_map (output_in k) (reports m 0 (opening image config) events)) (sym (nothing_at image config (range_with_len 0 config.harts) k (no_node (opening image config)) refl))
+        ∙ all_events (output_in k) (λ t. outputs_of t k) (outputs_by k) m events 0 (opening image config) s h,
+  ),
 )
