@@ -2,5 +2,7 @@
 #![tactic(auto)]
 
 mod checking;
+mod messages;
 
 pub use checking::check_file;
+pub use messages::check_messages;

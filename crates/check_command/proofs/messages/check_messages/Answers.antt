@@ -1,0 +1,31 @@
+use Rattle.std.proofs.Common.{◌∙◌, arith, refl}
+use Rattle.command_files.proofs.Left.{handed_up, left, read_is_not_write, spoiled}
+use Rattle.check_command.proofs.Logs.{log_held, verdict_on}
+use Rattle.check_command.proofs.Told.{of_trace}
+use Rattle.check_command.proofs.messages.check_messages.Goals as goal
+
+pub returns-in_err-bytes-clause-unfinished : goal.returns-in_err-bytes-clause-unfinished
+returns-in_err-bytes-clause-unfinished g c =
+    handed_up _ c.from_residual.result _ c.from_residual.ensures.1 (left _ _ _ _ (read_is_not_write _ _ c.in_err-bytes.ensures.fault) refl)
+
+pub returns-in_err-bytes-clause-told : goal.returns-in_err-bytes-clause-told
+returns-in_err-bytes-clause-told g c = handed_up _ c.from_residual.result _ c.from_residual.ensures.1 (of_trace _ c.args.file _ c.in_err-bytes.ensures.fault)
+
+pub returns-in-Err-print-clause-unfinished : goal.returns-in-Err-print-clause-unfinished
+returns-in-Err-print-clause-unfinished g c = spoiled _ _ _ c.writing.result c.writing.ensures.told (record {
+  trace = c.in-Ok-read_trace.read.0.history;
+  verdict = c.in-Ok-check_log.verdict;
+  file = log_held (g.F.Files.held c.args.files.now) c.args.file.now c.in_ok-bytes.bytes.items c.as_slice.result.now c.in-Ok-read_trace.read.0.history c.in-Ok-read_trace.read.1
+      c.in_ok-bytes.ensures.bytes (c.as_slice.ensures.value ∙ c.in-Ok.ensures) c.in-Ok-read_trace.ensures.found (omega arith);
+  judged = verdict_on c.log.result.now _ c.in-Ok-check_log.verdict c.log.ensures c.in-Ok-check_log.ensures.lawful c.in-Ok-check_log.ensures.unlawful;
+  begun = c.in-Err-print.ensures;
+})
+
+pub returns-clause-judged : goal.returns-clause-judged
+returns-clause-judged g c = record {
+  trace = c.in-Ok-read_trace.read.0.history;
+  file = log_held (g.F.Files.held c.args.files.now) c.args.file.now c.in_ok-bytes.bytes.items c.as_slice.result.now c.in-Ok-read_trace.read.0.history c.in-Ok-read_trace.read.1
+      c.in_ok-bytes.ensures.bytes (c.as_slice.ensures.value ∙ c.in-Ok.ensures) c.in-Ok-read_trace.ensures.found (omega arith);
+  judged = verdict_on c.log.result.now _ c.in-Ok-check_log.verdict c.log.ensures c.in-Ok-check_log.ensures.lawful c.in-Ok-check_log.ensures.unlawful;
+  printed = c.in_default-print.ensures;
+}

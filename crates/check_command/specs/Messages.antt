@@ -1,0 +1,40 @@
+-- What a check of messages has done.
+use Rattle.std.specs.Io.KnownBytes.{Appends}
+use Rattle.std.specs.Prelude.{◌≡◌, ◌↔◌, ℕ, IfSome, List, Option}
+use Rattle.command_files.specs.Held.{Held}
+use Rattle.lawful_log.specs.Laws.{IfUnlawful, IsFirstBreach}
+use Rattle.lawful_log.specs.declared.rule.LogVerdict.{LogVerdict}
+use Rattle.lawful_log.specs.declared.rule.LogVerdict.TheVariants.{Lawful}
+use Rattle.log_text.specs.Ending.{ended}
+use Rattle.log_text.specs.Verdicts.{verdict_text}
+use Rattle.machine_model.specs.LawfulLog.{IsLawfulLog}
+use Rattle.text_fields.specs.Writing.{Begins}
+use Rattle.trace_recorder.specs.History.{History}
+use Rattle.trace_recorder.specs.declared.logged.Logged.{Logged}
+use Rattle.trace_text.specs.TraceLimits.{IsTrace}
+use Rattle.trace_text.specs.Traces.{text}
+
+-- the file has the text of this trace, and nothing else; the lines that say how its harts ended may be left out, where all still run
+pub record HoldsLog (held : Held) (name : List ℕ) (trace : History) : Type 0 where
+  pub is_trace : IsTrace trace
+  pub bytes : IfSome (held name) (λ known. ended known ≡ text trace)
+
+-- the verdict on a log: lawful, or the first entry that breaks a rule, and the first rule that it breaks
+pub record IsLogVerdict (log : List Logged) (verdict : LogVerdict) : Type 0 where
+  pub lawful : (verdict ≡ Lawful) ↔ IsLawfulLog log
+  pub unlawful : IfUnlawful verdict (λ rule index. IsFirstBreach log rule index)
+
+-- what was appended is the verdict on the log in the file
+pub record IsLogJudged (held : Held) (name : List ℕ) (verdict : LogVerdict) (old new : Option (List ℕ)) : Type 0 where
+  pub trace : History
+  pub file : HoldsLog held name trace
+  pub judged : IsLogVerdict trace.log verdict
+  pub printed : Appends old new (verdict_text verdict)
+
+-- the output took no more than a beginning of the verdict on the log in the file
+pub record IsLogCutOff (held : Held) (name : List ℕ) (old new : Option (List ℕ)) : Type 0 where
+  pub trace : History
+  pub verdict : LogVerdict
+  pub file : HoldsLog held name trace
+  pub judged : IsLogVerdict trace.log verdict
+  pub begun : Begins old new (verdict_text verdict)

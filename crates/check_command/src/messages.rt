@@ -1,0 +1,82 @@
+//! `rvtl check --messages`: the log of a trace's messages is judged, and the verdict printed.
+
+ghost use Rattle.std.specs.Prelude.{◌≡◌, IfErr, IfOk};
+ghost use Rattle.text_fields.specs.Writing.{Writes};
+ghost use Rattle.log_text.specs.Verdicts.{verdict_text};
+ghost use Rattle.check_command.specs.Checking.{IsCheckFault};
+ghost use Rattle.check_command.specs.Messages.{HoldsLog, IsLogCutOff, IsLogJudged};
+ghost use Rattle.command_files.specs.Faults.{Leaves};
+
+use command_files::{Fault, Files, contents};
+use lawful_log::{LogVerdict, check_log};
+use log_text::{Objection, end_text, line_of_message, put_verdict};
+use std::alloc::Global;
+use std::io::{self, Write};
+use trace_recorder::Trace;
+use trace_text::read_trace;
+
+/// Reads a trace, or one that ends behind its messages, judges its log, and prints the verdict on `out`.
+/// Where the log isn't lawful, the line of the message that breaks a rule, and what stood against it, go to
+/// `err`.
+pub fn check_messages<'a, F: Files, O: Write, E: Write>(
+    alloc: Global,
+    files: &mut F,
+    file: &'a str,
+    out: &mut O,
+    err: &mut E,
+) -> Result<LogVerdict, Fault<'a>>
+    ensures judged { IfOk result (λ verdict. IsLogJudged (F.held files.old) file.entry.now verdict (O.contents out.old) (O.contents out.new)) }
+    ensures unfinished { IfErr result (λ fault. Leaves fault (O.contents out.old) (O.contents out.new)
+        (IsLogCutOff (F.held files.old) file.entry.now (O.contents out.old) (O.contents out.new))) }
+    ensures told { IfErr result (IsCheckFault (F.held files.old) file.entry) }
+    ensures spared { F.held files.new ≡ F.held files.old }
+{
+    let mut bytes = contents(alloc, files, file)?;
+    let Ok(()) = end_text(&mut bytes) else {
+        return Err(Fault::OutOfMemory);
+    };
+    let (trace, length) = match read_trace(alloc, bytes.as_slice()) {
+        Ok(read) => read,
+        Err(error) => return Err(Fault::text(file, error)),
+    };
+    if length < bytes.len() {
+        return Err(Fault::BytesAfterTrace { file });
+    }
+    let Ok(verdict) = check_log(alloc, trace.log()) else {
+        return Err(Fault::OutOfMemory);
+    };
+    if let Err(error) = print(verdict, out) {
+        return Err(Fault::writing(error));
+    }
+    // Standard error has no other place to tell that it takes no more.
+    let _ = object(file, bytes.as_slice(), &trace, verdict, err);
+    Ok(verdict)
+}
+
+fn print<O: Write>(verdict: LogVerdict, out: &mut O) -> io::Result<()>
+    ensures { Writes (O.contents out.old) (O.contents out.new) (verdict_text verdict) result }
+{
+    put_verdict(verdict, out)?;
+    out.flush()
+}
+
+/// Which line of an unlawful log breaks a rule, and what stands against its message.
+fn object<E: Write>(
+    file: &str,
+    bytes: &[u8],
+    trace: &Trace,
+    verdict: LogVerdict,
+    err: &mut E,
+) -> io::Result<()> {
+    let LogVerdict::Unlawful { rule, index } = verdict else {
+        return Ok(());
+    };
+    let line = line_of_message(bytes, index).unwrap_or(0);
+    match Objection::to(trace.log(), rule, index, trace.harts() as u8) {
+        Some(objection) => {
+            let name = file.escape_debug();
+            writeln!(err, "rvtl: {name}: line {line}: {objection}")
+        }
+        None => Ok(()),
+    }
+}
