@@ -1,0 +1,163 @@
+//! What an instruction asks of memory.
+
+use amo_unit::combine;
+use elf_loader::Image;
+use hart::{Hart, Retired};
+use memory_model::Model;
+use rv32_decode::{AmoOp, Annotations, Instr, decode};
+use rv32_exec::{Plan, Width, plan, stop};
+
+/// What an access does.
+#[derive(Clone, Copy, PartialEq, Eq, Hash)]
+pub(crate) enum Kind {
+    Load,
+    Store,
+    Reserve,
+    /// An SC that succeeds.
+    Conditional,
+    Amo,
+}
+
+impl Kind {
+    pub(crate) fn reads(self) -> bool {
+        matches!(self, Kind::Load | Kind::Reserve | Kind::Amo)
+    }
+
+    pub(crate) fn writes(self) -> bool {
+        matches!(self, Kind::Store | Kind::Conditional | Kind::Amo)
+    }
+}
+
+/// An access that a hart stands before: its bytes as lanes of the aligned word that they lie in.
+#[derive(Clone, Copy)]
+pub(crate) struct Access {
+    pub kind: Kind,
+    pub word: u32,
+    /// All bits of its bytes.
+    pub lanes: u32,
+    /// How many bits of the word stand below its bytes.
+    pub shift: u32,
+    /// The number that a store stores, or an AMO combines with what it reads.
+    pub operand: u32,
+    pub op: AmoOp,
+    pub bits: Annotations,
+}
+
+impl Access {
+    fn new(kind: Kind, address: u32, size: Width, operand: u32, instr: &Instr) -> Access {
+        let shift = 8 * (address % 4);
+        let bytes = match size {
+            Width::Byte => 0xff,
+            Width::Half => 0xffff,
+            Width::Word => u32::MAX,
+        };
+        Access {
+            kind,
+            word: address & !3,
+            lanes: bytes << shift,
+            shift,
+            operand,
+            op: AmoOp::Swap,
+            bits: annotations(instr),
+        }
+    }
+
+    /// The access of a plan, where it has one.
+    pub(crate) fn of(plan: &Plan, instr: &Instr) -> Option<Access> {
+        match *plan {
+            Plan::Load { addr, size } => Some(Access::new(Kind::Load, addr, size, 0, instr)),
+            Plan::Store { addr, size, value } => {
+                Some(Access::new(Kind::Store, addr, size, value, instr))
+            }
+            Plan::Lr { addr } => Some(Access::new(Kind::Reserve, addr, Width::Word, 0, instr)),
+            Plan::Sc { addr, value } => {
+                Some(Access::new(Kind::Conditional, addr, Width::Word, value, instr))
+            }
+            Plan::Amo { addr, op, operand } => {
+                let mut access = Access::new(Kind::Amo, addr, Width::Word, operand, instr);
+                access.op = op;
+                Some(access)
+            }
+            Plan::Local | Plan::Fence | Plan::Call | Plan::Stop(_) => None,
+        }
+    }
+
+    /// What it writes, in its lanes, where it reads this.
+    pub(crate) fn written(&self, read: u32) -> u32 {
+        match self.kind {
+            Kind::Load | Kind::Reserve => 0,
+            Kind::Store | Kind::Conditional => self.operand << (self.shift % 32) & self.lanes,
+            Kind::Amo => combine(self.op, read, self.operand),
+        }
+    }
+
+    /// The entry by which it retires, where it reads this in its lanes.
+    pub(crate) fn entry(&self, entry: &Retired, read: u32) -> Retired {
+        let mut entry = *entry;
+        match self.kind {
+            Kind::Load | Kind::Reserve | Kind::Amo => {
+                entry.loaded = Some((read & self.lanes) >> (self.shift % 32));
+            }
+            Kind::Conditional => entry.sc_ok = Some(true),
+            Kind::Store => {}
+        }
+        entry
+    }
+
+    pub(crate) fn acquires(&self, model: Model) -> bool {
+        self.bits.acquire || model == Model::Ztso && self.kind.reads()
+    }
+
+    pub(crate) fn releases(&self, model: Model) -> bool {
+        self.bits.release || model == Model::Ztso && self.kind.writes()
+    }
+
+    /// Whether its annotations are RCsc.
+    pub(crate) fn is_rcsc(&self, model: Model) -> bool {
+        self.bits.acquire
+            || self.bits.release
+            || model == Model::Ztso && matches!(self.kind, Kind::Amo)
+    }
+}
+
+/// The bits aq and rl, where the instruction has them.
+fn annotations(instr: &Instr) -> Annotations {
+    match *instr {
+        Instr::Lr { bits, .. } | Instr::Sc { bits, .. } | Instr::Amo { bits, .. } => bits,
+        _ => Annotations {
+            acquire: false,
+            release: false,
+        },
+    }
+}
+
+/// What a hart does next.
+#[derive(Clone, Copy)]
+pub(crate) struct Next {
+    pub instr: Instr,
+    pub plan: Plan,
+    /// Its entry, without what it reads.
+    pub entry: Retired,
+}
+
+/// What a running hart does next, or the code that it stops with.
+pub(crate) fn next_of(image: &Image, hart: &Hart) -> Result<Next, u8> {
+    if !image.has_word(hart.pc) {
+        return Err(stop::FETCH_OUTSIDE);
+    }
+    let word = image.word(hart.pc);
+    let Some(instr) = decode(word) else {
+        return Err(stop::ILLEGAL);
+    };
+    let plan = plan(&instr, hart.pc, &hart.regs, image.size());
+    if let Plan::Stop(code) = plan {
+        return Err(code);
+    }
+    let entry = Retired {
+        pc: hart.pc,
+        word,
+        loaded: None,
+        sc_ok: None,
+    };
+    Ok(Next { instr, plan, entry })
+}

@@ -1,0 +1,20 @@
+//! The outcomes that a memory model allows a program, found by placing the memory operations of its harts in a global
+//! order one after the other. An operation that is fetched and not placed yet waits in its hart's window.
+#![tactic(auto)]
+
+mod access;
+mod allowed;
+mod fetching;
+mod joining;
+mod liveness;
+mod memory;
+mod node;
+mod notes;
+mod placing;
+mod registers;
+mod searching;
+mod table;
+mod waits;
+
+pub use allowed::{Allowed, Reach, search};
+pub use waits::WIDEST;
