@@ -21,4 +21,9 @@ pub trait Files {
     fn write(&mut self, name: &str, bytes: &[u8]) -> io::Result<()>
         ensures written { OnOk result (HoldsBytes (held self.new) name.now bytes.now) }
         ensures others { (other : List ℕ) → other ≢ name.now → held self.new other ≡ held self.old other };
+
+    /// Is told, in words of one line, what a user may want to know of a file beside the fault.
+    fn remark(&mut self, _remark: String)
+        ensures stays { held self.new ≡ held self.old }
+    {}
 }

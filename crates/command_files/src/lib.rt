@@ -5,13 +5,17 @@
 mod ends;
 mod fault;
 mod files;
+mod input;
 mod machines;
 mod reading;
+mod remarked;
 mod system;
 
 pub use ends::print_ends;
 pub use fault::Fault;
 pub use files::Files;
+pub use input::{Source, WithInput};
 pub use machines::{config_of, named_config};
-pub use reading::{contents, image_in, script_in};
+pub use reading::{contents, image_in, script_in, unmade};
+pub use remarked::{Remarked, remark, remark_event};
 pub use system::SystemFiles;

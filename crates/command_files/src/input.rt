@@ -1,0 +1,67 @@
+//! Standard input as a file.
+
+use crate::files::Files;
+use std::io::{self, ErrorKind, Input, Read};
+
+/// The name under which standard input is read.
+const NAME: &str = "-";
+
+/// Files, among which the name `-` stands for the runtime's standard input. That is read once, and not
+/// written.
+#[derive(Drop)]
+pub struct WithInput<'r, R, F: Files + Drop> {
+    rt: &'r R,
+    files: F,
+    has_read_input: bool,
+}
+
+impl<'r, R, F: Files + Drop> WithInput<'r, R, F> {
+    /// These files, with the runtime's standard input.
+    pub fn new(rt: &'r R, files: F) -> WithInput<'r, R, F> {
+        WithInput {
+            rt,
+            files,
+            has_read_input: false,
+        }
+    }
+}
+
+/// A file, or standard input.
+#[derive(Drop)]
+pub enum Source<F: Drop, I: Drop> {
+    File(F),
+    Input(I),
+}
+
+impl<F: Read + Drop, I: Read + Drop> Read for Source<F, I> {
+    fn read(&mut self, buf: &mut [u8]) -> io::Result<usize> {
+        match self {
+            Source::File(file) => file.read(buf),
+            Source::Input(input) => input.read(buf),
+        }
+    }
+}
+
+impl<R: Input, F: Files + Drop> Files for WithInput<'_, R, F> {
+    type Reader = Source<F::Reader, R::Reader>;
+
+    fn open(&mut self, name: &str) -> io::Result<Source<F::Reader, R::Reader>> {
+        if name != NAME {
+            return Ok(Source::File(self.files.open(name)?));
+        }
+        if self.has_read_input {
+            let message = "standard input is read once";
+            return Err(io::Error::new(ErrorKind::InvalidInput, message));
+        }
+        self.has_read_input = true;
+        Ok(Source::Input(self.rt.reader()))
+    }
+
+    fn write(&mut self, name: &str, bytes: &[u8]) -> io::Result<()> {
+        if name == NAME {
+            let message = "standard input is not written";
+            return Err(io::Error::new(ErrorKind::InvalidInput, message));
+        }
+        self.files.write(name, bytes)
+    }
+}

@@ -1,0 +1,73 @@
+//! Files with the remark that was made on one of them.
+
+ghost use Rattle.std.specs.Prelude.{◌≡◌, ◌≢◌, ℕ, IfOk, List, OnOk};
+ghost use Rattle.command_files.specs.Held.{Gives, HoldsBytes};
+
+use crate::files::Files;
+use file_remarks::EventRemark;
+use std::alloc::Global;
+use std::fmt::Display;
+use std::io;
+use trace_text::Script;
+
+/// Files, and the last remark that was made on one of them.
+#[derive(Drop)]
+pub struct Remarked<F: Files + Drop> {
+    files: F,
+    remark: Option<String>,
+}
+
+impl<F: Files + Drop> Remarked<F> {
+    /// These files, on which no remark was made yet.
+    pub fn new(files: F) -> Remarked<F> {
+        Remarked {
+            files,
+            remark: None,
+        }
+    }
+
+    /// The last remark.
+    pub fn last(&self) -> Option<&str> {
+        match &self.remark {
+            Some(remark) => Some(remark.as_str()),
+            None => None,
+        }
+    }
+}
+
+impl<F: Files + Drop> Files for Remarked<F> {
+    type Reader = F::Reader;
+
+    ghost held = { λ r. F.held r.files };
+
+    fn open(&mut self, name: &str) -> io::Result<F::Reader> {
+        self.files.open(name)
+    }
+
+    fn write(&mut self, name: &str, bytes: &[u8]) -> io::Result<()> {
+        self.files.write(name, bytes)
+    }
+
+    fn remark(&mut self, remark: String) {
+        self.remark = Some(remark);
+    }
+}
+
+/// Remarks what is wrong with the event of this index of a script, which no machine of the script has.
+pub fn remark_event<F: Files>(alloc: Global, files: &mut F, script: &Script, index: usize)
+    ensures { F.held files.new ≡ F.held files.old }
+{
+    if let Some(event) = script.events.as_slice().get(index) {
+        let event = *event;
+        remark(alloc, files, EventRemark { event, script });
+    }
+}
+
+/// Hands a remark on, where there is memory for its text.
+pub fn remark<F: Files, D: Display + Drop>(alloc: Global, files: &mut F, remark: D)
+    ensures { F.held files.new ≡ F.held files.old }
+{
+    if let Ok(text) = format!(in alloc; "{remark}") {
+        files.remark(text);
+    }
+}
