@@ -9,7 +9,8 @@ ghost use Rattle.command_files.specs.Faults.{IsImageFault, IsReadFault, IsScript
 ghost use Rattle.command_files.specs.Faults.{IsReplayFault};
 
 use crate::composing::{CompositionError, replay_and_write};
-use command_files::{Fault, Files, image_in, print_ends, script_in};
+use coherent_machine::{ApplyError, ReplayError};
+use command_files::{Fault, Files, image_in, print_ends, remark_event, script_in};
 use command_settings::Replay;
 use std::alloc::Global;
 use std::io::Write;
@@ -33,7 +34,12 @@ pub fn replay_files<'a, F: Files, O: Write, E: Write>(
     let image = image_in(alloc, files, wanted.raw, wanted.image, script.kib)?;
     let machine = match replay_and_write(alloc, image, &script, wanted.model, out) {
         Ok(machine) => machine,
-        Err(CompositionError::Replay(error)) => return Err(Fault::replay(wanted.script, error)),
+        Err(CompositionError::Replay(error)) => {
+            if let ReplayError::Event(index, ApplyError::BadEvent) = error {
+                remark_event(alloc, files, &script, index);
+            }
+            return Err(Fault::replay(wanted.script, error));
+        }
         Err(CompositionError::Writing(error)) => return Err(Fault::writing(error)),
     };
     if let Err(error) = out.flush() {
