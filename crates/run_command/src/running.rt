@@ -16,33 +16,68 @@ ghost use Rattle.trace_text.specs.Scripts.{IsEvent, text};
 ghost use Rattle.trace_text.specs.TraceLimits.{IsTrace};
 ghost use Rattle.trace_text.specs.Traces.{text as trace_text};
 
-use command_files::{Fault, Files, image_in, named_config, print_ends};
+use command_files::{Fault, Files, image_in, named_config, print_ends, unmade};
 use command_settings::{MachineOptions, Run};
 use host_threads::{Gate, Report, RunError, run};
 use machine_model::Event;
+use progress_line::{Progress, Stage};
 use std::alloc::Global;
 use std::io::Write;
 use std::sync::Wait;
+use std::sync::atomic::{AtomicU64, Ordering};
 use std::thread::Threads;
 use trace_recorder::Trace;
 use trace_text::{Events, Script, every_trace_has_a_text, write_script, write_trace};
 
-/// Holds no hart up.
-struct Open;
+/// How many turns a worker takes before it tells how far the run is.
+const TURNS: u64 = 256;
 
-impl Gate for Open {
-    fn pass(&self, _hart: u8, _turn: u64, _lengths: &[u64]) {}
+/// Holds no hart up, and tells how far the run is.
+#[derive(Drop)]
+struct Watch<'p, P> {
+    progress: &'p P,
+    // How many events were tried, as far as it is known here.
+    events: AtomicU64,
+}
+
+impl<'p, P> Watch<'p, P> {
+    fn new(progress: &'p P) -> Watch<'p, P> {
+        Watch {
+            progress,
+            events: AtomicU64::new(0),
+        }
+    }
+}
+
+impl<P: Progress> Gate for Watch<'_, P> {
+    fn pass(&self, _hart: u8, turn: u64, lengths: &[u64]) {
+        if turn % TURNS == 0 {
+            let events = self.events.load(Ordering::SeqCst);
+            self.progress.tell(Stage::Run {
+                events,
+                retired: lengths,
+            });
+        }
+    }
+
+    fn draw(&self, _hart: u8, number: u64) {
+        if number % TURNS == 0 {
+            self.events.store(number, Ordering::SeqCst);
+        }
+    }
 }
 
 /// Judges the machine's size, reads the image, runs it, writes the journal, and then prints the trace on
-/// `out` and each hart's end on `err`. Where the journal is not written nothing is printed.
-pub fn run_files<'a, R: Threads + Wait + Sync, F: Files, O: Write, E: Write>(
+/// `out` and each hart's end on `err`. Where the journal is not written nothing is printed. While it runs,
+/// `progress` is told how far it is.
+pub fn run_files<'a, R: Threads + Wait + Sync, F: Files, O: Write, E: Write, P: Progress + Sync>(
     rt: &R,
     alloc: Global,
     files: &mut F,
     wanted: Run<'a>,
     out: &mut O,
     err: &mut E,
+    progress: &P,
 ) -> Result<(), Fault<'a>>
     ensures ran { OnOk result (IsRun (F.held files.old) (F.held files.new) wanted.entry (O.contents out.old) (O.contents out.new)) }
     ensures outside { IsOutside wanted.entry.machine → result ≡ Err Fault.Configuration }
@@ -63,10 +98,15 @@ pub fn run_files<'a, R: Threads + Wait + Sync, F: Files, O: Write, E: Write>(
         wanted.machine.memory,
     )?;
     let limit = u64::from(wanted.limit);
-    let report = match run(rt, alloc, image, config, limit, &Open) {
+    let watch = Watch::new(progress);
+    let report = match run(rt, alloc, image, config, limit, &watch) {
         Ok(report) => report,
-        Err(error) => return Err(fault_of(error)),
+        Err(error) => {
+            progress.end();
+            return Err(fault_of(error));
+        }
     };
+    progress.end();
     let Report {
         trace,
         outputs,
@@ -143,7 +183,7 @@ fn keep<'a, F: Files>(
     }
     match files.write(name, bytes.as_slice()) {
         Ok(()) => Ok(()),
-        Err(error) => Err(Fault::making(name, error)),
+        Err(error) => Err(unmade(alloc, files, name, error)),
     }
 }
 
