@@ -7,10 +7,10 @@ mod found;
 mod laws;
 mod ranks;
 mod scripts;
+mod stuck;
 
 pub use exploration::{Exploration, Stuck};
 pub use exploring::explore;
 pub use found::{Found, Script};
 pub use laws::{each_end_is_seen, ends_are_real, stuck_is_seen};
 pub use ranks::compare;
-pub use scripts::Program;
