@@ -6,8 +6,10 @@ ghost use Rattle.check_command.specs.Checking.{IsJudged, IsVerdict, IsVerdictCut
 ghost use Rattle.check_command.specs.Checking.{IsCheckFault};
 ghost use Rattle.command_files.specs.Faults.{Leaves};
 
-use command_files::{Fault, Files, contents};
+use command_files::{Fault, Files, contents, remark};
+use file_remarks::TraceRemark;
 use machine_model::Model;
+use order_remarks::{OrderRemark, RunRemark};
 use rvwmo_order::{CheckError, Verdict, check_model, completed, has_too_many};
 use std::alloc::Global;
 use std::io::{self, Write};
@@ -32,15 +34,37 @@ pub fn check_file<'a, F: Files, O: Write>(
     let bytes = contents(alloc, files, file)?;
     let (trace, length) = match read_trace(alloc, bytes.as_slice()) {
         Ok(read) => read,
-        Err(error) => return Err(Fault::text(file, error)),
+        Err(error) => {
+            let bytes = bytes.as_slice();
+            remark(alloc, files, TraceRemark { bytes, error });
+            return Err(Fault::text(file, error));
+        }
     };
     if length < bytes.len() {
         return Err(Fault::BytesAfterTrace { file });
     }
     let verdict = match judged(alloc, &trace, model) {
         Ok(verdict) => verdict,
-        Err(error) => return Err(Fault::check(file, error)),
+        Err(error) => {
+            if error == CheckError::NotARun {
+                remark(alloc, files, RunRemark(&trace));
+            }
+            return Err(Fault::check(file, error));
+        }
     };
+    if let Verdict::Fault(code, first, second) = verdict {
+        let trace = &trace;
+        remark(
+            alloc,
+            files,
+            OrderRemark {
+                trace,
+                code,
+                first,
+                second,
+            },
+        );
+    }
     match print(verdict, out) {
         Ok(()) => Ok(verdict),
         Err(error) => Err(Fault::writing(error)),

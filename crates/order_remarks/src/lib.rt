@@ -4,5 +4,5 @@
 mod order;
 mod run;
 
-pub use order::put_order_remark;
+pub use order::OrderRemark;
 pub use run::RunRemark;

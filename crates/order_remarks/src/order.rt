@@ -3,37 +3,41 @@
 use assembly::spell_assembly;
 use rv32_decode::decode;
 use rvwmo_order::{Code, Rule};
-use std::io::{self, Write};
+use std::fmt::{self, Display, Formatter};
+use std::io::{self, ErrorKind, Write};
 use text_fields::Page;
 use trace_recorder::{OpId, Trace};
 
-/// Writes, as a line, what the order of a trace breaks by this code, with the two operations that show it
-/// as HART:PLACE and as an assembler writes them.
-pub fn put_order_remark<W: Write>(
-    trace: &Trace,
-    code: Code,
-    first: OpId,
-    second: OpId,
-    err: &mut W,
-) -> io::Result<()> {
-    put_operation(trace, first, err)?;
-    match code {
-        Code::Order(rule) => {
-            write!(err, " has to be performed before ")?;
-            put_operation(trace, second, err)?;
-            writeln!(err, " (rule {}, {rule:?}): {}", code.number(), reason(rule))
-        }
-        Code::LoadValue => writeln!(
-            err,
-            " doesn't load what was stored there last (load value axiom)"
-        ),
-        Code::Atomicity => {
-            write!(err, " and ")?;
-            put_operation(trace, second, err)?;
-            writeln!(
-                err,
-                ": another hart's store to the word stands between them (atomicity axiom)"
-            )
+/// What the order of a trace breaks by a code, with the two operations that show it as HART:PLACE and as an
+/// assembler writes them.
+#[derive(Clone, Copy, Debug)]
+pub struct OrderRemark<'a> {
+    pub trace: &'a Trace,
+    pub code: Code,
+    pub first: OpId,
+    pub second: OpId,
+}
+
+impl Display for OrderRemark<'_> {
+    fn fmt<W: fmt::Write>(&self, f: &mut Formatter<W>) -> fmt::Result {
+        put_operation(self.trace, self.first, f)?;
+        match self.code {
+            Code::Order(rule) => {
+                write!(f, " has to be performed before ")?;
+                put_operation(self.trace, self.second, f)?;
+                let number = self.code.number();
+                write!(f, " (rule {number}, {rule:?}): {}", reason(rule))
+            }
+            Code::LoadValue => {
+                f.write_str(" doesn't load what was stored there last (load value axiom)")
+            }
+            Code::Atomicity => {
+                write!(f, " and ")?;
+                put_operation(self.trace, self.second, f)?;
+                f.write_str(
+                    ": another hart's store to the word stands between them (atomicity axiom)",
+                )
+            }
         }
     }
 }
@@ -62,9 +66,13 @@ fn reason(rule: Rule) -> &'static str {
     }
 }
 
-fn put_operation<W: Write>(trace: &Trace, operation: OpId, err: &mut W) -> io::Result<()> {
+fn put_operation<W: fmt::Write>(
+    trace: &Trace,
+    operation: OpId,
+    f: &mut Formatter<W>,
+) -> fmt::Result {
     let OpId { hart, place } = operation;
-    write!(err, "{hart}:{place}")?;
+    write!(f, "{hart}:{place}")?;
     let hart = usize::from(hart);
     if hart >= trace.harts() {
         return Ok(());
@@ -79,5 +87,26 @@ fn put_operation<W: Write>(trace: &Trace, operation: OpId, err: &mut W) -> io::R
     page.text(b" `");
     spell_assembly(&mut page, &instr, Some(entry.pc));
     page.text(b"`");
-    page.hand_on(err)
+    match page.hand_on(&mut Through(f)) {
+        Ok(()) => Ok(()),
+        Err(_) => Err(fmt::Error),
+    }
+}
+
+// Text on its way to a formatter.
+#[derive(Drop)]
+struct Through<'f, W>(&'f mut Formatter<W>);
+
+impl<W: fmt::Write> Write for Through<'_, W> {
+    fn write(&mut self, buf: &[u8]) -> io::Result<usize> {
+        let Ok(text) = std::str::from_utf8(buf) else {
+            return Err(io::Error::from(ErrorKind::InvalidData));
+        };
+        self.0.write_str(text)?;
+        Ok(buf.len())
+    }
+
+    fn flush(&mut self) -> io::Result<()> {
+        Ok(())
+    }
 }
