@@ -3,12 +3,12 @@ use Rattle.std.proofs.Common.{◌≡◌, ◌<◌, ◌≤◌, ◌^◌, ℕ, Err, 
 use Rattle.clap.specs.Matches.{ReadsOne}
 use Rattle.clap.specs.Values.{IsUnsignedIn}
 use Rattle.clap.specs.Words.{Row, Text, one_of}
-use Rattle.command_settings.specs.Settings.{HasNumber, IsNumber}
+use Rattle.command_settings.specs.Settings.{HasNumber, IsNumberIn}
 use Rattle.std.specs.Str.Parse.{ParsesUnsigned, digits_value, without_leading_plus}
 
 pub number_meant : (E : Type 0) (gives : List ℕ → Result ℕ E → Type 0) (id : Text) (rows : List Row) (r : Option ℕ)
     → ((t : Text) → one_of id rows ≡ Some t → ReadsOne gives t r) → ((t : Text) (p : Result ℕ E) → gives t p → ParsesUnsigned 32 10 t p)
-    → IfSome r (λ n. (low high : ℕ) → HasNumber id low high rows → IsNumber id rows n × (low ≤ n) × (n ≤ high))
+    → IfSome r (λ n. (low high : ℕ) → HasNumber id low high rows → IsNumberIn id low high rows n)
 number_meant E gives id rows None reads parses = tt
 number_meant E gives id rows (Some n) reads parses = λ low high has.
     let within : IsUnsignedIn low high has.0 = has.2 in

@@ -1,5 +1,6 @@
 -- What the program's words ask for, as the kit reads the words for the program's usage.
-use Rattle.std.specs.Prelude.{ℕ, ◌≡◌, ◌≤◌, ◌∷◌, [], Bool, true, false, List, None, Option, Some, codes, if◌then◌else◌}
+use Rattle.std.specs.Prelude.{ℕ, ◌≡◌, ◌≤◌, ◌∷◌, [], Bool, true, false, List, None, Option, Some, codes, if◌then◌else◌, option_map}
+use Rattle.std.specs.Borrow.{Bor}
 use Rattle.std.specs.Str.{bytes_eq}
 use Rattle.std.specs.Str.Parse.{IsNumeral, digits_value, without_leading_plus}
 use Rattle.clap.specs.Values.{IsUnsignedIn}
@@ -7,6 +8,7 @@ use Rattle.clap.specs.Words.{App, Row, Text, first_of, one_of, subcommand_of}
 use Rattle.command_settings.specs.Usage.{Argument, IsUsage, Subcommand, least_limit, most_limit, subcommands}
 use Rattle.command_settings.specs.declared.wanted.Check.{Check}
 use Rattle.command_settings.specs.declared.wanted.Explain.{Explain}
+use Rattle.command_settings.specs.declared.wanted.Explore.{Explore}
 use Rattle.command_settings.specs.declared.wanted.MachineOptions.{MachineOptions}
 use Rattle.command_settings.specs.declared.wanted.Replay.{Replay}
 use Rattle.command_settings.specs.declared.wanted.Run.{Run}
@@ -43,6 +45,14 @@ Spells text n = IsNumeral 10 (without_leading_plus text) × (digits_value 10 (wi
 abbrev pub IsNumber : Text → List Row → ℕ → Type 0
 IsNumber id rows n = (text : Text) × (one_of id rows ≡ Some text) × Spells text n
 
+-- the argument has this number, which is in the range
+abbrev pub IsNumberIn : Text → (low high : ℕ) → List Row → ℕ → Type 0
+IsNumberIn id low high rows n = IsNumber id rows n × (low ≤ n) × (n ≤ high)
+
+-- the argument has this text, or wasn't given
+abbrev pub IsOptional : Text → List Row → Option (Bor Text) → Type 0
+IsOptional id rows given = first_of id rows ≡ option_map (λ text. text.now) given
+
 -- the arguments of `replay` have these texts
 pub record IsReplayMeant (rows : List Row) (replay : Replay) : Type 0 where
   pub raw : IsFlag (codes "raw") rows replay.raw
@@ -74,6 +84,15 @@ pub record IsRunMeant (rows : List Row) (run : Run) : Type 0 where
   pub journal : IsText (codes "journal") rows run.journal.now
   pub image : IsText (codes "IMAGE") rows run.image.now
 
+-- the arguments of `explore` have these texts, and these numbers in their ranges
+pub record IsExploreMeant (rows : List Row) (explore : Explore) : Type 0 where
+  pub raw : IsFlag (codes "raw") rows explore.raw
+  pub machine : IsMachineMeant rows explore.machine
+  pub states : IsNumberIn (codes "states") least_limit most_limit rows explore.states
+  pub scripts : IsOptional (codes "scripts") rows explore.scripts
+  pub allow : IsOptional (codes "allow") rows explore.allow
+  pub image : IsText (codes "IMAGE") rows explore.image.now
+
 -- the arguments of `check` have these texts
 pub record IsCheckMeant (rows : List Row) (check : Check) : Type 0 where
   pub model : IsModel rows check.model
@@ -84,6 +103,7 @@ abbrev pub IsMeant : Text → List Row → Settings → Type 0
 IsMeant name rows (settings.Replay replay) = (name ≡ codes "replay") × IsReplayMeant rows replay
 IsMeant name rows (settings.Explain explain) = (name ≡ codes "explain") × IsExplainMeant rows explain
 IsMeant name rows (settings.Run run) = (name ≡ codes "run") × IsRunMeant rows run
+IsMeant name rows (settings.Explore explore) = (name ≡ codes "explore") × IsExploreMeant rows explore
 IsMeant name rows (settings.Check check) = (name ≡ codes "check") × IsCheckMeant rows check
 
 -- the settings are what the words, the first of which is the program's name, say by the usage
@@ -103,6 +123,7 @@ Has rows (Argument.flag id) = (given : Bool) × IsFlag id rows given
 Has rows Argument.model = (meant : Model) × IsModel rows meant
 Has rows (Argument.number id default low high) = HasNumber id low high rows
 Has rows (Argument.required_option id) = (text : Text) × IsText id rows text
+Has rows (Argument.optional id) = Unit {0}
 Has rows (Argument.file id) = (text : Text) × IsText id rows text
 
 abbrev pub HasAll : List Row → List Argument → Type 0

@@ -16,6 +16,8 @@ pub data Argument : Type 0 where
   number : (id default : Text) (low high : ℕ) → Argument
   -- `--ID TEXT`, which has to be given
   required_option : (id : Text) → Argument
+  -- `--ID TEXT`, or nothing
+  optional : (id : Text) → Argument
   -- a file that has to be named
   file : (id : Text) → Argument
 
@@ -47,6 +49,9 @@ number_rule id default low high = record (new_rule id) {
 abbrev pub required_rule : Text → Rule
 required_rule id = record (new_rule id) { long = Some id; value_names = 1; required = true }
 
+abbrev pub optional_rule : Text → Rule
+optional_rule id = record (new_rule id) { long = Some id; value_names = 1 }
+
 abbrev pub file_rule : Text → Rule
 file_rule id = record (new_rule id) { required = true }
 
@@ -56,6 +61,7 @@ rule_for names (flag id) = flag_rule id
 rule_for names model = model_rule names
 rule_for names (number id default low high) = number_rule id default low high
 rule_for names (required_option id) = required_rule id
+rule_for names (optional id) = optional_rule id
 rule_for names (file id) = file_rule id
 
 abbrev pub with_argument : ModelNames → App → Argument → App
@@ -70,7 +76,7 @@ with_arguments names = fold (with_argument names)
 abbrev pub most_size : ℕ
 most_size = 4294967295
 
--- the range of `--limit`
+-- the range of `--limit` and `--states`
 abbrev pub least_limit : ℕ
 least_limit = 1
 
@@ -106,6 +112,18 @@ run_arguments =
     ∷ file (codes "IMAGE")
     ∷ []
 
+-- `[--states LIMIT] [--scripts FOLDER] [--allow FILE]`
+abbrev pub search_arguments : List Argument
+search_arguments =
+    number (codes "states") (codes "4000000") least_limit most_limit
+    ∷ optional (codes "scripts")
+    ∷ optional (codes "allow")
+    ∷ []
+
+-- `[--raw]`, those of a machine and of a search, and `IMAGE`
+abbrev pub explore_arguments : List Argument
+explore_arguments = flag (codes "raw") ∷ machine_arguments ++ search_arguments ++ file (codes "IMAGE") ∷ []
+
 -- `[--model NAME] TRACE`
 abbrev pub check_arguments : List Argument
 check_arguments = model ∷ file (codes "TRACE") ∷ []
@@ -125,19 +143,22 @@ explain = record { name = codes "explain"; arguments = explain_arguments }
 abbrev pub run : Subcommand
 run = record { name = codes "run"; arguments = run_arguments }
 
+abbrev pub explore : Subcommand
+explore = record { name = codes "explore"; arguments = explore_arguments }
+
 abbrev pub check : Subcommand
 check = record { name = codes "check"; arguments = check_arguments }
 
 abbrev pub subcommands : List Subcommand
-subcommands = replay ∷ explain ∷ run ∷ check ∷ []
+subcommands = replay ∷ explain ∷ run ∷ explore ∷ check ∷ []
 
 abbrev pub app_for : ModelNames → Subcommand → App
 app_for names subcommand = with_arguments names (new_app subcommand.name) subcommand.arguments
 
--- `rvtl`, which has to be given a subcommand
+-- `rvtl`, which tells its version and has to be given a subcommand
 abbrev pub bare_usage : App
 bare_usage = record {
-  top = record (new_app (codes "rvtl")).top { subcommand_required = true };
+  top = record (new_app (codes "rvtl")).top { has_version = true; subcommand_required = true };
   subs = [];
 }
 

@@ -2,15 +2,21 @@
 
 ghost use Rattle.std.specs.Prelude.{◌≡◌, IfOk, codes, false};
 ghost use Rattle.clap.specs.Words.{app_of, rule_of};
-ghost use Rattle.command_settings.specs.Usage.{AreModelNames, IsUsage, app_for, check, explain, file_rule, flag_rule, machine_arguments, model_rule, most_size, number_rule, replay, replay_arguments, required_rule, run, with_arguments};
+ghost use Rattle.command_settings.specs.Usage.{AreModelNames, ModelNames, IsUsage, app_for, check, explain, explore, file_rule, flag_rule, machine_arguments, model_rule, most_size, number_rule, optional_rule, replay, replay_arguments, required_rule, run, search_arguments, with_arguments};
 
-use crate::help::{CHECK_HELP, EXPLAIN_HELP, PROGRAM_HELP, REPLAY_HELP, RUN_HELP};
+use crate::help::{
+    ALLOW_HELP, CHECK_HELP, EXPLAIN_HELP, EXPLORE_HELP, PROGRAM_HELP, REPLAY_HELP, RUN_HELP,
+    SCRIPTS_HELP,
+};
 use clap::builder::ValueParser;
 use clap::{Arg, ArgAction, Command};
 use std::alloc::{AllocError, Global};
 
 /// The models by their names, the first of which is meant where none is named.
 const MODELS: [&str; 2] = ["rvwmo", "ztso"];
+
+/// What `--version` tells behind the program's name.
+const VERSION: &str = "1.0.0";
 
 /// The least and the greatest number of a limit.
 const LIMIT_RANGE: (u64, u64) = (1, 1_000_000_000);
@@ -27,11 +33,13 @@ fn command_over<'a>(alloc: Global, models: &'a [&'a str]) -> Result<Command<'a>,
 {
     Command::new(alloc, "rvtl")
         .about("Runs RISC-V harts with private caches, one event at a time")
+        .version(VERSION)
         .after_help(PROGRAM_HELP)
         .subcommand_required(true)
         .subcommand(replay_command(alloc, models)?)?
         .subcommand(explain_command(alloc, models)?)?
         .subcommand(run_command(alloc, models)?)?
+        .subcommand(explore_command(alloc, models)?)?
         .subcommand(check_command(alloc, models)?)
 }
 
@@ -81,6 +89,18 @@ fn run_command<'a>(alloc: Global, models: &'a [&'a str]) -> Result<Command<'a>, 
         .arg(limit)?
         .arg(journal(alloc))?
         .arg(image)
+}
+
+fn explore_command<'a>(alloc: Global, models: &'a [&'a str]) -> Result<Command<'a>, AllocError>
+    ensures { IfOk result (λ made. app_of made ≡ app_for models.entry explore) }
+{
+    let image = file(alloc, "IMAGE", "the program that the harts run");
+    let command = Command::new(alloc, "explore")
+        .about("Finds every end that the machine can bring a program to")
+        .after_help(EXPLORE_HELP)
+        .arg(raw(alloc))?;
+    let command = with_machine(alloc, models, command)?;
+    with_search(alloc, command)?.arg(image)
 }
 
 fn check_command<'a>(alloc: Global, models: &'a [&'a str]) -> Result<Command<'a>, AllocError>
@@ -156,6 +176,23 @@ fn with_machine<'a>(
         .arg(ways)?
         .arg(line)?
         .arg(model)
+}
+
+/// How a search for a program's ends goes, and what it writes and judges.
+fn with_search<'a>(alloc: Global, command: Command<'a>) -> Result<Command<'a>, AllocError>
+    ensures { IfOk result (λ made. (names : ModelNames) → app_of made ≡ with_arguments names (app_of command.entry) search_arguments) }
+{
+    let states = number(
+        alloc,
+        "states",
+        "LIMIT",
+        "4000000",
+        LIMIT_RANGE,
+        "how many states the search may meet before it ends",
+    );
+    let scripts = optional(alloc, "scripts", "FOLDER", SCRIPTS_HELP);
+    let allow = optional(alloc, "allow", "FILE", ALLOW_HELP);
+    command.arg(states)?.arg(scripts)?.arg(allow)
 }
 
 // ---- kinds of argument
@@ -240,6 +277,13 @@ fn required_option<'a>(alloc: Global, id: &'a str, unit: &'a str, help: &'a str)
         .value_name(unit)
         .required(true)
         .help(help)
+}
+
+fn optional<'a>(alloc: Global, id: &'a str, unit: &'a str, help: &'a str) -> Arg<'a>
+    ensures rule { rule_of result ≡ optional_rule id.entry.now }
+    ensures local { result.global ≡ false }
+{
+    Arg::new(alloc, id).long(id).value_name(unit).help(help)
 }
 
 fn file<'a>(alloc: Global, id: &'a str, help: &'a str) -> Arg<'a>

@@ -5,6 +5,7 @@ pub(crate) const PROGRAM_HELP: &str =
 each instruction, each memory operation and each message between caches and memory.
 An explain takes the same, and tells below each event what it did.
 A run takes a program alone: its harts run side by side, and what happened is kept as a script.
+An explore takes a program alone, and tells every end that the machine can bring it to.
 A check takes a trace and tells whether the memory model allows its order.
 
 Example: rvtl replay --raw examples/exit.bin examples/exit.script";
@@ -71,6 +72,24 @@ hart ended (run, stop CODE or exit CODE) and what it put out go to standard erro
 journal, with the same --raw and --model, prints the same trace.
 
 Example: rvtl run --raw --journal exit.journal examples/exit.bin";
+
+pub(crate) const EXPLORE_HELP: &str =
+    "Prints an outcome a line, numbered: of each hart how it ended (stop CODE or exit CODE) and what it put
+out. The order of the lines is fixed. The last line is one of
+  complete: N outcomes, M states      no schedule of the machine brings the program to another end
+  incomplete: LIMIT states met        the outcomes are some of those that there are
+  incomplete: out of memory           so are they here, and the status is 4
+Before it, stuck: N states from which no schedule ends, where there are any.
+The machine carries loads out as they retire, so that what a missing fence between two loads allows is
+not among the outcomes.
+
+Example: rvtl explore --harts 2 examples/dekker.elf";
+
+pub(crate) const SCRIPTS_HELP: &str =
+    "the folder to write outcome-1.script .. and stuck.script into, each for replay";
+
+pub(crate) const ALLOW_HELP: &str =
+    "the file with the allowed outcomes, a line each as printed, without its number; where another is found its number is told and the status is 3";
 
 pub(crate) const CHECK_HELP: &str =
     "Prints legal, or with status 3 a fault: its code and two operations, as HART:PLACE, that show it.

@@ -7,4 +7,4 @@ mod usage;
 mod wanted;
 
 pub use usage::settings;
-pub use wanted::{Check, Explain, MachineOptions, Replay, Run, Settings, SettingsError};
+pub use wanted::{Check, Explain, Explore, MachineOptions, Replay, Run, Settings, SettingsError};

@@ -1,13 +1,15 @@
 //! How the program's words are read by its usage.
 
-ghost use Rattle.std.specs.Prelude.{ℕ, ◌≡◌, ◌≢◌, ◌<◌, ◌≤◌, ◌^◌, IfErr, IfOk, IfSome, IsNone, List, OnOk, Some, map};
+ghost use Rattle.std.specs.Prelude.{ℕ, ◌≡◌, ◌≢◌, ◌<◌, ◌^◌, IfErr, IfOk, IfSome, IsNone, List, OnOk, Some, map};
 ghost use Rattle.clap.specs.Words.{Row, Text, found_of, rows_of, subcommand_rows_of};
 ghost use Rattle.command_settings.specs.Refusals.{IsFitting, IsRefused};
-ghost use Rattle.command_settings.specs.Settings.{HasAll, HasNumber, IsCheckMeant, IsComplete, IsExplainMeant, IsMachineMeant, IsMeant, IsNamed, IsNumber, IsReplayMeant, IsRunMeant, name_of};
-ghost use Rattle.command_settings.specs.Usage.{check_arguments, explain_arguments, machine_arguments, replay_arguments, run_arguments};
+ghost use Rattle.command_settings.specs.Settings.{HasAll, HasNumber, IsCheckMeant, IsComplete, IsExplainMeant, IsExploreMeant, IsMachineMeant, IsMeant, IsNamed, IsNumberIn, IsReplayMeant, IsRunMeant, name_of};
+ghost use Rattle.command_settings.specs.Usage.{check_arguments, explain_arguments, explore_arguments, machine_arguments, replay_arguments, run_arguments};
 
 use crate::commands::command;
-use crate::wanted::{Check, Explain, MachineOptions, Replay, Run, Settings, SettingsError};
+use crate::wanted::{
+    Check, Explain, Explore, MachineOptions, Replay, Run, Settings, SettingsError,
+};
 use clap::ArgMatches;
 use clap::error::ErrorKind;
 use memory_model::Model;
@@ -28,7 +30,7 @@ pub fn settings<'a, S: AsStr>(alloc: Global, words: &'a [S]) -> Result<Settings<
         None => {
             let missing = command.error(
                 ErrorKind::MissingSubcommand,
-                "replay, explain, run or check is wanted",
+                "replay, explain, run, explore or check is wanted",
             )?;
             Err(SettingsError::Usage(missing))
         }
@@ -45,6 +47,7 @@ fn settings_of<'a>(matches: &ArgMatches<'a>) -> Option<Settings<'a>>
         ("replay", replay) => Some(Settings::Replay(replay_of(replay)?)),
         ("explain", explain) => Some(Settings::Explain(explain_of(explain)?)),
         ("run", run) => Some(Settings::Run(run_of(run)?)),
+        ("explore", explore) => Some(Settings::Explore(explore_of(explore)?)),
         ("check", check) => Some(Settings::Check(check_of(check)?)),
         _ => None,
     }
@@ -104,6 +107,21 @@ fn run_of<'a>(matches: &ArgMatches<'a>) -> Option<Run<'a>>
     })
 }
 
+fn explore_of<'a>(matches: &ArgMatches<'a>) -> Option<Explore<'a>>
+    ensures meant { IfSome result (λ explore. HasAll (rows_of (found_of matches.now)) explore_arguments
+        → IsExploreMeant (rows_of (found_of matches.now)) explore) }
+    ensures missing { IsNone result → HasAll (rows_of (found_of matches.now)) explore_arguments → ⊥ }
+{
+    Some(Explore {
+        raw: matches.get_flag("raw"),
+        machine: machine_of(matches)?,
+        states: number_of(matches, "states")?,
+        scripts: matches.get_str("scripts"),
+        allow: matches.get_str("allow"),
+        image: matches.get_str("IMAGE")?,
+    })
+}
+
 fn check_of<'a>(matches: &ArgMatches<'a>) -> Option<Check<'a>>
     ensures meant { IfSome result (λ check. HasAll (rows_of (found_of matches.now)) check_arguments
         → IsCheckMeant (rows_of (found_of matches.now)) check) }
@@ -116,7 +134,7 @@ fn check_of<'a>(matches: &ArgMatches<'a>) -> Option<Check<'a>>
 
 fn number_of(matches: &ArgMatches<'_>, id: &str) -> Option<u32>
     ensures meant { IfSome result (λ n. (low high : ℕ) → HasNumber id.now low high (rows_of (found_of matches.now))
-        → IsNumber id.now (rows_of (found_of matches.now)) n × (low ≤ n) × (n ≤ high)) }
+        → IsNumberIn id.now low high (rows_of (found_of matches.now)) n) }
     ensures missing { IsNone result → (low high : ℕ) → high < 2 ^ 32 → HasNumber id.now low high (rows_of (found_of matches.now)) → ⊥ }
 {
     matches.get_one(id)

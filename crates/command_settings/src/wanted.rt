@@ -53,6 +53,21 @@ pub struct Explain<'a> {
     pub strict: bool,
 }
 
+/// Find every end that the machine can bring the program of the file `image` to, which has bare words
+/// where `raw` is set, and else is an ELF file.
+#[derive(Clone, Copy, Debug, PartialEq, Eq)]
+pub struct Explore<'a> {
+    pub raw: bool,
+    pub machine: MachineOptions,
+    /// How many states may be met before the search ends: 1 to 1000000000.
+    pub states: u32,
+    /// The folder into which a script for each outcome is written.
+    pub scripts: Option<&'a str>,
+    /// The file with the outcomes that are allowed.
+    pub allow: Option<&'a str>,
+    pub image: &'a str,
+}
+
 /// Judge the order of the trace in the file `trace`.
 #[derive(Clone, Copy, Debug, PartialEq, Eq)]
 pub struct Check<'a> {
@@ -67,6 +82,7 @@ pub enum Settings<'a> {
     Replay(Replay<'a>),
     Run(Run<'a>),
     Explain(Explain<'a>),
+    Explore(Explore<'a>),
     Check(Check<'a>),
 }
 
