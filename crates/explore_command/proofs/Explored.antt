@@ -1,0 +1,81 @@
+-- What is known of an exploration, and what it leaves.
+use Rattle.std.proofs.Common.{◌≡◌, ◌∙◌, ℕ, Err, IfErr, IfOk, IfSome, List, None, Ok, Option, Result, Some, [], ap, inl, inr, subst, sym}
+use Rattle.std.proofs.lemmas.List.{append-nil}
+use Rattle.std.specs.Io.KnownBytes.{Appends}
+use Rattle.command_files.specs.Faults.{Name}
+use Rattle.command_files.specs.Files.{HoldsImage}
+use Rattle.command_files.specs.Held.{Held}
+use Rattle.command_files.specs.Sizes.{config_named}
+use Rattle.command_files.specs.declared.fault.Fault.{Fault}
+use Rattle.command_files.specs.declared.fault.Fault.TheVariants.{OutOfMemory}
+use Rattle.command_settings.specs.declared.wanted.Explore.{Explore}
+use Rattle.elf_loader.specs.Image.{Initial}
+use Rattle.exploration_text.specs.Text.{exploration_text}
+use Rattle.explore_command.specs.Allowing.{IsJudged}
+use Rattle.explore_command.specs.Exploring.{IsAllowFile, IsExploreFault, IsExplored, IsFoundIn, IsPartlyExplored, LeavesPart, judgement_on}
+use Rattle.explore_command.specs.Keeping.{AreKept, SparesOthers}
+use Rattle.explore_command.specs.declared.judging.Judgement.{Judgement}
+use Rattle.explorer.specs.Ends.{outcomes_of}
+use Rattle.explorer.specs.declared.exploration.Exploration.{Exploration}
+use Rattle.flat_model.specs.Shown.{Result as Ended}
+use Rattle.machine_model.specs.declared.config.Config.{Config}
+use Rattle.text_fields.specs.Writing.{Begins}
+
+pub ok_more : {T E : Type 0} (P Q : T → Type 0) (r : Result T E) → ((x : T) → P x → Q x) → IfOk r P → IfOk r Q
+ok_more P Q (Ok x) more so = more x so
+ok_more P Q (Err e) more so = tt
+
+pub err_more : {T E : Type 0} (P Q : E → Type 0) (r : Result T E) → ((e : E) → P e → Q e) → IfErr r P → IfErr r Q
+err_more P Q (Ok x) more so = tt
+err_more P Q (Err e) more so = more e so
+
+-- all of a text is a beginning of it
+pub all_of : (old new : Option (List ℕ)) (text : List ℕ) → Appends old new text → Begins old new text
+all_of old new text sent = record { front = text; rest = []; parts = sym (append-nil text); sent = sent }
+
+-- files that are all as before
+pub spared : (IsWritten : List ℕ → Type 0) (held left : Held) → left ≡ held → SparesOthers IsWritten held left
+spared IsWritten held left same name = inl (ap (λ (h : Held). h name) same)
+
+-- and those that one step spares behind others that leave all as before
+pub spared_after : (IsWritten : List ℕ → Type 0) (held mid left : Held) → mid ≡ held → SparesOthers IsWritten mid left → SparesOthers IsWritten held left
+spared_after IsWritten held mid left same spares name = elim (spares name) [
+  | inl still ↦ inl (still ∙ ap (λ (h : Held). h name) same)
+  | inr written ↦ inr written
+]
+
+-- what one file's bytes say of the outcomes, all files say
+pub judged : (held : Held) (allow : Option Name) (text : Option (List ℕ)) (outcomes : List (List Ended)) (judgement : Judgement) → IsAllowFile held allow text → judgement ≡ judgement_on text outcomes → IsJudged held allow outcomes judgement
+judged held None None outcomes judgement read is = is
+judged held None (Some text) outcomes judgement read is = absurd read
+judged held (Some file) None outcomes judgement read is = absurd read
+judged held (Some file) (Some text) outcomes judgement read is = (text, read, is)
+
+module _ (held first : Held) (wanted : Explore) (config : Config) (image : Initial) (found : Exploration) (old new : Option (List ℕ))
+    (config_is : config ≡ config_named wanted.machine) (same : first ≡ held) (file : HoldsImage first wanted.raw wanted.image.now wanted.machine.memory image) (is : IsFoundIn image config wanted.states found) where
+  image_file : HoldsImage held wanted.raw wanted.image.now wanted.machine.memory image
+  image_file = subst (λ (h : Held). HoldsImage h wanted.raw wanted.image.now wanted.machine.memory image) same file
+
+  is_found : IsFoundIn image (config_named wanted.machine) wanted.states found
+  is_found = subst (λ (c : Config). IsFoundIn image c wanted.states found) config_is is
+
+  pub part : Begins old new (exploration_text found) → IsPartlyExplored held wanted old new
+  part begun = record { image = image; exploration = found; image_file = image_file; found = is_found; begun = begun }
+
+  pub whole : (left : Held) (judgement : Judgement) → Appends old new (exploration_text found) → IfSome wanted.scripts (λ folder. AreKept left wanted.machine folder.now found)
+      → IsJudged held wanted.allow (outcomes_of found.outcomes.items) judgement → IsExplored held left wanted judgement old new
+  whole left judgement printed kept by = record {
+    image = image;
+    exploration = found;
+    image_file = image_file;
+    found = is_found;
+    printed = printed;
+    kept = kept;
+    judged = by;
+  }
+
+pub memory_left : (fault : Fault) (old new : Option (List ℕ)) (part : Type 0) → fault ≡ OutOfMemory → part → LeavesPart fault old new part
+memory_left fault old new part is so = subst (λ f. LeavesPart f old new part) (sym is) (inr so)
+
+pub memory_told : (explore : Explore) (fault : Fault) → fault ≡ OutOfMemory → IsExploreFault explore fault
+memory_told explore fault is = subst (IsExploreFault explore) (sym is) tt

@@ -1,0 +1,118 @@
+-- Which faults the parts of an exploration hand up, and what they leave on the output.
+use Rattle.std.proofs.Common.{◌≡◌, ◌∙◌, ◌⊎◌, ℕ, List, None, Option, Some, ap, inl, inr, subst, sym, refl}
+use Rattle.command_files.specs.Faults.{IsImageFault, IsReadFault, Name}
+use Rattle.command_files.specs.declared.fault.Fault.{Fault}
+use Rattle.command_files.specs.declared.fault.Fault.TheVariants.{BadEvent, BytesAfterTrace, CannotMake, CannotRead, CannotWrite, Check, Configuration, Event, Image, Mismatch, NoThread, NothingHappens, OutOfMemory, Text}
+use Rattle.command_settings.specs.declared.wanted.Explore.{Explore}
+use Rattle.explore_command.specs.Exploring.{IsExploreFault, IsFolderFault, IsNamedBy, LeavesPart}
+
+-- ---- files that are read
+
+-- the file that says what is allowed, or the image, can't be read or used
+abbrev pub IsFirst : Explore → Fault → Type 0
+IsFirst explore fault = IsNamedBy explore.allow IsReadFault fault ⊎ IsImageFault explore.image fault
+
+named_read : (explore : Explore) (allow : Option Name) (file : Name) → explore.allow ≡ allow → IsNamedBy allow IsReadFault (CannotRead file) → explore.allow ≡ Some file
+named_read explore None file is so = absurd so
+named_read explore (Some name) file is so = is ∙ ap Some (sym so)
+
+no_other : (allow : Option Name) (fault : Fault) → ((name : Name) → IsReadFault name fault → ⊥) → IsNamedBy allow IsReadFault fault → ⊥
+no_other None fault never so = so
+no_other (Some name) fault never so = never name so
+
+pub first_told : (explore : Explore) (fault : Fault) → IsFirst explore fault → IsExploreFault explore fault
+first_told explore (CannotRead file) (inl so) = inr (named_read explore explore.allow file refl so)
+first_told explore (CannotRead file) (inr so) = inl so
+first_told explore (CannotMake file) (inl so) = absurd (no_other explore.allow (CannotMake file) (λ name is. is) so)
+first_told explore (CannotMake file) (inr so) = absurd so
+first_told explore CannotWrite (inl so) = absurd (no_other explore.allow CannotWrite (λ name is. is) so)
+first_told explore CannotWrite (inr so) = absurd so
+first_told explore (Image file error) (inl so) = absurd (no_other explore.allow (Image file error) (λ name is. is) so)
+first_told explore (Image file error) (inr so) = so
+first_told explore (Text file error) (inl so) = absurd (no_other explore.allow (Text file error) (λ name is. is) so)
+first_told explore (Text file error) (inr so) = absurd so
+first_told explore (Event file line error) (inl so) = absurd (no_other explore.allow (Event file line error) (λ name is. is) so)
+first_told explore (Event file line error) (inr so) = absurd so
+first_told explore (NothingHappens file line outcome) (inl so) = absurd (no_other explore.allow (NothingHappens file line outcome) (λ name is. is) so)
+first_told explore (NothingHappens file line outcome) (inr so) = absurd so
+first_told explore (BytesAfterTrace file) (inl so) = absurd (no_other explore.allow (BytesAfterTrace file) (λ name is. is) so)
+first_told explore (BytesAfterTrace file) (inr so) = absurd so
+first_told explore (Check file error) (inl so) = absurd (no_other explore.allow (Check file error) (λ name is. is) so)
+first_told explore (Check file error) (inr so) = absurd so
+first_told explore NoThread (inl so) = absurd (no_other explore.allow NoThread (λ name is. is) so)
+first_told explore NoThread (inr so) = absurd so
+first_told explore Mismatch (inl so) = absurd (no_other explore.allow Mismatch (λ name is. is) so)
+first_told explore Mismatch (inr so) = absurd so
+first_told explore BadEvent (inl so) = absurd (no_other explore.allow BadEvent (λ name is. is) so)
+first_told explore BadEvent (inr so) = absurd so
+first_told explore Configuration (inl so) = absurd (no_other explore.allow Configuration (λ name is. is) so)
+first_told explore Configuration (inr so) = absurd so
+first_told explore OutOfMemory so = tt
+
+pub first_left : (explore : Explore) (fault : Fault) (old new : Option (List ℕ)) (part : Type 0) → IsFirst explore fault → new ≡ old → LeavesPart fault old new part
+first_left explore (CannotRead file) old new part so same = same
+first_left explore (CannotMake file) old new part (inl so) same = absurd (no_other explore.allow (CannotMake file) (λ name is. is) so)
+first_left explore (CannotMake file) old new part (inr so) same = absurd so
+first_left explore CannotWrite old new part (inl so) same = absurd (no_other explore.allow CannotWrite (λ name is. is) so)
+first_left explore CannotWrite old new part (inr so) same = absurd so
+first_left explore (Image file error) old new part so same = same
+first_left explore (Text file error) old new part so same = same
+first_left explore (Event file line error) old new part so same = same
+first_left explore (NothingHappens file line outcome) old new part so same = same
+first_left explore (BytesAfterTrace file) old new part so same = same
+first_left explore (Check file error) old new part so same = same
+first_left explore NoThread old new part so same = same
+first_left explore Mismatch old new part so same = same
+first_left explore BadEvent old new part so same = same
+first_left explore Configuration old new part so same = same
+first_left explore OutOfMemory old new part so same = inl same
+
+-- ---- the output and the folder
+
+pub output_told : (explore : Explore) (fault : Fault) → (fault ≡ CannotWrite) ⊎ (fault ≡ OutOfMemory) → IsExploreFault explore fault
+output_told explore fault is = elim is [
+  | inl at ↦ subst (IsExploreFault explore) (sym at) tt
+  | inr at ↦ subst (IsExploreFault explore) (sym at) tt
+]
+
+pub output_left : (fault : Fault) (old new : Option (List ℕ)) (part : Type 0) → (fault ≡ CannotWrite) ⊎ (fault ≡ OutOfMemory) → part → LeavesPart fault old new part
+output_left fault old new part is so = elim is [
+  | inl at ↦ subst (λ f. LeavesPart f old new part) (sym at) so
+  | inr at ↦ subst (λ f. LeavesPart f old new part) (sym at) (inr so)
+]
+
+folder_fault : (scripts : Option Name) (fault : Fault) → IsNamedBy scripts IsFolderFault fault → ((name : Name) × (scripts ≡ Some name) × (fault ≡ CannotMake name)) ⊎ (fault ≡ OutOfMemory)
+folder_fault None fault so = absurd so
+folder_fault (Some name) fault so = elim so [
+  | inl at ↦ inl (name, refl, at)
+  | inr at ↦ inr at
+]
+
+pub folder_told : (explore : Explore) (fault : Fault) → IsNamedBy explore.scripts IsFolderFault fault → IsExploreFault explore fault
+folder_told explore fault so = elim (folder_fault explore.scripts fault so) [
+  | inl at ↦ subst (IsExploreFault explore) (sym at.2) at.1
+  | inr at ↦ subst (IsExploreFault explore) (sym at) tt
+]
+
+pub folder_left : (explore : Explore) (fault : Fault) (old new : Option (List ℕ)) (part : Type 0) → IsNamedBy explore.scripts IsFolderFault fault → part → LeavesPart fault old new part
+folder_left explore fault old new part so is = elim (folder_fault explore.scripts fault so) [
+  | inl at ↦ subst (λ f. LeavesPart f old new part) (sym at.2) is
+  | inr at ↦ subst (λ f. LeavesPart f old new part) (sym at) (inr is)
+]
+
+-- whatever the fault, nothing was printed or a part
+pub some_part : (old new : Option (List ℕ)) (part : Type 0) (fault : Fault) → LeavesPart fault old new part → (new ≡ old) ⊎ part
+some_part old new part (CannotRead file) so = inl so
+some_part old new part (CannotMake file) so = inr so
+some_part old new part CannotWrite so = inr so
+some_part old new part (Image file error) so = inl so
+some_part old new part (Text file error) so = inl so
+some_part old new part (Event file line error) so = inl so
+some_part old new part (NothingHappens file line outcome) so = inl so
+some_part old new part (BytesAfterTrace file) so = inl so
+some_part old new part (Check file error) so = inl so
+some_part old new part NoThread so = inl so
+some_part old new part Mismatch so = inl so
+some_part old new part BadEvent so = inl so
+some_part old new part Configuration so = inl so
+some_part old new part OutOfMemory so = so

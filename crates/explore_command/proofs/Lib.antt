@@ -1,0 +1,4 @@
+mod Explored
+pub mod Faults
+mod Kept
+mod Lines

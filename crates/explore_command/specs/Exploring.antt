@@ -1,0 +1,96 @@
+-- What an exploration has told, written and judged, and which faults it tells.
+use Rattle.std.specs.Prelude.{◌≡◌, ◌⊎◌, ℕ, All, IfSome, List, None, Option, Some}
+use Rattle.std.specs.Io.KnownBytes.{Appends}
+use Rattle.std.specs.List.Sorted.{IsSortedByKey}
+use Rattle.command_files.specs.Faults.{Name}
+use Rattle.command_files.specs.Files.{HoldsImage}
+use Rattle.command_files.specs.Held.{Held, HoldsBytes}
+use Rattle.command_files.specs.Sizes.{IsOutside, config_named}
+use Rattle.command_files.specs.declared.fault.Fault.{Fault}
+use Rattle.command_files.specs.declared.fault.Fault.TheVariants.{CannotMake, CannotRead, CannotWrite, Configuration, Image, OutOfMemory}
+use Rattle.command_settings.specs.declared.wanted.Explore.{Explore}
+use Rattle.elf_loader.specs.Image.{Initial}
+use Rattle.exploration_text.specs.Text.{exploration_text}
+use Rattle.explore_command.specs.Allowing.{IsJudged, judgement_by}
+use Rattle.explore_command.specs.Keeping.{AreKept}
+use Rattle.explore_command.specs.declared.judging.Judgement.{Judgement}
+use Rattle.explore_command.specs.declared.judging.Judgement.TheVariants.{Allowed}
+use Rattle.explorer.specs.Ends.{IsRealIn, outcome_of, outcomes_of}
+use Rattle.explorer.specs.Outcomes.{CanAlwaysEnd, HasEachEnd}
+use Rattle.explorer.specs.Ranks.{outcome_cmp}
+use Rattle.explorer.specs.Stuck.{IsStuckIn}
+use Rattle.explorer.specs.declared.exploration.Exploration.{Exploration}
+use Rattle.flat_model.specs.Shown.{Result}
+use Rattle.machine_model.specs.declared.config.Config.{Config}
+use Rattle.state_search.specs.declared.findings.Extent.TheVariants.{Complete, LimitMet}
+use Rattle.text_fields.specs.Writing.{Begins}
+
+-- ---- what is found
+
+-- each end is one, and its script leads there; where it says complete no end is missing, and where nothing is stuck an end can always be reached; the ends stand in their order
+pub record IsFoundIn (image : Initial) (config : Config) (limit : ℕ) (found : Exploration) : Type 0 where
+  pub real : All (IsRealIn image config) found.outcomes.items
+  pub complete : found.extent ≡ Complete → HasEachEnd image config (outcomes_of found.outcomes.items)
+  pub none_stuck : found.extent ≡ Complete → found.stuck ≡ None → CanAlwaysEnd image config
+  pub stuck : IfSome found.stuck (IsStuckIn image config)
+  pub order : IsSortedByKey outcome_of outcome_cmp found.outcomes.items
+  pub full : found.extent ≡ LimitMet → found.states ≡ limit
+
+-- what was found of the image in the file was printed, its scripts are in the folder, if one was named, and it was judged by the file that says what is allowed
+pub record IsExplored (held left : Held) (wanted : Explore) (judgement : Judgement) (old new : Option (List ℕ)) : Type 0 where
+  pub image : Initial
+  pub exploration : Exploration
+  pub image_file : HoldsImage held wanted.raw wanted.image.now wanted.machine.memory image
+  pub found : IsFoundIn image (config_named wanted.machine) wanted.states exploration
+  pub printed : Appends old new (exploration_text exploration)
+  pub kept : IfSome wanted.scripts (λ folder. AreKept left wanted.machine folder.now exploration)
+  pub judged : IsJudged held wanted.allow (outcomes_of exploration.outcomes.items) judgement
+
+-- such a text was printed, all of it or a beginning
+pub record IsPartlyExplored (held : Held) (wanted : Explore) (old new : Option (List ℕ)) : Type 0 where
+  pub image : Initial
+  pub exploration : Exploration
+  pub image_file : HoldsImage held wanted.raw wanted.image.now wanted.machine.memory image
+  pub found : IsFoundIn image (config_named wanted.machine) wanted.states exploration
+  pub begun : Begins old new (exploration_text exploration)
+
+-- ---- what is allowed
+
+-- these are the bytes of the file that was named, if one was
+abbrev pub IsAllowFile : Held → Option Name → Option (List ℕ) → Type 0
+IsAllowFile held None None = Unit {0}
+IsAllowFile held None (Some text) = ⊥
+IsAllowFile held (Some file) None = ⊥
+IsAllowFile held (Some file) (Some text) = HoldsBytes held file.now text
+
+abbrev pub judgement_on : Option (List ℕ) → List (List Result) → Judgement
+judgement_on None outcomes = Allowed
+judgement_on (Some text) outcomes = judgement_by text outcomes
+
+-- ---- faults
+
+-- a name was given, and the fault is of that file
+abbrev pub IsNamedBy : Option Name → (Name → Fault → Type 0) → Fault → Type 0
+IsNamedBy None IsOf fault = ⊥
+IsNamedBy (Some file) IsOf fault = IsOf file fault
+
+-- a script can't be written into the folder, or memory ran out
+abbrev pub IsFolderFault : Name → Fault → Type 0
+IsFolderFault folder fault = (fault ≡ CannotMake folder) ⊎ (fault ≡ OutOfMemory)
+
+-- the machine's size is judged first, then what is allowed is read, then the image; what is found is printed, and then the scripts are written
+abbrev pub IsExploreFault : Explore → Fault → Type 0
+IsExploreFault explore Configuration = IsOutside explore.machine
+IsExploreFault explore (CannotRead file) = (file ≡ explore.image) ⊎ (explore.allow ≡ Some file)
+IsExploreFault explore (Image file error) = file ≡ explore.image
+IsExploreFault explore (CannotMake file) = explore.scripts ≡ Some file
+IsExploreFault explore CannotWrite = Unit {0}
+IsExploreFault explore OutOfMemory = Unit {0}
+IsExploreFault explore _ = ⊥
+
+-- what a fault leaves on standard output: a text that may have been begun, where the output or the folder takes no more; or nothing
+abbrev pub LeavesPart : Fault → Option (List ℕ) → Option (List ℕ) → Type 0 → Type 0
+LeavesPart CannotWrite old new part = part
+LeavesPart (CannotMake file) old new part = part
+LeavesPart OutOfMemory old new part = (new ≡ old) ⊎ part
+LeavesPart _ old new part = new ≡ old

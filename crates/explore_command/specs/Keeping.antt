@@ -1,0 +1,48 @@
+-- The scripts that an exploration leaves in a folder.
+use Rattle.std.specs.Prelude.{ℕ, ◌≡◌, ◌⊎◌, ◌+◌, ◌∷◌, ◌++◌, [], IfSome, List, None, Option, Some, codes, decimal}
+use Rattle.std.specs.Borrow.{Bor}
+use Rattle.command_files.specs.Files.{HoldsScript}
+use Rattle.command_files.specs.Held.{Held}
+use Rattle.command_files.specs.Sizes.{script_named}
+use Rattle.command_settings.specs.declared.wanted.MachineOptions.{MachineOptions}
+use Rattle.explorer.specs.declared.exploration.Exploration.{Exploration}
+use Rattle.explorer.specs.declared.found.Found.{Found}
+use Rattle.explorer.specs.declared.found.Script.{Script}
+use Rattle.explorer.specs.declared.found.Script.TheVariants.{Events}
+
+abbrev pub Name : Type 0
+Name = List ℕ
+
+-- FOLDER/outcome-NUMBER.script
+abbrev pub outcome_path : Name → ℕ → Name
+outcome_path folder number = folder ++ (codes "/outcome-" ++ (decimal number ++ codes ".script"))
+
+-- FOLDER/stuck.script
+abbrev pub stuck_path : Name → Name
+stuck_path folder = folder ++ codes "/stuck.script"
+
+-- the file has the script of these events, for the machine that was named
+abbrev pub IsKeptAt : Held → MachineOptions → Name → Script → Type 0
+IsKeptAt left machine path (Events events) = HoldsScript left path (script_named machine events.items)
+IsKeptAt left machine path _ = ⊥
+
+-- each outcome's script, counted from a number on
+abbrev pub AreKeptFrom : Held → MachineOptions → Name → ℕ → List Found → Type 0
+AreKeptFrom left machine folder number [] = Unit {0}
+AreKeptFrom left machine folder number (found ∷ rest) = IsKeptAt left machine (outcome_path folder number) found.script × AreKeptFrom left machine folder (number + 1) rest
+
+-- each outcome's script, and one that gets stuck, if any does
+abbrev pub AreKept : Held → MachineOptions → Name → Exploration → Type 0
+AreKept left machine folder e = AreKeptFrom left machine folder 1 e.outcomes.items × IfSome e.stuck (λ stuck. IsKeptAt left machine (stuck_path folder) stuck.script)
+
+-- the file is one of those scripts
+abbrev pub IsScriptIn : Name → Name → Type 0
+IsScriptIn folder name = ((number : ℕ) × (name ≡ outcome_path folder number)) ⊎ (name ≡ stuck_path folder)
+
+abbrev pub IsScriptFile : Option (Bor Name) → Name → Type 0
+IsScriptFile None name = ⊥
+IsScriptFile (Some folder) name = IsScriptIn folder.now name
+
+-- no other file is another than before
+abbrev pub SparesOthers : (Name → Type 0) → Held → Held → Type 0
+SparesOthers IsWritten held left = (other : Name) → (left other ≡ held other) ⊎ IsWritten other

@@ -1,0 +1,3 @@
+pub mod Allowing
+pub mod Exploring
+pub mod Keeping

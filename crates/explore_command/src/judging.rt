@@ -1,0 +1,51 @@
+//! Whether the outcomes that were found are those that a file allows.
+
+ghost use Rattle.std.specs.Prelude.{◌≡◌, IfOk};
+ghost use Rattle.explore_command.specs.Allowing.{are_allowed, has_line, line_of};
+ghost use Rattle.explorer.specs.Ends.{outcome_of, outcomes_of};
+
+use crate::allowing::{Allowed, without_number};
+use exploration_text::harts_text;
+use explorer::Found;
+use std::alloc::{AllocError, Global};
+use std::io::Write;
+
+/// Whether each outcome is one that is allowed.
+#[derive(Clone, Copy, Debug, PartialEq, Eq)]
+pub enum Judgement {
+    /// Each is, or no file says which ones are.
+    Allowed,
+    NotAllowed,
+}
+
+/// Whether the text has a line for each outcome. Of those for which it has none the numbers are told.
+pub(crate) fn are_allowed<E: Write>(
+    alloc: Global,
+    text: &[u8],
+    outcomes: &[Found],
+    err: &mut E,
+) -> Result<bool, AllocError>
+    ensures { IfOk result (λ all. all ≡ are_allowed text.now (outcomes_of outcomes.now)) }
+{
+    let allowed = Allowed::new(alloc, text)?;
+    let mut rest = outcomes;
+    let mut number: usize = 1;
+    let mut all = true;
+    while let [first, tail @ ..] = rest {
+        if !is_allowed(alloc, &allowed, first)? {
+            // Standard error has no other place to tell that it takes no more.
+            let _ = writeln!(err, "outcome {number} is not allowed");
+            all = false;
+        }
+        rest = tail;
+        number += 1;
+    }
+    Ok(all)
+}
+
+fn is_allowed(alloc: Global, allowed: &Allowed<'_>, found: &Found) -> Result<bool, AllocError>
+    ensures { IfOk result (λ is. is ≡ has_line allowed.now.lines.keys (line_of (outcome_of found.now))) }
+{
+    let line = harts_text(alloc, &found.harts)?;
+    Ok(allowed.has(without_number(&line)))
+}

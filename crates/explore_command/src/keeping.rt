@@ -1,0 +1,165 @@
+//! The scripts of what was found, as files of a folder.
+
+ghost use Rattle.std.specs.Prelude.{◌≡◌, ◌≢◌, IfErr, IfOk, List, OnOk, true, ℕ};
+ghost use Rattle.std.specs.List.{AllByRecursion};
+ghost use Rattle.std.specs.String.{string_bytes};
+ghost use Rattle.command_files.specs.Files.{HoldsScript};
+ghost use Rattle.command_files.specs.Held.{HoldsBytes};
+ghost use Rattle.command_files.specs.Sizes.{config_named, script_named};
+ghost use Rattle.elf_loader.specs.Size.{IsMemoryKib};
+ghost use Rattle.explore_command.specs.Exploring.{IsFolderFault};
+ghost use Rattle.explore_command.specs.Keeping.{AreKept, AreKeptFrom, IsKeptAt, IsScriptIn, SparesOthers, outcome_path, stuck_path};
+ghost use Rattle.machine_model.specs.Config.{is_within_limits};
+ghost use Rattle.trace_text.specs.Scripts.{IsEvent, text};
+
+use command_files::{Fault, Files};
+use command_settings::MachineOptions;
+use explorer::{Exploration, Found, Script as Way};
+use machine_model::Event;
+use std::alloc::{AllocError, Global};
+use trace_text::{Events, Script, write_script};
+
+/// Where scripts are written, and for which machine they are.
+#[derive(Clone, Copy)]
+pub(crate) struct Folder<'a> {
+    pub(crate) alloc: Global,
+    pub(crate) name: &'a str,
+    pub(crate) machine: MachineOptions,
+}
+
+impl<'a> Folder<'a> {
+    /// Writes a script for each outcome, and one that gets stuck. One that has none can't be written.
+    pub(crate) fn keep<F: Files>(&self, files: &mut F, found: &Exploration) -> Result<(), Fault<'a>>
+        requires within { is_within_limits (config_named self.now.machine) ≡ true }
+        requires memory { IsMemoryKib self.now.machine.memory }
+        ensures kept { OnOk result (AreKept (F.held files.new) self.now.machine self.now.name.now found.now) }
+        ensures told { IfErr result (IsFolderFault self.now.name) }
+        ensures spared { SparesOthers (IsScriptIn self.now.name.now) (F.held files.old) (F.held files.new) }
+    {
+        self.keep_outcomes(files, &found.outcomes)?;
+        let Some(stuck) = &found.stuck else {
+            return Ok(());
+        };
+        let Ok(path) = self.stuck_path() else {
+            return Err(Fault::OutOfMemory);
+        };
+        self.keep_at(files, &path, &stuck.script)
+    }
+
+    /// The last one first.
+    fn keep_outcomes<F: Files>(&self, files: &mut F, outcomes: &[Found]) -> Result<(), Fault<'a>>
+        requires within { is_within_limits (config_named self.now.machine) ≡ true }
+        requires memory { IsMemoryKib self.now.machine.memory }
+        ensures kept { OnOk result (AreKeptFrom (F.held files.new) self.now.machine self.now.name.now 1 outcomes.now) }
+        ensures told { IfErr result (IsFolderFault self.now.name) }
+        ensures spared { SparesOthers (IsScriptIn self.now.name.now) (F.held files.old) (F.held files.new) }
+    {
+        let mut rest = outcomes;
+        while let [front @ .., last] = rest {
+            let Ok(path) = self.outcome_path(rest.len()) else {
+                return Err(Fault::OutOfMemory);
+            };
+            self.keep_at(files, &path, &last.script)?;
+            rest = front;
+        }
+        Ok(())
+    }
+
+    fn outcome_path(&self, number: usize) -> Result<String, AllocError>
+        ensures { IfOk result (λ path. string_bytes path ≡ outcome_path self.now.name.now number) }
+    {
+        let name = self.name;
+        format!(in self.alloc; "{name}/outcome-{number}.script")
+    }
+
+    fn stuck_path(&self) -> Result<String, AllocError>
+        ensures { IfOk result (λ path. string_bytes path ≡ stuck_path self.now.name.now) }
+    {
+        let name = self.name;
+        format!(in self.alloc; "{name}/stuck.script")
+    }
+
+    /// Writes the file of this path, if there are events to write.
+    fn keep_at<F: Files>(&self, files: &mut F, path: &str, way: &Way) -> Result<(), Fault<'a>>
+        requires within { is_within_limits (config_named self.now.machine) ≡ true }
+        requires memory { IsMemoryKib self.now.machine.memory }
+        ensures kept { OnOk result (IsKeptAt (F.held files.new) self.now.machine path.now way.now) }
+        ensures told { IfErr result (IsFolderFault self.now.name) }
+        ensures others { (other : List ℕ) → other ≢ path.now → F.held files.new other ≡ F.held files.old other }
+    {
+        match way {
+            Way::Events(events) => self.write(files, path, events),
+            Way::NoMemory => Err(Fault::OutOfMemory),
+            Way::Limit | Way::Unrealised => Err(Fault::CannotMake { file: self.name }),
+        }
+    }
+
+    fn write<F: Files>(&self, files: &mut F, path: &str, events: &[Event]) -> Result<(), Fault<'a>>
+        requires within { is_within_limits (config_named self.now.machine) ≡ true }
+        requires memory { IsMemoryKib self.now.machine.memory }
+        ensures kept { OnOk result (HoldsScript (F.held files.new) path.now (script_named self.now.machine events.now)) }
+        ensures told { IfErr result (IsFolderFault self.now.name) }
+        ensures others { (other : List ℕ) → other ≢ path.now → F.held files.new other ≡ F.held files.old other }
+    {
+        let Ok(copy) = copied(self.alloc, events) else {
+            return Err(Fault::OutOfMemory);
+        };
+        let script = script_of(self.machine, copy);
+        self.put(files, path, &script)
+    }
+
+    fn put<F: Files>(&self, files: &mut F, path: &str, script: &Script) -> Result<(), Fault<'a>>
+        ensures kept { OnOk result (HoldsBytes (F.held files.new) path.now (text script.now)) }
+        ensures told { IfErr result (IsFolderFault self.now.name) }
+        ensures others { (other : List ℕ) → other ≢ path.now → F.held files.new other ≡ F.held files.old other }
+    {
+        let mut bytes = Vec::new(self.alloc);
+        // Only memory can be wanting.
+        if let Err(error) = write_script(script, &mut bytes) {
+            return Err(Fault::making(self.name, error));
+        }
+        match files.write(path, bytes.as_slice()) {
+            Ok(()) => Ok(()),
+            Err(error) => Err(Fault::making(self.name, error)),
+        }
+    }
+}
+
+fn copied(alloc: Global, events: &[Event]) -> Result<Vec<Event>, AllocError>
+    ensures { IfOk result (λ copy. copy.items ≡ events.now) }
+{
+    let mut copy = Vec::new(alloc);
+    copy.extend_from_slice(events)?;
+    Ok(copy)
+}
+
+/// The script of these events, for this machine.
+fn script_of(machine: MachineOptions, events: Vec<Event>) -> Script
+    ensures script { result ≡ script_named machine events.items }
+    ensures events { AllByRecursion IsEvent result.events }
+{
+    all_spelt(events.as_slice());
+    Script {
+        harts: machine.harts,
+        kib: machine.memory,
+        sets: machine.sets,
+        ways: machine.ways,
+        line: machine.line,
+        events: Events::new(events),
+    }
+}
+
+/// Each event's numbers have a spelling.
+fn all_spelt(events: &[Event])
+    ensures { AllByRecursion IsEvent events.now }
+{
+    let mut rest = events;
+    while let [event, tail @ ..] = rest {
+        spelt(*event);
+        rest = tail;
+    }
+}
+
+fn spelt(_event: Event)
+    ensures { IsEvent _event }
+{}
