@@ -10,6 +10,8 @@ use command_files::{Fault, Files};
 use command_settings::{Settings, SettingsError, settings};
 use event_stream::Strictness;
 use explain_command::explain_files;
+use explore_command::{Judgement, explore_files};
+use progress_line::Progress;
 use replay_command::replay_files;
 use run_command::run_files;
 use rvwmo_order::Verdict;
@@ -19,24 +21,25 @@ use std::io::Write;
 use std::sync::Wait;
 use std::thread::Threads;
 
-/// The status where the order is not legal.
+/// The status where the order is not legal, or an outcome not allowed.
 const NOT_LEGAL: u8 = 3;
 
 /// Does what the words ask for, the first of which is the program's name, and answers the exit status:
 /// 0 done or legal, 1 for files, streams, threads and what files hold, 2 for words that don't fit the usage
-/// and for a machine that can't be, 3 for an order that is not legal, 4 out of memory. A message that
-/// standard error does not take is lost. It may wait for threads.
-pub fn run_line<R: Threads + Wait + Sync, S: AsStr, F: Files, O: Write, E: Write>(
-    rt: &R,
-    alloc: Global,
-    words: &[S],
-    files: &mut F,
-    out: &mut O,
-    err: &mut E,
-) -> u8
+/// and for a machine that can't be, 3 for an order that is not legal or an outcome that is not allowed,
+/// 4 out of memory. A message that standard error does not take is lost. A command that takes long tells
+/// `progress` how far it is. It may wait for threads.
+pub fn run_line<
+    R: Threads + Wait + Sync,
+    S: AsStr,
+    F: Files,
+    O: Write,
+    E: Write,
+    P: Progress + Sync,
+>(rt: &R, alloc: Global, words: &[S], files: &mut F, out: &mut O, err: &mut E, progress: &P) -> u8
     ensures status { result ≤ 4 }
     ensures carried_out { result ≡ 0 → IsCarriedOut (map S.text words.now) (F.held files.old) (F.held files.new) (O.contents out.old) (O.contents out.new) }
-    ensures not_legal { result ≡ 3 → IsNotLegal (map S.text words.now) (F.held files.old) (O.contents out.old) (O.contents out.new) }
+    ensures not_legal { result ≡ 3 → IsNotLegal (map S.text words.now) (F.held files.old) (F.held files.new) (O.contents out.old) (O.contents out.new) }
     ensures unprinted { 0 < result → result ≢ 3 → IsUnprinted (map S.text words.now) (F.held files.old) (F.held files.new) (O.contents out.old) (O.contents out.new) }
     ensures misused { result ≡ 2 → (IsUnfit (map S.text words.now) ⊎ HasNamed (map S.text words.now) IsBeyond) × (O.contents out.new ≡ O.contents out.old) }
     ensures spared { Spares (map S.text words.now) (F.held files.old) (F.held files.new) }
@@ -53,8 +56,15 @@ pub fn run_line<R: Threads + Wait + Sync, S: AsStr, F: Files, O: Write, E: Write
                 Err(fault) => fault,
             }
         }
-        Ok(Settings::Run(wanted)) => match run_files(rt, alloc, files, wanted, out, err) {
-            Ok(()) => return 0,
+        Ok(Settings::Run(wanted)) => {
+            match run_files(rt, alloc, files, wanted, out, err, progress) {
+                Ok(()) => return 0,
+                Err(fault) => fault,
+            }
+        }
+        Ok(Settings::Explore(wanted)) => match explore_files(alloc, files, wanted, out, err) {
+            Ok(Judgement::Allowed) => return 0,
+            Ok(Judgement::NotAllowed) => return NOT_LEGAL,
             Err(fault) => fault,
         },
         Ok(Settings::Check(wanted)) => {

@@ -1,6 +1,7 @@
 //! The program's texts and statuses, over files and streams in memory.
 
 mod explaining;
+mod exploring;
 mod judging;
 mod memory;
 mod orders;

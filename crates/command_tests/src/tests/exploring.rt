@@ -1,0 +1,242 @@
+//! What `rvtl explore` prints, writes and answers.
+
+use super::memory::{File, MemoryFiles, Narrow};
+use super::{Ran, image_of, line, line_over, replay, texts};
+use command_line::run_line;
+use progress_line::Silent;
+use std::sync::Wait;
+use std::test::Fail;
+use std::thread::Threads;
+
+/// Each hart stores 1 to its own word, loads the other's and puts it out: `examples/store_buffering.s`.
+const STORE_BUFFERING: [u32; 16] = [
+    0x8000_02b7,
+    0x1002_8293,
+    0x8000_0337,
+    0x1403_0313,
+    0x0005_0863,
+    0x0002_8393,
+    0x0003_0293,
+    0x0003_8313,
+    0x0010_0e13,
+    0x01c2_a023,
+    0x0003_2503,
+    0x0010_0893,
+    0x0000_0073,
+    0x0000_0513,
+    0x0000_0893,
+    0x0000_0073,
+];
+
+/// Both loads may come before both stores, so that each pair of numbers can be.
+const OUTCOMES: &str = "1  hart 0: exit 0 output 0   hart 1: exit 0 output 0
+2  hart 0: exit 0 output 0   hart 1: exit 0 output 1
+3  hart 0: exit 0 output 1   hart 1: exit 0 output 0
+4  hart 0: exit 0 output 1   hart 1: exit 0 output 1
+complete: 4 outcomes, ";
+
+/// Under a fence, or where each load waits for the stores before it, not both numbers are 0.
+const ALLOWED: &str = "2  hart 0: exit 0 output 0   hart 1: exit 0 output 1
+hart 0: exit 0 output 1   hart 1: exit 0 output 0
+   hart 0: exit 0 output 1   hart 1: exit 0 output 1\r
+";
+
+/// `rvtl explore --raw --harts 2 WORDS image` of the store buffering, and the script that was written last.
+fn explore<R: Threads + Wait + Sync + AllocGlobal>(
+    rt: &R,
+    words: &[&str],
+    allowed: &[u8],
+) -> Result<(Ran, Vec<u8>), Fail> {
+    let image = image_of(rt.alloc(), &STORE_BUFFERING)?;
+    let files = [
+        File::whole("image", &image),
+        File::whole("allowed", allowed),
+    ];
+    let mut files = MemoryFiles::new(rt.alloc(), &files);
+    let mut all = Vec::new(rt.alloc());
+    all.extend_from_slice(&["rvtl", "explore", "--raw", "--harts", "2"])?;
+    all.extend_from_slice(words)?;
+    all.push("image")?;
+    let ran = line_over(rt, &all, &mut files);
+    Ok((ran, files.written))
+}
+
+/// All of its steps are its own alone, so that they are one state.
+#[test]
+fn an_exit_is_one_state(rt: HostRuntime) -> Result<(), Fail> {
+    let image = image_of(rt.alloc(), &texts::EXIT)?;
+    let files = [File::whole("image", &image)];
+    let ran = line(&rt, &["rvtl", "explore", "--raw", "image"], &files);
+    assert_eq!(rt;
+        ran.out.as_slice(),
+        b"1  hart 0: exit 5\ncomplete: 1 outcomes, 1 states\n".as_slice()
+    );
+    assert_eq!(rt; ran.status, 0);
+    assert!(rt; ran.err.is_empty());
+    Ok(())
+}
+
+#[test]
+fn each_outcome_has_its_line(rt: HostRuntime) -> Result<(), Fail> {
+    let (ran, written) = explore(&rt, &[], b"")?;
+    assert!(rt; ran.out.starts_with(OUTCOMES.as_bytes()));
+    assert_eq!(rt; ran.status, 0);
+    assert!(rt; ran.err.is_empty());
+    assert!(rt; written.is_empty());
+    Ok(())
+}
+
+/// The last script to be written is that of the first outcome, and leads there.
+#[test]
+fn a_script_leads_to_its_outcome(rt: HostRuntime) -> Result<(), Fail> {
+    let (ran, written) = explore(&rt, &["--scripts", "folder"], b"")?;
+    assert!(rt; ran.out.starts_with(OUTCOMES.as_bytes()));
+    assert_eq!(rt; ran.status, 0);
+    let image = image_of(rt.alloc(), &STORE_BUFFERING)?;
+    let again = replay(&rt, &image, &written);
+    assert_eq!(rt;
+        again.err.as_slice(),
+        b"hart 0: exit 0 output 0\nhart 1: exit 0 output 0\n".as_slice()
+    );
+    assert_eq!(rt; again.status, 0);
+    Ok(())
+}
+
+#[test]
+fn a_full_folder_is_told(rt: HostRuntime) -> Result<(), Fail> {
+    let image = image_of(rt.alloc(), &STORE_BUFFERING)?;
+    let files = [File::whole("image", &image)];
+    let mut files = MemoryFiles::new(rt.alloc(), &files);
+    files.is_full = true;
+    let words = [
+        "rvtl",
+        "explore",
+        "--raw",
+        "--harts",
+        "2",
+        "--scripts",
+        "folder",
+        "image",
+    ];
+    let ran = line_over(&rt, &words, &mut files);
+    assert!(rt; ran.out.starts_with(OUTCOMES.as_bytes()));
+    assert_eq!(rt;
+        ran.err.as_slice(),
+        b"rvtl: folder: cannot write\n".as_slice()
+    );
+    assert_eq!(rt; ran.status, 1);
+    Ok(())
+}
+
+#[test]
+fn an_outcome_that_is_not_allowed(rt: HostRuntime) -> Result<(), Fail> {
+    let (ran, _) = explore(&rt, &["--allow", "allowed"], ALLOWED.as_bytes())?;
+    assert!(rt; ran.out.starts_with(OUTCOMES.as_bytes()));
+    assert_eq!(rt;
+        ran.err.as_slice(),
+        b"outcome 1 is not allowed\n".as_slice()
+    );
+    assert_eq!(rt; ran.status, 3);
+    Ok(())
+}
+
+/// What an exploration prints allows all that it found.
+#[test]
+fn what_was_printed_is_allowed(rt: HostRuntime) -> Result<(), Fail> {
+    let (ran, _) = explore(&rt, &["--allow", "allowed"], OUTCOMES.as_bytes())?;
+    assert_eq!(rt; ran.status, 0);
+    assert!(rt; ran.err.is_empty());
+    Ok(())
+}
+
+#[test]
+fn a_limit_ends_the_search(rt: HostRuntime) -> Result<(), Fail> {
+    let (ran, _) = explore(&rt, &["--states", "1"], b"")?;
+    assert_eq!(rt;
+        ran.out.as_slice(),
+        b"incomplete: 1 states met\n".as_slice()
+    );
+    assert_eq!(rt; ran.status, 0);
+    Ok(())
+}
+
+#[test]
+fn faults_of_an_exploration(rt: HostRuntime) -> Result<(), Fail> {
+    let image = image_of(rt.alloc(), &texts::EXIT)?;
+    let files = [File::whole("image", &image)];
+    for (words, message, status) in [
+        (
+            ["rvtl", "explore", "--raw", "gone"].as_slice(),
+            "rvtl: gone: cannot read\n",
+            1,
+        ),
+        (
+            &["rvtl", "explore", "--raw", "--allow", "gone", "image"],
+            "rvtl: gone: cannot read\n",
+            1,
+        ),
+        (
+            &["rvtl", "explore", "image"],
+            "rvtl: image: image fault 1 Short\n",
+            1,
+        ),
+        (
+            &["rvtl", "explore", "--raw", "--harts", "9", "image"],
+            "rvtl: bad configuration\n",
+            2,
+        ),
+    ] {
+        let ran = line(&rt, words, &files);
+        assert_eq!(rt; ran.err.as_slice(), message.as_bytes(), "{message}");
+        assert_eq!(rt; ran.status, status, "{message}");
+        assert!(rt; ran.out.is_empty(), "{message}");
+    }
+    Ok(())
+}
+
+/// A number that isn't in its range.
+#[test]
+fn usage_of_an_exploration(rt: HostRuntime) {
+    for (option, number) in [("--states", "0"), ("--states", "1000000001")] {
+        let ran = line(&rt, &["rvtl", "explore", option, number, "image"], &[]);
+        assert_eq!(rt; ran.status, 2, "{option} {number}");
+        assert!(rt; ran.out.is_empty(), "{option} {number}");
+    }
+}
+
+#[test]
+fn an_output_that_breaks(rt: HostRuntime) -> Result<(), Fail> {
+    let image = image_of(rt.alloc(), &texts::EXIT)?;
+    let text = b"1  hart 0: exit 5\ncomplete: 1 outcomes, 1 states\n";
+    let files = [File::whole("image", &image)];
+    for room in 0..text.len() {
+        let mut out = Narrow {
+            taken: Vec::new(rt.alloc()),
+            room,
+        };
+        let mut err = Vec::new(rt.alloc());
+        let status = run_line(
+            &rt,
+            rt.alloc(),
+            &["rvtl", "explore", "--raw", "image"],
+            &mut MemoryFiles::new(rt.alloc(), &files),
+            &mut out,
+            &mut err,
+            &Silent,
+        );
+        assert_eq!(rt; status, 1);
+        assert_eq!(rt; err.as_slice(), b"rvtl: cannot write\n".as_slice());
+        assert!(rt; text.starts_with(out.taken.as_slice()));
+        assert_eq!(rt; out.taken.len(), room);
+    }
+    Ok(())
+}
+
+/// The program's name and a version.
+#[test]
+fn the_version_is_told(rt: HostRuntime) {
+    let ran = line(&rt, &["rvtl", "--version"], &[]);
+    assert!(rt; ran.out.starts_with(b"rvtl "));
+    assert!(rt; ran.err.is_empty());
+    assert_eq!(rt; ran.status, 0);
+}
