@@ -3,6 +3,7 @@
 mod explaining;
 mod exploring;
 mod judging;
+mod manners;
 mod memory;
 mod orders;
 mod running;
@@ -10,6 +11,7 @@ mod texts;
 
 use command_line::run_line;
 use memory::{File, MemoryFiles, Narrow, Stuck};
+use progress_line::Silent;
 use std::alloc::Global;
 use std::process::Abort;
 use std::sync::Wait;
@@ -42,7 +44,7 @@ fn line_over<R: Threads + Wait + Sync + AllocGlobal>(
     let alloc = rt.alloc();
     let mut out = Vec::new(alloc);
     let mut err = Vec::new(alloc);
-    let status = run_line(rt, alloc, words, files, &mut out, &mut err);
+    let status = run_line(rt, alloc, words, files, &mut out, &mut err, &Silent);
     Ran { status, out, err }
 }
 
@@ -285,6 +287,7 @@ fn streams_that_break(rt: HostRuntime) -> Result<(), Fail> {
             &mut MemoryFiles::new(rt.alloc(), &files),
             &mut out,
             &mut err,
+            &Silent,
         );
         assert_eq!(rt; status, 1);
         assert_eq!(rt; err.as_slice(), b"rvtl: cannot write\n".as_slice());
@@ -321,6 +324,7 @@ fn streams_that_lose_the_end(rt: HostRuntime) -> Result<(), Fail> {
             &mut MemoryFiles::new(rt.alloc(), &files),
             &mut out,
             &mut err,
+            &Silent,
         );
         assert_eq!(rt; status, 1, "{words:?}");
         assert_eq!(rt;

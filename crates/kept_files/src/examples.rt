@@ -3,6 +3,7 @@
 
 use command_files::SystemFiles;
 use command_line::run_line;
+use progress_line::Silent;
 use std::io::{self, Write};
 use std::rt::Files;
 use std::sync::Wait;
@@ -53,6 +54,7 @@ fn play<R: Files + Threads + Wait + Sync + AllocGlobal, W: Write>(
         &mut SystemFiles::new(rt),
         &mut trace,
         &mut ends,
+        &Silent,
     );
     writeln!(out, "{name}")?;
     out.write_all(last_lines(trace.as_slice()))?;

@@ -15,6 +15,7 @@ use command_line::run_line;
 use flat_lockstep::{Counts, Failures};
 use machine_model::Model;
 use plain_machine::{PlainMachine, Variant};
+use progress_line::Silent;
 use std::alloc::Global;
 use std::io::Write;
 use std::rt::Files;
@@ -165,6 +166,7 @@ fn line_difference<R: Files + Threads + Wait + Sync + AllocGlobal>(
         &mut SystemFiles::new(rt),
         &mut out,
         &mut err,
+        &Silent,
     );
     if status != 0 {
         return Ok(Some("status differs"));

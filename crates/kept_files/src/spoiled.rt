@@ -6,6 +6,7 @@ use crate::memory::{File, MemoryFiles};
 use crate::spoiling::{Stream, cut, reset};
 use anyhow::{Result, ensure};
 use command_line::run_line;
+use progress_line::Silent;
 use std::fs;
 use std::rt::Files;
 use std::sync::Wait;
@@ -104,7 +105,7 @@ fn ends_well<R: Threads + Wait + Sync + AllocGlobal>(
     let mut files = MemoryFiles { files: &spoiled };
     let mut out = Vec::new(alloc);
     let mut err = Vec::new(alloc);
-    let status = run_line(rt, alloc, words, &mut files, &mut out, &mut err);
+    let status = run_line(rt, alloc, words, &mut files, &mut out, &mut err, &Silent);
     match status {
         0 => ensure!(!out.is_empty(), "a success printed nothing"),
         3 => ensure!(out.starts_with(b"fault "), "no fault was printed"),

@@ -3,6 +3,7 @@
 
 use command_files::SystemFiles;
 use command_line::run_line;
+use progress_line::Silent;
 use std::io::{self, Write};
 use std::rt::Files;
 use std::sync::Wait;
@@ -90,7 +91,7 @@ fn print_verdict<R: Files + Threads + Wait + Sync + AllocGlobal, W: Write>(
     let mut said = Vec::new(alloc);
     let mut err = Vec::new(alloc);
     let mut files = SystemFiles::new(rt);
-    let status = run_line(rt, alloc, &words, &mut files, &mut said, &mut err);
+    let status = run_line(rt, alloc, &words, &mut files, &mut said, &mut err, &Silent);
     write!(out, "{name}: status {status}: ")?;
     out.write_all(said.as_slice())?;
     out.write_all(err.as_slice())

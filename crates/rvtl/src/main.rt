@@ -1,45 +1,84 @@
 //! The program `rvtl`: the command line over the system's files and streams.
 #![tactic(auto)]
 
-ghost use Rattle.std.specs.Prelude.{◌≡◌, MatchResult};
+ghost use Rattle.std.specs.Prelude.{◌≡◌, ◌≢◌, IfErr, IfOk};
+ghost use Rattle.std.specs.IoError.{error_kind};
 ghost use Rattle.std.specs.Process.{exit_status};
 
-use command_files::SystemFiles;
+mod streams;
+
+use crate::streams::{Messages, Output};
+use command_files::{Remarked, SystemFiles, WithInput};
 use command_line::run_line;
+use file_remarks::FileRemark;
+use progress_line::ProgressLine;
+use std::cell::Cell;
 use std::env;
-use std::io::{self, BufWriter, Write};
+use std::io::{self, BufWriter, ErrorKind, Input, IsTerminal, Write};
 use std::process::ExitCode;
 use std::rt::{Env, Files};
 use std::sync::Wait;
 use std::thread::Threads;
+use std::time::Clock;
 
 fn main(rt: HostRuntime) -> ExitCode {
-    let ended = run(&rt, rt.stdout(), &mut rt.stderr());
-    if ended.is_err() {
-        let _ = eprintln!(rt; "rvtl: out of memory");
+    let ended = run(&rt, rt.stdout(), rt.stderr());
+    if let Err(error) = &ended {
+        let message = match error.kind() {
+            ErrorKind::OutOfMemory => "out of memory",
+            _ => "a word of the command line is not UTF-8",
+        };
+        let _ = eprintln!(rt; "rvtl: {message}");
     }
     code_of(ended)
 }
 
-/// The process's status is the program's. Only memory can be wanting here: the words and the buffer of
-/// standard output take some.
+/// The process's status is the program's. Beside memory only words may be wanting here, those that are not
+/// UTF-8.
 fn code_of(ended: io::Result<u8>) -> ExitCode
-    ensures { MatchResult ended (λ status. exit_status result ≡ status) (λ error. exit_status result ≡ 4) }
+    ensures ended { IfOk ended (λ status. exit_status result ≡ status) }
+    ensures memory { IfErr ended (λ error. error_kind error ≡ ErrorKind.OutOfMemory → exit_status result ≡ 4) }
+    ensures words { IfErr ended (λ error. error_kind error ≢ ErrorKind.OutOfMemory → exit_status result ≡ 2) }
 {
     match ended {
         Ok(status) => ExitCode::from(status),
-        Err(_) => ExitCode::from(4),
+        Err(error) => match error.kind() {
+            ErrorKind::OutOfMemory => ExitCode::from(4),
+            _ => ExitCode::from(2),
+        },
     }
 }
 
-fn run<R: Env + Files + Threads + Wait + Sync + AllocGlobal, O: Write + Drop, E: Write>(
-    rt: &R,
-    out: O,
-    err: &mut E,
-) -> io::Result<u8> {
+fn run<
+    R: Clock + Env + Eprint + Files + Input + Threads + Wait + Sync + AllocGlobal,
+    O: Write + Drop,
+    E: Write + IsTerminal + Drop,
+>(rt: &R, out: O, err: E) -> io::Result<u8> {
     let alloc = rt.alloc();
     let words: Vec<String> = env::args(rt)?.collect(alloc)?;
-    let mut out = BufWriter::new(alloc, out)?;
-    let mut files = SystemFiles::new(rt);
-    Ok(run_line(rt, alloc, words.as_slice(), &mut files, &mut out, err))
+    let progress = if err.is_terminal() {
+        ProgressLine::start(rt).ok()
+    } else {
+        None
+    };
+    let lost = Cell::new(None);
+    let mut out = BufWriter::new(alloc, Output::new(out, &lost))?;
+    let mut err = Messages::new(err, &lost);
+    let mut files = Remarked::new(WithInput::new(rt, SystemFiles::new(rt)));
+    let status = run_line(
+        rt,
+        alloc,
+        words.as_slice(),
+        &mut files,
+        &mut out,
+        &mut err,
+        &progress,
+    );
+    if let Some(error) = lost.get() {
+        let _ = writeln!(err, "note: {}", FileRemark(error));
+    }
+    if let Some(remark) = files.last() {
+        let _ = writeln!(err, "note: {remark}");
+    }
+    Ok(status)
 }

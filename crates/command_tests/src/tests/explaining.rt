@@ -3,6 +3,7 @@
 use super::memory::{File, MemoryFiles, Narrow, Stuck};
 use super::{Ran, image_of, line, texts};
 use command_line::run_line;
+use progress_line::Silent;
 use std::process::Abort;
 use std::sync::Wait;
 use std::test::Fail;
@@ -122,7 +123,15 @@ fn streams_that_break(rt: HostRuntime) -> Result<(), Fail> {
             };
             let mut err = Vec::new(rt.alloc());
             let mut held = MemoryFiles::new(rt.alloc(), &files);
-            let status = run_line(&rt, rt.alloc(), &words, &mut held, &mut out, &mut err);
+            let status = run_line(
+                &rt,
+                rt.alloc(),
+                &words,
+                &mut held,
+                &mut out,
+                &mut err,
+                &Silent,
+            );
             assert_eq!(rt; status, 1);
             assert_eq!(rt; err.as_slice(), b"rvtl: cannot write\n".as_slice());
             assert_eq!(rt; out.taken.len(), room);
@@ -133,7 +142,15 @@ fn streams_that_break(rt: HostRuntime) -> Result<(), Fail> {
         };
         let mut err = Vec::new(rt.alloc());
         let mut held = MemoryFiles::new(rt.alloc(), &files);
-        let status = run_line(&rt, rt.alloc(), &words, &mut held, &mut out, &mut err);
+        let status = run_line(
+            &rt,
+            rt.alloc(),
+            &words,
+            &mut held,
+            &mut out,
+            &mut err,
+            &Silent,
+        );
         assert_eq!(rt; status, 1);
         assert_eq!(rt; err.as_slice(), b"rvtl: cannot write\n".as_slice());
     }

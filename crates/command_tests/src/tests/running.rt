@@ -3,6 +3,7 @@
 use super::memory::{File, MemoryFiles, Narrow};
 use super::{Ran, image_of, line, line_over, replay, texts};
 use command_line::run_line;
+use progress_line::Silent;
 use std::process::Abort;
 use std::sync::Wait;
 use std::test::Fail;
@@ -190,7 +191,15 @@ fn runs_whose_stream_breaks(rt: HostRuntime) -> Result<(), Fail> {
         "j",
         "image",
     ];
-    let status = run_line(&rt, rt.alloc(), &words, &mut files, &mut out, &mut err);
+    let status = run_line(
+        &rt,
+        rt.alloc(),
+        &words,
+        &mut files,
+        &mut out,
+        &mut err,
+        &Silent,
+    );
     assert_eq!(rt; status, 1);
     assert_eq!(rt; err.as_slice(), b"rvtl: cannot write\n".as_slice());
     assert!(rt;

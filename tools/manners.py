@@ -1,0 +1,105 @@
+#!/usr/bin/env python3
+"""Tries how the program ends where words, files and streams are not as it wants them: what no test in memory can.
+
+manners.py RVTL
+
+RVTL is the built program. A line tells of each case whether it ended as it should; the status is 1 where one didn't."""
+import os
+import pty
+import resource
+import subprocess
+import sys
+import tempfile
+
+EXAMPLES = os.path.join(os.path.dirname(os.path.dirname(os.path.realpath(__file__))), "examples")
+IMAGE = os.path.join(EXAMPLES, "exit.bin")
+SCRIPT = os.path.join(EXAMPLES, "exit.script")
+# It jumps to itself.
+SPIN = (0x6F).to_bytes(4, "little")
+failures = 0
+
+
+def tell(name, is_well, shown):
+    global failures
+    failures += not is_well
+    print(f"{name}: {'as it should' if is_well else f'NOT: {shown}'}")
+
+
+def ran(words, **more):
+    return subprocess.run(words, stdout=subprocess.PIPE, stderr=subprocess.PIPE, timeout=60, **more)
+
+
+def ends(name, words, status, err, **more):
+    """The words end with this status, and standard error has these lines."""
+    end = ran(words, **more)
+    tell(name, end.returncode == status and end.stderr.decode(errors="replace").splitlines() == err, end)
+
+
+def reader_goes_away(rvtl, folder):
+    journal = os.path.join(folder, "long.script")
+    with open(journal, "w") as file:
+        file.write("rvtl-script 1 1 4 4 2\n" + "step 0\n" * 200000)
+    spin = os.path.join(folder, "spin.bin")
+    child = subprocess.Popen([rvtl, "replay", "--raw", spin, journal], stdout=subprocess.PIPE, stderr=subprocess.PIPE)
+    child.stdout.readline()
+    child.stdout.close()
+    err = child.stderr.read()
+    tell("a reader that goes away", child.wait() == 1 and err == b"", err)
+
+
+def progress(rvtl, folder):
+    """On a terminal a long run tells its progress, and its harts' ends stand on a line of their own."""
+    spin = os.path.join(folder, "spin.bin")
+    journal = os.path.join(folder, "j")
+    near, far = pty.openpty()
+    words = [rvtl, "run", "--raw", "--limit", "100000000", "--journal", journal, spin]
+    child = subprocess.Popen(words, stdout=subprocess.DEVNULL, stderr=far)
+    os.close(far)
+    shown = b""
+    try:
+        while part := os.read(near, 4096):
+            shown += part
+    except OSError:
+        pass
+    child.wait()
+    is_well = b" events, retired " in shown and b"\r" in shown and shown.endswith(b"hart 0: run\r\n")
+    tell("progress on a terminal", is_well, shown)
+
+
+def main():
+    rvtl = os.path.realpath(sys.argv[1])
+    read_script = [rvtl, "replay", "--raw", IMAGE]
+    with tempfile.TemporaryDirectory() as folder:
+        with open(os.path.join(folder, "spin.bin"), "wb") as file:
+            file.write(SPIN)
+        ends("words that are not UTF-8", [rvtl, "replay", b"\xff", SCRIPT], 2,
+             ["rvtl: a word of the command line is not UTF-8"])
+        ends("a folder", [*read_script, folder], 1, [f"rvtl: {folder}: cannot read", "note: this is a folder"])
+        ends("no such file", [*read_script, f"{folder}/no"], 1,
+             [f"rvtl: {folder}/no: cannot read", "note: there is no such file or folder"])
+        journal = f"{folder}/no/j"
+        ends("a journal in no folder", [rvtl, "run", "--raw", "--journal", journal, IMAGE], 1,
+             [f"rvtl: {journal}: cannot write", "note: there is no such file or folder"])
+        with open(SCRIPT, "rb") as file:
+            ends("standard input", [*read_script, "-"], 0, ["hart 0: exit 5"], stdin=file)
+        with open(SCRIPT, "rb") as file:
+            ends("standard input twice", [rvtl, "replay", "-", "-"], 1,
+                 ["rvtl: -: cannot read", "note: standard input is read once"], stdin=file)
+        fifo = os.path.join(folder, "fifo")
+        os.mkfifo(fifo)
+        with open(SCRIPT, "rb") as file:
+            writer = subprocess.Popen(["sh", "-c", 'cat > "$0"', fifo], stdin=file)
+        ends("a FIFO", [*read_script, fifo], 0, ["hart 0: exit 5"])
+        writer.wait()
+        with open("/dev/full", "wb") as full:
+            end = subprocess.run([*read_script, SCRIPT], stdout=full, stderr=subprocess.PIPE)
+        told = ["rvtl: cannot write", "note: no space is left"]
+        tell("a full device", end.returncode == 1 and end.stderr.decode().splitlines() == told, end)
+        small = lambda: resource.setrlimit(resource.RLIMIT_STACK, (24 * 1024, 24 * 1024))
+        ends("a stack of 24 KiB", [*read_script, SCRIPT], 0, ["hart 0: exit 5"], preexec_fn=small)
+        reader_goes_away(rvtl, folder)
+        progress(rvtl, folder)
+    sys.exit(failures > 0)
+
+
+main()
