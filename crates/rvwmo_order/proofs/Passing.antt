@@ -11,7 +11,6 @@ use Rattle.hart.specs.declared.retired.Retired.{Retired}
 use Rattle.hart.specs.declared.state.Hart.{Hart}
 use Rattle.hart.specs.Run.{at_reset}
 use Rattle.trace_recorder.specs.History.{History}
-use Rattle.memory_model.specs.declared.Model.{Model}
 use Rattle.memory_model.specs.declared.operation.Operation.{Operation}
 use Rattle.memory_model.specs.Dependencies.{between, has_address_dependency, has_data_dependency, held_after, held_behind, held_first, holds, instr_in, uses_at, uses_in}
 use Rattle.memory_model.specs.Items.{Item, items_from, items_of_harts}

@@ -6,3 +6,7 @@ pub mod Placed
 pub mod Sweeps
 pub mod Marks
 pub mod Lowest
+pub mod Carried
+pub mod Passed
+pub mod Touched
+pub mod Bounds

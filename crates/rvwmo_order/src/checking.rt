@@ -63,6 +63,7 @@ fn verdict_on(
     order: &[OpId],
     model: Model,
 ) -> Result<Verdict, AllocError>
+    requires { traces.is_distinct order.now ≡ true }
     ensures { IfOk result (λ v. v ≡ judged model (traces.image_of trace.now.history) (traces.instructions trace.now.history) (traces.operations_at (traces.instructions trace.now.history) order.now)) }
 {
     let harts = Harts::of(alloc, trace)?;

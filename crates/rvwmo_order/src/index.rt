@@ -161,7 +161,7 @@ impl Index {
     }
 
     // How many operations stand before the one of this name.
-    fn position(&self, name: OpId) -> usize
+    pub(crate) fn position(&self, name: OpId) -> usize
         ensures { (a : OperationValue) → verdict.name_of a ≡ name → result ≡ spec.position_in self.now a }
     {
         match self.places.get(&(name.hart, name.place)) {

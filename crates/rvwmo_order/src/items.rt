@@ -110,6 +110,13 @@ impl Items {
         }
     }
 
+    pub(crate) fn list(&self) -> &[Item]
+        ensures list { result.now ≡ self.now }
+        ensures placed { IsPlaced 0 self.now }
+    {
+        &self.list
+    }
+
     /// The instruction at a place.
     pub(crate) fn get(&self, place: u32) -> Option<&Item>
         ensures { option_copied result ≡ slice_get self.now place }

@@ -1,6 +1,6 @@
 //! Judging an order of operations, over its index: each definition as it stands, but dependencies by the
 //! marks of sweeps.
-ghost use Rattle.std.specs.Prelude.{◌≡◌, ◌==◌, IfOk, Some, find, take, true};
+ghost use Rattle.std.specs.Prelude.{◌≡◌, ◌+◌, ◌<◌, ◌≤◌, ◌==◌, ℕ, IfOk, Some, find, slice_index_or, take, true};
 ghost use Rattle.std.specs.List.{list_all};
 ghost use Rattle.memory_model.specs.Operations as operations;
 ghost use Rattle.memory_model.specs.Order as orders;
@@ -8,6 +8,7 @@ ghost use Rattle.elf_loader.specs.Image.{byte_at};
 ghost use Rattle.memory_model.specs.Legal as legal;
 ghost use Rattle.memory_model.specs.Rules as rules;
 ghost use Rattle.rvwmo_order.specs.Codes.{rule_of};
+ghost use Rattle.rvwmo_order.specs.Bounds.{GivesEach, IsDistinct, RanksEach, bound_of, unbounded};
 ghost use Rattle.rvwmo_order.specs.Indexed.{reach_from};
 ghost use Rattle.rvwmo_order.specs.Marks.{Tells, TellsEach};
 ghost use Rattle.rvwmo_order.specs.Scans as scans;
@@ -16,8 +17,10 @@ ghost use Rattle.rvwmo_order.specs.Scans.{all_rules, first_broken_pair, first_br
 use crate::accesses::{
     end_of, is_conditional, is_same, name_of, precedes, read_at, reads, stores_to,
 };
+use crate::bounding::ranked_rows;
 use crate::index::Index;
 use crate::items::Harts;
+use crate::rows::{Row, row_at};
 use crate::rules::{are_paired, asks};
 use crate::sources::byte_from;
 use crate::sweeping::Sweep;
@@ -34,9 +37,12 @@ pub(crate) fn judge(
     harts: &Harts,
     index: &Index,
 ) -> Result<Verdict, AllocError>
+    requires gives { GivesEach harts.now index.now }
+    requires distinct { IsDistinct index.now }
     ensures { IfOk result (λ verdict. verdict ≡ judged model (byte_at image.now) harts.now index.now) }
 {
-    if let Some((rule, a, b)) = broken_rule(alloc, model, harts, index)? {
+    let rows = ranked_rows(alloc, model, harts, index)?;
+    if let Some((rule, a, b)) = broken_rule(alloc, model, harts, index, &rows)? {
         return Ok(Verdict::Fault(Code::Order(rule), name_of(&a), name_of(&b)));
     }
     if let Some(load) = wrong_load(image, index) {
@@ -54,17 +60,53 @@ fn broken_rule(
     model: Model,
     harts: &Harts,
     index: &Index,
+    rows: &[Row],
 ) -> Result<Option<(Rule, Operation, Operation)>, AllocError>
+    requires distinct { IsDistinct index.now }
+    requires ranked { RanksEach model harts.now index.now rows.now }
     ensures { IfOk result (λ broken. broken ≡ first_broken_rule model harts.now index.now all_rules) }
 {
     let mut left = RULES.as_slice();
     while let [rule, rest @ ..] = left {
-        if let Some((a, b)) = first_out_of_order(alloc, *rule, model, harts, index)? {
+        if let Some((a, b)) = first_broken_by(alloc, *rule, model, harts, index, rows)? {
             return Ok(Some((*rule, a, b)));
         }
         left = rest;
     }
     Ok(None)
+}
+
+// Two operations of which the one behind must come first by this rule. They are looked for only where a
+// bound leaves room for them.
+fn first_broken_by(
+    alloc: Global,
+    rule: Rule,
+    model: Model,
+    harts: &Harts,
+    index: &Index,
+    rows: &[Row],
+) -> Result<Option<(Operation, Operation)>, AllocError>
+    requires distinct { IsDistinct index.now }
+    requires ranked { RanksEach model harts.now index.now rows.now }
+    ensures { IfOk result (λ found. found
+        ≡ scans.first_out_of_order (rules.asked_by model harts.now index.now (rule_of rule)) index.now) }
+{
+    if is_clear(rule, rows, index.order().len()) {
+        return Ok(None);
+    }
+    first_out_of_order(alloc, rule, model, harts, index)
+}
+
+// Whether the bound of each of so many operations is no more than its own rank.
+fn is_clear(rule: Rule, rows: &[Row], count: usize) -> bool
+    ensures { result ≡ true → (p : ℕ) → p < count → bound_of rule (slice_index_or rows.now p unbounded) ≤ p + 1 }
+{
+    for place in 0..count {
+        if row_at(rows, place).bound(rule) > place + 1 {
+            return false;
+        }
+    }
+    true
 }
 
 // Two operations of which the one behind must come first by this rule.

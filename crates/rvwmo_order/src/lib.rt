@@ -3,6 +3,8 @@
 #![tactic(auto)]
 
 mod accesses;
+mod bounding;
+mod carried;
 mod checking;
 mod completing;
 mod error;
@@ -11,15 +13,19 @@ mod items;
 mod judging;
 mod names;
 mod orders;
+mod passed;
 pub mod plain;
 mod reaches;
+mod rows;
 mod rules;
 mod runs;
 mod sources;
 mod stored;
 mod sweeping;
+mod touched;
 mod uses;
 mod verdict;
+mod walking;
 
 pub use checking::{check, check_model};
 pub use completing::completed;

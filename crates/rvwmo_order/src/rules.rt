@@ -112,7 +112,7 @@ fn is_in_set(set: FenceSet, kind: Kind) -> bool
 }
 
 // Whether an instruction orders an operation of the first kind before one of the second.
-fn fences(instr: Option<Instr>, a: Kind, b: Kind) -> bool
+pub(crate) fn fences(instr: Option<Instr>, a: Kind, b: Kind) -> bool
     ensures { result ≡ spec.fences instr a b }
 {
     match instr {
@@ -162,7 +162,7 @@ fn has_lr_or_sc_between(items: &Items, a: &Operation, b: &Operation) -> bool
         .any(|item| is_lr_or_sc(item.instr()))
 }
 
-fn is_lr_or_sc(instr: Option<Instr>) -> bool
+pub(crate) fn is_lr_or_sc(instr: Option<Instr>) -> bool
     ensures { result ≡ spec.is_lr_or_sc instr }
 {
     matches!(instr, Some(Instr::Lr { .. } | Instr::Sc { .. }))

@@ -1,5 +1,6 @@
 use Rattle.std.proofs.Common.{◌≡◌, ◌∙◌, sym, true}
 use Rattle.memory_model.specs.Traces.{has_each_operation_once}
+use Rattle.rvwmo_order.proofs.Bounded.{three}
 use Rattle.rvwmo_order.proofs.Verdicts.{first_verdict, legal_verdict, sound_verdict, tested_order}
 use Rattle.rvwmo_order.proofs.checking.check_model.Goals as goal
 
@@ -17,3 +18,6 @@ returns-clause-first c =
     let t = c.args.trace.now.history in
     let tested : has_each_operation_once t c.args.order.now ≡ true = sym (tested_order t c.args.order.now c.deref.result.now (c.deref.ensures.value ∙ c.in_ok-names.ensures)) ∙ (sym c.in_ok-is_order.ensures ∙ c.if-not-branch.false) in
     first_verdict c.args.model t c.args.order.now c.in_ok-verdict_on.field-0 tested c.in_ok-verdict_on.ensures
+
+pub verdict_on-requires : goal.verdict_on-requires
+verdict_on-requires c = (three _ _ _ (sym c.in_ok-is_order.ensures ∙ c.if-not-branch.false)).1

@@ -1,0 +1,111 @@
+-- Where the bound of an operation is no more than its rank, nothing behind it must come before it.
+use Rattle.std.proofs.Common.{◌≡◌, ℕ, zero, suc, ◌+◌, ◌<◌, ◌≤◌, List, [], ◌∷◌, Bool, true, false, Option, Some, None, refl, sym, subst, ap, ◌∙◌, ◌⊎◌, inl, inr, arith, drop, find, length}
+use Rattle.std.specs.Prelude.{slice_get, slice_index_or}
+use Rattle.std.specs.List.{AllByRecursion as Each}
+use Rattle.std.proofs.lemmas.Bool.{true≢false}
+use Rattle.std.proofs.lemmas.List.{drop-drop, length-drop}
+use Rattle.memory_model.specs.declared.Model.{Model}
+use Rattle.memory_model.specs.declared.operation.Operation.{Operation}
+use Rattle.memory_model.specs.Items.{Item}
+use Rattle.memory_model.specs.Operations.{same}
+use Rattle.memory_model.specs.Order.{position_in}
+use Rattle.memory_model.specs.Rules.{asked_by}
+use Rattle.memory_model.proofs.Forms.{same-self, same-swap}
+use Rattle.memory_model.proofs.Lists.{Member, Each-at, Each-from}
+use Rattle.memory_model.proofs.Named.{EachOnce}
+use Rattle.rvwmo_order.specs.Bounds.{BoundsEach, IsDistinct, RanksEach, bound_of, unbounded, weight_of}
+use Rattle.rvwmo_order.specs.Codes.{rule_of}
+use Rattle.rvwmo_order.specs.Scans.{first_out_of_order, found_or}
+use Rattle.rvwmo_order.specs.declared.rows.Row.{Row}
+use Rattle.rvwmo_order.specs.declared.verdict.Rule.{Rule}
+use Rattle.rvwmo_order.proofs.Judged.{place_head, place_tail}
+
+pub distinct_once : (order : List Operation) → EachOnce order → IsDistinct order
+distinct_once [] h = tt
+distinct_once (a ∷ rest) h = (h.0, distinct_once rest h.1)
+
+nothing_is : (x : Operation) (xs : List Operation) → [] ≡ x ∷ xs → ⊥
+nothing_is x xs e = cc
+
+head_is : (x y : Operation) (xs ys : List Operation) → x ∷ xs ≡ y ∷ ys → x ≡ y
+head_is x y xs ys e = cc
+
+tail_is : (x y : Operation) (xs ys : List Operation) → x ∷ xs ≡ y ∷ ys → xs ≡ ys
+tail_is x y xs ys e = cc
+
+-- what stands behind a place is in the list
+behind_member : (order : List Operation) (p : ℕ) (b : Operation) (behind : List Operation) (a : Operation) → drop p order ≡ b ∷ behind → Member a behind → Member a order
+behind_member [] zero b behind a e m = absurd (nothing_is b behind e)
+behind_member [] (suc p) b behind a e m = absurd (nothing_is b behind e)
+behind_member (x ∷ rest) zero b behind a e m = inr (subst (Member a) (sym (tail_is x b rest behind e)) m)
+behind_member (x ∷ rest) (suc p) b behind a e m = inr (behind_member rest p b behind a e m)
+
+-- and stands behind it
+lies_behind : (order : List Operation) (p : ℕ) (b : Operation) (behind : List Operation) (a : Operation) → IsDistinct order → drop p order ≡ b ∷ behind → Member a behind → p < position_in order a
+lies_behind [] zero b behind a d e m = absurd (nothing_is b behind e)
+lies_behind [] (suc p) b behind a d e m = absurd (nothing_is b behind e)
+lies_behind (x ∷ rest) zero b behind a d e m =
+    let other : same a x ≡ false = same-swap x a (Each-at (λ (c : Operation). same x c ≡ false) a rest d.0 (subst (Member a) (sym (tail_is x b rest behind e)) m)) in
+    let place = place_tail a x rest other in
+    omega (arith, place)
+lies_behind (x ∷ rest) (suc p) b behind a d e m =
+    let other : same a x ≡ false = same-swap x a (Each-at (λ (c : Operation). same x c ≡ false) a rest d.0 (behind_member rest p b behind a e m)) in
+    let place = place_tail a x rest other in
+    let ih = lies_behind rest p b behind a d.1 e m in
+    omega (arith, place, ih)
+
+at_drop : (order : List Operation) (p : ℕ) (b : Operation) (behind : List Operation) → drop p order ≡ b ∷ behind → slice_get order p ≡ Some b
+at_drop [] zero b behind e = absurd (nothing_is b behind e)
+at_drop [] (suc p) b behind e = absurd (nothing_is b behind e)
+at_drop (x ∷ rest) zero b behind e = ap (λ (y : Operation). Some y) (head_is x b rest behind e)
+at_drop (x ∷ rest) (suc p) b behind e = at_drop rest p b behind e
+
+find_nothing : (p : Operation → Bool) (xs : List Operation) → Each (λ (a : Operation). p a ≡ false) xs → find p xs ≡ None
+find_nothing p [] h = refl
+find_nothing p (x ∷ xs) h = rw h.0 (find_nothing p xs h.1)
+
+pub clear_behind : (model : Model) (harts : List (List Item)) (order : List Operation) (rows : List Row) (rule : Rule) (p : ℕ) (b : Operation) (behind : List Operation) → IsDistinct order → RanksEach model harts order rows → drop p order ≡ b ∷ behind
+    → bound_of rule (slice_index_or rows p unbounded) ≤ p + 1 → find (λ a. asked_by model harts order (rule_of rule) a b) behind ≡ None
+clear_behind model harts order rows rule p b behind d ranks e l =
+    find_nothing (λ a. asked_by model harts order (rule_of rule) a b) behind (Each-from (λ (a : Operation). asked_by model harts order (rule_of rule) a b ≡ false) behind (λ a m. go a m (asked_by model harts order (rule_of rule) a b) refl))
+  where
+    go : (a : Operation) → Member a behind → (c : Bool) → asked_by model harts order (rule_of rule) a b ≡ c → asked_by model harts order (rule_of rule) a b ≡ false
+    go a m true t =
+        let below = Each-at (λ (y : Operation). asked_by model harts order (rule_of rule) y b ≡ true → position_in order y < bound_of rule (slice_index_or rows p unbounded)) a order (ranks.each p b (at_drop order p b behind e) rule) (behind_member order p b behind a e m) t in
+        let above = lies_behind order p b behind a d e m in
+        absurd (omega (arith, below, above, l))
+    go a m false t = t
+
+-- where that is so of each operation, the order keeps the rule
+pub all_clear : (model : Model) (harts : List (List Item)) (order : List Operation) (rows : List Row) (rule : Rule) (count : ℕ) → IsDistinct order → RanksEach model harts order rows → count ≡ length order
+    → ((p : ℕ) → p < count → bound_of rule (slice_index_or rows p unbounded) ≤ p + 1) → first_out_of_order (asked_by model harts order (rule_of rule)) order ≡ None
+all_clear model harts order rows rule count distinct ranks counted clear = from 0 order refl
+  where
+    from : (p : ℕ) (rest : List Operation) → drop p order ≡ rest → first_out_of_order (asked_by model harts order (rule_of rule)) rest ≡ None
+    from p [] e = refl
+    from p (b ∷ behind) e =
+        let long = length-drop p order in
+        let same = ap length e in
+        let inside : p < count = omega (arith, long, same, counted) in
+        ap (λ (o : Option Operation). found_or o b (first_out_of_order (asked_by model harts order (rule_of rule)) behind)) (clear_behind model harts order rows rule p b behind distinct ranks e (clear p inside))
+        ∙ from (p + 1) behind (sym (drop-drop 1 p order) ∙ ap (drop 1) e)
+
+-- ---- ranks
+
+position_within : (order : List Operation) (a : Operation) → Member a order → position_in order a < length order
+position_within [] a m = absurd m
+position_within (x ∷ rest) a m = go (same a x) refl m (position_within rest a)
+  where
+    go : (c : Bool) → same a x ≡ c → (a ≡ x) ⊎ Member a rest → (Member a rest → position_in rest a < length rest) → position_in (x ∷ rest) a < suc (length rest)
+    go true e m ih = let place = place_head a x rest e in omega (arith, place)
+    go false e (inl k) ih = absurd (true≢false (sym (same-self a) ∙ (ap (same a) k ∙ e)))
+    go false e (inr k) ih = let place = place_tail a x rest e in let l = ih k in omega (arith, place, l)
+
+pub ranked : (model : Model) (harts : List (List Item)) (order : List Operation) (weights : List ℕ) (rows : List Row) → ((k : ℕ) → k < length order → slice_index_or weights k 0 ≡ k + 1) → BoundsEach model harts order weights rows → RanksEach model harts order rows
+ranked model harts order weights rows w bounds = record {
+  each = λ p b e rule.
+      Each-from (λ (a : Operation). asked_by model harts order (rule_of rule) a b ≡ true → position_in order a < bound_of rule (slice_index_or rows p unbounded)) order (λ a m t.
+      let bound = Each-at (λ (y : Operation). asked_by model harts order (rule_of rule) y b ≡ true → weight_of weights order y ≤ bound_of rule (slice_index_or rows p unbounded)) a order (bounds.each p b e rule) m t in
+      let rank = w (position_in order a) (position_within order a m) in
+      omega (arith, bound, rank));
+}

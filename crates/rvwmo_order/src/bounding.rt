@@ -1,0 +1,129 @@
+//! The rows of an order's operations, one at each place, filled in by a walk along each hart's list.
+ghost use Rattle.std.specs.Prelude.{◌≡◌, ◌+◌, ◌<◌, ℕ, IfOk, OnOk, Some, replicate, slice_get, slice_index_or, slice_set};
+ghost use Rattle.memory_model.specs.Rules as rules;
+ghost use Rattle.rvwmo_order.specs.Bounds as spec;
+ghost use Rattle.rvwmo_order.specs.Bounds.{BoundsEach, GivesEach, HasCome, RanksEach};
+ghost use Rattle.rvwmo_order.specs.Placed.{GivesOwn, IsPlaced};
+
+use crate::accesses::name_of;
+use crate::index::Index;
+use crate::items::{Harts, Item};
+use crate::rows::{Row, UNBOUNDED};
+use crate::walking::{Walk, weight_of};
+use memory_model::Model;
+use std::alloc::{AllocError, Global};
+
+/// For each operation of an order the bounds on the places of those that must come before it.
+pub(crate) fn ranked_rows(
+    alloc: Global,
+    model: Model,
+    harts: &Harts,
+    index: &Index,
+) -> Result<Vec<Row>, AllocError>
+    requires { GivesEach harts.now index.now }
+    ensures { IfOk result (λ rows. RanksEach model harts.now index.now rows.items) }
+{
+    let ranks = ranks(alloc, index.order().len())?;
+    rows_of(alloc, model, harts, index, &ranks)
+}
+
+// 1 for the first, 2 for the second and so on.
+fn ranks(alloc: Global, count: usize) -> Result<Vec<usize>, AllocError>
+    ensures { IfOk result (λ ranks. (k : ℕ) → k < count → slice_index_or ranks.items k 0 ≡ k + 1) }
+{
+    let mut ranks = Vec::new(alloc);
+    for place in 0..count {
+        ranks.push(place + 1)?;
+    }
+    Ok(ranks)
+}
+
+// For each operation of an order the bounds on the weights of those that must come before it.
+fn rows_of(
+    alloc: Global,
+    model: Model,
+    harts: &Harts,
+    index: &Index,
+    weights: &[usize],
+) -> Result<Vec<Row>, AllocError>
+    requires { GivesEach harts.now index.now }
+    ensures { IfOk result (λ rows. BoundsEach model harts.now index.now weights.now rows.items) }
+{
+    let mut rows = no_rows(alloc, index.order().len())?;
+    for hart in 0..u8::MAX {
+        if harts.get(hart).is_none() {
+            break;
+        }
+        bound_hart(alloc, &mut rows, model, harts, hart, index, weights)?;
+    }
+    Ok(rows)
+}
+
+// So many rows of which nothing is known.
+fn no_rows(alloc: Global, count: usize) -> Result<Vec<Row>, AllocError>
+    ensures { IfOk result (λ rows. rows.items ≡ replicate count spec.unbounded) }
+{
+    let mut rows = Vec::new(alloc);
+    rows.resize(count, UNBOUNDED)?;
+    Ok(rows)
+}
+
+// Fills in the rows of a hart's operations.
+fn bound_hart(
+    alloc: Global,
+    rows: &mut [Row],
+    model: Model,
+    harts: &Harts,
+    hart: u8,
+    index: &Index,
+    weights: &[usize],
+) -> Result<(), AllocError>
+    requires gives { GivesEach harts.now index.now }
+    requires bound { BoundsEach model harts.now index.now weights.now rows.old }
+    ensures { OnOk result (BoundsEach model harts.now index.now weights.now rows.new) }
+{
+    let items = harts.items_of(hart);
+    let mut walk = Walk::new(alloc, model);
+    for item in items.list() {
+        let own = bound_item(rows, &walk, harts, hart, index, weights, item);
+        walk.pass(index, item, own)?;
+    }
+    Ok(())
+}
+
+// Fills in the row of an instruction's operation, where it has one, to which the walk has come; its weight.
+fn bound_item(
+    rows: &mut [Row],
+    walk: &Walk,
+    harts: &Harts,
+    hart: u8,
+    index: &Index,
+    weights: &[usize],
+    item: &Item,
+) -> usize
+    requires gives { GivesEach harts.now index.now }
+    requires bound { BoundsEach walk.now.model harts.now index.now weights.now rows.old }
+    requires placed { IsPlaced 0 (rules.items_of harts.now hart) }
+    requires own { GivesOwn hart (rules.items_of harts.now hart) }
+    requires there { slice_get (rules.items_of harts.now hart) item.now.place ≡ Some item.now }
+    requires come { HasCome walk.now.model (spec.own_weight weights.now index.now) index.now (rules.items_of harts.now hart) item.now.place walk.now }
+    ensures weight { result ≡ spec.own_weight weights.now index.now item.now }
+    ensures bound { BoundsEach walk.now.model harts.now index.now weights.now rows.new }
+{
+    let Some(b) = item.operation() else {
+        return 0;
+    };
+    let row = walk.row(index, weights, rows, &b, item.instr());
+    put_row(rows, index.position(name_of(&b)), row);
+    weight_of(index, weights, &b)
+}
+
+// Puts a row at a place, where there is such a place.
+#[tactic(auto, using(std::proofs::lemmas::List::set_past))]
+fn put_row(rows: &mut [Row], position: usize, row: Row)
+    ensures { rows.new ≡ slice_set rows.old position row }
+{
+    if position < rows.len() {
+        rows[position] = row;
+    }
+}

@@ -1,0 +1,190 @@
+//! A walk along a hart's list: what it carries, what it has passed and the bytes that it has touched bound,
+//! for each rule, the weights of the operations that must come before the one at hand.
+ghost use Rattle.std.specs.Prelude.{◌≡◌, ◌≤◌, ◌||◌, ℕ, max, true, List, OnOk, slice_index_or};
+ghost use Rattle.memory_model.specs.declared.operation.Operation.{Operation as OperationValue};
+ghost use Rattle.memory_model.specs.Items.{Item as ItemValue};
+ghost use Rattle.memory_model.specs.Dependencies.{uses_in};
+ghost use Rattle.memory_model.specs.Operations as operations;
+ghost use Rattle.memory_model.specs.Order as orders;
+ghost use Rattle.rvwmo_order.specs.Carried.{carried_after, greatest};
+ghost use Rattle.rvwmo_order.specs.Passed.{passed_after};
+ghost use Rattle.rvwmo_order.specs.Bounds as spec;
+ghost use Rattle.rvwmo_order.specs.Bounds.{HasCome, IsRow, IsSource};
+ghost use Rattle.rvwmo_order.specs.Touched.{but, touch_after, touch_in};
+
+use crate::accesses::{
+    end_of, has_rcsc, has_release, is_amo, is_conditional, name_of, reads, writes,
+};
+use crate::carried::Carried;
+use crate::index::Index;
+use crate::items::Item;
+use crate::passed::Passed;
+use crate::rows::{Row, row_at};
+use crate::touched::{Touch, pass_bytes, touch_of};
+use memory_model::{Model, Operation};
+use rv32_decode::Instr;
+use std::alloc::{AllocError, Global};
+use std::collections::BTreeMap;
+
+#[derive(Drop)]
+pub(crate) struct Walk {
+    model: Model,
+    carried: Carried,
+    passed: Passed,
+    touches: BTreeMap<u64, Touch>,
+}
+
+impl Walk {
+    pub(crate) fn new(alloc: Global, model: Model) -> Walk
+        ensures model { result.model ≡ model }
+        ensures come { (own : ItemValue → ℕ) (order : List OperationValue) (items : List ItemValue) → HasCome model own order items 0 result }
+    {
+        Walk {
+            model,
+            carried: Carried::new(),
+            passed: Passed::new(),
+            touches: BTreeMap::new(alloc),
+        }
+    }
+
+    /// Goes past an instruction whose operation, where it has one, has this weight.
+    pub(crate) fn pass(&mut self, index: &Index, item: &Item, own: usize) -> Result<(), AllocError>
+        ensures model { OnOk result (self.new.model ≡ self.old.model) }
+        ensures carried { OnOk result (self.new.carried ≡ carried_after own item.now.instr self.old.carried) }
+        ensures passed { OnOk result (self.new.passed ≡ passed_after self.old.model own item.now self.old.passed) }
+        ensures touched { OnOk result ((x : ℕ) → touch_in self.new.touches x ≡ touch_after index.now x own item.now (touch_in self.old.touches x)) }
+    {
+        self.carried.pass(item.instr(), own);
+        self.passed.pass(self.model, item, own);
+        if let Some(a) = item.operation() {
+            pass_bytes(&mut self.touches, index, &a, own)?;
+        }
+        Ok(())
+    }
+
+    /// The bounds of an operation and its instruction, with the rows of the operations before.
+    pub(crate) fn row(
+        &self,
+        index: &Index,
+        weights: &[usize],
+        rows: &[Row],
+        b: &Operation,
+        instr: Option<Instr>,
+    ) -> Row
+        ensures { IsRow index.now weights.now rows.now b.now (uses_in instr) self.now result }
+    {
+        let (address, data_stored) = self.in_sources(instr);
+        let is_store = writes(b.kind);
+        Row {
+            overlapping_store: self.accesses(b),
+            same_byte_loads: self.loads(index, b),
+            atomic_source: atomic_source(index, weights, b),
+            fence: self.passed.fenced_before(b.kind),
+            acquire: self.passed.acquires(),
+            release: only_if(has_release(self.model, b), self.passed.all()),
+            annotations: only_if(has_rcsc(self.model, b), self.passed.annotated()),
+            pair: only_if(is_conditional(b.kind), self.passed.reserved()),
+            address,
+            data_stored,
+            control: only_if(is_store, self.carried.steered()),
+            dependent_store: dependent_store(index, rows, b),
+            dependent_address: only_if(is_store, self.carried.addressed()),
+        }
+    }
+
+    // What came into an access's address, and what into the number that it stores.
+    fn in_sources(&self, instr: Option<Instr>) -> (usize, usize)
+        ensures address { result.0 ≡ greatest self.now.carried.registers (uses_in instr).address }
+        ensures data_stored { result.1 ≡ greatest self.now.carried.registers (uses_in instr).stored }
+    {
+        match instr {
+            Some(instr) => (
+                self.carried.in_address(&instr),
+                self.carried.in_stored(&instr),
+            ),
+            None => (0, 0),
+        }
+    }
+
+    // All accesses to a byte of a store.
+    fn accesses(&self, b: &Operation) -> usize
+        ensures { operations.writes b.now.kind ≡ true → (x : ℕ) → operations.touches x b.now ≡ true → (touch_in self.now.touches x).all ≤ result }
+    {
+        if !writes(b.kind) {
+            return 0;
+        }
+        let mut most = 0;
+        for x in u64::from(b.address)..end_of(b) {
+            most = most.max(touch_of(&self.touches, x).all());
+        }
+        most
+    }
+
+    // The loads of a byte of a load that return it from elsewhere.
+    fn loads(&self, index: &Index, b: &Operation) -> usize
+        ensures { operations.reads b.now.kind ≡ true → (x : ℕ) → operations.touches x b.now ≡ true → but (orders.source index.now b.now x) (touch_in self.now.touches x) ≤ result }
+    {
+        if !reads(b.kind) {
+            return 0;
+        }
+        let mut most = 0;
+        for x in u64::from(b.address)..end_of(b) {
+            most = most.max(touch_of(&self.touches, x).but(index.source_of(b, x)));
+        }
+        most
+    }
+}
+
+// The weight, where the test holds.
+fn only_if(test: bool, weight: usize) -> usize
+    ensures { test ≡ true → result ≡ weight }
+{
+    if test { weight } else { 0 }
+}
+
+// The AMOs and SCs of its hart that a byte of a load comes from.
+fn atomic_source(index: &Index, weights: &[usize], b: &Operation) -> usize
+    ensures { operations.reads b.now.kind ≡ true → (x : ℕ) (s : OperationValue) → IsSource index.now b.now x s → (operations.is_amo s.kind || operations.is_conditional s.kind) ≡ true → spec.weight_of weights.now index.now s ≤ result }
+{
+    if !reads(b.kind) {
+        return 0;
+    }
+    let mut most = 0;
+    for x in u64::from(b.address)..end_of(b) {
+        if let Some(s) = index.source_of(b, x) {
+            if s.hart == b.hart && (is_amo(s.kind) || is_conditional(s.kind)) {
+                most = most.max(weight_of(index, weights, &s));
+            }
+        }
+    }
+    most
+}
+
+// What came into the stores of its hart that a byte of a load comes from.
+fn dependent_store(index: &Index, rows: &[Row], b: &Operation) -> usize
+    ensures { operations.reads b.now.kind ≡ true → (x : ℕ) (s : OperationValue) → IsSource index.now b.now x s → max (slice_index_or rows.now (orders.position_in index.now s) spec.unbounded).address (slice_index_or rows.now (orders.position_in index.now s) spec.unbounded).data_stored ≤ result }
+{
+    if !reads(b.kind) {
+        return 0;
+    }
+    let mut most = 0;
+    for x in u64::from(b.address)..end_of(b) {
+        if let Some(s) = index.source_of(b, x) {
+            if s.hart == b.hart {
+                let row = row_at(rows, index.position(name_of(&s)));
+                most = most.max(row.address.max(row.data_stored));
+            }
+        }
+    }
+    most
+}
+
+/// The weight at an operation's place in the order.
+pub(crate) fn weight_of(index: &Index, weights: &[usize], a: &Operation) -> usize
+    ensures { result ≡ spec.weight_of weights.now index.now a.now }
+{
+    match weights.get(index.position(name_of(a))) {
+        Some(weight) => *weight,
+        None => 0,
+    }
+}
