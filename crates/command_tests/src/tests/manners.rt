@@ -28,7 +28,7 @@ fn remarks(
 }
 
 /// A script that replay and explain refuse, and what they remark.
-const SCRIPTS: [(&str, &str); 4] = [
+const SCRIPTS: [(&str, &str); 2] = [
     (
         "rvtl-trace 1\nT 1 4 0x80000000\n",
         "this is a trace, and a script is wanted",
@@ -37,6 +37,10 @@ const SCRIPTS: [(&str, &str); 4] = [
         "rvtl-script 1 1 4 4 2\nstop 0\n",
         "no event begins with `stop`: they are step, drain, evict, deliver and local",
     ),
+];
+
+/// A script with an event that its machine hasn't, and what replay remarks.
+const EVENTS: [(&str, &str); 2] = [
     (
         "rvtl-script 1 1 4 4 2\nstep 0\nstep 3\n",
         "no hart 3: the script's first line names 1",
@@ -59,6 +63,20 @@ fn of_scripts(rt: HostRuntime) -> Result<(), Fail> {
         remarks(&rt, &replay, &files, 1, remark);
         let explain = ["rvtl", "explain", "--raw", "image", "script"];
         remarks(&rt, &explain, &files, 1, remark);
+    }
+    Ok(())
+}
+
+#[test]
+fn of_events(rt: HostRuntime) -> Result<(), Fail> {
+    let image = image_of(rt.alloc(), &texts::EXIT)?;
+    for (script, remark) in EVENTS {
+        let files = [
+            File::whole("image", image.as_slice()),
+            File::whole("script", script.as_bytes()),
+        ];
+        let replay = ["rvtl", "replay", "--raw", "image", "script"];
+        remarks(&rt, &replay, &files, 1, remark);
     }
     Ok(())
 }
