@@ -3,7 +3,6 @@
 mod explaining;
 mod exploring;
 mod judging;
-mod manners;
 mod memory;
 mod orders;
 mod running;
