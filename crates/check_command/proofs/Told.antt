@@ -5,7 +5,7 @@ use Rattle.command_files.specs.Status.{status_of}
 use Rattle.command_files.specs.Faults.{IsReadFault, Name}
 use Rattle.check_command.specs.Checking.{IsCheckFault}
 use Rattle.command_files.specs.declared.fault.Fault.{Fault}
-use Rattle.command_files.specs.declared.fault.Fault.TheVariants.{BadEvent, BytesAfterTrace, CannotMake, CannotRead, CannotWrite, Check, Configuration, Event, Image, Mismatch, NoThread, NothingHappens, OutOfMemory, Text}
+use Rattle.command_files.specs.declared.fault.Fault.TheVariants.{BadAddress, BadEvent, BytesAfterTrace, CannotMake, CannotRead, CannotWrite, Check, Configuration, Event, Image, Mismatch, NoThread, NothingHappens, OutOfMemory, Text, TooManyRows}
 
 pub of_trace : (held : Held) (name : Name) (fault : Fault) → IsReadFault name fault → IsCheckFault held name fault
 of_trace held name (CannotRead file) is = is
@@ -18,6 +18,8 @@ of_trace held name (Event file line error) is = absurd is
 of_trace held name (BytesAfterTrace file) is = absurd is
 of_trace held name (NothingHappens file line outcome) is = absurd is
 of_trace held name (Check file error) is = absurd is
+of_trace held name (TooManyRows file) is = absurd is
+of_trace held name (BadAddress word) is = absurd is
 of_trace held name NoThread is = absurd is
 of_trace held name Mismatch is = absurd is
 of_trace held name BadEvent is = absurd is
@@ -34,6 +36,8 @@ check_never_misused held name (Event file line error) so two = cc
 check_never_misused held name (BytesAfterTrace file) so two = cc
 check_never_misused held name (NothingHappens file line outcome) so two = cc
 check_never_misused held name (Check file error) so two = cc
+check_never_misused held name (TooManyRows file) so two = cc
+check_never_misused held name (BadAddress word) so two = so
 check_never_misused held name NoThread so two = cc
 check_never_misused held name Mismatch so two = cc
 check_never_misused held name BadEvent so two = cc

@@ -5,7 +5,7 @@ use Rattle.machine_model.specs.LawfulLog.{IsLawfulLog, asked_by_next, is_grant, 
 use Rattle.machine_model.specs.LogLaws.{AgreeInSum}
 use Rattle.machine_model.proofs.LogSums.{sums_agree}
 use Rattle.lawful_log.specs.Facts as by_facts
-use Rattle.lawful_log.specs.Facts.{GoesBy, KeepsBy, facts_of, without_data}
+use Rattle.lawful_log.specs.Facts.{GoesBy, KeepsBy, front_for, known_of, without_data}
 use Rattle.lawful_log.specs.Rules.{Keeps, KeepsGoing, fits_data, is_asked, may_go_by}
 use Rattle.lawful_log.specs.declared.rule.LogRule.{LogRule}
 use Rattle.lawful_log.specs.declared.rule.LogRule.TheVariants.{InOrder, Question, Permission, Data, AcquireOnce, ProbeOnce, GrantAlone, ReleaseAlone}
@@ -35,7 +35,7 @@ module _ (h line : ℕ) (log : List Logged) (agree : AgreeInSum line log) where
   alone : (no_hart_probed line log && no_grant_open line log) ≡ (is_settled is_probe is_probe_ack (is_of_line line) log && is_settled is_grant is_grant_ack (is_of_line line) log)
   alone = sym (ap (λ (b : Bool). b && is_settled is_grant is_grant_ack (is_of_line line) log) agree.probes ∙ ap (λ (b : Bool). no_hart_probed line log && b) agree.grants)
 
-  same : (rule : LogRule) (body : Body) → may_go_by rule body h line log ≡ by_facts.may_go_by rule body (facts_of h (record { line = line; body = body }) log)
+  same : (rule : LogRule) (body : Body) → may_go_by rule body h line log ≡ by_facts.may_go_by rule body (known_of h line log)
   same InOrder body = refl
   same Question (AcquireBlock g) = refl
   same Question (ProbeBlock c) = refl
@@ -108,7 +108,7 @@ module _ (h line : ℕ) (log : List Logged) (agree : AgreeInSum line log) where
   same ReleaseAlone ReleaseAck = refl
   same ReleaseAlone GrantAck = refl
 
-going : (d : Direction) (rule : LogRule) (h : ℕ) (m : Msg) (log : List Logged) → AgreeInSum m.line log → GoesBy d rule m (facts_of h m log) ↔ KeepsGoing d rule h m log
+going : (d : Direction) (rule : LogRule) (h : ℕ) (m : Msg) (log : List Logged) → AgreeInSum m.line log → GoesBy d rule m (front_for h m log) (known_of h m.line log) ↔ KeepsGoing d rule h m log
 going Sent rule h m log agree = (λ t. subst IsTrue (sym (same h m.line log agree rule m.body)) t, λ t. subst IsTrue (same h m.line log agree rule m.body) t)
 going Taken InOrder h m log agree = (λ t. t, λ t. t)
 going Taken Question h m log agree = (λ t. t, λ t. t)
@@ -119,5 +119,5 @@ going Taken ProbeOnce h m log agree = (λ t. t, λ t. t)
 going Taken GrantAlone h m log agree = (λ t. t, λ t. t)
 going Taken ReleaseAlone h m log agree = (λ t. t, λ t. t)
 
-pub keeps_by_facts : (rule : LogRule) (e : Logged) (log : List Logged) → IsLawfulLog log → KeepsBy rule (facts_of e.hart e.message log) e ↔ Keeps rule log e
+pub keeps_by_facts : (rule : LogRule) (e : Logged) (log : List Logged) → IsLawfulLog log → KeepsBy rule (front_for e.hart e.message log) (known_of e.hart e.message.line log) e ↔ Keeps rule log e
 keeps_by_facts rule e log lawful = going e.direction rule e.hart e.message log (sums_agree e.message.line log lawful)

@@ -5,6 +5,6 @@ pub mod Judged
 pub mod Counted
 pub mod Waiting
 pub mod Noted
+pub mod Harts
 pub mod Passing
-pub mod Maps
 pub mod Tallied

@@ -1,28 +1,30 @@
 -- One pass over a log: each entry that breaks no rule leaves it lawful, and the first that breaks one is found.
 use Rattle.std.proofs.Common.{ℕ, ◌+◌, ◌<◌, ◌≤◌, List, [], ◌∷◌, ◌++◌, ◌≡◌, Some, None, refl, sym, subst, length, take, drop, get_or}
-use Rattle.std.specs.Prelude.{◌↔◌, Option, slice_get}
+use Rattle.std.specs.Prelude.{◌↔◌, Option}
 use Rattle.std.proofs.lemmas.List.{take-append-drop, take_all, take_more}
 use Rattle.std.proofs.lemmas.Option.{slice_get-get_or}
 use Rattle.machine_model.specs.LawfulLog.{IsLawfulLog}
 use Rattle.lawful_log.proofs.Entries.{beginning_lawful, lawful_keeps, lawful_with}
 use Rattle.lawful_log.proofs.Judged.{keeps_by_facts}
-use Rattle.lawful_log.specs.Facts.{FindsBreach, facts_of}
+use Rattle.lawful_log.specs.Facts.{FindsBreach, front_for, known_of}
 use Rattle.lawful_log.specs.Followed.{Follows}
 use Rattle.lawful_log.specs.Laws.{IsFirstBreach}
 use Rattle.lawful_log.specs.Rules.{Keeps}
-use Rattle.lawful_log.specs.declared.facts.Facts.{Facts}
 use Rattle.lawful_log.specs.declared.followed.Followed.{Followed}
 use Rattle.lawful_log.specs.declared.rule.LogRule.{LogRule}
 use Rattle.lawful_log.specs.declared.rule.LogRule.TheVariants.{InOrder}
-use Rattle.lawful_log.specs.declared.rule.LogVerdict.{LogVerdict}
 use Rattle.lawful_log.specs.declared.rule.LogVerdict.TheVariants.{Lawful, Unlawful}
 use Rattle.trace_recorder.specs.declared.logged.Logged.{Logged}
 
+-- the first rule that an entry breaks behind a log
+abbrev pub BreaksFirst : List Logged → Logged → Option LogRule → Type 0
+BreaksFirst log e o = FindsBreach (front_for e.hart e.message log) (known_of e.hart e.message.line log) e o
+
 -- no rule is broken
-pub keeps_all : (log : List Logged) (e : Logged) (f : Facts) (o : Option LogRule) → IsLawfulLog log → f ≡ facts_of e.hart e.message log → o ≡ None → FindsBreach f e o → (rule : LogRule) → Keeps rule log e
-keeps_all log e f o lawful known is found rule =
-    let none : FindsBreach f e None = subst (λ (p : Option LogRule). FindsBreach f e p) is found in
-    (keeps_by_facts rule e log lawful).0 (subst (λ (f : Facts). FindsBreach f e None) known none rule)
+pub keeps_all : (log : List Logged) (e : Logged) (o : Option LogRule) → IsLawfulLog log → o ≡ None → BreaksFirst log e o → (rule : LogRule) → Keeps rule log e
+keeps_all log e o lawful is found rule =
+    let none : BreaksFirst log e None = subst (BreaksFirst log e) is found in
+    (keeps_by_facts rule e log lawful).0 (none rule)
 
 module _ (log : List Logged) (i : ℕ) (d : Logged) (within : i < length log) where
   pub lawful_further : IsLawfulLog (take i log) → ((rule : LogRule) → Keeps rule (take i log) (get_or log i d)) → IsLawfulLog (take (i + 1) log)
@@ -31,10 +33,9 @@ module _ (log : List Logged) (i : ℕ) (d : Logged) (within : i < length log) wh
   pub follows_further : (f : Followed) → Follows f (take i log ++ get_or log i d ∷ []) → Follows f (take (i + 1) log)
   follows_further f follows = subst (Follows f) (sym (take_more log i d within)) follows
 
-  pub first_breach : (f : Facts) (rule : LogRule) (o : Option LogRule) → f ≡ facts_of (get_or log i d).hart (get_or log i d).message (take i log) → IsLawfulLog (take i log) → o ≡ Some rule → FindsBreach f (get_or log i d) o → IsFirstBreach log rule i
-  first_breach f rule o known lawful is told =
-      let found : FindsBreach f (get_or log i d) (Some rule) = subst (λ (p : Option LogRule). FindsBreach f (get_or log i d) p) is told in
-      let here : FindsBreach (facts_of (get_or log i d).hart (get_or log i d).message (take i log)) (get_or log i d) (Some rule) = subst (λ (f : Facts). FindsBreach f (get_or log i d) (Some rule)) known found in
+  pub first_breach : (rule : LogRule) (o : Option LogRule) → IsLawfulLog (take i log) → o ≡ Some rule → BreaksFirst (take i log) (get_or log i d) o → IsFirstBreach log rule i
+  first_breach rule o lawful is found =
+      let here : BreaksFirst (take i log) (get_or log i d) (Some rule) = subst (BreaksFirst (take i log) (get_or log i d)) is found in
       record {
         entry = get_or log i d;
         stands = slice_get-get_or log i d within;
@@ -52,8 +53,8 @@ pub lawful_decides : (log : List Logged) (i : ℕ) → length log ≤ i → IsLa
 lawful_decides log i past lawful = (λ same. subst IsLawfulLog (take_all i log past) lawful, λ all. refl)
 
 -- one entry further, where it breaks no rule
-pub passes : (log : List Logged) (i : ℕ) (d : Logged) (within : i < length log) (f : Facts) (o : Option LogRule) (next : Followed) → f ≡ facts_of (get_or log i d).hart (get_or log i d).message (take i log) → IsLawfulLog (take i log) → o ≡ None → FindsBreach f (get_or log i d) o
+pub passes : (log : List Logged) (i : ℕ) (d : Logged) (within : i < length log) (o : Option LogRule) (next : Followed) → IsLawfulLog (take i log) → o ≡ None → BreaksFirst (take i log) (get_or log i d) o
     → (Keeps InOrder (take i log) (get_or log i d) → Follows next (take i log ++ get_or log i d ∷ [])) → Follows next (take (i + 1) log) × IsLawfulLog (take (i + 1) log)
-passes log i d within f o next known lawful is found noted =
-    let each : (rule : LogRule) → Keeps rule (take i log) (get_or log i d) = keeps_all (take i log) (get_or log i d) f o lawful known is found in
+passes log i d within o next lawful is found noted =
+    let each : (rule : LogRule) → Keeps rule (take i log) (get_or log i d) = keeps_all (take i log) (get_or log i d) o lawful is found in
     (follows_further log i d within next (noted (each InOrder)), lawful_further log i d within lawful each)

@@ -1,7 +1,6 @@
 -- What is counted of a log, and the rules in terms of it.
 use Rattle.std.specs.Prelude.{ℕ, ◌≡◌, ◌<◌, ◌+◌, ◌^◌, Bool, true, false, ◌&&◌, not, ◌==◌, nat_lt, List, Option, Some, None, IsTrue, is_some, unwrap_or, length, slice_get}
 use Rattle.machine_model.specs.LawfulLog.{asked_by_next, concerns, is_acquire, is_BtoT, is_for, is_grant, is_grant_ack, is_of_line, is_probe, is_probe_ack, is_release, is_release_ack, lost_since_asking, sent_count, sent_on, taken_count, taken_on}
-use Rattle.lawful_log.specs.Rules as rules
 use Rattle.lawful_log.specs.Rules.{rank}
 use Rattle.lawful_log.specs.declared.facts.Facts.{Facts}
 use Rattle.lawful_log.specs.declared.rule.LogRule.{LogRule}
@@ -80,18 +79,27 @@ tallies_of who log = record {
 abbrev pub front_for : ℕ → Msg → List Logged → Option Msg
 front_for h m log = slice_get (sent_on (channel_of m) h log) (length (taken_on (channel_of m) h log))
 
-abbrev pub facts_of : ℕ → Msg → List Logged → Facts
-facts_of h m log = record {
-  front = front_for h m log;
-  hart = tallies_of (concerns h m.line) log;
-  line = tallies_of (is_of_line m.line) log;
-  asked = asked_by_next h m.line log;
-  lost = lost_since_asking h m.line false log;
+-- the messages of its line in its hart's queues and in all, what the Acquire asked for that the next Grant answers, and whether the Branch copy was lost since
+pub record Known : Type 0 where
+  pub hart : Tallies
+  pub line : Tallies
+  pub asked : Option Grow
+  pub lost : Bool
+
+abbrev pub known_of : ℕ → ℕ → List Logged → Known
+known_of h line log = record {
+  hart = tallies_of (concerns h line) log;
+  line = tallies_of (is_of_line line) log;
+  asked = asked_by_next h line log;
+  lost = lost_since_asking h line false log;
 }
+
+abbrev pub told : Facts → Known
+told f = record { hart = f.hart.now; line = f.line.now; asked = f.asked; lost = f.lost }
 
 -- ---- the rules
 
-abbrev pub has_question : Body → Facts → Bool
+abbrev pub has_question : Body → Known → Bool
 has_question (AcquireBlock grow) f = true
 has_question (ProbeBlock cap) f = true
 has_question (ProbeAck change) f = nat_lt f.hart.probe_acks.sent f.hart.probes.taken
@@ -107,7 +115,7 @@ abbrev pub is_asked : Option Grow → Cap → Bool
 is_asked None cap = true
 is_asked (Some grow) cap = is_for grow cap
 
-abbrev pub has_permission : Body → Facts → Bool
+abbrev pub has_permission : Body → Known → Bool
 has_permission (Grant cap) f = is_asked f.asked cap
 has_permission (GrantData cap bytes) f = is_asked f.asked cap
 has_permission _ f = true
@@ -116,38 +124,38 @@ abbrev pub without_data : Option Grow → (lost : Bool) → Option Bool
 without_data None lost = None
 without_data (Some grow) lost = Some (is_BtoT grow && not lost)
 
-abbrev pub goes_without_data : Facts → Option Bool
+abbrev pub goes_without_data : Known → Option Bool
 goes_without_data f = without_data f.asked f.lost
 
-abbrev pub has_right_data : Body → Facts → Bool
+abbrev pub has_right_data : Body → Known → Bool
 has_right_data (Grant cap) f = unwrap_or (goes_without_data f) true
 has_right_data (GrantData cap bytes) f = not (unwrap_or (goes_without_data f) false)
 has_right_data _ f = true
 
-abbrev pub is_no_acquire_open : Facts → Bool
+abbrev pub is_no_acquire_open : Known → Bool
 is_no_acquire_open f = f.hart.acquires.sent == f.hart.grants.taken
 
-abbrev pub is_acquired_once : Body → Facts → Bool
+abbrev pub is_acquired_once : Body → Known → Bool
 is_acquired_once (AcquireBlock grow) f = is_no_acquire_open f
 is_acquired_once _ f = true
 
-abbrev pub is_probed_once : Body → Facts → Bool
+abbrev pub is_probed_once : Body → Known → Bool
 is_probed_once (ProbeBlock cap) f = f.hart.probes.sent == f.hart.probe_acks.taken
 is_probed_once _ f = true
 
-abbrev pub is_no_grant_open : Facts → Bool
+abbrev pub is_no_grant_open : Known → Bool
 is_no_grant_open f = f.line.grants.sent == f.line.grant_acks.taken
 
-abbrev pub leaves_grant_alone : Body → Facts → Bool
+abbrev pub leaves_grant_alone : Body → Known → Bool
 leaves_grant_alone (ProbeBlock cap) f = is_no_grant_open f
 leaves_grant_alone (Grant cap) f = f.line.probes.sent == f.line.probe_acks.taken && is_no_grant_open f
 leaves_grant_alone (GrantData cap bytes) f = f.line.probes.sent == f.line.probe_acks.taken && is_no_grant_open f
 leaves_grant_alone _ f = true
 
-abbrev pub is_no_release_open : Facts → Bool
+abbrev pub is_no_release_open : Known → Bool
 is_no_release_open f = f.hart.releases.sent == f.hart.release_acks.taken
 
-abbrev pub leaves_release_alone : Body → Facts → Bool
+abbrev pub leaves_release_alone : Body → Known → Bool
 leaves_release_alone (AcquireBlock grow) f = is_no_release_open f
 leaves_release_alone (ProbeAck change) f = is_no_release_open f
 leaves_release_alone (ProbeAckData change bytes) f = is_no_release_open f
@@ -155,7 +163,7 @@ leaves_release_alone (Release change) f = is_no_release_open f && is_no_acquire_
 leaves_release_alone (ReleaseData change bytes) f = is_no_release_open f && is_no_acquire_open f
 leaves_release_alone _ f = true
 
-abbrev pub may_go_by : LogRule → Body → Facts → Bool
+abbrev pub may_go_by : LogRule → Body → Known → Bool
 may_go_by InOrder body f = true
 may_go_by Question body f = has_question body f
 may_go_by Permission body f = has_permission body f
@@ -165,18 +173,23 @@ may_go_by ProbeOnce body f = is_probed_once body f
 may_go_by GrantAlone body f = leaves_grant_alone body f
 may_go_by ReleaseAlone body f = leaves_release_alone body f
 
-abbrev pub MayComeBy : LogRule → Msg → Facts → Type 0
-MayComeBy InOrder m f = f.front ≡ Some m
-MayComeBy _ m f = IsTrue true
+-- each rule lets a message of this body go out, or this is the first that doesn't
+abbrev pub FindsBroken : Known → Body → Option LogRule → Type 0
+FindsBroken f body None = (r : LogRule) → may_go_by r body f ≡ true
+FindsBroken f body (Some rule) = (may_go_by rule body f ≡ false) × ((r : LogRule) → rank r < rank rule → may_go_by r body f ≡ true)
 
-abbrev pub GoesBy : Direction → LogRule → Msg → Facts → Type 0
-GoesBy Sent rule m f = IsTrue (may_go_by rule m.body f)
-GoesBy Taken rule m f = MayComeBy rule m f
+abbrev pub MayComeBy : LogRule → Msg → (front : Option Msg) → Type 0
+MayComeBy InOrder m front = front ≡ Some m
+MayComeBy _ m front = IsTrue true
 
-abbrev pub KeepsBy : LogRule → Facts → Logged → Type 0
-KeepsBy rule f e = GoesBy e.direction rule e.message f
+abbrev pub GoesBy : Direction → LogRule → Msg → (front : Option Msg) → Known → Type 0
+GoesBy Sent rule m front f = IsTrue (may_go_by rule m.body f)
+GoesBy Taken rule m front f = MayComeBy rule m front
+
+abbrev pub KeepsBy : LogRule → (front : Option Msg) → Known → Logged → Type 0
+KeepsBy rule front f e = GoesBy e.direction rule e.message front f
 
 -- all rules are kept, or this is the first that is broken
-abbrev pub FindsBreach : Facts → Logged → Option LogRule → Type 0
-FindsBreach f e None = (r : LogRule) → KeepsBy r f e
-FindsBreach f e (Some rule) = (¬ KeepsBy rule f e) × ((r : LogRule) → rank r < rank rule → KeepsBy r f e)
+abbrev pub FindsBreach : (front : Option Msg) → Known → Logged → Option LogRule → Type 0
+FindsBreach front f e None = (r : LogRule) → KeepsBy r front f e
+FindsBreach front f e (Some rule) = (¬ KeepsBy rule front f e) × ((r : LogRule) → rank r < rank rule → KeepsBy r front f e)

@@ -1,15 +1,15 @@
 -- What the one pass keeps of a log.
-use Rattle.std.specs.Prelude.{ℕ, ◌≡◌, ◌+◌, ◌<◌, ◌^◌, Bool, false, ◌&&◌, ◌||◌, not, ◌==◌, if◌then◌else◌, List, [], ◌∷◌, ◌++◌, length, drop, unwrap_or}
+use Rattle.std.specs.Prelude.{ℕ, ◌≡◌, ◌+◌, ◌<◌, ◌^◌, Bool, false, ◌&&◌, ◌||◌, not, ◌==◌, if◌then◌else◌, List, [], ◌∷◌, ◌++◌, length, drop, nat_eq, slice_get}
 use Rattle.std.specs.BTreeMap as tree
-use Rattle.std.specs.BTreeMap.{BTreeMap}
+use Rattle.std.specs.HashMap.{HashMap, get}
 use Rattle.std.specs.Option.{option_map_or}
-use Rattle.std.specs.Ordering.{nat_cmp, ordering_then}
-use Rattle.std.specs.declared.cmp.Ordering.{Ordering}
-use Rattle.std.specs.Global.{Vec}
+use Rattle.std.specs.Ordering.{nat_cmp}
 use Rattle.std.specs.VecDeque.{deque_items}
 use Rattle.machine_model.specs.LawfulLog.{concerns, grows_taken, is_acquire, is_loss, is_of_line, is_on, is_sent, lost_since_asking, sent_on, taken_on}
-use Rattle.lawful_log.specs.Facts.{no_tallies, tallies_of}
+use Rattle.lawful_log.specs.Facts.{Known, counted, no_tallies, tallies_of}
 use Rattle.lawful_log.specs.declared.followed.Followed.{Followed}
+use Rattle.lawful_log.specs.declared.lines.HartLog.{HartLog}
+use Rattle.lawful_log.specs.declared.lines.LineLog.{LineLog}
 use Rattle.lawful_log.specs.declared.queues.Queues.{Queues}
 use Rattle.lawful_log.specs.declared.tallies.Tallies.{Tallies}
 use Rattle.tl_types.specs.Message.{channel_of}
@@ -23,23 +23,33 @@ use Rattle.trace_recorder.specs.declared.logged.Direction.{Direction}
 use Rattle.trace_recorder.specs.declared.logged.Direction.TheVariants.{Sent, Taken}
 use Rattle.trace_recorder.specs.declared.logged.Logged.{Logged}
 
--- keys by line and then by hart
-abbrev pub key_cmp : ℕ × ℕ → ℕ × ℕ → Ordering
-key_cmp a b = ordering_then (nat_cmp a.0 b.0) (nat_cmp a.1 b.1)
+-- ---- what stands of a line and a hart; where there is no entry, nothing came yet
 
--- ---- what stands in the maps; where there is no entry, nothing came yet
+pub record HartKnown : Type 0 where
+  pub tallies : Tallies
+  -- what the Acquires that were taken asked for
+  pub asked : List Grow
+  pub lost : Bool
 
-abbrev pub hart_tallies_in : BTreeMap (ℕ × ℕ) Tallies → ℕ → ℕ → Tallies
-hart_tallies_in m h line = unwrap_or (tree.get key_cmp m (line, h)) no_tallies
+abbrev pub nothing_known : HartKnown
+nothing_known = record { tallies = no_tallies; asked = []; lost = false }
 
-abbrev pub line_tallies_in : BTreeMap ℕ Tallies → ℕ → Tallies
-line_tallies_in m line = unwrap_or (tree.get nat_cmp m line) no_tallies
+abbrev pub hart_known : HartLog → HartKnown
+hart_known hart = record { tallies = hart.tallies; asked = hart.asked.items; lost = hart.lost }
 
-abbrev pub asked_in : BTreeMap (ℕ × ℕ) (Vec Grow) → ℕ → ℕ → List Grow
-asked_in m h line = option_map_or (λ (v : Vec Grow). v.items) (tree.get key_cmp m (line, h)) []
+abbrev pub known_at : List HartLog → ℕ → HartKnown
+known_at harts h = option_map_or hart_known (slice_get harts h) nothing_known
 
-abbrev pub lost_in : BTreeMap (ℕ × ℕ) Bool → ℕ → ℕ → Bool
-lost_in m h line = unwrap_or (tree.get key_cmp m (line, h)) false
+module _ {S : Type 0} where
+  abbrev pub known_in : HashMap ℕ LineLog S → ℕ → ℕ → HartKnown
+  known_in m h line = option_map_or (λ (l : LineLog). known_at l.harts.items h) (get nat_eq m line) nothing_known
+
+  abbrev pub all_in : HashMap ℕ LineLog S → ℕ → Tallies
+  all_in m line = option_map_or (λ (l : LineLog). l.all) (get nat_eq m line) no_tallies
+
+-- what a message of the hart is judged by
+abbrev pub known_from : HartKnown → (line : Tallies) → Known
+known_from k line = record { hart = k.tallies; line = line; asked = slice_get k.asked k.tallies.grants.sent; lost = k.lost }
 
 abbrev pub waiting_on : Queues → Channel → ℕ → List Msg
 waiting_on q A h = option_map_or deque_items (tree.get nat_cmp q.a h) []
@@ -59,6 +69,13 @@ grows_given _ _ = []
 abbrev pub lost_by : Logged → Bool → Bool
 lost_by e lost = if is_sent e.direction then (not (is_acquire e.message.body) && lost) else (is_loss e.message.body || lost)
 
+abbrev pub noted : Logged → HartKnown → HartKnown
+noted e k = record {
+  tallies = counted e k.tallies;
+  asked = k.asked ++ grows_given e.direction e.message.body;
+  lost = lost_by e k.lost;
+}
+
 abbrev pub moved : Direction → Msg → List Msg → List Msg
 moved Sent m waiting = waiting ++ m ∷ []
 moved Taken m waiting = drop 1 waiting
@@ -67,13 +84,18 @@ moved Taken m waiting = drop 1 waiting
 abbrev pub waiting_after : Channel → ℕ → Logged → List Msg → List Msg
 waiting_after c h e waiting = if is_on c (channel_of e.message) then (if e.hart == h then moved e.direction e.message waiting else waiting) else waiting
 
--- ---- the maps say of a log what the rules ask for
+-- ---- the maps and the queues say of a log what the rules ask for
+
+abbrev pub hart_known_of : ℕ → ℕ → List Logged → HartKnown
+hart_known_of h line log = record {
+  tallies = tallies_of (concerns h line) log;
+  asked = grows_taken h line log;
+  lost = lost_since_asking h line false log;
+}
 
 pub record Follows (f : Followed) (log : List Logged) : Type 0 where
-  pub harts : (h line : ℕ) → hart_tallies_in f.harts h line ≡ tallies_of (concerns h line) log
-  pub lines : (line : ℕ) → line_tallies_in f.lines line ≡ tallies_of (is_of_line line) log
-  pub asked : (h line : ℕ) → asked_in f.asked h line ≡ grows_taken h line log
-  pub lost : (h line : ℕ) → lost_in f.lost h line ≡ lost_since_asking h line false log
+  pub harts : (h line : ℕ) → known_in f.lines h line ≡ hart_known_of h line log
+  pub lines : (line : ℕ) → all_in f.lines line ≡ tallies_of (is_of_line line) log
   pub queues : (c : Channel) (h : ℕ) → taken_on c h log ++ waiting_on f.queues c h ≡ sent_on c h log
 
 -- of some log to which one more entry can be added

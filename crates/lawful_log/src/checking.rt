@@ -17,7 +17,7 @@ pub fn check_log(alloc: Global, log: &[Logged]) -> Result<LogVerdict, AllocError
 {
     let mut followed = Followed::new(alloc);
     for (index, entry) in log.iter().enumerate() {
-        match followed.facts(entry).broken(entry) {
+        match followed.broken(entry) {
             Some(rule) => return Ok(LogVerdict::Unlawful { rule, index }),
             None => followed.note(alloc, entry)?,
         }

@@ -1,62 +1,40 @@
-//! What the rules ask of an entry, judged by what was counted before it.
-ghost use Rattle.std.specs.Prelude.{◌≡◌, ◌↔◌, IsTrue, Some};
-ghost use Rattle.lawful_log.specs.Facts.{KeepsBy, FindsBreach};
+//! What the rules ask of a message that is sent, judged by what was counted before it.
+ghost use Rattle.std.specs.Prelude.{◌≡◌};
+ghost use Rattle.lawful_log.specs.Facts.{FindsBroken, told};
 ghost use Rattle.lawful_log.specs.Facts as spec;
 
 use crate::rule::LogRule;
 use crate::tallies::Tallies;
-use tl_types::{Body, Cap, Grow, Msg};
-use trace_recorder::{Direction, Logged};
+use tl_types::{Body, Cap, Grow};
 
-/// What a log says that the next entry is judged by.
+/// What a log says that the next message to be sent is judged by.
 #[derive(Clone, Copy, Debug)]
-pub(crate) struct Facts {
-    /// The front of the queue that the entry's message goes by.
-    pub(crate) front: Option<Msg>,
-    /// The messages of the entry's line in the queues of its hart.
-    pub(crate) hart: Tallies,
-    /// The messages of the entry's line in all queues.
-    pub(crate) line: Tallies,
+pub(crate) struct Facts<'a> {
+    /// The messages of its line in the queues of its hart.
+    pub(crate) hart: &'a Tallies,
+    /// The messages of its line in all queues.
+    pub(crate) line: &'a Tallies,
     /// What the Acquire asked for that the hart's next Grant of the line answers.
     pub(crate) asked: Option<Grow>,
     /// Whether the hart lost its Branch copy of the line since it last asked for it.
     pub(crate) lost: bool,
 }
 
-impl Facts {
-    /// The first rule that the entry breaks.
-    pub(crate) fn broken(&self, entry: &Logged) -> Option<LogRule>
-        ensures { FindsBreach self.now entry.now result }
+impl Facts<'_> {
+    /// The first rule that a message of this body breaks.
+    pub(crate) fn broken(&self, body: &Body) -> Option<LogRule>
+        ensures { FindsBroken (told self.now) body.now result }
     {
         for rule in LogRule::ALL {
-            if !self.keeps(rule, entry) {
+            if !self.may_go_by(rule, body) {
                 return Some(rule);
             }
         }
         None
     }
 
-    /// Whether the entry keeps the rule.
-    pub(crate) fn keeps(&self, rule: LogRule, entry: &Logged) -> bool
-        ensures { IsTrue result ↔ KeepsBy rule self.now entry.now }
-    {
-        match entry.direction {
-            Direction::Sent => self.may_go_by(rule, &entry.message.body),
-            Direction::Taken => rule != LogRule::InOrder || self.is_front(&entry.message),
-        }
-    }
-
-    fn is_front(&self, message: &Msg) -> bool
-        ensures { IsTrue result ↔ (self.now.front ≡ Some message.now) }
-    {
-        match &self.front {
-            Some(front) => front == message,
-            None => false,
-        }
-    }
-
     fn may_go_by(&self, rule: LogRule, body: &Body) -> bool
-        ensures { result ≡ spec.may_go_by rule body.now self.now }
+        ensures { result ≡ spec.may_go_by rule body.now (told self.now) }
     {
         match rule {
             LogRule::InOrder => true,
@@ -71,7 +49,7 @@ impl Facts {
     }
 
     fn has_question(&self, body: &Body) -> bool
-        ensures { result ≡ spec.has_question body.now self.now }
+        ensures { result ≡ spec.has_question body.now (told self.now) }
     {
         match body {
             Body::ProbeAck(_) | Body::ProbeAckData { .. } => {
@@ -85,7 +63,7 @@ impl Facts {
     }
 
     fn has_permission(&self, body: &Body) -> bool
-        ensures { result ≡ spec.has_permission body.now self.now }
+        ensures { result ≡ spec.has_permission body.now (told self.now) }
     {
         match body {
             Body::Grant(cap) | Body::GrantData { cap, .. } => is_asked(self.asked, *cap),
@@ -94,7 +72,7 @@ impl Facts {
     }
 
     fn has_right_data(&self, body: &Body) -> bool
-        ensures { result ≡ spec.has_right_data body.now self.now }
+        ensures { result ≡ spec.has_right_data body.now (told self.now) }
     {
         match body {
             Body::Grant(_) => self.goes_without_data().unwrap_or(true),
@@ -105,14 +83,14 @@ impl Facts {
 
     // Whether the next Grant is without data, if there is a next Grant.
     fn goes_without_data(&self) -> Option<bool>
-        ensures { result ≡ spec.goes_without_data self.now }
+        ensures { result ≡ spec.goes_without_data (told self.now) }
     {
         let grow = self.asked?;
         Some(grow == Grow::BtoT && !self.lost)
     }
 
     fn is_acquired_once(&self, body: &Body) -> bool
-        ensures { result ≡ spec.is_acquired_once body.now self.now }
+        ensures { result ≡ spec.is_acquired_once body.now (told self.now) }
     {
         match body {
             Body::AcquireBlock(_) => self.is_no_acquire_open(),
@@ -121,7 +99,7 @@ impl Facts {
     }
 
     fn is_probed_once(&self, body: &Body) -> bool
-        ensures { result ≡ spec.is_probed_once body.now self.now }
+        ensures { result ≡ spec.is_probed_once body.now (told self.now) }
     {
         match body {
             Body::ProbeBlock(_) => self.hart.probes.sent == self.hart.probe_acks.taken,
@@ -130,7 +108,7 @@ impl Facts {
     }
 
     fn leaves_grant_alone(&self, body: &Body) -> bool
-        ensures { result ≡ spec.leaves_grant_alone body.now self.now }
+        ensures { result ≡ spec.leaves_grant_alone body.now (told self.now) }
     {
         let no_grant = self.line.grants.sent == self.line.grant_acks.taken;
         match body {
@@ -143,7 +121,7 @@ impl Facts {
     }
 
     fn leaves_release_alone(&self, body: &Body) -> bool
-        ensures { result ≡ spec.leaves_release_alone body.now self.now }
+        ensures { result ≡ spec.leaves_release_alone body.now (told self.now) }
     {
         let no_release = self.hart.releases.sent == self.hart.release_acks.taken;
         match body {
@@ -154,7 +132,7 @@ impl Facts {
     }
 
     fn is_no_acquire_open(&self) -> bool
-        ensures { result ≡ spec.is_no_acquire_open self.now }
+        ensures { result ≡ spec.is_no_acquire_open (told self.now) }
     {
         self.hart.acquires.sent == self.hart.grants.taken
     }

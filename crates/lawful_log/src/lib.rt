@@ -5,6 +5,7 @@ mod awaited;
 mod checking;
 mod facts;
 mod followed;
+mod lines;
 mod queues;
 mod rule;
 mod tallies;

@@ -1,10 +1,11 @@
 //! The messages that wait in each hart's queues.
-ghost use Rattle.std.specs.Prelude.{◌≡◌, ◌==◌, ℕ, OnOk, [], slice_get, if◌then◌else◌};
+ghost use Rattle.std.specs.Prelude.{◌≡◌, ◌==◌, ◌↔◌, ℕ, IsTrue, OnOk, Some, [], slice_get, if◌then◌else◌};
 ghost use Rattle.std.specs.BTreeMap as tree;
 ghost use Rattle.std.specs.Option.{option_map_or};
 ghost use Rattle.std.specs.Ordering.{nat_cmp};
 ghost use Rattle.std.specs.VecDeque.{deque_items};
 ghost use Rattle.lawful_log.specs.Followed.{moved, waiting_after, waiting_on};
+ghost use Rattle.tl_types.specs.Message.{channel_of};
 ghost use Rattle.tl_types.specs.declared.message.Channel.{Channel as ChannelValue};
 
 use std::alloc::{AllocError, Global};
@@ -36,16 +37,16 @@ impl Queues {
         }
     }
 
-    /// The message in front of a queue, if one waits.
-    pub(crate) fn front(&self, channel: Channel, hart: u8) -> Option<Msg>
-        ensures { result ≡ slice_get (waiting_on self.now channel hart) 0 }
+    /// Whether the entry's message is the front of its queue.
+    pub(crate) fn is_front(&self, entry: &Logged) -> bool
+        ensures { IsTrue result ↔ (slice_get (waiting_on self.now (channel_of entry.now.message) entry.now.hart) 0 ≡ Some entry.now.message) }
     {
-        match channel {
-            Channel::A => front_in(&self.a, hart),
-            Channel::B => front_in(&self.b, hart),
-            Channel::C => front_in(&self.c, hart),
-            Channel::D => front_in(&self.d, hart),
-            Channel::E => front_in(&self.e, hart),
+        match entry.message.channel() {
+            Channel::A => is_front_in(&self.a, entry),
+            Channel::B => is_front_in(&self.b, entry),
+            Channel::C => is_front_in(&self.c, entry),
+            Channel::D => is_front_in(&self.d, entry),
+            Channel::E => is_front_in(&self.e, entry),
         }
     }
 
@@ -63,13 +64,28 @@ impl Queues {
     }
 }
 
-fn front_in(queues: &BTreeMap<u8, VecDeque<Msg>>, hart: u8) -> Option<Msg>
-    ensures { result ≡ slice_get (option_map_or deque_items (tree.get nat_cmp queues.now hart) []) 0 }
+fn is_front_in(queues: &BTreeMap<u8, VecDeque<Msg>>, entry: &Logged) -> bool
+    ensures { IsTrue result ↔ (slice_get (option_map_or deque_items (tree.get nat_cmp queues.now entry.now.hart) []) 0 ≡ Some entry.now.message) }
 {
-    match queues.get(&hart) {
-        Some(waiting) => waiting.front().copied(),
-        None => None,
+    match queues.get(&entry.hart) {
+        Some(waiting) => is_first(waiting, &entry.message),
+        None => false,
     }
+}
+
+fn is_first(waiting: &VecDeque<Msg>, message: &Msg) -> bool
+    ensures { IsTrue result ↔ (slice_get (deque_items waiting.now) 0 ≡ Some message.now) }
+{
+    match waiting.front() {
+        Some(front) => is_same(front, message),
+        None => false,
+    }
+}
+
+fn is_same(first: &Msg, second: &Msg) -> bool
+    ensures { IsTrue result ↔ (first.now ≡ second.now) }
+{
+    first == second
 }
 
 fn note_in(queues: &mut BTreeMap<u8, VecDeque<Msg>>, entry: &Logged) -> Result<(), AllocError>
