@@ -10,4 +10,5 @@ mod Fronts
 mod PrivateRows
 mod FoundPlans
 mod Fetching
+mod Taken
 pub mod Committed

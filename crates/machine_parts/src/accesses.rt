@@ -19,7 +19,7 @@ use rv32_decode::{AmoOp, Instr, Register};
 use rv32_exec::Width;
 
 /// An instruction that a hart is about to retire.
-#[derive(Clone, Copy, Debug)]
+#[derive(Clone, Copy)]
 pub(crate) struct Fetched {
     pub(crate) word: u32,
     pub(crate) instr: Instr,

@@ -74,7 +74,7 @@ fn outcome_by(status: Status) -> Outcome
 }
 
 // How much an act adds to the trace at most.
-#[derive(Clone, Copy, Debug)]
+#[derive(Clone, Copy)]
 struct Growth {
     entries: usize,
     performed: usize,

@@ -35,3 +35,17 @@ few_given es few =
 -- more than 4,096 up to a hart are more than 4,096 altogether
 pub too_many : (count more rest all : ℕ) → count + (more + rest) ≡ all → 4096 < count + more → true ≡ nat_lt 4096 all
 too_many count more rest all e l = sym (lt-ltb 4096 all (omega arith))
+
+-- ---- those of one hart, one by one
+
+pub counted_next : (es : List Retired) (i count counted total : ℕ) (d : Retired) (found : Bool) → i < length es → found ≡ has_operation (get_or es i d) → found ≡ true → counted ≡ count + 1
+    → count + length (filter has_operation (drop i es)) ≡ total → counted + length (filter has_operation (drop (i + 1) es)) ≡ total
+counted_next es i count counted total d found h e f g inv =
+    let step = ap length (at_drop_more (filter has_operation) es i d h) ∙ ap (λ (b : Bool). length (cond b (get_or es i d ∷ filter has_operation (drop (i + 1) es)) (filter has_operation (drop (i + 1) es)))) (sym e ∙ f) in
+    omega (arith, step, g, inv)
+
+pub counted_same : (es : List Retired) (i count counted total : ℕ) (d : Retired) (found : Bool) → i < length es → found ≡ has_operation (get_or es i d) → found ≡ false → counted ≡ count
+    → count + length (filter has_operation (drop i es)) ≡ total → counted + length (filter has_operation (drop (i + 1) es)) ≡ total
+counted_same es i count counted total d found h e f g inv =
+    let step = ap length (at_drop_more (filter has_operation) es i d h) ∙ ap (λ (b : Bool). length (cond b (get_or es i d ∷ filter has_operation (drop (i + 1) es)) (filter has_operation (drop (i + 1) es)))) (sym e ∙ f) in
+    omega (arith, step, g, inv)

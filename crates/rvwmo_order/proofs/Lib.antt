@@ -19,6 +19,7 @@ pub mod Parted
 pub mod Passing
 pub mod Placed
 pub mod Seen
+pub mod Steps
 pub mod Sweeps
 pub mod Touches
 pub mod Verdicts

@@ -10,7 +10,7 @@ ghost use Rattle.rvwmo_order.specs.Scans.{registers_in};
 use crate::uses::{address_register, destination, is_steering, other_registers, stored_register};
 use rv32_decode::{Instr, Register};
 
-#[derive(Clone, Copy, Debug)]
+#[derive(Clone, Copy)]
 pub(crate) struct Carried {
     registers: [usize; 32],
     /// The greatest weight that a branch or a JALR depended on.

@@ -9,7 +9,7 @@ use crate::rules::{fences, is_lr_or_sc};
 use memory_model::{Kind, Model, Operation};
 
 /// The greatest weights of the operations passed, each of those that it names.
-#[derive(Clone, Copy, Debug)]
+#[derive(Clone, Copy)]
 pub(crate) struct Passed {
     all: usize,
     reads: usize,

@@ -14,7 +14,7 @@ use std::collections::BTreeMap;
 
 /// An operation of an order that has a lower place in its hart's list than all of its hart behind it: that
 /// place, and how many operations stand behind it.
-#[derive(Clone, Copy, Debug)]
+#[derive(Clone, Copy)]
 struct Lowest {
     place: u32,
     behind: usize,

@@ -5,7 +5,7 @@ ghost use Rattle.rvwmo_order.specs.Bounds as spec;
 use crate::verdict::Rule;
 
 /// For each rule a bound on the weights of the operations that must come before an operation by it.
-#[derive(Clone, Copy, Debug)]
+#[derive(Clone, Copy)]
 pub(crate) struct Row {
     pub(crate) overlapping_store: usize,
     pub(crate) same_byte_loads: usize,

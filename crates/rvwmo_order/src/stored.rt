@@ -6,7 +6,7 @@ use std::sync::ledger::Ledger;
 use tl_types::Ticks;
 
 /// A store of an order and its place there, read by `look` alone.
-#[derive(Clone, Copy, Debug)]
+#[derive(Clone, Copy)]
 pub(crate) struct Stored {
     position: usize,
     store: Operation,

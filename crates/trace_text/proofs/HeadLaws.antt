@@ -13,7 +13,8 @@ use Rattle.trace_text.specs.declared.head.TraceHead.{TraceHead}
 use Rattle.trace_text.specs.Scripts.{is_first_version}
 use Rattle.trace_text.specs.TraceHeads.{IsTraceHead}
 use Rattle.trace_text.specs.Traces.{head}
-use Rattle.trace_text.specs.TraceLines.{is_trace_head, first_numbers_at, size_of, size_at, second_numbers_at, head_at}
+use Rattle.trace_text.specs.ScriptReading.{word_line_at}
+use Rattle.trace_text.specs.TraceLines.{is_trace_head, first_fields_at, first_numbers_at, size_of, size_at, word_field_at, second_fields_at, second_numbers_at, head_at}
 use Rattle.trace_text.proofs.TraceHeads.{trace_head_bounds}
 
 head_passes : (h : TraceHead) → IsTraceHead h → is_trace_head h ≡ true
@@ -68,7 +69,7 @@ first_back : (h : TraceHead) → h.line ≡ Bytes16 → ◌≡◌ {A = TraceHead
 first_back h e = rw (← e) refl
 
 first_reads : Reads first_numbers IsFirst first_numbers_at
-unfolding first_numbers_at
+unfolding first_numbers_at first_fields_at word_line_at
 first_reads =
     refit
     (guard_reads (λ h. is_trace_head h && is_first_version h.harts 16)
@@ -121,7 +122,7 @@ second_fro : (h : TraceHead) → IsSecond h → SecondFields h × ((is_trace_hea
 second_fro h f = ((omega (arith, f.0.at_most_8), (f.0.memory.at_most, (entry_small h f.0, tt))), both_are (is_trace_head h) (not (first h)) (head_passes h f.0) (ap not f.1))
 
 second_reads : Reads second_numbers IsSecond second_numbers_at
-unfolding second_numbers_at
+unfolding second_numbers_at second_fields_at word_field_at
 second_reads =
     refit
     (guard_reads (λ h. is_trace_head h && not (first h))

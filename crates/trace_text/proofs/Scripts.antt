@@ -20,7 +20,7 @@ use Rattle.trace_text.specs.declared.script.Script.{Script}
 use Rattle.trace_text.specs.declared.fault.TextError.{TextError}
 use Rattle.std.specs.Prelude.{IfOk}
 use Rattle.trace_text.specs.Reading.{Answers, IsNoMemory}
-use Rattle.trace_text.specs.ScriptReading.{channels, word_line_at, channel_at, step_at, drain_at, evict_at, deliver_at, local_at, event_at, most, first_head_at, second_head_at, head_at, script_at}
+use Rattle.trace_text.specs.ScriptReading.{channels, word_line_at, channel_at, step_at, drain_at, evict_at, deliver_at, local_at, event_at, most, last_two_at, first_fields_at, first_head_at, second_fields_at, second_head_at, head_at, script_at}
 
 word_line_reads : Reads (λ w. word w ++ 10 ∷ []) (λ w. w < 2 ^ 32) word_line_at
 unfolding word_line_at
@@ -170,7 +170,7 @@ abbrev make_second : ℕ × (ℕ × (ℕ × (ℕ × ℕ))) → Head
 make_second p = record { harts = p.0; kib = p.1.0; sets = p.1.1.0; ways = p.1.1.1.0; line = p.1.1.1.1 }
 
 first_takes : (bytes : List ℕ) (h : Head) (rest : List ℕ) → first_head_at bytes ≡ Some (h, rest) → (bytes ≡ head h ++ rest) × IsOne h
-unfolding first_head_at
+unfolding first_head_at first_fields_at last_two_at
 first_takes bytes h rest e =
     let p = bind_some (seen_at make_first (led_at (codes "rvtl-script 1 ") (pair_at (number_at 32 most) (pair_at (number_at 32 most) (pair_at (number_at 32 most) (number_at 10 most))))) bytes) (λ x. guarded (is_head x.0 && is_first_version x.0.harts x.0.line) x) (h, rest) e in
     let g = guarded_takes (is_head p.0.0 && is_first_version p.0.0.harts p.0.0.line) p.0 (h, rest) p.2 in
@@ -179,7 +179,7 @@ first_takes bytes h rest e =
     subst (λ (y : Head × List ℕ). (bytes ≡ head y.0 ++ y.1) × IsOne y.0) g.1 (t.0 ∙ ap (λ u. u ++ p.0.1) (sym (head_first p.0.0 b.1)), b.0)
 
 second_takes : (bytes : List ℕ) (h : Head) (rest : List ℕ) → second_head_at bytes ≡ Some (h, rest) → (bytes ≡ head h ++ rest) × IsOne h
-unfolding second_head_at
+unfolding second_head_at second_fields_at last_two_at
 second_takes bytes h rest e =
     let p = bind_some (seen_at make_second (led_at (codes "rvtl-script 2 ") (pair_at (number_at 32 most) (pair_at (number_at 32 most) (pair_at (number_at 32 most) (pair_at (number_at 32 most) (number_at 10 most)))))) bytes) (λ x. guarded (is_head x.0 && not (is_first_version x.0.harts x.0.line)) x) (h, rest) e in
     let g = guarded_takes (is_head p.0.0 && not (is_first_version p.0.0.harts p.0.0.line)) p.0 (h, rest) p.2 in
@@ -233,7 +233,7 @@ both_are : (a b : Bool) → a ≡ true → b ≡ true → (a && b) ≡ true
 both_are a b e f = rw (e, f) refl
 
 first_again : (h : Head) (rest : List ℕ) → is_head h ≡ true → is_first_version h.harts h.line ≡ true → first_head_at (head h ++ rest) ≡ Some (h, rest)
-unfolding first_head_at
+unfolding first_head_at first_fields_at last_two_at
 first_again h rest e v =
     let b = bounds h e in
     let line : h.line ≡ 16 = eqb-true h.line 16 (both_true (eqb h.line 16) (leb h.harts 4) v).0 in
@@ -244,7 +244,7 @@ first_again h rest e v =
     ∙ guard_passes (λ m. is_head m && is_first_version m.harts m.line) (make_first (h.harts, (h.kib, (h.sets, h.ways)))) h rest made (both_are _ _ e v)
 
 second_again : (h : Head) (rest : List ℕ) → is_head h ≡ true → is_first_version h.harts h.line ≡ false → second_head_at (head h ++ rest) ≡ Some (h, rest)
-unfolding second_head_at
+unfolding second_head_at second_fields_at last_two_at
 second_again h rest e v =
     let b = bounds h e in
     let read = seen_again second_law make_second (h.harts, (h.kib, (h.sets, (h.ways, h.line)))) rest (b.harts, (b.kib, (b.sets, (b.ways, b.line)))) in
@@ -254,7 +254,7 @@ second_again h rest e v =
     ∙ guard_passes (λ m. is_head m && not (is_first_version m.harts m.line)) h h rest refl (both_are _ _ e other)
 
 first_not : (h : Head) (rest : List ℕ) → is_first_version h.harts h.line ≡ false → first_head_at (head h ++ rest) ≡ None
-unfolding first_head_at
+unfolding first_head_at first_fields_at last_two_at
 first_not h rest v = ap (λ t. first_head_at (t ++ rest)) (head_second h v)
 
 head_again : (h : Head) (rest : List ℕ) → is_head h ≡ true → head_at (head h ++ rest) ≡ Some (h, rest)

@@ -35,7 +35,7 @@ use Rattle.trace_text.specs.declared.head.TraceHead.{TraceHead}
 use Rattle.trace_text.specs.Traces.{retired_text, outcome}
 use Rattle.trace_text.specs.TraceLimits.{IsLoaded, IsRetired, IsOperation, IsData, IsBody, IsLogged, IsStatus}
 use Rattle.trace_text.specs.TraceReading.{directions, direction_at, grows, grow_at, caps, cap_at, changes, change_at, answers, answer_at, loaded_at, data_at, all_names, name_at, change_data_at, cap_data_at, carried_at, message_at}
-use Rattle.trace_text.specs.TraceLines.{retired_at, operation_at, stop_at, exit_at, status_at, is_line, letter_of, letter_at, is_logged, logged_at}
+use Rattle.trace_text.specs.TraceLines.{word_field_at, loaded_field_at, answer_line_at, retired_at, operation_at, stop_at, exit_at, status_at, is_line, letter_of, letter_at, is_logged, logged_at}
 use Rattle.trace_text.specs.Words as words
 
 -- ---- words by tables
@@ -109,7 +109,7 @@ pub loaded_reads : Reads words.loaded IsLoaded loaded_at
 loaded_reads = record { takes = loaded_takes; again = loaded_again }
 
 pub retired_reads : Reads retired_text IsRetired retired_at
-unfolding retired_at
+unfolding retired_at word_field_at loaded_field_at answer_line_at
 retired_reads =
     seen_reads retired_text IsRetired (λ p. record { pc = p.0; word = p.1.0; loaded = p.1.1.0; sc_ok = p.1.1.1 }) (λ r. (r.pc, (r.word, (r.loaded, r.sc_ok))))
     (λ x h. (refl, record { pc = h.0; word = h.1.0; loaded = h.1.1.0 })) (λ y h. (refl, (h.pc, (h.word, (h.loaded, tt)))))

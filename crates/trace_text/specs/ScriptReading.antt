@@ -41,17 +41,25 @@ event_at bytes = either (step_at bytes) (either (drain_at bytes) (either (evict_
 abbrev pub most : ℕ
 most = 1024
 
-unfoldable pub first_head_at : List ℕ → Option (Head × List ℕ)
-first_head_at bytes =
+-- the last two numbers of a header
+unfoldable pub last_two_at : List ℕ → Option ((ℕ × ℕ) × List ℕ)
+last_two_at bytes = pair_at (number_at 32 most) (number_at 10 most) bytes
+
+unfoldable pub first_fields_at : List ℕ → Option (Head × List ℕ)
+first_fields_at bytes =
     seen_at (λ p. record { harts = p.0; kib = p.1.0; sets = p.1.1.0; ways = p.1.1.1; line = 16 })
-    (led_at (codes "rvtl-script 1 ") (pair_at (number_at 32 most) (pair_at (number_at 32 most) (pair_at (number_at 32 most) (number_at 10 most))))) bytes
-    >>= λ x. guarded (is_head x.0 && is_first_version x.0.harts x.0.line) x
+    (led_at (codes "rvtl-script 1 ") (pair_at (number_at 32 most) (pair_at (number_at 32 most) last_two_at))) bytes
+
+unfoldable pub first_head_at : List ℕ → Option (Head × List ℕ)
+first_head_at bytes = first_fields_at bytes >>= λ x. guarded (is_head x.0 && is_first_version x.0.harts x.0.line) x
+
+unfoldable pub second_fields_at : List ℕ → Option (Head × List ℕ)
+second_fields_at bytes =
+    seen_at (λ p. record { harts = p.0; kib = p.1.0; sets = p.1.1.0; ways = p.1.1.1.0; line = p.1.1.1.1 })
+    (led_at (codes "rvtl-script 2 ") (pair_at (number_at 32 most) (pair_at (number_at 32 most) (pair_at (number_at 32 most) last_two_at)))) bytes
 
 unfoldable pub second_head_at : List ℕ → Option (Head × List ℕ)
-second_head_at bytes =
-    seen_at (λ p. record { harts = p.0; kib = p.1.0; sets = p.1.1.0; ways = p.1.1.1.0; line = p.1.1.1.1 })
-    (led_at (codes "rvtl-script 2 ") (pair_at (number_at 32 most) (pair_at (number_at 32 most) (pair_at (number_at 32 most) (pair_at (number_at 32 most) (number_at 10 most)))))) bytes
-    >>= λ x. guarded (is_head x.0 && not (is_first_version x.0.harts x.0.line)) x
+second_head_at bytes = second_fields_at bytes >>= λ x. guarded (is_head x.0 && not (is_first_version x.0.harts x.0.line)) x
 
 unfoldable pub head_at : List ℕ → Option (Head × List ℕ)
 head_at bytes = either (first_head_at bytes) (second_head_at bytes)

@@ -16,6 +16,7 @@ use Rattle.tl_types.specs.declared.message.Msg.{Msg}
 use Rattle.trace_recorder.specs.declared.operation.OpId.{OpId}
 use Rattle.trace_recorder.specs.declared.logged.Logged.{Logged}
 use Rattle.trace_text.specs.declared.head.TraceHead.{TraceHead}
+use Rattle.trace_text.specs.ScriptReading.{word_line_at}
 use Rattle.trace_text.specs.Scripts.{is_first_version}
 use Rattle.trace_text.specs.Traces.{any_set}
 use Rattle.trace_text.specs.TraceReading.{direction_at, message_at, loaded_at, answer_at}
@@ -28,10 +29,11 @@ is_trace_head h =
     (nat_le 1 h.harts && nat_le h.harts 8) && (nat_le 4 h.kib && nat_le h.kib 1024 && h.kib % 4 == 0)
     && (h.entry % 4 == 0 && nat_le base h.entry && nat_le (h.entry + 4) (base + h.kib * 1024))
 
+unfoldable pub first_fields_at : List ℕ → Option (TraceHead × List ℕ)
+first_fields_at bytes = seen_at (λ p. record { harts = p.0; kib = p.1.0; entry = p.1.1; line = Bytes16 }) (pair_at (number_at 32 1024) (pair_at (number_at 32 1024) word_line_at)) bytes
+
 unfoldable pub first_numbers_at : List ℕ → Option (TraceHead × List ℕ)
-first_numbers_at bytes =
-    seen_at (λ p. record { harts = p.0; kib = p.1.0; entry = p.1.1; line = Bytes16 }) (pair_at (number_at 32 1024) (pair_at (number_at 32 1024) (ended_at 10 word_at))) bytes
-    >>= λ x. guarded (is_trace_head x.0 && is_first_version x.0.harts 16) x
+first_numbers_at bytes = first_fields_at bytes >>= λ x. guarded (is_trace_head x.0 && is_first_version x.0.harts 16) x
 
 abbrev pub size_of : ℕ → Option LineSize
 size_of line = if line == 16 then Some Bytes16 else (if line == 64 then Some Bytes64 else None)
@@ -40,10 +42,16 @@ size_of line = if line == 16 then Some Bytes16 else (if line == 64 then Some Byt
 unfoldable pub size_at : List ℕ → Option (LineSize × List ℕ)
 size_at bytes = number_at 10 1024 bytes >>= λ n. size_of n.0 >>= λ s. Some (s, n.1)
 
+-- a word, and the space behind it
+unfoldable pub word_field_at : List ℕ → Option (ℕ × List ℕ)
+word_field_at bytes = ended_at 32 word_at bytes
+
+unfoldable pub second_fields_at : List ℕ → Option (TraceHead × List ℕ)
+second_fields_at bytes =
+    seen_at (λ p. record { harts = p.0; kib = p.1.0; entry = p.1.1.0; line = p.1.1.1 }) (pair_at (number_at 32 1024) (pair_at (number_at 32 1024) (pair_at word_field_at size_at))) bytes
+
 unfoldable pub second_numbers_at : List ℕ → Option (TraceHead × List ℕ)
-second_numbers_at bytes =
-    seen_at (λ p. record { harts = p.0; kib = p.1.0; entry = p.1.1.0; line = p.1.1.1 }) (pair_at (number_at 32 1024) (pair_at (number_at 32 1024) (pair_at (ended_at 32 word_at) size_at))) bytes
-    >>= λ x. guarded (is_trace_head x.0 && not (is_first_version x.0.harts (length_of x.0.line))) x
+second_numbers_at bytes = second_fields_at bytes >>= λ x. guarded (is_trace_head x.0 && not (is_first_version x.0.harts (length_of x.0.line))) x
 
 unfoldable pub head_at : List ℕ → Option (TraceHead × List ℕ)
 head_at bytes = behind (after (codes "rvtl-trace 1\nT ") bytes) first_numbers_at (led_at (codes "rvtl-trace 2\nT ") second_numbers_at bytes)
@@ -62,10 +70,16 @@ image_line_at old address bytes = behind (after (image_lead address) bytes) (ima
 
 -- ---- a hart's lines
 
+unfoldable pub loaded_field_at : List ℕ → Option (Option ℕ × List ℕ)
+loaded_field_at bytes = ended_at 32 loaded_at bytes
+
+unfoldable pub answer_line_at : List ℕ → Option (Option Bool × List ℕ)
+answer_line_at bytes = ended_at 10 answer_at bytes
+
 unfoldable pub retired_at : List ℕ → Option (Retired × List ℕ)
 retired_at bytes =
     seen_at (λ p. record { pc = p.0; word = p.1.0; loaded = p.1.1.0; sc_ok = p.1.1.1 })
-    (pair_at (ended_at 32 word_at) (pair_at (ended_at 32 word_at) (pair_at (ended_at 32 loaded_at) (ended_at 10 answer_at)))) bytes
+    (pair_at word_field_at (pair_at word_field_at (pair_at loaded_field_at answer_line_at))) bytes
 
 unfoldable pub operation_at : ℕ → List ℕ → Option (OpId × List ℕ)
 operation_at harts bytes = seen_at (λ p. record { hart = p.0; place = p.1 }) (pair_at (number_at 32 (harts - 1)) (number_at 10 999999)) bytes

@@ -16,7 +16,7 @@ use text_fields::{after, number_at, word_at};
 use tl_types::Channel;
 
 #[tactic(auto, unfolding(crate::specs::ScriptReading::word_line_at))]
-fn word_line_at(bytes: &[u8]) -> Option<(u32, &[u8])>
+pub(crate) fn word_line_at(bytes: &[u8]) -> Option<(u32, &[u8])>
     ensures { option_map (λ x. (x.0, x.1.now)) result ≡ reads.word_line_at bytes.now }
 {
     let (word, rest) = word_at(bytes)?;
@@ -131,15 +131,23 @@ fn is_head(head: &Head) -> bool
     harts && kib && is_power_to_64(head.sets) && ways && (head.line == 16 || head.line == 64)
 }
 
-#[tactic(auto, unfolding(crate::specs::ScriptReading::first_head_at))]
-fn first_head_at(bytes: &[u8]) -> Option<(Head, &[u8])>
-    ensures { option_map (λ x. (x.0, x.1.now)) result ≡ reads.first_head_at bytes.now }
+#[tactic(auto, unfolding(crate::specs::ScriptReading::last_two_at))]
+fn last_two_at(bytes: &[u8]) -> Option<((u32, u32), &[u8])>
+    ensures { option_map (λ x. (x.0, x.1.now)) result ≡ reads.last_two_at bytes.now }
+{
+    let (first, rest) = number_at(bytes, b' ', 1024)?;
+    let (last, rest) = number_at(rest, b'\n', 1024)?;
+    Some(((first, last), rest))
+}
+
+#[tactic(auto, unfolding(crate::specs::ScriptReading::first_fields_at))]
+fn first_fields_at(bytes: &[u8]) -> Option<(Head, &[u8])>
+    ensures { option_map (λ x. (x.0, x.1.now)) result ≡ reads.first_fields_at bytes.now }
 {
     let rest = after(b"rvtl-script 1 ", bytes)?;
     let (harts, rest) = number_at(rest, b' ', 1024)?;
     let (kib, rest) = number_at(rest, b' ', 1024)?;
-    let (sets, rest) = number_at(rest, b' ', 1024)?;
-    let (ways, rest) = number_at(rest, b'\n', 1024)?;
+    let ((sets, ways), rest) = last_two_at(rest)?;
     let head = Head {
         harts,
         kib,
@@ -147,6 +155,14 @@ fn first_head_at(bytes: &[u8]) -> Option<(Head, &[u8])>
         ways,
         line: 16,
     };
+    Some((head, rest))
+}
+
+#[tactic(auto, unfolding(crate::specs::ScriptReading::first_head_at))]
+fn first_head_at(bytes: &[u8]) -> Option<(Head, &[u8])>
+    ensures { option_map (λ x. (x.0, x.1.now)) result ≡ reads.first_head_at bytes.now }
+{
+    let (head, rest) = first_fields_at(bytes)?;
     if is_head(&head) && is_first_version(head.harts as u64, head.line) {
         Some((head, rest))
     } else {
@@ -154,16 +170,15 @@ fn first_head_at(bytes: &[u8]) -> Option<(Head, &[u8])>
     }
 }
 
-#[tactic(auto, unfolding(crate::specs::ScriptReading::second_head_at))]
-fn second_head_at(bytes: &[u8]) -> Option<(Head, &[u8])>
-    ensures { option_map (λ x. (x.0, x.1.now)) result ≡ reads.second_head_at bytes.now }
+#[tactic(auto, unfolding(crate::specs::ScriptReading::second_fields_at))]
+fn second_fields_at(bytes: &[u8]) -> Option<(Head, &[u8])>
+    ensures { option_map (λ x. (x.0, x.1.now)) result ≡ reads.second_fields_at bytes.now }
 {
     let rest = after(b"rvtl-script 2 ", bytes)?;
     let (harts, rest) = number_at(rest, b' ', 1024)?;
     let (kib, rest) = number_at(rest, b' ', 1024)?;
     let (sets, rest) = number_at(rest, b' ', 1024)?;
-    let (ways, rest) = number_at(rest, b' ', 1024)?;
-    let (line, rest) = number_at(rest, b'\n', 1024)?;
+    let ((ways, line), rest) = last_two_at(rest)?;
     let head = Head {
         harts,
         kib,
@@ -171,6 +186,14 @@ fn second_head_at(bytes: &[u8]) -> Option<(Head, &[u8])>
         ways,
         line,
     };
+    Some((head, rest))
+}
+
+#[tactic(auto, unfolding(crate::specs::ScriptReading::second_head_at))]
+fn second_head_at(bytes: &[u8]) -> Option<(Head, &[u8])>
+    ensures { option_map (λ x. (x.0, x.1.now)) result ≡ reads.second_head_at bytes.now }
+{
+    let (head, rest) = second_fields_at(bytes)?;
     if is_head(&head) && !is_first_version(head.harts as u64, head.line) {
         Some((head, rest))
     } else {

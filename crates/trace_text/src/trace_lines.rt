@@ -9,6 +9,7 @@ ghost use Rattle.trace_text.specs.TraceReading as words_at;
 use crate::head::TraceHead;
 use crate::message_reading::{direction_at, message_at};
 use crate::script::is_first_version;
+use crate::script_reading::word_line_at;
 use crate::trace_writing::any_set;
 use elf_loader::BASE;
 use hart::{Retired, Status};
@@ -27,23 +28,30 @@ fn is_trace_head(head: &TraceHead) -> bool
     harts && kib && entry
 }
 
-/// The second line of version 1 behind its first word.
-#[tactic(auto, using(crate::proofs::TraceHeads::trace_head_bounds), unfolding(crate::specs::TraceLines::first_numbers_at))]
-pub(crate) fn first_numbers_at(bytes: &[u8]) -> Option<(TraceHead, &[u8])>
-    ensures value { option_map (λ x. (x.0, x.1.now)) result ≡ reads.first_numbers_at bytes.now }
-    ensures fits { IfSome result (λ x. IsTraceHead x.0) }
+#[tactic(auto, unfolding(crate::specs::TraceLines::first_fields_at))]
+fn first_fields_at(bytes: &[u8]) -> Option<(TraceHead, &[u8])>
+    ensures { option_map (λ x. (x.0, x.1.now)) result ≡ reads.first_fields_at bytes.now }
 {
     let (harts, rest) = number_at(bytes, b' ', 1024)?;
     let (kib, rest) = number_at(rest, b' ', 1024)?;
-    let (entry, rest) = word_at(rest)?;
-    let rest = after(b"\n", rest)?;
+    let (entry, rest) = word_line_at(rest)?;
     let head = TraceHead {
         harts: harts as usize,
         kib,
         entry,
         line: LineSize::Bytes16,
     };
-    if is_trace_head(&head) && is_first_version(harts as u64, 16) {
+    Some((head, rest))
+}
+
+/// The second line of version 1 behind its first word.
+#[tactic(auto, using(crate::proofs::TraceHeads::trace_head_bounds), unfolding(crate::specs::TraceLines::first_numbers_at))]
+pub(crate) fn first_numbers_at(bytes: &[u8]) -> Option<(TraceHead, &[u8])>
+    ensures value { option_map (λ x. (x.0, x.1.now)) result ≡ reads.first_numbers_at bytes.now }
+    ensures fits { IfSome result (λ x. IsTraceHead x.0) }
+{
+    let (head, rest) = first_fields_at(bytes)?;
+    if is_trace_head(&head) && is_first_version(head.harts as u64, 16) {
         Some((head, rest))
     } else {
         None
@@ -70,16 +78,24 @@ fn size_at(bytes: &[u8]) -> Option<(LineSize, &[u8])>
     Some((size, rest))
 }
 
-/// The second line of version 2 behind its first word.
-#[tactic(auto, using(crate::proofs::TraceHeads::trace_head_bounds), unfolding(crate::specs::TraceLines::second_numbers_at))]
-pub(crate) fn second_numbers_at(bytes: &[u8]) -> Option<(TraceHead, &[u8])>
-    ensures value { option_map (λ x. (x.0, x.1.now)) result ≡ reads.second_numbers_at bytes.now }
-    ensures fits { IfSome result (λ x. IsTraceHead x.0) }
+/// A word, and the space behind it.
+#[inline(always)]
+#[tactic(auto, unfolding(crate::specs::TraceLines::word_field_at))]
+fn word_field_at(bytes: &[u8]) -> Option<(u32, &[u8])>
+    ensures { option_map (λ x. (x.0, x.1.now)) result ≡ reads.word_field_at bytes.now }
+{
+    let (word, rest) = word_at(bytes)?;
+    let rest = after(b" ", rest)?;
+    Some((word, rest))
+}
+
+#[tactic(auto, unfolding(crate::specs::TraceLines::second_fields_at))]
+fn second_fields_at(bytes: &[u8]) -> Option<(TraceHead, &[u8])>
+    ensures { option_map (λ x. (x.0, x.1.now)) result ≡ reads.second_fields_at bytes.now }
 {
     let (harts, rest) = number_at(bytes, b' ', 1024)?;
     let (kib, rest) = number_at(rest, b' ', 1024)?;
-    let (entry, rest) = word_at(rest)?;
-    let rest = after(b" ", rest)?;
+    let (entry, rest) = word_field_at(rest)?;
     let (line, rest) = size_at(rest)?;
     let head = TraceHead {
         harts: harts as usize,
@@ -87,7 +103,17 @@ pub(crate) fn second_numbers_at(bytes: &[u8]) -> Option<(TraceHead, &[u8])>
         entry,
         line,
     };
-    if is_trace_head(&head) && !is_first_version(harts as u64, line.bytes()) {
+    Some((head, rest))
+}
+
+/// The second line of version 2 behind its first word.
+#[tactic(auto, using(crate::proofs::TraceHeads::trace_head_bounds), unfolding(crate::specs::TraceLines::second_numbers_at))]
+pub(crate) fn second_numbers_at(bytes: &[u8]) -> Option<(TraceHead, &[u8])>
+    ensures value { option_map (λ x. (x.0, x.1.now)) result ≡ reads.second_numbers_at bytes.now }
+    ensures fits { IfSome result (λ x. IsTraceHead x.0) }
+{
+    let (head, rest) = second_fields_at(bytes)?;
+    if is_trace_head(&head) && !is_first_version(head.harts as u64, head.line.bytes()) {
         Some((head, rest))
     } else {
         None
@@ -173,20 +199,36 @@ fn answer_at(bytes: &[u8]) -> Option<(Option<bool>, &[u8])>
     Some((Some(false), rest))
 }
 
+#[inline(always)]
+#[tactic(auto, unfolding(crate::specs::TraceLines::loaded_field_at))]
+fn loaded_field_at(bytes: &[u8]) -> Option<(Option<u32>, &[u8])>
+    ensures { option_map (λ x. (x.0, x.1.now)) result ≡ reads.loaded_field_at bytes.now }
+{
+    let (loaded, rest) = loaded_at(bytes)?;
+    let rest = after(b" ", rest)?;
+    Some((loaded, rest))
+}
+
+#[inline(always)]
+#[tactic(auto, unfolding(crate::specs::TraceLines::answer_line_at))]
+fn answer_line_at(bytes: &[u8]) -> Option<(Option<bool>, &[u8])>
+    ensures { option_map (λ x. (x.0, x.1.now)) result ≡ reads.answer_line_at bytes.now }
+{
+    let (sc_ok, rest) = answer_at(bytes)?;
+    let rest = after(b"\n", rest)?;
+    Some((sc_ok, rest))
+}
+
 /// A retired instruction, behind its hart.
 #[inline(always)]
 #[tactic(auto, unfolding(crate::specs::TraceLines::retired_at))]
 pub(crate) fn retired_at(bytes: &[u8]) -> Option<(Retired, &[u8])>
     ensures { option_map (λ x. (x.0, x.1.now)) result ≡ reads.retired_at bytes.now }
 {
-    let (pc, rest) = word_at(bytes)?;
-    let rest = after(b" ", rest)?;
-    let (word, rest) = word_at(rest)?;
-    let rest = after(b" ", rest)?;
-    let (loaded, rest) = loaded_at(rest)?;
-    let rest = after(b" ", rest)?;
-    let (sc_ok, rest) = answer_at(rest)?;
-    let rest = after(b"\n", rest)?;
+    let (pc, rest) = word_field_at(bytes)?;
+    let (word, rest) = word_field_at(rest)?;
+    let (loaded, rest) = loaded_field_at(rest)?;
+    let (sc_ok, rest) = answer_line_at(rest)?;
     let entry = Retired {
         pc,
         word,

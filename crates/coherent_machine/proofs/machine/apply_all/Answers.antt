@@ -1,3 +1,4 @@
+use Rattle.std.proofs.Common.{rules}
 use Rattle.coherent_machine.proofs.Refusals.{next_of, one_applied, refused_next, rest_place}
 use Rattle.coherent_machine.proofs.machine.apply_all.Goals as goal
 
@@ -18,3 +19,27 @@ loop-rest-preserved c = record {
   headline = c.apply.ensures.headline;
   log = c.apply.ensures.log;
 }
+
+pub returns-in-Err-clause-ok : goal.returns-in-Err-clause-ok
+returns-in-Err-clause-ok c = search rules
+
+pub returns-in-Err-clause-reached : goal.returns-in-Err-clause-reached
+returns-in-Err-clause-reached c = search rules
+
+pub returns-in-Err-clause-headline : goal.returns-in-Err-clause-headline
+returns-in-Err-clause-headline c = search rules
+
+pub returns-in-Err-clause-log : goal.returns-in-Err-clause-log
+returns-in-Err-clause-log c = search rules
+
+pub returns-clause-refused : goal.returns-clause-refused
+returns-clause-refused c = search rules
+
+pub returns-clause-reached : goal.returns-clause-reached
+returns-clause-reached c = search rules
+
+pub returns-clause-headline : goal.returns-clause-headline
+returns-clause-headline c = search rules
+
+pub returns-clause-log : goal.returns-clause-log
+returns-clause-log c = search rules

@@ -1,4 +1,4 @@
-use Rattle.std.proofs.Common.{refl}
+use Rattle.std.proofs.Common.{rules, refl}
 use Rattle.machine_model.specs.LawfulLog.{IsLawfulLog}
 use Rattle.machine_parts.specs.Parts.{state_of}
 use Rattle.coherent_machine.proofs.Batches.{Fits, fits_by, limited_when, moved_when, never_bad}
@@ -58,3 +58,129 @@ unreachable-requires c =
     never_bad c.args.hart c.args.batch.now c.args.self.now c.commit.new.self c.commit.result (fits-BadEvent c)
     c.commit.ensures.answers
     (cc (c.in-Err-BadEvent.is, c.in-Err-BadEvent.field-0-is))
+
+pub returns-then-not-is_current-clause-stale : goal.returns-then-not-is_current-clause-stale
+returns-then-not-is_current-clause-stale c = search rules
+
+pub returns-then-not-is_current-clause-ok : goal.returns-then-not-is_current-clause-ok
+returns-then-not-is_current-clause-ok c = search rules
+
+pub returns-then-not-is_current-clause-retired : goal.returns-then-not-is_current-clause-retired
+returns-then-not-is_current-clause-retired c = search rules
+
+pub returns-then-not-is_current-clause-err : goal.returns-then-not-is_current-clause-err
+returns-then-not-is_current-clause-err c = search rules
+
+pub returns-then-not-is_current-clause-reached : goal.returns-then-not-is_current-clause-reached
+returns-then-not-is_current-clause-reached c = search rules
+
+pub returns-then-not-is_current-clause-grows : goal.returns-then-not-is_current-clause-grows
+returns-then-not-is_current-clause-grows c = search rules
+
+pub returns-then-not-is_current-clause-stays : goal.returns-then-not-is_current-clause-stays
+returns-then-not-is_current-clause-stays c = search rules
+
+pub returns-then-is_empty-clause-limit : goal.returns-then-is_empty-clause-limit
+returns-then-is_empty-clause-limit c = search rules
+
+pub returns-then-is_empty-clause-ok : goal.returns-then-is_empty-clause-ok
+returns-then-is_empty-clause-ok c = search rules
+
+pub returns-then-is_empty-clause-retired : goal.returns-then-is_empty-clause-retired
+returns-then-is_empty-clause-retired c = search rules
+
+pub returns-then-is_empty-clause-err : goal.returns-then-is_empty-clause-err
+returns-then-is_empty-clause-err c = search rules
+
+pub returns-then-is_empty-clause-reached : goal.returns-then-is_empty-clause-reached
+returns-then-is_empty-clause-reached c = search rules
+
+pub returns-then-is_empty-clause-grows : goal.returns-then-is_empty-clause-grows
+returns-then-is_empty-clause-grows c = search rules
+
+pub returns-then-is_empty-clause-stays : goal.returns-then-is_empty-clause-stays
+returns-then-is_empty-clause-stays c = search rules
+
+pub returns-in-Ok-clause-empty : goal.returns-in-Ok-clause-empty
+returns-in-Ok-clause-empty c = search rules
+
+pub returns-in-Ok-clause-limit : goal.returns-in-Ok-clause-limit
+returns-in-Ok-clause-limit c = search rules
+
+pub returns-in-Ok-clause-ok : goal.returns-in-Ok-clause-ok
+returns-in-Ok-clause-ok c = search rules
+
+pub returns-in-Ok-clause-err : goal.returns-in-Ok-clause-err
+returns-in-Ok-clause-err c = search rules
+
+pub returns-in-Ok-clause-reached : goal.returns-in-Ok-clause-reached
+returns-in-Ok-clause-reached c = search rules
+
+pub returns-in-Ok-clause-headline : goal.returns-in-Ok-clause-headline
+returns-in-Ok-clause-headline c = search rules
+
+pub returns-in-Ok-clause-log : goal.returns-in-Ok-clause-log
+returns-in-Ok-clause-log c = search rules
+
+pub returns-in-Ok-clause-grows : goal.returns-in-Ok-clause-grows
+returns-in-Ok-clause-grows c = search rules
+
+pub returns-in-Ok-clause-stays : goal.returns-in-Ok-clause-stays
+returns-in-Ok-clause-stays c = search rules
+
+pub returns-in-Err-Limit-clause-empty : goal.returns-in-Err-Limit-clause-empty
+returns-in-Err-Limit-clause-empty c = search rules
+
+pub returns-in-Err-Limit-clause-ok : goal.returns-in-Err-Limit-clause-ok
+returns-in-Err-Limit-clause-ok c = search rules
+
+pub returns-in-Err-Limit-clause-retired : goal.returns-in-Err-Limit-clause-retired
+returns-in-Err-Limit-clause-retired c = search rules
+
+pub returns-in-Err-Limit-clause-err : goal.returns-in-Err-Limit-clause-err
+returns-in-Err-Limit-clause-err c = search rules
+
+pub returns-in-Err-Limit-clause-reached : goal.returns-in-Err-Limit-clause-reached
+returns-in-Err-Limit-clause-reached c = search rules
+
+pub returns-in-Err-Limit-clause-headline : goal.returns-in-Err-Limit-clause-headline
+returns-in-Err-Limit-clause-headline c = search rules
+
+pub returns-in-Err-Limit-clause-log : goal.returns-in-Err-Limit-clause-log
+returns-in-Err-Limit-clause-log c = search rules
+
+pub returns-in-Err-Limit-clause-grows : goal.returns-in-Err-Limit-clause-grows
+returns-in-Err-Limit-clause-grows c = search rules
+
+pub returns-in-Err-Limit-clause-stays : goal.returns-in-Err-Limit-clause-stays
+returns-in-Err-Limit-clause-stays c = search rules
+
+pub returns-in-Err-NoMemory-clause-empty : goal.returns-in-Err-NoMemory-clause-empty
+returns-in-Err-NoMemory-clause-empty c = search rules
+
+pub returns-in-Err-NoMemory-clause-limit : goal.returns-in-Err-NoMemory-clause-limit
+returns-in-Err-NoMemory-clause-limit c = search rules
+
+pub returns-in-Err-NoMemory-clause-ok : goal.returns-in-Err-NoMemory-clause-ok
+returns-in-Err-NoMemory-clause-ok c = search rules
+
+pub returns-in-Err-NoMemory-clause-retired : goal.returns-in-Err-NoMemory-clause-retired
+returns-in-Err-NoMemory-clause-retired c = search rules
+
+pub returns-in-Err-NoMemory-clause-err : goal.returns-in-Err-NoMemory-clause-err
+returns-in-Err-NoMemory-clause-err c = search rules
+
+pub returns-in-Err-NoMemory-clause-reached : goal.returns-in-Err-NoMemory-clause-reached
+returns-in-Err-NoMemory-clause-reached c = search rules
+
+pub returns-in-Err-NoMemory-clause-headline : goal.returns-in-Err-NoMemory-clause-headline
+returns-in-Err-NoMemory-clause-headline c = search rules
+
+pub returns-in-Err-NoMemory-clause-log : goal.returns-in-Err-NoMemory-clause-log
+returns-in-Err-NoMemory-clause-log c = search rules
+
+pub returns-in-Err-NoMemory-clause-grows : goal.returns-in-Err-NoMemory-clause-grows
+returns-in-Err-NoMemory-clause-grows c = search rules
+
+pub returns-in-Err-NoMemory-clause-stays : goal.returns-in-Err-NoMemory-clause-stays
+returns-in-Err-NoMemory-clause-stays c = search rules

@@ -1,3 +1,4 @@
+use Rattle.std.proofs.Common.{rules}
 use Rattle.machine_model.specs.LawfulLog.{IsLawfulLog}
 use Rattle.machine_model.specs.Ready.{AreReady, IsSound}
 use Rattle.coherent_machine.proofs.Reached.{grows_after, happened_on_ok, headline_of, kept_on_error, law_of, reached_after, stays_after}
@@ -33,3 +34,6 @@ returns-clause-reached c = invariant_of-self c
 
 pub returns-clause-ok : goal.returns-clause-ok
 returns-clause-ok c = rw (← c.self.view_is) (happened_on_ok (state_of c.self.inside.parts) (state_of c.apply.new.self) c.args.event c.apply.result c.apply.ensures)
+
+pub returns-clause-answers : goal.returns-clause-answers
+returns-clause-answers c = search rules

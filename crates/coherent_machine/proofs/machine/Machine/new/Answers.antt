@@ -21,3 +21,54 @@ returns-clause-log c = law_of (λ image config s. IsLawfulLog s.trace.log) c.log
 
 pub returns-clause-reached : goal.returns-clause-reached
 returns-clause-reached c = invariant_of-result c
+
+pub returns-then-not-is_within_limits-clause-ok : goal.returns-then-not-is_within_limits-clause-ok
+returns-then-not-is_within_limits-clause-ok c = search rules
+
+pub returns-then-not-is_within_limits-clause-config : goal.returns-then-not-is_within_limits-clause-config
+returns-then-not-is_within_limits-clause-config c = search rules
+
+pub returns-then-not-is_within_limits-clause-reached : goal.returns-then-not-is_within_limits-clause-reached
+returns-then-not-is_within_limits-clause-reached c = search rules
+
+pub returns-then-not-is_within_limits-clause-headline : goal.returns-then-not-is_within_limits-clause-headline
+returns-then-not-is_within_limits-clause-headline c = search rules
+
+pub returns-then-not-is_within_limits-clause-log : goal.returns-then-not-is_within_limits-clause-log
+returns-then-not-is_within_limits-clause-log c = search rules
+
+pub returns-in_err-outputs-clause-ok : goal.returns-in_err-outputs-clause-ok
+returns-in_err-outputs-clause-ok c = search rules
+
+pub returns-in_err-outputs-clause-config : goal.returns-in_err-outputs-clause-config
+returns-in_err-outputs-clause-config c = search rules
+
+pub returns-in_err-outputs-clause-reached : goal.returns-in_err-outputs-clause-reached
+returns-in_err-outputs-clause-reached c = search rules
+
+pub returns-in_err-outputs-clause-headline : goal.returns-in_err-outputs-clause-headline
+returns-in_err-outputs-clause-headline c = search rules
+
+pub returns-in_err-outputs-clause-log : goal.returns-in_err-outputs-clause-log
+returns-in_err-outputs-clause-log c = search rules
+
+pub returns-in_err-parts-clause-ok : goal.returns-in_err-parts-clause-ok
+returns-in_err-parts-clause-ok c = search rules
+
+pub returns-in_err-parts-clause-config : goal.returns-in_err-parts-clause-config
+returns-in_err-parts-clause-config c = search rules
+
+pub returns-in_err-parts-clause-reached : goal.returns-in_err-parts-clause-reached
+returns-in_err-parts-clause-reached c = search rules
+
+pub returns-in_err-parts-clause-headline : goal.returns-in_err-parts-clause-headline
+returns-in_err-parts-clause-headline c = search rules
+
+pub returns-in_err-parts-clause-log : goal.returns-in_err-parts-clause-log
+returns-in_err-parts-clause-log c = search rules
+
+pub returns-clause-ok : goal.returns-clause-ok
+returns-clause-ok c = search rules
+
+pub returns-clause-config : goal.returns-clause-config
+returns-clause-config c = search rules

@@ -48,3 +48,51 @@ returns-else-changes-clause-answers g c =
     let before = c.changes-changes.ensures ∙ ap (λ (s : State). s.views.changes) c.views.ensures in
     rw (← c.self.view_is, c.reserve.ensures.items)
     (answered_still c.changes_are_counted.ensures was c.args.event c.in_ok-outcome.outcome c.apply.new.self c.in_ok-outcome.ensures.answers (sym after ∙ c.if-changes.false ∙ before))
+
+pub returns-then-changes-clause-answers : goal.returns-then-changes-clause-answers
+returns-then-changes-clause-answers g c = search rules
+
+pub returns-then-changes-clause-ok : goal.returns-then-changes-clause-ok
+returns-then-changes-clause-ok g c = search rules
+
+pub returns-then-changes-clause-err : goal.returns-then-changes-clause-err
+returns-then-changes-clause-err g c = search rules
+
+pub returns-then-changes-clause-share : goal.returns-then-changes-clause-share
+returns-then-changes-clause-share g c = search rules
+
+pub returns-then-changes-clause-book : goal.returns-then-changes-clause-book
+returns-then-changes-clause-book g c = search rules
+
+pub returns-then-changes-clause-headline : goal.returns-then-changes-clause-headline
+returns-then-changes-clause-headline g c = search rules
+
+pub returns-then-changes-clause-log : goal.returns-then-changes-clause-log
+returns-then-changes-clause-log g c = search rules
+
+pub returns-then-changes-clause-stays : goal.returns-then-changes-clause-stays
+returns-then-changes-clause-stays g c = search rules
+
+pub returns-else-changes-clause-ok : goal.returns-else-changes-clause-ok
+returns-else-changes-clause-ok g c = search rules
+
+pub returns-else-changes-clause-err : goal.returns-else-changes-clause-err
+returns-else-changes-clause-err g c = search rules
+
+pub returns-else-changes-clause-share : goal.returns-else-changes-clause-share
+returns-else-changes-clause-share g c = search rules
+
+pub returns-else-changes-clause-book : goal.returns-else-changes-clause-book
+returns-else-changes-clause-book g c = search rules
+
+pub returns-else-changes-clause-changes : goal.returns-else-changes-clause-changes
+returns-else-changes-clause-changes g c = search rules
+
+pub returns-else-changes-clause-headline : goal.returns-else-changes-clause-headline
+returns-else-changes-clause-headline g c = search rules
+
+pub returns-else-changes-clause-log : goal.returns-else-changes-clause-log
+returns-else-changes-clause-log g c = search rules
+
+pub returns-else-changes-clause-stays : goal.returns-else-changes-clause-stays
+returns-else-changes-clause-stays g c = search rules

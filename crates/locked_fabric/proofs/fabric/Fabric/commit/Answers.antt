@@ -28,3 +28,30 @@ returns-clause-stale g c = λ _. rw (← c.self.view_is) (rw c.first.ensures.fir
 
 pub returns-clause-retired : goal.returns-clause-retired
 returns-clause-retired g c = rw (← c.self.view_is) (rw c.first.ensures.first at c.in_ok-outcome.ensures.retired)
+
+pub returns-clause-empty : goal.returns-clause-empty
+returns-clause-empty g c = search rules
+
+pub returns-clause-limit : goal.returns-clause-limit
+returns-clause-limit g c = search rules
+
+pub returns-clause-ok : goal.returns-clause-ok
+returns-clause-ok g c = search rules
+
+pub returns-clause-err : goal.returns-clause-err
+returns-clause-err g c = search rules
+
+pub returns-clause-share : goal.returns-clause-share
+returns-clause-share g c = search rules
+
+pub returns-clause-book : goal.returns-clause-book
+returns-clause-book g c = search rules
+
+pub returns-clause-headline : goal.returns-clause-headline
+returns-clause-headline g c = search rules
+
+pub returns-clause-log : goal.returns-clause-log
+returns-clause-log g c = search rules
+
+pub returns-clause-stays : goal.returns-clause-stays
+returns-clause-stays g c = search rules
