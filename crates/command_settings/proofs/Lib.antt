@@ -4,4 +4,5 @@ mod Fronts
 mod Missing
 mod Numbers
 mod Ranges
+mod Rules
 mod Walked

@@ -5,7 +5,8 @@ use Rattle.std.specs.Str.{bytes_eq}
 use Rattle.std.specs.Str.Parse.{IsNumeral, digits_value, without_leading_plus}
 use Rattle.clap.specs.Values.{IsUnsignedIn}
 use Rattle.clap.specs.Words.{App, Row, Text, first_of, one_of, subcommand_of}
-use Rattle.command_settings.specs.Usage.{Argument, IsUsage, Subcommand, least_limit, most_limit, subcommands}
+use Rattle.command_settings.specs.Usage.{Argument, IsUsage, Subcommand, least_limit, least_window, most_limit, most_size, most_window, subcommands}
+use Rattle.command_settings.specs.declared.wanted.Chart.{Chart}
 use Rattle.command_settings.specs.declared.wanted.Check.{Check}
 use Rattle.command_settings.specs.declared.wanted.Explain.{Explain}
 use Rattle.command_settings.specs.declared.wanted.Explore.{Explore}
@@ -65,6 +66,11 @@ pub record IsExplainMeant (rows : List Row) (explain : Explain) : Type 0 where
   pub replay : IsReplayMeant rows explain.replay
   pub strict : IsFlag (codes "strict") rows explain.strict
 
+-- the arguments of `chart` have these texts
+pub record IsChartMeant (rows : List Row) (chart : Chart) : Type 0 where
+  pub replay : IsReplayMeant rows chart.replay
+  pub line : IsOptional (codes "line") rows chart.line
+
 -- the arguments of a machine have these numbers, and its model this name
 pub record IsMachineMeant (rows : List Row) (machine : MachineOptions) : Type 0 where
   pub harts : IsNumber (codes "harts") rows machine.harts
@@ -91,10 +97,15 @@ pub record IsExploreMeant (rows : List Row) (explore : Explore) : Type 0 where
   pub states : IsNumberIn (codes "states") least_limit most_limit rows explore.states
   pub scripts : IsOptional (codes "scripts") rows explore.scripts
   pub allow : IsOptional (codes "allow") rows explore.allow
+  pub sample : IsNumberIn (codes "sample") 0 most_limit rows explore.sample
+  pub seed : IsNumberIn (codes "seed") 0 most_size rows explore.seed
+  pub architecture : IsFlag (codes "architecture") rows explore.architecture
+  pub window : IsNumberIn (codes "window") least_window most_window rows explore.window
   pub image : IsText (codes "IMAGE") rows explore.image.now
 
 -- the arguments of `check` have these texts
 pub record IsCheckMeant (rows : List Row) (check : Check) : Type 0 where
+  pub messages : IsFlag (codes "messages") rows check.messages
   pub model : IsModel rows check.model
   pub trace : IsText (codes "TRACE") rows check.trace.now
 
@@ -102,6 +113,7 @@ pub record IsCheckMeant (rows : List Row) (check : Check) : Type 0 where
 abbrev pub IsMeant : Text → List Row → Settings → Type 0
 IsMeant name rows (settings.Replay replay) = (name ≡ codes "replay") × IsReplayMeant rows replay
 IsMeant name rows (settings.Explain explain) = (name ≡ codes "explain") × IsExplainMeant rows explain
+IsMeant name rows (settings.Chart chart) = (name ≡ codes "chart") × IsChartMeant rows chart
 IsMeant name rows (settings.Run run) = (name ≡ codes "run") × IsRunMeant rows run
 IsMeant name rows (settings.Explore explore) = (name ≡ codes "explore") × IsExploreMeant rows explore
 IsMeant name rows (settings.Check check) = (name ≡ codes "check") × IsCheckMeant rows check

@@ -28,6 +28,10 @@ ModelNames = Bor (List (Bor Text))
 abbrev pub AreModelNames : ModelNames → Type 0
 AreModelNames names = map (λ name. name.now) names.now ≡ codes "rvwmo" ∷ codes "ztso" ∷ []
 
+-- the name alone: `--ID`
+abbrev pub named_rule : Text → Rule
+named_rule id = record (new_rule id) { long = Some id }
+
 abbrev pub flag_rule : Text → Rule
 flag_rule id = record (new_rule id) { long = Some id; action = Some SetTrue }
 
@@ -91,6 +95,10 @@ replay_arguments = flag (codes "raw") ∷ model ∷ file (codes "IMAGE") ∷ fil
 abbrev pub explain_arguments : List Argument
 explain_arguments = flag (codes "strict") ∷ replay_arguments
 
+-- `[--line ADDRESS]` and those of a replay
+abbrev pub chart_arguments : List Argument
+chart_arguments = optional (codes "line") ∷ replay_arguments
+
 -- `[--harts N] [--memory KIB] [--sets N] [--ways N] [--line N] [--model NAME]`
 abbrev pub machine_arguments : List Argument
 machine_arguments =
@@ -120,13 +128,29 @@ search_arguments =
     ∷ optional (codes "allow")
     ∷ []
 
--- `[--raw]`, those of a machine and of a search, and `IMAGE`
-abbrev pub explore_arguments : List Argument
-explore_arguments = flag (codes "raw") ∷ machine_arguments ++ search_arguments ++ file (codes "IMAGE") ∷ []
+-- `[--sample RUNS] [--seed S]`
+abbrev pub sample_arguments : List Argument
+sample_arguments = number (codes "sample") (codes "0") 0 most_limit ∷ number (codes "seed") (codes "1") 0 most_size ∷ []
 
--- `[--model NAME] TRACE`
+-- the range of `--window`
+abbrev pub least_window : ℕ
+least_window = 1
+
+abbrev pub most_window : ℕ
+most_window = 64
+
+-- `[--architecture] [--window N]`
+abbrev pub window_arguments : List Argument
+window_arguments = flag (codes "architecture") ∷ number (codes "window") (codes "16") least_window most_window ∷ []
+
+-- `[--raw]`, those of a machine, of a search, of random runs and of a window, and `IMAGE`
+abbrev pub explore_arguments : List Argument
+explore_arguments =
+    flag (codes "raw") ∷ machine_arguments ++ search_arguments ++ sample_arguments ++ window_arguments ++ file (codes "IMAGE") ∷ []
+
+-- `[--messages] [--model NAME] TRACE`
 abbrev pub check_arguments : List Argument
-check_arguments = model ∷ file (codes "TRACE") ∷ []
+check_arguments = flag (codes "messages") ∷ model ∷ file (codes "TRACE") ∷ []
 
 -- ---- the subcommands
 
@@ -140,6 +164,9 @@ replay = record { name = codes "replay"; arguments = replay_arguments }
 abbrev pub explain : Subcommand
 explain = record { name = codes "explain"; arguments = explain_arguments }
 
+abbrev pub chart : Subcommand
+chart = record { name = codes "chart"; arguments = chart_arguments }
+
 abbrev pub run : Subcommand
 run = record { name = codes "run"; arguments = run_arguments }
 
@@ -150,7 +177,7 @@ abbrev pub check : Subcommand
 check = record { name = codes "check"; arguments = check_arguments }
 
 abbrev pub subcommands : List Subcommand
-subcommands = replay ∷ explain ∷ run ∷ explore ∷ check ∷ []
+subcommands = replay ∷ explain ∷ chart ∷ run ∷ explore ∷ check ∷ []
 
 abbrev pub app_for : ModelNames → Subcommand → App
 app_for names subcommand = with_arguments names (new_app subcommand.name) subcommand.arguments

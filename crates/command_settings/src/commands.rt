@@ -1,12 +1,12 @@
 //! The program's usage: its subcommands with their arguments.
 
-ghost use Rattle.std.specs.Prelude.{◌≡◌, IfOk, codes, false};
-ghost use Rattle.clap.specs.Words.{app_of, rule_of};
-ghost use Rattle.command_settings.specs.Usage.{AreModelNames, ModelNames, IsUsage, app_for, check, explain, explore, file_rule, flag_rule, machine_arguments, model_rule, most_size, number_rule, optional_rule, replay, replay_arguments, required_rule, run, search_arguments, with_arguments};
+ghost use Rattle.std.specs.Prelude.{◌≡◌, IfOk, codes, false, true};
+ghost use Rattle.clap.specs.Words.{App, Rule, app_of, new_app, rule_of, with_rule, with_subcommand};
+ghost use Rattle.command_settings.specs.Usage.{AreModelNames, ModelNames, IsUsage, app_for, chart, check, explain, explore, file_rule, flag_rule, least_limit, least_window, machine_arguments, model_rule, most_limit, most_size, most_window, named_rule, number_rule, optional_rule, replay, replay_arguments, required_rule, run, sample_arguments, search_arguments, window_arguments, with_arguments};
 
 use crate::help::{
-    ALLOW_HELP, CHECK_HELP, EXPLAIN_HELP, EXPLORE_HELP, PROGRAM_HELP, REPLAY_HELP, RUN_HELP,
-    SCRIPTS_HELP,
+    ALLOW_HELP, CHART_HELP, CHECK_HELP, EXPLAIN_HELP, EXPLORE_HELP, LINE_HELP, PROGRAM_HELP,
+    REPLAY_HELP, RUN_HELP, SCRIPTS_HELP,
 };
 use clap::builder::ValueParser;
 use clap::{Arg, ArgAction, Command};
@@ -21,6 +21,15 @@ const VERSION: &str = "1.0.0";
 /// The least and the greatest number of a limit.
 const LIMIT_RANGE: (u64, u64) = (1, 1_000_000_000);
 
+/// The least and the greatest number of random runs.
+const SAMPLE_RANGE: (u64, u64) = (0, 1_000_000_000);
+
+/// The least and the greatest number of a hart's operations that may wait at a time.
+const WINDOW_RANGE: (u64, u64) = (1, 64);
+
+/// The greatest number of a machine's size, or of what random runs begin from.
+const MOST: u64 = 4_294_967_295;
+
 pub(crate) fn command<'a>(alloc: Global) -> Result<Command<'a>, AllocError>
     ensures { IfOk result (λ made. IsUsage (app_of made)) }
 {
@@ -31,16 +40,44 @@ fn command_over<'a>(alloc: Global, models: &'a [&'a str]) -> Result<Command<'a>,
     requires { AreModelNames models }
     ensures { IfOk result (λ made. IsUsage (app_of made)) }
 {
-    Command::new(alloc, "rvtl")
-        .about("Runs RISC-V harts with private caches, one event at a time")
+    let about = "Runs RISC-V harts with private caches, one event at a time";
+    let command = described(alloc, "rvtl", about, PROGRAM_HELP)
         .version(VERSION)
-        .after_help(PROGRAM_HELP)
-        .subcommand_required(true)
-        .subcommand(replay_command(alloc, models)?)?
-        .subcommand(explain_command(alloc, models)?)?
-        .subcommand(run_command(alloc, models)?)?
-        .subcommand(explore_command(alloc, models)?)?
-        .subcommand(check_command(alloc, models)?)
+        .subcommand_required(true);
+    let command = add_subcommand(Ok(command), replay_command(alloc, models));
+    let command = add_subcommand(command, explain_command(alloc, models));
+    let command = add_subcommand(command, chart_command(alloc, models));
+    let command = add_subcommand(command, run_command(alloc, models));
+    let command = add_subcommand(command, explore_command(alloc, models));
+    add_subcommand(command, check_command(alloc, models))
+}
+
+fn described<'a>(alloc: Global, name: &'a str, about: &'a str, after: &'a str) -> Command<'a>
+    ensures { app_of result ≡ new_app name.entry.now }
+{
+    Command::new(alloc, name).about(about).after_help(after)
+}
+
+// Each `?` at a command is dear to prove, so that a chain of them goes through the two functions below.
+
+fn add_arg<'a>(
+    command: Result<Command<'a>, AllocError>,
+    arg: Arg<'a>,
+) -> Result<Command<'a>, AllocError>
+    ensures { (app : App) → (rule : Rule) → IfOk command.entry (λ old. app_of old ≡ app) → rule_of arg.entry ≡ rule → arg.entry.global ≡ false
+        → IfOk result (λ made. app_of made ≡ with_rule app rule) }
+{
+    command?.arg(arg)
+}
+
+fn add_subcommand<'a>(
+    command: Result<Command<'a>, AllocError>,
+    subcommand: Result<Command<'a>, AllocError>,
+) -> Result<Command<'a>, AllocError>
+    ensures { (app added : App) → IfOk command.entry (λ old. app_of old ≡ app) → IfOk subcommand.entry (λ old. app_of old ≡ added) → added.top.is_plain ≡ true
+        → IfOk result (λ made. app_of made ≡ with_subcommand app added.top) }
+{
+    command?.subcommand(subcommand?)
 }
 
 // ---- the subcommands
@@ -48,71 +85,60 @@ fn command_over<'a>(alloc: Global, models: &'a [&'a str]) -> Result<Command<'a>,
 fn replay_command<'a>(alloc: Global, models: &'a [&'a str]) -> Result<Command<'a>, AllocError>
     ensures { IfOk result (λ made. app_of made ≡ app_for models.entry replay) }
 {
-    let command = Command::new(alloc, "replay")
-        .about("Applies a script of events to a machine and prints the trace")
-        .after_help(REPLAY_HELP);
-    with_replay(alloc, models, command)
+    let about = "Applies a script of events to a machine and prints the trace";
+    let command = described(alloc, "replay", about, REPLAY_HELP);
+    with_replay(alloc, models, Ok(command))
 }
 
 fn explain_command<'a>(alloc: Global, models: &'a [&'a str]) -> Result<Command<'a>, AllocError>
     ensures { IfOk result (λ made. app_of made ≡ app_for models.entry explain) }
 {
-    let strict = flag(
-        alloc,
-        "strict",
-        "end before the first event that changes nothing",
-    );
-    let command = Command::new(alloc, "explain")
-        .about("Applies a script of events to a machine and prints what each event did")
-        .after_help(EXPLAIN_HELP)
-        .arg(strict)?;
-    with_replay(alloc, models, command)
+    let about = "Applies a script of events to a machine and prints what each event did";
+    let command = described(alloc, "explain", about, EXPLAIN_HELP);
+    with_replay(alloc, models, add_arg(Ok(command), strict(alloc)))
+}
+
+fn chart_command<'a>(alloc: Global, models: &'a [&'a str]) -> Result<Command<'a>, AllocError>
+    ensures { IfOk result (λ made. app_of made ≡ app_for models.entry chart) }
+{
+    let about = "Applies a script of events to a machine and draws what happened";
+    let command = described(alloc, "chart", about, CHART_HELP);
+    with_replay(alloc, models, add_arg(Ok(command), drawn_line(alloc)))
 }
 
 fn run_command<'a>(alloc: Global, models: &'a [&'a str]) -> Result<Command<'a>, AllocError>
     ensures { IfOk result (λ made. app_of made ≡ app_for models.entry run) }
 {
-    let limit = number(
-        alloc,
-        "limit",
-        "N",
-        "1000000",
-        LIMIT_RANGE,
-        "how many events the harts may try before the run ends",
-    );
-    let image = file(alloc, "IMAGE", "the program that the harts run");
-    let command = Command::new(alloc, "run")
-        .about("Runs a program with a thread for each hart, and prints the trace")
-        .after_help(RUN_HELP)
-        .arg(raw(alloc))?;
-    with_machine(alloc, models, command)?
-        .arg(limit)?
-        .arg(journal(alloc))?
-        .arg(image)
+    let about = "Runs a program with a thread for each hart, and prints the trace";
+    let command = described(alloc, "run", about, RUN_HELP);
+    let command = add_arg(Ok(command), raw(alloc));
+    let command = with_machine(alloc, models, command);
+    let command = add_arg(command, limit(alloc));
+    let command = add_arg(command, journal(alloc));
+    add_arg(command, image(alloc))
 }
 
 fn explore_command<'a>(alloc: Global, models: &'a [&'a str]) -> Result<Command<'a>, AllocError>
     ensures { IfOk result (λ made. app_of made ≡ app_for models.entry explore) }
 {
-    let image = file(alloc, "IMAGE", "the program that the harts run");
-    let command = Command::new(alloc, "explore")
-        .about("Finds every end that the machine can bring a program to")
-        .after_help(EXPLORE_HELP)
-        .arg(raw(alloc))?;
-    let command = with_machine(alloc, models, command)?;
-    with_search(alloc, command)?.arg(image)
+    let about = "Finds every end that the machine can bring a program to";
+    let command = described(alloc, "explore", about, EXPLORE_HELP);
+    let command = add_arg(Ok(command), raw(alloc));
+    let command = with_machine(alloc, models, command);
+    let command = with_search(alloc, command);
+    let command = with_sample(alloc, command);
+    add_arg(with_window(alloc, command), image(alloc))
 }
 
 fn check_command<'a>(alloc: Global, models: &'a [&'a str]) -> Result<Command<'a>, AllocError>
     ensures { IfOk result (λ made. app_of made ≡ app_for models.entry check) }
 {
-    let model = model(alloc, models, "the memory model that the order has to keep");
-    let trace = file(alloc, "TRACE", "a trace, as replay and run print it");
-    Command::new(alloc, "check")
-        .about("Judges the order in which a trace's memory operations were performed")
-        .after_help(CHECK_HELP)
-        .arg(model)?
-        .arg(trace)
+    let about =
+        "Judges the order in which a trace's memory operations were performed, or its messages";
+    let command = described(alloc, "check", about, CHECK_HELP);
+    let command = add_arg(Ok(command), messages(alloc));
+    let command = add_arg(command, judged_model(alloc, models));
+    add_arg(command, trace(alloc))
 }
 
 // ---- arguments of several subcommands
@@ -121,90 +147,278 @@ fn check_command<'a>(alloc: Global, models: &'a [&'a str]) -> Result<Command<'a>
 fn with_replay<'a>(
     alloc: Global,
     models: &'a [&'a str],
-    command: Command<'a>,
+    command: Result<Command<'a>, AllocError>,
 ) -> Result<Command<'a>, AllocError>
-    ensures { IfOk result (λ made. app_of made ≡ with_arguments models.entry (app_of command.entry) replay_arguments) }
+    ensures { (app : App) → IfOk command.entry (λ old. app_of old ≡ app)
+        → IfOk result (λ made. app_of made ≡ with_arguments models.entry app replay_arguments) }
 {
-    let model = model(
-        alloc,
-        models,
-        "the memory model that the machine runs under",
-    );
-    let image = file(alloc, "IMAGE", "the program that the harts run");
-    let script = file(
-        alloc,
-        "SCRIPT",
-        "the machine's size and its events, one a line",
-    );
-    command.arg(raw(alloc))?.arg(model)?.arg(image)?.arg(script)
+    let command = add_arg(command, raw(alloc));
+    let command = add_arg(command, machine_model(alloc, models));
+    let command = add_arg(command, image(alloc));
+    add_arg(command, script(alloc))
 }
 
 /// A machine's size, which is judged when the machine is made, and its memory model.
 fn with_machine<'a>(
     alloc: Global,
     models: &'a [&'a str],
-    command: Command<'a>,
+    command: Result<Command<'a>, AllocError>,
 ) -> Result<Command<'a>, AllocError>
-    ensures { IfOk result (λ made. app_of made ≡ with_arguments models.entry (app_of command.entry) machine_arguments) }
+    ensures { (app : App) → IfOk command.entry (λ old. app_of old ≡ app)
+        → IfOk result (λ made. app_of made ≡ with_arguments models.entry app machine_arguments) }
 {
-    let harts = size(alloc, "harts", "N", "1", "how many harts, 1 to 8");
-    let memory = size(
+    let command = add_arg(command, harts(alloc));
+    let command = add_arg(command, memory(alloc));
+    let command = add_arg(command, sets(alloc));
+    let command = add_arg(command, ways(alloc));
+    let command = add_arg(command, line(alloc));
+    add_arg(command, machine_model(alloc, models))
+}
+
+/// How a search for a program's ends goes, and what it writes and judges.
+fn with_search<'a>(
+    alloc: Global,
+    command: Result<Command<'a>, AllocError>,
+) -> Result<Command<'a>, AllocError>
+    ensures { (app : App) → (names : ModelNames) → IfOk command.entry (λ old. app_of old ≡ app)
+        → IfOk result (λ made. app_of made ≡ with_arguments names app search_arguments) }
+{
+    let command = add_arg(command, states(alloc));
+    let command = add_arg(command, scripts(alloc));
+    add_arg(command, allow(alloc))
+}
+
+/// Random runs in place of a search.
+fn with_sample<'a>(
+    alloc: Global,
+    command: Result<Command<'a>, AllocError>,
+) -> Result<Command<'a>, AllocError>
+    ensures { (app : App) → (names : ModelNames) → IfOk command.entry (λ old. app_of old ≡ app)
+        → IfOk result (λ made. app_of made ≡ with_arguments names app sample_arguments) }
+{
+    let command = add_arg(command, sample(alloc));
+    add_arg(command, seed(alloc))
+}
+
+/// A search of what the memory model allows.
+fn with_window<'a>(
+    alloc: Global,
+    command: Result<Command<'a>, AllocError>,
+) -> Result<Command<'a>, AllocError>
+    ensures { (app : App) → (names : ModelNames) → IfOk command.entry (λ old. app_of old ≡ app)
+        → IfOk result (λ made. app_of made ≡ with_arguments names app window_arguments) }
+{
+    let command = add_arg(command, architecture(alloc));
+    add_arg(command, window(alloc))
+}
+
+// ---- the arguments, each made apart: a text is dear to prove where a command is at hand
+
+fn harts<'a>(alloc: Global) -> Arg<'a>
+    ensures rule { rule_of result ≡ number_rule (codes "harts") (codes "1") 0 most_size }
+    ensures local { result.global ≡ false }
+{
+    size(alloc, "harts", "N", "1", "how many harts, 1 to 8")
+}
+
+fn memory<'a>(alloc: Global) -> Arg<'a>
+    ensures rule { rule_of result ≡ number_rule (codes "memory") (codes "64") 0 most_size }
+    ensures local { result.global ≡ false }
+{
+    size(
         alloc,
         "memory",
         "KIB",
         "64",
         "main memory in KiB, a multiple of 4 from 4 to 1024",
-    );
-    let sets = size(
+    )
+}
+
+fn sets<'a>(alloc: Global) -> Arg<'a>
+    ensures rule { rule_of result ≡ number_rule (codes "sets") (codes "4") 0 most_size }
+    ensures local { result.global ≡ false }
+{
+    size(
         alloc,
         "sets",
         "N",
         "4",
         "sets a cache, a power of two to 64",
-    );
-    let ways = size(alloc, "ways", "N", "2", "lines a set, 1 to 4");
-    let line = size(alloc, "line", "N", "16", "bytes a line, 16 or 64");
-    let model = model(
+    )
+}
+
+fn ways<'a>(alloc: Global) -> Arg<'a>
+    ensures rule { rule_of result ≡ number_rule (codes "ways") (codes "2") 0 most_size }
+    ensures local { result.global ≡ false }
+{
+    size(alloc, "ways", "N", "2", "lines a set, 1 to 4")
+}
+
+fn line<'a>(alloc: Global) -> Arg<'a>
+    ensures rule { rule_of result ≡ number_rule (codes "line") (codes "16") 0 most_size }
+    ensures local { result.global ≡ false }
+{
+    size(alloc, "line", "N", "16", "bytes a line, 16 or 64")
+}
+
+fn machine_model<'a>(alloc: Global, models: &'a [&'a str]) -> Arg<'a>
+    ensures rule { rule_of result ≡ model_rule models.entry }
+    ensures local { result.global ≡ false }
+{
+    model(
         alloc,
         models,
         "the memory model that the machine runs under",
-    );
-    command
-        .arg(harts)?
-        .arg(memory)?
-        .arg(sets)?
-        .arg(ways)?
-        .arg(line)?
-        .arg(model)
+    )
 }
 
-/// How a search for a program's ends goes, and what it writes and judges.
-fn with_search<'a>(alloc: Global, command: Command<'a>) -> Result<Command<'a>, AllocError>
-    ensures { IfOk result (λ made. (names : ModelNames) → app_of made ≡ with_arguments names (app_of command.entry) search_arguments) }
+fn judged_model<'a>(alloc: Global, models: &'a [&'a str]) -> Arg<'a>
+    ensures rule { rule_of result ≡ model_rule models.entry }
+    ensures local { result.global ≡ false }
 {
-    let states = number(
+    model(alloc, models, "the memory model that the order has to keep")
+}
+
+fn limit<'a>(alloc: Global) -> Arg<'a>
+    ensures rule { rule_of result ≡ number_rule (codes "limit") (codes "1000000") least_limit most_limit }
+    ensures local { result.global ≡ false }
+{
+    number(
+        alloc,
+        "limit",
+        "N",
+        "1000000",
+        LIMIT_RANGE,
+        "how many events the harts may try before the run ends",
+    )
+}
+
+fn states<'a>(alloc: Global) -> Arg<'a>
+    ensures rule { rule_of result ≡ number_rule (codes "states") (codes "4000000") least_limit most_limit }
+    ensures local { result.global ≡ false }
+{
+    number(
         alloc,
         "states",
         "LIMIT",
         "4000000",
         LIMIT_RANGE,
         "how many states the search may meet before it ends",
-    );
-    let scripts = optional(alloc, "scripts", "FOLDER", SCRIPTS_HELP);
-    let allow = optional(alloc, "allow", "FILE", ALLOW_HELP);
-    command.arg(states)?.arg(scripts)?.arg(allow)
+    )
 }
 
-// ---- kinds of argument
-
-fn flag<'a>(alloc: Global, id: &'a str, help: &'a str) -> Arg<'a>
-    ensures rule { rule_of result ≡ flag_rule id.entry.now }
+fn sample<'a>(alloc: Global) -> Arg<'a>
+    ensures rule { rule_of result ≡ number_rule (codes "sample") (codes "0") 0 most_limit }
     ensures local { result.global ≡ false }
 {
-    Arg::new(alloc, id)
-        .long(id)
-        .action(ArgAction::SetTrue)
-        .help(help)
+    number(
+        alloc,
+        "sample",
+        "RUNS",
+        "0",
+        SAMPLE_RANGE,
+        "make so many random runs in place of a search, where it isn't 0",
+    )
+}
+
+fn seed<'a>(alloc: Global) -> Arg<'a>
+    ensures rule { rule_of result ≡ number_rule (codes "seed") (codes "1") 0 most_size }
+    ensures local { result.global ≡ false }
+{
+    number(
+        alloc,
+        "seed",
+        "S",
+        "1",
+        (0, MOST),
+        "what the random runs begin from: the same number makes the same runs",
+    )
+}
+
+fn window<'a>(alloc: Global) -> Arg<'a>
+    ensures rule { rule_of result ≡ number_rule (codes "window") (codes "16") least_window most_window }
+    ensures local { result.global ≡ false }
+{
+    number(
+        alloc,
+        "window",
+        "N",
+        "16",
+        WINDOW_RANGE,
+        "how many operations of a hart may wait at a time, with --architecture",
+    )
+}
+
+fn scripts<'a>(alloc: Global) -> Arg<'a>
+    ensures rule { rule_of result ≡ optional_rule (codes "scripts") }
+    ensures local { result.global ≡ false }
+{
+    optional(alloc, "scripts", "FOLDER", SCRIPTS_HELP)
+}
+
+fn allow<'a>(alloc: Global) -> Arg<'a>
+    ensures rule { rule_of result ≡ optional_rule (codes "allow") }
+    ensures local { result.global ≡ false }
+{
+    optional(alloc, "allow", "FILE", ALLOW_HELP)
+}
+
+fn drawn_line<'a>(alloc: Global) -> Arg<'a>
+    ensures rule { rule_of result ≡ optional_rule (codes "line") }
+    ensures local { result.global ≡ false }
+{
+    optional(alloc, "line", "ADDRESS", LINE_HELP)
+}
+
+fn strict<'a>(alloc: Global) -> Arg<'a>
+    ensures rule { rule_of result ≡ flag_rule (codes "strict") }
+    ensures local { result.global ≡ false }
+{
+    flag(
+        alloc,
+        "strict",
+        "end before the first event that changes nothing",
+    )
+}
+
+fn messages<'a>(alloc: Global) -> Arg<'a>
+    ensures rule { rule_of result ≡ flag_rule (codes "messages") }
+    ensures local { result.global ≡ false }
+{
+    flag(
+        alloc,
+        "messages",
+        "judge the trace's messages, and not its order",
+    )
+}
+
+fn architecture<'a>(alloc: Global) -> Arg<'a>
+    ensures rule { rule_of result ≡ flag_rule (codes "architecture") }
+    ensures local { result.global ≡ false }
+{
+    flag(
+        alloc,
+        "architecture",
+        "find what the memory model allows too, where this machine can't show it",
+    )
+}
+
+fn script<'a>(alloc: Global) -> Arg<'a>
+    ensures rule { rule_of result ≡ file_rule (codes "SCRIPT") }
+    ensures local { result.global ≡ false }
+{
+    file(
+        alloc,
+        "SCRIPT",
+        "the machine's size and its events, one a line",
+    )
+}
+
+fn trace<'a>(alloc: Global) -> Arg<'a>
+    ensures rule { rule_of result ≡ file_rule (codes "TRACE") }
+    ensures local { result.global ≡ false }
+{
+    file(alloc, "TRACE", "a trace, as replay and run print it")
 }
 
 fn raw<'a>(alloc: Global) -> Arg<'a>
@@ -216,6 +430,13 @@ fn raw<'a>(alloc: Global) -> Arg<'a>
         "raw",
         "IMAGE has bare little-endian words, the first at 0x80000000",
     )
+}
+
+fn image<'a>(alloc: Global) -> Arg<'a>
+    ensures rule { rule_of result ≡ file_rule (codes "IMAGE") }
+    ensures local { result.global ≡ false }
+{
+    file(alloc, "IMAGE", "the program that the harts run")
 }
 
 fn journal<'a>(alloc: Global) -> Arg<'a>
@@ -230,15 +451,29 @@ fn journal<'a>(alloc: Global) -> Arg<'a>
     )
 }
 
+// ---- kinds of argument
+
+fn named<'a>(alloc: Global, id: &'a str, help: &'a str) -> Arg<'a>
+    ensures rule { rule_of result ≡ named_rule id.entry.now }
+    ensures local { result.global ≡ false }
+{
+    Arg::new(alloc, id).long(id).help(help)
+}
+
+fn flag<'a>(alloc: Global, id: &'a str, help: &'a str) -> Arg<'a>
+    ensures rule { rule_of result ≡ flag_rule id.entry.now }
+    ensures local { result.global ≡ false }
+{
+    named(alloc, id, help).action(ArgAction::SetTrue)
+}
+
 fn model<'a>(alloc: Global, models: &'a [&'a str], help: &'a str) -> Arg<'a>
     ensures rule { rule_of result ≡ model_rule models.entry }
     ensures local { result.global ≡ false }
 {
-    Arg::new(alloc, "model")
-        .long("model")
+    named(alloc, "model", help)
         .value_parser(models)
         .default_value(MODELS[0])
-        .help(help)
 }
 
 /// A whole number in a range, of which both ends belong to it.
@@ -253,37 +488,30 @@ fn number<'a>(
     ensures rule { rule_of result ≡ number_rule id.entry.now default.entry.now range.0 range.1 }
     ensures local { result.global ≡ false }
 {
-    Arg::new(alloc, id)
-        .long(id)
-        .value_name(unit)
+    optional(alloc, id, unit, help)
         .value_parser(ValueParser::unsigned(range.0, range.1))
         .default_value(default)
-        .help(help)
 }
 
 fn size<'a>(alloc: Global, id: &'a str, unit: &'a str, default: &'a str, help: &'a str) -> Arg<'a>
     ensures rule { rule_of result ≡ number_rule id.entry.now default.entry.now 0 most_size }
     ensures local { result.global ≡ false }
 {
-    number(alloc, id, unit, default, (0, 4_294_967_295), help)
+    number(alloc, id, unit, default, (0, MOST), help)
 }
 
 fn required_option<'a>(alloc: Global, id: &'a str, unit: &'a str, help: &'a str) -> Arg<'a>
     ensures rule { rule_of result ≡ required_rule id.entry.now }
     ensures local { result.global ≡ false }
 {
-    Arg::new(alloc, id)
-        .long(id)
-        .value_name(unit)
-        .required(true)
-        .help(help)
+    optional(alloc, id, unit, help).required(true)
 }
 
 fn optional<'a>(alloc: Global, id: &'a str, unit: &'a str, help: &'a str) -> Arg<'a>
     ensures rule { rule_of result ≡ optional_rule id.entry.now }
     ensures local { result.global ≡ false }
 {
-    Arg::new(alloc, id).long(id).value_name(unit).help(help)
+    named(alloc, id, help).value_name(unit)
 }
 
 fn file<'a>(alloc: Global, id: &'a str, help: &'a str) -> Arg<'a>

@@ -3,10 +3,10 @@
 pub(crate) const PROGRAM_HELP: &str =
     "A replay takes a program and a script of events, and prints the trace of what happened:
 each instruction, each memory operation and each message between caches and memory.
-An explain takes the same, and tells below each event what it did.
+An explain takes the same, and tells below each event what it did. A chart takes it too, and draws it.
 A run takes a program alone: its harts run side by side, and what happened is kept as a script.
 An explore takes a program alone, and tells every end that the machine can bring it to.
-A check takes a trace and tells whether the memory model allows its order.
+A check takes a trace and tells whether the memory model allows its order, or whether its messages are lawful.
 
 Example: rvtl replay --raw examples/exit.bin examples/exit.script";
 
@@ -65,6 +65,17 @@ Exited CODE change the machine. The other outcomes tell why nothing happened:
 
 Example: rvtl explain --raw examples/load.bin examples/load.script";
 
+pub(crate) const CHART_HELP: &str =
+    "The picture is an SVG file on standard output: time goes down, with a row for each event that changed the
+machine, and lanes for each hart's core and cache and for the manager of memory. Core lanes show what the
+hart retired, cache lanes the permission held for each line, and arrows the messages, from where they were
+sent to where they arrived. At most 400 rows are drawn.
+
+Example: rvtl chart --raw examples/load.bin examples/load.script > load.svg";
+
+pub(crate) const LINE_HELP: &str =
+    "draw the messages and permissions of the line with this address alone (decimal, or hexadecimal behind 0x)";
+
 pub(crate) const RUN_HELP: &str =
     "Each hart runs in a thread of its own. When all have halted, or after so many events, the events that
 changed the machine are written into the journal, the trace goes to standard output, and how each
@@ -81,12 +92,16 @@ out. The order of the lines is fixed. The last line is one of
   incomplete: out of memory           so are they here, and the status is 4
 Before it, stuck: N states from which no schedule ends, where there are any.
 The machine carries loads out as they retire, so that what a missing fence between two loads allows is
-not among the outcomes.
+not among the outcomes. With --architecture it is: behind each outcome stands whether this machine shows
+it, or the memory model alone allows it, and the last line is
+  searched: N outcomes, M states, no window over W (not proved complete)
+or incomplete: and the limit that was met. With --sample, random runs are made and counted instead, and
+the last line is sampled: RUNS runs, not complete.
 
 Example: rvtl explore --harts 2 examples/dekker.elf";
 
 pub(crate) const SCRIPTS_HELP: &str =
-    "the folder to write outcome-1.script .. and stuck.script into, each for replay";
+    "the folder to write outcome-1.script .. and stuck.script into, each for replay; and outcome-1.trace .., each for check, of outcomes that this machine can't show";
 
 pub(crate) const ALLOW_HELP: &str =
     "the file with the allowed outcomes, a line each as printed, without its number; where another is found its number is told and the status is 3";
@@ -109,5 +124,8 @@ the first has to be performed before the second:
   12 the second loads from a store between them that depends on the first
   13 the second is a store, behind an access whose address depends on the first
 14 is the load value axiom (both are the load), 15 the atomicity axiom (an LR and its SC).
+
+With --messages the trace may end behind its M lines, and need not come from rvtl. It prints lawful, or
+with status 3 unlawful, a rule and the number of the message, from 0, that breaks it.
 
 Example: rvtl check examples/legal.trace";

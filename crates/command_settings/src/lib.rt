@@ -7,4 +7,6 @@ mod usage;
 mod wanted;
 
 pub use usage::settings;
-pub use wanted::{Check, Explain, Explore, MachineOptions, Replay, Run, Settings, SettingsError};
+pub use wanted::{
+    Chart, Check, Explain, Explore, MachineOptions, Replay, Run, Settings, SettingsError,
+};

@@ -1,17 +1,17 @@
 //! How the program's words are read by its usage.
 
 ghost use Rattle.std.specs.Prelude.{ℕ, ◌≡◌, ◌≢◌, ◌<◌, ◌^◌, IfErr, IfOk, IfSome, IsNone, List, OnOk, Some, map};
-ghost use Rattle.clap.specs.Words.{Row, Text, found_of, rows_of, subcommand_rows_of};
+ghost use Rattle.clap.specs.Words.{Row, Text, app_of, found_of, rows_of, subcommand_rows_of};
 ghost use Rattle.command_settings.specs.Refusals.{IsFitting, IsRefused};
-ghost use Rattle.command_settings.specs.Settings.{HasAll, HasNumber, IsCheckMeant, IsComplete, IsExplainMeant, IsExploreMeant, IsMachineMeant, IsMeant, IsNamed, IsNumberIn, IsReplayMeant, IsRunMeant, name_of};
-ghost use Rattle.command_settings.specs.Usage.{check_arguments, explain_arguments, explore_arguments, machine_arguments, replay_arguments, run_arguments};
+ghost use Rattle.command_settings.specs.Settings.{HasAll, HasNumber, IsChartMeant, IsCheckMeant, IsComplete, IsExplainMeant, IsExploreMeant, IsMachineMeant, IsMeant, IsNamed, IsNumberIn, IsReplayMeant, IsRunMeant, name_of};
+ghost use Rattle.command_settings.specs.Usage.{IsUsage, chart_arguments, check_arguments, explain_arguments, explore_arguments, machine_arguments, replay_arguments, run_arguments};
 
 use crate::commands::command;
 use crate::wanted::{
-    Check, Explain, Explore, MachineOptions, Replay, Run, Settings, SettingsError,
+    Chart, Check, Explain, Explore, MachineOptions, Replay, Run, Settings, SettingsError,
 };
-use clap::ArgMatches;
 use clap::error::ErrorKind;
+use clap::{ArgMatches, Command};
 use memory_model::Model;
 use std::alloc::Global;
 use std::convert::AsStr;
@@ -23,6 +23,18 @@ pub fn settings<'a, S: AsStr>(alloc: Global, words: &'a [S]) -> Result<Settings<
     ensures refused { IfErr result (IsRefused (map S.text words.entry.now)) }
 {
     let mut command = command(alloc)?;
+    settings_by(&mut command, words)
+}
+
+// What the words ask for by a command, which is the usage.
+fn settings_by<'a, S: AsStr>(
+    command: &mut Command<'a>,
+    words: &'a [S],
+) -> Result<Settings<'a>, SettingsError>
+    ensures named { IsUsage (app_of command.old) → IfOk result (IsNamed (map S.text words.entry.now)) }
+    ensures fitting { IsUsage (app_of command.old) → OnOk result (IsFitting (map S.text words.entry.now)) }
+    ensures refused { IsUsage (app_of command.old) → IfErr result (IsRefused (map S.text words.entry.now)) }
+{
     let matches = command.try_get_matches_from_mut(words)?;
     match settings_of(&matches) {
         Some(settings) => Ok(settings),
@@ -30,7 +42,7 @@ pub fn settings<'a, S: AsStr>(alloc: Global, words: &'a [S]) -> Result<Settings<
         None => {
             let missing = command.error(
                 ErrorKind::MissingSubcommand,
-                "replay, explain, run, explore or check is wanted",
+                "replay, explain, chart, run, explore or check is wanted",
             )?;
             Err(SettingsError::Usage(missing))
         }
@@ -46,6 +58,7 @@ fn settings_of<'a>(matches: &ArgMatches<'a>) -> Option<Settings<'a>>
     match matches.subcommand()? {
         ("replay", replay) => Some(Settings::Replay(replay_of(replay)?)),
         ("explain", explain) => Some(Settings::Explain(explain_of(explain)?)),
+        ("chart", chart) => Some(Settings::Chart(chart_of(chart)?)),
         ("run", run) => Some(Settings::Run(run_of(run)?)),
         ("explore", explore) => Some(Settings::Explore(explore_of(explore)?)),
         ("check", check) => Some(Settings::Check(check_of(check)?)),
@@ -75,6 +88,18 @@ fn explain_of<'a>(matches: &ArgMatches<'a>) -> Option<Explain<'a>>
     Some(Explain {
         replay,
         strict: matches.get_flag("strict"),
+    })
+}
+
+fn chart_of<'a>(matches: &ArgMatches<'a>) -> Option<Chart<'a>>
+    ensures meant { IfSome result (λ chart. HasAll (rows_of (found_of matches.now)) chart_arguments
+        → IsChartMeant (rows_of (found_of matches.now)) chart) }
+    ensures missing { IsNone result → HasAll (rows_of (found_of matches.now)) chart_arguments → ⊥ }
+{
+    let replay = replay_of(matches)?;
+    Some(Chart {
+        replay,
+        line: matches.get_str("line"),
     })
 }
 
@@ -118,6 +143,10 @@ fn explore_of<'a>(matches: &ArgMatches<'a>) -> Option<Explore<'a>>
         states: number_of(matches, "states")?,
         scripts: matches.get_str("scripts"),
         allow: matches.get_str("allow"),
+        sample: number_of(matches, "sample")?,
+        seed: number_of(matches, "seed")?,
+        architecture: matches.get_flag("architecture"),
+        window: number_of(matches, "window")?,
         image: matches.get_str("IMAGE")?,
     })
 }
@@ -129,7 +158,11 @@ fn check_of<'a>(matches: &ArgMatches<'a>) -> Option<Check<'a>>
 {
     let model = model_of(matches.get_str("model")?)?;
     let trace = matches.get_str("TRACE")?;
-    Some(Check { model, trace })
+    Some(Check {
+        messages: matches.get_flag("messages"),
+        model,
+        trace,
+    })
 }
 
 fn number_of(matches: &ArgMatches<'_>, id: &str) -> Option<u32>

@@ -53,6 +53,14 @@ pub struct Explain<'a> {
     pub strict: bool,
 }
 
+/// Replay, and draw what happened as a picture.
+#[derive(Clone, Copy, Debug, PartialEq, Eq)]
+pub struct Chart<'a> {
+    pub replay: Replay<'a>,
+    /// The address of the line whose messages alone are drawn, as it was given.
+    pub line: Option<&'a str>,
+}
+
 /// Find every end that the machine can bring the program of the file `image` to, which has bare words
 /// where `raw` is set, and else is an ELF file.
 #[derive(Clone, Copy, Debug, PartialEq, Eq)]
@@ -65,12 +73,22 @@ pub struct Explore<'a> {
     pub scripts: Option<&'a str>,
     /// The file with the outcomes that are allowed.
     pub allow: Option<&'a str>,
+    /// How many random runs to make in place of a search: 0 to 1000000000, and none where it is 0.
+    pub sample: u32,
+    /// What the random runs begin from.
+    pub seed: u32,
+    /// Find what the memory model allows too, where the machine can't show it.
+    pub architecture: bool,
+    /// How many operations of a hart may wait at a time in a search of what the model allows: 1 to 64.
+    pub window: u32,
     pub image: &'a str,
 }
 
-/// Judge the order of the trace in the file `trace`.
+/// Judge the order of the trace in the file `trace`, or its messages.
 #[derive(Clone, Copy, Debug, PartialEq, Eq)]
 pub struct Check<'a> {
+    /// Judge the messages in place of the order.
+    pub messages: bool,
     /// Under which the order is judged.
     pub model: Model,
     pub trace: &'a str,
@@ -82,6 +100,7 @@ pub enum Settings<'a> {
     Replay(Replay<'a>),
     Run(Run<'a>),
     Explain(Explain<'a>),
+    Chart(Chart<'a>),
     Explore(Explore<'a>),
     Check(Check<'a>),
 }

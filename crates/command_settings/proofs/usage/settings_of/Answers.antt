@@ -4,7 +4,7 @@ use Rattle.std.specs.Str.{bytes_eq}
 use Rattle.std.proofs.lemmas.Slice.Eq.{bytes_eq-Decides}
 use Rattle.clap.specs.Words.{Row, Text, found_of, rows_of, subcommand_rows_of}
 use Rattle.command_settings.specs.Settings.{HasAll, IsComplete}
-use Rattle.command_settings.specs.Usage.{check_arguments, explain_arguments, explore_arguments, replay_arguments, run_arguments}
+use Rattle.command_settings.specs.Usage.{chart_arguments, check_arguments, explain_arguments, explore_arguments, replay_arguments, run_arguments}
 use Rattle.command_settings.proofs.Missing.{same_complete}
 use Rattle.command_settings.proofs.usage.settings_of.Goals as goal
 
@@ -27,15 +27,18 @@ no_match a b other = go (bytes_eq b a) refl
     go false same = refl
 
 -- no other name is one of a subcommand
-unknown : (name : Text) (rows : List Row) → (name ≡ codes "replay" → ⊥) → (name ≡ codes "explain" → ⊥) → (name ≡ codes "run" → ⊥)
+unknown : (name : Text) (rows : List Row) → (name ≡ codes "replay" → ⊥) → (name ≡ codes "explain" → ⊥) → (name ≡ codes "chart" → ⊥) → (name ≡ codes "run" → ⊥)
     → (name ≡ codes "explore" → ⊥) → (name ≡ codes "check" → ⊥) → IsComplete name rows → ⊥
-unknown name rows no_replay no_explain no_run no_explore no_check whole = rw (no_match name (codes "replay") no_replay, no_match name (codes "explain") no_explain, no_match name (codes "run") no_run, no_match name (codes "explore") no_explore, no_match name (codes "check") no_check) at whole
+unknown name rows no_replay no_explain no_chart no_run no_explore no_check whole = rw (no_match name (codes "replay") no_replay, no_match name (codes "explain") no_explain, no_match name (codes "chart") no_chart, no_match name (codes "run") no_run, no_match name (codes "explore") no_explore, no_match name (codes "check") no_check) at whole
 
 at_replay : (name : Text) (rows : List Row) → name ≡ codes "replay" → IsComplete name rows → HasAll rows replay_arguments
 at_replay name rows is = subst (λ n. IsComplete n rows → HasAll rows replay_arguments) (sym is) (λ whole. whole)
 
 at_explain : (name : Text) (rows : List Row) → name ≡ codes "explain" → IsComplete name rows → HasAll rows explain_arguments
 at_explain name rows is = subst (λ n. IsComplete n rows → HasAll rows explain_arguments) (sym is) (λ whole. whole)
+
+at_chart : (name : Text) (rows : List Row) → name ≡ codes "chart" → IsComplete name rows → HasAll rows chart_arguments
+at_chart name rows is = subst (λ n. IsComplete n rows → HasAll rows chart_arguments) (sym is) (λ whole. whole)
 
 at_run : (name : Text) (rows : List Row) → name ≡ codes "run" → IsComplete name rows → HasAll rows run_arguments
 at_run name rows is = subst (λ n. IsComplete n rows → HasAll rows run_arguments) (sym is) (λ whole. whole)
@@ -81,6 +84,24 @@ returns-in_err-explain_of-in-explain-default-clause-missing c = λ none name row
     let f = found_of s.field-0.1.now in
     let here = paired (subcommand_rows_of c.args.matches.now) s.field-0.0.now (rows_of f) (fused _ (λ p. p.0) _ ∙ sym s.ensures.name) (sym s.ensures.rows) in
     c.in_err-explain_of-in-explain-default.ensures.missing refl (at_explain s.field-0.0.now (rows_of f) (search rules) (same_complete _ name s.field-0.0.now rows (rows_of f) is here whole))
+
+pub returns-in_ok-chart_of-in-chart-default-clause-meant : goal.returns-in_ok-chart_of-in-chart-default-clause-meant
+returns-in_ok-chart_of-in-chart-default-clause-meant c =
+    let s = c.in_ok-replay in
+    let f = found_of s.field-0.1.now in
+    let is : s.field-0.0.now ≡ codes "chart" = search rules in (
+      s.field-0.0.now,
+      rows_of f,
+      paired (subcommand_rows_of c.args.matches.now) s.field-0.0.now (rows_of f) (fused _ (λ p. p.0) _ ∙ sym s.ensures.name) (sym s.ensures.rows),
+      λ whole. (is, c.in_ok-chart_of-in-chart-default.ensures.meant (at_chart s.field-0.0.now (rows_of f) is whole)),
+    )
+
+pub returns-in_err-chart_of-in-chart-default-clause-missing : goal.returns-in_err-chart_of-in-chart-default-clause-missing
+returns-in_err-chart_of-in-chart-default-clause-missing c = λ none name rows is whole.
+    let s = c.in_ok-replay in
+    let f = found_of s.field-0.1.now in
+    let here = paired (subcommand_rows_of c.args.matches.now) s.field-0.0.now (rows_of f) (fused _ (λ p. p.0) _ ∙ sym s.ensures.name) (sym s.ensures.rows) in
+    c.in_err-chart_of-in-chart-default.ensures.missing refl (at_chart s.field-0.0.now (rows_of f) (search rules) (same_complete _ name s.field-0.0.now rows (rows_of f) is here whole))
 
 pub returns-in_ok-run_of-in-run-default-clause-meant : goal.returns-in_ok-run_of-in-run-default-clause-meant
 returns-in_ok-run_of-in-run-default-clause-meant c =
@@ -141,4 +162,4 @@ returns-in_default-clause-missing c = λ none name rows is whole.
     let s = c.in_ok-replay in
     let f = found_of s.field-0.1.now in
     let here = paired (subcommand_rows_of c.args.matches.now) s.field-0.0.now (rows_of f) (fused _ (λ p. p.0) _ ∙ sym s.ensures.name) (sym s.ensures.rows) in
-    unknown s.field-0.0.now (rows_of f) (λ at. search rules) (λ at. search rules) (λ at. search rules) (λ at. search rules) (λ at. search rules) (same_complete _ name s.field-0.0.now rows (rows_of f) is here whole)
+    unknown s.field-0.0.now (rows_of f) (λ at. search rules) (λ at. search rules) (λ at. search rules) (λ at. search rules) (λ at. search rules) (λ at. search rules) (same_complete _ name s.field-0.0.now rows (rows_of f) is here whole)
