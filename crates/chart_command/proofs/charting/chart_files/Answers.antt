@@ -1,0 +1,74 @@
+use Rattle.std.proofs.Common.{◌≡◌, ◌∙◌, Err, ap, false, inr, subst, sym}
+use Rattle.std.proofs.lemmas.Bool.{false≢true}
+use Rattle.chart_command.proofs.Drawn.{begun_at, drawn_at, drawn_begun, drawn_on, left_or_stopped, lost_told, stopped, told_as, undrawn_at}
+use Rattle.chart_command.proofs.Told.{chart_misused, drawing_never_misused, of_address, of_chart_image, of_chart_script, writing_never_misused}
+use Rattle.command_files.proofs.Left.{handed_up}
+use Rattle.command_files.proofs.Limits.{machine_within, memory_within}
+use Rattle.command_files.specs.Files.{HoldsImage}
+use Rattle.command_files.specs.Held.{Held}
+use Rattle.machine_model.specs.Config.{is_within_limits}
+use Rattle.chart_command.proofs.charting.chart_files.Goals as goal
+
+pub image_in-requires : goal.image_in-requires
+image_in-requires g c = memory_within c.in_ok-script.script c.in_ok-script.ensures.script.is_script
+
+pub returns-in_err-address-clause-told : goal.returns-in_err-address-clause-told
+returns-in_err-address-clause-told g c = handed_up _ c.from_residual.result _ c.from_residual.ensures.1 (of_address _ c.args.wanted _ _ c.in_err-address.ensures.refused)
+
+pub returns-in_err-script-clause-told : goal.returns-in_err-script-clause-told
+returns-in_err-script-clause-told g c =
+    handed_up _ c.from_residual-in_err-script.result _ c.from_residual-in_err-script.ensures.1 (of_chart_script _ c.args.wanted _ _ c.in_err-script.ensures.fault)
+
+pub returns-in_err-image-clause-told : goal.returns-in_err-image-clause-told
+returns-in_err-image-clause-told g c =
+    handed_up _ c.from_residual-in_err-image.result _ c.from_residual-in_err-image.ensures.1
+    (of_chart_image _ c.args.wanted _ _ (c.in_ok-script.script, c.in_ok-script.ensures.script) c.in_err-image.ensures.fault)
+
+pub returns-in-Err-clause-unfinished : goal.returns-in-Err-clause-unfinished
+returns-in-Err-clause-unfinished g c =
+    left_or_stopped _ c.args.wanted c.args.line c.in_ok-script.script c.in_ok-image.image c.in_ok-address.address _ _ _ c.in-Err.error c.in_ok-script.ensures.script
+    (subst (λ (held : Held). HoldsImage held c.args.wanted.raw c.args.wanted.image.now c.in_ok-script.script.kib c.in_ok-image.image) c.in_ok-script.ensures.stays c.in_ok-image.ensures.image)
+    c.in_ok-address.ensures.named
+    (undrawn_at _ _ _ _ _ _ _ _ _ c.in-Err.error c.config_of-config.ensures c.as_slice-events.ensures c.in-Err.ensures.undrawn)
+
+pub returns-in-Err-clause-misused : goal.returns-in-Err-clause-misused
+returns-in-Err-clause-misused g c = λ two.
+    absurd (drawing_never_misused _ c.in-Err.error _
+    (λ at. false≢true (sym (c.write_chart-drawn.ensures.limits (c.in-Err.is ∙ ap Err at)) ∙ (ap is_within_limits c.config_of-config.ensures ∙ machine_within c.in_ok-script.script c.args.wanted.model c.in_ok-script.ensures.script.is_script)))
+    c.fault_of.ensures two)
+
+pub returns-in-Err-clause-told : goal.returns-in-Err-clause-told
+returns-in-Err-clause-told g c =
+    told_as _ c.args.wanted c.args.line c.in_ok-script.script c.in_ok-image.image c.in_ok-address.address _ _ _ c.in-Err.error _ c.in_ok-script.ensures.script
+    (subst (λ (held : Held). HoldsImage held c.args.wanted.raw c.args.wanted.image.now c.in_ok-script.script.kib c.in_ok-image.image) c.in_ok-script.ensures.stays c.in_ok-image.ensures.image)
+    (λ at. false≢true (sym (c.write_chart-drawn.ensures.limits (c.in-Err.is ∙ ap Err at)) ∙ (ap is_within_limits c.config_of-config.ensures ∙ machine_within c.in_ok-script.script c.args.wanted.model c.in_ok-script.ensures.script.is_script)))
+    (undrawn_at _ _ _ _ _ _ _ _ _ c.in-Err.error c.config_of-config.ensures c.as_slice-events.ensures c.in-Err.ensures.undrawn)
+    c.fault_of.ensures
+
+pub returns-in-Ok-clause-charted : goal.returns-in-Ok-clause-charted
+returns-in-Ok-clause-charted g c = record {
+  script = c.in_ok-script.script;
+  image = c.in_ok-image.image;
+  address = c.in_ok-address.address;
+  style = _;
+  script_file = c.in_ok-script.ensures.script;
+  image_file =
+      subst (λ (held : Held). HoldsImage held c.args.wanted.raw c.args.wanted.image.now c.in_ok-script.script.kib c.in_ok-image.image)
+      c.in_ok-script.ensures.stays c.in_ok-image.ensures.image;
+  only = c.in_ok-script.ensures.only;
+  named = c.in_ok-address.ensures.named;
+  drawn = drawn_at _ _ _ _ _ _ _ _ _ c.config_of-config.ensures c.as_slice-events.ensures (drawn_on _ _ _ _ _ _ _ _ c.flush.ensures.bytes c.in_default.ensures.drawn);
+}
+
+pub returns-clause-unfinished : goal.returns-clause-unfinished
+returns-clause-unfinished g c =
+    inr (stopped _ c.args.wanted c.args.line c.in_ok-script.script c.in_ok-image.image c.in_ok-address.address _ _ _ c.in_ok-script.ensures.script
+    (subst (λ (held : Held). HoldsImage held c.args.wanted.raw c.args.wanted.image.now c.in_ok-script.script.kib c.in_ok-image.image) c.in_ok-script.ensures.stays c.in_ok-image.ensures.image)
+    c.in_ok-address.ensures.named
+    (begun_at _ _ _ _ _ _ _ _ _ c.config_of-config.ensures c.as_slice-events.ensures (drawn_begun _ _ _ _ _ _ _ _ c.flush.ensures.bytes c.in_default.ensures.drawn)))
+
+pub returns-clause-misused : goal.returns-clause-misused
+returns-clause-misused g c = λ two. absurd (writing_never_misused _ c.writing.ensures.told two)
+
+pub returns-clause-told : goal.returns-clause-told
+returns-clause-told g c = lost_told _ c.args.wanted c.args.line _ c.writing.ensures.told

@@ -1,0 +1,70 @@
+-- What drawing a script has done, and which faults it tells.
+use Rattle.chart_command.specs.Addresses.{address}
+use Rattle.coherent_machine.specs.declared.errors.NewError.TheVariants as making
+use Rattle.coherent_machine.specs.declared.errors.ReplayError.{ReplayError}
+use Rattle.coherent_machine.specs.declared.errors.ReplayError.TheVariants as refusals
+use Rattle.command_files.specs.Faults.{HasScript, IsReplayFault, Name}
+use Rattle.command_files.specs.Files.{HoldsImage, HoldsScript, IsTheScriptIn}
+use Rattle.command_files.specs.Held.{Held}
+use Rattle.command_files.specs.Sizes.{config_of}
+use Rattle.command_files.specs.declared.fault.Fault.{Fault}
+use Rattle.command_files.specs.declared.fault.Fault.TheVariants.{BadAddress, CannotWrite, Configuration, Event, OutOfMemory, TooManyRows}
+use Rattle.command_settings.specs.declared.wanted.Replay.{Replay}
+use Rattle.elf_loader.specs.Image.{Initial}
+use Rattle.machine_model.specs.declared.config.Config.{Config}
+use Rattle.machine_model.specs.declared.event.Event.{Event as AnEvent}
+use Rattle.machine_parts.specs.declared.errors.ApplyError.{ApplyError}
+use Rattle.run_chart.specs.Charts.{IsBegun, IsDrawn}
+use Rattle.run_chart.specs.declared.errors.ChartError.{ChartError}
+use Rattle.run_chart.specs.declared.errors.ChartError.TheVariants as chart
+use Rattle.std.specs.Io.KnownBytes.{Appends}
+use Rattle.std.specs.Prelude.{◌≡◌, ◌⊎◌, ◌↔◌, ◌+◌, ◌-◌, ◌^◌, ℕ, List, [], Option, Some, None, min}
+use Rattle.trace_text.specs.declared.script.Script.{Script}
+
+-- the address that the word names, where there is a word
+abbrev pub IsAddress : Option Name → Option ℕ → Type 0
+IsAddress None answer = answer ≡ None
+IsAddress (Some word) answer = (n : ℕ) × ((address word.now ≡ Some n) × (answer ≡ Some n))
+
+-- the word names no address
+abbrev pub IsNoAddress : Option Name → Fault → Type 0
+IsNoAddress None fault = ⊥
+IsNoAddress (Some word) fault = (address word.now ≡ None) × (fault ≡ BadAddress word)
+
+-- what was appended is the picture of what the script in the one file does with the image in the other
+pub record IsCharted (held : Held) (replay : Replay) (line : Option Name) (old new : Option (List ℕ)) : Type 0 where
+  pub script : Script
+  pub image : Initial
+  pub address : Option ℕ
+  pub style : List ℕ
+  pub script_file : HoldsScript held replay.script.now script
+  pub image_file : HoldsImage held replay.raw replay.image.now script.kib image
+  pub only : IsTheScriptIn held replay.script.now script
+  pub named : IsAddress line address
+  pub drawn : IsDrawn image (config_of script replay.model) script.events address style old new
+
+-- a beginning of that picture was appended, where the output took no more
+pub record IsStopped (held : Held) (replay : Replay) (line : Option Name) (old new : Option (List ℕ)) : Type 0 where
+  pub script : Script
+  pub image : Initial
+  pub address : Option ℕ
+  pub style : List ℕ
+  pub script_file : HoldsScript held replay.script.now script
+  pub image_file : HoldsImage held replay.raw replay.image.now script.kib image
+  pub named : IsAddress line address
+  pub begun : IsBegun image (config_of script replay.model) script.events address style old new
+
+-- which fault tells why a script's run is not drawn
+abbrev pub IsDrawingFault : Name → ChartError → Fault → Type 0
+IsDrawingFault script (chart.Replay refusal) told =
+    ((told ≡ Configuration) ⊎ ((told ≡ OutOfMemory) ⊎ ((index : ℕ) × (error : ApplyError) × (refusal ≡ refusals.Event index error) × (told ≡ Event script (min (index + 2) (2 ^ 64 - 1)) error))))
+    × ((told ≡ Configuration) ↔ (refusal ≡ refusals.New making.Config))
+IsDrawingFault script chart.TooManyRows told = told ≡ TooManyRows script
+IsDrawingFault script chart.NoMemory told = told ≡ OutOfMemory
+IsDrawingFault script (chart.Writing error) told = (told ≡ CannotWrite) ⊎ (told ≡ OutOfMemory)
+
+-- as in a replay, but a word may name no address, and a script may do too much to be drawn
+abbrev pub IsChartFault : Held → Replay → Option Name → Fault → Type 0
+IsChartFault held replay line (BadAddress word) = (line ≡ Some word) × (address word.now ≡ None)
+IsChartFault held replay line (TooManyRows file) = (file ≡ replay.script) × HasScript held replay.script.now
+IsChartFault held replay line fault = IsReplayFault held replay fault

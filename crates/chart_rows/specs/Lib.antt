@@ -1,0 +1,4 @@
+pub mod Texts
+pub mod Arrows
+pub mod Bars
+pub mod Picture

@@ -1,0 +1,46 @@
+-- What a chart tells of a run.
+use Rattle.std.specs.Prelude.{ℕ, ◌≡◌, ◌++◌, List, Option, Some, None, length, map}
+use Rattle.coherent_machine.specs.Machine.{IsFirstRefusal, Replayed, replayed_from}
+use Rattle.elf_loader.specs.Image.{Initial}
+use Rattle.machine_model.specs.Events.{happens}
+use Rattle.machine_model.specs.Views.{State, opening}
+use Rattle.machine_model.specs.declared.config.Config.{Config}
+use Rattle.machine_model.specs.declared.event.Event.{Event}
+use Rattle.chart_rows.specs.declared.rows.Story.{Story}
+use Rattle.tl_types.specs.Line.{length_of}
+use Rattle.run_chart.specs.declared.errors.ChartError.{ChartError}
+use Rattle.run_chart.specs.declared.errors.ChartError.TheVariants.{Replay, TooManyRows, NoMemory, Writing}
+use Rattle.run_chart.specs.declared.gathering.Gathered.{Gathered}
+use Rattle.run_chart.specs.Accesses.{line_around}
+use Rattle.run_chart.specs.Copies.{lines_of}
+use Rattle.run_chart.specs.Rows.{line_behind, rows_at, rows_of, told}
+
+-- an event of this index is told: by its row, if it has one
+pub record IsTold (width : ℕ) (only : Option ℕ) (columns : List ℕ) (index : ℕ) (s : State) (e : Event) (new : State) (before after : Gathered) : Type 0 where
+  pub rows_are : map told after.rows.items ≡ map told before.rows.items ++ rows_at width only columns before.line index s e
+  pub line_is : after.line ≡ line_behind before.line (rows_at width only columns before.line index s e)
+  pub leads : new ≡ happens s e
+
+-- the line of memory around an address
+abbrev pub only_of : ℕ → Option ℕ → Option ℕ
+only_of width None = None
+only_of width (Some address) = Some (line_around width address)
+
+-- how many bytes a line of memory has
+abbrev pub width_of : State → ℕ
+width_of s = length_of s.trace.line
+
+-- the events lead from reset to a state; the rows are theirs, in their order, and the bars are of the lines of memory that messages are about
+pub record IsStory (image : Initial) (config : Config) (events : List Event) (address : Option ℕ) (story : Story) : Type 0 where
+  pub reached : State
+  pub leads : replayed_from 0 (opening image config) events ≡ Replayed.Reached reached
+  pub harts_are : story.harts ≡ length reached.trace.statuses
+  pub columns_are : story.columns.items ≡ lines_of (only_of (width_of reached) address) reached.trace.log
+  pub rows_are : map told story.rows.items ≡ rows_of (width_of reached) (only_of (width_of reached) address) (lines_of (only_of (width_of reached) address) reached.trace.log) 0 0 (opening image config) events
+
+-- why nothing is told: no machine was made or an event is refused, or there are too many rows, or memory was refused
+abbrev pub IsUntold : State → List Event → ChartError → Type 0
+IsUntold s events (Replay error) = IsFirstRefusal s events error
+IsUntold s events TooManyRows = Unit {0}
+IsUntold s events NoMemory = Unit {0}
+IsUntold s events (Writing fault) = ⊥

@@ -1,0 +1,39 @@
+//! What is kept of a machine before an event, to tell what the event did.
+ghost use Rattle.std.specs.Prelude.{◌≡◌};
+ghost use Rattle.run_chart.specs.Rows as rows;
+
+use crate::accesses::address_at;
+use coherent_machine::{Machine, Views};
+use event_stream::{Lengths, hart_of};
+use machine_model::Event;
+
+/// How long the lists are, the word that the event's hart has reserved, and the address that the event is
+/// about.
+#[derive(Clone, Copy, Debug)]
+pub(crate) struct Before {
+    pub lengths: Lengths,
+    pub reserved: Option<u32>,
+    pub address: Option<u32>,
+}
+
+/// The word that a hart has reserved; of one that isn't there, none.
+pub(crate) fn reserved_in(views: Views<'_>, hart: usize) -> Option<u32>
+    ensures { result ≡ rows.reserved_in views.entry hart }
+{
+    if hart < views.harts() {
+        views.reserved(hart)
+    } else {
+        None
+    }
+}
+
+pub(crate) fn stood_before(machine: &Machine, event: Event) -> Before
+    ensures { result ≡ rows.before machine.now event }
+{
+    let hart = hart_of(event);
+    Before {
+        lengths: Lengths::of(machine, hart),
+        reserved: reserved_in(machine.views(), hart as usize),
+        address: address_at(machine, event),
+    }
+}

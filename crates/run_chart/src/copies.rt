@@ -1,0 +1,130 @@
+//! What caches hold.
+ghost use Rattle.std.specs.Prelude.{◌≡◌, ◌<◌, IfOk, OnOk, map};
+ghost use Rattle.client_cache.specs.Cache.{copy_at};
+ghost use Rattle.run_chart.specs.Copies as copies;
+
+use chart_drawing::Hold;
+use chart_rows::Copied;
+use client_cache::{ClientCache, Held};
+use coherent_machine::Machine;
+use std::alloc::{AllocError, Global};
+use std::marker::Brand;
+use std::sync::ledger::{Blank, Ledger};
+use tl_types::Ticks;
+use trace_recorder::Logged;
+
+fn hold_of(copy: Option<Held>) -> Hold
+    ensures { result ≡ copies.hold_of copy }
+{
+    match copy {
+        Some(Held::Branch(_)) => Hold::Branch,
+        Some(Held::Trunk { dirty: false, .. }) => Hold::Trunk,
+        Some(Held::Trunk { dirty: true, .. }) => Hold::Dirty,
+        None => Hold::Nothing,
+    }
+}
+
+fn copy_on<L: Ledger>(cache: &ClientCache, line: u32, blank: Blank) -> Option<Held>
+    requires name { blank.name ≡ L.name }
+    requires parts { blank.parts ≡ L.parts }
+    requires some { 0 < L.parts }
+    ensures { result ≡ copy_at cache.now line }
+{
+    let mut ticks: Ticks<L> = Ticks::new(blank);
+    cache.copy(line, &mut ticks)
+}
+
+/// The cache's copy of a line.
+fn copy_in(cache: &ClientCache, line: u32) -> Option<Held>
+    ensures { result ≡ copy_at cache.now line }
+{
+    copy_on::<Brand>(cache, line, Blank::new(1))
+}
+
+/// What a hart's cache holds of a line; of a hart that isn't there, nothing.
+fn hold_at(machine: &Machine, hart: usize, line: u32) -> Hold
+    ensures { result ≡ copies.hold_at machine.now hart line }
+{
+    let views = machine.views();
+    if hart < views.harts() {
+        hold_of(copy_in(views.cache(hart), line))
+    } else {
+        Hold::Nothing
+    }
+}
+
+fn copied(machine: &Machine, hart: usize, line: u32) -> Copied
+    ensures { result ≡ copies.copied machine.now hart line }
+{
+    Copied {
+        line,
+        hold: hold_at(machine, hart, line),
+    }
+}
+
+/// What a hart's cache holds of these lines.
+pub(crate) fn copies_in(
+    alloc: Global,
+    machine: &Machine,
+    hart: usize,
+    lines: &[u32],
+) -> Result<Vec<Copied>, AllocError>
+    ensures { IfOk result (λ list. list.items ≡ map (copies.copied machine.now hart) lines.now) }
+{
+    let mut copies = Vec::new(alloc);
+    for line in lines {
+        copies.push(copied(machine, hart, *line))?;
+    }
+    Ok(copies)
+}
+
+/// Whether a message is about the line of memory that is asked for, if one is.
+pub(crate) fn is_about(only: Option<u32>, entry: &Logged) -> bool
+    ensures { result ≡ copies.is_about only entry.now }
+{
+    match only {
+        Some(line) => entry.message.line == line,
+        None => true,
+    }
+}
+
+fn has(lines: &[u32], line: u32) -> bool
+    ensures { result ≡ copies.has lines.now line }
+{
+    let mut rest = lines;
+    while let [first, tail @ ..] = rest {
+        if *first == line {
+            return true;
+        }
+        rest = tail;
+    }
+    false
+}
+
+/// A message's line joins the lines in play, if it isn't among them.
+fn meet(lines: &mut Vec<u32>, only: Option<u32>, entry: &Logged) -> Result<(), AllocError>
+    ensures { OnOk result (lines.new.items ≡ copies.with_line only lines.old.items entry.now) }
+{
+    let line = entry.message.line;
+    if is_about(only, entry) && !has(lines.as_slice(), line) {
+        lines.push(line)?;
+    }
+    Ok(())
+}
+
+/// The lines of memory that messages are about, each once, in the order in which they are met.
+pub(crate) fn lines_of(
+    alloc: Global,
+    only: Option<u32>,
+    log: &[Logged],
+) -> Result<Vec<u32>, AllocError>
+    ensures { IfOk result (λ lines. lines.items ≡ copies.lines_of only log.now) }
+{
+    let mut lines = Vec::new(alloc);
+    let mut rest = log;
+    while let [entry, tail @ ..] = rest {
+        meet(&mut lines, only, entry)?;
+        rest = tail;
+    }
+    Ok(lines)
+}

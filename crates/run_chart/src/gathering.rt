@@ -1,0 +1,156 @@
+//! What happens in a run, row by row.
+ghost use Rattle.std.specs.Prelude.{◌≡◌, ◌<◌, ◌++◌, ◌∷◌, [], Err, IfErr, IfOk, OnOk, false, length, map};
+ghost use Rattle.coherent_machine.specs.declared.errors.NewError.TheVariants as making;
+ghost use Rattle.coherent_machine.specs.declared.errors.ReplayError.TheVariants as replaying;
+ghost use Rattle.machine_model.specs.Config.{is_within_limits};
+ghost use Rattle.machine_model.specs.Events.{happens};
+ghost use Rattle.machine_model.specs.Views.{opening};
+ghost use Rattle.run_chart.specs.Accesses.{line_around};
+ghost use Rattle.run_chart.specs.Rows as rows;
+ghost use Rattle.run_chart.specs.Stories.{IsStory, IsTold, IsUntold, only_of};
+
+use crate::accesses::line_around;
+use crate::before::stood_before;
+use crate::copies::lines_of;
+use crate::errors::{ChartError, RowError};
+use crate::row::{MOST_ROWS, Scope, is_shown, row_of};
+use chart_rows::{Row, Story};
+use coherent_machine::{Machine, replay};
+use elf_loader::Image;
+use event_stream::Report;
+use machine_model::{Config, Event, changes_are_counted};
+use std::alloc::{AllocError, Global};
+
+/// The rows so far, and the line of text on which the next one begins.
+#[derive(Drop)]
+struct Gathered {
+    rows: Vec<Row>,
+    line: u16,
+}
+
+fn push(list: &mut Vec<Row>, row: Row) -> Result<(), AllocError>
+    ensures { OnOk result (list.new.items ≡ list.old.items ++ row ∷ []) }
+{
+    list.push(row)?;
+    Ok(())
+}
+
+impl Gathered {
+    /// One more row.
+    fn add(&mut self, row: Row) -> Result<(), RowError>
+        ensures rows { OnOk result (self.new.rows.items ≡ self.old.rows.items ++ row ∷ []) }
+        ensures line { OnOk result (self.new.line ≡ row.end) }
+    {
+        if self.rows.len() >= MOST_ROWS {
+            return Err(RowError::TooManyRows);
+        }
+        self.line = row.end;
+        push(&mut self.rows, row)?;
+        Ok(())
+    }
+}
+
+/// Applies an event of this index, and adds its row, if it has one. The events were replayed before, so that
+/// only memory can be refused.
+fn tell(
+    alloc: Global,
+    scope: &Scope<'_>,
+    machine: &mut Machine,
+    gathered: &mut Gathered,
+    index: usize,
+    event: Event,
+) -> Result<(), RowError>
+    requires { 0 < scope.now.width }
+    ensures { OnOk result (IsTold scope.now.width scope.now.only scope.now.columns.now index machine.old event machine.new gathered.old gathered.new) }
+{
+    changes_are_counted();
+    let before = stood_before(machine, event);
+    let outcome = match machine.apply(event) {
+        Ok(outcome) => outcome,
+        Err(_) => return Err(RowError::NoMemory),
+    };
+    if machine.views().changes() == before.lengths.changes {
+        return Ok(());
+    }
+    let report = Report::behind(&before.lengths, machine, index, event, outcome);
+    let row = row_of(alloc, scope, &before, machine, gathered.line, &report)?;
+    if is_shown(scope, before.address, row.log.as_slice()) {
+        gathered.add(row)
+    } else {
+        Ok(())
+    }
+}
+
+fn rows_of(
+    alloc: Global,
+    scope: &Scope<'_>,
+    image: Image,
+    config: Config,
+    events: &[Event],
+) -> Result<Vec<Row>, RowError>
+    requires { 0 < scope.now.width }
+    ensures { IfOk result (λ list. map rows.told list.items ≡ rows.rows_of scope.now.width scope.now.only scope.now.columns.now 0 0 (opening image config) events.now) }
+{
+    let mut machine = match Machine::new(alloc, image, config) {
+        Ok(machine) => machine,
+        Err(_) => return Err(RowError::NoMemory),
+    };
+    let mut gathered = Gathered {
+        rows: Vec::new(alloc),
+        line: 0,
+    };
+    let mut index = 0;
+    let mut rest = events;
+    while let [event, tail @ ..] = rest {
+        tell(alloc, scope, &mut machine, &mut gathered, index, *event)?;
+        index += 1;
+        rest = tail;
+    }
+    let Gathered { rows, line: _ } = gathered;
+    Ok(rows)
+}
+
+/// The line of memory that is asked for, by an address in it.
+fn only_of(width: u32, address: Option<u32>) -> Option<u32>
+    requires { 0 < width }
+    ensures { result ≡ only_of width address }
+{
+    match address {
+        Some(address) => Some(line_around(width, address)),
+        None => None,
+    }
+}
+
+/// What happens in a run: a row for each event that changes the machine; where an address is given, only for
+/// those that are about the line of memory around it, with its messages alone.
+pub fn gather(
+    alloc: Global,
+    image: Image,
+    config: Config,
+    events: &[Event],
+    address: Option<u32>,
+) -> Result<Story, ChartError>
+    ensures told { IfOk result (IsStory image config events.now address) }
+    ensures limits { result ≡ Err (ChartError.Replay (replaying.New making.Config)) → is_within_limits config ≡ false }
+    ensures untold { IfErr result (IsUntold (opening image config) events.now) }
+{
+    let machine = replay(alloc, image.try_copy(alloc)?, config, events)?;
+    let width = machine.trace().line_size().bytes();
+    let only = only_of(width, address);
+    let columns = lines_of(alloc, only, machine.trace().log())?;
+    let harts = machine.trace().harts() as u8;
+    let scope = Scope {
+        width,
+        only,
+        columns: columns.as_slice(),
+    };
+    let rows = rows_of(alloc, &scope, image, config, events)?;
+    if columns.len() > MOST_ROWS {
+        return Err(ChartError::TooManyRows);
+    }
+    Ok(Story {
+        harts,
+        columns,
+        rows,
+    })
+}

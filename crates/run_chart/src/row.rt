@@ -1,0 +1,73 @@
+//! A row: what an event that changed the machine did.
+ghost use Rattle.std.specs.Prelude.{◌≡◌, ◌<◌, IfOk};
+ghost use Rattle.event_stream.specs.Telling.{report_of};
+ghost use Rattle.run_chart.specs.Rows as rows;
+
+use crate::accesses::lies_in;
+use crate::before::{Before, reserved_in};
+use crate::copies::copies_in;
+use crate::errors::RowError;
+use crate::notes::notes_of;
+use crate::posting::{end_of, noted, posts_of};
+use chart_rows::{Posted, Row};
+use coherent_machine::Machine;
+use event_stream::{Report, hart_of};
+use std::alloc::Global;
+
+/// A picture has no more rows.
+pub const MOST_ROWS: usize = 400;
+
+/// A picture has no more lines of text.
+pub const MOST_LINES: u16 = 65_535;
+
+/// What is drawn of a run: the lines of memory that have bars, and the only one whose messages are drawn, if
+/// they aren't all.
+#[derive(Clone, Copy)]
+pub(crate) struct Scope<'a> {
+    /// How many bytes a line of memory has.
+    pub width: u32,
+    pub only: Option<u32>,
+    pub columns: &'a [u32],
+}
+
+/// Whether an event with these messages, about this address, is drawn.
+pub(crate) fn is_shown(scope: &Scope<'_>, address: Option<u32>, posts: &[Posted]) -> bool
+    requires { 0 < scope.now.width }
+    ensures { result ≡ rows.is_shown scope.now.width scope.now.only address posts.now }
+{
+    match scope.only {
+        Some(line) => !posts.is_empty() || lies_in(scope.width, line, address),
+        None => true,
+    }
+}
+
+/// The row of an event's report, which begins on this line of text.
+pub(crate) fn row_of(
+    alloc: Global,
+    scope: &Scope<'_>,
+    before: &Before,
+    machine: &Machine,
+    line: u16,
+    report: &Report<'_>,
+) -> Result<Row, RowError>
+    ensures { IfOk result (λ row. rows.told row ≡ rows.row scope.now.only scope.now.columns.now before.now machine.now line (report_of report.now)) }
+{
+    let hart = hart_of(report.event);
+    let reserved = reserved_in(machine.views(), hart as usize);
+    let list = notes_of(alloc, machine.trace(), report, before.reserved, reserved)?;
+    let log = posts_of(alloc, scope.only, line, report.log)?;
+    let end = end_of(line, log.as_slice().len(), list.as_slice().len())?;
+    let notes = noted(alloc, line, list.as_slice())?;
+    let copies = copies_in(alloc, machine, hart as usize, scope.columns)?;
+    Ok(Row {
+        line,
+        end,
+        script_line: report.index.saturating_add(2),
+        hart,
+        event: report.event,
+        outcome: report.outcome,
+        log,
+        notes,
+        copies,
+    })
+}

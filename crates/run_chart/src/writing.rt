@@ -1,0 +1,39 @@
+//! Writing the picture of a run.
+ghost use Rattle.std.specs.Prelude.{◌≡◌, Err, IfErr, OnOk, false};
+ghost use Rattle.coherent_machine.specs.declared.errors.NewError.TheVariants as making;
+ghost use Rattle.coherent_machine.specs.declared.errors.ReplayError.TheVariants as replaying;
+ghost use Rattle.machine_model.specs.Config.{is_within_limits};
+ghost use Rattle.run_chart.specs.Charts.{IsDrawn, IsUndrawn};
+
+use crate::errors::ChartError;
+use crate::gathering::gather;
+use chart_rows::draw;
+use elf_loader::Image;
+use machine_model::{Config, Event};
+use std::alloc::Global;
+use std::io::Write;
+use text_fields::put;
+
+/// Applies the events in their order to a machine at reset, and writes the picture of what happened, an SVG
+/// document in this style. Where an address is given, it has the messages, bars and rows of the line of memory
+/// around it alone. A write that takes no byte is a writer's fault.
+pub fn write_chart<W: Write>(
+    alloc: Global,
+    image: Image,
+    config: Config,
+    events: &[Event],
+    address: Option<u32>,
+    style: &[u8],
+    out: &mut W,
+) -> Result<(), ChartError>
+    ensures drawn { OnOk result (IsDrawn image config events.now address style.now (W.contents out.old) (W.contents out.new)) }
+    ensures limits { result ≡ Err (ChartError.Replay (replaying.New making.Config)) → is_within_limits config ≡ false }
+    ensures undrawn { IfErr result (IsUndrawn image config events.now address style.now (W.contents out.old) (W.contents out.new)) }
+{
+    let story = gather(alloc, image, config, events, address)?;
+    let bytes = draw(alloc, &story, style)?;
+    match put(out, bytes.as_slice()) {
+        Ok(()) => Ok(()),
+        Err(fault) => Err(ChartError::Writing(fault)),
+    }
+}
