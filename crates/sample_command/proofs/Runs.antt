@@ -1,0 +1,42 @@
+-- What is known of random runs, and what they leave.
+use Rattle.std.proofs.Common.{◌≡◌, ℕ, IfSome, List, Option, subst}
+use Rattle.std.specs.Io.KnownBytes.{Appends}
+use Rattle.command_files.specs.Files.{HoldsImage}
+use Rattle.command_files.specs.Held.{Held}
+use Rattle.command_files.specs.Sizes.{config_named}
+use Rattle.command_settings.specs.declared.wanted.Explore.{Explore}
+use Rattle.elf_loader.specs.Image.{Initial}
+use Rattle.exploration_text.specs.Sampling.{sampled_text}
+use Rattle.explore_command.specs.Allowing.{IsJudged}
+use Rattle.explore_command.specs.Keeping.{AreKeptFrom}
+use Rattle.explore_command.specs.declared.judging.Judgement.{Judgement}
+use Rattle.explore_command.specs.declared.judging.Judgement.TheVariants.{Allowed}
+use Rattle.explorer.specs.Ends.{outcomes_of}
+use Rattle.machine_model.specs.declared.config.Config.{Config}
+use Rattle.sample_command.specs.Sampling.{AreRuns, IsPartlySampled, IsSampled}
+use Rattle.sampler.specs.declared.sampled.Sampled.{Sampled}
+use Rattle.text_fields.specs.Writing.{Begins}
+
+module _ (held first : Held) (wanted : Explore) (runs : ℕ) (config : Config) (image : Initial) (found : Sampled) (old new : Option (List ℕ))
+    (config_is : config ≡ config_named wanted.machine) (same : first ≡ held) (file : HoldsImage first wanted.raw wanted.image.now wanted.machine.memory image) (are : AreRuns image config runs found) where
+  image_file : HoldsImage held wanted.raw wanted.image.now wanted.machine.memory image
+  image_file = subst (λ (h : Held). HoldsImage h wanted.raw wanted.image.now wanted.machine.memory image) same file
+
+  are_runs : AreRuns image (config_named wanted.machine) runs found
+  are_runs = subst (λ (c : Config). AreRuns image c runs found) config_is are
+
+  pub part : Begins old new (sampled_text found) → IsPartlySampled held wanted runs old new
+  part begun = record { image = image; found = found; image_file = image_file; runs_made = are_runs; begun = begun }
+
+  pub all : (left : Held) (judgement : Judgement) → Appends old new (sampled_text found) → IfSome wanted.scripts (λ folder. AreKeptFrom left wanted.machine folder.now 1 found.ends.items)
+      → IsJudged held wanted.allow (outcomes_of found.ends.items) judgement → (judgement ≡ Allowed → found.runs ≡ runs) → IsSampled held left wanted runs judgement old new
+  all left judgement printed kept by whole = record {
+    image = image;
+    found = found;
+    image_file = image_file;
+    runs_made = are_runs;
+    printed = printed;
+    kept = kept;
+    judged = by;
+    whole = whole;
+  }

@@ -1,0 +1,42 @@
+-- What random runs have told, written and judged.
+use Rattle.std.specs.Prelude.{◌≡◌, ℕ, ◌≤◌, IfSome, List, Option}
+use Rattle.std.specs.Io.KnownBytes.{Appends}
+use Rattle.command_files.specs.Files.{HoldsImage}
+use Rattle.command_files.specs.Held.{Held}
+use Rattle.command_files.specs.Sizes.{config_named}
+use Rattle.command_settings.specs.declared.wanted.Explore.{Explore}
+use Rattle.elf_loader.specs.Image.{Initial}
+use Rattle.exploration_text.specs.Sampling.{sampled_text}
+use Rattle.explore_command.specs.Allowing.{IsJudged}
+use Rattle.explore_command.specs.Keeping.{AreKeptFrom}
+use Rattle.explore_command.specs.declared.judging.Judgement.{Judgement}
+use Rattle.explore_command.specs.declared.judging.Judgement.TheVariants.{Allowed}
+use Rattle.explorer.specs.Ends.{outcomes_of}
+use Rattle.machine_model.specs.declared.config.Config.{Config}
+use Rattle.sampler.specs.Sampled as ends
+use Rattle.sampler.specs.declared.sampled.Sampled.{Sampled}
+use Rattle.text_fields.specs.Writing.{Begins}
+
+-- at most so many runs were made, each end is one, its script leads there, and so many came to it
+pub record AreRuns (image : Initial) (config : Config) (runs : ℕ) (found : Sampled) : Type 0 where
+  pub sampled : ends.IsSampled image config found
+  pub within : found.runs ≤ runs
+
+-- what runs of the image in the file came to was printed, its scripts are in the folder, if one was named, and it was judged by the file that says what is allowed; it is allowed only where all runs were made
+pub record IsSampled (held left : Held) (wanted : Explore) (runs : ℕ) (judgement : Judgement) (old new : Option (List ℕ)) : Type 0 where
+  pub image : Initial
+  pub found : Sampled
+  pub image_file : HoldsImage held wanted.raw wanted.image.now wanted.machine.memory image
+  pub runs_made : AreRuns image (config_named wanted.machine) runs found
+  pub printed : Appends old new (sampled_text found)
+  pub kept : IfSome wanted.scripts (λ folder. AreKeptFrom left wanted.machine folder.now 1 found.ends.items)
+  pub judged : IsJudged held wanted.allow (outcomes_of found.ends.items) judgement
+  pub whole : judgement ≡ Allowed → found.runs ≡ runs
+
+-- such a text was printed, all of it or a beginning
+pub record IsPartlySampled (held : Held) (wanted : Explore) (runs : ℕ) (old new : Option (List ℕ)) : Type 0 where
+  pub image : Initial
+  pub found : Sampled
+  pub image_file : HoldsImage held wanted.raw wanted.image.now wanted.machine.memory image
+  pub runs_made : AreRuns image (config_named wanted.machine) runs found
+  pub begun : Begins old new (sampled_text found)

@@ -1,0 +1,12 @@
+use Rattle.std.proofs.Common.{◌-◌, ◌≤◌}
+use Rattle.sampler.specs.Sampled.{IsTally}
+use Rattle.sampler.proofs.sampling.sample_ends.Given as goal
+
+abbrev pub invariant-loop-tally : goal.invariant-loop-tally
+invariant-loop-tally l = record {
+  tally : IsTally l.image l.fn.config l.tally;
+  within : l.tally.runs ≤ l.sampling.runs;
+}
+
+abbrev pub decreases-loop-tally : goal.decreases-loop-tally
+decreases-loop-tally l = l.sampling.runs - l.tally.runs

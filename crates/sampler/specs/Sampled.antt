@@ -1,0 +1,75 @@
+-- What random runs come to, and how often.
+use Rattle.std.specs.Prelude.{◌≡◌, ℕ, ◌+◌, ◌&&◌, Bool, true, not, List, [], ◌∷◌, All, count_by, filter, length, map, unwrap_or}
+use Rattle.std.specs.List.{AllByRecursion}
+use Rattle.std.specs.List.Sorted.{IsStrictlySortedBy}
+use Rattle.std.specs.Map.{keys_of, lookup}
+use Rattle.std.specs.Ordering.{is_eq, on}
+use Rattle.elf_loader.specs.Image.{Initial}
+use Rattle.explorer.specs.declared.found.Found.{Found}
+use Rattle.explorer.specs.declared.found.Script.{Script}
+use Rattle.explorer.specs.declared.found.Script.TheVariants.{Events}
+use Rattle.explorer.specs.Ends.{BringsAbout, outcome_of}
+use Rattle.explorer.specs.Ranks.{outcome_cmp}
+use Rattle.flat_model.specs.Shown.{Result, results}
+use Rattle.hart.specs.Run.{is_running}
+use Rattle.machine_model.specs.declared.config.Config.{Config}
+use Rattle.machine_model.specs.declared.event.Event.{Event}
+use Rattle.sampler.specs.declared.sampled.Sampled.{Sampled}
+use Rattle.sampler.specs.declared.tally.Tally.{Tally}
+use Rattle.schedules.specs.Schedules.{Replays, led}
+
+-- ---- ends
+
+-- no hart runs any more
+abbrev pub have_ended : List Result → Bool
+have_ended [] = true
+have_ended (r ∷ rs) = not (is_running r.status) && have_ended rs
+
+abbrev pub LeadsTo : Initial → Config → List Result → Script → Type 0
+LeadsTo image config outcome (Events events) = BringsAbout image config outcome events.items
+LeadsTo image config outcome _ = ⊥
+
+-- it is an end, and its script leads there
+abbrev pub IsReached : Initial → Config → Found → Type 0
+IsReached image config found = (have_ended (outcome_of found) ≡ true) × LeadsTo image config (outcome_of found) found.script
+
+-- ---- how often
+
+-- the outcome is this end's
+abbrev pub is_outcome_of : Found → List Result → Bool
+is_outcome_of found outcome = is_eq (outcome_cmp outcome (outcome_of found))
+
+-- each end with its number
+abbrev pub numbered : List Found → List ℕ → List (Found × ℕ)
+numbered [] _ = []
+numbered (f ∷ fs) [] = []
+numbered (f ∷ fs) (n ∷ ns) = (f, n) ∷ numbered fs ns
+
+-- the number that stands with an end, or 0
+abbrev pub times_of : Found → List (Found × ℕ) → ℕ
+times_of found counted = unwrap_or (lookup (λ other. is_eq (outcome_cmp (outcome_of found) (outcome_of other))) counted) 0
+
+-- what those of the lists of events lead to that end all harts
+abbrev pub ends_led : Initial → Config → List (List Event) → List (List Result)
+ends_led image config schedules = filter have_ended (map (λ events. results (led image config events)) schedules)
+
+-- so many runs were played from reset: so many came to each end, and so many to none
+pub record AreCounted (image : Initial) (config : Config) (counted : List (Found × ℕ)) (to_none runs : ℕ) : Type 0 where
+  pub schedules : List (List Event)
+  pub count : length schedules ≡ runs
+  pub replays : AllByRecursion (Replays image config) schedules
+  pub times : (found : Found) → times_of found counted ≡ count_by (is_outcome_of found) (ends_led image config schedules)
+  pub others : to_none + length (ends_led image config schedules) ≡ runs
+
+-- ---- what is told
+
+pub record IsTally (image : Initial) (config : Config) (t : Tally) : Type 0 where
+  pub counted : AreCounted image config t.ends.entries t.unended t.runs
+  pub reached : All (IsReached image config) (keys_of t.ends.entries)
+
+-- each end is one, and its script leads there; so many runs came to each, and so many to none; the ends stand in their order, each once
+pub record IsSampled (image : Initial) (config : Config) (s : Sampled) : Type 0 where
+  pub reached : All (IsReached image config) s.ends.items
+  pub counted : AreCounted image config (numbered s.ends.items s.times.items) s.unended s.runs
+  pub as_many : length s.times.items ≡ length s.ends.items
+  pub order : IsStrictlySortedBy (on outcome_of outcome_cmp) s.ends.items

@@ -1,0 +1,83 @@
+//! Random runs.
+
+ghost use Rattle.std.specs.Prelude.{◌≡◌, ◌≤◌, IfOk, IsTrue};
+ghost use Rattle.flat_model.specs.Shown.{results, told};
+ghost use Rattle.machine_model.specs.Config.{is_within_limits};
+ghost use Rattle.sampler.specs.Sampled.{IsSampled, IsTally};
+ghost use Rattle.schedules.specs.Schedules.{Replays, led};
+
+use crate::sampled::Sampled;
+use crate::tally::Tally;
+use coherent_machine::NewError;
+use elf_loader::Image;
+use machine_model::Config;
+use rand_core::{Rng, SeedableRng};
+use rand_xoshiro::SplitMix64;
+use schedules::{Schedule, sample};
+use std::alloc::{AllocError, Global};
+
+/// How many events a run tries at most, those that stall among them.
+const MOST_EVENTS: u64 = 1_000_000;
+
+/// How a program is sampled.
+#[derive(Clone, Copy, Debug, PartialEq, Eq)]
+pub struct Sampling {
+    pub runs: u64,
+    /// What the runs are drawn from: the same seed gives the same runs.
+    pub seed: u64,
+    /// Whether each end's script is shortened.
+    pub shortened: bool,
+}
+
+/// Plays random schedules of the machine, each from reset, and counts how often they come to each end. A
+/// run whose harts haven't all ended after 1,000,000 tried events, or where a limit of the machine is met,
+/// counts as unended. Where memory ends, the runs before are told; the error is that there was none for
+/// the list of their ends.
+pub fn sample_ends(
+    alloc: Global,
+    image: &Image,
+    config: Config,
+    sampling: Sampling,
+) -> Result<Sampled, AllocError>
+    requires limits { IsTrue (is_within_limits config) }
+    ensures sampled { IfOk result (IsSampled image.now config) }
+    ensures within { IfOk result (λ s. s.runs ≤ sampling.runs) }
+{
+    let program = Program {
+        alloc,
+        image,
+        config,
+        shortened: sampling.shortened,
+    };
+    let mut generator = SplitMix64::seed_from_u64(sampling.seed);
+    let mut tally = Tally::new(alloc);
+    while tally.runs < sampling.runs {
+        let Ok(schedule) = program.run(generator.next_u64()) else {
+            break;
+        };
+        if tally.count(&program, schedule).is_err() {
+            break;
+        }
+    }
+    tally.into_sampled(&program)
+}
+
+/// The program that is sampled, and its machine.
+#[derive(Clone, Copy)]
+pub(crate) struct Program<'a> {
+    pub alloc: Global,
+    pub image: &'a Image,
+    pub config: Config,
+    pub shortened: bool,
+}
+
+impl Program<'_> {
+    fn run(&self, seed: u64) -> Result<Schedule, NewError>
+        ensures real { IfOk result (λ schedule. schedule.machine ≡ led self.now.image.now self.now.config schedule.events.items) }
+        ensures replays { IfOk result (λ schedule. Replays self.now.image.now self.now.config schedule.events.items) }
+        ensures results { IfOk result (λ schedule. told schedule.results.items ≡ results schedule.machine) }
+    {
+        let image = self.image.try_copy(self.alloc)?;
+        sample(self.alloc, image, self.config, seed, MOST_EVENTS)
+    }
+}

@@ -1,0 +1,157 @@
+//! How often runs came to each end.
+
+ghost use Rattle.std.specs.Prelude.{◌≡◌, ◌+◌, ◌^◌, ◌<◌, [], IfOk, OnErr, OnOk};
+ghost use Rattle.explorer.specs.Ends.{outcome_of};
+ghost use Rattle.flat_model.specs.Shown.{results, told};
+ghost use Rattle.sampler.specs.Sampled.{IsReached, IsSampled, IsTally, have_ended};
+ghost use Rattle.schedules.specs.Schedules.{Replays, led};
+
+use crate::sampled::Sampled;
+use crate::sampling::Program;
+use explorer::{Found, Script};
+use flat_model::HartResult;
+use schedules::{Schedule, shorten};
+use std::alloc::{AllocError, Global};
+use std::collections::BTreeMap;
+
+/// How many events are played to shorten a script.
+const MOST_PLAYED: u64 = 1_000_000;
+
+/// The ends of the runs so far.
+#[derive(Drop)]
+pub(crate) struct Tally {
+    ends: BTreeMap<Found, u64>,
+    unended: u64,
+    pub runs: u64,
+}
+
+impl Tally {
+    pub(crate) fn new(alloc: Global) -> Tally
+        ensures runs { result.runs ≡ 0 }
+        ensures unended { result.unended ≡ 0 }
+        ensures ends { result.ends.entries ≡ [] }
+    {
+        Tally {
+            ends: BTreeMap::new(alloc),
+            unended: 0,
+            runs: 0,
+        }
+    }
+
+    /// Counts one more run.
+    pub(crate) fn count(
+        &mut self,
+        program: &Program<'_>,
+        schedule: Schedule,
+    ) -> Result<(), AllocError>
+        requires room { self.old.runs + 1 < 2 ^ 64 }
+        requires tally { IsTally program.now.image.now program.now.config self.old }
+        requires real { schedule.machine ≡ led program.now.image.now program.now.config schedule.events.items }
+        requires replays { Replays program.now.image.now program.now.config schedule.events.items }
+        requires results { told schedule.results.items ≡ results schedule.machine }
+        ensures tally { IsTally program.now.image.now program.now.config self.new }
+        ensures ok { OnOk result (self.new.runs ≡ self.old.runs + 1) }
+        ensures err { OnErr result (self.new.runs ≡ self.old.runs) }
+    {
+        let Schedule {
+            events,
+            machine: _,
+            results,
+        } = schedule;
+        if !have_ended(&results) {
+            self.unended += 1;
+            self.runs += 1;
+            return Ok(());
+        }
+        let end = Found {
+            harts: results,
+            script: Script::Events(events),
+        };
+        self.count_end(program, end)
+    }
+
+    /// Counts one more run that came to this end.
+    fn count_end(&mut self, program: &Program<'_>, end: Found) -> Result<(), AllocError>
+        requires room { self.old.runs + 1 < 2 ^ 64 }
+        requires tally { IsTally program.now.image.now program.now.config self.old }
+        requires reached { IsReached program.now.image.now program.now.config end }
+        ensures tally { IsTally program.now.image.now program.now.config self.new }
+        ensures ok { OnOk result (self.new.runs ≡ self.old.runs + 1) }
+        ensures err { OnErr result (self.new.runs ≡ self.old.runs) }
+    {
+        let times = self.ends.get(&end).copied().unwrap_or(0);
+        let end = program.kept(end, times == 0);
+        if self.ends.insert(end, times + 1).is_err() {
+            return Err(AllocError);
+        }
+        self.runs += 1;
+        Ok(())
+    }
+
+    /// The ends in their order.
+    pub(crate) fn into_sampled(self, program: &Program<'_>) -> Result<Sampled, AllocError>
+        requires tally { IsTally program.now.image.now program.now.config self }
+        ensures sampled { IfOk result (IsSampled program.now.image.now program.now.config) }
+        ensures runs { IfOk result (λ s. s.runs ≡ self.runs) }
+    {
+        let Tally {
+            ends: counted,
+            unended,
+            runs,
+        } = self;
+        let mut ends = Vec::new(program.alloc);
+        let mut times = Vec::new(program.alloc);
+        for (end, count) in counted {
+            ends.push(end)?;
+            times.push(count)?;
+        }
+        Ok(Sampled {
+            ends,
+            times,
+            unended,
+            runs,
+        })
+    }
+}
+
+/// Whether no hart runs any more.
+fn have_ended(harts: &[HartResult]) -> bool
+    ensures { result ≡ have_ended (told harts.now) }
+{
+    let mut rest = harts;
+    while let [first, tail @ ..] = rest {
+        if first.status.is_running() {
+            return false;
+        }
+        rest = tail;
+    }
+    true
+}
+
+impl Program<'_> {
+    /// The end as it is told: where it is new, with fewer events that lead there, if that was asked for and
+    /// memory lasts.
+    fn kept(&self, end: Found, is_new: bool) -> Found
+        requires reached { IsReached self.now.image.now self.now.config end }
+        ensures reached { IsReached self.now.image.now self.now.config result }
+        ensures outcome { outcome_of result ≡ outcome_of end }
+    {
+        if !is_new || !self.shortened {
+            return end;
+        }
+        let Found { harts, script } = end;
+        let Script::Events(events) = script else {
+            return Found { harts, script };
+        };
+        match shorten(self.alloc, self.image, self.config, &events, MOST_PLAYED) {
+            Ok(short) => Found {
+                harts,
+                script: Script::Events(short),
+            },
+            Err(_) => Found {
+                harts,
+                script: Script::Events(events),
+            },
+        }
+    }
+}
