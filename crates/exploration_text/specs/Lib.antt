@@ -1,1 +1,2 @@
+pub mod Sampling
 pub mod Text

@@ -1,6 +1,8 @@
 //! What is found of a program, as the lines that are printed.
 #![tactic(auto)]
 
+mod sampling;
 mod spelling;
 
+pub use sampling::sampled_text;
 pub use spelling::{harts_text, text_of};

@@ -12,7 +12,7 @@ use itoa::Buffer;
 use state_search::Extent;
 use std::alloc::{AllocError, Global};
 
-fn spell_number(into: &mut Vec<u8>, number: u64) -> Result<(), AllocError>
+pub(crate) fn spell_number(into: &mut Vec<u8>, number: u64) -> Result<(), AllocError>
     ensures { OnOk result (into.new.items ≡ into.old.items ++ decimal number) }
 {
     let mut digits = Buffer::new();
@@ -39,7 +39,7 @@ fn spell_status(into: &mut Vec<u8>, status: Status) -> Result<(), AllocError>
     }
 }
 
-fn spell_numbers(into: &mut Vec<u8>, numbers: &[u32]) -> Result<(), AllocError>
+pub(crate) fn spell_numbers(into: &mut Vec<u8>, numbers: &[u32]) -> Result<(), AllocError>
     ensures { OnOk result (into.new.items ≡ into.old.items ++ text.numbers_text numbers.now) }
 {
     let mut rest = numbers;
@@ -83,7 +83,7 @@ fn spell_hart(into: &mut Vec<u8>, hart: usize, ended: &HartResult) -> Result<(),
     spell_output(into, &ended.output)
 }
 
-fn spell_harts(into: &mut Vec<u8>, harts: &[HartResult]) -> Result<(), AllocError>
+pub(crate) fn spell_harts(into: &mut Vec<u8>, harts: &[HartResult]) -> Result<(), AllocError>
     ensures { OnOk result (into.new.items ≡ into.old.items ++ text.harts_text 0 (told harts.now)) }
 {
     let mut rest = harts;

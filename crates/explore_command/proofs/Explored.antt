@@ -1,5 +1,5 @@
 -- What is known of an exploration, and what it leaves.
-use Rattle.std.proofs.Common.{◌≡◌, ◌∙◌, ℕ, Err, IfErr, IfOk, IfSome, List, None, Ok, Option, Result, Some, [], ap, inl, inr, subst, sym}
+use Rattle.std.proofs.Common.{◌≡◌, ◌≢◌, ◌∙◌, ℕ, Err, IfErr, IfOk, IfSome, List, None, Ok, Option, Result, Some, [], ap, inl, inr, subst, sym}
 use Rattle.std.proofs.lemmas.List.{append-nil}
 use Rattle.std.specs.Io.KnownBytes.{Appends}
 use Rattle.command_files.specs.Faults.{Name}
@@ -15,15 +15,21 @@ use Rattle.explore_command.specs.Allowing.{IsJudged}
 use Rattle.explore_command.specs.Exploring.{IsAllowFile, IsExploreFault, IsExplored, IsFoundIn, IsPartlyExplored, LeavesPart, judgement_on}
 use Rattle.explore_command.specs.Keeping.{AreKept, SparesOthers}
 use Rattle.explore_command.specs.declared.judging.Judgement.{Judgement}
+use Rattle.explore_command.specs.declared.judging.Judgement.TheVariants.{Allowed}
 use Rattle.explorer.specs.Ends.{outcomes_of}
 use Rattle.explorer.specs.declared.exploration.Exploration.{Exploration}
 use Rattle.flat_model.specs.Shown.{Result as Ended}
 use Rattle.machine_model.specs.declared.config.Config.{Config}
+use Rattle.state_search.specs.declared.findings.Extent.TheVariants as extent
 use Rattle.text_fields.specs.Writing.{Begins}
 
 pub ok_more : {T E : Type 0} (P Q : T → Type 0) (r : Result T E) → ((x : T) → P x → Q x) → IfOk r P → IfOk r Q
 ok_more P Q (Ok x) more so = more x so
 ok_more P Q (Err e) more so = tt
+
+pub ok_both : {T E : Type 0} (P Q : T → Type 0) (r : Result T E) → IfOk r P → IfOk r Q → IfOk r (λ x. P x × Q x)
+ok_both P Q (Ok x) one other = (one, other)
+ok_both P Q (Err e) one other = tt
 
 pub err_more : {T E : Type 0} (P Q : E → Type 0) (r : Result T E) → ((e : E) → P e → Q e) → IfErr r P → IfErr r Q
 err_more P Q (Ok x) more so = tt
@@ -63,8 +69,8 @@ module _ (held first : Held) (wanted : Explore) (config : Config) (image : Initi
   part begun = record { image = image; exploration = found; image_file = image_file; found = is_found; begun = begun }
 
   pub whole : (left : Held) (judgement : Judgement) → Appends old new (exploration_text found) → IfSome wanted.scripts (λ folder. AreKept left wanted.machine folder.now found)
-      → IsJudged held wanted.allow (outcomes_of found.outcomes.items) judgement → IsExplored held left wanted judgement old new
-  whole left judgement printed kept by = record {
+      → IsJudged held wanted.allow (outcomes_of found.outcomes.items) judgement → (judgement ≡ Allowed → found.extent ≢ extent.OutOfMemory) → IsExplored held left wanted judgement old new
+  whole left judgement printed kept by memory = record {
     image = image;
     exploration = found;
     image_file = image_file;
@@ -72,6 +78,7 @@ module _ (held first : Held) (wanted : Explore) (config : Config) (image : Initi
     printed = printed;
     kept = kept;
     judged = by;
+    whole = memory;
   }
 
 pub memory_left : (fault : Fault) (old new : Option (List ℕ)) (part : Type 0) → fault ≡ OutOfMemory → part → LeavesPart fault old new part

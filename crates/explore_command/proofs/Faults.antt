@@ -2,7 +2,7 @@
 use Rattle.std.proofs.Common.{◌≡◌, ◌∙◌, ◌⊎◌, ℕ, List, None, Option, Some, ap, inl, inr, subst, sym, refl}
 use Rattle.command_files.specs.Faults.{IsImageFault, IsReadFault, Name}
 use Rattle.command_files.specs.declared.fault.Fault.{Fault}
-use Rattle.command_files.specs.declared.fault.Fault.TheVariants.{BadEvent, BytesAfterTrace, CannotMake, CannotRead, CannotWrite, Check, Configuration, Event, Image, Mismatch, NoThread, NothingHappens, OutOfMemory, Text}
+use Rattle.command_files.specs.declared.fault.Fault.TheVariants.{BadAddress, BadEvent, BytesAfterTrace, CannotMake, CannotRead, CannotWrite, Check, Configuration, Event, Image, Mismatch, NoThread, NothingHappens, OutOfMemory, Text, TooManyRows}
 use Rattle.command_settings.specs.declared.wanted.Explore.{Explore}
 use Rattle.explore_command.specs.Exploring.{IsExploreFault, IsFolderFault, IsNamedBy, LeavesPart}
 
@@ -39,6 +39,10 @@ first_told explore (BytesAfterTrace file) (inl so) = absurd (no_other explore.al
 first_told explore (BytesAfterTrace file) (inr so) = absurd so
 first_told explore (Check file error) (inl so) = absurd (no_other explore.allow (Check file error) (λ name is. is) so)
 first_told explore (Check file error) (inr so) = absurd so
+first_told explore (TooManyRows file) (inl so) = absurd (no_other explore.allow (TooManyRows file) (λ name is. is) so)
+first_told explore (TooManyRows file) (inr so) = absurd so
+first_told explore (BadAddress word) (inl so) = absurd (no_other explore.allow (BadAddress word) (λ name is. is) so)
+first_told explore (BadAddress word) (inr so) = absurd so
 first_told explore NoThread (inl so) = absurd (no_other explore.allow NoThread (λ name is. is) so)
 first_told explore NoThread (inr so) = absurd so
 first_told explore Mismatch (inl so) = absurd (no_other explore.allow Mismatch (λ name is. is) so)
@@ -61,6 +65,8 @@ first_left explore (Event file line error) old new part so same = same
 first_left explore (NothingHappens file line outcome) old new part so same = same
 first_left explore (BytesAfterTrace file) old new part so same = same
 first_left explore (Check file error) old new part so same = same
+first_left explore (TooManyRows file) old new part so same = same
+first_left explore (BadAddress word) old new part so same = same
 first_left explore NoThread old new part so same = same
 first_left explore Mismatch old new part so same = same
 first_left explore BadEvent old new part so same = same
@@ -111,6 +117,8 @@ some_part old new part (Event file line error) so = inl so
 some_part old new part (NothingHappens file line outcome) so = inl so
 some_part old new part (BytesAfterTrace file) so = inl so
 some_part old new part (Check file error) so = inl so
+some_part old new part (TooManyRows file) so = inl so
+some_part old new part (BadAddress word) so = inl so
 some_part old new part NoThread so = inl so
 some_part old new part Mismatch so = inl so
 some_part old new part BadEvent so = inl so

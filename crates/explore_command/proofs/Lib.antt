@@ -1,4 +1,4 @@
-mod Explored
+pub mod Explored
 pub mod Faults
-mod Kept
+pub mod Kept
 mod Lines

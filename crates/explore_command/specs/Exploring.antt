@@ -1,5 +1,5 @@
 -- What an exploration has told, written and judged, and which faults it tells.
-use Rattle.std.specs.Prelude.{◌≡◌, ◌⊎◌, ℕ, All, IfSome, List, None, Option, Some}
+use Rattle.std.specs.Prelude.{◌≡◌, ◌≢◌, ◌⊎◌, ℕ, [], All, IfSome, List, None, Option, Some}
 use Rattle.std.specs.Io.KnownBytes.{Appends}
 use Rattle.std.specs.List.Sorted.{IsSortedByKey}
 use Rattle.command_files.specs.Faults.{Name}
@@ -23,20 +23,22 @@ use Rattle.explorer.specs.declared.exploration.Exploration.{Exploration}
 use Rattle.flat_model.specs.Shown.{Result}
 use Rattle.machine_model.specs.declared.config.Config.{Config}
 use Rattle.state_search.specs.declared.findings.Extent.TheVariants.{Complete, LimitMet}
+use Rattle.state_search.specs.declared.findings.Extent.TheVariants as extent
 use Rattle.text_fields.specs.Writing.{Begins}
 
 -- ---- what is found
 
--- each end is one, and its script leads there; where it says complete no end is missing, and where nothing is stuck an end can always be reached; the ends stand in their order
+-- each end is one, and its script leads there; where it says complete no end is missing, and where nothing is stuck an end can always be reached, and one is told; the ends stand in their order
 pub record IsFoundIn (image : Initial) (config : Config) (limit : ℕ) (found : Exploration) : Type 0 where
   pub real : All (IsRealIn image config) found.outcomes.items
   pub complete : found.extent ≡ Complete → HasEachEnd image config (outcomes_of found.outcomes.items)
   pub none_stuck : found.extent ≡ Complete → found.stuck ≡ None → CanAlwaysEnd image config
+  pub some : found.extent ≡ Complete → found.stuck ≡ None → found.outcomes.items ≢ []
   pub stuck : IfSome found.stuck (IsStuckIn image config)
   pub order : IsSortedByKey outcome_of outcome_cmp found.outcomes.items
   pub full : found.extent ≡ LimitMet → found.states ≡ limit
 
--- what was found of the image in the file was printed, its scripts are in the folder, if one was named, and it was judged by the file that says what is allowed
+-- what was found of the image in the file was printed, its scripts are in the folder, if one was named, and it was judged by the file that says what is allowed; it is allowed only where memory sufficed for all states, or for as many as were asked for
 pub record IsExplored (held left : Held) (wanted : Explore) (judgement : Judgement) (old new : Option (List ℕ)) : Type 0 where
   pub image : Initial
   pub exploration : Exploration
@@ -45,6 +47,7 @@ pub record IsExplored (held left : Held) (wanted : Explore) (judgement : Judgeme
   pub printed : Appends old new (exploration_text exploration)
   pub kept : IfSome wanted.scripts (λ folder. AreKept left wanted.machine folder.now exploration)
   pub judged : IsJudged held wanted.allow (outcomes_of exploration.outcomes.items) judgement
+  pub whole : judgement ≡ Allowed → exploration.extent ≢ extent.OutOfMemory
 
 -- such a text was printed, all of it or a beginning
 pub record IsPartlyExplored (held : Held) (wanted : Explore) (old new : Option (List ℕ)) : Type 0 where

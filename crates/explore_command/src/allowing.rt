@@ -1,21 +1,24 @@
 //! The outcomes that a file allows.
 
 ghost use Rattle.std.specs.Prelude.{◌≡◌, IfOk, List, ℕ};
-ghost use Rattle.explore_command.specs.Allowing.{has_line, is_allowed_line, without_number};
+ghost use Rattle.explore_command.specs.Allowing.{has_line, is_allowed_line, line_of, without_number};
+ghost use Rattle.flat_model.specs.Shown.{told};
 
 use bstr::ByteSlice;
+use exploration_text::harts_text;
+use flat_model::HartResult;
 use indexmap::IndexSet;
 use std::alloc::{AllocError, Global};
 
 /// The lines of a file, without their numbers.
 #[derive(Drop)]
-pub(crate) struct Allowed<'a> {
-    lines: IndexSet<&'a [u8]>,
+pub struct Allowed<'a> {
+    pub(crate) lines: IndexSet<&'a [u8]>,
 }
 
 impl<'a> Allowed<'a> {
     /// Each line of the text. It takes a step for each byte.
-    pub(crate) fn new(alloc: Global, text: &'a [u8]) -> Result<Allowed<'a>, AllocError>
+    pub fn new(alloc: Global, text: &'a [u8]) -> Result<Allowed<'a>, AllocError>
         ensures { IfOk result (λ allowed. (line : List ℕ) → has_line allowed.lines.keys line ≡ is_allowed_line text.now line) }
     {
         let mut lines = IndexSet::new(alloc);
@@ -30,6 +33,14 @@ impl<'a> Allowed<'a> {
         ensures { result ≡ has_line self.now.lines.keys line.now }
     {
         self.lines.contains(line)
+    }
+
+    /// Whether one of the lines tells that the harts end so.
+    pub fn has_outcome(&self, alloc: Global, harts: &[HartResult]) -> Result<bool, AllocError>
+        ensures { IfOk result (λ has. has ≡ has_line self.now.lines.keys (line_of (told harts.now))) }
+    {
+        let line = harts_text(alloc, harts)?;
+        Ok(self.has(without_number(&line)))
     }
 }
 

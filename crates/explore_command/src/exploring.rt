@@ -1,6 +1,6 @@
 //! `rvtl explore`: every end that the machine can bring a program to is found, told, kept and judged.
 
-ghost use Rattle.std.specs.Prelude.{◌≡◌, ◌<◌, ◌⊎◌, Err, IfErr, IfOk, IfSome, OnErr, OnOk, option_map, true};
+ghost use Rattle.std.specs.Prelude.{◌≡◌, ◌≢◌, ◌<◌, ◌⊎◌, Err, IfErr, IfOk, IfSome, OnErr, OnOk, option_map, true};
 ghost use Rattle.std.specs.Io.KnownBytes.{Appends};
 ghost use Rattle.command_files.specs.Faults.{IsReadFault};
 ghost use Rattle.command_files.specs.Sizes.{IsOutside, config_named};
@@ -61,7 +61,7 @@ pub fn explore_files<'a, F: Files, O: Write, E: Write>(
 }
 
 /// The bytes of the file that was named, if one was.
-fn allow_file<'a, F: Files>(
+pub fn allow_file<'a, F: Files>(
     alloc: Global,
     files: &mut F,
     allow: Option<&'a str>,
@@ -126,6 +126,7 @@ fn judge<'a, E: Write>(
     err: &mut E,
 ) -> Result<Judgement, Fault<'a>>
     ensures judged { IfOk result (λ judgement. judgement ≡ judgement_on (option_map (λ bytes. bytes.items) allowed.now) (outcomes_of found.now.outcomes.items)) }
+    ensures whole { IfOk result (λ judgement. judgement ≡ Judgement.Allowed → found.now.extent ≢ Extent.OutOfMemory) }
     ensures told { IfErr result (λ fault. fault ≡ Fault.OutOfMemory) }
 {
     if let Some(text) = allowed {

@@ -1,11 +1,10 @@
 //! Whether the outcomes that were found are those that a file allows.
 
 ghost use Rattle.std.specs.Prelude.{◌≡◌, IfOk};
-ghost use Rattle.explore_command.specs.Allowing.{are_allowed, has_line, line_of};
-ghost use Rattle.explorer.specs.Ends.{outcome_of, outcomes_of};
+ghost use Rattle.explore_command.specs.Allowing.{are_allowed};
+ghost use Rattle.explorer.specs.Ends.{outcomes_of};
 
-use crate::allowing::{Allowed, without_number};
-use exploration_text::harts_text;
+use crate::allowing::Allowed;
 use explorer::Found;
 use std::alloc::{AllocError, Global};
 use std::io::Write;
@@ -19,7 +18,7 @@ pub enum Judgement {
 }
 
 /// Whether the text has a line for each outcome. Of those for which it has none the numbers are told.
-pub(crate) fn are_allowed<E: Write>(
+pub fn are_allowed<E: Write>(
     alloc: Global,
     text: &[u8],
     outcomes: &[Found],
@@ -32,7 +31,7 @@ pub(crate) fn are_allowed<E: Write>(
     let mut number: usize = 1;
     let mut all = true;
     while let [first, tail @ ..] = rest {
-        if !is_allowed(alloc, &allowed, first)? {
+        if !allowed.has_outcome(alloc, &first.harts)? {
             // Standard error has no other place to tell that it takes no more.
             let _ = writeln!(err, "outcome {number} is not allowed");
             all = false;
@@ -41,11 +40,4 @@ pub(crate) fn are_allowed<E: Write>(
         number += 1;
     }
     Ok(all)
-}
-
-fn is_allowed(alloc: Global, allowed: &Allowed<'_>, found: &Found) -> Result<bool, AllocError>
-    ensures { IfOk result (λ is. is ≡ has_line allowed.now.lines.keys (line_of (outcome_of found.now))) }
-{
-    let line = harts_text(alloc, &found.harts)?;
-    Ok(allowed.has(without_number(&line)))
 }

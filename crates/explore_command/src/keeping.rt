@@ -21,10 +21,10 @@ use trace_text::{Events, Script, write_script};
 
 /// Where scripts are written, and for which machine they are.
 #[derive(Clone, Copy)]
-pub(crate) struct Folder<'a> {
-    pub(crate) alloc: Global,
-    pub(crate) name: &'a str,
-    pub(crate) machine: MachineOptions,
+pub struct Folder<'a> {
+    pub alloc: Global,
+    pub name: &'a str,
+    pub machine: MachineOptions,
 }
 
 impl<'a> Folder<'a> {
@@ -46,8 +46,12 @@ impl<'a> Folder<'a> {
         self.keep_at(files, &path, &stuck.script)
     }
 
-    /// The last one first.
-    fn keep_outcomes<F: Files>(&self, files: &mut F, outcomes: &[Found]) -> Result<(), Fault<'a>>
+    /// Writes a script for each outcome, the last one first.
+    pub fn keep_outcomes<F: Files>(
+        &self,
+        files: &mut F,
+        outcomes: &[Found],
+    ) -> Result<(), Fault<'a>>
         requires within { is_within_limits (config_named self.now.machine) ≡ true }
         requires memory { IsMemoryKib self.now.machine.memory }
         ensures kept { OnOk result (AreKeptFrom (F.held files.new) self.now.machine self.now.name.now 1 outcomes.now) }
@@ -94,7 +98,13 @@ impl<'a> Folder<'a> {
         }
     }
 
-    fn write<F: Files>(&self, files: &mut F, path: &str, events: &[Event]) -> Result<(), Fault<'a>>
+    /// Writes a file with the script of these events.
+    pub fn write<F: Files>(
+        &self,
+        files: &mut F,
+        path: &str,
+        events: &[Event],
+    ) -> Result<(), Fault<'a>>
         requires within { is_within_limits (config_named self.now.machine) ≡ true }
         requires memory { IsMemoryKib self.now.machine.memory }
         ensures kept { OnOk result (HoldsScript (F.held files.new) path.now (script_named self.now.machine events.now)) }

@@ -6,5 +6,7 @@ mod exploring;
 mod judging;
 mod keeping;
 
-pub use exploring::explore_files;
-pub use judging::Judgement;
+pub use allowing::Allowed;
+pub use exploring::{allow_file, explore_files};
+pub use judging::{Judgement, are_allowed};
+pub use keeping::Folder;

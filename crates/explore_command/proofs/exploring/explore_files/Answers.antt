@@ -1,6 +1,6 @@
 use Rattle.std.proofs.Common.{◌≡◌, ◌∙◌, inl, inr, refl, subst, true}
 use Rattle.command_files.proofs.Left.{handed_up}
-use Rattle.explore_command.proofs.Explored.{all_of, err_more, judged, memory_left, memory_told, ok_more, part, spared, spared_after, whole}
+use Rattle.explore_command.proofs.Explored.{all_of, err_more, judged, memory_left, memory_told, ok_both, ok_more, part, spared, spared_after, whole}
 use Rattle.explore_command.proofs.Faults.{first_left, first_told, folder_left, folder_told, output_left, output_told}
 use Rattle.machine_model.specs.Config.{is_within_limits}
 use Rattle.machine_model.specs.declared.config.Config.{Config}
@@ -36,7 +36,7 @@ returns-in_err-print-clause-unfinished g c =
     handed_up _ c.from_residual-in_err-print.result _ c.from_residual-in_err-print.ensures.1
     (output_left _ _ _ _ c.in_err-print.ensures.told
     (part (g.F.Files.held c.args.files.now) (g.F.Files.held c.allow_file.new.files) c.args.wanted c.in-Some.config c.in_ok-image.image c.in-Ok.found _ _ c.in-Some.ensures.config.0 c.in_ok-allowed.ensures.stays c.in_ok-image.ensures.image
-    (record { real = found.real; complete = found.complete; none_stuck = found.none_stuck; stuck = found.stuck; order = found.order; full = found.full })
+    (record { real = found.real; complete = found.complete; none_stuck = found.none_stuck; some = found.some; stuck = found.stuck; order = found.order; full = found.full })
     c.in_err-print.ensures.begun))
 
 pub returns-in_err-print-clause-spared : goal.returns-in_err-print-clause-spared
@@ -51,7 +51,7 @@ returns-in_err-keep-clause-unfinished g c =
     handed_up _ c.from_residual-in_err-keep.result _ c.from_residual-in_err-keep.ensures.1
     (folder_left c.args.wanted _ _ _ _ c.in_err-keep.ensures.told
     (part (g.F.Files.held c.args.files.now) (g.F.Files.held c.allow_file.new.files) c.args.wanted c.in-Some.config c.in_ok-image.image c.in-Ok.found _ _ c.in-Some.ensures.config.0 c.in_ok-allowed.ensures.stays c.in_ok-image.ensures.image
-    (record { real = found.real; complete = found.complete; none_stuck = found.none_stuck; stuck = found.stuck; order = found.order; full = found.full })
+    (record { real = found.real; complete = found.complete; none_stuck = found.none_stuck; some = found.some; stuck = found.stuck; order = found.order; full = found.full })
     (all_of _ _ _ c.in_ok-print.ensures.printed)))
 
 pub returns-in_err-keep-clause-spared : goal.returns-in_err-keep-clause-spared
@@ -61,11 +61,11 @@ pub returns-clause-explored : goal.returns-clause-explored
 returns-clause-explored g c =
     let found = c.in-Ok.ensures in
     ok_more _ _ c.judge.result
-    (λ judgement is.
+    (λ judgement so.
     whole (g.F.Files.held c.args.files.now) (g.F.Files.held c.allow_file.new.files) c.args.wanted c.in-Some.config c.in_ok-image.image c.in-Ok.found _ _ c.in-Some.ensures.config.0 c.in_ok-allowed.ensures.stays c.in_ok-image.ensures.image
-    (record { real = found.real; complete = found.complete; none_stuck = found.none_stuck; stuck = found.stuck; order = found.order; full = found.full })
-    (g.F.Files.held c.keep.new.files) judgement c.in_ok-print.ensures.printed c.in_ok-keep.ensures.kept (judged _ c.args.wanted.allow _ _ judgement c.in_ok-allowed.ensures.read is))
-    c.judge.ensures.judged
+    (record { real = found.real; complete = found.complete; none_stuck = found.none_stuck; some = found.some; stuck = found.stuck; order = found.order; full = found.full })
+    (g.F.Files.held c.keep.new.files) judgement c.in_ok-print.ensures.printed c.in_ok-keep.ensures.kept (judged _ c.args.wanted.allow _ _ judgement c.in_ok-allowed.ensures.read so.0) so.1)
+    (ok_both _ _ c.judge.result c.judge.ensures.judged c.judge.ensures.whole)
 
 pub returns-clause-told : goal.returns-clause-told
 returns-clause-told g c = err_more _ _ c.judge.result (λ fault is. memory_told c.args.wanted fault is) c.judge.ensures.told
@@ -77,7 +77,7 @@ returns-clause-unfinished g c =
     (λ fault is.
     memory_left fault _ _ _ is
     (part (g.F.Files.held c.args.files.now) (g.F.Files.held c.allow_file.new.files) c.args.wanted c.in-Some.config c.in_ok-image.image c.in-Ok.found _ _ c.in-Some.ensures.config.0 c.in_ok-allowed.ensures.stays c.in_ok-image.ensures.image
-    (record { real = found.real; complete = found.complete; none_stuck = found.none_stuck; stuck = found.stuck; order = found.order; full = found.full })
+    (record { real = found.real; complete = found.complete; none_stuck = found.none_stuck; some = found.some; stuck = found.stuck; order = found.order; full = found.full })
     (all_of _ _ _ c.in_ok-print.ensures.printed)))
     c.judge.ensures.told
 

@@ -1,0 +1,145 @@
+-- Files that were written stay where further ones are written.
+use Rattle.std.proofs.Common.{◌≡◌, ◌≢◌, ◌∙◌, ◌⊎◌, ◌+◌, ◌^◌, ◌<◌, ◌≤◌, ◌-◌, ℕ, Bool, List, [], ◌∷◌, ◌++◌, IfSome, Option, drop, get_or, take, true, false, ap, arith, codes, decimal, fold, inl, inr, length, refl, subst, sym}
+use Rattle.std.specs.Str.{bytes_eq}
+use Rattle.std.proofs.lemmas.Fmt.{decimal_injective}
+use Rattle.std.proofs.lemmas.List.{append_cancel_left, append_cancel_right, append_assoc, append-nil, drop_more, length-append, length-drop, take-append-drop}
+use Rattle.std.proofs.lemmas.List.Sums.{fold-append}
+use Rattle.std.proofs.lemmas.Slice.Eq.{bytes_eq-Decides}
+use Rattle.architecture_command.specs.Keeping.{AreKept, IsFileIn, IsKeptAt, file_path, trace_path}
+use Rattle.architecture_outcomes.specs.declared.outcome.Outcome.{Outcome}
+use Rattle.architecture_outcomes.specs.declared.outcome.Way.{Way}
+use Rattle.architecture_outcomes.specs.declared.outcome.Way.TheVariants.{Machine, Model, ModelAlone}
+use Rattle.command_files.specs.Files.{HoldsScript}
+use Rattle.command_files.specs.Held.{Held, HoldsBytes}
+use Rattle.command_settings.specs.declared.wanted.MachineOptions.{MachineOptions}
+use Rattle.explore_command.specs.Keeping.{Name, SparesOthers, outcome_path}
+use Rattle.explorer.specs.declared.found.Script.TheVariants.{Events, Limit, NoMemory, Unrealised}
+use Rattle.trace_text.specs.Scripts.{text}
+use Rattle.trace_text.specs.declared.script.Script.{Script as Text}
+
+-- ---- paths
+
+-- the last byte
+abbrev last_of : List ℕ → ℕ
+last_of = fold (λ before here. here) 0
+
+numbered : (folder : Name) (m n : ℕ) (x y : Name) → folder ++ (codes "/outcome-" ++ (decimal m ++ x)) ≡ folder ++ (codes "/outcome-" ++ (decimal n ++ y)) → decimal m ++ x ≡ decimal n ++ y
+numbered folder m n x y same = append_cancel_left (codes "/outcome-") _ _ (append_cancel_left folder _ _ same)
+
+no_both : (folder : Name) (m n : ℕ) → outcome_path folder m ≡ trace_path folder n → ⊥
+no_both folder m n same =
+    let keep = λ (before here : ℕ). here in
+    let ends : 116 ≡ 101 =
+    sym (fold-append keep 0 (decimal m) (codes ".script")) ∙ (ap last_of (numbered folder m n (codes ".script") (codes ".trace") same) ∙ fold-append keep 0 (decimal n) (codes ".trace")) in
+    absurd (omega (arith, ends))
+
+one_number : (folder : Name) (m n : ℕ) (x : Name) → m < 2 ^ 64 → n < 2 ^ 64 → folder ++ (codes "/outcome-" ++ (decimal m ++ x)) ≡ folder ++ (codes "/outcome-" ++ (decimal n ++ x)) → m ≡ n
+one_number folder m n x m_small n_small same = decimal_injective m n m_small n_small (append_cancel_right (decimal m) (decimal n) x (numbered folder m n x x same))
+
+one_file : (folder : Name) (m n : ℕ) (v w : Way) → m < 2 ^ 64 → n < 2 ^ 64 → file_path folder m v ≡ file_path folder n w → m ≡ n
+one_file folder m n (Machine v) (Machine w) m_small n_small same = one_number folder m n (codes ".script") m_small n_small same
+one_file folder m n (Machine v) (ModelAlone w) m_small n_small same = absurd (no_both folder m n same)
+one_file folder m n (Machine v) (Model w) m_small n_small same = absurd (no_both folder m n same)
+one_file folder m n (ModelAlone v) (Machine w) m_small n_small same = absurd (no_both folder n m (sym same))
+one_file folder m n (ModelAlone v) (ModelAlone w) m_small n_small same = one_number folder m n (codes ".trace") m_small n_small same
+one_file folder m n (ModelAlone v) (Model w) m_small n_small same = one_number folder m n (codes ".trace") m_small n_small same
+one_file folder m n (Model v) (Machine w) m_small n_small same = absurd (no_both folder n m (sym same))
+one_file folder m n (Model v) (ModelAlone w) m_small n_small same = one_number folder m n (codes ".trace") m_small n_small same
+one_file folder m n (Model v) (Model w) m_small n_small same = one_number folder m n (codes ".trace") m_small n_small same
+
+is_file : (folder path : Name) (number : ℕ) (way : Way) → path ≡ file_path folder number way → IsFileIn folder path
+is_file folder path number (Machine w) is = inl (number, is)
+is_file folder path number (ModelAlone w) is = inr (number, is)
+is_file folder path number (Model w) is = inr (number, is)
+
+-- ---- what another file's writing leaves
+
+module _ (before after : Held) (machine : MachineOptions) (folder path : Name) (others : (other : Name) → other ≢ path → after other ≡ before other) where
+  bytes_stay : (name bytes : Name) → after name ≡ before name → HoldsBytes before name bytes → HoldsBytes after name bytes
+  bytes_stay name bytes same held = subst (λ (o : Option (List ℕ)). IfSome o (λ known. known ≡ bytes)) (sym same) held
+
+  script_stays : (name : Name) (script : Text) → after name ≡ before name → HoldsScript before name script → HoldsScript after name script
+  script_stays name script same held = record { is_script = held.is_script; bytes = bytes_stay name (text script) same held.bytes }
+
+  kept_at : (name : Name) (way : Way) → name ≢ path → IsKeptAt before machine name way → IsKeptAt after machine name way
+  kept_at name (Machine (Events events)) another kept = script_stays name _ (others name another) kept
+  kept_at name (Machine NoMemory) another kept = kept
+  kept_at name (Machine Limit) another kept = kept
+  kept_at name (Machine Unrealised) another kept = kept
+  kept_at name (ModelAlone trace) another kept = bytes_stay name _ (others name another) kept
+  kept_at name (Model trace) another kept = bytes_stay name _ (others name another) kept
+
+  kept_from : (number : ℕ) (outcomes : List Outcome) → ((n : ℕ) (w : Way) → number ≤ n → n < number + length outcomes → path ≢ file_path folder n w) → AreKept before machine folder number outcomes
+      → AreKept after machine folder number outcomes
+  kept_from number [] differs kept = tt
+  kept_from number (o ∷ os) differs kept = (
+    kept_at (file_path folder number o.way) o.way (λ same. differs number o.way (omega arith) (omega arith) (sym same)) kept.0,
+    kept_from (number + 1) os (λ n w from below. differs n w (omega (arith, from)) (omega (arith, below))) kept.1,
+  )
+
+  spares_more : (held : Held) → IsFileIn folder path → SparesOthers (IsFileIn folder) held before → SparesOthers (IsFileIn folder) held after
+  spares_more held is spared other = go (bytes_eq other path) refl
+    where
+      never : {b : Bool} → b ≡ false → b ≡ true → ⊥
+      never is also =
+          let bad : false ≡ true = sym is ∙ also in cc
+
+      go : (b : Bool) → bytes_eq other path ≡ b → (after other ≡ held other) ⊎ IsFileIn folder other
+      go true same = inr (subst (IsFileIn folder) (sym ((bytes_eq-Decides other path).0 same)) is)
+      go false differs = elim (spared other) [
+        | inl still ↦ inl (others other (λ same. never differs ((bytes_eq-Decides other path).1 same)) ∙ still)
+        | inr written ↦ inr written
+      ]
+
+-- a file of the folder spares all others
+pub spares_one : (held before after : Held) (machine : MachineOptions) (folder path : Name) (number : ℕ) (way : Way) → path ≡ file_path folder number way → ((other : Name) → other ≢ path → after other ≡ before other)
+    → SparesOthers (IsFileIn folder) held before → SparesOthers (IsFileIn folder) held after
+spares_one held before after machine folder path number way path_is others = spares_more before after machine folder path others held (is_file folder path number way path_is)
+
+-- ---- from the last outcome to the first
+
+-- what shows the outcomes behind those that are left is written
+pub record HasKept (held now : Held) (machine : MachineOptions) (folder : Name) (left all : List Outcome) : Type 0 where
+  pub done : List Outcome
+  pub whole : left ++ done ≡ all
+  pub kept : AreKept now machine folder (length left + 1) done
+  pub spared : SparesOthers (IsFileIn folder) held now
+
+pub none_kept : (held : Held) (machine : MachineOptions) (folder : Name) (all : List Outcome) → HasKept held held machine folder all all
+none_kept held machine folder all = record {
+  done = [];
+  whole = append-nil all;
+  kept = tt;
+  spared = λ other. inl refl;
+}
+
+pub one_more : (held before after : Held) (machine : MachineOptions) (folder path : Name) (left front all : List Outcome) (last : Outcome) → length all < 2 ^ 64 → left ≡ front ++ last ∷ [] → path ≡ file_path folder (length left) last.way
+    → ((other : Name) → other ≢ path → after other ≡ before other) → IsKeptAt after machine path last.way → HasKept held before machine folder left all → HasKept held after machine folder front all
+one_more held before after machine folder path left front all last small left_is path_is others written has =
+    let count : length left ≡ length front + 1 = ap (λ (xs : List Outcome). length xs) left_is ∙ length-append front (last ∷ []) in
+    let total : length left + length has.done ≡ length all = sym (length-append left has.done) ∙ ap (λ (xs : List Outcome). length xs) has.whole in
+    let differs : (n : ℕ) (w : Way) → length left + 1 ≤ n → n < length left + 1 + length has.done → path ≢ file_path folder n w =
+    λ n w from below same.
+    let bad : length left ≡ n = one_file folder (length left) n last.way w (omega (arith, total, small)) (omega (arith, total, small, below)) (sym path_is ∙ same) in absurd (omega (arith, bad, from)) in
+    record {
+      done = last ∷ has.done;
+      whole = sym (append_assoc front (last ∷ []) has.done) ∙ (ap (λ (xs : List Outcome). xs ++ has.done) (sym left_is) ∙ has.whole);
+      kept = (
+        subst (λ (p : Name). IsKeptAt after machine p last.way) (path_is ∙ ap (λ n. file_path folder n last.way) count) written,
+        subst (λ (n : ℕ). AreKept after machine folder (n + 1) has.done) count (kept_from before after machine folder path others (length left + 1) has.done differs has.kept),
+      );
+      spared = spares_one held before after machine folder path (length left) last.way path_is others has.spared;
+    }
+
+-- ---- the last of a list
+
+nothing : (xs : List Outcome) → length xs ≡ 0 → xs ≡ []
+nothing [] none = refl
+nothing (x ∷ xs) none = absurd (omega (arith, none))
+
+pub last_is : (xs : List Outcome) (x d : Outcome) → 1 ≤ length xs → x ≡ get_or xs (length xs - 1) d → xs ≡ take (length xs - 1) xs ++ x ∷ []
+last_is xs x d some is =
+    let i = length xs - 1 in
+    let none : drop (i + 1) xs ≡ [] = nothing (drop (i + 1) xs) (omega (arith, length-drop (i + 1) xs, some)) in
+    sym (take-append-drop i xs)
+    ∙ ap (λ (rest : List Outcome). take i xs ++ rest) (drop_more xs i d (omega (arith, some)) ∙ (ap (λ (rest : List Outcome). get_or xs i d ∷ rest) none ∙ ap (λ (y : Outcome). y ∷ []) (sym is)))

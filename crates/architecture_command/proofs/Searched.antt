@@ -1,0 +1,40 @@
+-- What is known of a search, and what it leaves.
+use Rattle.std.proofs.Common.{◌≡◌, ℕ, IfSome, List, Option, subst}
+use Rattle.std.specs.Io.KnownBytes.{Appends}
+use Rattle.architecture_command.specs.Keeping.{AreKept}
+use Rattle.architecture_command.specs.Searching.{IsFoundUnder, IsPartlySearched, IsSearched}
+use Rattle.architecture_outcomes.specs.declared.architecture.Architecture.{Architecture}
+use Rattle.architecture_outcomes.specs.Outcomes.{outcomes_of}
+use Rattle.architecture_outcomes.specs.Text.{architecture_text}
+use Rattle.command_files.specs.Files.{HoldsImage}
+use Rattle.command_files.specs.Held.{Held}
+use Rattle.command_files.specs.Sizes.{config_named}
+use Rattle.command_settings.specs.declared.wanted.Explore.{Explore}
+use Rattle.elf_loader.specs.Image.{Initial}
+use Rattle.explore_command.specs.Allowing.{IsJudged}
+use Rattle.explore_command.specs.declared.judging.Judgement.{Judgement}
+use Rattle.machine_model.specs.declared.config.Config.{Config}
+use Rattle.text_fields.specs.Writing.{Begins}
+
+module _ (held first : Held) (wanted : Explore) (window : ℕ) (config : Config) (image : Initial) (found : Architecture) (old new : Option (List ℕ))
+    (config_is : config ≡ config_named wanted.machine) (same : first ≡ held) (file : HoldsImage first wanted.raw wanted.image.now wanted.machine.memory image) (is : IsFoundUnder image config window found) where
+  image_file : HoldsImage held wanted.raw wanted.image.now wanted.machine.memory image
+  image_file = subst (λ (h : Held). HoldsImage h wanted.raw wanted.image.now wanted.machine.memory image) same file
+
+  is_found : IsFoundUnder image (config_named wanted.machine) window found
+  is_found = subst (λ (c : Config). IsFoundUnder image c window found) config_is is
+
+  pub part : Begins old new (architecture_text found) → IsPartlySearched held wanted window old new
+  part begun = record { image = image; architecture = found; image_file = image_file; found = is_found; begun = begun }
+
+  pub whole : (left : Held) (judgement : Judgement) → Appends old new (architecture_text found) → IfSome wanted.scripts (λ folder. AreKept left wanted.machine folder.now 1 found.outcomes.items)
+      → IsJudged held wanted.allow (outcomes_of found.outcomes.items) judgement → IsSearched held left wanted window judgement old new
+  whole left judgement printed kept by = record {
+    image = image;
+    architecture = found;
+    image_file = image_file;
+    found = is_found;
+    printed = printed;
+    kept = kept;
+    judged = by;
+  }

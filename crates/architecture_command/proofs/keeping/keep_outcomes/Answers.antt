@@ -1,0 +1,19 @@
+use Rattle.std.proofs.Common.{◌∙◌, ◌<◌, ◌^◌, length, rules}
+use Rattle.architecture_command.proofs.Kept.{last_is, none_kept, one_more, spares_one}
+use Rattle.architecture_command.proofs.keeping.keep_outcomes.Goals as goal
+
+pub loop-rest-init : goal.loop-rest-init
+loop-rest-init g c = none_kept _ _ _ _
+
+pub returns-in_err-keep_at-clause-spared : goal.returns-in_err-keep_at-clause-spared
+returns-in_err-keep_at-clause-spared g c =
+    spares_one (g.F.Files.held c.args.files.now) (g.F.Files.held c.loop-rest.files) (g.F.Files.held c.keep_at.new.files) c.args.folder.machine c.args.folder.name.now c.deref.result.now (length c.loop-rest.rest.now) c.last-item.result.way
+    (c.deref.ensures ∙ c.in-Ok.ensures) c.keep_at.ensures.others c.loop-rest.invariant.spared
+
+pub loop-rest-preserved : goal.loop-rest-preserved
+loop-rest-preserved g c =
+    let small : length c.args.outcomes.now < 2 ^ 64 = search rules in
+    one_more (g.F.Files.held c.args.files.now) (g.F.Files.held c.loop-rest.files) (g.F.Files.held c.keep_at.new.files) c.args.folder.machine c.args.folder.name.now c.deref.result.now
+    c.loop-rest.rest.now _ c.args.outcomes.now c.last-item.result small
+    (last_is c.loop-rest.rest.now c.last-item.result _ c.in-len1-up.len_at_least c.last-item.is)
+    (c.deref.ensures ∙ c.in-Ok.ensures) c.keep_at.ensures.others c.in_ok-keep_at.ensures.kept c.loop-rest.invariant

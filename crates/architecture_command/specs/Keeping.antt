@@ -1,0 +1,45 @@
+-- The files in which a folder has what shows the outcomes.
+use Rattle.std.specs.Prelude.{ℕ, ◌≡◌, ◌⊎◌, ◌+◌, ◌∷◌, ◌++◌, [], List, None, Option, Some, codes, decimal}
+use Rattle.std.specs.Borrow.{Bor}
+use Rattle.architecture_outcomes.specs.declared.outcome.Outcome.{Outcome}
+use Rattle.architecture_outcomes.specs.declared.outcome.Way.{Way}
+use Rattle.architecture_outcomes.specs.declared.outcome.Way.TheVariants.{Machine, Model, ModelAlone}
+use Rattle.command_files.specs.Files.{HoldsScript}
+use Rattle.command_files.specs.Held.{Held, HoldsBytes}
+use Rattle.command_files.specs.Sizes.{script_named}
+use Rattle.command_settings.specs.declared.wanted.MachineOptions.{MachineOptions}
+use Rattle.explore_command.specs.Keeping.{Name, outcome_path}
+use Rattle.explorer.specs.declared.found.Script.TheVariants.{Events, Limit, NoMemory, Unrealised}
+use Rattle.trace_text.specs.Traces.{text}
+
+-- FOLDER/outcome-NUMBER.trace
+abbrev pub trace_path : Name → ℕ → Name
+trace_path folder number = folder ++ (codes "/outcome-" ++ (decimal number ++ codes ".trace"))
+
+-- a script, where the machine comes to the outcome, and else a trace
+abbrev pub file_path : Name → ℕ → Way → Name
+file_path folder number (Machine script) = outcome_path folder number
+file_path folder number (ModelAlone trace) = trace_path folder number
+file_path folder number (Model trace) = trace_path folder number
+
+-- the file has the script of these events, for the machine that was named, or the text of the lists and the order
+abbrev pub IsKeptAt : Held → MachineOptions → Name → Way → Type 0
+IsKeptAt left machine path (Machine (Events events)) = HoldsScript left path (script_named machine events.items)
+IsKeptAt left machine path (Machine NoMemory) = ⊥
+IsKeptAt left machine path (Machine Limit) = ⊥
+IsKeptAt left machine path (Machine Unrealised) = ⊥
+IsKeptAt left machine path (ModelAlone trace) = HoldsBytes left path (text trace.history)
+IsKeptAt left machine path (Model trace) = HoldsBytes left path (text trace.history)
+
+-- what shows each outcome, counted from a number on
+abbrev pub AreKept : Held → MachineOptions → Name → ℕ → List Outcome → Type 0
+AreKept left machine folder number [] = Unit {0}
+AreKept left machine folder number (o ∷ rest) = IsKeptAt left machine (file_path folder number o.way) o.way × AreKept left machine folder (number + 1) rest
+
+-- the file is one of those
+abbrev pub IsFileIn : Name → Name → Type 0
+IsFileIn folder name = ((number : ℕ) × (name ≡ outcome_path folder number)) ⊎ ((number : ℕ) × (name ≡ trace_path folder number))
+
+abbrev pub IsFileOf : Option (Bor Name) → Name → Type 0
+IsFileOf None name = ⊥
+IsFileOf (Some folder) name = IsFileIn folder.now name

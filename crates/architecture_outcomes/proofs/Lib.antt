@@ -1,0 +1,3 @@
+mod NeverEnds
+mod Pieces
+mod Together

@@ -1,0 +1,30 @@
+use Rattle.std.proofs.Common.{◌≡◌, ◌∙◌, List, Option, All, IfSome, false, subst, sym}
+use Rattle.std.specs.List.{list_any}
+use Rattle.std.proofs.lemmas.List.Elements.{All-pop, All-push}
+use Rattle.architecture_outcomes.specs.Outcomes.{IsShown, is_end}
+use Rattle.architecture_outcomes.proofs.NeverEnds.{shown}
+use Rattle.flat_model.specs.declared.results.HartResult.{HartResult}
+use Rattle.flat_model.specs.Shown.{told}
+use Rattle.witnesses.specs.declared.witness.Witness.{Witness}
+use Rattle.witnesses.specs.Witnesses.{IsWitness}
+use Rattle.architecture_outcomes.proofs.beyond.beyond.Goals as goal
+
+pub loop-witness-preserved-in-Continue-1 : goal.loop-witness-preserved-in-Continue-1
+loop-witness-preserved-in-Continue-1 c =
+    let P = IsWitness c.args.image.now c.args.config in
+    let S = IsShown c.args.image.now c.args.config in
+    let parts = All-pop P c.loop-witness.left.items c.pop.new.self.items c.pop.result c.pop.ensures.items c.loop-witness.invariant.left in
+    let here : P c.in-Some.witness = subst (λ (o : Option Witness). IfSome o P) c.in-Some.is parts.1 in
+    let none : list_any (is_end (told c.in-Some.witness.harts.items)) c.args.found.now ≡ false =
+    subst (λ (rs : List HartResult). list_any (is_end (told rs)) c.args.found.now ≡ false) c.deref.ensures.value (sym c.is_found.ensures ∙ c.if-not-is_found.true) in
+    let one : S c.beyond.result = subst S (sym c.beyond.ensures) (shown c.args.image.now c.args.config c.args.found.now c.args.is_complete c.in-Some.witness c.requires.complete none here) in
+    record {
+      left = parts.0;
+      shown = subst (All S) (sym c.in_ok-push.ensures.items) (All-push S c.loop-witness.outcomes.items c.beyond.result c.loop-witness.invariant.shown one);
+    }
+
+pub loop-witness-preserved : goal.loop-witness-preserved
+loop-witness-preserved c = record {
+  left = (All-pop (IsWitness c.args.image.now c.args.config) c.loop-witness.left.items c.pop.new.self.items c.pop.result c.pop.ensures.items c.loop-witness.invariant.left).0;
+  shown = c.loop-witness.invariant.shown;
+}

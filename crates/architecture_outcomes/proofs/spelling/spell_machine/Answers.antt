@@ -1,0 +1,14 @@
+use Rattle.std.proofs.Common.{◌++◌, ◌∙◌, ap, sym}
+use Rattle.architecture_outcomes.specs.Text.{machine_text}
+use Rattle.exploration_text.proofs.Joined.{joined}
+use Rattle.state_search.specs.declared.findings.Extent.{Extent}
+use Rattle.architecture_outcomes.proofs.spelling.spell_machine.Goals as goal
+
+pub returns-in_ok-extend_from_slice-in-LimitMet-2 : goal.returns-in_ok-extend_from_slice-in-LimitMet-2
+returns-in_ok-extend_from_slice-in-LimitMet-2 c =
+    joined _ _ _ _ _ _ _ c.in_ok-extend_from_slice-in-LimitMet.ensures.items c.in_ok-spell_number-in-LimitMet.ensures c.in_ok-extend_from_slice-in-LimitMet-2.ensures.items
+    ∙ ap (λ (e : Extent). c.args.into.now.items ++ machine_text e c.args.states) (sym c.in-LimitMet.is)
+
+pub returns-in_ok-extend_from_slice-in-OutOfMemory : goal.returns-in_ok-extend_from_slice-in-OutOfMemory
+returns-in_ok-extend_from_slice-in-OutOfMemory c =
+    c.in_ok-extend_from_slice-in-OutOfMemory.ensures.items ∙ ap (λ (e : Extent). c.args.into.now.items ++ machine_text e c.args.states) (sym c.in-OutOfMemory.is)

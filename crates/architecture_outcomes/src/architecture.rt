@@ -1,0 +1,25 @@
+//! What is found of a program under a memory model.
+
+use crate::outcome::Outcome;
+use machine_model::Model;
+use state_search::Extent;
+use window_machine::Reach;
+
+/// What is found of a program under a memory model. What is known of it stands at `explore_architecture`.
+#[derive(Drop)]
+pub struct Architecture {
+    /// By hart: status first, then the numbers that were put out.
+    pub outcomes: Vec<Outcome>,
+    /// The model under which they are allowed.
+    pub model: Model,
+    /// How many operations of a hart might wait.
+    pub window: u32,
+    /// How far the search under the model came.
+    pub reach: Reach,
+    /// How many states that search found.
+    pub states: usize,
+    /// How far the machine's own search came.
+    pub machine: Extent,
+    /// How many states of the machine were found.
+    pub machine_states: usize,
+}

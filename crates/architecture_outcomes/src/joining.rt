@@ -1,0 +1,85 @@
+//! The outcomes of the machine and those of the memory model, joined.
+ghost use Rattle.std.specs.Prelude.{◌≡◌, ◌<◌, ◌++◌, All, IfOk, IsTrue, OnOk, map};
+ghost use Rattle.std.specs.List.Sorted.{IsSortedByKey};
+ghost use Rattle.architecture_outcomes.specs.Outcomes.{IsShown, TellsEachEnd, of_found, outcome_of};
+ghost use Rattle.explorer.specs.Ranks.{outcome_cmp};
+ghost use Rattle.machine_model.specs.Config.{is_within_limits};
+
+use crate::architecture::Architecture;
+use crate::beyond::{beyond, search_model};
+use crate::outcome::{Outcome, Way};
+use elf_loader::Image;
+use explorer::{Exploration, Found, explore};
+use machine_model::Config;
+use state_search::Extent;
+use std::alloc::{AllocError, Global};
+use window_machine::Allowed;
+
+/// Finds the outcomes that the machine comes to, and searches for those that its memory model allows, with at most
+/// `window` operations of a hart waiting at a time (64 where that is more), until either search has found `limit`
+/// states or memory ends. What was found then stands. Nothing is known of outcomes that the model allows and that
+/// aren't told. The error is that there was no memory to begin with, or none for the list of what was found.
+pub fn explore_architecture(
+    alloc: Global,
+    image: &Image,
+    config: Config,
+    window: u32,
+    limit: u32,
+) -> Result<Architecture, AllocError>
+    requires limits { IsTrue (is_within_limits config) }
+    requires room { 0 < limit }
+
+    // What is said to show an outcome does.
+    ensures shown { IfOk result (λ a. All (IsShown image.now config) a.outcomes.items) }
+
+    // Where the machine's own search is complete, each of its outcomes is told as one of the machine.
+    ensures machine { IfOk result (λ a. a.machine ≡ Extent.Complete → TellsEachEnd image.now config a.outcomes.items) }
+
+    ensures order { IfOk result (λ a. IsSortedByKey outcome_of outcome_cmp a.outcomes.items) }
+    ensures model { IfOk result (λ a. a.model ≡ config.model) }
+    ensures window { IfOk result (λ a. a.window ≡ window) }
+{
+    let Exploration {
+        outcomes: found,
+        extent,
+        states: machine_states,
+        ..
+    } = explore(alloc, image, config, limit)?;
+    let Allowed {
+        witnesses,
+        reach,
+        states,
+    } = search_model(alloc, image, config, window, limit);
+    let mut outcomes = beyond(
+        alloc,
+        image,
+        config,
+        &found,
+        extent.is_complete(),
+        witnesses,
+    )?;
+    add_found(&mut outcomes, found)?;
+    outcomes.sort_unstable();
+    Ok(Architecture {
+        outcomes,
+        model: config.model,
+        window,
+        reach,
+        states,
+        machine: extent,
+        machine_states,
+    })
+}
+
+/// Adds the outcomes to which the machine comes.
+fn add_found(outcomes: &mut Vec<Outcome>, found: Vec<Found>) -> Result<(), AllocError>
+    ensures { OnOk result (outcomes.new.items ≡ outcomes.old.items ++ map of_found found.items) }
+{
+    for Found { harts, script } in found {
+        outcomes.push(Outcome {
+            harts,
+            way: Way::Machine(script),
+        })?;
+    }
+    Ok(())
+}

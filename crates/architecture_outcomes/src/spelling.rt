@@ -1,0 +1,179 @@
+//! The lines.
+ghost use Rattle.std.specs.Prelude.{◌≡◌, ◌++◌, IfOk, OnOk, decimal, length};
+ghost use Rattle.architecture_outcomes.specs.Text as text;
+ghost use Rattle.exploration_text.specs.Text.{harts_text};
+ghost use Rattle.flat_model.specs.Shown.{told};
+
+use crate::architecture::Architecture;
+use crate::outcome::{Outcome, Way};
+use exploration_text::harts_text;
+use explorer::Script;
+use flat_model::HartResult;
+use itoa::Buffer;
+use machine_model::Model;
+use state_search::Extent;
+use std::alloc::{AllocError, Global};
+use window_machine::Reach;
+
+fn spell_number(into: &mut Vec<u8>, number: u64) -> Result<(), AllocError>
+    ensures { OnOk result (into.new.items ≡ into.old.items ++ decimal number) }
+{
+    let mut digits = Buffer::new();
+    into.extend_from_slice(digits.format(number).as_bytes())?;
+    Ok(())
+}
+
+fn spell_harts(alloc: Global, into: &mut Vec<u8>, harts: &[HartResult]) -> Result<(), AllocError>
+    ensures { OnOk result (into.new.items ≡ into.old.items ++ harts_text 0 (told harts.now)) }
+{
+    let line = harts_text(alloc, harts)?;
+    into.extend_from_slice(&line)?;
+    Ok(())
+}
+
+fn spell_model(into: &mut Vec<u8>, model: Model) -> Result<(), AllocError>
+    ensures { OnOk result (into.new.items ≡ into.old.items ++ text.model_text model) }
+{
+    match model {
+        Model::Rvwmo => into.extend_from_slice(b"RVWMO")?,
+        Model::Ztso => into.extend_from_slice(b"Ztso")?,
+    }
+    Ok(())
+}
+
+fn spell_way(into: &mut Vec<u8>, model: Model, way: &Way) -> Result<(), AllocError>
+    ensures { OnOk result (into.new.items ≡ into.old.items ++ text.way_text model way.now) }
+{
+    match way {
+        Way::Machine(Script::Events(_)) => into.extend_from_slice(b"this machine")?,
+        Way::Machine(Script::NoMemory | Script::Limit | Script::Unrealised) => {
+            into.extend_from_slice(b"without a script")?;
+        }
+        Way::ModelAlone(_) => {
+            spell_model(into, model)?;
+            into.extend_from_slice(b" alone")?;
+        }
+        Way::Model(_) => spell_model(into, model)?,
+    }
+    Ok(())
+}
+
+fn spell_outcome(
+    alloc: Global,
+    into: &mut Vec<u8>,
+    model: Model,
+    number: usize,
+    outcome: &Outcome,
+) -> Result<(), AllocError>
+    ensures { OnOk result (into.new.items ≡ into.old.items ++ text.outcome_line model number outcome.now) }
+{
+    spell_number(into, number as u64)?;
+    spell_harts(alloc, into, &outcome.harts)?;
+    into.extend_from_slice(b"   ")?;
+    spell_way(into, model, &outcome.way)?;
+    into.extend_from_slice(b"\n")?;
+    Ok(())
+}
+
+fn spell_outcomes(
+    alloc: Global,
+    into: &mut Vec<u8>,
+    model: Model,
+    outcomes: &[Outcome],
+) -> Result<(), AllocError>
+    ensures { OnOk result (into.new.items ≡ into.old.items ++ text.outcome_lines model 1 outcomes.now) }
+{
+    let mut rest = outcomes;
+    let mut number = 1;
+    while let [first, tail @ ..] = rest {
+        spell_outcome(alloc, into, model, number, first)?;
+        rest = tail;
+        number += 1;
+    }
+    Ok(())
+}
+
+fn spell_reach(into: &mut Vec<u8>, reach: Reach, window: u32) -> Result<(), AllocError>
+    ensures { OnOk result (into.new.items ≡ into.old.items ++ text.reach_text reach window) }
+{
+    match reach {
+        Reach::Whole => {}
+        Reach::WindowMet => {
+            into.extend_from_slice(b", windows over ")?;
+            spell_number(into, u64::from(window))?;
+            into.extend_from_slice(b" left out")?;
+        }
+        Reach::LimitMet => into.extend_from_slice(b", limit of states met")?,
+        Reach::OutOfMemory => into.extend_from_slice(b", out of memory")?,
+    }
+    Ok(())
+}
+
+fn spell_machine(into: &mut Vec<u8>, extent: Extent, states: usize) -> Result<(), AllocError>
+    ensures { OnOk result (into.new.items ≡ into.old.items ++ text.machine_text extent states) }
+{
+    match extent {
+        Extent::Complete => {}
+        Extent::LimitMet => {
+            into.extend_from_slice(b", this machine incomplete: ")?;
+            spell_number(into, states as u64)?;
+            into.extend_from_slice(b" states met")?;
+        }
+        Extent::OutOfMemory => {
+            into.extend_from_slice(b", this machine incomplete: out of memory")?;
+        }
+    }
+    Ok(())
+}
+
+fn spell_counts(into: &mut Vec<u8>, outcomes: usize, states: usize) -> Result<(), AllocError>
+    ensures { OnOk result (into.new.items ≡ into.old.items ++ text.count_text outcomes states) }
+{
+    spell_number(into, outcomes as u64)?;
+    into.extend_from_slice(b" outcomes, ")?;
+    spell_number(into, states as u64)?;
+    into.extend_from_slice(b" states")?;
+    Ok(())
+}
+
+fn spell_whole(into: &mut Vec<u8>, found: &Architecture) -> Result<(), AllocError>
+    ensures { OnOk result (into.new.items ≡ into.old.items ++ text.whole_line (length found.now.outcomes.items) found.now.states found.now.window) }
+{
+    into.extend_from_slice(b"searched: ")?;
+    spell_counts(into, found.outcomes.len(), found.states)?;
+    into.extend_from_slice(b", no window over ")?;
+    spell_number(into, u64::from(found.window))?;
+    into.extend_from_slice(b" (not proved complete)\n")?;
+    Ok(())
+}
+
+fn spell_partial(into: &mut Vec<u8>, found: &Architecture) -> Result<(), AllocError>
+    ensures { OnOk result (into.new.items ≡ into.old.items ++ text.partial_line found.now) }
+{
+    into.extend_from_slice(b"incomplete: ")?;
+    spell_counts(into, found.outcomes.len(), found.states)?;
+    spell_reach(into, found.reach, found.window)?;
+    spell_machine(into, found.machine, found.machine_states)?;
+    into.extend_from_slice(b"\n")?;
+    Ok(())
+}
+
+fn spell_last(into: &mut Vec<u8>, found: &Architecture) -> Result<(), AllocError>
+    ensures { OnOk result (into.new.items ≡ into.old.items ++ text.last_line found.now) }
+{
+    match (found.reach, found.machine) {
+        (Reach::Whole, Extent::Complete) => spell_whole(into, found),
+        _ => spell_partial(into, found),
+    }
+}
+
+/// A line for each outcome, in order and counted from 1, and who comes to it; and one that says how far the searches
+/// came.
+pub fn text_of(alloc: Global, found: &Architecture) -> Result<Vec<u8>, AllocError>
+    ensures { IfOk result (λ bytes. bytes.items ≡ text.architecture_text found.now) }
+{
+    let mut bytes = Vec::new(alloc);
+    spell_outcomes(alloc, &mut bytes, found.model, &found.outcomes)?;
+    spell_last(&mut bytes, found)?;
+    Ok(bytes)
+}

@@ -1,0 +1,26 @@
+-- The lines in which random runs are told.
+use Rattle.std.specs.Prelude.{ℕ, zero, suc, ◌+◌, List, [], ◌∷◌, ◌++◌, codes, decimal}
+use Rattle.exploration_text.specs.Text.{harts_text}
+use Rattle.explorer.specs.Ends.{outcomes_of}
+use Rattle.flat_model.specs.Shown.{Result}
+use Rattle.sampler.specs.declared.sampled.Sampled.{Sampled}
+
+-- an end's number, how many runs came to it, and how each hart ended
+abbrev pub end_line : (number times : ℕ) → List Result → List ℕ
+end_line number times outcome = decimal number ++ (codes "  " ++ (decimal times ++ (harts_text 0 outcome ++ codes "\n")))
+
+-- counted from a number on
+abbrev pub end_lines : ℕ → List (List Result) → List ℕ → List ℕ
+end_lines number [] _ = []
+end_lines number (o ∷ os) [] = []
+end_lines number (o ∷ os) (n ∷ ns) = end_line number n o ++ end_lines (number + 1) os ns
+
+abbrev pub unended_line : ℕ → List ℕ
+unended_line zero = []
+unended_line (suc n) = codes "unended: " ++ (decimal (suc n) ++ codes " runs\n")
+
+abbrev pub runs_line : ℕ → List ℕ
+runs_line runs = codes "sampled: " ++ (decimal runs ++ codes " runs, not complete\n")
+
+abbrev pub sampled_text : Sampled → List ℕ
+sampled_text s = end_lines 1 (outcomes_of s.ends.items) s.times.items ++ (unended_line s.unended ++ runs_line s.runs)
