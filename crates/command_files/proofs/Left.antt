@@ -3,7 +3,7 @@ use Rattle.std.proofs.Common.{◌≡◌, ◌⊎◌, ℕ, Err, IfErr, IsErrAnd, L
 use Rattle.command_files.specs.Status.{status_of}
 use Rattle.command_files.specs.Faults.{IsImageFault, IsReadFault, IsScriptFault, Leaves, Name}
 use Rattle.command_files.specs.declared.fault.Fault.{Fault}
-use Rattle.command_files.specs.declared.fault.Fault.TheVariants.{BadEvent, BytesAfterTrace, CannotMake, CannotRead, CannotWrite, Check, Configuration, Event, Image, Mismatch, NoThread, NothingHappens, OutOfMemory, Text}
+use Rattle.command_files.specs.declared.fault.Fault.TheVariants.{BadAddress, BadEvent, BytesAfterTrace, CannotMake, CannotRead, CannotWrite, Check, Configuration, Event, Image, Mismatch, NoThread, NothingHappens, OutOfMemory, Text, TooManyRows}
 
 module _ (old new : Option (List ℕ)) (broken : Type 0) where
   -- any fault but the output's leaves it as it was
@@ -18,6 +18,8 @@ module _ (old new : Option (List ℕ)) (broken : Type 0) where
   left (BytesAfterTrace file) other same = same
   left (NothingHappens file line outcome) other same = same
   left (Check file error) other same = same
+  left (TooManyRows file) other same = same
+  left (BadAddress word) other same = same
   left NoThread other same = same
   left Mismatch other same = same
   left BadEvent other same = same
@@ -40,6 +42,8 @@ module _ (old new : Option (List ℕ)) (broken : Type 0) where
   either (BytesAfterTrace file) so = inl so
   either (NothingHappens file line outcome) so = inl so
   either (Check file error) so = inl so
+  either (TooManyRows file) so = inl so
+  either (BadAddress word) so = inl so
   either NoThread so = inl so
   either Mismatch so = inl so
   either BadEvent so = inl so
@@ -59,18 +63,20 @@ image_is_not_write name fault is at = subst (IsImageFault name) at is
 pub read_is_not_write : (name : Name) (fault : Fault) → IsReadFault name fault → fault ≡ CannotWrite → ⊥
 read_is_not_write name fault is at = subst (IsReadFault name) at is
 
-pub only_configuration : (fault : Fault) → status_of fault ≡ 2 → fault ≡ Configuration
-only_configuration CannotWrite two = cc
-only_configuration OutOfMemory two = cc
-only_configuration (CannotRead file) two = cc
-only_configuration (CannotMake file) two = cc
-only_configuration (Image file error) two = cc
-only_configuration (Text file error) two = cc
-only_configuration (Event file line error) two = cc
-only_configuration (BytesAfterTrace file) two = cc
-only_configuration (NothingHappens file line outcome) two = cc
-only_configuration (Check file error) two = cc
-only_configuration NoThread two = cc
-only_configuration Mismatch two = cc
-only_configuration BadEvent two = cc
-only_configuration Configuration two = refl
+pub only_configuration : (fault : Fault) → ((word : Name) → fault ≡ BadAddress word → ⊥) → status_of fault ≡ 2 → fault ≡ Configuration
+only_configuration CannotWrite named two = cc
+only_configuration OutOfMemory named two = cc
+only_configuration (CannotRead file) named two = cc
+only_configuration (CannotMake file) named two = cc
+only_configuration (Image file error) named two = cc
+only_configuration (Text file error) named two = cc
+only_configuration (Event file line error) named two = cc
+only_configuration (BytesAfterTrace file) named two = cc
+only_configuration (NothingHappens file line outcome) named two = cc
+only_configuration (Check file error) named two = cc
+only_configuration (TooManyRows file) named two = cc
+only_configuration (BadAddress word) named two = absurd (named word refl)
+only_configuration NoThread named two = cc
+only_configuration Mismatch named two = cc
+only_configuration BadEvent named two = cc
+only_configuration Configuration named two = refl

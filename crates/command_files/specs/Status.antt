@@ -3,7 +3,7 @@ use Rattle.std.specs.Prelude.{◌≡◌, ◌⊎◌, ◌+◌, ◌-◌, ◌^◌, �
 use Rattle.std.specs.Borrow.{Bor}
 use Rattle.command_files.specs.declared.fault.Fault.{Fault}
 use Rattle.command_files.specs.declared.fault.Fault.TheVariants as fault
-use Rattle.command_files.specs.declared.fault.Fault.TheVariants.{BytesAfterTrace, CannotMake, CannotRead, CannotWrite, Check, Configuration, Event, Image, NoThread, NothingHappens, OutOfMemory, Text}
+use Rattle.command_files.specs.declared.fault.Fault.TheVariants.{BadAddress, BytesAfterTrace, CannotMake, CannotRead, CannotWrite, Check, Configuration, Event, Image, NoThread, NothingHappens, OutOfMemory, Text, TooManyRows}
 use Rattle.coherent_machine.specs.declared.errors.NewError.TheVariants as making
 use Rattle.coherent_machine.specs.declared.errors.ReplayError.{ReplayError}
 use Rattle.coherent_machine.specs.declared.errors.ReplayError.TheVariants as replay
@@ -11,7 +11,7 @@ use Rattle.machine_parts.specs.declared.errors.ApplyError.TheVariants as applyin
 use Rattle.event_stream.specs.declared.errors.StreamError.{StreamError}
 use Rattle.event_stream.specs.declared.errors.StreamError.TheVariants as stream
 
--- 1 for files, streams, threads and what files hold, 2 for a configuration that no machine has, 4 for want of memory
+-- 1 for files, streams, threads and what files hold, 2 for a configuration that no machine has and for a word that is no address, 4 for want of memory
 abbrev pub status_of : Fault → ℕ
 status_of (CannotRead file) = 1
 status_of (CannotMake file) = 1
@@ -22,9 +22,11 @@ status_of (Event file line error) = 1
 status_of (NothingHappens file line outcome) = 1
 status_of (BytesAfterTrace file) = 1
 status_of (Check file error) = 1
+status_of (TooManyRows file) = 1
 status_of NoThread = 1
 status_of fault.Mismatch = 1
 status_of fault.BadEvent = 1
+status_of (BadAddress word) = 2
 status_of Configuration = 2
 status_of OutOfMemory = 4
 

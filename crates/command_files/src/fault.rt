@@ -59,6 +59,16 @@ pub enum Fault<'a> {
         file: &'a str,
         error: CheckError,
     },
+    /// A picture would have more than 400 rows, or more than 65,535 lines of text.
+    #[error("rvtl: {}: too many rows to draw (400 at most): choose fewer by --line, or by a shorter script", .file.escape_debug())]
+    TooManyRows {
+        file: &'a str,
+    },
+    /// What was given as an address is no number below 2^32, in decimal or behind 0x in hexadecimal.
+    #[error("rvtl: --line {}: no address", .word.escape_debug())]
+    BadAddress {
+        word: &'a str,
+    },
     #[error("rvtl: cannot start a thread")]
     NoThread,
     /// The machine that the threads gave back is of another image or configuration.
@@ -76,7 +86,7 @@ pub enum Fault<'a> {
 
 impl Fault<'_> {
     /// The program's exit status: 1 for files, streams, threads and what files hold, 2 for a
-    /// configuration that no machine has, 4 for want of memory.
+    /// configuration that no machine has and for a word that is no address, 4 for want of memory.
     pub fn status(&self) -> u8
         ensures { result ≡ status_of self.now }
     {
@@ -90,9 +100,11 @@ impl Fault<'_> {
             | Fault::NothingHappens { .. }
             | Fault::BytesAfterTrace { .. }
             | Fault::Check { .. }
+            | Fault::TooManyRows { .. }
             | Fault::NoThread
             | Fault::Mismatch
             | Fault::BadEvent => 1,
+            Fault::BadAddress { .. } => 2,
             Fault::Configuration => 2,
             Fault::OutOfMemory => 4,
         }

@@ -1,1 +1,3 @@
 mod Again
+mod Carried
+mod Meant

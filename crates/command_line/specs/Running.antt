@@ -1,21 +1,32 @@
 -- What a run of the program has done, by its status.
-use Rattle.std.specs.Prelude.{◌≡◌, ◌≢◌, ◌⊎◌, ℕ, Bool, false, true, List, Option}
+use Rattle.std.specs.Prelude.{◌≡◌, ◌≢◌, ◌⊎◌, ◌<◌, ℕ, Bool, false, true, nat_lt, IfSome, List, None, Option}
 use Rattle.clap.specs.Words.{Text}
 use Rattle.command_files.specs.Held.{Held}
 use Rattle.replay_command.specs.Replaying.{IsCutOff, IsReplayed}
 use Rattle.explain_command.specs.Explaining.{IsExplained, IsStopped}
 use Rattle.explore_command.specs.Exploring.{IsExplored, IsPartlyExplored}
 use Rattle.explore_command.specs.Keeping.{IsScriptFile}
+use Rattle.explore_command.specs.declared.judging.Judgement.{Judgement}
 use Rattle.explore_command.specs.declared.judging.Judgement.TheVariants.{Allowed, NotAllowed}
+use Rattle.architecture_command.specs.Keeping.{IsFileOf}
+use Rattle.architecture_command.specs.Searching.{IsPartlySearched, IsSearched}
+use Rattle.sample_command.specs.Sampling.{IsPartlySampled, IsSampled}
+use Rattle.chart_command.specs.Addresses.{address}
+use Rattle.chart_command.specs.Charting.{IsCharted, IsStopped as IsHalfCharted}
 use Rattle.check_command.specs.Checking.{IsJudged, IsVerdictCutOff}
+use Rattle.check_command.specs.Messages.{IsLogCutOff, IsLogJudged}
 use Rattle.run_command.specs.Running.{IsRun, IsRunCutOff}
 use Rattle.command_settings.specs.Refusals.{IsFitting, IsForHelp}
 use Rattle.command_settings.specs.Settings.{IsNamed}
 use Rattle.command_files.specs.Sizes.{IsOutside}
+use Rattle.command_settings.specs.declared.wanted.Check.{Check as Judging}
+use Rattle.command_settings.specs.declared.wanted.Explore.{Explore as Seeking}
 use Rattle.command_settings.specs.declared.wanted.Settings.{Settings}
-use Rattle.command_settings.specs.declared.wanted.Settings.TheVariants.{Check, Explain, Explore, Replay, Run}
+use Rattle.command_settings.specs.declared.wanted.Settings.TheVariants.{Chart, Check, Explain, Explore, Replay, Run}
 use Rattle.event_stream.specs.declared.strictness.Strictness.{Strictness}
 use Rattle.event_stream.specs.declared.strictness.Strictness.TheVariants.{Lenient, Strict}
+use Rattle.lawful_log.specs.declared.rule.LogRule.{LogRule}
+use Rattle.lawful_log.specs.declared.rule.LogVerdict.TheVariants.{Lawful, Unlawful}
 use Rattle.rvwmo_order.specs.declared.verdict.Code.{Code}
 use Rattle.rvwmo_order.specs.declared.verdict.Verdict.TheVariants.{Fault, Legal}
 use Rattle.trace_recorder.specs.declared.operation.OpId.{OpId}
@@ -28,26 +39,70 @@ abbrev pub strictness_of : Bool → Strictness
 strictness_of false = Lenient
 strictness_of true = Strict
 
--- the script was replayed and its trace printed, or what each of its events did; the program ran and its journal was kept and its trace printed; it was explored and each outcome is allowed; or the trace's order is legal
+-- what a check judges is legal: the messages of the trace, or its order
+abbrev pub IsClean : (of_messages : Bool) → Held → Judging → Option (List ℕ) → Option (List ℕ) → Type 0
+IsClean true held check old new = IsLogJudged held check.trace.now Lawful old new
+IsClean false held check old new = IsJudged held check.trace.now check.model Legal old new
+
+-- it is not, and what shows it was printed
+abbrev pub IsUnclean : (of_messages : Bool) → Held → Judging → Option (List ℕ) → Option (List ℕ) → Type 0
+IsUnclean true held check old new =
+    (rule : LogRule) × (index : ℕ) × IsLogJudged held check.trace.now (Unlawful rule index) old new
+IsUnclean false held check old new =
+    (code : Code) × (a : OpId) × (b : OpId) × IsJudged held check.trace.now check.model (Fault code a b) old new
+
+-- no more than a beginning of the verdict went out
+abbrev pub IsCheckBroken : (of_messages : Bool) → Held → Judging → Option (List ℕ) → Option (List ℕ) → Type 0
+IsCheckBroken true held check old new = IsLogCutOff held check.trace.now old new
+IsCheckBroken false held check old new = IsVerdictCutOff held check.trace.now check.model old new
+
+abbrev pub CheckCame : Judgement → (of_messages : Bool) → Held → Judging → Option (List ℕ) → Option (List ℕ) → Type 0
+CheckCame Allowed = IsClean
+CheckCame NotAllowed = IsUnclean
+
+-- what is found of a program's ends, under the memory model, by random runs or by a search of all that the machine does, was told and judged
+abbrev pub ExploreCame : (architecture sampled : Bool) → Judgement → Held → Held → Seeking → Option (List ℕ) → Option (List ℕ) → Type 0
+ExploreCame true sampled judgement held left explore old new = IsSearched held left explore explore.window judgement old new
+ExploreCame false true judgement held left explore old new = IsSampled held left explore explore.sample judgement old new
+ExploreCame false false judgement held left explore old new = IsExplored held left explore judgement old new
+
+-- of it no more than a beginning, or it wasn't kept or judged
+abbrev pub IsExploreBroken : (architecture sampled : Bool) → Held → Seeking → Option (List ℕ) → Option (List ℕ) → Type 0
+IsExploreBroken true sampled held explore old new = IsPartlySearched held explore explore.window old new
+IsExploreBroken false true held explore old new = IsPartlySampled held explore explore.sample old new
+IsExploreBroken false false held explore old new = IsPartlyExplored held explore old new
+
+-- the file is one that shows an outcome
+abbrev pub IsExploreFile : (architecture : Bool) → Seeking → Text → Type 0
+IsExploreFile true explore = IsFileOf explore.scripts
+IsExploreFile false explore = IsScriptFile explore.scripts
+
+-- the script was replayed and its trace printed, or what each of its events did, or a picture of it; the program ran and its journal was kept and its trace printed; it was explored and each outcome is allowed; or the trace's order is legal, or its messages
 abbrev pub IsDone : Held → Held → Option (List ℕ) → Option (List ℕ) → Settings → Type 0
 IsDone held left old new (Replay replay) = IsReplayed held replay old new
 IsDone held left old new (Explain explain) = IsExplained held explain.replay (strictness_of explain.strict) old new
 IsDone held left old new (Run run) = IsRun held left run old new
-IsDone held left old new (Explore explore) = IsExplored held left explore Allowed old new
-IsDone held left old new (Check check) = IsJudged held check.trace.now check.model Legal old new
+IsDone held left old new (Explore explore) = ExploreCame explore.architecture (nat_lt 0 explore.sample) Allowed held left explore old new
+IsDone held left old new (Chart chart) = IsCharted held chart.replay chart.line old new
+IsDone held left old new (Check check) = IsClean check.messages held check old new
 
 -- the words ask for help, or what they name was done
 unfoldable pub IsCarriedOut : List Text → Held → Held → Option (List ℕ) → Option (List ℕ) → Type 0
 IsCarriedOut words held left old new = IsForHelp words ⊎ HasNamed words (IsDone held left old new)
 
--- the trace's order is not legal, and the fault that shows it was printed; or the program was explored and an outcome is not allowed
+-- the trace's order, or its messages, are not legal, and the fault that shows it was printed; or the program was explored and an outcome is not allowed
 abbrev pub IsFaulty : Held → Held → Option (List ℕ) → Option (List ℕ) → Settings → Type 0
 IsFaulty held left old new (Replay replay) = ⊥
 IsFaulty held left old new (Explain explain) = ⊥
 IsFaulty held left old new (Run run) = ⊥
-IsFaulty held left old new (Explore explore) = IsExplored held left explore NotAllowed old new
-IsFaulty held left old new (Check check) =
-    (code : Code) × (a : OpId) × (b : OpId) × IsJudged held check.trace.now check.model (Fault code a b) old new
+IsFaulty held left old new (Explore explore) = ExploreCame explore.architecture (nat_lt 0 explore.sample) NotAllowed held left explore old new
+IsFaulty held left old new (Chart chart) = ⊥
+IsFaulty held left old new (Check check) = IsUnclean check.messages held check old new
+
+-- what the settings name was done, or shown not to be legal
+abbrev pub Came : Held → Held → Option (List ℕ) → Option (List ℕ) → Settings → Judgement → Type 0
+Came held left old new wanted Allowed = IsDone held left old new wanted
+Came held left old new wanted NotAllowed = IsFaulty held left old new wanted
 
 unfoldable pub IsNotLegal : List Text → Held → Held → Option (List ℕ) → Option (List ℕ) → Type 0
 IsNotLegal words held left old new = HasNamed words (IsFaulty held left old new)
@@ -57,23 +112,30 @@ abbrev pub IsBroken : Held → Held → Option (List ℕ) → Option (List ℕ) 
 IsBroken held left old new (Replay replay) = IsCutOff held replay old new
 IsBroken held left old new (Explain explain) = IsStopped held explain.replay (strictness_of explain.strict) old new
 IsBroken held left old new (Run run) = IsRunCutOff held left run old new
-IsBroken held left old new (Explore explore) = IsPartlyExplored held explore old new
-IsBroken held left old new (Check check) = IsVerdictCutOff held check.trace.now check.model old new
+IsBroken held left old new (Explore explore) = IsExploreBroken explore.architecture (nat_lt 0 explore.sample) held explore old new
+IsBroken held left old new (Chart chart) = IsHalfCharted held chart.replay chart.line old new
+IsBroken held left old new (Check check) = IsCheckBroken check.messages held check old new
 
 -- nothing was printed, or a beginning of a trace, a stream, a verdict or of what was found; or there was help to print, whatever of it went out
 unfoldable pub IsUnprinted : List Text → Held → Held → Option (List ℕ) → Option (List ℕ) → Type 0
 IsUnprinted words held left old new = (new ≡ old) ⊎ (IsForHelp words ⊎ HasNamed words (IsBroken held left old new))
 
--- the words name a machine that can't be made
+-- the words name a machine that can't be made, or as an address what is none
 abbrev pub IsBeyond : Settings → Type 0
 IsBeyond (Run run) = IsOutside run.machine
 IsBeyond (Explore explore) = IsOutside explore.machine
+IsBeyond (Chart chart) = IfSome chart.line (λ word. address word.now ≡ None)
 IsBeyond _ = ⊥
 
--- the file is the journal of a run, or a script of an exploration
+-- an exploration may meet a state at least
+abbrev pub HasRoom : Settings → Type 0
+HasRoom (Explore explore) = 0 < explore.states
+HasRoom _ = Unit {0}
+
+-- the file is the journal of a run, or shows an outcome of an exploration
 abbrev pub IsWritten : Text → Settings → Type 0
 IsWritten name (Run run) = name ≡ run.journal.now
-IsWritten name (Explore explore) = IsScriptFile explore.scripts name
+IsWritten name (Explore explore) = IsExploreFile explore.architecture explore name
 IsWritten name _ = ⊥
 
 -- no file but the journal or the scripts of what the words name is another than before

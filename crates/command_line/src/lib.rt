@@ -2,6 +2,7 @@
 //! hands in.
 #![tactic(auto)]
 
+mod carrying;
 mod laws;
 mod running;
 

@@ -3,30 +3,25 @@
 ghost use Rattle.std.specs.Prelude.{◌≡◌, ◌≢◌, ◌⊎◌, ◌≤◌, ◌<◌, map};
 ghost use Rattle.clap.specs.Words.{kind_of};
 ghost use Rattle.command_settings.specs.Refusals.{IsHelp, IsUnfit};
-ghost use Rattle.command_line.specs.Running.{HasNamed, IsBeyond, IsCarriedOut, IsNotLegal, IsUnprinted, Spares, strictness_of};
+ghost use Rattle.command_line.specs.Running.{HasNamed, IsBeyond, IsCarriedOut, IsNotLegal, IsUnprinted, Spares};
 
-use check_command::check_file;
+use crate::carrying::carry_out;
 use command_files::{Fault, Files};
-use command_settings::{Settings, SettingsError, settings};
-use event_stream::Strictness;
-use explain_command::explain_files;
-use explore_command::{Judgement, explore_files};
+use command_settings::{SettingsError, settings};
+use explore_command::Judgement;
 use progress_line::Progress;
-use replay_command::replay_files;
-use run_command::run_files;
-use rvwmo_order::Verdict;
 use std::alloc::Global;
 use std::convert::AsStr;
 use std::io::Write;
 use std::sync::Wait;
 use std::thread::Threads;
 
-/// The status where the order is not legal, or an outcome not allowed.
+/// The status where the order or the messages are not legal, or an outcome not allowed.
 const NOT_LEGAL: u8 = 3;
 
 /// Does what the words ask for, the first of which is the program's name, and answers the exit status:
 /// 0 done or legal, 1 for files, streams, threads and what files hold, 2 for words that don't fit the usage
-/// and for a machine that can't be, 3 for an order that is not legal or an outcome that is not allowed,
+/// and for a machine that can't be, 3 for an order or messages that are not legal, or an outcome that is not allowed,
 /// 4 out of memory. A message that standard error does not take is lost. A command that takes long tells
 /// `progress` how far it is. It may wait for threads.
 pub fn run_line<
@@ -45,50 +40,16 @@ pub fn run_line<
     ensures spared { Spares (map S.text words.now) (F.held files.old) (F.held files.new) }
 {
     let fault = match settings(alloc, words) {
-        Ok(Settings::Replay(wanted)) => match replay_files(alloc, files, wanted, out, err) {
-            Ok(()) => return 0,
-            Err(fault) => fault,
-        },
-        Ok(Settings::Explain(wanted)) => {
-            let strictness = strictness_of(wanted.strict);
-            match explain_files(alloc, files, wanted.replay, strictness, out) {
-                Ok(()) => return 0,
-                Err(fault) => fault,
-            }
-        }
-        Ok(Settings::Run(wanted)) => {
-            match run_files(rt, alloc, files, wanted, out, err, progress) {
-                Ok(()) => return 0,
-                Err(fault) => fault,
-            }
-        }
-        Ok(Settings::Explore(wanted)) => match explore_files(alloc, files, wanted, out, err) {
+        Ok(wanted) => match carry_out(rt, alloc, wanted, files, out, err, progress) {
             Ok(Judgement::Allowed) => return 0,
             Ok(Judgement::NotAllowed) => return NOT_LEGAL,
             Err(fault) => fault,
         },
-        Ok(Settings::Check(wanted)) => {
-            match check_file(alloc, files, wanted.trace, wanted.model, out) {
-                Ok(Verdict::Legal) => return 0,
-                Ok(Verdict::Fault(_, _, _)) => return NOT_LEGAL,
-                Err(fault) => fault,
-            }
-        }
         Err(SettingsError::Usage(usage)) => return explain(&usage, out, err),
         Err(SettingsError::NoMemory) => Fault::OutOfMemory,
     };
     let _ = writeln!(err, "{fault}");
     fault.status()
-}
-
-fn strictness_of(strict: bool) -> Strictness
-    ensures { result ≡ strictness_of strict }
-{
-    if strict {
-        Strictness::Strict
-    } else {
-        Strictness::Lenient
-    }
 }
 
 /// Help goes to standard output with status 0, a usage fault to standard error with status 2.

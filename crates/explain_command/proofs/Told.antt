@@ -6,7 +6,7 @@ use Rattle.command_files.specs.Status.{status_of}
 use Rattle.command_files.specs.Faults.{HasScript, IsImageFault, IsScriptFault}
 use Rattle.explain_command.specs.Explaining.{IsExplainFault}
 use Rattle.command_files.specs.declared.fault.Fault.{Fault}
-use Rattle.command_files.specs.declared.fault.Fault.TheVariants.{BadEvent, BytesAfterTrace, CannotMake, CannotRead, CannotWrite, Check, Configuration, Event, Image, Mismatch, NoThread, NothingHappens, OutOfMemory, Text}
+use Rattle.command_files.specs.declared.fault.Fault.TheVariants.{BadAddress, BadEvent, BytesAfterTrace, CannotMake, CannotRead, CannotWrite, Check, Configuration, Event, Image, Mismatch, NoThread, NothingHappens, OutOfMemory, Text, TooManyRows}
 use Rattle.command_settings.specs.declared.wanted.Replay.{Replay}
 
 pub of_explained_script : (held : Held) (replay : Replay) (strictness : Strictness) (old new : Option (List ℕ)) (fault : Fault) → IsScriptFault replay.script fault → IsExplainFault held replay strictness old new fault
@@ -20,6 +20,8 @@ of_explained_script held replay strictness old new (Event file line error) is = 
 of_explained_script held replay strictness old new (NothingHappens file line outcome) is = absurd is
 of_explained_script held replay strictness old new (BytesAfterTrace file) is = absurd is
 of_explained_script held replay strictness old new (Check file error) is = absurd is
+of_explained_script held replay strictness old new (TooManyRows file) is = absurd is
+of_explained_script held replay strictness old new (BadAddress word) is = absurd is
 of_explained_script held replay strictness old new NoThread is = absurd is
 of_explained_script held replay strictness old new Mismatch is = absurd is
 of_explained_script held replay strictness old new BadEvent is = absurd is
@@ -36,6 +38,8 @@ of_explained_image held replay strictness old new (Event file line error) has is
 of_explained_image held replay strictness old new (NothingHappens file line outcome) has is = absurd is
 of_explained_image held replay strictness old new (BytesAfterTrace file) has is = absurd is
 of_explained_image held replay strictness old new (Check file error) has is = absurd is
+of_explained_image held replay strictness old new (TooManyRows file) has is = absurd is
+of_explained_image held replay strictness old new (BadAddress word) has is = absurd is
 of_explained_image held replay strictness old new NoThread has is = absurd is
 of_explained_image held replay strictness old new Mismatch has is = absurd is
 of_explained_image held replay strictness old new BadEvent has is = absurd is
@@ -52,6 +56,8 @@ explain_never_misused held replay strictness old new (Event file line error) so 
 explain_never_misused held replay strictness old new (NothingHappens file line outcome) so two = cc
 explain_never_misused held replay strictness old new (BytesAfterTrace file) so two = cc
 explain_never_misused held replay strictness old new (Check file error) so two = cc
+explain_never_misused held replay strictness old new (TooManyRows file) so two = cc
+explain_never_misused held replay strictness old new (BadAddress word) so two = so
 explain_never_misused held replay strictness old new NoThread so two = cc
 explain_never_misused held replay strictness old new Mismatch so two = cc
 explain_never_misused held replay strictness old new BadEvent so two = cc

@@ -5,7 +5,7 @@ use Rattle.command_files.specs.Status.{status_of}
 use Rattle.command_files.specs.Faults.{HasScript, IsImageFault, IsScriptFault}
 use Rattle.command_files.specs.Faults.{IsReplayFault}
 use Rattle.command_files.specs.declared.fault.Fault.{Fault}
-use Rattle.command_files.specs.declared.fault.Fault.TheVariants.{BadEvent, BytesAfterTrace, CannotMake, CannotRead, CannotWrite, Check, Configuration, Event, Image, Mismatch, NoThread, NothingHappens, OutOfMemory, Text}
+use Rattle.command_files.specs.declared.fault.Fault.TheVariants.{BadAddress, BadEvent, BytesAfterTrace, CannotMake, CannotRead, CannotWrite, Check, Configuration, Event, Image, Mismatch, NoThread, NothingHappens, OutOfMemory, Text, TooManyRows}
 use Rattle.command_settings.specs.declared.wanted.Replay.{Replay}
 
 pub of_script : (held : Held) (replay : Replay) (fault : Fault) → IsScriptFault replay.script fault → IsReplayFault held replay fault
@@ -19,6 +19,8 @@ of_script held replay (Event file line error) is = absurd is
 of_script held replay (BytesAfterTrace file) is = absurd is
 of_script held replay (NothingHappens file line outcome) is = absurd is
 of_script held replay (Check file error) is = absurd is
+of_script held replay (TooManyRows file) is = absurd is
+of_script held replay (BadAddress word) is = absurd is
 of_script held replay NoThread is = absurd is
 of_script held replay Mismatch is = absurd is
 of_script held replay BadEvent is = absurd is
@@ -35,6 +37,8 @@ of_image held replay (Event file line error) has is = absurd is
 of_image held replay (BytesAfterTrace file) has is = absurd is
 of_image held replay (NothingHappens file line outcome) has is = absurd is
 of_image held replay (Check file error) has is = absurd is
+of_image held replay (TooManyRows file) has is = absurd is
+of_image held replay (BadAddress word) has is = absurd is
 of_image held replay NoThread has is = absurd is
 of_image held replay Mismatch has is = absurd is
 of_image held replay BadEvent has is = absurd is
@@ -51,6 +55,8 @@ replay_never_misused held replay (Event file line error) so two = cc
 replay_never_misused held replay (BytesAfterTrace file) so two = cc
 replay_never_misused held replay (NothingHappens file line outcome) so two = cc
 replay_never_misused held replay (Check file error) so two = cc
+replay_never_misused held replay (TooManyRows file) so two = cc
+replay_never_misused held replay (BadAddress word) so two = so
 replay_never_misused held replay NoThread so two = cc
 replay_never_misused held replay Mismatch so two = cc
 replay_never_misused held replay BadEvent so two = cc

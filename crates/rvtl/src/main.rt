@@ -1,15 +1,12 @@
 //! The program `rvtl`: the command line over the system's files and streams.
 #![tactic(auto)]
 
-ghost use Rattle.std.specs.Prelude.{◌≡◌, ◌≢◌, IfErr, IfOk};
-ghost use Rattle.std.specs.IoError.{error_kind};
-ghost use Rattle.std.specs.Process.{exit_status};
-
 mod streams;
 
 use crate::streams::{Messages, Output};
 use command_files::{Remarked, SystemFiles, WithInput};
 use command_line::run_line;
+use exit_codes::code_of;
 use file_remarks::FileRemark;
 use progress_line::ProgressLine;
 use std::cell::Cell;
@@ -31,22 +28,6 @@ fn main(rt: HostRuntime) -> ExitCode {
         let _ = eprintln!(rt; "rvtl: {message}");
     }
     code_of(ended)
-}
-
-/// The process's status is the program's. Beside memory only words may be wanting here, those that are not
-/// UTF-8.
-fn code_of(ended: io::Result<u8>) -> ExitCode
-    ensures ended { IfOk ended (λ status. exit_status result ≡ status) }
-    ensures memory { IfErr ended (λ error. error_kind error ≡ ErrorKind.OutOfMemory → exit_status result ≡ 4) }
-    ensures words { IfErr ended (λ error. error_kind error ≢ ErrorKind.OutOfMemory → exit_status result ≡ 2) }
-{
-    match ended {
-        Ok(status) => ExitCode::from(status),
-        Err(error) => match error.kind() {
-            ErrorKind::OutOfMemory => ExitCode::from(4),
-            _ => ExitCode::from(2),
-        },
-    }
 }
 
 fn run<

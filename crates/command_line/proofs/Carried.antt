@@ -1,0 +1,70 @@
+-- What came of a command is what came of the settings that name it.
+use Rattle.std.proofs.Common.{◌≡◌, ◌≢◌, ◌⊎◌, ℕ, Err, IfErr, IfOk, List, Ok, Option, Result, subst, sym}
+use Rattle.std.specs.Prelude.{nat_lt}
+use Rattle.clap.specs.Words.{Text}
+use Rattle.command_files.specs.Held.{Held}
+use Rattle.command_files.specs.Status.{status_of}
+use Rattle.command_files.specs.declared.fault.Fault.{Fault}
+use Rattle.command_line.proofs.Meant.{beyond_explore, written}
+use Rattle.command_line.specs.Running.{Came, CheckCame, ExploreCame, IsBeyond, IsBroken, IsCheckBroken, IsDone, IsExploreBroken, IsExploreFile, IsFaulty, IsWritten, strictness_of}
+use Rattle.command_settings.specs.declared.wanted.Check.{Check as Judging}
+use Rattle.command_settings.specs.declared.wanted.Explain.{Explain as Telling}
+use Rattle.command_settings.specs.declared.wanted.Explore.{Explore as Sought}
+use Rattle.command_settings.specs.declared.wanted.Settings.{Settings}
+use Rattle.command_settings.specs.declared.wanted.Settings.TheVariants.{Check, Explain, Explore}
+use Rattle.event_stream.specs.declared.strictness.Strictness.{Strictness}
+use Rattle.explain_command.specs.Explaining.{IsExplained, IsStopped}
+use Rattle.explore_command.proofs.Faults.{some_part}
+use Rattle.explore_command.specs.Exploring.{IsExploreFault, LeavesPart}
+use Rattle.explore_command.specs.Keeping.{SparesOthers}
+use Rattle.explore_command.specs.declared.judging.Judgement.{Judgement}
+use Rattle.explore_command.specs.declared.judging.Judgement.TheVariants.{Allowed, NotAllowed}
+
+pub broken : (held left : Held) (old new : Option (List ℕ)) (wanted meant : Settings) → wanted ≡ meant → (new ≡ old) ⊎ IsBroken held left old new meant → (new ≡ old) ⊎ IsBroken held left old new wanted
+broken held left old new wanted meant is so = subst (λ w. (new ≡ old) ⊎ IsBroken held left old new w) (sym is) so
+
+pub explained : (held left : Held) (old new : Option (List ℕ)) (wanted : Settings) (explain : Telling) (strictness : Strictness) → wanted ≡ Explain explain → strictness ≡ strictness_of explain.strict
+    → IsExplained held explain.replay strictness old new → IsDone held left old new wanted
+explained held left old new wanted explain strictness is is_strict told =
+    subst (IsDone held left old new) (sym is) (subst (λ s. IsExplained held explain.replay s old new) is_strict told)
+
+pub broken_off : (held : Held) (old new : Option (List ℕ)) (explain : Telling) (strictness : Strictness) → strictness ≡ strictness_of explain.strict
+    → (new ≡ old) ⊎ IsStopped held explain.replay strictness old new → (new ≡ old) ⊎ IsStopped held explain.replay (strictness_of explain.strict) old new
+broken_off held old new explain strictness is_strict so = subst (λ s. (new ≡ old) ⊎ IsStopped held explain.replay s old new) is_strict so
+
+module _ (held left : Held) (old new : Option (List ℕ)) (wanted : Settings) where
+  pub explore_came : (explore : Sought) (r : Result Judgement Fault) → wanted ≡ Explore explore
+      → IfOk r (λ judgement. ExploreCame explore.architecture (nat_lt 0 explore.sample) judgement held left explore old new) → IfOk r (Came held left old new wanted)
+  explore_came explore (Ok Allowed) is so = subst (IsDone held left old new) (sym is) so
+  explore_came explore (Ok NotAllowed) is so = subst (IsFaulty held left old new) (sym is) so
+  explore_came explore (Err fault) is so = tt
+
+  pub explore_broken : (explore : Sought) (r : Result Judgement Fault) → wanted ≡ Explore explore
+      → IfErr r (λ fault. LeavesPart fault old new (IsExploreBroken explore.architecture (nat_lt 0 explore.sample) held explore old new))
+      → IfErr r (λ _. (new ≡ old) ⊎ IsBroken held left old new wanted)
+  explore_broken explore (Ok judgement) is so = tt
+  explore_broken explore (Err fault) is so = broken held left old new wanted (Explore explore) is (some_part old new _ fault so)
+
+  pub check_came : (check : Judging) (r : Result Judgement Fault) → wanted ≡ Check check → IfOk r (λ judgement. CheckCame judgement check.messages held check old new) → IfOk r (Came held left old new wanted)
+  check_came check (Ok Allowed) is so = subst (IsDone held left old new) (sym is) so
+  check_came check (Ok NotAllowed) is so = subst (IsFaulty held left old new) (sym is) so
+  check_came check (Err fault) is so = tt
+
+  pub check_broken : (check : Judging) (r : Result Judgement Fault) → wanted ≡ Check check → IfErr r (λ _. (new ≡ old) ⊎ IsCheckBroken check.messages held check old new)
+      → IfErr r (λ _. (new ≡ old) ⊎ IsBroken held left old new wanted)
+  check_broken check (Ok judgement) is so = tt
+  check_broken check (Err fault) is so = broken held left old new wanted (Check check) is so
+
+pub explore_beyond : (old new : Option (List ℕ)) (wanted : Settings) (explore : Sought) (part : Type 0) (r : Result Judgement Fault) → wanted ≡ Explore explore → IfErr r (IsExploreFault explore)
+    → IfErr r (λ fault. LeavesPart fault old new part) → IfErr r (λ fault. status_of fault ≡ 2 → IsBeyond wanted × (new ≡ old))
+explore_beyond old new wanted explore part (Ok judgement) is told leaves = tt
+explore_beyond old new wanted explore part (Err fault) is told leaves = λ two.
+    let it = beyond_explore old new explore part fault told leaves two in (subst IsBeyond (sym is) it.0, it.1)
+
+pub explore_written : (held left : Held) (wanted : Settings) (explore : Sought) → wanted ≡ Explore explore → SparesOthers (IsExploreFile explore.architecture explore) held left
+    → (name : Text) → left name ≢ held name → IsWritten name wanted
+explore_written held left wanted explore is spares = λ name changed. subst (IsWritten name) (sym is) (written held left _ spares name changed)
+
+pub check_beyond : (old new : Option (List ℕ)) (wanted : Settings) (r : Result Judgement Fault) → IfErr r (λ fault. status_of fault ≢ 2) → IfErr r (λ fault. status_of fault ≡ 2 → IsBeyond wanted × (new ≡ old))
+check_beyond old new wanted (Ok judgement) never = tt
+check_beyond old new wanted (Err fault) never = λ two. absurd (never two)

@@ -1,0 +1,69 @@
+-- What the words' settings allow to be done, and what faults say of them.
+use Rattle.std.proofs.Common.{◌≡◌, ◌≢◌, ◌∙◌, ℕ, Bool, IfSome, List, None, Option, Some, arith, false, true, inl, inr, subst, sym, ap, refl}
+use Rattle.std.proofs.lemmas.Bool.{false≢true}
+use Rattle.std.proofs.lemmas.Slice.Eq.{bytes_eq-Decides}
+use Rattle.std.specs.Str.{bytes_eq}
+use Rattle.chart_command.specs.Addresses.{address}
+use Rattle.chart_command.specs.Charting.{IsNoAddress}
+use Rattle.clap.specs.Words.{Text}
+use Rattle.command_files.proofs.Left.{only_configuration}
+use Rattle.command_files.specs.Faults.{Leaves, Name}
+use Rattle.command_files.specs.Held.{Held}
+use Rattle.command_files.specs.Sizes.{IsOutside}
+use Rattle.command_files.specs.Status.{status_of}
+use Rattle.command_files.specs.declared.fault.Fault.{Fault}
+use Rattle.command_line.specs.Running.{HasRoom}
+use Rattle.command_settings.specs.Settings.{IsNamed}
+use Rattle.command_settings.specs.declared.wanted.Explore.{Explore as Sought}
+use Rattle.command_settings.specs.declared.wanted.Run.{Run as Asked}
+use Rattle.command_settings.specs.declared.wanted.Settings.{Settings}
+use Rattle.command_settings.specs.declared.wanted.Settings.TheVariants.{Chart, Check, Explain, Explore, Replay, Run}
+use Rattle.explore_command.specs.Exploring.{IsExploreFault, LeavesPart}
+use Rattle.explore_command.specs.Keeping.{SparesOthers}
+use Rattle.run_command.specs.Running.{IsRunFault}
+
+-- the words give an exploration a state at least
+pub some_states : (words : List Text) (wanted : Settings) → IsNamed words wanted → HasRoom wanted
+some_states words (Explore explore) named = omega (arith, named.5.1.states.1)
+some_states words (Replay replay) named = tt
+some_states words (Explain explain) named = tt
+some_states words (Chart chart) named = tt
+some_states words (Run run) named = tt
+some_states words (Check check) named = tt
+
+-- a fault of status 2 tells of a machine that can't be, and leaves the output as it was
+pub beyond_run : (held : Held) (old new : Option (List ℕ)) (run : Asked) (broken : Type 0) (fault : Fault) → IsRunFault held run fault → Leaves fault old new broken → status_of fault ≡ 2
+    → IsOutside run.machine × (new ≡ old)
+beyond_run held old new run broken fault told leaves two =
+    let at = only_configuration fault (λ word address. subst (IsRunFault held run) address told) two in
+    (subst (IsRunFault held run) at told, subst (λ f. Leaves f old new broken) at leaves)
+
+pub beyond_explore : (old new : Option (List ℕ)) (explore : Sought) (broken : Type 0) (fault : Fault) → IsExploreFault explore fault → LeavesPart fault old new broken → status_of fault ≡ 2
+    → IsOutside explore.machine × (new ≡ old)
+beyond_explore old new explore broken fault told leaves two =
+    let at = only_configuration fault (λ word address. subst (IsExploreFault explore) address told) two in
+    (subst (IsExploreFault explore) at told, subst (λ f. LeavesPart f old new broken) at leaves)
+
+-- the word names no address
+pub no_address : (line : Option Name) (fault : Fault) → IsNoAddress line fault → IfSome line (λ word. address word.now ≡ None)
+no_address None fault is = absurd is
+no_address (Some word) fault is = is.0
+
+-- a file that changed is one of those that are written
+pub written : (held left : Held) (IsWritten : Text → Type 0) → SparesOthers IsWritten held left → (name : Text) → left name ≢ held name → IsWritten name
+written held left IsWritten spares name changed = elim (spares name) [
+  | inl same ↦ absurd (changed same)
+  | inr so ↦ so
+]
+
+-- no file changed
+pub unwritten : (held left : Held) (IsWritten : Text → Type 0) → left ≡ held → (name : Text) → left name ≢ held name → IsWritten name
+unwritten held left IsWritten same name changed = absurd (changed (ap (λ (h : Held). h name) same))
+
+-- none but the journal
+pub journal_alone : (held left : Held) (journal : Text) → ((other : Text) → other ≢ journal → left other ≡ held other) → (name : Text) → left name ≢ held name → name ≡ journal
+journal_alone held left journal others name changed = go (bytes_eq name journal) refl
+  where
+    go : (b : Bool) → bytes_eq name journal ≡ b → name ≡ journal
+    go true same = (bytes_eq-Decides name journal).0 same
+    go false other = absurd (changed (others name (λ same. false≢true (sym other ∙ (bytes_eq-Decides name journal).1 same))))

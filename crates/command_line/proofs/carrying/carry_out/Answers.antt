@@ -1,0 +1,92 @@
+use Rattle.std.proofs.Common.{subst, sym}
+use Rattle.command_files.proofs.Left.{either, handed_up}
+use Rattle.command_line.proofs.Carried.{broken, broken_off, check_beyond, check_broken, check_came, explained, explore_beyond, explore_broken, explore_came, explore_written}
+use Rattle.command_line.proofs.Meant.{beyond_run, journal_alone, no_address, unwritten}
+use Rattle.command_line.specs.Running.{IsBeyond, IsDone, IsWritten}
+use Rattle.explain_command.proofs.Told.{explain_never_misused}
+use Rattle.replay_command.proofs.Told.{replay_never_misused}
+use Rattle.command_line.proofs.carrying.carry_out.Goals as goal
+
+pub returns-in_ok-replay_files-in-Replay-clause-came : goal.returns-in_ok-replay_files-in-Replay-clause-came
+returns-in_ok-replay_files-in-Replay-clause-came g c = subst (IsDone _ _ _ _) (sym c.in-Replay.is) c.in_ok-replay_files-in-Replay.ensures.replayed
+
+pub returns-in_ok-replay_files-in-Replay-clause-spared : goal.returns-in_ok-replay_files-in-Replay-clause-spared
+returns-in_ok-replay_files-in-Replay-clause-spared g c = unwritten _ _ _ c.in_ok-replay_files-in-Replay.ensures.spared
+
+pub returns-in_err-replay_files-in-Replay-clause-spared : goal.returns-in_err-replay_files-in-Replay-clause-spared
+returns-in_err-replay_files-in-Replay-clause-spared g c = unwritten _ _ _ c.in_err-replay_files-in-Replay.ensures.spared
+
+pub returns-in_err-replay_files-in-Replay-clause-unfinished : goal.returns-in_err-replay_files-in-Replay-clause-unfinished
+returns-in_err-replay_files-in-Replay-clause-unfinished g c = handed_up _ c.from_residual.result _ c.from_residual.ensures.1 (broken _ _ _ _ _ _ c.in-Replay.is (either _ _ _ _ c.in_err-replay_files-in-Replay.ensures.unfinished))
+
+pub returns-in_err-replay_files-in-Replay-clause-beyond : goal.returns-in_err-replay_files-in-Replay-clause-beyond
+returns-in_err-replay_files-in-Replay-clause-beyond g c = handed_up _ c.from_residual.result _ c.from_residual.ensures.1 (λ two. absurd (replay_never_misused _ _ _ c.in_err-replay_files-in-Replay.ensures.told two))
+
+pub returns-in_ok-explain_files-in-Explain-clause-came : goal.returns-in_ok-explain_files-in-Explain-clause-came
+returns-in_ok-explain_files-in-Explain-clause-came g c = explained _ _ _ _ _ c.in-Explain.explain c.strictness_of-strictness.result c.in-Explain.is c.strictness_of-strictness.ensures c.in_ok-explain_files-in-Explain.ensures.explained
+
+pub returns-in_ok-explain_files-in-Explain-clause-spared : goal.returns-in_ok-explain_files-in-Explain-clause-spared
+returns-in_ok-explain_files-in-Explain-clause-spared g c = unwritten _ _ _ c.in_ok-explain_files-in-Explain.ensures.spared
+
+pub returns-in_err-explain_files-in-Explain-clause-spared : goal.returns-in_err-explain_files-in-Explain-clause-spared
+returns-in_err-explain_files-in-Explain-clause-spared g c = unwritten _ _ _ c.in_err-explain_files-in-Explain.ensures.spared
+
+pub returns-in_err-explain_files-in-Explain-clause-unfinished : goal.returns-in_err-explain_files-in-Explain-clause-unfinished
+returns-in_err-explain_files-in-Explain-clause-unfinished g c = handed_up _ c.from_residual-in_err-explain_files-in-Explain.result _ c.from_residual-in_err-explain_files-in-Explain.ensures.1 (broken _ _ _ _ _ _ c.in-Explain.is (broken_off _ _ _ c.in-Explain.explain c.strictness_of-strictness.result c.strictness_of-strictness.ensures c.in_err-explain_files-in-Explain.ensures.unfinished))
+
+pub returns-in_err-explain_files-in-Explain-clause-beyond : goal.returns-in_err-explain_files-in-Explain-clause-beyond
+returns-in_err-explain_files-in-Explain-clause-beyond g c = handed_up _ c.from_residual-in_err-explain_files-in-Explain.result _ c.from_residual-in_err-explain_files-in-Explain.ensures.1 (λ two. absurd (explain_never_misused _ _ _ _ _ _ c.in_err-explain_files-in-Explain.ensures.told two))
+
+pub returns-in_ok-chart_files-in-Chart-clause-came : goal.returns-in_ok-chart_files-in-Chart-clause-came
+returns-in_ok-chart_files-in-Chart-clause-came g c = subst (IsDone _ _ _ _) (sym c.in-Chart.is) c.in_ok-chart_files-in-Chart.ensures.charted
+
+pub returns-in_ok-chart_files-in-Chart-clause-spared : goal.returns-in_ok-chart_files-in-Chart-clause-spared
+returns-in_ok-chart_files-in-Chart-clause-spared g c = unwritten _ _ _ c.in_ok-chart_files-in-Chart.ensures.spared
+
+pub returns-in_err-chart_files-in-Chart-clause-spared : goal.returns-in_err-chart_files-in-Chart-clause-spared
+returns-in_err-chart_files-in-Chart-clause-spared g c = unwritten _ _ _ c.in_err-chart_files-in-Chart.ensures.spared
+
+pub returns-in_err-chart_files-in-Chart-clause-unfinished : goal.returns-in_err-chart_files-in-Chart-clause-unfinished
+returns-in_err-chart_files-in-Chart-clause-unfinished g c = handed_up _ c.from_residual-in_err-chart_files-in-Chart.result _ c.from_residual-in_err-chart_files-in-Chart.ensures.1 (broken _ _ _ _ _ _ c.in-Chart.is c.in_err-chart_files-in-Chart.ensures.unfinished)
+
+pub returns-in_err-chart_files-in-Chart-clause-beyond : goal.returns-in_err-chart_files-in-Chart-clause-beyond
+returns-in_err-chart_files-in-Chart-clause-beyond g c = handed_up _ c.from_residual-in_err-chart_files-in-Chart.result _ c.from_residual-in_err-chart_files-in-Chart.ensures.1 (λ two. let it = c.in_err-chart_files-in-Chart.ensures.misused two in (subst IsBeyond (sym c.in-Chart.is) (no_address _ _ it.0), it.1))
+
+pub returns-in_ok-run_files-in-Run-clause-came : goal.returns-in_ok-run_files-in-Run-clause-came
+returns-in_ok-run_files-in-Run-clause-came g c = subst (IsDone _ _ _ _) (sym c.in-Run.is) c.in_ok-run_files-in-Run.ensures.ran
+
+pub returns-in_ok-run_files-in-Run-clause-spared : goal.returns-in_ok-run_files-in-Run-clause-spared
+returns-in_ok-run_files-in-Run-clause-spared g c = λ name changed. subst (IsWritten name) (sym c.in-Run.is) (journal_alone _ _ _ c.in_ok-run_files-in-Run.ensures.spared name changed)
+
+pub returns-in_err-run_files-in-Run-clause-spared : goal.returns-in_err-run_files-in-Run-clause-spared
+returns-in_err-run_files-in-Run-clause-spared g c = λ name changed. subst (IsWritten name) (sym c.in-Run.is) (journal_alone _ _ _ c.in_err-run_files-in-Run.ensures.spared name changed)
+
+pub returns-in_err-run_files-in-Run-clause-unfinished : goal.returns-in_err-run_files-in-Run-clause-unfinished
+returns-in_err-run_files-in-Run-clause-unfinished g c = handed_up _ c.from_residual-in_err-run_files-in-Run.result _ c.from_residual-in_err-run_files-in-Run.ensures.1 (broken _ _ _ _ _ _ c.in-Run.is (either _ _ _ _ c.in_err-run_files-in-Run.ensures.unfinished))
+
+pub returns-in_err-run_files-in-Run-clause-beyond : goal.returns-in_err-run_files-in-Run-clause-beyond
+returns-in_err-run_files-in-Run-clause-beyond g c = handed_up _ c.from_residual-in_err-run_files-in-Run.result _ c.from_residual-in_err-run_files-in-Run.ensures.1 (λ two. let it = beyond_run _ _ _ c.in-Run.run' _ _ c.in_err-run_files-in-Run.ensures.told c.in_err-run_files-in-Run.ensures.unfinished two in (subst IsBeyond (sym c.in-Run.is) it.0, it.1))
+
+pub returns-in-Explore-clause-came : goal.returns-in-Explore-clause-came
+returns-in-Explore-clause-came g c = explore_came _ _ _ _ _ c.in-Explore.explore c.explored.result c.in-Explore.is c.explored.ensures.came
+
+pub returns-in-Explore-clause-unfinished : goal.returns-in-Explore-clause-unfinished
+returns-in-Explore-clause-unfinished g c = explore_broken _ _ _ _ _ c.in-Explore.explore c.explored.result c.in-Explore.is c.explored.ensures.unfinished
+
+pub returns-in-Explore-clause-beyond : goal.returns-in-Explore-clause-beyond
+returns-in-Explore-clause-beyond g c = explore_beyond _ _ _ c.in-Explore.explore _ c.explored.result c.in-Explore.is c.explored.ensures.told c.explored.ensures.unfinished
+
+pub returns-in-Explore-clause-spared : goal.returns-in-Explore-clause-spared
+returns-in-Explore-clause-spared g c = explore_written _ _ _ c.in-Explore.explore c.in-Explore.is c.explored.ensures.spared
+
+pub returns-in-Check-clause-came : goal.returns-in-Check-clause-came
+returns-in-Check-clause-came g c = check_came _ _ _ _ _ c.in-Check.check c.checked.result c.in-Check.is c.checked.ensures.came
+
+pub returns-in-Check-clause-unfinished : goal.returns-in-Check-clause-unfinished
+returns-in-Check-clause-unfinished g c = check_broken _ _ _ _ _ c.in-Check.check c.checked.result c.in-Check.is c.checked.ensures.unfinished
+
+pub returns-in-Check-clause-beyond : goal.returns-in-Check-clause-beyond
+returns-in-Check-clause-beyond g c = check_beyond _ _ _ c.checked.result c.checked.ensures.fitting
+
+pub returns-in-Check-clause-spared : goal.returns-in-Check-clause-spared
+returns-in-Check-clause-spared g c = unwritten _ _ _ c.checked.ensures.spared

@@ -1,0 +1,136 @@
+//! What the words ask for is carried out, command by command.
+
+ghost use Rattle.std.specs.Prelude.{◌≡◌, ◌≢◌, ◌⊎◌, ◌<◌, IfErr, IfOk, nat_lt};
+ghost use Rattle.clap.specs.Words.{Text};
+ghost use Rattle.command_files.specs.Status.{status_of};
+ghost use Rattle.command_line.specs.Running.{Came, CheckCame, ExploreCame, HasRoom, IsBeyond, IsBroken, IsCheckBroken, IsExploreBroken, IsExploreFile, IsWritten, strictness_of};
+ghost use Rattle.explore_command.specs.Exploring.{IsExploreFault, LeavesPart};
+ghost use Rattle.explore_command.specs.Keeping.{SparesOthers};
+
+use architecture_command::architecture_files;
+use chart_command::chart_files;
+use check_command::{check_file, check_messages};
+use command_files::{Fault, Files};
+use command_settings::{Check, Explore, Settings};
+use event_stream::Strictness;
+use explain_command::explain_files;
+use explore_command::{Judgement, explore_files};
+use lawful_log::LogVerdict;
+use progress_line::Progress;
+use replay_command::replay_files;
+use run_command::run_files;
+use rvwmo_order::Verdict;
+use sample_command::sample_files;
+use std::alloc::Global;
+use std::io::Write;
+use std::sync::Wait;
+use std::thread::Threads;
+
+/// Carries out what the words ask for. What it answers is not allowed where an order or messages aren't
+/// legal, or an outcome isn't one that is allowed.
+pub(crate) fn carry_out<
+    'a,
+    R: Threads + Wait + Sync,
+    F: Files,
+    O: Write,
+    E: Write,
+    P: Progress + Sync,
+>(
+    rt: &R,
+    alloc: Global,
+    wanted: Settings<'a>,
+    files: &mut F,
+    out: &mut O,
+    err: &mut E,
+    progress: &P,
+) -> Result<Judgement, Fault<'a>>
+    requires room { HasRoom wanted }
+    ensures came { IfOk result (Came (F.held files.old) (F.held files.new) (O.contents out.old) (O.contents out.new) wanted.entry) }
+    ensures unfinished { IfErr result (λ _. (O.contents out.new ≡ O.contents out.old)
+        ⊎ IsBroken (F.held files.old) (F.held files.new) (O.contents out.old) (O.contents out.new) wanted.entry) }
+    ensures beyond { IfErr result (λ fault. status_of fault ≡ 2 → IsBeyond wanted.entry × (O.contents out.new ≡ O.contents out.old)) }
+    ensures spared { (name : Text) → F.held files.new name ≢ F.held files.old name → IsWritten name wanted.entry }
+{
+    match wanted {
+        Settings::Replay(replay) => {
+            replay_files(alloc, files, replay, out, err)?;
+            Ok(Judgement::Allowed)
+        }
+        Settings::Explain(explain) => {
+            let strictness = strictness_of(explain.strict);
+            explain_files(alloc, files, explain.replay, strictness, out)?;
+            Ok(Judgement::Allowed)
+        }
+        Settings::Chart(chart) => {
+            chart_files(alloc, files, chart.replay, chart.line, out)?;
+            Ok(Judgement::Allowed)
+        }
+        Settings::Run(run) => {
+            run_files(rt, alloc, files, run, out, err, progress)?;
+            Ok(Judgement::Allowed)
+        }
+        Settings::Explore(explore) => explored(alloc, files, explore, out, err),
+        Settings::Check(check) => checked(alloc, files, check, out, err),
+    }
+}
+
+/// The program's ends are looked for, by random runs, or under the memory model.
+fn explored<'a, F: Files, O: Write, E: Write>(
+    alloc: Global,
+    files: &mut F,
+    wanted: Explore<'a>,
+    out: &mut O,
+    err: &mut E,
+) -> Result<Judgement, Fault<'a>>
+    requires room { 0 < wanted.states }
+    ensures came { IfOk result (λ judgement. ExploreCame wanted.entry.architecture (nat_lt 0 wanted.entry.sample) judgement
+        (F.held files.old) (F.held files.new) wanted.entry (O.contents out.old) (O.contents out.new)) }
+    ensures told { IfErr result (IsExploreFault wanted.entry) }
+    ensures unfinished { IfErr result (λ fault. LeavesPart fault (O.contents out.old) (O.contents out.new)
+        (IsExploreBroken wanted.entry.architecture (nat_lt 0 wanted.entry.sample) (F.held files.old) wanted.entry (O.contents out.old) (O.contents out.new))) }
+    ensures spared { SparesOthers (IsExploreFile wanted.entry.architecture wanted.entry) (F.held files.old) (F.held files.new) }
+{
+    if wanted.architecture {
+        return architecture_files(alloc, files, wanted, wanted.window, out, err);
+    }
+    if 0 < wanted.sample {
+        return sample_files(alloc, files, wanted, wanted.sample, wanted.seed, out, err);
+    }
+    explore_files(alloc, files, wanted, out, err)
+}
+
+/// The order of a trace is judged, or its messages.
+fn checked<'a, F: Files, O: Write, E: Write>(
+    alloc: Global,
+    files: &mut F,
+    wanted: Check<'a>,
+    out: &mut O,
+    err: &mut E,
+) -> Result<Judgement, Fault<'a>>
+    ensures came { IfOk result (λ judgement. CheckCame judgement wanted.entry.messages (F.held files.old) wanted.entry (O.contents out.old) (O.contents out.new)) }
+    ensures unfinished { IfErr result (λ _. (O.contents out.new ≡ O.contents out.old)
+        ⊎ IsCheckBroken wanted.entry.messages (F.held files.old) wanted.entry (O.contents out.old) (O.contents out.new)) }
+    ensures fitting { IfErr result (λ fault. status_of fault ≢ 2) }
+    ensures spared { F.held files.new ≡ F.held files.old }
+{
+    if wanted.messages {
+        return match check_messages(alloc, files, wanted.trace, out, err)? {
+            LogVerdict::Lawful => Ok(Judgement::Allowed),
+            LogVerdict::Unlawful { rule: _, index: _ } => Ok(Judgement::NotAllowed),
+        };
+    }
+    match check_file(alloc, files, wanted.trace, wanted.model, out)? {
+        Verdict::Legal => Ok(Judgement::Allowed),
+        Verdict::Fault(_, _, _) => Ok(Judgement::NotAllowed),
+    }
+}
+
+fn strictness_of(strict: bool) -> Strictness
+    ensures { result ≡ strictness_of strict }
+{
+    if strict {
+        Strictness::Strict
+    } else {
+        Strictness::Lenient
+    }
+}
