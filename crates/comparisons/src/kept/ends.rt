@@ -1,0 +1,84 @@
+//! Explores the examples of the repository, and prints each end that is found. What is wanted is kept beside
+//! it: ends that were worked out by hand, and numbers of states that another explorer has counted.
+
+use command_files::SystemFiles;
+use command_line::run_line;
+use progress_line::Silent;
+use std::io::{self, Write};
+use std::rt::Files;
+use std::sync::Wait;
+use std::thread::Threads;
+
+/// What stands behind `rvtl explore`.
+const EXPLORED: [&str; 40] = [
+    "--harts 2 store_buffering.elf",
+    "--harts 3 store_buffering.elf",
+    "--harts 2 --model ztso store_buffering.elf",
+    "--harts 2 store_buffering_fenced.elf",
+    "--harts 2 --model ztso store_buffering_fenced.elf",
+    "--harts 2 message_passing.elf",
+    "--harts 3 message_passing.elf",
+    "--harts 2 --model ztso message_passing.elf",
+    "--harts 2 message_passing_fenced.elf",
+    "--harts 2 dekker.elf",
+    "--harts 2 --model ztso dekker.elf",
+    "--harts 2 dekker_fenced.elf",
+    "--harts 2 --model ztso dekker_fenced.elf",
+    "--harts 2 peterson.elf",
+    "--harts 2 --model ztso peterson.elf",
+    "--harts 2 peterson_fenced.elf",
+    "--harts 2 filter_lock.elf",
+    "--harts 2 spin_lock.elf",
+    "--harts 3 spin_lock.elf",
+    "--harts 2 --model ztso spin_lock.elf",
+    "--harts 2 reserved_lock.elf",
+    "--harts 3 reserved_lock.elf",
+    "--harts 2 --ways 1 reserved_lock.elf",
+    "--harts 2 reserved_across.elf",
+    "--harts 3 reserved_across.elf",
+    "--harts 2 --ways 1 reserved_across.elf",
+    "--harts 2 --ways 4 reserved_across.elf",
+    "--harts 2 ticket_lock.elf",
+    "--harts 2 mcs_lock.elf",
+    "--harts 3 mcs_lock.elf",
+    "--harts 2 --model ztso mcs_lock.elf",
+    "--harts 2 seqlock.elf",
+    "--harts 3 seqlock.elf",
+    "--harts 2 seqlock_unfenced.elf",
+    "--harts 2 --model ztso seqlock_unfenced.elf",
+    "--harts 2 treiber_stack.elf",
+    "--harts 2 --ways 1 treiber_stack.elf",
+    "--harts 3 barrier.elf",
+    "--harts 2 barrier_unfenced.elf",
+    "--harts 2 --model ztso barrier_unfenced.elf",
+];
+
+/// Explores each example.
+pub fn explore_all<R: Files + Threads + Wait + Sync + AllocGlobal, W: Write>(
+    rt: &R,
+    out: &mut W,
+) -> io::Result<()> {
+    for words in EXPLORED {
+        explore(rt, words, out)?;
+    }
+    Ok(())
+}
+
+fn explore<R: Files + Threads + Wait + Sync + AllocGlobal, W: Write>(
+    rt: &R,
+    asked: &str,
+    out: &mut W,
+) -> io::Result<()> {
+    let alloc = rt.alloc();
+    let mut words = vec![in alloc; "rvtl", "explore"]?;
+    for word in asked.split_whitespace() {
+        words.push(word)?;
+    }
+    let mut ends = Vec::new(alloc);
+    let mut err = Vec::new(alloc);
+    let mut files = SystemFiles::new(rt);
+    let status = run_line(rt, alloc, &words, &mut files, &mut ends, &mut err, &Silent);
+    writeln!(out, "{asked}: status {status}")?;
+    out.write_all(ends.as_slice())?;
+    out.write_all(err.as_slice())
+}

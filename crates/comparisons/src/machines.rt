@@ -1,0 +1,78 @@
+//! Applies one stream of events to the plain machine and to the machine that is built of proved parts, and
+//! compares the outcome of each event, what the machines are in between, and their traces. Then it plays
+//! streams with the plain flat machine beside the machine.
+
+mod flat;
+mod met;
+mod pair;
+mod views;
+
+use crate::numbers::Numbers;
+use anyhow::{Result, bail, ensure};
+use flat::every_flat_event;
+use machine_model::{Event, Model};
+use met::Met;
+use pair::Pair;
+use std::alloc::Global;
+use std::io::Write;
+use tl_types::Channel;
+
+/// The word that the programs load and store, at the beginning of its line.
+const WORD: u32 = 0x8000_0100;
+
+const LINE_BYTES: u32 = 16;
+
+/// How many events each pair of machines gets.
+const EVENTS: u32 = 100_000;
+
+/// The event of a number below 18: nine for each hart.
+fn event_of(number: u32) -> Event {
+    let hart = if number < 9 { 0 } else { 1 };
+    let deliver = |channel| Event::Deliver { channel, hart };
+    match number % 9 {
+        0 => Event::Step { hart },
+        1 => Event::Drain { hart, word: WORD },
+        2 => Event::Evict { hart, line: WORD },
+        3 => Event::Local { hart, count: 1 },
+        4 => deliver(Channel::A),
+        5 => deliver(Channel::B),
+        6 => deliver(Channel::C),
+        7 => deliver(Channel::D),
+        _ => deliver(Channel::E),
+    }
+}
+
+/// Plays the stream, and fails at the first difference, or where an outcome isn't met that is expected.
+fn every_event(alloc: Global, model: Model) -> Result<()> {
+    let mut pair = Pair::at_reset(alloc, model)?;
+    let mut numbers = Numbers::from_seed(1);
+    let mut met = Met::nothing();
+    for index in 1..=EVENTS {
+        let event = event_of(numbers.below(18));
+        met.count(pair.apply(event)?);
+        if index % 1000 == 0 {
+            ensure!(pair.is_alike(WORD), "views differ behind event {index}");
+        }
+    }
+    if let Some(outcome) = met.missing() {
+        bail!("{outcome:?} isn't met");
+    }
+    ensure!(pair.has_one_trace(alloc)?, "traces differ");
+    Ok(())
+}
+
+/// Plays each stream, and says how many events were alike or shown.
+pub fn play_all<W: Write>(alloc: Global, out: &mut W) -> Result<()> {
+    let models = [("rvwmo", Model::Rvwmo), ("ztso", Model::Ztso)];
+    for (name, model) in models {
+        every_event(alloc, model)?;
+        writeln!(out, "{name}: {EVENTS} events alike")?;
+    }
+    for (name, model) in models {
+        for ways in 1..=2 {
+            let counts = every_flat_event(alloc, model, ways, EVENTS)?;
+            writeln!(out, "flat, {name}, ways {ways}: {counts}")?;
+        }
+    }
+    Ok(())
+}

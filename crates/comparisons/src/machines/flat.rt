@@ -1,0 +1,106 @@
+//! The plain flat machine beside the machine, on a stream of events.
+
+use super::pair::image_of_words;
+use super::{LINE_BYTES, WORD};
+use crate::numbers::Numbers;
+use anyhow::{Result, bail, ensure};
+use flat_lockstep::{Counts, Failures, Lockstep};
+use machine_model::{Config, Event, Model};
+use plain_machine::Variant;
+use std::alloc::Global;
+use tl_types::Channel;
+
+/// A word of the next line.
+const RIVAL: u32 = 0x8000_0110;
+
+/// Loads, stores, reservations, conditional stores and AMOs of both words, and fences, for ever:
+///
+///     lui a2, 0x80000
+///     addi a3, a2, 0x100
+///     addi a4, a2, 0x110
+///     1: lr.w t0, (a3)
+///     addi t0, t0, 1
+///     sc.w t1, t0, (a3)
+///     sw t0, 0(a4)
+///     lr.w t0, (a3)
+///     lw t2, 0(a4)
+///     sc.w t1, t0, (a3)
+///     sb t0, 1(a3)
+///     lw t2, 0(a3)
+///     sc.w t1, t0, (a3)
+///     fence w, w
+///     sh t0, 2(a3)
+///     lr.w t0, (a4)
+///     sc.w.rl t1, t2, (a4)
+///     amoadd.w t2, t0, (a3)
+///     fence rw, rw
+///     j 1b
+const PROGRAM: [u32; 20] = [
+    0x8000_0637,
+    0x1006_0693,
+    0x1106_0713,
+    0x1006_a2af,
+    0x0012_8293,
+    0x1856_a32f,
+    0x0057_2023,
+    0x1006_a2af,
+    0x0007_2383,
+    0x1856_a32f,
+    0x0056_80a3,
+    0x0006_a383,
+    0x1856_a32f,
+    0x0110_000f,
+    0x0056_9123,
+    0x1007_22af,
+    0x1a77_232f,
+    0x0056_a3af,
+    0x0330_000f,
+    0xfc1f_f06f,
+];
+
+/// The event of a number below 64: 32 for each hart.
+fn event_of(number: u32) -> Event {
+    let hart = if number < 32 { 0 } else { 1 };
+    let deliver = |channel| Event::Deliver { channel, hart };
+    match number % 32 {
+        0..=1 => Event::Drain { hart, word: WORD },
+        2..=3 => Event::Drain { hart, word: RIVAL },
+        4 => Event::Evict { hart, line: WORD },
+        5 => Event::Evict { hart, line: RIVAL },
+        6 => Event::Local { hart, count: 1 },
+        7..=10 => deliver(Channel::A),
+        11..=14 => deliver(Channel::B),
+        15..=18 => deliver(Channel::C),
+        19..=22 => deliver(Channel::D),
+        23..=26 => deliver(Channel::E),
+        _ => Event::Step { hart },
+    }
+}
+
+/// Plays so many events of the stream, and fails at the first difference, or where no SC succeeds, or none
+/// fails for no reason that a program shows.
+pub fn every_flat_event(alloc: Global, model: Model, ways: u32, events: u32) -> Result<Counts> {
+    let config = Config {
+        harts: 2,
+        sets: 1,
+        ways,
+        line: LINE_BYTES,
+        model,
+    };
+    let image = image_of_words(alloc, &PROGRAM)?;
+    let mut lockstep = Lockstep::at_reset(alloc, image, config, Variant::Right, Failures::Follow)?;
+    let mut numbers = Numbers::from_seed(1);
+    for index in 1..=events {
+        let event = event_of(numbers.below(64));
+        if let Err(difference) = lockstep.apply(event) {
+            bail!("{event:?}, the event {index}: {difference}");
+        }
+        if index % 1000 == 0 {
+            lockstep.compares_all()?;
+        }
+    }
+    let counts = lockstep.counts();
+    ensure!(counts.successes > 0, "no SC succeeds");
+    ensure!(counts.failures > 0, "no SC fails for no reason");
+    Ok(counts)
+}
