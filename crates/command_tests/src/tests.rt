@@ -1,9 +1,11 @@
 //! The program's texts and statuses, over files and streams in memory.
 
+mod drawing;
 mod explaining;
 mod exploring;
 mod judging;
 mod memory;
+mod messages;
 mod orders;
 mod running;
 mod texts;
@@ -12,6 +14,7 @@ use command_line::run_line;
 use memory::{File, MemoryFiles, Narrow, Stuck};
 use progress_line::Silent;
 use std::alloc::Global;
+use std::io::Write;
 use std::process::Abort;
 use std::sync::Wait;
 use std::test::Fail;
@@ -67,6 +70,44 @@ fn replays(
     assert_eq!(rt; ran.err.as_slice(), ends.as_bytes());
     assert_eq!(rt; ran.out.as_slice(), trace.as_bytes());
     assert_eq!(rt; ran.status, 0);
+    Ok(())
+}
+
+/// Standard output takes no more, which ends the program: no hart is told of.
+fn breaks_off<R: Abort + Threads + Wait + Sync + AllocGlobal, O: Write>(
+    rt: &R,
+    words: &[&str],
+    files: &[File<'_>],
+    out: &mut O,
+) -> Result<(), Fail> {
+    let mut err = Vec::new(rt.alloc());
+    let mut held = MemoryFiles::new(rt.alloc(), files);
+    let status = run_line(rt, rt.alloc(), words, &mut held, out, &mut err, &Silent);
+    assert_eq!(rt; status, 1, "{words:?}");
+    assert_eq!(rt;
+        err.as_slice(),
+        b"rvtl: cannot write\n".as_slice(),
+        "{words:?}"
+    );
+    Ok(())
+}
+
+/// Standard output that takes no more than so many bytes: they are the text's first.
+fn breaks_anywhere<R: Abort + Threads + Wait + Sync + AllocGlobal>(
+    rt: &R,
+    words: &[&str],
+    files: &[File<'_>],
+    text: &str,
+) -> Result<(), Fail> {
+    for room in 0..text.len() {
+        let mut out = Narrow {
+            taken: Vec::new(rt.alloc()),
+            room,
+        };
+        breaks_off(rt, words, files, &mut out)?;
+        assert_eq!(rt; out.taken.len(), room);
+        assert!(rt; text.as_bytes().starts_with(out.taken.as_slice()));
+    }
     Ok(())
 }
 
@@ -263,7 +304,6 @@ fn files_that_break(rt: HostRuntime) {
     assert_eq!(rt; ran.status, 1);
 }
 
-/// Standard output that takes no more than so many bytes: they are the text's first, no hart is told of.
 #[test]
 fn streams_that_break(rt: HostRuntime) -> Result<(), Fail> {
     let image = image_of(rt.alloc(), &texts::LOAD)?;
@@ -272,28 +312,7 @@ fn streams_that_break(rt: HostRuntime) -> Result<(), Fail> {
         File::whole("script", texts::LOAD_SCRIPT.as_bytes()),
     ];
     let words = ["rvtl", "replay", "--raw", "image", "script"];
-    let text = texts::LOAD_TRACE.as_bytes();
-    for room in 0..text.len() {
-        let mut out = Narrow {
-            taken: Vec::new(rt.alloc()),
-            room,
-        };
-        let mut err = Vec::new(rt.alloc());
-        let status = run_line(
-            &rt,
-            rt.alloc(),
-            &words,
-            &mut MemoryFiles::new(rt.alloc(), &files),
-            &mut out,
-            &mut err,
-            &Silent,
-        );
-        assert_eq!(rt; status, 1);
-        assert_eq!(rt; err.as_slice(), b"rvtl: cannot write\n".as_slice());
-        assert_eq!(rt; out.taken.len(), room);
-        assert!(rt; text.starts_with(out.taken.as_slice()));
-    }
-    Ok(())
+    breaks_anywhere(&rt, &words, &files, texts::LOAD_TRACE)
 }
 
 /// What was not passed on is not printed: neither a trace nor a verdict, legal or not, ends well.
@@ -310,27 +329,13 @@ fn streams_that_lose_the_end(rt: HostRuntime) -> Result<(), Fail> {
         ["rvtl", "replay", "--raw", "image", "script"].as_slice(),
         &["rvtl", "check", "legal"],
         &["rvtl", "check", "--model", "ztso", "passing"],
+        &["rvtl", "check", "--messages", "legal"],
         &["rvtl", "run", "--raw", "--journal", "journal", "image"],
     ] {
         let mut out = Stuck {
             taken: Vec::new(rt.alloc()),
         };
-        let mut err = Vec::new(rt.alloc());
-        let status = run_line(
-            &rt,
-            rt.alloc(),
-            words,
-            &mut MemoryFiles::new(rt.alloc(), &files),
-            &mut out,
-            &mut err,
-            &Silent,
-        );
-        assert_eq!(rt; status, 1, "{words:?}");
-        assert_eq!(rt;
-            err.as_slice(),
-            b"rvtl: cannot write\n".as_slice(),
-            "{words:?}"
-        );
+        breaks_off(&rt, words, &files, &mut out)?;
     }
     Ok(())
 }

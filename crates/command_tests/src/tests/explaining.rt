@@ -1,9 +1,7 @@
 //! What `rvtl explain` prints, and how it ends.
 
-use super::memory::{File, MemoryFiles, Narrow, Stuck};
-use super::{Ran, image_of, line, texts};
-use command_line::run_line;
-use progress_line::Silent;
+use super::memory::{File, Stuck};
+use super::{Ran, breaks_anywhere, breaks_off, image_of, line, texts};
 use std::process::Abort;
 use std::sync::Wait;
 use std::test::Fail;
@@ -105,7 +103,6 @@ fn what_came_before_a_refused_event_is_told(rt: HostRuntime) -> Result<(), Fail>
     Ok(())
 }
 
-/// Standard output that takes no more than so many bytes: they are the stream's first.
 #[test]
 fn streams_that_break(rt: HostRuntime) -> Result<(), Fail> {
     let image = image_of(rt.alloc(), &texts::LOAD)?;
@@ -116,43 +113,11 @@ fn streams_that_break(rt: HostRuntime) -> Result<(), Fail> {
     ];
     for (script, text) in [("script", LOAD_STREAM), ("waiting", WAITING_START)] {
         let words = ["rvtl", "explain", "--strict", "--raw", "image", script];
-        for room in 0..text.len() {
-            let mut out = Narrow {
-                taken: Vec::new(rt.alloc()),
-                room,
-            };
-            let mut err = Vec::new(rt.alloc());
-            let mut held = MemoryFiles::new(rt.alloc(), &files);
-            let status = run_line(
-                &rt,
-                rt.alloc(),
-                &words,
-                &mut held,
-                &mut out,
-                &mut err,
-                &Silent,
-            );
-            assert_eq!(rt; status, 1);
-            assert_eq!(rt; err.as_slice(), b"rvtl: cannot write\n".as_slice());
-            assert_eq!(rt; out.taken.len(), room);
-            assert!(rt; text.as_bytes().starts_with(out.taken.as_slice()));
-        }
+        breaks_anywhere(&rt, &words, &files, text)?;
         let mut out = Stuck {
             taken: Vec::new(rt.alloc()),
         };
-        let mut err = Vec::new(rt.alloc());
-        let mut held = MemoryFiles::new(rt.alloc(), &files);
-        let status = run_line(
-            &rt,
-            rt.alloc(),
-            &words,
-            &mut held,
-            &mut out,
-            &mut err,
-            &Silent,
-        );
-        assert_eq!(rt; status, 1);
-        assert_eq!(rt; err.as_slice(), b"rvtl: cannot write\n".as_slice());
+        breaks_off(&rt, &words, &files, &mut out)?;
     }
     Ok(())
 }

@@ -1,9 +1,7 @@
 //! What `rvtl explore` prints, writes and answers.
 
-use super::memory::{File, MemoryFiles, Narrow};
-use super::{Ran, image_of, line, line_over, replay, texts};
-use command_line::run_line;
-use progress_line::Silent;
+use super::memory::{File, MemoryFiles};
+use super::{Ran, breaks_anywhere, image_of, line, line_over, replay, texts};
 use std::sync::Wait;
 use std::test::Fail;
 use std::thread::Threads;
@@ -207,28 +205,37 @@ fn usage_of_an_exploration(rt: HostRuntime) {
 #[test]
 fn an_output_that_breaks(rt: HostRuntime) -> Result<(), Fail> {
     let image = image_of(rt.alloc(), &texts::EXIT)?;
-    let text = b"1  hart 0: exit 5\ncomplete: 1 outcomes, 1 states\n";
+    let text = "1  hart 0: exit 5\ncomplete: 1 outcomes, 1 states\n";
     let files = [File::whole("image", &image)];
-    for room in 0..text.len() {
-        let mut out = Narrow {
-            taken: Vec::new(rt.alloc()),
-            room,
-        };
-        let mut err = Vec::new(rt.alloc());
-        let status = run_line(
-            &rt,
-            rt.alloc(),
-            &["rvtl", "explore", "--raw", "image"],
-            &mut MemoryFiles::new(rt.alloc(), &files),
-            &mut out,
-            &mut err,
-            &Silent,
-        );
-        assert_eq!(rt; status, 1);
-        assert_eq!(rt; err.as_slice(), b"rvtl: cannot write\n".as_slice());
-        assert!(rt; text.starts_with(out.taken.as_slice()));
-        assert_eq!(rt; out.taken.len(), room);
-    }
+    breaks_anywhere(&rt, &["rvtl", "explore", "--raw", "image"], &files, text)
+}
+
+/// So many of the runs came to the end.
+#[test]
+fn random_runs_are_counted(rt: HostRuntime) -> Result<(), Fail> {
+    let image = image_of(rt.alloc(), &texts::EXIT)?;
+    let files = [File::whole("image", &image)];
+    let words = ["rvtl", "explore", "--raw", "--sample", "3", "image"];
+    let ran = line(&rt, &words, &files);
+    assert!(rt; ran.err.is_empty());
+    let text = b"1  3  hart 0: exit 5\nsampled: 3 runs, not complete\n";
+    assert_eq!(rt; ran.out.as_slice(), text.as_slice());
+    assert_eq!(rt; ran.status, 0);
+    Ok(())
+}
+
+/// Behind each outcome stands who comes to it.
+#[test]
+fn what_the_model_allows(rt: HostRuntime) -> Result<(), Fail> {
+    let image = image_of(rt.alloc(), &texts::EXIT)?;
+    let files = [File::whole("image", &image)];
+    let words = ["rvtl", "explore", "--raw", "--architecture", "image"];
+    let ran = line(&rt, &words, &files);
+    assert!(rt; ran.err.is_empty());
+    let out = ran.out.as_slice();
+    assert!(rt; out.starts_with(b"1  hart 0: exit 5   this machine\nsearched: 1 outcomes, "));
+    assert!(rt; out.ends_with(b" states, no window over 16 (not proved complete)\n"));
+    assert_eq!(rt; ran.status, 0);
     Ok(())
 }
 

@@ -20,6 +20,9 @@ H 0 run\n";
 
 pub const LOAD: [u32; 2] = [0x8000_0637, 0x0006_2703];
 
+/// `j .`
+pub const LOOP: u32 = 0x0000_006F;
+
 pub const LOAD_SCRIPT: &str = "rvtl-script 1 1 4 4 2\n\
 step 0\n\
 step 0\n\

@@ -1,0 +1,64 @@
+//! What `rvtl chart` prints, and how it ends.
+
+use super::memory::Stuck;
+use super::{File, breaks_off, image_of, line, texts};
+use std::test::Fail;
+
+const TOO_MANY: &str =
+    "rvtl: script: too many rows to draw (400 at most): choose fewer by --line, or by a shorter script\n";
+
+fn over<'a>(image: &'a [u8], script: &'a [u8]) -> [File<'a>; 2] {
+    [File::whole("image", image), File::whole("script", script)]
+}
+
+#[test]
+fn a_picture_is_drawn(rt: HostRuntime) -> Result<(), Fail> {
+    let image = image_of(rt.alloc(), &texts::LOAD)?;
+    let files = [
+        File::whole("image", image.as_slice()),
+        File::whole("script", texts::LOAD_SCRIPT.as_bytes()),
+    ];
+    let words = ["rvtl", "chart", "--raw", "image", "script"];
+    let ran = line(&rt, &words, &files);
+    assert!(rt; ran.err.is_empty());
+    assert!(rt; ran.out.as_slice().starts_with(b"<svg "));
+    assert!(rt; ran.out.as_slice().ends_with(b"</svg>\n"));
+    assert_eq!(rt; ran.status, 0);
+    let mut out = Stuck {
+        taken: Vec::new(rt.alloc()),
+    };
+    breaks_off(&rt, &words, &files, &mut out)
+}
+
+/// 400 rows are drawn, and no more.
+#[test]
+fn rows_end_at_400(rt: HostRuntime) -> Result<(), Fail> {
+    let image = image_of(rt.alloc(), &[texts::LOOP])?;
+    let mut script = Vec::new(rt.alloc());
+    script.extend_from_slice(b"rvtl-script 1 1 4 4 2\n")?;
+    for _ in 0..400 {
+        script.extend_from_slice(b"step 0\n")?;
+    }
+    let words = ["rvtl", "chart", "--raw", "image", "script"];
+    let drawn = line(&rt, &words, &over(image.as_slice(), script.as_slice()));
+    assert_eq!(rt; drawn.status, 0);
+    script.extend_from_slice(b"step 0\n")?;
+    let refused = line(&rt, &words, &over(image.as_slice(), script.as_slice()));
+    assert!(rt; refused.out.is_empty());
+    assert_eq!(rt; refused.err.as_slice(), TOO_MANY.as_bytes());
+    assert_eq!(rt; refused.status, 1);
+    Ok(())
+}
+
+/// Neither a word nor a number beyond 32 bits is an address.
+#[test]
+fn what_is_no_address(rt: HostRuntime) -> Result<(), Fail> {
+    for word in ["here", "0x", "4294967296"] {
+        let words = ["rvtl", "chart", "--line", word, "image", "script"];
+        let ran = line(&rt, &words, &[]);
+        assert!(rt; ran.out.is_empty());
+        assert!(rt; ran.err.as_slice().ends_with(b": no address\n"), "{word}");
+        assert_eq!(rt; ran.status, 2);
+    }
+    Ok(())
+}

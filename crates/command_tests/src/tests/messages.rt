@@ -1,0 +1,118 @@
+//! What `rvtl check --messages` prints, and how it ends.
+
+use super::{File, Ran, breaks_anywhere, line, texts};
+use std::process::Abort;
+use std::sync::Wait;
+use std::test::Fail;
+use std::thread::Threads;
+
+/// The head of a log from elsewhere, which says neither what was executed nor how a hart ended.
+const HEAD: &str = "rvtl-trace 1
+T 1 4 0x80000000
+";
+
+/// The hart asks for a line, to read it.
+const ASKED: &str = "M s A 0 AcquireBlock 0x80000000 NtoB
+M t A 0 AcquireBlock 0x80000000 NtoB
+";
+
+/// It is granted the line, and acknowledges.
+const GRANTED: &str = "M s D 0 GrantData 0x80000000 toB 37060080032706000000000000000000
+M t D 0 GrantData 0x80000000 toB 37060080032706000000000000000000
+M s E 0 GrantAck 0x80000000
+M t E 0 GrantAck 0x80000000
+";
+
+/// It is granted more than it asked for.
+const TRUNK: &str = "M s D 0 GrantData 0x80000000 toT 37060080032706000000000000000000
+";
+
+/// A message is taken that was never sent.
+const ONE_TAKEN: &str = "rvtl-trace 1
+T 1 4 0x80000000
+M t A 0 AcquireBlock 0x80000000 NtoB
+";
+
+/// `rvtl check --messages trace` over a trace in pieces.
+fn check<R: Threads + Wait + Sync + AllocGlobal>(rt: &R, pieces: &[&str]) -> Result<Ran, Fail> {
+    let mut trace = Vec::new(rt.alloc());
+    for piece in pieces {
+        trace.extend_from_slice(piece.as_bytes())?;
+    }
+    let files = [File::whole("trace", trace.as_slice())];
+    Ok(line(rt, &["rvtl", "check", "--messages", "trace"], &files))
+}
+
+fn is_lawful<R: Abort + Threads + Wait + Sync + AllocGlobal>(
+    rt: &R,
+    pieces: &[&str],
+) -> Result<(), Fail> {
+    let ran = check(rt, pieces)?;
+    assert!(rt; ran.err.is_empty());
+    assert_eq!(rt; ran.out.as_slice(), b"lawful\n".as_slice());
+    assert_eq!(rt; ran.status, 0);
+    Ok(())
+}
+
+fn breaks<R: Abort + Threads + Wait + Sync + AllocGlobal>(
+    rt: &R,
+    pieces: &[&str],
+    verdict: &str,
+    message: &str,
+) -> Result<(), Fail> {
+    let ran = check(rt, pieces)?;
+    assert_eq!(rt; ran.out.as_slice(), verdict.as_bytes());
+    assert_eq!(rt; ran.err.as_slice(), message.as_bytes());
+    assert_eq!(rt; ran.status, 3);
+    Ok(())
+}
+
+#[test]
+fn logs_that_are_lawful(rt: HostRuntime) -> Result<(), Fail> {
+    is_lawful(&rt, &[HEAD])?;
+    is_lawful(&rt, &[HEAD, ASKED, GRANTED])?;
+    is_lawful(&rt, &[texts::LOAD_TRACE])?;
+    is_lawful(&rt, &[texts::EXIT_TRACE])
+}
+
+/// The rule and the message's number, and on standard error its line of the file.
+#[test]
+fn logs_that_are_not(rt: HostRuntime) -> Result<(), Fail> {
+    breaks(
+        &rt,
+        &[HEAD, GRANTED],
+        "unlawful question 0\n",
+        "rvtl: trace: line 3: GrantData 0x80000000 toB to hart 0: no question that it answers has arrived and is unanswered\n",
+    )?;
+    breaks(
+        &rt,
+        &[HEAD, ASKED, TRUNK],
+        "unlawful permission 2\n",
+        "rvtl: trace: line 5: GrantData 0x80000000 toT to hart 0: the hart's Acquire of this line asked for another permission\n",
+    )?;
+    breaks(
+        &rt,
+        &[HEAD, ASKED, ASKED],
+        "unlawful acquire-once 2\n",
+        "rvtl: trace: line 5: AcquireBlock 0x80000000 NtoB from hart 0: the hart's Acquire of this line is unanswered\n",
+    )
+}
+
+/// A log alone has no order that could be judged.
+#[test]
+fn an_order_wants_a_whole_trace(rt: HostRuntime) -> Result<(), Fail> {
+    let files = [File::whole("trace", HEAD.as_bytes())];
+    let ran = line(&rt, &["rvtl", "check", "trace"], &files);
+    assert!(rt; ran.out.is_empty());
+    assert_eq!(rt; ran.status, 1);
+    Ok(())
+}
+
+#[test]
+fn a_verdict_that_breaks(rt: HostRuntime) -> Result<(), Fail> {
+    let words = ["rvtl", "check", "--messages", "trace"];
+    let lawful = [File::whole("trace", texts::LOAD_TRACE.as_bytes())];
+    breaks_anywhere(&rt, &words, &lawful, "lawful\n")?;
+    let cut = [File::whole("trace", ONE_TAKEN.as_bytes())];
+    breaks_anywhere(&rt, &words, &cut, "unlawful in-order 0\n")
+}
