@@ -28,6 +28,7 @@ FLAT = [
     ("explorer", "Outcomes", "HasEachEnd"),
     ("explorer", "Outcomes", "CanAlwaysEnd"),
     ("explorer", "Outcomes", "IsFlatEnd"),
+    ("sampler", "Sampled", "AreCounted"),
 ]
 
 NAME = r"[A-Za-z_][\w']*(?:-[\w'≤≡]+)*"
