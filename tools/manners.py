@@ -16,6 +16,8 @@ IMAGE = os.path.join(EXAMPLES, "exit.bin")
 SCRIPT = os.path.join(EXAMPLES, "exit.script")
 # It jumps to itself.
 SPIN = (0x6F).to_bytes(4, "little")
+# lui a2, 0x80000; then amoadd.w zero, zero, (a2) for ever
+AMOS = b"".join(word.to_bytes(4, "little") for word in (0x80000637, 0x0006202F, 0xFFDFF06F))
 failures = 0
 
 
@@ -48,11 +50,13 @@ def reader_goes_away(rvtl, folder):
 
 
 def progress(rvtl, folder):
-    """On a terminal a long run tells its progress, and its harts' ends stand on a line of their own."""
-    spin = os.path.join(folder, "spin.bin")
+    """On a terminal a long run tells its progress, and its harts' ends stand on lines of their own."""
+    amos = os.path.join(folder, "amos.bin")
+    with open(amos, "wb") as file:
+        file.write(AMOS)
     journal = os.path.join(folder, "j")
     near, far = pty.openpty()
-    words = [rvtl, "run", "--raw", "--limit", "100000000", "--journal", journal, spin]
+    words = [rvtl, "run", "--raw", "--harts", "8", "--limit", "100000000", "--journal", journal, amos]
     child = subprocess.Popen(words, stdout=subprocess.DEVNULL, stderr=far)
     os.close(far)
     shown = b""
@@ -62,7 +66,7 @@ def progress(rvtl, folder):
     except OSError:
         pass
     child.wait()
-    is_well = b" events, retired " in shown and b"\r" in shown and shown.endswith(b"hart 0: run\r\n")
+    is_well = b" events, retired " in shown and b"\r" in shown and shown.endswith(b"hart 7: run\r\n")
     tell("progress on a terminal", is_well, shown)
 
 
@@ -91,6 +95,10 @@ def main():
             writer = subprocess.Popen(["sh", "-c", 'cat > "$0"', fifo], stdin=file)
         ends("a FIFO", [*read_script, fifo], 0, ["hart 0: exit 5"])
         writer.wait()
+        for name, words in (("script", read_script), ("trace", [rvtl, "check"]), ("log", [rvtl, "check", "--messages"])):
+            ends(f"an endless {name}", [*words, "/dev/zero"], 1,
+                 ["rvtl: /dev/zero: line 1: text fault 1 Header", "note: no line ends in its first 65536 bytes"],
+                 preexec_fn=lambda: resource.setrlimit(resource.RLIMIT_AS, (1 << 28, 1 << 28)))
         with open("/dev/full", "wb") as full:
             end = subprocess.run([*read_script, SCRIPT], stdout=full, stderr=subprocess.PIPE)
         told = ["rvtl: cannot write", "note: no space is left"]

@@ -6,7 +6,7 @@ ghost use Rattle.check_command.specs.Checking.{IsJudged, IsVerdict, IsVerdictCut
 ghost use Rattle.check_command.specs.Checking.{IsCheckFault};
 ghost use Rattle.command_files.specs.Faults.{Leaves};
 
-use command_files::{Fault, Files, contents, remark};
+use command_files::{Fault, Files, remark, text_in};
 use file_remarks::TraceRemark;
 use machine_model::Model;
 use order_remarks::{OrderRemark, RunRemark};
@@ -31,7 +31,7 @@ pub fn check_file<'a, F: Files, O: Write>(
     ensures told { IfErr result (IsCheckFault (F.held files.old) file.entry) }
     ensures spared { F.held files.new ≡ F.held files.old }
 {
-    let bytes = contents(alloc, files, file)?;
+    let bytes = text_in(alloc, files, file)?;
     let (trace, length) = match read_trace(alloc, bytes.as_slice()) {
         Ok(read) => read,
         Err(error) => {

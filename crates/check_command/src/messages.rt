@@ -7,7 +7,7 @@ ghost use Rattle.check_command.specs.Checking.{IsCheckFault};
 ghost use Rattle.check_command.specs.Messages.{HoldsLog, IsLogCutOff, IsLogJudged};
 ghost use Rattle.command_files.specs.Faults.{Leaves};
 
-use command_files::{Fault, Files, contents};
+use command_files::{Fault, Files, text_in};
 use lawful_log::{LogVerdict, check_log};
 use log_text::{Objection, end_text, line_of_message, put_verdict};
 use std::alloc::Global;
@@ -31,7 +31,7 @@ pub fn check_messages<'a, F: Files, O: Write, E: Write>(
     ensures told { IfErr result (IsCheckFault (F.held files.old) file.entry) }
     ensures spared { F.held files.new ≡ F.held files.old }
 {
-    let mut bytes = contents(alloc, files, file)?;
+    let mut bytes = text_in(alloc, files, file)?;
     let Ok(()) = end_text(&mut bytes) else {
         return Err(Fault::OutOfMemory);
     };

@@ -1,7 +1,7 @@
 -- Which faults tell of a file and of a replay, and what a fault leaves on standard output.
 use Rattle.coherent_machine.specs.Machine.{IsRefusedAt}
 use Rattle.command_files.specs.Files.{HoldsImage, HoldsScript, HoldsTrace}
-use Rattle.command_files.specs.Held.{Held}
+use Rattle.command_files.specs.Held.{HasLongFirstLine, Held}
 use Rattle.command_files.specs.declared.fault.Fault.TheVariants.{CannotRead, CannotWrite, Event, Image, OutOfMemory, Text}
 use Rattle.command_files.specs.declared.fault.Fault.{Fault}
 use Rattle.command_files.specs.Sizes.{config_of}
@@ -28,6 +28,11 @@ abbrev pub IsReadFault : Name → Fault → Type 0
 IsReadFault name (CannotRead file) = file ≡ name
 IsReadFault name OutOfMemory = Unit {0}
 IsReadFault name _ = ⊥
+
+-- or its first line is longer than that of any text
+abbrev pub IsTextFault : Held → Name → Fault → Type 0
+IsTextFault held name (Text file error) = (file ≡ name) × HasLongFirstLine held name.now
+IsTextFault held name fault = IsReadFault name fault
 
 -- or what it holds is no script
 abbrev pub IsScriptFault : Name → Fault → Type 0

@@ -1,5 +1,6 @@
 -- The bytes of files, where they are known.
-use Rattle.std.specs.Prelude.{◌≡◌, ℕ, List, Option, Some, None, IfSome}
+use Rattle.std.specs.Prelude.{◌≡◌, ◌++◌, ℕ, ◌==◌, false, List, Option, Some, None, IfSome, length}
+use Rattle.std.specs.List.{list_any}
 
 -- the bytes of the file of each name, where they are known
 abbrev pub Held : Type 0
@@ -13,3 +14,7 @@ Gives (Some bytes) left = left ≡ Some bytes
 -- a file of these bytes, where they are known
 abbrev pub HoldsBytes : Held → List ℕ → List ℕ → Type 0
 HoldsBytes held name bytes = IfSome (held name) (λ known. known ≡ bytes)
+
+-- no line ends in the first 65536 bytes of the file, where they are known
+abbrev pub HasLongFirstLine : Held → List ℕ → Type 0
+HasLongFirstLine held name = IfSome (held name) (λ known. (first : List ℕ) × (rest : List ℕ) × (known ≡ first ++ rest) × (length first ≡ 65536) × (list_any (λ byte. byte == 10) first ≡ false))

@@ -1,8 +1,10 @@
 //! What files hold: their bytes, a script, an image.
 
-ghost use Rattle.std.specs.Prelude.{◌≡◌, ◌⊎◌, IfErr, IfOk};
+ghost use Rattle.std.specs.Prelude.{◌≡◌, ◌==◌, ◌⊎◌, IfErr, IfOk, false, length, true};
+ghost use Rattle.std.specs.List.{list_any};
+ghost use Rattle.std.specs.Io.KnownBytes.{Consumes};
 ghost use Rattle.elf_loader.specs.Size.{IsMemoryKib};
-ghost use Rattle.command_files.specs.Faults.{IsImageFault, IsReadFault, IsScriptFault};
+ghost use Rattle.command_files.specs.Faults.{IsImageFault, IsReadFault, IsScriptFault, IsTextFault};
 ghost use Rattle.command_files.specs.Files.{HoldsImage, HoldsScript, IsTheScriptIn};
 ghost use Rattle.command_files.specs.Held.{HoldsBytes};
 
@@ -13,7 +15,76 @@ use elf_loader::{Image, load, raw, size_of_kib};
 use file_remarks::{FileRemark, ImageRemark, ScriptRemark};
 use std::alloc::Global;
 use std::io::{self, ErrorKind, Read};
-use trace_text::{Script, read_script};
+use trace_text::{Script, TextCode, TextError, read_script};
+
+/// How many bytes are read of a file before the others: far more than any text's first line has.
+const FIRST: usize = 65_536;
+
+/// A file that is open, and the bytes that were read of it.
+#[derive(Drop)]
+struct Opened<R: Read + Drop> {
+    bytes: Vec<u8>,
+    reader: R,
+}
+
+impl<R: Read + Drop> Opened<R> {
+    /// Whether the file's first line is longer than any text's.
+    fn is_no_text(&self) -> bool
+        ensures long { result ≡ true → length self.now.bytes.items ≡ 65536 }
+        ensures ends { result ≡ true → list_any (λ byte. byte == 10) self.now.bytes.items ≡ false }
+    {
+        self.bytes.len() == FIRST && !self.bytes.contains(&b'\n')
+    }
+}
+
+/// Opens a file, and reads of it what one read of at most `FIRST` bytes gives.
+fn open<'a, F: Files>(
+    alloc: Global,
+    files: &mut F,
+    name: &'a str,
+) -> Result<Opened<F::Reader>, Fault<'a>>
+    ensures fault { IfErr result (IsReadFault name.entry) }
+    ensures opened { IfOk result (λ opened. Consumes (F.held files.old name.entry.now) (F.Reader.remaining opened.reader) opened.bytes.items) }
+    ensures stays { F.held files.new ≡ F.held files.old }
+{
+    let mut reader = match files.open(name) {
+        Ok(reader) => reader,
+        Err(error) => return Err(unread(alloc, files, name, error)),
+    };
+    let mut bytes = Vec::new(alloc);
+    let Ok(()) = bytes.resize(FIRST, 0) else {
+        return Err(Fault::OutOfMemory);
+    };
+    match reader.read(&mut bytes) {
+        Ok(count) => {
+            bytes.truncate(count);
+            Ok(Opened { bytes, reader })
+        }
+        Err(error) => Err(unread(alloc, files, name, error)),
+    }
+}
+
+/// The bytes of a file of which the first were read.
+fn rest<'a, F: Files>(
+    alloc: Global,
+    files: &mut F,
+    name: &'a str,
+    opened: Opened<F::Reader>,
+) -> Result<Vec<u8>, Fault<'a>>
+    requires { Consumes (F.held files.old name.now) (F.Reader.remaining opened.reader) opened.bytes.items }
+    ensures fault { IfErr result (IsReadFault name.entry) }
+    ensures bytes { IfOk result (λ bytes. HoldsBytes (F.held files.old) name.entry.now bytes.items) }
+    ensures stays { F.held files.new ≡ F.held files.old }
+{
+    let Opened {
+        mut bytes,
+        mut reader,
+    } = opened;
+    match reader.read_to_end(&mut bytes) {
+        Ok(_) => Ok(bytes),
+        Err(error) => Err(unread(alloc, files, name, error)),
+    }
+}
 
 /// The bytes of a file.
 pub fn contents<'a, F: Files>(
@@ -25,15 +96,31 @@ pub fn contents<'a, F: Files>(
     ensures bytes { IfOk result (λ bytes. HoldsBytes (F.held files.old) name.entry.now bytes.items) }
     ensures stays { F.held files.new ≡ F.held files.old }
 {
-    let mut reader = match files.open(name) {
-        Ok(reader) => reader,
-        Err(error) => return Err(unread(alloc, files, name, error)),
-    };
-    let mut bytes = Vec::new(alloc);
-    match reader.read_to_end(&mut bytes) {
-        Ok(_) => Ok(bytes),
-        Err(error) => Err(unread(alloc, files, name, error)),
+    let opened = open(alloc, files, name)?;
+    rest(alloc, files, name, opened)
+}
+
+/// The bytes of a file that has to be a text. Where its first line is longer than that of any text, no more
+/// of the file is read.
+pub fn text_in<'a, F: Files>(
+    alloc: Global,
+    files: &mut F,
+    name: &'a str,
+) -> Result<Vec<u8>, Fault<'a>>
+    ensures fault { IfErr result (IsTextFault (F.held files.old) name.entry) }
+    ensures bytes { IfOk result (λ bytes. HoldsBytes (F.held files.old) name.entry.now bytes.items) }
+    ensures stays { F.held files.new ≡ F.held files.old }
+{
+    let opened = open(alloc, files, name)?;
+    if opened.is_no_text() {
+        remark(alloc, files, "no line ends in its first 65536 bytes");
+        let error = TextError {
+            line: 1,
+            code: TextCode::Header,
+        };
+        return Err(Fault::Text { file: name, error });
     }
+    rest(alloc, files, name, opened)
 }
 
 /// A file could not be opened or read, and why is remarked.
@@ -73,7 +160,7 @@ pub fn script_in<'a, F: Files>(
     ensures only { IfOk result (IsTheScriptIn (F.held files.old) name.entry.now) }
     ensures stays { F.held files.new ≡ F.held files.old }
 {
-    let bytes = contents(alloc, files, name)?;
+    let bytes = text_in(alloc, files, name)?;
     match read_script(alloc, bytes.as_slice()) {
         Ok(script) => Ok(script),
         Err(error) => {

@@ -53,32 +53,76 @@ const EXPLORED: [&str; 40] = [
     "--harts 2 --model ztso barrier_unfenced.elf",
 ];
 
+/// What stands behind `rvtl explore` where the architecture is asked: of what is told the last line is left
+/// out, since nobody else has counted the states.
+const ALLOWED: [&str; 18] = [
+    "--architecture --harts 2 store_buffering.elf",
+    "--architecture --harts 2 message_passing_fenced.elf",
+    "--architecture --harts 2 message_passing_unacquired.elf",
+    "--architecture --harts 2 --model ztso message_passing_unacquired.elf",
+    "--architecture --harts 2 ticket_fenced.elf",
+    "--architecture --harts 2 ticket_unfenced.elf",
+    "--architecture --harts 2 --model ztso ticket_unfenced.elf",
+    "--architecture --harts 2 spin_lock.elf",
+    "--architecture --harts 2 spin_lock_unacquired.elf",
+    "--architecture --harts 2 reserved_lock.elf",
+    "--architecture --harts 2 --window 6 reserved_lock_unacquired.elf",
+    "--architecture --harts 2 --window 5 mcs_lock_unacquired.elf",
+    "--architecture --harts 2 peterson_fenced.elf",
+    "--architecture --harts 2 peterson_unacquired.elf",
+    "--architecture --harts 2 seqlock.elf",
+    "--architecture --harts 2 --window 5 seqlock_unacquired.elf",
+    "--architecture --harts 2 barrier.elf",
+    "--architecture --harts 2 barrier_unacquired.elf",
+];
+
+/// What a command printed, and its status.
+struct Told {
+    status: u8,
+    out: Vec<u8>,
+    err: Vec<u8>,
+}
+
 /// Explores each example.
 pub fn explore_all<R: Files + Threads + Wait + Sync + AllocGlobal, W: Write>(
     rt: &R,
     out: &mut W,
 ) -> io::Result<()> {
     for words in EXPLORED {
-        explore(rt, words, out)?;
+        let told = explored(rt, words)?;
+        writeln!(out, "{words}: status {}", told.status)?;
+        out.write_all(told.out.as_slice())?;
+        out.write_all(told.err.as_slice())?;
+    }
+    for words in ALLOWED {
+        let told = explored(rt, words)?;
+        writeln!(out, "{words}: status {}", told.status)?;
+        out.write_all(but_last_line(told.out.as_slice()))?;
     }
     Ok(())
 }
 
-fn explore<R: Files + Threads + Wait + Sync + AllocGlobal, W: Write>(
+fn explored<R: Files + Threads + Wait + Sync + AllocGlobal>(
     rt: &R,
     asked: &str,
-    out: &mut W,
-) -> io::Result<()> {
+) -> io::Result<Told> {
     let alloc = rt.alloc();
     let mut words = vec![in alloc; "rvtl", "explore"]?;
     for word in asked.split_whitespace() {
         words.push(word)?;
     }
-    let mut ends = Vec::new(alloc);
+    let mut out = Vec::new(alloc);
     let mut err = Vec::new(alloc);
     let mut files = SystemFiles::new(rt);
-    let status = run_line(rt, alloc, &words, &mut files, &mut ends, &mut err, &Silent);
-    writeln!(out, "{asked}: status {status}")?;
-    out.write_all(ends.as_slice())?;
-    out.write_all(err.as_slice())
+    let status = run_line(rt, alloc, &words, &mut files, &mut out, &mut err, &Silent);
+    Ok(Told { status, out, err })
+}
+
+/// The text without its last line.
+fn but_last_line(text: &[u8]) -> &[u8] {
+    let mut end = text.len().saturating_sub(1);
+    while end > 0 && text[end - 1] != b'\n' {
+        end -= 1;
+    }
+    &text[..end]
 }
