@@ -15,11 +15,27 @@ use std::io::{self, BufWriter, ErrorKind, Input, IsTerminal, Write};
 use std::process::ExitCode;
 use std::rt::{Env, Files};
 use std::sync::Wait;
-use std::thread::Threads;
+use std::thread::{self, Builder, Threads};
 use std::time::Clock;
 
+/// How many bytes of stack the program has, whatever the system gives the process.
+const STACK: usize = 8 << 20;
+
 fn main(rt: HostRuntime) -> ExitCode {
-    let ended = run(&rt, rt.stdout(), rt.stderr());
+    let rt = &rt;
+    let started = thread::scope(
+        thread::scope_env(),
+        rt,
+        |scope| -> io::Result<io::Result<u8>> {
+            let own = Builder::new().stack_size(STACK);
+            let program = own.spawn_scoped(scope, move || run(rt, rt.stdout(), rt.stderr()))?;
+            Ok(program.join(rt))
+        },
+    );
+    let Ok(ended) = started else {
+        let _ = eprintln!(rt; "rvtl: cannot start a thread");
+        return ExitCode::FAILURE;
+    };
     if let Err(error) = &ended {
         let message = match error.kind() {
             ErrorKind::OutOfMemory => "out of memory",

@@ -77,6 +77,7 @@ const ALLOWED: [&str; 18] = [
 ];
 
 /// What a command printed, and its status.
+#[derive(Drop)]
 struct Told {
     status: u8,
     out: Vec<u8>,
