@@ -304,6 +304,26 @@ fn files_that_break(rt: HostRuntime) {
     assert_eq!(rt; ran.status, 1);
 }
 
+/// A file whose first line is longer than any text's is refused by its beginning: this one fails behind it.
+#[test]
+fn no_more_is_read_than_decides(rt: HostRuntime) -> Result<(), Fail> {
+    let mut long = Vec::new(rt.alloc());
+    long.resize(65_536, b'x')?;
+    for words in [
+        ["rvtl", "replay", "--raw", "image", "long"].as_slice(),
+        &["rvtl", "check", "long"],
+        &["rvtl", "check", "--messages", "long"],
+    ] {
+        let ran = line(&rt, words, &[File::broken("long", long.as_slice())]);
+        assert_eq!(rt;
+            ran.err.as_slice(),
+            b"rvtl: long: line 1: text fault 1 Header\n".as_slice()
+        );
+        assert_eq!(rt; ran.status, 1);
+    }
+    Ok(())
+}
+
 #[test]
 fn streams_that_break(rt: HostRuntime) -> Result<(), Fail> {
     let image = image_of(rt.alloc(), &texts::LOAD)?;
