@@ -1,10 +1,11 @@
 -- Which faults the parts of an exploration hand up, and what they leave on the output.
 use Rattle.std.proofs.Common.{◌≡◌, ◌∙◌, ◌⊎◌, ℕ, List, None, Option, Some, ap, inl, inr, subst, sym, refl}
 use Rattle.command_files.specs.Faults.{IsImageFault, IsReadFault, Name}
+use Rattle.command_files.specs.Held.{Held}
 use Rattle.command_files.specs.declared.fault.Fault.{Fault}
 use Rattle.command_files.specs.declared.fault.Fault.TheVariants.{BadAddress, BadEvent, BytesAfterTrace, CannotMake, CannotRead, CannotWrite, Check, Configuration, Event, Image, Mismatch, NoThread, NothingHappens, OutOfMemory, Text, TooManyRows}
 use Rattle.command_settings.specs.declared.wanted.Explore.{Explore}
-use Rattle.explore_command.specs.Exploring.{IsExploreFault, IsFolderFault, IsNamedBy, LeavesPart}
+use Rattle.explore_command.specs.Exploring.{ComesAfter, HasAllowFile, IsExploreFault, IsFolderFault, IsNamedBy, LeavesPart}
 
 -- ---- files that are read
 
@@ -105,6 +106,60 @@ folder_left explore fault old new part so is = elim (folder_fault explore.script
   | inl at ↦ subst (λ f. LeavesPart f old new part) (sym at.2) is
   | inr at ↦ subst (λ f. LeavesPart f old new part) (sym at) (inr is)
 ]
+
+-- ---- what was done before
+
+module _ (held : Held) (explore : Explore) (printed : Type 0) where
+  pub allow_first : (fault : Fault) → IsNamedBy explore.allow IsReadFault fault → ComesAfter held explore printed fault
+  allow_first (CannotRead file) so = inl (named_read explore explore.allow file refl so)
+  allow_first (Image file error) so = absurd (no_other explore.allow (Image file error) (λ name is. is) so)
+  allow_first (CannotMake file) so = absurd (no_other explore.allow (CannotMake file) (λ name is. is) so)
+  allow_first CannotWrite so = absurd (no_other explore.allow CannotWrite (λ name is. is) so)
+  allow_first (Text file error) so = tt
+  allow_first (Event file line error) so = tt
+  allow_first (NothingHappens file line outcome) so = tt
+  allow_first (BytesAfterTrace file) so = tt
+  allow_first (Check file error) so = tt
+  allow_first (TooManyRows file) so = tt
+  allow_first (BadAddress word) so = tt
+  allow_first NoThread so = tt
+  allow_first Mismatch so = tt
+  allow_first BadEvent so = tt
+  allow_first Configuration so = tt
+  allow_first OutOfMemory so = tt
+
+  pub image_next : (fault : Fault) → HasAllowFile held explore.allow → IsImageFault explore.image fault → ComesAfter held explore printed fault
+  image_next (CannotRead file) read so = inr (so, read)
+  image_next (Image file error) read so = read
+  image_next (CannotMake file) read so = absurd so
+  image_next CannotWrite read so = absurd so
+  image_next (Text file error) read so = tt
+  image_next (Event file line error) read so = tt
+  image_next (NothingHappens file line outcome) read so = tt
+  image_next (BytesAfterTrace file) read so = tt
+  image_next (Check file error) read so = tt
+  image_next (TooManyRows file) read so = tt
+  image_next (BadAddress word) read so = tt
+  image_next NoThread read so = tt
+  image_next Mismatch read so = tt
+  image_next BadEvent read so = tt
+  image_next Configuration read so = tt
+  image_next OutOfMemory read so = tt
+
+  pub text_next : (fault : Fault) → HasAllowFile held explore.allow → (fault ≡ CannotWrite) ⊎ (fault ≡ OutOfMemory) → ComesAfter held explore printed fault
+  text_next fault read is = elim is [
+    | inl at ↦ subst (ComesAfter held explore printed) (sym at) read
+    | inr at ↦ subst (ComesAfter held explore printed) (sym at) tt
+  ]
+
+  pub scripts_next : (fault : Fault) → HasAllowFile held explore.allow → printed → IsNamedBy explore.scripts IsFolderFault fault → ComesAfter held explore printed fault
+  scripts_next fault read all so = elim (folder_fault explore.scripts fault so) [
+    | inl at ↦ subst (ComesAfter held explore printed) (sym at.2) (read, all)
+    | inr at ↦ subst (ComesAfter held explore printed) (sym at) tt
+  ]
+
+  pub memory_last : (fault : Fault) → fault ≡ OutOfMemory → ComesAfter held explore printed fault
+  memory_last fault is = subst (ComesAfter held explore printed) (sym is) tt
 
 -- whatever the fault, nothing was printed or a part
 pub some_part : (old new : Option (List ℕ)) (part : Type 0) (fault : Fault) → LeavesPart fault old new part → (new ≡ old) ⊎ part

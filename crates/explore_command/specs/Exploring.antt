@@ -19,7 +19,9 @@ use Rattle.explorer.specs.Ends.{IsRealIn, outcome_of, outcomes_of}
 use Rattle.explorer.specs.Outcomes.{CanAlwaysEnd, HasEachEnd}
 use Rattle.explorer.specs.Ranks.{outcome_cmp}
 use Rattle.explorer.specs.Stuck.{IsStuckIn}
+use Rattle.explorer.specs.Visited.{AreVisited}
 use Rattle.explorer.specs.declared.exploration.Exploration.{Exploration}
+use Rattle.flat_model.specs.Flat.{Flat}
 use Rattle.flat_model.specs.Shown.{Result}
 use Rattle.machine_model.specs.declared.config.Config.{Config}
 use Rattle.state_search.specs.declared.findings.Extent.TheVariants.{Complete, LimitMet}
@@ -28,7 +30,8 @@ use Rattle.text_fields.specs.Writing.{Begins}
 
 -- ---- what is found
 
--- each end is one, and its script leads there; where it says complete no end is missing, and where nothing is stuck an end can always be reached, and one is told; the ends stand in their order
+-- each end is one, and its script leads there; where it says complete no end is missing, and where nothing is stuck an end can always be reached, and one is told;
+-- the ends stand in their order; there are states, as many as it says, that were found
 pub record IsFoundIn (image : Initial) (config : Config) (limit : ℕ) (found : Exploration) : Type 0 where
   pub real : All (IsRealIn image config) found.outcomes.items
   pub complete : found.extent ≡ Complete → HasEachEnd image config (outcomes_of found.outcomes.items)
@@ -37,6 +40,7 @@ pub record IsFoundIn (image : Initial) (config : Config) (limit : ℕ) (found : 
   pub stuck : IfSome found.stuck (IsStuckIn image config)
   pub order : IsSortedByKey outcome_of outcome_cmp found.outcomes.items
   pub full : found.extent ≡ LimitMet → found.states ≡ limit
+  pub visited : (states : List Flat) × AreVisited image config found states
 
 -- what was found of the image in the file was printed, its scripts are in the folder, if one was named, and it was judged by the file that says what is allowed; it is allowed only where memory sufficed for all states, or for as many as were asked for
 pub record IsExplored (held left : Held) (wanted : Explore) (judgement : Judgement) (old new : Option (List ℕ)) : Type 0 where
@@ -48,6 +52,14 @@ pub record IsExplored (held left : Held) (wanted : Explore) (judgement : Judgeme
   pub kept : IfSome wanted.scripts (λ folder. AreKept left wanted.machine folder.now exploration)
   pub judged : IsJudged held wanted.allow (outcomes_of exploration.outcomes.items) judgement
   pub whole : judgement ≡ Allowed → exploration.extent ≢ extent.OutOfMemory
+
+-- what was found of the image in the file was printed, all of it
+pub record IsPrinted (held : Held) (wanted : Explore) (old new : Option (List ℕ)) : Type 0 where
+  pub image : Initial
+  pub exploration : Exploration
+  pub image_file : HoldsImage held wanted.raw wanted.image.now wanted.machine.memory image
+  pub found : IsFoundIn image (config_named wanted.machine) wanted.states exploration
+  pub whole : Appends old new (exploration_text exploration)
 
 -- such a text was printed, all of it or a beginning
 pub record IsPartlyExplored (held : Held) (wanted : Explore) (old new : Option (List ℕ)) : Type 0 where
@@ -81,7 +93,7 @@ IsNamedBy (Some file) IsOf fault = IsOf file fault
 abbrev pub IsFolderFault : Name → Fault → Type 0
 IsFolderFault folder fault = (fault ≡ CannotMake folder) ⊎ (fault ≡ OutOfMemory)
 
--- the machine's size is judged first, then what is allowed is read, then the image; what is found is printed, and then the scripts are written
+-- which faults there are, and of which file
 abbrev pub IsExploreFault : Explore → Fault → Type 0
 IsExploreFault explore Configuration = IsOutside explore.machine
 IsExploreFault explore (CannotRead file) = (file ≡ explore.image) ⊎ (explore.allow ≡ Some file)
@@ -90,6 +102,18 @@ IsExploreFault explore (CannotMake file) = explore.scripts ≡ Some file
 IsExploreFault explore CannotWrite = Unit {0}
 IsExploreFault explore OutOfMemory = Unit {0}
 IsExploreFault explore _ = ⊥
+
+-- the file that says what is allowed could be read, if one was named
+abbrev pub HasAllowFile : Held → Option Name → Type 0
+HasAllowFile held allow = (text : Option (List ℕ)) × IsAllowFile held allow text
+
+-- what was done before a fault: the image is read behind the file that says what is allowed; behind both the text is printed, and behind all of the text the scripts are written
+abbrev pub ComesAfter : Held → Explore → Type 0 → Fault → Type 0
+ComesAfter held explore printed (CannotRead file) = (explore.allow ≡ Some file) ⊎ ((file ≡ explore.image) × HasAllowFile held explore.allow)
+ComesAfter held explore printed (Image file error) = HasAllowFile held explore.allow
+ComesAfter held explore printed CannotWrite = HasAllowFile held explore.allow
+ComesAfter held explore printed (CannotMake file) = HasAllowFile held explore.allow × printed
+ComesAfter held explore printed _ = Unit {0}
 
 -- what a fault leaves on standard output: a text that may have been begun, where the output or the folder takes no more; or nothing
 abbrev pub LeavesPart : Fault → Option (List ℕ) → Option (List ℕ) → Type 0 → Type 0

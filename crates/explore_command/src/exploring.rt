@@ -5,7 +5,7 @@ ghost use Rattle.std.specs.Io.KnownBytes.{Appends};
 ghost use Rattle.command_files.specs.Faults.{IsReadFault};
 ghost use Rattle.command_files.specs.Sizes.{IsOutside, config_named};
 ghost use Rattle.elf_loader.specs.Size.{IsMemoryKib};
-ghost use Rattle.explore_command.specs.Exploring.{IsAllowFile, IsExploreFault, IsExplored, IsFolderFault, IsNamedBy, IsPartlyExplored, LeavesPart, judgement_on};
+ghost use Rattle.explore_command.specs.Exploring.{ComesAfter, IsAllowFile, IsExploreFault, IsExplored, IsFolderFault, IsNamedBy, IsPartlyExplored, IsPrinted, LeavesPart, judgement_on};
 ghost use Rattle.explore_command.specs.Keeping.{AreKept, IsScriptFile, SparesOthers};
 ghost use Rattle.exploration_text.specs.Text.{exploration_text};
 ghost use Rattle.explorer.specs.Ends.{outcomes_of};
@@ -39,6 +39,8 @@ pub fn explore_files<'a, F: Files, O: Write, E: Write>(
     ensures told { IfErr result (IsExploreFault wanted.entry) }
     ensures unfinished { IfErr result (λ fault. LeavesPart fault (O.contents out.old) (O.contents out.new)
         (IsPartlyExplored (F.held files.old) wanted.entry (O.contents out.old) (O.contents out.new))) }
+    ensures before { IfErr result (ComesAfter (F.held files.old) wanted.entry
+        (IsPrinted (F.held files.old) wanted.entry (O.contents out.old) (O.contents out.new))) }
     ensures spared { SparesOthers (IsScriptFile wanted.entry.scripts) (F.held files.old) (F.held files.new) }
 {
     let Some(config) = named_config(wanted.machine) else {
