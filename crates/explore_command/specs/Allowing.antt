@@ -1,5 +1,5 @@
 -- Which outcomes a file allows.
-use Rattle.std.specs.Prelude.{ℕ, ◌≡◌, ◌==◌, ◌&&◌, ◌||◌, ◌∷◌, [], Bool, List, None, Option, Some, if◌then◌else◌, map, nat_le}
+use Rattle.std.specs.Prelude.{ℕ, ◌≡◌, ◌==◌, ◌-◌, ◌&&◌, ◌||◌, ◌∷◌, [], Bool, List, None, Option, Some, codes, drop, if◌then◌else◌, length, map, nat_le, take}
 use Rattle.std.specs.Borrow.{Bor}
 use Rattle.std.specs.List.{list_all, list_any}
 use Rattle.std.specs.Str.{bytes_eq}
@@ -21,9 +21,29 @@ abbrev pub without_number : List ℕ → List ℕ
 without_number [] = []
 without_number (b ∷ bs) = if is_of_number b then without_number bs else b ∷ bs
 
--- the lines of a text, each without its number and its end
+-- what may stand behind an outcome where a search under a memory model prints it: who comes to it
+abbrev pub sources : List (List ℕ)
+sources = codes "   this machine" ∷ codes "   without a script" ∷ codes "   RVWMO alone" ∷ codes "   Ztso alone" ∷ codes "   RVWMO" ∷ codes "   Ztso" ∷ []
+
+-- the line ends so
+abbrev pub is_ended_by : List ℕ → List ℕ → Bool
+is_ended_by line ending = bytes_eq (drop (length line - length ending) line) ending
+
+-- the line without the first of these endings that it has, if it has one
+abbrev pub without_ending : List (List ℕ) → List ℕ → List ℕ
+without_ending [] line = line
+without_ending (ending ∷ endings) line = if is_ended_by line ending then take (length line - length ending) line else without_ending endings line
+
+abbrev pub without_source : List ℕ → List ℕ
+without_source = without_ending sources
+
+-- the outcome that a line tells: without its number, and without who comes to it
+abbrev pub outcome_in : List ℕ → List ℕ
+outcome_in line = without_source (without_number line)
+
+-- the outcomes that the lines of a text tell
 abbrev pub allowed_lines : List ℕ → List (List ℕ)
-allowed_lines text = map without_number (map without_terminator (lines_of text))
+allowed_lines text = map outcome_in (map without_terminator (lines_of text))
 
 -- one of the lines of the text is this one
 abbrev pub is_allowed_line : List ℕ → List ℕ → Bool

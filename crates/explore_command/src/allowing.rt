@@ -1,7 +1,7 @@
 //! The outcomes that a file allows.
 
 ghost use Rattle.std.specs.Prelude.{◌≡◌, IfOk, List, ℕ};
-ghost use Rattle.explore_command.specs.Allowing.{has_line, is_allowed_line, line_of, without_number};
+ghost use Rattle.explore_command.specs.Allowing.{has_line, is_allowed_line, line_of, outcome_in, without_number, without_source};
 ghost use Rattle.flat_model.specs.Shown.{told};
 
 use bstr::ByteSlice;
@@ -10,7 +10,7 @@ use flat_model::HartResult;
 use indexmap::IndexSet;
 use std::alloc::{AllocError, Global};
 
-/// The lines of a file, without their numbers.
+/// The lines of a file, without their numbers and without who comes to them.
 #[derive(Drop)]
 pub struct Allowed<'a> {
     pub(crate) lines: IndexSet<&'a [u8]>,
@@ -24,7 +24,7 @@ impl<'a> Allowed<'a> {
         let mut lines = IndexSet::new(alloc);
         let mut rest = text.lines();
         while let Some(line) = rest.next() {
-            lines.insert(without_number(line))?;
+            lines.insert(outcome_in(line))?;
         }
         Ok(Allowed { lines })
     }
@@ -41,6 +41,34 @@ impl<'a> Allowed<'a> {
     {
         let line = harts_text(alloc, harts)?;
         Ok(self.has(without_number(&line)))
+    }
+}
+
+/// The outcome that the line tells.
+fn outcome_in<'a>(line: &'a [u8]) -> &'a [u8]
+    ensures { result.now ≡ outcome_in line.now }
+{
+    without_source(without_number(line))
+}
+
+/// The line before the words that say who comes to an outcome, if it ends with them.
+fn without_source<'a>(line: &'a [u8]) -> &'a [u8]
+    ensures { result.now ≡ without_source line.now }
+{
+    if let Some(outcome) = line.strip_suffix(b"   this machine") {
+        outcome
+    } else if let Some(outcome) = line.strip_suffix(b"   without a script") {
+        outcome
+    } else if let Some(outcome) = line.strip_suffix(b"   RVWMO alone") {
+        outcome
+    } else if let Some(outcome) = line.strip_suffix(b"   Ztso alone") {
+        outcome
+    } else if let Some(outcome) = line.strip_suffix(b"   RVWMO") {
+        outcome
+    } else if let Some(outcome) = line.strip_suffix(b"   Ztso") {
+        outcome
+    } else {
+        line
     }
 }
 

@@ -7,7 +7,7 @@ loop-line-init c = λ line. begun _ _ c.args.text.now line c.new-lines.ensures.e
 
 pub loop-line-preserved : goal.loop-line-preserved
 loop-line-preserved c = λ line.
-    one_more c.loop-line.lines.keys c.insert.new.self.keys c.loop-line.rest c.next.new.self _ _ line c.in_ok-insert.ensures.keys c.without_number.ensures c.in-Some.ensures.steps
+    one_more c.loop-line.lines.keys c.insert.new.self.keys c.loop-line.rest c.next.new.self _ _ line c.in_ok-insert.ensures.keys c.outcome_in.ensures c.in-Some.ensures.steps
     ∙ c.loop-line.invariant line
 
 pub returns : goal.returns
