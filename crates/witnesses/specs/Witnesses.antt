@@ -10,7 +10,7 @@ use Rattle.machine_model.specs.Views.{size_of_config}
 use Rattle.memory_model.specs.declared.Model.{Model}
 use Rattle.memory_model.specs.Traces.{IsLegalOrder, IsOrder, are_runs, names_in}
 use Rattle.trace_recorder.specs.History.{History}
-use Rattle.trace_recorder.specs.Limits.{AreWithinLimits}
+use Rattle.trace_recorder.specs.Limits.{AreWithinLimits, IsWithinLimits}
 use Rattle.witnesses.specs.Outcomes.{outcome_of}
 use Rattle.witnesses.specs.declared.witness.Run.{Run}
 use Rattle.witnesses.specs.declared.witness.Witness.{Witness}
@@ -48,10 +48,14 @@ pub record CanBeJudged (image : Initial) (config : Config) (run : Run) : Type 0 
   pub allowed : IsAllowed config.model (history_of image config run)
   pub few : length (names_in (history_of image config run)) ≤ 4096
 
--- an outcome that the model allows: it is read off lists that are runs of the image from reset to their ends, and these have a legal order
+-- an outcome that the model allows: it is read off lists that are runs of the image from reset to their ends, and these have a legal order of at most 4,096 operations; no message is logged
 pub record IsWitness (image : Initial) (config : Config) (witness : Witness) : Type 0 where
   pub image_is : witness.trace.history.image ≡ image
+  pub line_is : witness.trace.history.line ≡ size_of_config config
   pub harts : length witness.trace.history.entries ≡ config.harts
+  pub limits : IsWithinLimits witness.trace.history
+  pub few : length (names_in witness.trace.history) ≤ 4096
+  pub no_log : witness.trace.history.log ≡ []
   pub ended : list_all has_ended witness.trace.history.statuses ≡ true
   pub allowed : IsAllowed config.model witness.trace.history
   pub outcome : told witness.harts.items ≡ outcome_of witness.trace.history
