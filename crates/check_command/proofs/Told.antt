@@ -1,9 +1,19 @@
 -- Which faults a check hands up.
-use Rattle.std.proofs.Common.{◌≡◌}
-use Rattle.command_files.specs.Held.{Held}
+use Rattle.std.proofs.Common.{◌≡◌, ◌≢◌, ◌∙◌, ◌≤◌, ◌⊎◌, ◌↔◌, ℕ, List, Some, inl, inr, length, refl, subst, sym, take}
+use Rattle.std.proofs.lemmas.List.{take_all}
+use Rattle.command_files.specs.Held.{Held, HoldsBytes}
 use Rattle.command_files.specs.Status.{status_of}
 use Rattle.command_files.specs.Faults.{IsReadFault, Name}
 use Rattle.check_command.specs.Checking.{IsCheckFault}
+use Rattle.check_command.specs.Messages.{IsLogFault}
+use Rattle.command_files.specs.Files.{HoldsTrace}
+use Rattle.memory_model.specs.Traces.{completed}
+use Rattle.rvwmo_order.specs.Answers.{refusal}
+use Rattle.rvwmo_order.specs.declared.error.CheckError.{CheckError}
+use Rattle.rvwmo_order.specs.declared.error.CheckError.TheVariants.{NoMemory}
+use Rattle.trace_recorder.specs.History.{History}
+use Rattle.trace_text.specs.TraceLimits.{IsTrace}
+use Rattle.trace_text.specs.Traces.{text}
 use Rattle.command_files.specs.declared.fault.Fault.{Fault}
 use Rattle.command_files.specs.declared.fault.Fault.TheVariants.{BadAddress, BadEvent, BytesAfterTrace, CannotMake, CannotRead, CannotWrite, Check, Configuration, Event, Image, Mismatch, NoThread, NothingHappens, OutOfMemory, Text, TooManyRows}
 
@@ -42,3 +52,57 @@ check_never_misused held name NoThread so two = cc
 check_never_misused held name Mismatch so two = cc
 check_never_misused held name BadEvent so two = cc
 check_never_misused held name Configuration so two = so
+
+pub of_log : (name : Name) (fault : Fault) → IsReadFault name fault → IsLogFault name fault
+of_log name (CannotRead file) is = is
+of_log name OutOfMemory is = tt
+of_log name (Image file error) is = absurd is
+of_log name (Text file error) is = absurd is
+of_log name (CannotMake file) is = absurd is
+of_log name CannotWrite is = absurd is
+of_log name (Event file line error) is = absurd is
+of_log name (BytesAfterTrace file) is = absurd is
+of_log name (NothingHappens file line outcome) is = absurd is
+of_log name (Check file error) is = absurd is
+of_log name (TooManyRows file) is = absurd is
+of_log name (BadAddress word) is = absurd is
+of_log name NoThread is = absurd is
+of_log name Mismatch is = absurd is
+of_log name BadEvent is = absurd is
+of_log name Configuration is = absurd is
+
+pub log_never_misused : (name : Name) (fault : Fault) → IsLogFault name fault → status_of fault ≡ 2 → ⊥
+log_never_misused name (CannotRead file) so two = cc
+log_never_misused name OutOfMemory so two = cc
+log_never_misused name (Image file error) so two = cc
+log_never_misused name (Text file error) so two = cc
+log_never_misused name (CannotMake file) so two = cc
+log_never_misused name CannotWrite so two = cc
+log_never_misused name (Event file line error) so two = cc
+log_never_misused name (BytesAfterTrace file) so two = cc
+log_never_misused name (NothingHappens file line outcome) so two = cc
+log_never_misused name (Check file error) so two = cc
+log_never_misused name (TooManyRows file) so two = cc
+log_never_misused name (BadAddress word) so two = so
+log_never_misused name NoThread so two = cc
+log_never_misused name Mismatch so two = cc
+log_never_misused name BadEvent so two = cc
+log_never_misused name Configuration so two = so
+
+-- all of the file is the text of the trace that was read
+pub trace_held : (held : Held) (name bytes whole : List ℕ) (t : History) (n : ℕ) → HoldsBytes held name bytes → whole ≡ bytes → IsTrace t × (take n whole ≡ text t) → length whole ≤ n
+    → HoldsTrace held name t
+trace_held held name bytes whole t n same is found past = record {
+  is_trace = found.0;
+  bytes = subst (HoldsBytes held name) (sym is ∙ (sym (take_all n whole past) ∙ found.1)) same;
+}
+
+-- an order that isn't judged is refused for a cause that the check tells, or memory ran out
+pub of_refusal : (held : Held) (name : Name) (trace : History) (error : CheckError) (fault : Fault) → HoldsTrace held name.now trace
+    → (error ≢ NoMemory → refusal trace (completed trace) ≡ Some error) → (fault ≡ Check name error) ⊎ (fault ≡ OutOfMemory) → (fault ≡ OutOfMemory) ↔ (error ≡ NoMemory)
+    → IsCheckFault held name fault
+of_refusal held name trace error fault file refused told memory = elim told [
+  | inl check ↦ subst (IsCheckFault held name) (sym check)
+      (refl, record { trace = trace; file = file; refused = refused (λ none. let bad : Check name error ≡ OutOfMemory = sym check ∙ memory.1 none in cc) })
+  | inr none ↦ subst (IsCheckFault held name) (sym none) tt
+]

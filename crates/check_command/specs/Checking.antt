@@ -3,17 +3,18 @@ use Rattle.command_files.specs.Files.{HoldsTrace}
 use Rattle.command_files.specs.Held.{Held}
 use Rattle.command_files.specs.declared.fault.Fault.TheVariants.{BytesAfterTrace, CannotRead, CannotWrite, Check, OutOfMemory, Text}
 use Rattle.command_files.specs.declared.fault.Fault.{Fault}
-use Rattle.command_files.specs.Faults.{HasTrace, Name}
+use Rattle.command_files.specs.Faults.{Name}
 use Rattle.memory_model.specs.Traces.{IsLegalOrder, completed}
 use Rattle.memory_model.specs.Verdict.{fault_in}
 use Rattle.memory_model.specs.declared.Model.{Model}
 use Rattle.rvwmo_order.specs.Answers.{fault_told, refusal}
 use Rattle.rvwmo_order.specs.Codes.{code_number}
+use Rattle.rvwmo_order.specs.declared.error.CheckError.{CheckError}
 use Rattle.rvwmo_order.specs.declared.verdict.Verdict.TheVariants.{Legal, Fault as AtFault}
 use Rattle.rvwmo_order.specs.declared.verdict.Verdict.{Verdict}
 use Rattle.std.specs.Fmt.{decimal}
 use Rattle.std.specs.Io.KnownBytes.{Appends}
-use Rattle.std.specs.Prelude.{◌≡◌, ◌↔◌, ℕ, List, ◌++◌, None, Option, codes}
+use Rattle.std.specs.Prelude.{◌≡◌, ◌↔◌, ℕ, List, ◌++◌, None, Option, Some, codes}
 use Rattle.text_fields.specs.Writing.{Begins}
 use Rattle.trace_recorder.specs.History.{History}
 use Rattle.trace_recorder.specs.declared.operation.OpId.{OpId}
@@ -48,12 +49,18 @@ pub record IsVerdictCutOff (held : Held) (name : List ℕ) (model : Model) (old 
   pub judged : IsVerdict model trace verdict
   pub begun : Begins old new (verdict_text verdict)
 
+-- the order of the trace in the file is refused for this cause
+pub record IsUnjudged (held : Held) (name : List ℕ) (error : CheckError) : Type 0 where
+  pub trace : History
+  pub file : HoldsTrace held name trace
+  pub refused : refusal trace (completed trace) ≡ Some error
+
 -- the trace is read first, then its end, then its order is judged
 abbrev pub IsCheckFault : Held → Name → Fault → Type 0
 IsCheckFault held name (CannotRead file) = file ≡ name
 IsCheckFault held name (Text file error) = file ≡ name
 IsCheckFault held name (BytesAfterTrace file) = file ≡ name
-IsCheckFault held name (Check file error) = (file ≡ name) × HasTrace held name.now
+IsCheckFault held name (Check file error) = (file ≡ name) × IsUnjudged held name.now error
 IsCheckFault held name CannotWrite = Unit {0}
 IsCheckFault held name OutOfMemory = Unit {0}
 IsCheckFault held name _ = ⊥

@@ -1,7 +1,10 @@
 -- What a check of messages has done.
 use Rattle.std.specs.Io.KnownBytes.{Appends}
 use Rattle.std.specs.Prelude.{◌≡◌, ◌↔◌, ℕ, IfSome, List, Option}
+use Rattle.command_files.specs.Faults.{Name}
 use Rattle.command_files.specs.Held.{Held}
+use Rattle.command_files.specs.declared.fault.Fault.TheVariants.{BytesAfterTrace, CannotRead, CannotWrite, OutOfMemory, Text}
+use Rattle.command_files.specs.declared.fault.Fault.{Fault}
 use Rattle.lawful_log.specs.Laws.{IfUnlawful, IsFirstBreach}
 use Rattle.lawful_log.specs.declared.rule.LogVerdict.{LogVerdict}
 use Rattle.lawful_log.specs.declared.rule.LogVerdict.TheVariants.{Lawful}
@@ -38,3 +41,12 @@ pub record IsLogCutOff (held : Held) (name : List ℕ) (old new : Option (List �
   pub file : HoldsLog held name trace
   pub judged : IsLogVerdict trace.log verdict
   pub begun : Begins old new (verdict_text verdict)
+
+-- the file can't be read, what it holds is no trace, or it goes on behind the trace: a log is lawful or not, and isn't refused
+abbrev pub IsLogFault : Name → Fault → Type 0
+IsLogFault name (CannotRead file) = file ≡ name
+IsLogFault name (Text file error) = file ≡ name
+IsLogFault name (BytesAfterTrace file) = file ≡ name
+IsLogFault name CannotWrite = Unit {0}
+IsLogFault name OutOfMemory = Unit {0}
+IsLogFault name _ = ⊥

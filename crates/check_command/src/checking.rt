@@ -1,6 +1,8 @@
 //! `rvtl check`: the order of a trace's memory operations is judged, and the verdict printed.
 
-ghost use Rattle.std.specs.Prelude.{◌≡◌, IfErr, IfOk};
+ghost use Rattle.std.specs.Prelude.{◌≡◌, ◌≢◌, IfErr, IfOk};
+ghost use Rattle.memory_model.specs.Traces as traces;
+ghost use Rattle.rvwmo_order.specs.Answers.{refusal};
 ghost use Rattle.text_fields.specs.Writing.{Writes};
 ghost use Rattle.check_command.specs.Checking.{IsJudged, IsVerdict, IsVerdictCutOff, verdict_text};
 ghost use Rattle.check_command.specs.Checking.{IsCheckFault};
@@ -72,7 +74,8 @@ pub fn check_file<'a, F: Files, O: Write>(
 }
 
 fn judged(alloc: Global, trace: &Trace, model: Model) -> Result<Verdict, CheckError>
-    ensures { IfOk result (IsVerdict model trace.now.history) }
+    ensures judged { IfOk result (IsVerdict model trace.now.history) }
+    ensures refused { IfErr result (λ error. error ≢ CheckError.NoMemory → refusal trace.now.history (traces.completed trace.now.history) ≡ Some error) }
 {
     if has_too_many(trace) {
         // An order of so many isn't looked at.

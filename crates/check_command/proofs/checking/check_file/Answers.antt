@@ -1,6 +1,6 @@
-use Rattle.std.proofs.Common.{refl}
+use Rattle.std.proofs.Common.{arith, refl}
 use Rattle.command_files.proofs.Left.{handed_up, left, read_is_not_write}
-use Rattle.check_command.proofs.Told.{of_trace}
+use Rattle.check_command.proofs.Told.{of_refusal, of_trace, trace_held}
 use Rattle.check_command.proofs.checking.check_file.Goals as goal
 
 pub returns-in_err-bytes-clause-unfinished : goal.returns-in_err-bytes-clause-unfinished
@@ -9,3 +9,9 @@ returns-in_err-bytes-clause-unfinished g c =
 
 pub returns-in_err-bytes-clause-told : goal.returns-in_err-bytes-clause-told
 returns-in_err-bytes-clause-told g c = handed_up _ c.from_residual.result _ c.from_residual.ensures.1 (of_trace _ c.args.file _ c.in_err-bytes.ensures.fault)
+
+pub returns-in-Err-judged-clause-told : goal.returns-in-Err-judged-clause-told
+returns-in-Err-judged-clause-told g c = of_refusal _ c.args.file c.in-Ok.read.0.history c.in-Err-judged.error c.check.result
+    (trace_held (g.F.Files.held c.args.files.now) c.args.file.now c.in_ok-bytes.bytes.items c.as_slice.result.now c.in-Ok.read.0.history c.in-Ok.read.1
+    c.in_ok-bytes.ensures.bytes c.as_slice.ensures.value c.in-Ok.ensures.found (omega arith))
+    c.in-Err-judged.ensures.refused c.check.ensures.told c.check.ensures.memory

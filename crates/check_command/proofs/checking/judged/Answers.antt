@@ -1,4 +1,4 @@
-use Rattle.std.proofs.Common.{◌≡◌, ◌∙◌, ◌↔◌, Bool, Err, IfOk, List, None, Ok, Option, Result, Some, [], ap, false, if◌then◌else◌, length, nat_lt, subst, sym, true}
+use Rattle.std.proofs.Common.{◌≡◌, ◌∙◌, ◌↔◌, ◌≢◌, Bool, Err, IfErr, IfOk, List, None, Ok, Option, Result, Some, [], ap, false, if◌then◌else◌, length, nat_lt, refl, subst, sym, true}
 use Rattle.std.specs.Prelude.{IsErrOf}
 use Rattle.check_command.specs.Checking.{IsVerdict}
 use Rattle.memory_model.specs.Traces.{IsLegalOrder, are_runs, completed, names_in}
@@ -33,11 +33,35 @@ verdict_on (Ok v) model t order is refused legal first = record {
 }
 verdict_on (Err e) model t order is refused legal first = tt
 
-pub returns-then-has_too_many : goal.returns-then-has_too_many
-returns-then-has_too_many c =
+-- an order of so many is refused whatever stands in it
+alike : (t : History) (order other : List OpId) → nat_lt 4096 (length (names_in t)) ≡ true → refusal t order ≡ refusal t other
+alike t order other many = go (are_runs t) (nat_lt 4096 (length (names_in t))) _ _ many
+  where
+    go : (runs long : Bool) (rest more : Option CheckError) → long ≡ true
+        → (if runs then (if long then Some TooLong else rest) else Some NotARun) ≡ (if runs then (if long then Some TooLong else more) else Some NotARun)
+    go false long rest more is = refl
+    go true true rest more is = refl
+    go true false rest more is = cc
+
+refused_on : (r : Result Verdict CheckError) (t : History) (order : List OpId) → refusal t order ≡ refusal t (completed t)
+    → (¬ IsErrOf r NoMemory → refusal_of r ≡ refusal t order) → IfErr r (λ error. error ≢ NoMemory → refusal t (completed t) ≡ Some error)
+refused_on (Ok v) t order same refused = tt
+refused_on (Err e) t order same refused = λ other. sym (refused (λ is. other (cc)) ∙ same)
+
+pub returns-then-has_too_many-clause-judged : goal.returns-then-has_too_many-clause-judged
+returns-then-has_too_many-clause-judged c =
     too_long c.check_model.result c.args.model c.args.trace.now.history [] (sym c.has_too_many.ensures ∙ c.if-has_too_many.true) c.check_model.ensures.refused
 
-pub returns : goal.returns
-returns c =
+pub returns-then-has_too_many-clause-refused : goal.returns-then-has_too_many-clause-refused
+returns-then-has_too_many-clause-refused c =
+    refused_on c.check_model.result c.args.trace.now.history [] (alike c.args.trace.now.history [] _ (sym c.has_too_many.ensures ∙ c.if-has_too_many.true)) c.check_model.ensures.refused
+
+pub returns-clause-judged : goal.returns-clause-judged
+returns-clause-judged c =
     verdict_on c.check_model-2.result c.args.model c.args.trace.now.history c.as_slice.result.now
     (c.as_slice.ensures.value ∙ c.in_ok-order.ensures) c.check_model-2.ensures.refused c.check_model-2.ensures.legal c.check_model-2.ensures.first
+
+pub returns-clause-refused : goal.returns-clause-refused
+returns-clause-refused c =
+    refused_on c.check_model-2.result c.args.trace.now.history c.as_slice.result.now
+    (ap (refusal c.args.trace.now.history) (c.as_slice.ensures.value ∙ c.in_ok-order.ensures)) c.check_model-2.ensures.refused
