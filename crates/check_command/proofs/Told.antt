@@ -3,7 +3,7 @@ use Rattle.std.proofs.Common.{◌≡◌, ◌≢◌, ◌∙◌, ◌≤◌, ◌⊎
 use Rattle.std.proofs.lemmas.List.{take_all}
 use Rattle.command_files.specs.Held.{Held, HoldsBytes}
 use Rattle.command_files.specs.Status.{status_of}
-use Rattle.command_files.specs.Faults.{IsReadFault, Name}
+use Rattle.command_files.specs.Faults.{IsTextFault, Name}
 use Rattle.check_command.specs.Checking.{IsCheckFault}
 use Rattle.check_command.specs.Messages.{IsLogFault}
 use Rattle.command_files.specs.Files.{HoldsTrace}
@@ -17,11 +17,11 @@ use Rattle.trace_text.specs.Traces.{text}
 use Rattle.command_files.specs.declared.fault.Fault.{Fault}
 use Rattle.command_files.specs.declared.fault.Fault.TheVariants.{BadAddress, BadEvent, BytesAfterTrace, CannotMake, CannotRead, CannotWrite, Check, Configuration, Event, Image, Mismatch, NoThread, NothingHappens, OutOfMemory, Text, TooManyRows}
 
-pub of_trace : (held : Held) (name : Name) (fault : Fault) → IsReadFault name fault → IsCheckFault held name fault
+pub of_trace : (held : Held) (name : Name) (fault : Fault) → IsTextFault held name fault → IsCheckFault held name fault
 of_trace held name (CannotRead file) is = is
 of_trace held name OutOfMemory is = tt
 of_trace held name (Image file error) is = absurd is
-of_trace held name (Text file error) is = absurd is
+of_trace held name (Text file error) is = is.0
 of_trace held name (CannotMake file) is = absurd is
 of_trace held name CannotWrite is = absurd is
 of_trace held name (Event file line error) is = absurd is
@@ -53,23 +53,23 @@ check_never_misused held name Mismatch so two = cc
 check_never_misused held name BadEvent so two = cc
 check_never_misused held name Configuration so two = so
 
-pub of_log : (name : Name) (fault : Fault) → IsReadFault name fault → IsLogFault name fault
-of_log name (CannotRead file) is = is
-of_log name OutOfMemory is = tt
-of_log name (Image file error) is = absurd is
-of_log name (Text file error) is = absurd is
-of_log name (CannotMake file) is = absurd is
-of_log name CannotWrite is = absurd is
-of_log name (Event file line error) is = absurd is
-of_log name (BytesAfterTrace file) is = absurd is
-of_log name (NothingHappens file line outcome) is = absurd is
-of_log name (Check file error) is = absurd is
-of_log name (TooManyRows file) is = absurd is
-of_log name (BadAddress word) is = absurd is
-of_log name NoThread is = absurd is
-of_log name Mismatch is = absurd is
-of_log name BadEvent is = absurd is
-of_log name Configuration is = absurd is
+pub of_log : (held : Held) (name : Name) (fault : Fault) → IsTextFault held name fault → IsLogFault name fault
+of_log held name (CannotRead file) is = is
+of_log held name OutOfMemory is = tt
+of_log held name (Image file error) is = absurd is
+of_log held name (Text file error) is = is.0
+of_log held name (CannotMake file) is = absurd is
+of_log held name CannotWrite is = absurd is
+of_log held name (Event file line error) is = absurd is
+of_log held name (BytesAfterTrace file) is = absurd is
+of_log held name (NothingHappens file line outcome) is = absurd is
+of_log held name (Check file error) is = absurd is
+of_log held name (TooManyRows file) is = absurd is
+of_log held name (BadAddress word) is = absurd is
+of_log held name NoThread is = absurd is
+of_log held name Mismatch is = absurd is
+of_log held name BadEvent is = absurd is
+of_log held name Configuration is = absurd is
 
 pub log_never_misused : (name : Name) (fault : Fault) → IsLogFault name fault → status_of fault ≡ 2 → ⊥
 log_never_misused name (CannotRead file) so two = cc
@@ -106,3 +106,6 @@ of_refusal held name trace error fault file refused told memory = elim told [
       (refl, record { trace = trace; file = file; refused = refused (λ none. let bad : Check name error ≡ OutOfMemory = sym check ∙ memory.1 none in cc) })
   | inr none ↦ subst (IsCheckFault held name) (sym none) tt
 ]
+
+pub text_is_not_write : (held : Held) (name : Name) (fault : Fault) → IsTextFault held name fault → fault ≡ CannotWrite → ⊥
+text_is_not_write held name fault is at = subst (IsTextFault held name) at is

@@ -1,15 +1,15 @@
 use Rattle.std.proofs.Common.{◌∙◌, arith, refl}
-use Rattle.command_files.proofs.Left.{handed_up, left, read_is_not_write, spoiled}
+use Rattle.command_files.proofs.Left.{handed_up, left, spoiled}
 use Rattle.check_command.proofs.Logs.{log_held, verdict_on}
-use Rattle.check_command.proofs.Told.{of_log}
+use Rattle.check_command.proofs.Told.{of_log, text_is_not_write}
 use Rattle.check_command.proofs.messages.check_messages.Goals as goal
 
 pub returns-in_err-bytes-clause-unfinished : goal.returns-in_err-bytes-clause-unfinished
 returns-in_err-bytes-clause-unfinished g c =
-    handed_up _ c.from_residual.result _ c.from_residual.ensures.1 (left _ _ _ _ (read_is_not_write _ _ c.in_err-bytes.ensures.fault) refl)
+    handed_up _ c.from_residual.result _ c.from_residual.ensures.1 (left _ _ _ _ (text_is_not_write _ _ _ c.in_err-bytes.ensures.fault) refl)
 
 pub returns-in_err-bytes-clause-told : goal.returns-in_err-bytes-clause-told
-returns-in_err-bytes-clause-told g c = handed_up _ c.from_residual.result _ c.from_residual.ensures.1 (of_log c.args.file _ c.in_err-bytes.ensures.fault)
+returns-in_err-bytes-clause-told g c = handed_up _ c.from_residual.result _ c.from_residual.ensures.1 (of_log _ c.args.file _ c.in_err-bytes.ensures.fault)
 
 pub returns-in-Err-print-clause-unfinished : goal.returns-in-Err-print-clause-unfinished
 returns-in-Err-print-clause-unfinished g c = spoiled _ _ _ c.writing.result c.writing.ensures.told (record {
