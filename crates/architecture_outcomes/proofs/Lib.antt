@@ -1,3 +1,4 @@
 mod NeverEnds
+mod Once
 mod Pieces
 mod Together

@@ -1,5 +1,6 @@
 -- What shows that a memory model allows an outcome, and when none of the machine's is missing.
-use Rattle.std.specs.Prelude.{◌≡◌, true, Bool, List, None, Option, Some, Contains, if◌then◌else◌, map}
+use Rattle.std.specs.Prelude.{◌≡◌, ◌+◌, ◌≤◌, true, Bool, List, None, Option, Some, Contains, if◌then◌else◌, map}
+use Rattle.std.specs.List.{count_by}
 use Rattle.std.specs.Ordering.{is_eq}
 use Rattle.architecture_outcomes.specs.declared.outcome.Outcome.{Outcome}
 use Rattle.architecture_outcomes.specs.declared.outcome.Way.{Way}
@@ -51,6 +52,14 @@ of_witness is_complete w = record { harts = w.harts; way = if is_complete then M
 -- the harts end so
 abbrev pub is_end : List Result → Found → Bool
 is_end outcome f = is_eq (outcome_cmp (found_outcome f) outcome)
+
+-- it is this outcome
+abbrev pub tells : List Result → Outcome → Bool
+tells outcome o = is_eq (outcome_cmp (outcome_of o) outcome)
+
+-- no outcome is told twice by what was found of the machine and these
+abbrev pub TellOnce : List Found → List Outcome → Type 0
+TellOnce found outcomes = (outcome : List Result) → count_by (is_end outcome) found + count_by (tells outcome) outcomes ≤ 1
 
 -- the outcome, where it is told as the machine's
 abbrev pub end_by : List Result → Way → Option (List Result)

@@ -1,9 +1,12 @@
 //! What a memory model allows beyond what the machine comes to.
-ghost use Rattle.std.specs.Prelude.{◌≡◌, All, IfOk, IsTrue};
+ghost use Rattle.std.specs.Prelude.{◌≡◌, ◌||◌, All, IfOk, IsTrue};
 ghost use Rattle.std.specs.List.{list_any};
-ghost use Rattle.architecture_outcomes.specs.Outcomes.{IsShown, is_end};
-ghost use Rattle.explorer.specs.Ends.{outcomes_of};
+ghost use Rattle.std.specs.List.Sorted.{IsStrictlySortedBy};
+ghost use Rattle.std.specs.Ordering.{on};
+ghost use Rattle.architecture_outcomes.specs.Outcomes.{IsShown, TellOnce, is_end, tells};
+ghost use Rattle.explorer.specs.Ends.{outcome_of, outcomes_of};
 ghost use Rattle.explorer.specs.Outcomes.{HasEachEnd};
+ghost use Rattle.explorer.specs.Ranks.{outcome_cmp};
 ghost use Rattle.flat_model.specs.Shown.{told};
 ghost use Rattle.machine_model.specs.Config.{is_within_limits};
 ghost use Rattle.witnesses.specs.Witnesses.{IsWitness};
@@ -45,7 +48,24 @@ fn is_found(found: &[Found], harts: &[HartResult]) -> bool
     found.iter().any(|end| compare(&end.harts, harts).is_eq())
 }
 
-/// The outcomes of the witnesses to which the machine doesn't come. Where its own search isn't complete it may yet.
+/// Whether this outcome is told.
+fn is_told(outcomes: &[Outcome], harts: &[HartResult]) -> bool
+    ensures { result ≡ list_any (tells (told harts.now)) outcomes.now }
+{
+    outcomes
+        .iter()
+        .any(|outcome| compare(&outcome.harts, harts).is_eq())
+}
+
+/// Whether the machine comes to this outcome, or it is told.
+fn is_known(found: &[Found], outcomes: &[Outcome], harts: &[HartResult]) -> bool
+    ensures { result ≡ (list_any (is_end (told harts.now)) found.now || list_any (tells (told harts.now)) outcomes.now) }
+{
+    is_found(found, harts) || is_told(outcomes, harts)
+}
+
+/// The outcomes of the witnesses to which the machine doesn't come, each once. Where its own search isn't complete it
+/// may yet.
 pub(crate) fn beyond(
     alloc: Global,
     image: &Image,
@@ -56,12 +76,14 @@ pub(crate) fn beyond(
 ) -> Result<Vec<Outcome>, AllocError>
     requires witnessed { All (IsWitness image.now config) witnesses.items }
     requires complete { IsTrue is_complete → HasEachEnd image.now config (outcomes_of found.now) }
-    ensures { IfOk result (λ outcomes. All (IsShown image.now config) outcomes.items) }
+    requires once { IsStrictlySortedBy (on outcome_of outcome_cmp) found.now }
+    ensures shown { IfOk result (λ outcomes. All (IsShown image.now config) outcomes.items) }
+    ensures once { IfOk result (λ outcomes. TellOnce found.now outcomes.items) }
 {
     let mut outcomes = Vec::new(alloc);
     let mut left = witnesses;
     while let Some(witness) = left.pop() {
-        if !is_found(found, &witness.harts) {
+        if !is_known(found, &outcomes, &witness.harts) {
             outcomes.push(Outcome::beyond(witness, is_complete))?;
         }
     }

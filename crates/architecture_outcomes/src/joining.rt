@@ -1,6 +1,7 @@
 //! The outcomes of the machine and those of the memory model, joined.
 ghost use Rattle.std.specs.Prelude.{◌≡◌, ◌<◌, ◌++◌, All, IfOk, IsTrue, OnOk, map};
-ghost use Rattle.std.specs.List.Sorted.{IsSortedByKey};
+ghost use Rattle.std.specs.List.Sorted.{IsStrictlySortedBy};
+ghost use Rattle.std.specs.Ordering.{on};
 ghost use Rattle.architecture_outcomes.specs.Outcomes.{IsShown, TellsEachEnd, of_found, outcome_of};
 ghost use Rattle.explorer.specs.Ranks.{outcome_cmp};
 ghost use Rattle.machine_model.specs.Config.{is_within_limits};
@@ -35,7 +36,10 @@ pub fn explore_architecture(
     // Where the machine's own search is complete, each of its outcomes is told as one of the machine.
     ensures machine { IfOk result (λ a. a.machine ≡ Extent.Complete → TellsEachEnd image.now config a.outcomes.items) }
 
-    ensures order { IfOk result (λ a. IsSortedByKey outcome_of outcome_cmp a.outcomes.items) }
+    // No outcome is told twice.
+    ensures order { IfOk result (λ a. IsStrictlySortedBy (on outcome_of outcome_cmp) a.outcomes.items) }
+
+    ensures full { IfOk result (λ a. a.machine ≡ Extent.LimitMet → a.machine_states ≡ limit) }
     ensures model { IfOk result (λ a. a.model ≡ config.model) }
     ensures window { IfOk result (λ a. a.window ≡ window) }
 {

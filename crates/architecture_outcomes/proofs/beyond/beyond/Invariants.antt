@@ -1,5 +1,5 @@
 use Rattle.std.proofs.Common.{All, length}
-use Rattle.architecture_outcomes.specs.Outcomes.{IsShown}
+use Rattle.architecture_outcomes.specs.Outcomes.{IsShown, TellOnce}
 use Rattle.witnesses.specs.Witnesses.{IsWitness}
 use Rattle.architecture_outcomes.proofs.beyond.beyond.Given as goal
 
@@ -7,6 +7,7 @@ abbrev pub invariant-loop-witness : goal.invariant-loop-witness
 invariant-loop-witness l = record {
   left : All (IsWitness l.image l.fn.config) l.left.items;
   shown : All (IsShown l.image l.fn.config) l.outcomes.items;
+  once : TellOnce l.found l.outcomes.items;
 }
 
 abbrev pub decreases-loop-witness : goal.decreases-loop-witness
