@@ -93,3 +93,23 @@ returns-clause-spared g c = elim c.match-settings.branch [
   | in-Ok+in-Err w ↦ rw (w.files-is) (λ name changed. (w.in-Ok.wanted, w.in-Ok.ensures.named, w.in-Ok.ensures.fitting, w.in-Err.ensures.spared name changed))
   | in-Err-NoMemory w ↦ rw (w.files-is) (λ name other. absurd (other refl))
 ]
+
+-- words that fit are carried out, and others are told of with status 2
+pub returns-in-Ok-Allowed-clause-unfit : goal.returns-in-Ok-Allowed-clause-unfit
+returns-in-Ok-Allowed-clause-unfit g c = λ unfit no_help. absurd (unfit c.in-Ok.ensures.fitting)
+
+pub returns-in-Ok-NotAllowed-clause-unfit : goal.returns-in-Ok-NotAllowed-clause-unfit
+returns-in-Ok-NotAllowed-clause-unfit g c = λ unfit no_help. absurd (unfit c.in-Ok.ensures.fitting)
+
+pub returns-in-Err-Usage-clause-unfit : goal.returns-in-Err-Usage-clause-unfit
+returns-in-Err-Usage-clause-unfit g c = λ unfit no_help. elim (rw c.in-Err-Usage.field-0-is at c.explain.ensures.help) [
+  | inl two ↦ inl two
+  | inr asks ↦ absurd (no_help (told_of _ c.in-Err-Usage.field-0 c.in-Err-Usage.usage IsHelp c.in-Err-Usage.field-0-is c.in-Err-Usage.ensures.refused asks))
+]
+
+pub returns-clause-unfit : goal.returns-clause-unfit
+returns-clause-unfit g c = λ unfit no_help. elim c.match-settings.branch [
+  | in-Ok+in-Err w ↦ absurd (unfit w.in-Ok.ensures.fitting)
+  | in-Err-NoMemory w ↦
+      let four : c.status.result ≡ 4 = rw w.fault-is at c.status.ensures in inr four
+]
