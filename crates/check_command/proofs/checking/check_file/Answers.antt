@@ -5,10 +5,10 @@ use Rattle.check_command.proofs.checking.check_file.Goals as goal
 
 pub returns-in_err-bytes-clause-unfinished : goal.returns-in_err-bytes-clause-unfinished
 returns-in_err-bytes-clause-unfinished g c =
-    handed_up _ c.from_residual.result _ c.from_residual.ensures.1 (left _ _ _ _ (text_is_not_write _ _ _ c.in_err-bytes.ensures.fault) refl)
+    handed_up _ c.from_residual.result _ c.from_residual.ensures.1 (left _ _ _ _ (text_is_not_write (g.F.Files.held c.args.files.now) _ _ c.in_err-bytes.ensures.fault) refl)
 
 pub returns-in_err-bytes-clause-told : goal.returns-in_err-bytes-clause-told
-returns-in_err-bytes-clause-told g c = handed_up _ c.from_residual.result _ c.from_residual.ensures.1 (of_trace _ c.args.file _ c.in_err-bytes.ensures.fault)
+returns-in_err-bytes-clause-told g c = handed_up _ c.from_residual.result _ c.from_residual.ensures.1 (of_trace (g.F.Files.held c.args.files.now) c.args.file _ c.in_err-bytes.ensures.fault)
 
 pub returns-in-Err-judged-clause-told : goal.returns-in-Err-judged-clause-told
 returns-in-Err-judged-clause-told g c = of_refusal _ c.args.file c.in-Ok.read.0.history c.in-Err-judged.error c.check.result
