@@ -28,7 +28,13 @@ FLAT = [
     ("explorer", "Outcomes", "HasEachEnd"),
     ("explorer", "Outcomes", "CanAlwaysEnd"),
     ("explorer", "Outcomes", "IsFlatEnd"),
+    ("explorer", "Ends", "IsRealIn"),
+    ("explorer", "Stuck", "IsStuckIn"),
+    ("explorer", "Visited", "AreVisited"),
     ("sampler", "Sampled", "AreCounted"),
+    ("witnesses", "Witnesses", "IsWitness"),
+    ("architecture_outcomes", "Outcomes", "IsShown"),
+    ("architecture_outcomes", "Outcomes", "TellsEachEnd"),
 ]
 
 NAME = r"[A-Za-z_][\w']*(?:-[\w'≤≡]+)*"
