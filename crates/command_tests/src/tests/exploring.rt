@@ -239,6 +239,39 @@ fn what_the_model_allows(rt: HostRuntime) -> Result<(), Fail> {
     Ok(())
 }
 
+/// Who comes to an outcome may stand behind it.
+#[test]
+fn a_line_is_allowed_as_printed(rt: HostRuntime) -> Result<(), Fail> {
+    let image = image_of(rt.alloc(), &texts::EXIT)?;
+    for (allowed, status) in [
+        ("1  hart 0: exit 5   this machine\n", 0),
+        ("hart 0: exit 5   without a script", 0),
+        ("hart 0: exit 5   RVWMO alone\r\n", 0),
+        ("hart 0: exit 5   Ztso alone\n", 0),
+        ("hart 0: exit 5   RVWMO\n", 0),
+        ("hart 0: exit 5   Ztso\n", 0),
+        ("hart 0: exit 5   another machine\n", 3),
+        ("hart 0: exit 5  Ztso\n", 3),
+    ] {
+        let files = [
+            File::whole("image", &image),
+            File::whole("allowed", allowed.as_bytes()),
+        ];
+        let words = [
+            "rvtl",
+            "explore",
+            "--raw",
+            "--architecture",
+            "--allow",
+            "allowed",
+            "image",
+        ];
+        let ran = line(&rt, &words, &files);
+        assert_eq!(rt; ran.status, status, "{allowed}");
+    }
+    Ok(())
+}
+
 /// The program's name and a version.
 #[test]
 fn the_version_is_told(rt: HostRuntime) {
