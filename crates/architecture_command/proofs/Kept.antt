@@ -1,20 +1,23 @@
 -- Files that were written stay where further ones are written.
-use Rattle.std.proofs.Common.{◌≡◌, ◌≢◌, ◌∙◌, ◌⊎◌, ◌+◌, ◌^◌, ◌<◌, ◌≤◌, ◌-◌, ℕ, Bool, List, [], ◌∷◌, ◌++◌, IfSome, Option, drop, get_or, take, true, false, ap, arith, codes, decimal, fold, inl, inr, length, refl, subst, sym}
+use Rattle.std.proofs.Common.{◌≡◌, ◌≢◌, All, ◌∙◌, ◌⊎◌, ◌+◌, ◌^◌, ◌<◌, ◌≤◌, ◌-◌, ℕ, Bool, List, [], ◌∷◌, ◌++◌, IfSome, Option, drop, get_or, take, true, false, ap, arith, codes, decimal, fold, inl, inr, length, refl, subst, sym}
 use Rattle.std.specs.Str.{bytes_eq}
 use Rattle.std.proofs.lemmas.Fmt.{decimal_injective}
 use Rattle.std.proofs.lemmas.List.{append_cancel_left, append_cancel_right, append_assoc, append-nil, drop_more, length-append, length-drop, take-append-drop}
+use Rattle.std.proofs.lemmas.List.Elements.{All-head, All-tail}
 use Rattle.std.proofs.lemmas.List.Sums.{fold-append}
 use Rattle.std.proofs.lemmas.Slice.Eq.{bytes_eq-Decides}
 use Rattle.architecture_command.specs.Keeping.{AreKept, IsFileIn, IsKeptAt, file_path, trace_path}
 use Rattle.architecture_outcomes.specs.declared.outcome.Outcome.{Outcome}
 use Rattle.architecture_outcomes.specs.declared.outcome.Way.{Way}
 use Rattle.architecture_outcomes.specs.declared.outcome.Way.TheVariants.{Machine, Model, ModelAlone}
-use Rattle.command_files.specs.Files.{HoldsScript}
+use Rattle.command_files.specs.Files.{HoldsScript, HoldsTrace}
 use Rattle.command_files.specs.Held.{Held, HoldsBytes}
 use Rattle.command_settings.specs.declared.wanted.MachineOptions.{MachineOptions}
 use Rattle.explore_command.specs.Keeping.{Name, SparesOthers, outcome_path}
 use Rattle.explorer.specs.declared.found.Script.TheVariants.{Events, Limit, NoMemory, Unrealised}
+use Rattle.trace_recorder.specs.History.{History}
 use Rattle.trace_text.specs.Scripts.{text}
+use Rattle.trace_text.specs.Traces.{text as trace_of}
 use Rattle.trace_text.specs.declared.script.Script.{Script as Text}
 
 -- ---- paths
@@ -61,13 +64,16 @@ module _ (before after : Held) (machine : MachineOptions) (folder path : Name) (
   script_stays : (name : Name) (script : Text) → after name ≡ before name → HoldsScript before name script → HoldsScript after name script
   script_stays name script same held = record { is_script = held.is_script; bytes = bytes_stay name (text script) same held.bytes }
 
+  trace_stays : (name : Name) (trace : History) → after name ≡ before name → HoldsTrace before name trace → HoldsTrace after name trace
+  trace_stays name trace same held = record { is_trace = held.is_trace; bytes = bytes_stay name (trace_of trace) same held.bytes }
+
   kept_at : (name : Name) (way : Way) → name ≢ path → IsKeptAt before machine name way → IsKeptAt after machine name way
   kept_at name (Machine (Events events)) another kept = script_stays name _ (others name another) kept
   kept_at name (Machine NoMemory) another kept = kept
   kept_at name (Machine Limit) another kept = kept
   kept_at name (Machine Unrealised) another kept = kept
-  kept_at name (ModelAlone trace) another kept = bytes_stay name _ (others name another) kept
-  kept_at name (Model trace) another kept = bytes_stay name _ (others name another) kept
+  kept_at name (ModelAlone trace) another kept = trace_stays name _ (others name another) kept
+  kept_at name (Model trace) another kept = trace_stays name _ (others name another) kept
 
   kept_from : (number : ℕ) (outcomes : List Outcome) → ((n : ℕ) (w : Way) → number ≤ n → n < number + length outcomes → path ≢ file_path folder n w) → AreKept before machine folder number outcomes
       → AreKept after machine folder number outcomes
@@ -130,6 +136,17 @@ one_more held before after machine folder path left front all last small left_is
       );
       spared = spares_one held before after machine folder path (length left) last.way path_is others has.spared;
     }
+
+-- what is known of all is known of the last that is left
+pub last_of_left : (P : Outcome → Type 0) (left front done all : List Outcome) (last : Outcome) → left ++ done ≡ all → left ≡ front ++ last ∷ [] → All P all → P last
+last_of_left P left front done all last whole left_is every =
+    let parts : all ≡ front ++ (last ∷ [] ++ done) = sym whole ∙ (ap (λ (xs : List Outcome). xs ++ done) left_is ∙ append_assoc front (last ∷ []) done) in
+    let at : All P (front ++ (last ∷ done)) = subst (All P) parts every in
+    go front at
+  where
+    go : (xs : List Outcome) → All P (xs ++ last ∷ done) → P last
+    go [] held = All-head P last done held
+    go (x ∷ xs) held = go xs (All-tail P x (xs ++ last ∷ done) held)
 
 -- ---- the last of a list
 

@@ -1,5 +1,5 @@
 -- What is known of a search, and what it leaves.
-use Rattle.std.proofs.Common.{◌≡◌, ℕ, IfSome, List, Option, subst}
+use Rattle.std.proofs.Common.{◌≡◌, ◌≢◌, ℕ, IfSome, List, Option, subst}
 use Rattle.std.specs.Io.KnownBytes.{Appends}
 use Rattle.architecture_command.specs.Keeping.{AreKept}
 use Rattle.architecture_command.specs.Searching.{IsFoundUnder, IsPartlySearched, IsSearched}
@@ -13,23 +13,27 @@ use Rattle.command_settings.specs.declared.wanted.Explore.{Explore}
 use Rattle.elf_loader.specs.Image.{Initial}
 use Rattle.explore_command.specs.Allowing.{IsJudged}
 use Rattle.explore_command.specs.declared.judging.Judgement.{Judgement}
+use Rattle.explore_command.specs.declared.judging.Judgement.TheVariants.{Allowed}
 use Rattle.machine_model.specs.declared.config.Config.{Config}
+use Rattle.state_search.specs.declared.findings.Extent.TheVariants as extent
 use Rattle.text_fields.specs.Writing.{Begins}
+use Rattle.window_machine.specs.declared.allowed.Reach.TheVariants as reach
 
 module _ (held first : Held) (wanted : Explore) (window : ℕ) (config : Config) (image : Initial) (found : Architecture) (old new : Option (List ℕ))
-    (config_is : config ≡ config_named wanted.machine) (same : first ≡ held) (file : HoldsImage first wanted.raw wanted.image.now wanted.machine.memory image) (is : IsFoundUnder image config window found) where
+    (config_is : config ≡ config_named wanted.machine) (same : first ≡ held) (file : HoldsImage first wanted.raw wanted.image.now wanted.machine.memory image) (is : IsFoundUnder image config window wanted.states found) where
   image_file : HoldsImage held wanted.raw wanted.image.now wanted.machine.memory image
   image_file = subst (λ (h : Held). HoldsImage h wanted.raw wanted.image.now wanted.machine.memory image) same file
 
-  is_found : IsFoundUnder image (config_named wanted.machine) window found
-  is_found = subst (λ (c : Config). IsFoundUnder image c window found) config_is is
+  is_found : IsFoundUnder image (config_named wanted.machine) window wanted.states found
+  is_found = subst (λ (c : Config). IsFoundUnder image c window wanted.states found) config_is is
 
   pub part : Begins old new (architecture_text found) → IsPartlySearched held wanted window old new
   part begun = record { image = image; architecture = found; image_file = image_file; found = is_found; begun = begun }
 
   pub whole : (left : Held) (judgement : Judgement) → Appends old new (architecture_text found) → IfSome wanted.scripts (λ folder. AreKept left wanted.machine folder.now 1 found.outcomes.items)
-      → IsJudged held wanted.allow (outcomes_of found.outcomes.items) judgement → IsSearched held left wanted window judgement old new
-  whole left judgement printed kept by = record {
+      → IsJudged held wanted.allow (outcomes_of found.outcomes.items) judgement
+      → (judgement ≡ Allowed → (found.machine ≢ extent.OutOfMemory) × (found.reach ≢ reach.OutOfMemory)) → IsSearched held left wanted window judgement old new
+  whole left judgement printed kept by memory = record {
     image = image;
     architecture = found;
     image_file = image_file;
@@ -37,4 +41,5 @@ module _ (held first : Held) (wanted : Explore) (window : ℕ) (config : Config)
     printed = printed;
     kept = kept;
     judged = by;
+    whole = memory;
   }

@@ -4,13 +4,13 @@ use Rattle.std.specs.Borrow.{Bor}
 use Rattle.architecture_outcomes.specs.declared.outcome.Outcome.{Outcome}
 use Rattle.architecture_outcomes.specs.declared.outcome.Way.{Way}
 use Rattle.architecture_outcomes.specs.declared.outcome.Way.TheVariants.{Machine, Model, ModelAlone}
-use Rattle.command_files.specs.Files.{HoldsScript}
-use Rattle.command_files.specs.Held.{Held, HoldsBytes}
+use Rattle.command_files.specs.Files.{HoldsScript, HoldsTrace}
+use Rattle.command_files.specs.Held.{Held}
 use Rattle.command_files.specs.Sizes.{script_named}
 use Rattle.command_settings.specs.declared.wanted.MachineOptions.{MachineOptions}
 use Rattle.explore_command.specs.Keeping.{Name, outcome_path}
 use Rattle.explorer.specs.declared.found.Script.TheVariants.{Events, Limit, NoMemory, Unrealised}
-use Rattle.trace_text.specs.Traces.{text}
+use Rattle.trace_text.specs.TraceLimits.{IsTrace}
 
 -- FOLDER/outcome-NUMBER.trace
 abbrev pub trace_path : Name → ℕ → Name
@@ -22,14 +22,20 @@ file_path folder number (Machine script) = outcome_path folder number
 file_path folder number (ModelAlone trace) = trace_path folder number
 file_path folder number (Model trace) = trace_path folder number
 
--- the file has the script of these events, for the machine that was named, or the text of the lists and the order
+-- the file has the script of these events, for the machine that was named, or the trace of the lists and the order
 abbrev pub IsKeptAt : Held → MachineOptions → Name → Way → Type 0
 IsKeptAt left machine path (Machine (Events events)) = HoldsScript left path (script_named machine events.items)
 IsKeptAt left machine path (Machine NoMemory) = ⊥
 IsKeptAt left machine path (Machine Limit) = ⊥
 IsKeptAt left machine path (Machine Unrealised) = ⊥
-IsKeptAt left machine path (ModelAlone trace) = HoldsBytes left path (text trace.history)
-IsKeptAt left machine path (Model trace) = HoldsBytes left path (text trace.history)
+IsKeptAt left machine path (ModelAlone trace) = HoldsTrace left path trace.history
+IsKeptAt left machine path (Model trace) = HoldsTrace left path trace.history
+
+-- its trace, where it is told by one, is within the limits of a trace's text
+abbrev pub HasText : Way → Type 0
+HasText (Machine script) = Unit {0}
+HasText (ModelAlone trace) = IsTrace trace.history
+HasText (Model trace) = IsTrace trace.history
 
 -- what shows each outcome, counted from a number on
 abbrev pub AreKept : Held → MachineOptions → Name → ℕ → List Outcome → Type 0

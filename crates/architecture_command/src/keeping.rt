@@ -1,15 +1,15 @@
 //! What shows the outcomes, as files of a folder: the machine's scripts, and traces of what only the memory model allows.
 
-ghost use Rattle.std.specs.Prelude.{◌≡◌, ◌≢◌, IfErr, IfOk, List, OnOk, true, ℕ};
+ghost use Rattle.std.specs.Prelude.{◌≡◌, ◌≢◌, All, IfErr, IfOk, List, OnOk, true, ℕ};
 ghost use Rattle.std.specs.String.{string_bytes};
-ghost use Rattle.architecture_command.specs.Keeping.{AreKept, IsFileIn, IsKeptAt, file_path};
-ghost use Rattle.command_files.specs.Held.{HoldsBytes};
+ghost use Rattle.architecture_command.specs.Keeping.{AreKept, HasText, IsFileIn, IsKeptAt, file_path};
+ghost use Rattle.command_files.specs.Files.{HoldsTrace};
 ghost use Rattle.command_files.specs.Sizes.{config_named};
 ghost use Rattle.elf_loader.specs.Size.{IsMemoryKib};
 ghost use Rattle.explore_command.specs.Exploring.{IsFolderFault};
 ghost use Rattle.explore_command.specs.Keeping.{SparesOthers};
 ghost use Rattle.machine_model.specs.Config.{is_within_limits};
-ghost use Rattle.trace_text.specs.Traces.{text};
+ghost use Rattle.trace_text.specs.TraceLimits.{IsTrace};
 
 use architecture_outcomes::{Outcome, Way};
 use command_files::{Fault, Files};
@@ -27,6 +27,7 @@ pub(crate) fn keep_outcomes<'a, F: Files>(
 ) -> Result<(), Fault<'a>>
     requires within { is_within_limits (config_named folder.machine) ≡ true }
     requires memory { IsMemoryKib folder.machine.memory }
+    requires readable { All (λ o. HasText o.way) outcomes.now }
     ensures kept { OnOk result (AreKept (F.held files.new) folder.entry.machine folder.entry.name.now 1 outcomes.now) }
     ensures told { IfErr result (IsFolderFault folder.entry.name) }
     ensures spared { SparesOthers (IsFileIn folder.entry.name.now) (F.held files.old) (F.held files.new) }
@@ -64,6 +65,7 @@ fn keep_at<'a, F: Files>(
 ) -> Result<(), Fault<'a>>
     requires within { is_within_limits (config_named folder.machine) ≡ true }
     requires memory { IsMemoryKib folder.machine.memory }
+    requires readable { HasText way.now }
     ensures kept { OnOk result (IsKeptAt (F.held files.new) folder.entry.machine path.now way.now) }
     ensures told { IfErr result (IsFolderFault folder.entry.name) }
     ensures others { (other : List ℕ) → other ≢ path.now → F.held files.new other ≡ F.held files.old other }
@@ -84,7 +86,8 @@ fn put_trace<'a, F: Files>(
     path: &str,
     trace: &Trace,
 ) -> Result<(), Fault<'a>>
-    ensures kept { OnOk result (HoldsBytes (F.held files.new) path.now (text trace.now.history)) }
+    requires { IsTrace trace.now.history }
+    ensures kept { OnOk result (HoldsTrace (F.held files.new) path.now trace.now.history) }
     ensures told { IfErr result (IsFolderFault folder.entry.name) }
     ensures others { (other : List ℕ) → other ≢ path.now → F.held files.new other ≡ F.held files.old other }
 {

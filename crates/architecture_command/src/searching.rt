@@ -1,8 +1,8 @@
 //! `rvtl explore --architecture`: what a memory model allows a program is sought, told, kept and judged.
 
-ghost use Rattle.std.specs.Prelude.{◌≡◌, ◌<◌, ◌⊎◌, Err, IfErr, IfOk, IfSome, OnErr, OnOk, option_map, true};
+ghost use Rattle.std.specs.Prelude.{◌≡◌, ◌≢◌, ◌<◌, ◌⊎◌, All, Err, IfErr, IfOk, IfSome, OnErr, OnOk, false, option_map, true};
 ghost use Rattle.std.specs.Io.KnownBytes.{Appends};
-ghost use Rattle.architecture_command.specs.Keeping.{AreKept, IsFileOf};
+ghost use Rattle.architecture_command.specs.Keeping.{AreKept, HasText, IsFileOf};
 ghost use Rattle.architecture_command.specs.Searching.{IsPartlySearched, IsSearched};
 ghost use Rattle.architecture_outcomes.specs.Outcomes.{outcomes_of};
 ghost use Rattle.architecture_outcomes.specs.Text.{architecture_text};
@@ -59,6 +59,8 @@ pub fn architecture_files<'a, F: Files, O: Write, E: Write>(
     let Ok(found) = explore_architecture(alloc, &image, config, window, wanted.states) else {
         return Err(Fault::OutOfMemory);
     };
+    // Called for its clause that the bytes are an image's.
+    let _entry = image.entry();
     print(alloc, &found, out)?;
     keep(alloc, files, wanted, &found)?;
     judge(alloc, &allowed, &found, err)
@@ -90,6 +92,7 @@ fn keep<'a, F: Files>(
 ) -> Result<(), Fault<'a>>
     requires within { is_within_limits (config_named wanted.machine) ≡ true }
     requires memory { IsMemoryKib wanted.machine.memory }
+    requires readable { All (λ o. HasText o.way) found.now.outcomes.items }
     ensures kept { OnOk result (IfSome wanted.entry.scripts (λ folder. AreKept (F.held files.new) wanted.entry.machine folder.now 1 found.now.outcomes.items)) }
     ensures told { IfErr result (IsNamedBy wanted.entry.scripts IsFolderFault) }
     ensures spared { SparesOthers (IsFileOf wanted.entry.scripts) (F.held files.old) (F.held files.new) }
@@ -106,7 +109,9 @@ fn keep<'a, F: Files>(
 }
 
 /// Whether memory ended in one of the searches.
-fn ran_out(found: &Architecture) -> bool {
+fn ran_out(found: &Architecture) -> bool
+    ensures { result ≡ false → (found.now.machine ≢ Extent.OutOfMemory) × (found.now.reach ≢ Reach.OutOfMemory) }
+{
     found.machine == Extent::OutOfMemory || found.reach == Reach::OutOfMemory
 }
 
@@ -118,6 +123,7 @@ fn judge<'a, E: Write>(
     err: &mut E,
 ) -> Result<Judgement, Fault<'a>>
     ensures judged { IfOk result (λ judgement. judgement ≡ judgement_on (option_map (λ bytes. bytes.items) allowed.now) (outcomes_of found.now.outcomes.items)) }
+    ensures whole { IfOk result (λ judgement. judgement ≡ Judgement.Allowed → (found.now.machine ≢ Extent.OutOfMemory) × (found.now.reach ≢ Reach.OutOfMemory)) }
     ensures told { IfErr result (λ fault. fault ≡ Fault.OutOfMemory) }
 {
     if let Some(text) = allowed {

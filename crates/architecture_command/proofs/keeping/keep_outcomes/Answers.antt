@@ -1,5 +1,6 @@
 use Rattle.std.proofs.Common.{◌∙◌, ◌<◌, ◌^◌, length, rules}
-use Rattle.architecture_command.proofs.Kept.{last_is, none_kept, one_more, spares_one}
+use Rattle.architecture_command.specs.Keeping.{HasText}
+use Rattle.architecture_command.proofs.Kept.{last_is, last_of_left, none_kept, one_more, spares_one}
 use Rattle.architecture_command.proofs.keeping.keep_outcomes.Goals as goal
 
 pub loop-rest-init : goal.loop-rest-init
@@ -17,3 +18,8 @@ loop-rest-preserved g c =
     c.loop-rest.rest.now _ c.args.outcomes.now c.last-item.result small
     (last_is c.loop-rest.rest.now c.last-item.result _ c.in-len1-up.len_at_least c.last-item.is)
     (c.deref.ensures ∙ c.in-Ok.ensures) c.keep_at.ensures.others c.in_ok-keep_at.ensures.kept c.loop-rest.invariant
+
+pub keep_at-requires-clause-readable : goal.keep_at-requires-clause-readable
+keep_at-requires-clause-readable g c =
+    last_of_left (λ o. HasText o.way) c.loop-rest.rest.now _ c.loop-rest.invariant.done c.args.outcomes.now c.last-item.result c.loop-rest.invariant.whole
+    (last_is c.loop-rest.rest.now c.last-item.result _ c.in-len1-up.len_at_least c.last-item.is) c.requires.readable

@@ -1,7 +1,8 @@
 use Rattle.std.proofs.Common.{◌≡◌, ◌∙◌, inl, inr, refl, subst, true}
 use Rattle.command_files.proofs.Left.{handed_up}
+use Rattle.architecture_command.proofs.Readable.{each_has_text}
 use Rattle.architecture_command.proofs.Searched.{part, whole}
-use Rattle.explore_command.proofs.Explored.{all_of, err_more, judged, memory_left, memory_told, ok_more, spared, spared_after}
+use Rattle.explore_command.proofs.Explored.{all_of, err_more, judged, memory_left, memory_told, ok_both, ok_more, spared, spared_after}
 use Rattle.explore_command.proofs.Faults.{first_left, first_told, folder_left, folder_told, output_left, output_told}
 use Rattle.machine_model.specs.Config.{is_within_limits}
 use Rattle.machine_model.specs.declared.config.Config.{Config}
@@ -28,6 +29,9 @@ returns-in_err-image-clause-spared g c = spared _ _ _ (c.image_in.ensures.stays 
 pub keep-requires-clause-within : goal.keep-requires-clause-within
 keep-requires-clause-within g c = subst (λ (k : Config). is_within_limits k ≡ true) c.in-Some.ensures.config.0 c.in-Some.ensures.config.1
 
+pub keep-requires-clause-readable : goal.keep-requires-clause-readable
+keep-requires-clause-readable g c = each_has_text c.in_ok-image.image c.in-Some.config c.entry-entry.ensures.image c.in-Some.ensures.config.1 c.in-Ok.found.outcomes.items c.in-Ok.ensures.shown
+
 pub returns-in_err-print-clause-told : goal.returns-in_err-print-clause-told
 returns-in_err-print-clause-told g c = handed_up _ c.from_residual-in_err-print.result _ c.from_residual-in_err-print.ensures.1 (output_told c.args.wanted _ c.in_err-print.ensures.told)
 
@@ -37,7 +41,7 @@ returns-in_err-print-clause-unfinished g c =
     handed_up _ c.from_residual-in_err-print.result _ c.from_residual-in_err-print.ensures.1
     (output_left _ _ _ _ c.in_err-print.ensures.told
     (part (g.F.Files.held c.args.files.now) (g.F.Files.held c.allow_file.new.files) c.args.wanted c.args.window c.in-Some.config c.in_ok-image.image c.in-Ok.found _ _ c.in-Some.ensures.config.0 c.in_ok-allowed.ensures.stays c.in_ok-image.ensures.image
-    (record { shown = found.shown; machine = found.machine; order = found.order; model = found.model; window_is = found.window })
+    (record { shown = found.shown; machine = found.machine; order = found.order; full = found.full; model = found.model; window_is = found.window })
     c.in_err-print.ensures.begun))
 
 pub returns-in_err-print-clause-spared : goal.returns-in_err-print-clause-spared
@@ -52,7 +56,7 @@ returns-in_err-keep-clause-unfinished g c =
     handed_up _ c.from_residual-in_err-keep.result _ c.from_residual-in_err-keep.ensures.1
     (folder_left c.args.wanted _ _ _ _ c.in_err-keep.ensures.told
     (part (g.F.Files.held c.args.files.now) (g.F.Files.held c.allow_file.new.files) c.args.wanted c.args.window c.in-Some.config c.in_ok-image.image c.in-Ok.found _ _ c.in-Some.ensures.config.0 c.in_ok-allowed.ensures.stays c.in_ok-image.ensures.image
-    (record { shown = found.shown; machine = found.machine; order = found.order; model = found.model; window_is = found.window })
+    (record { shown = found.shown; machine = found.machine; order = found.order; full = found.full; model = found.model; window_is = found.window })
     (all_of _ _ _ c.in_ok-print.ensures.printed)))
 
 pub returns-in_err-keep-clause-spared : goal.returns-in_err-keep-clause-spared
@@ -64,9 +68,9 @@ returns-clause-searched g c =
     ok_more _ _ c.judge.result
     (λ judgement is.
     whole (g.F.Files.held c.args.files.now) (g.F.Files.held c.allow_file.new.files) c.args.wanted c.args.window c.in-Some.config c.in_ok-image.image c.in-Ok.found _ _ c.in-Some.ensures.config.0 c.in_ok-allowed.ensures.stays c.in_ok-image.ensures.image
-    (record { shown = found.shown; machine = found.machine; order = found.order; model = found.model; window_is = found.window })
-    (g.F.Files.held c.keep.new.files) judgement c.in_ok-print.ensures.printed c.in_ok-keep.ensures.kept (judged _ c.args.wanted.allow _ _ judgement c.in_ok-allowed.ensures.read is))
-    c.judge.ensures.judged
+    (record { shown = found.shown; machine = found.machine; order = found.order; full = found.full; model = found.model; window_is = found.window })
+    (g.F.Files.held c.keep.new.files) judgement c.in_ok-print.ensures.printed c.in_ok-keep.ensures.kept (judged _ c.args.wanted.allow _ _ judgement c.in_ok-allowed.ensures.read is.0) is.1)
+    (ok_both _ _ c.judge.result c.judge.ensures.judged c.judge.ensures.whole)
 
 pub returns-clause-told : goal.returns-clause-told
 returns-clause-told g c = err_more _ _ c.judge.result (λ fault is. memory_told c.args.wanted fault is) c.judge.ensures.told
@@ -78,7 +82,7 @@ returns-clause-unfinished g c =
     (λ fault is.
     memory_left fault _ _ _ is
     (part (g.F.Files.held c.args.files.now) (g.F.Files.held c.allow_file.new.files) c.args.wanted c.args.window c.in-Some.config c.in_ok-image.image c.in-Ok.found _ _ c.in-Some.ensures.config.0 c.in_ok-allowed.ensures.stays c.in_ok-image.ensures.image
-    (record { shown = found.shown; machine = found.machine; order = found.order; model = found.model; window_is = found.window })
+    (record { shown = found.shown; machine = found.machine; order = found.order; full = found.full; model = found.model; window_is = found.window })
     (all_of _ _ _ c.in_ok-print.ensures.printed)))
     c.judge.ensures.told
 
