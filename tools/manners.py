@@ -56,7 +56,7 @@ def progress(rvtl, folder):
         file.write(AMOS)
     journal = os.path.join(folder, "j")
     near, far = pty.openpty()
-    words = [rvtl, "run", "--raw", "--harts", "8", "--limit", "100000000", "--journal", journal, amos]
+    words = [rvtl, "run", "--raw", "--harts", "8", "--limit", "2000000", "--journal", journal, amos]
     child = subprocess.Popen(words, stdout=subprocess.DEVNULL, stderr=far)
     os.close(far)
     shown = b""
