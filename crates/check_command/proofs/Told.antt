@@ -2,7 +2,6 @@
 use Rattle.std.proofs.Common.{◌≡◌, ◌≢◌, ◌∙◌, ◌≤◌, ◌⊎◌, ◌↔◌, ℕ, List, Some, inl, inr, length, refl, subst, sym, take}
 use Rattle.std.proofs.lemmas.List.{take_all}
 use Rattle.command_files.specs.Held.{Held, HoldsBytes}
-use Rattle.command_files.specs.Status.{status_of}
 use Rattle.command_files.specs.Faults.{IsTextFault, Name}
 use Rattle.check_command.specs.Checking.{IsCheckFault}
 use Rattle.check_command.specs.Messages.{IsLogFault}
@@ -35,24 +34,6 @@ of_trace held name Mismatch is = absurd is
 of_trace held name BadEvent is = absurd is
 of_trace held name Configuration is = absurd is
 
-pub check_never_misused : (held : Held) (name : Name) (fault : Fault) → IsCheckFault held name fault → status_of fault ≡ 2 → ⊥
-check_never_misused held name CannotWrite so two = cc
-check_never_misused held name OutOfMemory so two = cc
-check_never_misused held name (CannotRead file) so two = cc
-check_never_misused held name (CannotMake file) so two = cc
-check_never_misused held name (Image file error) so two = cc
-check_never_misused held name (Text file error) so two = cc
-check_never_misused held name (Event file line error) so two = cc
-check_never_misused held name (BytesAfterTrace file) so two = cc
-check_never_misused held name (NothingHappens file line outcome) so two = cc
-check_never_misused held name (Check file error) so two = cc
-check_never_misused held name (TooManyRows file) so two = cc
-check_never_misused held name (BadAddress word) so two = so
-check_never_misused held name NoThread so two = cc
-check_never_misused held name Mismatch so two = cc
-check_never_misused held name BadEvent so two = cc
-check_never_misused held name Configuration so two = so
-
 pub of_log : (held : Held) (name : Name) (fault : Fault) → IsTextFault held name fault → IsLogFault name fault
 of_log held name (CannotRead file) is = is
 of_log held name OutOfMemory is = tt
@@ -70,24 +51,6 @@ of_log held name NoThread is = absurd is
 of_log held name Mismatch is = absurd is
 of_log held name BadEvent is = absurd is
 of_log held name Configuration is = absurd is
-
-pub log_never_misused : (name : Name) (fault : Fault) → IsLogFault name fault → status_of fault ≡ 2 → ⊥
-log_never_misused name (CannotRead file) so two = cc
-log_never_misused name OutOfMemory so two = cc
-log_never_misused name (Image file error) so two = cc
-log_never_misused name (Text file error) so two = cc
-log_never_misused name (CannotMake file) so two = cc
-log_never_misused name CannotWrite so two = cc
-log_never_misused name (Event file line error) so two = cc
-log_never_misused name (BytesAfterTrace file) so two = cc
-log_never_misused name (NothingHappens file line outcome) so two = cc
-log_never_misused name (Check file error) so two = cc
-log_never_misused name (TooManyRows file) so two = cc
-log_never_misused name (BadAddress word) so two = so
-log_never_misused name NoThread so two = cc
-log_never_misused name Mismatch so two = cc
-log_never_misused name BadEvent so two = cc
-log_never_misused name Configuration so two = so
 
 -- all of the file is the text of the trace that was read
 pub trace_held : (held : Held) (name bytes whole : List ℕ) (t : History) (n : ℕ) → HoldsBytes held name bytes → whole ≡ bytes → IsTrace t × (take n whole ≡ text t) → length whole ≤ n
