@@ -1,0 +1,7 @@
+pub mod Entries
+pub mod Lookups
+pub mod Named
+pub mod Order
+pub mod Seen
+pub mod Symbols
+pub mod Tables

@@ -1,0 +1,144 @@
+//! One name of an address.
+ghost use Rattle.std.specs.Prelude.{◌≡◌, ◌==◌, ◌<◌, ◌≤◌, IfOk, IfSome, length, take, drop, position};
+ghost use Rattle.std.specs.Char.{is_ascii_graphic};
+ghost use Rattle.std.specs.List.{list_all};
+ghost use Rattle.std.specs.Option.{option_copied};
+ghost use Rattle.elf_symbols.specs.Entries as entries;
+
+use crate::section::{half, long};
+use std::alloc::{AllocError, Global};
+use std::marker::Model;
+
+/// The longest name that is read, in bytes.
+const LONGEST: usize = 64;
+
+/// How many bytes an entry of a symbol table has.
+pub const ENTRY_SIZE: usize = 16;
+
+const ST_NAME: usize = 0;
+
+const ST_VALUE: usize = 4;
+
+const ST_INFO: usize = 12;
+
+const ST_SHNDX: usize = 14;
+
+/// A function.
+const STT_FUNC: u8 = 2;
+
+/// Not defined in the file.
+const SHN_UNDEF: u16 = 0;
+
+/// From here on an index of a section is no section's.
+const SHN_LORESERVE: u16 = 0xff00;
+
+/// An address and its name.
+#[derive(Debug, Drop)]
+pub struct Symbol {
+    address: u32,
+    name: Vec<u8>,
+}
+
+impl Model for Symbol {
+    ghost use Rattle.std.specs.Prelude.{◌≤◌, length};
+    ghost use Rattle.elf_symbols.specs.Named.{Named};
+
+    ghost Value = { Named };
+
+    ghost view = { λ symbol. record { address = symbol.address; name = symbol.name.items } };
+
+    ghost invariant = { λ symbol. length symbol.name.items ≤ 64 };
+}
+
+/// Whether each byte is a printable character of ASCII, and no space.
+fn is_graphic(name: &[u8]) -> bool
+    ensures { result ≡ list_all is_ascii_graphic name.now }
+{
+    name.iter().all(|byte| byte.is_ascii_graphic())
+}
+
+/// Whether a name can be told: one or more printable characters, and no mapping symbol's.
+fn is_told(name: &[u8]) -> bool
+    ensures { result ≡ entries.is_told name.now }
+{
+    !name.is_empty() && name[0] != b'$' && is_graphic(name)
+}
+
+/// The bytes from this place on.
+fn behind(bytes: &[u8], at: usize) -> &[u8]
+    ensures { result.now ≡ drop at bytes.now }
+{
+    if at < bytes.len() { &bytes[at..] } else { &[] }
+}
+
+/// The first bytes, at most so many.
+fn front(bytes: &[u8], count: usize) -> &[u8]
+    ensures { result.now ≡ take count bytes.now }
+{
+    if count < bytes.len() {
+        &bytes[..count]
+    } else {
+        bytes
+    }
+}
+
+/// Where the first zero stands.
+fn zero_among(bytes: &[u8]) -> Option<usize>
+    ensures value { result ≡ position (λ b. b == 0) bytes.now }
+    ensures inside { IfSome result (λ place. place < length bytes.now) }
+{
+    bytes.iter().position(|byte| *byte == 0)
+}
+
+/// The name that begins at this place of a string table, where it can be told.
+fn name_at(strings: &[u8], at: usize) -> Option<&[u8]>
+    ensures name { option_copied result ≡ entries.name_at strings.now at }
+    ensures short { IfSome result (λ name. length name.now ≤ 64) }
+{
+    let rest = behind(strings, at);
+    let length = zero_among(front(rest, LONGEST + 1))?;
+    let name = front(rest, length);
+    if is_told(name) { Some(name) } else { None }
+}
+
+/// Whether an entry is a function's, an object's or an untyped label's that lies in a section.
+fn is_place(entry: &[u8]) -> bool
+    requires { length entry.now ≡ 16 }
+    ensures { result ≡ entries.is_place entry.now }
+{
+    let section = half(entry, ST_SHNDX);
+    entry[ST_INFO] % 16 <= STT_FUNC && section != SHN_UNDEF && section < SHN_LORESERVE
+}
+
+impl Symbol {
+    pub fn address(&self) -> u32
+        ensures { result ≡ self.now.address }
+    {
+        self.address
+    }
+
+    pub fn name(&self) -> &[u8]
+        ensures name { result.now ≡ self.now.name }
+        ensures short { length result.now ≤ 64 }
+    {
+        &self.name
+    }
+
+    /// What an entry of a symbol table names, by the strings that its names are in.
+    pub fn read(alloc: Global, entry: &[u8], strings: &[u8]) -> Result<Option<Symbol>, AllocError>
+        requires { length entry.now ≡ 16 }
+        ensures { IfOk result (λ symbol. symbol ≡ entries.symbol_in entry.now strings.now) }
+    {
+        if !is_place(entry) {
+            return Ok(None);
+        }
+        let Some(name) = name_at(strings, long(entry, ST_NAME) as usize) else {
+            return Ok(None);
+        };
+        let name = name.to_vec(alloc)?;
+        Ok(Some(Symbol {
+            address: long(entry, ST_VALUE),
+            name,
+        }))
+    }
+}
