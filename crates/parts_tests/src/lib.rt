@@ -13,6 +13,8 @@ mod memory;
 #[cfg(test)]
 mod messages;
 #[cfg(test)]
+mod names;
+#[cfg(test)]
 mod notes;
 #[cfg(test)]
 mod reserving;
