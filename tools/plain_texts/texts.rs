@@ -10,7 +10,7 @@ const BASE: u32 = 0x8000_0000;
 
 // ---- what the texts say
 
-enum Event {
+pub enum Event {
     Step(u8),
     Drain(u8, u32),
     Evict(u8, u32),
@@ -18,13 +18,13 @@ enum Event {
     Local(u8, u32),
 }
 
-struct Script {
-    harts: u32,
-    kib: u32,
-    sets: u32,
-    ways: u32,
-    line: u32,
-    events: Vec<Event>,
+pub struct Script {
+    pub harts: u32,
+    pub kib: u32,
+    pub sets: u32,
+    pub ways: u32,
+    pub line: u32,
+    pub events: Vec<Event>,
 }
 
 struct Retired {
@@ -167,11 +167,11 @@ impl Reader<'_> {
     }
 }
 
-fn is_first_version(harts: u32, line: u32) -> bool {
+pub fn is_first_version(harts: u32, line: u32) -> bool {
     line == 16 && harts <= 4
 }
 
-fn read_script(text: &[u8]) -> Option<Script> {
+pub fn read_script(text: &[u8]) -> Option<Script> {
     let mut r = Reader { rest: text };
     let first = r.text("rvtl-script 1 ").is_some();
     if !first {
@@ -320,7 +320,7 @@ fn read_trace(text: &[u8]) -> Option<(Trace, usize)> {
 
 // ---- writing
 
-fn put_number(out: &mut Vec<u8>, n: u32) {
+pub fn put_number(out: &mut Vec<u8>, n: u32) {
     let mut digits = [0; 10];
     let mut at = digits.len();
     let mut left = n;
@@ -335,19 +335,19 @@ fn put_number(out: &mut Vec<u8>, n: u32) {
     out.extend_from_slice(&digits[at..]);
 }
 
-fn put_hex(out: &mut Vec<u8>, bytes: &[u8]) {
+pub fn put_hex(out: &mut Vec<u8>, bytes: &[u8]) {
     const DIGITS: &[u8; 16] = b"0123456789abcdef";
     for byte in bytes {
         out.extend_from_slice(&[DIGITS[usize::from(byte >> 4)], DIGITS[usize::from(byte & 15)]]);
     }
 }
 
-fn put_word(out: &mut Vec<u8>, n: u32) {
+pub fn put_word(out: &mut Vec<u8>, n: u32) {
     out.extend_from_slice(b"0x");
     put_hex(out, &n.to_be_bytes());
 }
 
-fn script_text(script: &Script) -> Vec<u8> {
+pub fn script_text(script: &Script) -> Vec<u8> {
     let mut out = Vec::new();
     let first = is_first_version(script.harts, script.line);
     out.extend_from_slice(if first { b"rvtl-script 1" } else { b"rvtl-script 2" });
