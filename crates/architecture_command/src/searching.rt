@@ -40,7 +40,7 @@ pub fn architecture_files<'a, F: Files, O: Write, E: Write>(
     requires room { 0 < wanted.states }
     ensures searched { IfOk result (λ judgement. IsSearched (F.held files.old) (F.held files.new) wanted.entry window judgement (O.contents out.old) (O.contents out.new)) }
     ensures outside { IsOutside wanted.entry.machine → result ≡ Err Fault.Configuration }
-    ensures told { IfErr result (IsExploreFault wanted.entry) }
+    ensures told { IfErr result (IsExploreFault (F.held files.old) wanted.entry) }
     ensures unfinished { IfErr result (λ fault. LeavesPart fault (O.contents out.old) (O.contents out.new)
         (IsPartlySearched (F.held files.old) wanted.entry window (O.contents out.old) (O.contents out.new))) }
     ensures spared { SparesOthers (IsFileOf wanted.entry.scripts) (F.held files.old) (F.held files.new) }

@@ -3,7 +3,8 @@ use Rattle.std.proofs.Common.{◌≡◌, ◌∙◌, ◌⊎◌, ℕ, None, Option
 use Rattle.chart_command.specs.Charting.{IsChartFault, IsDrawingFault, IsNoAddress}
 use Rattle.coherent_machine.specs.declared.errors.NewError.TheVariants as making
 use Rattle.coherent_machine.specs.declared.errors.ReplayError.TheVariants as refusals
-use Rattle.command_files.specs.Faults.{HasScript, IsImageFault, IsScriptFault, Name}
+use Rattle.command_files.specs.Faults.{IsImageFault, IsScriptFault, Name}
+use Rattle.command_files.specs.Files.{HoldsScript}
 use Rattle.command_files.specs.Held.{Held}
 use Rattle.command_files.specs.Status.{status_of}
 use Rattle.command_files.specs.declared.fault.Fault.{Fault}
@@ -11,12 +12,13 @@ use Rattle.command_files.specs.declared.fault.Fault.TheVariants.{BadAddress, Bad
 use Rattle.command_settings.specs.declared.wanted.Replay.{Replay}
 use Rattle.run_chart.specs.declared.errors.ChartError.{ChartError}
 use Rattle.run_chart.specs.declared.errors.ChartError.TheVariants as chart
+use Rattle.trace_text.specs.declared.script.Script.{Script}
 
 pub of_address : (held : Held) (replay : Replay) (line : Option Name) (fault : Fault) → IsNoAddress line fault → IsChartFault held replay line fault
 of_address held replay None fault so = absurd so
 of_address held replay (Some word) fault so = subst (IsChartFault held replay (Some word)) (sym so.1) (refl, so.0)
 
-pub of_chart_script : (held : Held) (replay : Replay) (line : Option Name) (fault : Fault) → IsScriptFault replay.script fault → IsChartFault held replay line fault
+pub of_chart_script : (held : Held) (replay : Replay) (line : Option Name) (fault : Fault) → IsScriptFault held replay.script fault → IsChartFault held replay line fault
 of_chart_script held replay line (CannotRead file) is = inl is
 of_chart_script held replay line (CannotMake file) is = absurd is
 of_chart_script held replay line CannotWrite is = absurd is
@@ -34,23 +36,24 @@ of_chart_script held replay line BadEvent is = absurd is
 of_chart_script held replay line Configuration is = absurd is
 of_chart_script held replay line OutOfMemory is = tt
 
-pub of_chart_image : (held : Held) (replay : Replay) (line : Option Name) (fault : Fault) → HasScript held replay.script.now → IsImageFault replay.image fault → IsChartFault held replay line fault
-of_chart_image held replay line (CannotRead file) has is = inr (is, has)
-of_chart_image held replay line (CannotMake file) has is = absurd is
-of_chart_image held replay line CannotWrite has is = absurd is
-of_chart_image held replay line (Image file error) has is = (is, has)
-of_chart_image held replay line (Text file error) has is = absurd is
-of_chart_image held replay line (Event file place error) has is = absurd is
-of_chart_image held replay line (NothingHappens file place outcome) has is = absurd is
-of_chart_image held replay line (BytesAfterTrace file) has is = absurd is
-of_chart_image held replay line (Check file error) has is = absurd is
-of_chart_image held replay line (TooManyRows file) has is = absurd is
-of_chart_image held replay line (BadAddress word) has is = absurd is
-of_chart_image held replay line NoThread has is = absurd is
-of_chart_image held replay line Mismatch has is = absurd is
-of_chart_image held replay line BadEvent has is = absurd is
-of_chart_image held replay line Configuration has is = absurd is
-of_chart_image held replay line OutOfMemory has is = tt
+pub of_chart_image : (held : Held) (replay : Replay) (line : Option Name) (script : Script) (fault : Fault) → HoldsScript held replay.script.now script → IsImageFault held replay.raw replay.image script.kib fault
+    → IsChartFault held replay line fault
+of_chart_image held replay line script (CannotRead file) has is = inr (is, (script, has))
+of_chart_image held replay line script (CannotMake file) has is = absurd is
+of_chart_image held replay line script CannotWrite has is = absurd is
+of_chart_image held replay line script (Image file error) has is = (is.0, (script, has, is.1))
+of_chart_image held replay line script (Text file error) has is = absurd is
+of_chart_image held replay line script (Event file place error) has is = absurd is
+of_chart_image held replay line script (NothingHappens file place outcome) has is = absurd is
+of_chart_image held replay line script (BytesAfterTrace file) has is = absurd is
+of_chart_image held replay line script (Check file error) has is = absurd is
+of_chart_image held replay line script (TooManyRows file) has is = absurd is
+of_chart_image held replay line script (BadAddress word) has is = absurd is
+of_chart_image held replay line script NoThread has is = absurd is
+of_chart_image held replay line script Mismatch has is = absurd is
+of_chart_image held replay line script BadEvent has is = absurd is
+of_chart_image held replay line script Configuration has is = absurd is
+of_chart_image held replay line script OutOfMemory has is = tt
 
 one_not_two : ◌≡◌ {A = ℕ} 1 2 → ⊥
 one_not_two e = cc

@@ -20,7 +20,7 @@ pub of_trace : (held : Held) (name : Name) (fault : Fault) → IsTextFault held 
 of_trace held name (CannotRead file) is = is
 of_trace held name OutOfMemory is = tt
 of_trace held name (Image file error) is = absurd is
-of_trace held name (Text file error) is = is.0
+of_trace held name (Text file error) is = (is.0, inl is.1)
 of_trace held name (CannotMake file) is = absurd is
 of_trace held name CannotWrite is = absurd is
 of_trace held name (Event file line error) is = absurd is
@@ -34,11 +34,11 @@ of_trace held name Mismatch is = absurd is
 of_trace held name BadEvent is = absurd is
 of_trace held name Configuration is = absurd is
 
-pub of_log : (held : Held) (name : Name) (fault : Fault) → IsTextFault held name fault → IsLogFault name fault
+pub of_log : (held : Held) (name : Name) (fault : Fault) → IsTextFault held name fault → IsLogFault held name fault
 of_log held name (CannotRead file) is = is
 of_log held name OutOfMemory is = tt
 of_log held name (Image file error) is = absurd is
-of_log held name (Text file error) is = is.0
+of_log held name (Text file error) is = (is.0, inl is.1)
 of_log held name (CannotMake file) is = absurd is
 of_log held name CannotWrite is = absurd is
 of_log held name (Event file line error) is = absurd is

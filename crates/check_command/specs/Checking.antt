@@ -1,6 +1,6 @@
 -- What a check has done, and which faults it tells.
 use Rattle.command_files.specs.Files.{HoldsTrace}
-use Rattle.command_files.specs.Held.{Held}
+use Rattle.command_files.specs.Held.{HasLongFirstLine, Held}
 use Rattle.command_files.specs.declared.fault.Fault.TheVariants.{BytesAfterTrace, CannotRead, CannotWrite, Check, OutOfMemory, Text}
 use Rattle.command_files.specs.declared.fault.Fault.{Fault}
 use Rattle.command_files.specs.Faults.{Name}
@@ -14,10 +14,12 @@ use Rattle.rvwmo_order.specs.declared.verdict.Verdict.TheVariants.{Legal, Fault 
 use Rattle.rvwmo_order.specs.declared.verdict.Verdict.{Verdict}
 use Rattle.std.specs.Fmt.{decimal}
 use Rattle.std.specs.Io.KnownBytes.{Appends}
-use Rattle.std.specs.Prelude.{◌≡◌, ◌↔◌, ℕ, List, ◌++◌, None, Option, Some, codes}
+use Rattle.std.specs.Prelude.{◌≡◌, ◌≢◌, ◌↔◌, ◌⊎◌, ℕ, IfSome, List, [], ◌++◌, None, Option, Some, codes}
 use Rattle.text_fields.specs.Writing.{Begins}
 use Rattle.trace_recorder.specs.History.{History}
 use Rattle.trace_recorder.specs.declared.operation.OpId.{OpId}
+use Rattle.trace_text.specs.TraceLimits.{IsTrace}
+use Rattle.trace_text.specs.Traces.{text}
 
 -- an operation as HART:PLACE
 abbrev pub operation_text : OpId → List ℕ
@@ -55,11 +57,27 @@ pub record IsUnjudged (held : Held) (name : List ℕ) (error : CheckError) : Typ
   pub file : HoldsTrace held name trace
   pub refused : refusal trace (completed trace) ≡ Some error
 
+-- the bytes begin with no trace's text
+abbrev pub BeginWithNoTrace : List ℕ → Type 0
+BeginWithNoTrace bytes = (trace : History) (more : List ℕ) → IsTrace trace → bytes ≢ text trace ++ more
+
+-- bytes follow a trace's text
+pub record GoOnBehindATrace (bytes : List ℕ) : Type 0 where
+  pub trace : History
+  pub more : List ℕ
+  pub is_trace : IsTrace trace
+  pub whole : bytes ≡ text trace ++ more
+  pub longer : more ≢ []
+
+-- the file begins with no trace's text, or already its first line is longer than that of any text
+abbrev pub IsNoTrace : Held → List ℕ → Type 0
+IsNoTrace held name = HasLongFirstLine held name ⊎ IfSome (held name) BeginWithNoTrace
+
 -- the trace is read first, then its end, then its order is judged
 abbrev pub IsCheckFault : Held → Name → Fault → Type 0
 IsCheckFault held name (CannotRead file) = file ≡ name
-IsCheckFault held name (Text file error) = file ≡ name
-IsCheckFault held name (BytesAfterTrace file) = file ≡ name
+IsCheckFault held name (Text file error) = (file ≡ name) × IsNoTrace held name.now
+IsCheckFault held name (BytesAfterTrace file) = (file ≡ name) × IfSome (held name.now) GoOnBehindATrace
 IsCheckFault held name (Check file error) = (file ≡ name) × IsUnjudged held name.now error
 IsCheckFault held name CannotWrite = Unit {0}
 IsCheckFault held name OutOfMemory = Unit {0}

@@ -1,8 +1,9 @@
 -- What a check of messages has done.
 use Rattle.std.specs.Io.KnownBytes.{Appends}
-use Rattle.std.specs.Prelude.{◌≡◌, ◌↔◌, ℕ, IfSome, List, Option}
+use Rattle.std.specs.Prelude.{◌≡◌, ◌↔◌, ◌⊎◌, ℕ, IfSome, List, Option}
 use Rattle.command_files.specs.Faults.{Name}
-use Rattle.command_files.specs.Held.{Held}
+use Rattle.check_command.specs.Checking.{BeginWithNoTrace, GoOnBehindATrace}
+use Rattle.command_files.specs.Held.{HasLongFirstLine, Held}
 use Rattle.command_files.specs.declared.fault.Fault.TheVariants.{BytesAfterTrace, CannotRead, CannotWrite, OutOfMemory, Text}
 use Rattle.command_files.specs.declared.fault.Fault.{Fault}
 use Rattle.lawful_log.specs.Laws.{IfUnlawful, IsFirstBreach}
@@ -42,11 +43,15 @@ pub record IsLogCutOff (held : Held) (name : List ℕ) (old new : Option (List �
   pub judged : IsLogVerdict trace.log verdict
   pub begun : Begins old new (verdict_text verdict)
 
+-- the file, with the lines that may be left out, begins with no trace's text, or already its first line is longer than that of any text
+abbrev pub IsNoLog : Held → List ℕ → Type 0
+IsNoLog held name = HasLongFirstLine held name ⊎ IfSome (held name) (λ known. BeginWithNoTrace (ended known))
+
 -- the file can't be read, what it holds is no trace, or it goes on behind the trace: a log is lawful or not, and isn't refused
-abbrev pub IsLogFault : Name → Fault → Type 0
-IsLogFault name (CannotRead file) = file ≡ name
-IsLogFault name (Text file error) = file ≡ name
-IsLogFault name (BytesAfterTrace file) = file ≡ name
-IsLogFault name CannotWrite = Unit {0}
-IsLogFault name OutOfMemory = Unit {0}
-IsLogFault name _ = ⊥
+abbrev pub IsLogFault : Held → Name → Fault → Type 0
+IsLogFault held name (CannotRead file) = file ≡ name
+IsLogFault held name (Text file error) = (file ≡ name) × IsNoLog held name.now
+IsLogFault held name (BytesAfterTrace file) = (file ≡ name) × IfSome (held name.now) (λ known. GoOnBehindATrace (ended known))
+IsLogFault held name CannotWrite = Unit {0}
+IsLogFault held name OutOfMemory = Unit {0}
+IsLogFault held name _ = ⊥

@@ -27,7 +27,7 @@ pub fn check_messages<'a, F: Files, O: Write, E: Write>(
     ensures judged { IfOk result (λ verdict. IsLogJudged (F.held files.old) file.entry.now verdict (O.contents out.old) (O.contents out.new)) }
     ensures unfinished { IfErr result (λ fault. Leaves fault (O.contents out.old) (O.contents out.new)
         (IsLogCutOff (F.held files.old) file.entry.now (O.contents out.old) (O.contents out.new))) }
-    ensures told { IfErr result (IsLogFault file.entry) }
+    ensures told { IfErr result (IsLogFault (F.held files.old) file.entry) }
     ensures spared { F.held files.new ≡ F.held files.old }
 {
     let mut bytes = text_in(alloc, files, file)?;

@@ -1,4 +1,5 @@
 pub mod Left
 pub mod Limits
 pub mod Replays
+pub mod Unread
 pub mod Written

@@ -1,17 +1,19 @@
 -- Which faults tell of a file and of a replay, and what a fault leaves on standard output.
 use Rattle.coherent_machine.specs.Machine.{IsRefusedAt}
-use Rattle.command_files.specs.Files.{HoldsImage, HoldsScript, HoldsTrace}
-use Rattle.command_files.specs.Held.{HasLongFirstLine, Held}
+use Rattle.command_files.specs.Files.{HoldsImage, HoldsScript, image_answer}
+use Rattle.command_files.specs.Held.{HasLongFirstLine, Held, HoldsBytes}
 use Rattle.command_files.specs.declared.fault.Fault.TheVariants.{CannotRead, CannotWrite, Event, Image, OutOfMemory, Text}
 use Rattle.command_files.specs.declared.fault.Fault.{Fault}
 use Rattle.command_files.specs.Sizes.{config_of}
 use Rattle.command_settings.specs.declared.wanted.Replay.{Replay}
 use Rattle.elf_loader.specs.Image.{Initial}
+use Rattle.elf_loader.specs.declared.error.LoadError.{LoadError}
 use Rattle.machine_model.specs.Views.{opening}
 use Rattle.machine_parts.specs.declared.errors.ApplyError.{ApplyError}
 use Rattle.std.specs.Borrow.{Bor}
-use Rattle.std.specs.Prelude.{◌≡◌, ◌⊎◌, ◌+◌, ◌^◌, ◌-◌, ℕ, List, Option, min}
-use Rattle.trace_recorder.specs.History.{History}
+use Rattle.std.specs.Prelude.{◌≡◌, ◌≢◌, ◌⊎◌, ◌+◌, ◌*◌, ◌^◌, ◌-◌, ℕ, Bool, Err, IfSome, List, Option, min}
+use Rattle.trace_text.specs.Scripts as scripts
+use Rattle.trace_text.specs.Scripts.{IsScript}
 use Rattle.trace_text.specs.declared.script.Script.{Script}
 
 abbrev pub Name : Type 0
@@ -20,8 +22,15 @@ Name = Bor (List ℕ)
 abbrev pub HasScript : Held → List ℕ → Type 0
 HasScript held name = (script : Script) × HoldsScript held name script
 
-abbrev pub HasTrace : Held → List ℕ → Type 0
-HasTrace held name = (trace : History) × HoldsTrace held name trace
+-- no script has the bytes of the file as its text, or already its first line is longer than that of any text
+abbrev pub IsNoScript : Held → List ℕ → Type 0
+IsNoScript held name = HasLongFirstLine held name ⊎ IfSome (held name) (λ known. (script : Script) → IsScript script → known ≢ scripts.text script)
+
+-- the file, of bare words or an ELF file, is refused by the loader of so many KiB for this cause
+pub record IsNoImage (held : Held) (is_raw : Bool) (name : List ℕ) (kib : ℕ) (error : LoadError) : Type 0 where
+  pub file : List ℕ
+  pub bytes : HoldsBytes held name file
+  pub refused : image_answer is_raw file (1024 * kib) ≡ Err error
 
 -- the file can't be read, or memory ran out
 abbrev pub IsReadFault : Name → Fault → Type 0
@@ -35,14 +44,19 @@ IsTextFault held name (Text file error) = (file ≡ name) × HasLongFirstLine he
 IsTextFault held name fault = IsReadFault name fault
 
 -- or what it holds is no script
-abbrev pub IsScriptFault : Name → Fault → Type 0
-IsScriptFault name (Text file error) = file ≡ name
-IsScriptFault name fault = IsReadFault name fault
+abbrev pub IsScriptFault : Held → Name → Fault → Type 0
+IsScriptFault held name (Text file error) = (file ≡ name) × IsNoScript held name.now
+IsScriptFault held name fault = IsReadFault name fault
 
--- or what it holds is no image
-abbrev pub IsImageFault : Name → Fault → Type 0
-IsImageFault name (Image file error) = file ≡ name
-IsImageFault name fault = IsReadFault name fault
+-- or what it holds is no image, for the cause that is told
+abbrev pub IsImageFault : Held → Bool → Name → ℕ → Fault → Type 0
+IsImageFault held is_raw name kib (Image file error) = (file ≡ name) × IsNoImage held is_raw name.now kib error
+IsImageFault held is_raw name kib fault = IsReadFault name fault
+
+-- the script in the one file gives its image so much memory that the other is refused for this cause
+abbrev pub IsNoImageOf : Held → Replay → LoadError → Type 0
+IsNoImageOf held replay error =
+    (script : Script) × HoldsScript held replay.script.now script × IsNoImage held replay.raw replay.image.now script.kib error
 
 -- the event of this line of the script, the first of which stands on line 2, is refused
 pub record IsEventFault (held : Held) (replay : Replay) (line : ℕ) (error : ApplyError) : Type 0 where
@@ -57,8 +71,8 @@ pub record IsEventFault (held : Held) (replay : Replay) (line : ℕ) (error : Ap
 -- the script is judged first, then the image, then the events
 abbrev pub IsReplayFault : Held → Replay → Fault → Type 0
 IsReplayFault held replay (CannotRead file) = (file ≡ replay.script) ⊎ ((file ≡ replay.image) × HasScript held replay.script.now)
-IsReplayFault held replay (Text file error) = file ≡ replay.script
-IsReplayFault held replay (Image file error) = (file ≡ replay.image) × HasScript held replay.script.now
+IsReplayFault held replay (Text file error) = (file ≡ replay.script) × IsNoScript held replay.script.now
+IsReplayFault held replay (Image file error) = (file ≡ replay.image) × IsNoImageOf held replay error
 IsReplayFault held replay (Event file line error) = (file ≡ replay.script) × IsEventFault held replay line error
 IsReplayFault held replay CannotWrite = Unit {0}
 IsReplayFault held replay OutOfMemory = Unit {0}

@@ -1,17 +1,17 @@
 //! What files hold: their bytes, a script, an image.
 
-ghost use Rattle.std.specs.Prelude.{◌≡◌, ◌==◌, ◌⊎◌, IfErr, IfOk, false, length, true};
+ghost use Rattle.std.specs.Prelude.{◌≡◌, ◌==◌, ◌⊎◌, IfErr, IfOk, IsErrOf, false, length, true};
 ghost use Rattle.std.specs.List.{list_any};
 ghost use Rattle.std.specs.Io.KnownBytes.{Consumes};
-ghost use Rattle.elf_loader.specs.Size.{IsMemoryKib};
+ghost use Rattle.elf_loader.specs.Size.{IsMemoryKib, IsMemorySize};
 ghost use Rattle.command_files.specs.Faults.{IsImageFault, IsReadFault, IsScriptFault, IsTextFault};
-ghost use Rattle.command_files.specs.Files.{HoldsImage, HoldsScript, IsTheScriptIn};
+ghost use Rattle.command_files.specs.Files.{HoldsImage, HoldsScript, IsTheScriptIn, image_answer};
 ghost use Rattle.command_files.specs.Held.{HoldsBytes};
 
 use crate::fault::Fault;
 use crate::files::Files;
 use crate::remarked::remark;
-use elf_loader::{Image, load, raw, size_of_kib};
+use elf_loader::{Image, LoadError, load, raw, size_of_kib};
 use file_remarks::{FileRemark, ImageRemark, ScriptRemark};
 use std::alloc::Global;
 use std::io::{self, ErrorKind, Read};
@@ -155,7 +155,7 @@ pub fn script_in<'a, F: Files>(
     files: &mut F,
     name: &'a str,
 ) -> Result<Script, Fault<'a>>
-    ensures fault { IfErr result (IsScriptFault name.entry) }
+    ensures fault { IfErr result (IsScriptFault (F.held files.old) name.entry) }
     ensures script { IfOk result (HoldsScript (F.held files.old) name.entry.now) }
     ensures only { IfOk result (IsTheScriptIn (F.held files.old) name.entry.now) }
     ensures stays { F.held files.new ≡ F.held files.old }
@@ -171,6 +171,18 @@ pub fn script_in<'a, F: Files>(
     }
 }
 
+/// What bare words or an ELF file are loaded as, into memory of so many bytes.
+fn loaded(alloc: Global, is_raw: bool, file: &[u8], size: u32) -> Result<Image, LoadError>
+    requires { IsMemorySize size }
+    ensures answer { ¬ IsErrOf result LoadError.NoMemory → result ≡ image_answer is_raw file.now size }
+{
+    if is_raw {
+        raw(alloc, file, size)
+    } else {
+        load(alloc, file, size)
+    }
+}
+
 /// The image that the file holds, of bare words or an ELF file, in memory of so many KiB.
 pub fn image_in<'a, F: Files>(
     alloc: Global,
@@ -180,7 +192,7 @@ pub fn image_in<'a, F: Files>(
     kib: u32,
 ) -> Result<Image, Fault<'a>>
     requires { IsMemoryKib kib }
-    ensures fault { IfErr result (IsImageFault name.entry) }
+    ensures fault { IfErr result (IsImageFault (F.held files.old) is_raw name.entry kib) }
     ensures image { IfOk result (HoldsImage (F.held files.old) is_raw name.entry.now kib) }
     ensures stays { F.held files.new ≡ F.held files.old }
 {
@@ -195,12 +207,7 @@ pub fn image_in<'a, F: Files>(
             "this is an ELF file, and --raw says that it is not",
         );
     }
-    let loaded = if is_raw {
-        raw(alloc, bytes.as_slice(), size)
-    } else {
-        load(alloc, bytes.as_slice(), size)
-    };
-    match loaded {
+    match loaded(alloc, is_raw, bytes.as_slice(), size) {
         Ok(image) => Ok(image),
         Err(error) => {
             let bytes = bytes.as_slice();

@@ -13,7 +13,8 @@ use Rattle.command_settings.specs.declared.wanted.Explore.{Explore as Sought}
 use Rattle.command_settings.specs.declared.wanted.Settings.{Settings}
 use Rattle.command_settings.specs.declared.wanted.Settings.TheVariants.{Check, Explain, Explore}
 use Rattle.event_stream.specs.declared.strictness.Strictness.{Strictness}
-use Rattle.explain_command.specs.Explaining.{IsExplained, IsStopped}
+use Rattle.command_line.specs.Telling.{IsFaultOf}
+use Rattle.explain_command.specs.Explaining.{IsExplainFault, IsExplained, IsStopped}
 use Rattle.explore_command.proofs.Faults.{some_part}
 use Rattle.explore_command.specs.Exploring.{IsExploreFault, LeavesPart}
 use Rattle.explore_command.specs.Keeping.{SparesOthers}
@@ -55,11 +56,23 @@ module _ (held left : Held) (old new : Option (List ℕ)) (wanted : Settings) wh
   check_broken check (Ok judgement) is so = tt
   check_broken check (Err fault) is so = broken held left old new wanted (Check check) is so
 
-pub explore_beyond : (old new : Option (List ℕ)) (wanted : Settings) (explore : Sought) (part : Type 0) (r : Result Judgement Fault) → wanted ≡ Explore explore → IfErr r (IsExploreFault explore)
+-- whatever fault a command tells is one of what the settings name
+pub told_of : (held : Held) (old new : Option (List ℕ)) (wanted meant : Settings) (fault : Fault) → wanted ≡ meant → IsFaultOf held old new meant fault → IsFaultOf held old new wanted fault
+told_of held old new wanted meant fault is so = subst (λ w. IsFaultOf held old new w fault) (sym is) so
+
+pub all_told_of : (held : Held) (old new : Option (List ℕ)) (wanted meant : Settings) (r : Result Judgement Fault) → wanted ≡ meant → IfErr r (IsFaultOf held old new meant) → IfErr r (IsFaultOf held old new wanted)
+all_told_of held old new wanted meant (Ok judgement) is so = tt
+all_told_of held old new wanted meant (Err fault) is so = told_of held old new wanted meant fault is so
+
+pub explain_told : (held : Held) (old new : Option (List ℕ)) (explain : Telling) (strictness : Strictness) (fault : Fault) → strictness ≡ strictness_of explain.strict
+    → IsExplainFault held explain.replay strictness old new fault → IsExplainFault held explain.replay (strictness_of explain.strict) old new fault
+explain_told held old new explain strictness fault is_strict so = subst (λ s. IsExplainFault held explain.replay s old new fault) is_strict so
+
+pub explore_beyond : (held : Held) (old new : Option (List ℕ)) (wanted : Settings) (explore : Sought) (part : Type 0) (r : Result Judgement Fault) → wanted ≡ Explore explore → IfErr r (IsExploreFault held explore)
     → IfErr r (λ fault. LeavesPart fault old new part) → IfErr r (λ fault. status_of fault ≡ 2 → IsBeyond wanted × (new ≡ old))
-explore_beyond old new wanted explore part (Ok judgement) is told leaves = tt
-explore_beyond old new wanted explore part (Err fault) is told leaves = λ two.
-    let it = beyond_explore old new explore part fault told leaves two in (subst IsBeyond (sym is) it.0, it.1)
+explore_beyond held old new wanted explore part (Ok judgement) is told leaves = tt
+explore_beyond held old new wanted explore part (Err fault) is told leaves = λ two.
+    let it = beyond_explore held old new explore part fault told leaves two in (subst IsBeyond (sym is) it.0, it.1)
 
 pub explore_written : (held left : Held) (wanted : Settings) (explore : Sought) → wanted ≡ Explore explore → SparesOthers (IsExploreFile explore.architecture explore) held left
     → (name : Text) → left name ≢ held name → IsWritten name wanted

@@ -12,7 +12,7 @@ use Rattle.command_files.specs.Held.{Held}
 use Rattle.command_files.specs.Sizes.{IsOutside}
 use Rattle.command_files.specs.Status.{status_of}
 use Rattle.command_files.specs.declared.fault.Fault.{Fault}
-use Rattle.command_line.specs.Running.{HasRoom}
+use Rattle.command_line.specs.Running.{MeetsSomeState}
 use Rattle.command_settings.specs.Settings.{IsNamed}
 use Rattle.command_settings.specs.declared.wanted.Explore.{Explore as Sought}
 use Rattle.command_settings.specs.declared.wanted.Run.{Run as Asked}
@@ -23,7 +23,7 @@ use Rattle.explore_command.specs.Keeping.{SparesOthers}
 use Rattle.run_command.specs.Running.{IsRunFault}
 
 -- the words give an exploration a state at least
-pub some_states : (words : List Text) (wanted : Settings) → IsNamed words wanted → HasRoom wanted
+pub some_states : (words : List Text) (wanted : Settings) → IsNamed words wanted → MeetsSomeState wanted
 some_states words (Explore explore) named = omega (arith, named.5.1.states.1)
 some_states words (Replay replay) named = tt
 some_states words (Explain explain) named = tt
@@ -38,11 +38,11 @@ beyond_run held old new run broken fault told leaves two =
     let at = only_configuration fault (λ word address. subst (IsRunFault held run) address told) two in
     (subst (IsRunFault held run) at told, subst (λ f. Leaves f old new broken) at leaves)
 
-pub beyond_explore : (old new : Option (List ℕ)) (explore : Sought) (broken : Type 0) (fault : Fault) → IsExploreFault explore fault → LeavesPart fault old new broken → status_of fault ≡ 2
+pub beyond_explore : (held : Held) (old new : Option (List ℕ)) (explore : Sought) (broken : Type 0) (fault : Fault) → IsExploreFault held explore fault → LeavesPart fault old new broken → status_of fault ≡ 2
     → IsOutside explore.machine × (new ≡ old)
-beyond_explore old new explore broken fault told leaves two =
-    let at = only_configuration fault (λ word address. subst (IsExploreFault explore) address told) two in
-    (subst (IsExploreFault explore) at told, subst (λ f. LeavesPart f old new broken) at leaves)
+beyond_explore held old new explore broken fault told leaves two =
+    let at = only_configuration fault (λ word address. subst (IsExploreFault held explore) address told) two in
+    (subst (IsExploreFault held explore) at told, subst (λ f. LeavesPart f old new broken) at leaves)
 
 -- the word names no address
 pub no_address : (line : Option Name) (fault : Fault) → IsNoAddress line fault → IfSome line (λ word. address word.now ≡ None)

@@ -128,9 +128,9 @@ IsBeyond (Chart chart) = IfSome chart.line (λ word. address word.now ≡ None)
 IsBeyond _ = ⊥
 
 -- an exploration may meet a state at least
-abbrev pub HasRoom : Settings → Type 0
-HasRoom (Explore explore) = 0 < explore.states
-HasRoom _ = Unit {0}
+abbrev pub MeetsSomeState : Settings → Type 0
+MeetsSomeState (Explore explore) = 0 < explore.states
+MeetsSomeState _ = Unit {0}
 
 -- the file is the journal of a run, or shows an outcome of an exploration
 abbrev pub IsWritten : Text → Settings → Type 0

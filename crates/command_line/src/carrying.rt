@@ -3,7 +3,8 @@
 ghost use Rattle.std.specs.Prelude.{◌≡◌, ◌≢◌, ◌⊎◌, ◌<◌, IfErr, IfOk, nat_lt};
 ghost use Rattle.clap.specs.Words.{Text};
 ghost use Rattle.command_files.specs.Status.{status_of};
-ghost use Rattle.command_line.specs.Running.{Came, CheckCame, ExploreCame, HasRoom, IsBeyond, IsBroken, IsCheckBroken, IsExploreBroken, IsExploreFile, IsWritten, strictness_of};
+ghost use Rattle.command_line.specs.Telling.{IsFaultOf, IsJudgingFault};
+ghost use Rattle.command_line.specs.Running.{Came, CheckCame, ExploreCame, MeetsSomeState, IsBeyond, IsBroken, IsCheckBroken, IsExploreBroken, IsExploreFile, IsWritten, strictness_of};
 ghost use Rattle.explore_command.specs.Exploring.{IsExploreFault, LeavesPart};
 ghost use Rattle.explore_command.specs.Keeping.{SparesOthers};
 
@@ -44,11 +45,12 @@ pub(crate) fn carry_out<
     err: &mut E,
     progress: &P,
 ) -> Result<Judgement, Fault<'a>>
-    requires room { HasRoom wanted }
+    requires room { MeetsSomeState wanted }
     ensures came { IfOk result (Came (F.held files.old) (F.held files.new) (O.contents out.old) (O.contents out.new) wanted.entry) }
     ensures unfinished { IfErr result (λ _. (O.contents out.new ≡ O.contents out.old)
         ⊎ IsBroken (F.held files.old) (F.held files.new) (O.contents out.old) (O.contents out.new) wanted.entry) }
     ensures beyond { IfErr result (λ fault. status_of fault ≡ 2 → IsBeyond wanted.entry × (O.contents out.new ≡ O.contents out.old)) }
+    ensures told { IfErr result (IsFaultOf (F.held files.old) (O.contents out.old) (O.contents out.new) wanted.entry) }
     ensures spared { (name : Text) → F.held files.new name ≢ F.held files.old name → IsWritten name wanted.entry }
 {
     match wanted {
@@ -85,7 +87,7 @@ fn explored<'a, F: Files, O: Write, E: Write>(
     requires room { 0 < wanted.states }
     ensures came { IfOk result (λ judgement. ExploreCame wanted.entry.architecture (nat_lt 0 wanted.entry.sample) judgement
         (F.held files.old) (F.held files.new) wanted.entry (O.contents out.old) (O.contents out.new)) }
-    ensures told { IfErr result (IsExploreFault wanted.entry) }
+    ensures told { IfErr result (IsExploreFault (F.held files.old) wanted.entry) }
     ensures unfinished { IfErr result (λ fault. LeavesPart fault (O.contents out.old) (O.contents out.new)
         (IsExploreBroken wanted.entry.architecture (nat_lt 0 wanted.entry.sample) (F.held files.old) wanted.entry (O.contents out.old) (O.contents out.new))) }
     ensures spared { SparesOthers (IsExploreFile wanted.entry.architecture wanted.entry) (F.held files.old) (F.held files.new) }
@@ -111,6 +113,7 @@ fn checked<'a, F: Files, O: Write, E: Write>(
     ensures unfinished { IfErr result (λ _. (O.contents out.new ≡ O.contents out.old)
         ⊎ IsCheckBroken wanted.entry.messages (F.held files.old) wanted.entry (O.contents out.old) (O.contents out.new)) }
     ensures fitting { IfErr result (λ fault. status_of fault ≢ 2) }
+    ensures told { IfErr result (IsJudgingFault wanted.entry.messages (F.held files.old) wanted.entry) }
     ensures spared { F.held files.new ≡ F.held files.old }
 {
     if wanted.messages {

@@ -3,13 +3,15 @@ use Rattle.std.proofs.Common.{◌≡◌, ℕ, List, Option, inl, inr}
 use Rattle.event_stream.specs.declared.strictness.Strictness.{Strictness}
 use Rattle.command_files.specs.Held.{Held}
 use Rattle.command_files.specs.Status.{status_of}
-use Rattle.command_files.specs.Faults.{HasScript, IsImageFault, IsScriptFault}
+use Rattle.command_files.specs.Faults.{IsImageFault, IsScriptFault}
+use Rattle.command_files.specs.Files.{HoldsScript}
 use Rattle.explain_command.specs.Explaining.{IsExplainFault}
 use Rattle.command_files.specs.declared.fault.Fault.{Fault}
 use Rattle.command_files.specs.declared.fault.Fault.TheVariants.{BadAddress, BadEvent, BytesAfterTrace, CannotMake, CannotRead, CannotWrite, Check, Configuration, Event, Image, Mismatch, NoThread, NothingHappens, OutOfMemory, Text, TooManyRows}
 use Rattle.command_settings.specs.declared.wanted.Replay.{Replay}
+use Rattle.trace_text.specs.declared.script.Script.{Script}
 
-pub of_explained_script : (held : Held) (replay : Replay) (strictness : Strictness) (old new : Option (List ℕ)) (fault : Fault) → IsScriptFault replay.script fault → IsExplainFault held replay strictness old new fault
+pub of_explained_script : (held : Held) (replay : Replay) (strictness : Strictness) (old new : Option (List ℕ)) (fault : Fault) → IsScriptFault held replay.script fault → IsExplainFault held replay strictness old new fault
 of_explained_script held replay strictness old new (CannotRead file) is = inl is
 of_explained_script held replay strictness old new (Text file error) is = is
 of_explained_script held replay strictness old new OutOfMemory is = tt
@@ -27,23 +29,24 @@ of_explained_script held replay strictness old new Mismatch is = absurd is
 of_explained_script held replay strictness old new BadEvent is = absurd is
 of_explained_script held replay strictness old new Configuration is = absurd is
 
-pub of_explained_image : (held : Held) (replay : Replay) (strictness : Strictness) (old new : Option (List ℕ)) (fault : Fault) → HasScript held replay.script.now → IsImageFault replay.image fault → IsExplainFault held replay strictness old new fault
-of_explained_image held replay strictness old new (CannotRead file) has is = inr (is, has)
-of_explained_image held replay strictness old new (Image file error) has is = (is, has)
-of_explained_image held replay strictness old new OutOfMemory has is = tt
-of_explained_image held replay strictness old new (Text file error) has is = absurd is
-of_explained_image held replay strictness old new (CannotMake file) has is = absurd is
-of_explained_image held replay strictness old new CannotWrite has is = absurd is
-of_explained_image held replay strictness old new (Event file line error) has is = absurd is
-of_explained_image held replay strictness old new (NothingHappens file line outcome) has is = absurd is
-of_explained_image held replay strictness old new (BytesAfterTrace file) has is = absurd is
-of_explained_image held replay strictness old new (Check file error) has is = absurd is
-of_explained_image held replay strictness old new (TooManyRows file) has is = absurd is
-of_explained_image held replay strictness old new (BadAddress word) has is = absurd is
-of_explained_image held replay strictness old new NoThread has is = absurd is
-of_explained_image held replay strictness old new Mismatch has is = absurd is
-of_explained_image held replay strictness old new BadEvent has is = absurd is
-of_explained_image held replay strictness old new Configuration has is = absurd is
+pub of_explained_image : (held : Held) (replay : Replay) (strictness : Strictness) (old new : Option (List ℕ)) (script : Script) (fault : Fault) → HoldsScript held replay.script.now script
+    → IsImageFault held replay.raw replay.image script.kib fault → IsExplainFault held replay strictness old new fault
+of_explained_image held replay strictness old new script (CannotRead file) has is = inr (is, (script, has))
+of_explained_image held replay strictness old new script (Image file error) has is = (is.0, (script, has, is.1))
+of_explained_image held replay strictness old new script OutOfMemory has is = tt
+of_explained_image held replay strictness old new script (Text file error) has is = absurd is
+of_explained_image held replay strictness old new script (CannotMake file) has is = absurd is
+of_explained_image held replay strictness old new script CannotWrite has is = absurd is
+of_explained_image held replay strictness old new script (Event file line error) has is = absurd is
+of_explained_image held replay strictness old new script (NothingHappens file line outcome) has is = absurd is
+of_explained_image held replay strictness old new script (BytesAfterTrace file) has is = absurd is
+of_explained_image held replay strictness old new script (Check file error) has is = absurd is
+of_explained_image held replay strictness old new script (TooManyRows file) has is = absurd is
+of_explained_image held replay strictness old new script (BadAddress word) has is = absurd is
+of_explained_image held replay strictness old new script NoThread has is = absurd is
+of_explained_image held replay strictness old new script Mismatch has is = absurd is
+of_explained_image held replay strictness old new script BadEvent has is = absurd is
+of_explained_image held replay strictness old new script Configuration has is = absurd is
 
 pub explain_never_misused : (held : Held) (replay : Replay) (strictness : Strictness) (old new : Option (List ℕ)) (fault : Fault) → IsExplainFault held replay strictness old new fault → status_of fault ≡ 2 → ⊥
 explain_never_misused held replay strictness old new CannotWrite so two = cc

@@ -87,5 +87,5 @@ module _ (held first : Held) (wanted : Explore) (config : Config) (image : Initi
 pub memory_left : (fault : Fault) (old new : Option (List ℕ)) (part : Type 0) → fault ≡ OutOfMemory → part → LeavesPart fault old new part
 memory_left fault old new part is so = subst (λ f. LeavesPart f old new part) (sym is) (inr so)
 
-pub memory_told : (explore : Explore) (fault : Fault) → fault ≡ OutOfMemory → IsExploreFault explore fault
-memory_told explore fault is = subst (IsExploreFault explore) (sym is) tt
+pub memory_told : (held : Held) (explore : Explore) (fault : Fault) → fault ≡ OutOfMemory → IsExploreFault held explore fault
+memory_told held explore fault is = subst (IsExploreFault held explore) (sym is) tt

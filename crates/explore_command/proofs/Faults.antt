@@ -10,8 +10,8 @@ use Rattle.explore_command.specs.Exploring.{ComesAfter, HasAllowFile, IsExploreF
 -- ---- files that are read
 
 -- the file that says what is allowed, or the image, can't be read or used
-abbrev pub IsFirst : Explore → Fault → Type 0
-IsFirst explore fault = IsNamedBy explore.allow IsReadFault fault ⊎ IsImageFault explore.image fault
+abbrev pub IsFirst : Held → Explore → Fault → Type 0
+IsFirst held explore fault = IsNamedBy explore.allow IsReadFault fault ⊎ IsImageFault held explore.raw explore.image explore.machine.memory fault
 
 named_read : (explore : Explore) (allow : Option Name) (file : Name) → explore.allow ≡ allow → IsNamedBy allow IsReadFault (CannotRead file) → explore.allow ≡ Some file
 named_read explore None file is so = absurd so
@@ -21,65 +21,65 @@ no_other : (allow : Option Name) (fault : Fault) → ((name : Name) → IsReadFa
 no_other None fault never so = so
 no_other (Some name) fault never so = never name so
 
-pub first_told : (explore : Explore) (fault : Fault) → IsFirst explore fault → IsExploreFault explore fault
-first_told explore (CannotRead file) (inl so) = inr (named_read explore explore.allow file refl so)
-first_told explore (CannotRead file) (inr so) = inl so
-first_told explore (CannotMake file) (inl so) = absurd (no_other explore.allow (CannotMake file) (λ name is. is) so)
-first_told explore (CannotMake file) (inr so) = absurd so
-first_told explore CannotWrite (inl so) = absurd (no_other explore.allow CannotWrite (λ name is. is) so)
-first_told explore CannotWrite (inr so) = absurd so
-first_told explore (Image file error) (inl so) = absurd (no_other explore.allow (Image file error) (λ name is. is) so)
-first_told explore (Image file error) (inr so) = so
-first_told explore (Text file error) (inl so) = absurd (no_other explore.allow (Text file error) (λ name is. is) so)
-first_told explore (Text file error) (inr so) = absurd so
-first_told explore (Event file line error) (inl so) = absurd (no_other explore.allow (Event file line error) (λ name is. is) so)
-first_told explore (Event file line error) (inr so) = absurd so
-first_told explore (NothingHappens file line outcome) (inl so) = absurd (no_other explore.allow (NothingHappens file line outcome) (λ name is. is) so)
-first_told explore (NothingHappens file line outcome) (inr so) = absurd so
-first_told explore (BytesAfterTrace file) (inl so) = absurd (no_other explore.allow (BytesAfterTrace file) (λ name is. is) so)
-first_told explore (BytesAfterTrace file) (inr so) = absurd so
-first_told explore (Check file error) (inl so) = absurd (no_other explore.allow (Check file error) (λ name is. is) so)
-first_told explore (Check file error) (inr so) = absurd so
-first_told explore (TooManyRows file) (inl so) = absurd (no_other explore.allow (TooManyRows file) (λ name is. is) so)
-first_told explore (TooManyRows file) (inr so) = absurd so
-first_told explore (BadAddress word) (inl so) = absurd (no_other explore.allow (BadAddress word) (λ name is. is) so)
-first_told explore (BadAddress word) (inr so) = absurd so
-first_told explore NoThread (inl so) = absurd (no_other explore.allow NoThread (λ name is. is) so)
-first_told explore NoThread (inr so) = absurd so
-first_told explore Mismatch (inl so) = absurd (no_other explore.allow Mismatch (λ name is. is) so)
-first_told explore Mismatch (inr so) = absurd so
-first_told explore BadEvent (inl so) = absurd (no_other explore.allow BadEvent (λ name is. is) so)
-first_told explore BadEvent (inr so) = absurd so
-first_told explore Configuration (inl so) = absurd (no_other explore.allow Configuration (λ name is. is) so)
-first_told explore Configuration (inr so) = absurd so
-first_told explore OutOfMemory so = tt
+pub first_told : (held : Held) (explore : Explore) (fault : Fault) → IsFirst held explore fault → IsExploreFault held explore fault
+first_told held explore (CannotRead file) (inl so) = inr (named_read explore explore.allow file refl so)
+first_told held explore (CannotRead file) (inr so) = inl so
+first_told held explore (CannotMake file) (inl so) = absurd (no_other explore.allow (CannotMake file) (λ name is. is) so)
+first_told held explore (CannotMake file) (inr so) = absurd so
+first_told held explore CannotWrite (inl so) = absurd (no_other explore.allow CannotWrite (λ name is. is) so)
+first_told held explore CannotWrite (inr so) = absurd so
+first_told held explore (Image file error) (inl so) = absurd (no_other explore.allow (Image file error) (λ name is. is) so)
+first_told held explore (Image file error) (inr so) = so
+first_told held explore (Text file error) (inl so) = absurd (no_other explore.allow (Text file error) (λ name is. is) so)
+first_told held explore (Text file error) (inr so) = absurd so
+first_told held explore (Event file line error) (inl so) = absurd (no_other explore.allow (Event file line error) (λ name is. is) so)
+first_told held explore (Event file line error) (inr so) = absurd so
+first_told held explore (NothingHappens file line outcome) (inl so) = absurd (no_other explore.allow (NothingHappens file line outcome) (λ name is. is) so)
+first_told held explore (NothingHappens file line outcome) (inr so) = absurd so
+first_told held explore (BytesAfterTrace file) (inl so) = absurd (no_other explore.allow (BytesAfterTrace file) (λ name is. is) so)
+first_told held explore (BytesAfterTrace file) (inr so) = absurd so
+first_told held explore (Check file error) (inl so) = absurd (no_other explore.allow (Check file error) (λ name is. is) so)
+first_told held explore (Check file error) (inr so) = absurd so
+first_told held explore (TooManyRows file) (inl so) = absurd (no_other explore.allow (TooManyRows file) (λ name is. is) so)
+first_told held explore (TooManyRows file) (inr so) = absurd so
+first_told held explore (BadAddress word) (inl so) = absurd (no_other explore.allow (BadAddress word) (λ name is. is) so)
+first_told held explore (BadAddress word) (inr so) = absurd so
+first_told held explore NoThread (inl so) = absurd (no_other explore.allow NoThread (λ name is. is) so)
+first_told held explore NoThread (inr so) = absurd so
+first_told held explore Mismatch (inl so) = absurd (no_other explore.allow Mismatch (λ name is. is) so)
+first_told held explore Mismatch (inr so) = absurd so
+first_told held explore BadEvent (inl so) = absurd (no_other explore.allow BadEvent (λ name is. is) so)
+first_told held explore BadEvent (inr so) = absurd so
+first_told held explore Configuration (inl so) = absurd (no_other explore.allow Configuration (λ name is. is) so)
+first_told held explore Configuration (inr so) = absurd so
+first_told held explore OutOfMemory so = tt
 
-pub first_left : (explore : Explore) (fault : Fault) (old new : Option (List ℕ)) (part : Type 0) → IsFirst explore fault → new ≡ old → LeavesPart fault old new part
-first_left explore (CannotRead file) old new part so same = same
-first_left explore (CannotMake file) old new part (inl so) same = absurd (no_other explore.allow (CannotMake file) (λ name is. is) so)
-first_left explore (CannotMake file) old new part (inr so) same = absurd so
-first_left explore CannotWrite old new part (inl so) same = absurd (no_other explore.allow CannotWrite (λ name is. is) so)
-first_left explore CannotWrite old new part (inr so) same = absurd so
-first_left explore (Image file error) old new part so same = same
-first_left explore (Text file error) old new part so same = same
-first_left explore (Event file line error) old new part so same = same
-first_left explore (NothingHappens file line outcome) old new part so same = same
-first_left explore (BytesAfterTrace file) old new part so same = same
-first_left explore (Check file error) old new part so same = same
-first_left explore (TooManyRows file) old new part so same = same
-first_left explore (BadAddress word) old new part so same = same
-first_left explore NoThread old new part so same = same
-first_left explore Mismatch old new part so same = same
-first_left explore BadEvent old new part so same = same
-first_left explore Configuration old new part so same = same
-first_left explore OutOfMemory old new part so same = inl same
+pub first_left : (held : Held) (explore : Explore) (fault : Fault) (old new : Option (List ℕ)) (part : Type 0) → IsFirst held explore fault → new ≡ old → LeavesPart fault old new part
+first_left held explore (CannotRead file) old new part so same = same
+first_left held explore (CannotMake file) old new part (inl so) same = absurd (no_other explore.allow (CannotMake file) (λ name is. is) so)
+first_left held explore (CannotMake file) old new part (inr so) same = absurd so
+first_left held explore CannotWrite old new part (inl so) same = absurd (no_other explore.allow CannotWrite (λ name is. is) so)
+first_left held explore CannotWrite old new part (inr so) same = absurd so
+first_left held explore (Image file error) old new part so same = same
+first_left held explore (Text file error) old new part so same = same
+first_left held explore (Event file line error) old new part so same = same
+first_left held explore (NothingHappens file line outcome) old new part so same = same
+first_left held explore (BytesAfterTrace file) old new part so same = same
+first_left held explore (Check file error) old new part so same = same
+first_left held explore (TooManyRows file) old new part so same = same
+first_left held explore (BadAddress word) old new part so same = same
+first_left held explore NoThread old new part so same = same
+first_left held explore Mismatch old new part so same = same
+first_left held explore BadEvent old new part so same = same
+first_left held explore Configuration old new part so same = same
+first_left held explore OutOfMemory old new part so same = inl same
 
 -- ---- the output and the folder
 
-pub output_told : (explore : Explore) (fault : Fault) → (fault ≡ CannotWrite) ⊎ (fault ≡ OutOfMemory) → IsExploreFault explore fault
-output_told explore fault is = elim is [
-  | inl at ↦ subst (IsExploreFault explore) (sym at) tt
-  | inr at ↦ subst (IsExploreFault explore) (sym at) tt
+pub output_told : (held : Held) (explore : Explore) (fault : Fault) → (fault ≡ CannotWrite) ⊎ (fault ≡ OutOfMemory) → IsExploreFault held explore fault
+output_told held explore fault is = elim is [
+  | inl at ↦ subst (IsExploreFault held explore) (sym at) tt
+  | inr at ↦ subst (IsExploreFault held explore) (sym at) tt
 ]
 
 pub output_left : (fault : Fault) (old new : Option (List ℕ)) (part : Type 0) → (fault ≡ CannotWrite) ⊎ (fault ≡ OutOfMemory) → part → LeavesPart fault old new part
@@ -95,10 +95,10 @@ folder_fault (Some name) fault so = elim so [
   | inr at ↦ inr at
 ]
 
-pub folder_told : (explore : Explore) (fault : Fault) → IsNamedBy explore.scripts IsFolderFault fault → IsExploreFault explore fault
-folder_told explore fault so = elim (folder_fault explore.scripts fault so) [
-  | inl at ↦ subst (IsExploreFault explore) (sym at.2) at.1
-  | inr at ↦ subst (IsExploreFault explore) (sym at) tt
+pub folder_told : (held : Held) (explore : Explore) (fault : Fault) → IsNamedBy explore.scripts IsFolderFault fault → IsExploreFault held explore fault
+folder_told held explore fault so = elim (folder_fault explore.scripts fault so) [
+  | inl at ↦ subst (IsExploreFault held explore) (sym at.2) at.1
+  | inr at ↦ subst (IsExploreFault held explore) (sym at) tt
 ]
 
 pub folder_left : (explore : Explore) (fault : Fault) (old new : Option (List ℕ)) (part : Type 0) → IsNamedBy explore.scripts IsFolderFault fault → part → LeavesPart fault old new part
@@ -128,7 +128,7 @@ module _ (held : Held) (explore : Explore) (printed : Type 0) where
   allow_first Configuration so = tt
   allow_first OutOfMemory so = tt
 
-  pub image_next : (fault : Fault) → HasAllowFile held explore.allow → IsImageFault explore.image fault → ComesAfter held explore printed fault
+  pub image_next : (fault : Fault) → HasAllowFile held explore.allow → IsImageFault held explore.raw explore.image explore.machine.memory fault → ComesAfter held explore printed fault
   image_next (CannotRead file) read so = inr (so, read)
   image_next (Image file error) read so = read
   image_next (CannotMake file) read so = absurd so

@@ -2,7 +2,7 @@
 use Rattle.std.specs.Prelude.{◌≡◌, ◌≢◌, ◌⊎◌, ℕ, [], All, IfSome, List, None, Option, Some}
 use Rattle.std.specs.Io.KnownBytes.{Appends}
 use Rattle.std.specs.List.Sorted.{IsSortedByKey}
-use Rattle.command_files.specs.Faults.{Name}
+use Rattle.command_files.specs.Faults.{IsNoImage, Name}
 use Rattle.command_files.specs.Files.{HoldsImage}
 use Rattle.command_files.specs.Held.{Held, HoldsBytes}
 use Rattle.command_files.specs.Sizes.{IsOutside, config_named}
@@ -93,15 +93,15 @@ IsNamedBy (Some file) IsOf fault = IsOf file fault
 abbrev pub IsFolderFault : Name → Fault → Type 0
 IsFolderFault folder fault = (fault ≡ CannotMake folder) ⊎ (fault ≡ OutOfMemory)
 
--- which faults there are, and of which file
-abbrev pub IsExploreFault : Explore → Fault → Type 0
-IsExploreFault explore Configuration = IsOutside explore.machine
-IsExploreFault explore (CannotRead file) = (file ≡ explore.image) ⊎ (explore.allow ≡ Some file)
-IsExploreFault explore (Image file error) = file ≡ explore.image
-IsExploreFault explore (CannotMake file) = explore.scripts ≡ Some file
-IsExploreFault explore CannotWrite = Unit {0}
-IsExploreFault explore OutOfMemory = Unit {0}
-IsExploreFault explore _ = ⊥
+-- which faults there are, and of which file; the image is refused for the cause that is told
+abbrev pub IsExploreFault : Held → Explore → Fault → Type 0
+IsExploreFault held explore Configuration = IsOutside explore.machine
+IsExploreFault held explore (CannotRead file) = (file ≡ explore.image) ⊎ (explore.allow ≡ Some file)
+IsExploreFault held explore (Image file error) = (file ≡ explore.image) × IsNoImage held explore.raw explore.image.now explore.machine.memory error
+IsExploreFault held explore (CannotMake file) = explore.scripts ≡ Some file
+IsExploreFault held explore CannotWrite = Unit {0}
+IsExploreFault held explore OutOfMemory = Unit {0}
+IsExploreFault held explore _ = ⊥
 
 -- the file that says what is allowed could be read, if one was named
 abbrev pub HasAllowFile : Held → Option Name → Type 0

@@ -36,7 +36,7 @@ pub fn explore_files<'a, F: Files, O: Write, E: Write>(
     requires room { 0 < wanted.states }
     ensures explored { IfOk result (λ judgement. IsExplored (F.held files.old) (F.held files.new) wanted.entry judgement (O.contents out.old) (O.contents out.new)) }
     ensures outside { IsOutside wanted.entry.machine → result ≡ Err Fault.Configuration }
-    ensures told { IfErr result (IsExploreFault wanted.entry) }
+    ensures told { IfErr result (IsExploreFault (F.held files.old) wanted.entry) }
     ensures unfinished { IfErr result (λ fault. LeavesPart fault (O.contents out.old) (O.contents out.new)
         (IsPartlyExplored (F.held files.old) wanted.entry (O.contents out.old) (O.contents out.new))) }
     ensures before { IfErr result (ComesAfter (F.held files.old) wanted.entry

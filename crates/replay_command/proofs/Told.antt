@@ -2,13 +2,15 @@
 use Rattle.std.proofs.Common.{◌≡◌, inl, inr}
 use Rattle.command_files.specs.Held.{Held}
 use Rattle.command_files.specs.Status.{status_of}
-use Rattle.command_files.specs.Faults.{HasScript, IsImageFault, IsScriptFault}
+use Rattle.command_files.specs.Faults.{IsImageFault, IsScriptFault}
+use Rattle.command_files.specs.Files.{HoldsScript}
 use Rattle.command_files.specs.Faults.{IsReplayFault}
 use Rattle.command_files.specs.declared.fault.Fault.{Fault}
 use Rattle.command_files.specs.declared.fault.Fault.TheVariants.{BadAddress, BadEvent, BytesAfterTrace, CannotMake, CannotRead, CannotWrite, Check, Configuration, Event, Image, Mismatch, NoThread, NothingHappens, OutOfMemory, Text, TooManyRows}
 use Rattle.command_settings.specs.declared.wanted.Replay.{Replay}
+use Rattle.trace_text.specs.declared.script.Script.{Script}
 
-pub of_script : (held : Held) (replay : Replay) (fault : Fault) → IsScriptFault replay.script fault → IsReplayFault held replay fault
+pub of_script : (held : Held) (replay : Replay) (fault : Fault) → IsScriptFault held replay.script fault → IsReplayFault held replay fault
 of_script held replay (CannotRead file) is = inl is
 of_script held replay (Text file error) is = is
 of_script held replay OutOfMemory is = tt
@@ -26,23 +28,24 @@ of_script held replay Mismatch is = absurd is
 of_script held replay BadEvent is = absurd is
 of_script held replay Configuration is = absurd is
 
-pub of_image : (held : Held) (replay : Replay) (fault : Fault) → HasScript held replay.script.now → IsImageFault replay.image fault → IsReplayFault held replay fault
-of_image held replay (CannotRead file) has is = inr (is, has)
-of_image held replay (Image file error) has is = (is, has)
-of_image held replay OutOfMemory has is = tt
-of_image held replay (Text file error) has is = absurd is
-of_image held replay (CannotMake file) has is = absurd is
-of_image held replay CannotWrite has is = absurd is
-of_image held replay (Event file line error) has is = absurd is
-of_image held replay (BytesAfterTrace file) has is = absurd is
-of_image held replay (NothingHappens file line outcome) has is = absurd is
-of_image held replay (Check file error) has is = absurd is
-of_image held replay (TooManyRows file) has is = absurd is
-of_image held replay (BadAddress word) has is = absurd is
-of_image held replay NoThread has is = absurd is
-of_image held replay Mismatch has is = absurd is
-of_image held replay BadEvent has is = absurd is
-of_image held replay Configuration has is = absurd is
+pub of_image : (held : Held) (replay : Replay) (script : Script) (fault : Fault) → HoldsScript held replay.script.now script → IsImageFault held replay.raw replay.image script.kib fault
+    → IsReplayFault held replay fault
+of_image held replay script (CannotRead file) has is = inr (is, (script, has))
+of_image held replay script (Image file error) has is = (is.0, (script, has, is.1))
+of_image held replay script OutOfMemory has is = tt
+of_image held replay script (Text file error) has is = absurd is
+of_image held replay script (CannotMake file) has is = absurd is
+of_image held replay script CannotWrite has is = absurd is
+of_image held replay script (Event file line error) has is = absurd is
+of_image held replay script (BytesAfterTrace file) has is = absurd is
+of_image held replay script (NothingHappens file line outcome) has is = absurd is
+of_image held replay script (Check file error) has is = absurd is
+of_image held replay script (TooManyRows file) has is = absurd is
+of_image held replay script (BadAddress word) has is = absurd is
+of_image held replay script NoThread has is = absurd is
+of_image held replay script Mismatch has is = absurd is
+of_image held replay script BadEvent has is = absurd is
+of_image held replay script Configuration has is = absurd is
 
 pub replay_never_misused : (held : Held) (replay : Replay) (fault : Fault) → IsReplayFault held replay fault → status_of fault ≡ 2 → ⊥
 replay_never_misused held replay CannotWrite so two = cc

@@ -6,7 +6,7 @@ use Rattle.command_files.specs.declared.fault.Fault.{Fault}
 use Rattle.command_files.specs.declared.fault.Fault.TheVariants.{BadAddress, BadEvent, BytesAfterTrace, CannotMake, CannotRead, CannotWrite, Check, Configuration, Event, Image, Mismatch, NoThread, NothingHappens, OutOfMemory, Text, TooManyRows}
 use Rattle.command_settings.specs.declared.wanted.Run.{Run}
 
-pub of_run_image : (held : Held) (run : Run) (fault : Fault) → IsImageFault run.image fault → IsRunFault held run fault
+pub of_run_image : (held : Held) (run : Run) (fault : Fault) → IsImageFault held run.raw run.image run.machine.memory fault → IsRunFault held run fault
 of_run_image held run (CannotRead file) is = is
 of_run_image held run (Image file error) is = is
 of_run_image held run OutOfMemory is = tt

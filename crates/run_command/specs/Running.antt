@@ -2,6 +2,7 @@
 use Rattle.command_files.specs.Composition.{IsComposition, Leads}
 use Rattle.command_files.specs.Sizes.{config_of, IsOutside, config_named}
 use Rattle.command_files.specs.Files.{HoldsImage, HoldsScript}
+use Rattle.command_files.specs.Faults.{IsNoImage}
 use Rattle.command_files.specs.Held.{Held}
 use Rattle.command_files.specs.declared.fault.Fault.TheVariants.{BadEvent, CannotMake, CannotRead, CannotWrite, Configuration, Image, Mismatch, NoThread, OutOfMemory}
 use Rattle.command_files.specs.declared.fault.Fault.{Fault}
@@ -43,7 +44,7 @@ pub record IsRunCutOff (held left : Held) (run : Run) (old new : Option (List �
 abbrev pub IsRunFault : Held → Run → Fault → Type 0
 IsRunFault held run Configuration = IsOutside run.machine
 IsRunFault held run (CannotRead file) = file ≡ run.image
-IsRunFault held run (Image file error) = file ≡ run.image
+IsRunFault held run (Image file error) = (file ≡ run.image) × IsNoImage held run.raw run.image.now run.machine.memory error
 IsRunFault held run NoThread = (image : Initial) × HoldsImage held run.raw run.image.now run.machine.memory image
 IsRunFault held run Mismatch = (image : Initial) × HoldsImage held run.raw run.image.now run.machine.memory image
 IsRunFault held run BadEvent = (image : Initial) × HoldsImage held run.raw run.image.now run.machine.memory image

@@ -36,7 +36,7 @@ pub fn sample_files<'a, F: Files, O: Write, E: Write>(
 ) -> Result<Judgement, Fault<'a>>
     ensures sampled { IfOk result (λ judgement. IsSampled (F.held files.old) (F.held files.new) wanted.entry runs judgement (O.contents out.old) (O.contents out.new)) }
     ensures outside { IsOutside wanted.entry.machine → result ≡ Err Fault.Configuration }
-    ensures told { IfErr result (IsExploreFault wanted.entry) }
+    ensures told { IfErr result (IsExploreFault (F.held files.old) wanted.entry) }
     ensures unfinished { IfErr result (λ fault. LeavesPart fault (O.contents out.old) (O.contents out.new)
         (IsPartlySampled (F.held files.old) wanted.entry runs (O.contents out.old) (O.contents out.new))) }
     ensures spared { SparesOthers (IsScriptFile wanted.entry.scripts) (F.held files.old) (F.held files.new) }

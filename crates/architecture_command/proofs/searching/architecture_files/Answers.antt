@@ -1,5 +1,5 @@
 use Rattle.std.proofs.Common.{◌≡◌, ◌∙◌, inl, inr, refl, subst, true}
-use Rattle.command_files.proofs.Left.{handed_up}
+use Rattle.command_files.proofs.Left.{handed_up, image_as_before}
 use Rattle.architecture_command.proofs.Readable.{each_has_text}
 use Rattle.architecture_command.proofs.Searched.{part, whole}
 use Rattle.explore_command.proofs.Explored.{all_of, err_more, judged, memory_left, memory_told, ok_both, ok_more, spared, spared_after}
@@ -9,19 +9,19 @@ use Rattle.machine_model.specs.declared.config.Config.{Config}
 use Rattle.architecture_command.proofs.searching.architecture_files.Goals as goal
 
 pub returns-in_err-allowed-clause-told : goal.returns-in_err-allowed-clause-told
-returns-in_err-allowed-clause-told g c = handed_up _ c.from_residual.result _ c.from_residual.ensures.1 (first_told c.args.wanted _ (inl c.in_err-allowed.ensures.told))
+returns-in_err-allowed-clause-told g c = handed_up _ c.from_residual.result _ c.from_residual.ensures.1 (first_told (g.F.Files.held c.args.files.now) c.args.wanted _ (inl c.in_err-allowed.ensures.told))
 
 pub returns-in_err-allowed-clause-unfinished : goal.returns-in_err-allowed-clause-unfinished
-returns-in_err-allowed-clause-unfinished g c = handed_up _ c.from_residual.result _ c.from_residual.ensures.1 (first_left c.args.wanted _ _ _ _ (inl c.in_err-allowed.ensures.told) refl)
+returns-in_err-allowed-clause-unfinished g c = handed_up _ c.from_residual.result _ c.from_residual.ensures.1 (first_left (g.F.Files.held c.args.files.now) c.args.wanted _ _ _ _ (inl c.in_err-allowed.ensures.told) refl)
 
 pub returns-in_err-allowed-clause-spared : goal.returns-in_err-allowed-clause-spared
 returns-in_err-allowed-clause-spared g c = spared _ _ _ c.allow_file.ensures.stays
 
 pub returns-in_err-image-clause-told : goal.returns-in_err-image-clause-told
-returns-in_err-image-clause-told g c = handed_up _ c.from_residual-in_err-image.result _ c.from_residual-in_err-image.ensures.1 (first_told c.args.wanted _ (inr c.in_err-image.ensures.fault))
+returns-in_err-image-clause-told g c = handed_up _ c.from_residual-in_err-image.result _ c.from_residual-in_err-image.ensures.1 (first_told (g.F.Files.held c.args.files.now) c.args.wanted _ (inr (image_as_before (g.F.Files.held c.allow_file.new.files) (g.F.Files.held c.args.files.now) c.args.wanted.raw c.args.wanted.image c.args.wanted.machine.memory _ c.in_ok-allowed.ensures.stays c.in_err-image.ensures.fault)))
 
 pub returns-in_err-image-clause-unfinished : goal.returns-in_err-image-clause-unfinished
-returns-in_err-image-clause-unfinished g c = handed_up _ c.from_residual-in_err-image.result _ c.from_residual-in_err-image.ensures.1 (first_left c.args.wanted _ _ _ _ (inr c.in_err-image.ensures.fault) refl)
+returns-in_err-image-clause-unfinished g c = handed_up _ c.from_residual-in_err-image.result _ c.from_residual-in_err-image.ensures.1 (first_left (g.F.Files.held c.args.files.now) c.args.wanted _ _ _ _ (inr (image_as_before (g.F.Files.held c.allow_file.new.files) (g.F.Files.held c.args.files.now) c.args.wanted.raw c.args.wanted.image c.args.wanted.machine.memory _ c.in_ok-allowed.ensures.stays c.in_err-image.ensures.fault)) refl)
 
 pub returns-in_err-image-clause-spared : goal.returns-in_err-image-clause-spared
 returns-in_err-image-clause-spared g c = spared _ _ _ (c.image_in.ensures.stays ∙ c.in_ok-allowed.ensures.stays)
@@ -33,7 +33,7 @@ pub keep-requires-clause-readable : goal.keep-requires-clause-readable
 keep-requires-clause-readable g c = each_has_text c.in_ok-image.image c.in-Some.config c.entry-entry.ensures.image c.in-Some.ensures.config.1 c.in-Ok.found.outcomes.items c.in-Ok.ensures.shown
 
 pub returns-in_err-print-clause-told : goal.returns-in_err-print-clause-told
-returns-in_err-print-clause-told g c = handed_up _ c.from_residual-in_err-print.result _ c.from_residual-in_err-print.ensures.1 (output_told c.args.wanted _ c.in_err-print.ensures.told)
+returns-in_err-print-clause-told g c = handed_up _ c.from_residual-in_err-print.result _ c.from_residual-in_err-print.ensures.1 (output_told _ c.args.wanted _ c.in_err-print.ensures.told)
 
 pub returns-in_err-print-clause-unfinished : goal.returns-in_err-print-clause-unfinished
 returns-in_err-print-clause-unfinished g c =
@@ -48,7 +48,7 @@ pub returns-in_err-print-clause-spared : goal.returns-in_err-print-clause-spared
 returns-in_err-print-clause-spared g c = spared _ _ _ (c.image_in.ensures.stays ∙ c.in_ok-allowed.ensures.stays)
 
 pub returns-in_err-keep-clause-told : goal.returns-in_err-keep-clause-told
-returns-in_err-keep-clause-told g c = handed_up _ c.from_residual-in_err-keep.result _ c.from_residual-in_err-keep.ensures.1 (folder_told c.args.wanted _ c.in_err-keep.ensures.told)
+returns-in_err-keep-clause-told g c = handed_up _ c.from_residual-in_err-keep.result _ c.from_residual-in_err-keep.ensures.1 (folder_told _ c.args.wanted _ c.in_err-keep.ensures.told)
 
 pub returns-in_err-keep-clause-unfinished : goal.returns-in_err-keep-clause-unfinished
 returns-in_err-keep-clause-unfinished g c =
@@ -73,7 +73,7 @@ returns-clause-searched g c =
     (ok_both _ _ c.judge.result c.judge.ensures.judged c.judge.ensures.whole)
 
 pub returns-clause-told : goal.returns-clause-told
-returns-clause-told g c = err_more _ _ c.judge.result (λ fault is. memory_told c.args.wanted fault is) c.judge.ensures.told
+returns-clause-told g c = err_more _ _ c.judge.result (λ fault is. memory_told _ c.args.wanted fault is) c.judge.ensures.told
 
 pub returns-clause-unfinished : goal.returns-clause-unfinished
 returns-clause-unfinished g c =

@@ -2,7 +2,7 @@ use Rattle.std.proofs.Common.{◌≡◌, ◌∙◌, Err, ap, false, inr, subst, 
 use Rattle.std.proofs.lemmas.Bool.{false≢true}
 use Rattle.chart_command.proofs.Drawn.{begun_at, drawn_at, drawn_begun, drawn_on, left_or_stopped, lost_told, stopped, told_as, undrawn_at}
 use Rattle.chart_command.proofs.Told.{chart_misused, drawing_never_misused, of_address, of_chart_image, of_chart_script, writing_never_misused}
-use Rattle.command_files.proofs.Left.{handed_up}
+use Rattle.command_files.proofs.Left.{handed_up, image_as_before}
 use Rattle.command_files.proofs.Limits.{machine_within, memory_within}
 use Rattle.command_files.specs.Files.{HoldsImage}
 use Rattle.command_files.specs.Held.{Held}
@@ -17,12 +17,12 @@ returns-in_err-address-clause-told g c = handed_up _ c.from_residual.result _ c.
 
 pub returns-in_err-script-clause-told : goal.returns-in_err-script-clause-told
 returns-in_err-script-clause-told g c =
-    handed_up _ c.from_residual-in_err-script.result _ c.from_residual-in_err-script.ensures.1 (of_chart_script _ c.args.wanted _ _ c.in_err-script.ensures.fault)
+    handed_up _ c.from_residual-in_err-script.result _ c.from_residual-in_err-script.ensures.1 (of_chart_script (g.F.Files.held c.args.files.now) c.args.wanted _ _ c.in_err-script.ensures.fault)
 
 pub returns-in_err-image-clause-told : goal.returns-in_err-image-clause-told
 returns-in_err-image-clause-told g c =
     handed_up _ c.from_residual-in_err-image.result _ c.from_residual-in_err-image.ensures.1
-    (of_chart_image _ c.args.wanted _ _ (c.in_ok-script.script, c.in_ok-script.ensures.script) c.in_err-image.ensures.fault)
+    (of_chart_image (g.F.Files.held c.args.files.now) c.args.wanted _ c.in_ok-script.script _ c.in_ok-script.ensures.script (image_as_before (g.F.Files.held c.script_in.new.files) (g.F.Files.held c.args.files.now) c.args.wanted.raw c.args.wanted.image c.in_ok-script.script.kib _ c.in_ok-script.ensures.stays c.in_err-image.ensures.fault))
 
 pub returns-in-Err-clause-unfinished : goal.returns-in-Err-clause-unfinished
 returns-in-Err-clause-unfinished g c =

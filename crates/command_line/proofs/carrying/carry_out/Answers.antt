@@ -1,6 +1,6 @@
 use Rattle.std.proofs.Common.{subst, sym}
 use Rattle.command_files.proofs.Left.{either, handed_up}
-use Rattle.command_line.proofs.Carried.{broken, broken_off, check_beyond, check_broken, check_came, explained, explore_beyond, explore_broken, explore_came, explore_written}
+use Rattle.command_line.proofs.Carried.{all_told_of, broken, broken_off, check_beyond, check_broken, check_came, explain_told, explained, explore_beyond, explore_broken, explore_came, explore_written, told_of}
 use Rattle.command_line.proofs.Meant.{beyond_run, journal_alone, no_address, unwritten}
 use Rattle.command_line.specs.Running.{IsBeyond, IsDone, IsWritten}
 use Rattle.explain_command.proofs.Told.{explain_never_misused}
@@ -74,7 +74,7 @@ pub returns-in-Explore-clause-unfinished : goal.returns-in-Explore-clause-unfini
 returns-in-Explore-clause-unfinished g c = explore_broken _ _ _ _ _ c.in-Explore.explore c.explored.result c.in-Explore.is c.explored.ensures.unfinished
 
 pub returns-in-Explore-clause-beyond : goal.returns-in-Explore-clause-beyond
-returns-in-Explore-clause-beyond g c = explore_beyond _ _ _ c.in-Explore.explore _ c.explored.result c.in-Explore.is c.explored.ensures.told c.explored.ensures.unfinished
+returns-in-Explore-clause-beyond g c = explore_beyond _ _ _ _ c.in-Explore.explore _ c.explored.result c.in-Explore.is c.explored.ensures.told c.explored.ensures.unfinished
 
 pub returns-in-Explore-clause-spared : goal.returns-in-Explore-clause-spared
 returns-in-Explore-clause-spared g c = explore_written _ _ _ c.in-Explore.explore c.in-Explore.is c.explored.ensures.spared
@@ -90,3 +90,22 @@ returns-in-Check-clause-beyond g c = check_beyond _ _ _ c.checked.result c.check
 
 pub returns-in-Check-clause-spared : goal.returns-in-Check-clause-spared
 returns-in-Check-clause-spared g c = unwritten _ _ _ c.checked.ensures.spared
+
+pub returns-in_err-replay_files-in-Replay-clause-told : goal.returns-in_err-replay_files-in-Replay-clause-told
+returns-in_err-replay_files-in-Replay-clause-told g c = handed_up _ c.from_residual.result _ c.from_residual.ensures.1 (told_of _ _ _ _ _ _ c.in-Replay.is c.in_err-replay_files-in-Replay.ensures.told)
+
+pub returns-in_err-explain_files-in-Explain-clause-told : goal.returns-in_err-explain_files-in-Explain-clause-told
+returns-in_err-explain_files-in-Explain-clause-told g c = handed_up _ c.from_residual-in_err-explain_files-in-Explain.result _ c.from_residual-in_err-explain_files-in-Explain.ensures.1
+    (told_of _ _ _ _ _ _ c.in-Explain.is (explain_told _ _ _ c.in-Explain.explain c.strictness_of-strictness.result _ c.strictness_of-strictness.ensures c.in_err-explain_files-in-Explain.ensures.told))
+
+pub returns-in_err-chart_files-in-Chart-clause-told : goal.returns-in_err-chart_files-in-Chart-clause-told
+returns-in_err-chart_files-in-Chart-clause-told g c = handed_up _ c.from_residual-in_err-chart_files-in-Chart.result _ c.from_residual-in_err-chart_files-in-Chart.ensures.1 (told_of _ _ _ _ _ _ c.in-Chart.is c.in_err-chart_files-in-Chart.ensures.told)
+
+pub returns-in_err-run_files-in-Run-clause-told : goal.returns-in_err-run_files-in-Run-clause-told
+returns-in_err-run_files-in-Run-clause-told g c = handed_up _ c.from_residual-in_err-run_files-in-Run.result _ c.from_residual-in_err-run_files-in-Run.ensures.1 (told_of _ _ _ _ _ _ c.in-Run.is c.in_err-run_files-in-Run.ensures.told)
+
+pub returns-in-Explore-clause-told : goal.returns-in-Explore-clause-told
+returns-in-Explore-clause-told g c = all_told_of _ _ _ _ _ c.explored.result c.in-Explore.is c.explored.ensures.told
+
+pub returns-in-Check-clause-told : goal.returns-in-Check-clause-told
+returns-in-Check-clause-told g c = all_told_of _ _ _ _ _ c.checked.result c.in-Check.is c.checked.ensures.told

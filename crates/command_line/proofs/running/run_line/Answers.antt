@@ -5,6 +5,7 @@ use Rattle.clap.specs.declared.error.kind.ErrorKind.{ErrorKind}
 use Rattle.command_files.specs.Held.{Held}
 use Rattle.command_line.proofs.Meant.{some_states}
 use Rattle.command_line.specs.Running.{Came, IsBroken, IsCarriedOut, IsNotLegal, IsUnprinted}
+use Rattle.command_line.specs.Telling.{IsFaulted}
 use Rattle.command_settings.specs.Refusals.{HasKinds, IsFitting, IsHelp, IsRefused}
 use Rattle.command_settings.specs.Settings.{IsNamed}
 use Rattle.command_settings.specs.declared.wanted.Settings.{Settings}
@@ -112,4 +113,31 @@ returns-clause-unfit g c = λ unfit no_help. elim c.match-settings.branch [
   | in-Ok+in-Err w ↦ absurd (unfit w.in-Ok.ensures.fitting)
   | in-Err-NoMemory w ↦
       let four : c.status.result ≡ 4 = rw w.fault-is at c.status.ensures in inr four
+]
+
+-- status 1 is that of a fault of what the words name, or of help that did not go out
+pub returns-in-Ok-Allowed-clause-faulted : goal.returns-in-Ok-Allowed-clause-faulted
+returns-in-Ok-Allowed-clause-faulted g c = λ one. let bad : 0 ≡ 1 = one in cc
+
+pub returns-in-Ok-NotAllowed-clause-faulted : goal.returns-in-Ok-NotAllowed-clause-faulted
+returns-in-Ok-NotAllowed-clause-faulted g c = λ one. let bad : 3 ≡ 1 = one in cc
+
+pub returns-in-Err-Usage-clause-faulted : goal.returns-in-Err-Usage-clause-faulted
+unfolding IsFaulted
+returns-in-Err-Usage-clause-faulted g c = λ one. elim (rw c.in-Err-Usage.field-0-is at c.explain.ensures.help) [
+  | inl two ↦ let no : 1 ≡ 2 = sym one ∙ two in cc
+  | inr asks ↦ inl (told_of _ c.in-Err-Usage.field-0 c.in-Err-Usage.usage IsHelp c.in-Err-Usage.field-0-is c.in-Err-Usage.ensures.refused asks)
+]
+
+pub returns-clause-faulted : goal.returns-clause-faulted
+unfolding IsFaulted
+returns-clause-faulted g c = λ one. elim c.match-settings.branch [
+  | in-Ok+in-Err w ↦ rw (w.out-is) (inr (w.in-Ok.wanted, w.in-Ok.ensures.named, w.in-Ok.ensures.fitting, record {
+    fault = w.in-Err.fault;
+    told = w.in-Err.ensures.told;
+    of_status = rw (← w.fault-is) (sym c.status.ensures ∙ one);
+  }))
+  | in-Err-NoMemory w ↦
+      let four : c.status.result ≡ 4 = rw w.fault-is at c.status.ensures in
+      let bad : 4 ≡ 1 = sym four ∙ one in cc
 ]

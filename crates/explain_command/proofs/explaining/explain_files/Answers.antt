@@ -4,7 +4,7 @@ use Rattle.event_stream.specs.declared.errors.StreamError.TheVariants as stream
 use Rattle.machine_model.specs.Config.{is_within_limits}
 use Rattle.command_files.specs.Files.{HoldsImage}
 use Rattle.command_files.specs.Held.{Held}
-use Rattle.command_files.proofs.Left.{handed_up}
+use Rattle.command_files.proofs.Left.{handed_up, image_as_before}
 use Rattle.explain_command.proofs.Told.{of_explained_image, of_explained_script}
 use Rattle.command_files.proofs.Limits.{machine_within, memory_within}
 use Rattle.explain_command.proofs.Streams.{lost_told, part_at, part_of, part_on, told_as, whole_at}
@@ -15,12 +15,12 @@ image_in-requires g c = memory_within c.in_ok-script.script c.in_ok-script.ensur
 
 pub returns-in_err-script-clause-told : goal.returns-in_err-script-clause-told
 returns-in_err-script-clause-told g c =
-    handed_up _ c.from_residual.result _ c.from_residual.ensures.1 (of_explained_script _ c.args.wanted _ _ _ _ c.in_err-script.ensures.fault)
+    handed_up _ c.from_residual.result _ c.from_residual.ensures.1 (of_explained_script (g.F.Files.held c.args.files.now) c.args.wanted _ _ _ _ c.in_err-script.ensures.fault)
 
 pub returns-in_err-image-clause-told : goal.returns-in_err-image-clause-told
 returns-in_err-image-clause-told g c =
     handed_up _ c.from_residual-in_err-image.result _ c.from_residual-in_err-image.ensures.1
-    (of_explained_image _ c.args.wanted _ _ _ _ (c.in_ok-script.script, c.in_ok-script.ensures.script) c.in_err-image.ensures.fault)
+    (of_explained_image (g.F.Files.held c.args.files.now) c.args.wanted _ _ _ c.in_ok-script.script _ c.in_ok-script.ensures.script (image_as_before (g.F.Files.held c.script_in.new.files) (g.F.Files.held c.args.files.now) c.args.wanted.raw c.args.wanted.image c.in_ok-script.script.kib _ c.in_ok-script.ensures.stays c.in_err-image.ensures.fault))
 
 pub returns-in-Ok-clause-explained : goal.returns-in-Ok-clause-explained
 returns-in-Ok-clause-explained g c = record {

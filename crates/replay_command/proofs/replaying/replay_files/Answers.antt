@@ -20,7 +20,7 @@ use Rattle.machine_parts.specs.declared.errors.ApplyError.{ApplyError}
 use Rattle.trace_text.specs.declared.script.Script.{Script}
 use Rattle.command_files.specs.Files.{HoldsImage, HoldsScript}
 use Rattle.command_files.specs.Held.{Held}
-use Rattle.command_files.proofs.Left.{handed_up, image_is_not_write, left, script_is_not_write, spoiled}
+use Rattle.command_files.proofs.Left.{handed_up, image_as_before, image_is_not_write, left, script_is_not_write, spoiled}
 use Rattle.replay_command.proofs.Told.{of_image, of_script}
 use Rattle.command_files.proofs.Limits.{machine_within, memory_within}
 use Rattle.command_files.proofs.Written.{all_begun, kept_on}
@@ -96,21 +96,21 @@ image_in-requires g c = memory_within c.in_ok-script.script c.in_ok-script.ensur
 pub returns-in_err-script-clause-unfinished : goal.returns-in_err-script-clause-unfinished
 returns-in_err-script-clause-unfinished g c =
     handed_up _ c.from_residual.result _ c.from_residual.ensures.1
-    (left _ _ _ _ (script_is_not_write _ _ c.in_err-script.ensures.fault) refl)
+    (left _ _ _ _ (script_is_not_write (g.F.Files.held c.args.files.now) _ _ c.in_err-script.ensures.fault) refl)
 
 pub returns-in_err-script-clause-told : goal.returns-in_err-script-clause-told
 returns-in_err-script-clause-told g c =
-    handed_up _ c.from_residual.result _ c.from_residual.ensures.1 (of_script _ c.args.wanted _ c.in_err-script.ensures.fault)
+    handed_up _ c.from_residual.result _ c.from_residual.ensures.1 (of_script (g.F.Files.held c.args.files.now) c.args.wanted _ c.in_err-script.ensures.fault)
 
 pub returns-in_err-image-clause-unfinished : goal.returns-in_err-image-clause-unfinished
 returns-in_err-image-clause-unfinished g c =
     handed_up _ c.from_residual-in_err-image.result _ c.from_residual-in_err-image.ensures.1
-    (left _ _ _ _ (image_is_not_write _ _ c.in_err-image.ensures.fault) refl)
+    (left _ _ _ _ (image_is_not_write (g.F.Files.held c.args.files.now) c.args.wanted.raw c.args.wanted.image c.in_ok-script.script.kib _ (image_as_before (g.F.Files.held c.script_in.new.files) (g.F.Files.held c.args.files.now) c.args.wanted.raw c.args.wanted.image c.in_ok-script.script.kib _ c.in_ok-script.ensures.stays c.in_err-image.ensures.fault)) refl)
 
 pub returns-in_err-image-clause-told : goal.returns-in_err-image-clause-told
 returns-in_err-image-clause-told g c =
     handed_up _ c.from_residual-in_err-image.result _ c.from_residual-in_err-image.ensures.1
-    (of_image _ c.args.wanted _ (c.in_ok-script.script, c.in_ok-script.ensures.script) c.in_err-image.ensures.fault)
+    (of_image (g.F.Files.held c.args.files.now) c.args.wanted c.in_ok-script.script _ c.in_ok-script.ensures.script (image_as_before (g.F.Files.held c.script_in.new.files) (g.F.Files.held c.args.files.now) c.args.wanted.raw c.args.wanted.image c.in_ok-script.script.kib _ c.in_ok-script.ensures.stays c.in_err-image.ensures.fault))
 
 pub returns-in-Err-Replay-clause-unfinished : goal.returns-in-Err-Replay-clause-unfinished
 returns-in-Err-Replay-clause-unfinished g c =
