@@ -48,6 +48,12 @@ abbrev pub IsScriptFault : Held → Name → Fault → Type 0
 IsScriptFault held name (Text file error) = (file ≡ name) × IsNoScript held name.now
 IsScriptFault held name fault = IsReadFault name fault
 
+-- the loader of so many KiB refuses the bytes for the cause that is told, or memory ran out
+abbrev pub IsLoadFault : Bool → List ℕ → Name → ℕ → Fault → Type 0
+IsLoadFault is_raw bytes name kib (Image file error) = (file ≡ name) × (image_answer is_raw bytes (1024 * kib) ≡ Err error)
+IsLoadFault is_raw bytes name kib OutOfMemory = Unit {0}
+IsLoadFault is_raw bytes name kib _ = ⊥
+
 -- or what it holds is no image, for the cause that is told
 abbrev pub IsImageFault : Held → Bool → Name → ℕ → Fault → Type 0
 IsImageFault held is_raw name kib (Image file error) = (file ≡ name) × IsNoImage held is_raw name.now kib error

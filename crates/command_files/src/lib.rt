@@ -16,6 +16,6 @@ pub use fault::Fault;
 pub use files::Files;
 pub use input::{Source, WithInput};
 pub use machines::{config_of, named_config};
-pub use reading::{contents, image_in, script_in, text_in, unmade};
+pub use reading::{contents, image_in, image_of, script_in, text_in, unmade};
 pub use remarked::{Remarked, remark, remark_event};
 pub use system::SystemFiles;

@@ -1,10 +1,10 @@
 //! What files hold: their bytes, a script, an image.
 
-ghost use Rattle.std.specs.Prelude.{◌≡◌, ◌==◌, ◌⊎◌, IfErr, IfOk, IsErrOf, false, length, true};
+ghost use Rattle.std.specs.Prelude.{◌≡◌, ◌==◌, ◌*◌, ◌⊎◌, IfErr, IfOk, IsErrOf, Ok, false, length, true};
 ghost use Rattle.std.specs.List.{list_any};
 ghost use Rattle.std.specs.Io.KnownBytes.{Consumes};
 ghost use Rattle.elf_loader.specs.Size.{IsMemoryKib, IsMemorySize};
-ghost use Rattle.command_files.specs.Faults.{IsImageFault, IsReadFault, IsScriptFault, IsTextFault};
+ghost use Rattle.command_files.specs.Faults.{IsImageFault, IsLoadFault, IsReadFault, IsScriptFault, IsTextFault};
 ghost use Rattle.command_files.specs.Files.{HoldsImage, HoldsScript, IsTheScriptIn, image_answer};
 ghost use Rattle.command_files.specs.Held.{HoldsBytes};
 
@@ -183,6 +183,47 @@ fn loaded(alloc: Global, is_raw: bool, file: &[u8], size: u32) -> Result<Image, 
     }
 }
 
+/// The image that a file's bytes are loaded as, bare words or an ELF file, into memory of so many KiB.
+pub fn image_of<'a, F: Files>(
+    alloc: Global,
+    files: &mut F,
+    is_raw: bool,
+    name: &'a str,
+    bytes: &[u8],
+    kib: u32,
+) -> Result<Image, Fault<'a>>
+    requires { IsMemoryKib kib }
+    ensures fault { IfErr result (IsLoadFault is_raw bytes.now name.entry kib) }
+    ensures image { IfOk result (λ image. image_answer is_raw bytes.now (1024 * kib) ≡ Ok image) }
+    ensures stays { F.held files.new ≡ F.held files.old }
+{
+    let Some(size) = size_of_kib(kib) else {
+        unreachable!()
+    };
+    if is_raw && bytes.starts_with(b"\x7fELF") {
+        remark(
+            alloc,
+            files,
+            "this is an ELF file, and --raw says that it is not",
+        );
+    }
+    match loaded(alloc, is_raw, bytes, size) {
+        Ok(image) => Ok(image),
+        Err(error) => {
+            remark(
+                alloc,
+                files,
+                ImageRemark {
+                    bytes,
+                    is_raw,
+                    error,
+                },
+            );
+            Err(Fault::image(name, error))
+        }
+    }
+}
+
 /// The image that the file holds, of bare words or an ELF file, in memory of so many KiB.
 pub fn image_in<'a, F: Files>(
     alloc: Global,
@@ -197,30 +238,5 @@ pub fn image_in<'a, F: Files>(
     ensures stays { F.held files.new ≡ F.held files.old }
 {
     let bytes = contents(alloc, files, name)?;
-    let Some(size) = size_of_kib(kib) else {
-        unreachable!()
-    };
-    if is_raw && bytes.starts_with(b"\x7fELF") {
-        remark(
-            alloc,
-            files,
-            "this is an ELF file, and --raw says that it is not",
-        );
-    }
-    match loaded(alloc, is_raw, bytes.as_slice(), size) {
-        Ok(image) => Ok(image),
-        Err(error) => {
-            let bytes = bytes.as_slice();
-            remark(
-                alloc,
-                files,
-                ImageRemark {
-                    bytes,
-                    is_raw,
-                    error,
-                },
-            );
-            Err(Fault::image(name, error))
-        }
-    }
+    image_of(alloc, files, is_raw, name, bytes.as_slice(), kib)
 }

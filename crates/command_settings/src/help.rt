@@ -38,10 +38,13 @@ Example: rvtl replay --raw examples/exit.bin examples/exit.script";
 pub(crate) const EXPLAIN_HELP: &str =
     "The stream goes to standard output: the head of a trace and its I lines, then of each event
   E LINE EVENT OUTCOME   the event on this line of the script, and what it came to
-and below it what it added to the trace, each R line with its instruction,
+and below it what it added to the trace, each R line with its instruction behind a semicolon,
   O HART NUMBER          and what its hart put out
 and at the end each hart's H line. An event that changes nothing has its E line alone; with --strict
 the stream ends before it, the status is 1, and standard error tells the line and the outcome.
+Where an ELF file has symbols, the instruction's own address stands before it, and where a branch or
+JAL leads behind it, as the last name at or below and how far behind, in hexadecimal:
+  ; <take+0x4> bne t3, zero, 0x8000000c <take>
 
 Retired, Drained, Delivered, Evicted, Missed LINE (an Acquire of the line went out), Stopped CODE and
 Exited CODE change the machine. The other outcomes tell why nothing happened:

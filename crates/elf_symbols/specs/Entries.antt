@@ -13,9 +13,9 @@ is_told name = nat_lt 0 (length name) && not (slice_index name 0 == 36) && list_
 abbrev pub told : List ℕ → Option (List ℕ)
 told name = if is_told name then Some name else None
 
--- the string that begins at this place of a string table, up to the zero behind it: of at most 64 bytes, where it can be told
+-- the string that begins at this place of a string table, up to the zero behind it: of at most 56 bytes, where it can be told
 abbrev pub name_at : List ℕ → ℕ → Option (List ℕ)
-name_at strings at = option_and_then (λ n. told (take n (drop at strings))) (position (λ b. b == 0) (take 65 (drop at strings)))
+name_at strings at = option_and_then (λ n. told (take n (drop at strings))) (position (λ b. b == 0) (take 57 (drop at strings)))
 
 abbrev pub st_name : List ℕ → ℕ
 st_name entry = long_at entry 0

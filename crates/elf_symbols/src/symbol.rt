@@ -10,7 +10,7 @@ use std::alloc::{AllocError, Global};
 use std::marker::Model;
 
 /// The longest name that is read, in bytes.
-const LONGEST: usize = 64;
+const LONGEST: usize = 56;
 
 /// How many bytes an entry of a symbol table has.
 pub const ENTRY_SIZE: usize = 16;
@@ -47,7 +47,7 @@ impl Model for Symbol {
 
     ghost view = { λ symbol. record { address = symbol.address; name = symbol.name.items } };
 
-    ghost invariant = { λ symbol. length symbol.name.items ≤ 64 };
+    ghost invariant = { λ symbol. length symbol.name.items ≤ 56 };
 }
 
 /// Whether each byte is a printable character of ASCII, and no space.
@@ -93,7 +93,7 @@ fn zero_among(bytes: &[u8]) -> Option<usize>
 /// The name that begins at this place of a string table, where it can be told.
 fn name_at(strings: &[u8], at: usize) -> Option<&[u8]>
     ensures name { option_copied result ≡ entries.name_at strings.now at }
-    ensures short { IfSome result (λ name. length name.now ≤ 64) }
+    ensures short { IfSome result (λ name. length name.now ≤ 56) }
 {
     let rest = behind(strings, at);
     let length = zero_among(front(rest, LONGEST + 1))?;
@@ -119,7 +119,7 @@ impl Symbol {
 
     pub fn name(&self) -> &[u8]
         ensures name { result.now ≡ self.now.name }
-        ensures short { length result.now ≤ 64 }
+        ensures short { length result.now ≤ 56 }
     {
         &self.name
     }

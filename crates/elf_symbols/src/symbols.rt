@@ -15,7 +15,7 @@ use std::alloc::{AllocError, Global};
 use std::marker::Model;
 
 /// The names of addresses, lowest address first, those of one address in the order of the file's table.
-/// Each has 1 to 64 printable characters of ASCII.
+/// Each has 1 to 56 printable characters of ASCII.
 #[derive(Debug, Drop)]
 pub struct Symbols {
     list: Vec<Symbol>,
@@ -112,7 +112,7 @@ impl Symbols {
     /// The last name at or below an address.
     pub fn nearest(&self, address: u32) -> Option<Place<'_>>
         ensures place { option_map near_of result ≡ lookups.nearest self.now address }
-        ensures short { IfSome result (λ place. length place.name.now ≤ 64) }
+        ensures short { IfSome result (λ place. length place.name.now ≤ 56) }
     {
         let symbol = last_below(&self.list, address)?;
         Some(Place {

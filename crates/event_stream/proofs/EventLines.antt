@@ -2,7 +2,7 @@
 use Rattle.std.proofs.Common.{◌≡◌, ℕ, ◌+◌, List, [], ◌∷◌, ◌++◌, Option, Some, None, refl, sym, ap, subst, ◌∙◌, append_assoc}
 use Rattle.std.proofs.lemmas.List.{append-nil}
 use Rattle.std.specs.Prelude.{codes, decimal}
-use Rattle.assembly.specs.Assembly.{assembly}
+use Rattle.elf_symbols.specs.Named.{Named}
 use Rattle.hart.specs.declared.retired.Retired.{Retired}
 use Rattle.machine_model.specs.declared.event.Event.{Event}
 use Rattle.machine_model.specs.declared.event.Event.TheVariants.{Step, Drain, Evict, Deliver, Local}
@@ -12,6 +12,7 @@ use Rattle.trace_text.specs.Scripts.{event, event_ended}
 use Rattle.trace_text.specs.Traces.{retired_text, retired_ended, retired_lead}
 use Rattle.trace_text.specs.Words as words
 use Rattle.event_stream.specs.Lines.{disassembled, unended}
+use Rattle.event_stream.specs.Naming.{instruction}
 use Rattle.event_stream.proofs.Unended.{unended_is}
 
 abbrev words_of : Event → List ℕ
@@ -54,9 +55,9 @@ retired_as h r end = done_split h r end ∙ ap (λ (t : List ℕ). t ++ end ∷ 
 regrouped : (p x a : List ℕ) (e f g : ℕ) → (((p ++ (x ++ e ∷ [])) ++ (f ∷ g ∷ [])) ++ a) ++ 10 ∷ [] ≡ p ++ (x ++ (((e ∷ f ∷ g ∷ []) ++ a) ++ 10 ∷ []))
 regrouped p x a e f g = simp append_assoc
 
-pub disassembled_line : (p : List ℕ) (h : ℕ) (r : Retired) (i : Instr) → (((p ++ (retired_lead h ++ retired_ended 32 r)) ++ codes "; ") ++ assembly (Some r.pc) i) ++ 10 ∷ [] ≡ p ++ (unended (retired_lead h ++ retired_text r) ++ (disassembled r.pc (Some i) ++ 10 ∷ []))
-disassembled_line p h r i =
-    ap (λ (t : List ℕ). (((p ++ t) ++ codes "; ") ++ assembly (Some r.pc) i) ++ 10 ∷ []) (retired_as h r 32) ∙ regrouped p (unended (retired_lead h ++ retired_text r)) (assembly (Some r.pc) i) 32 59 32
+pub disassembled_line : (p : List ℕ) (names : List Named) (h : ℕ) (r : Retired) (i : Instr) → (((p ++ (retired_lead h ++ retired_ended 32 r)) ++ codes "; ") ++ instruction names r.pc i) ++ 10 ∷ [] ≡ p ++ (unended (retired_lead h ++ retired_text r) ++ (disassembled names r.pc (Some i) ++ 10 ∷ []))
+disassembled_line p names h r i =
+    ap (λ (t : List ℕ). (((p ++ t) ++ codes "; ") ++ instruction names r.pc i) ++ 10 ∷ []) (retired_as h r 32) ∙ regrouped p (unended (retired_lead h ++ retired_text r)) (instruction names r.pc i) 32 59 32
 
 events_parts : (p l w o : List ℕ) → ((((p ++ codes "E ") ++ (l ++ 32 ∷ [])) ++ (w ++ 32 ∷ [])) ++ o) ++ 10 ∷ [] ≡ p ++ (codes "E " ++ (l ++ (32 ∷ (w ++ (32 ∷ (o ++ 10 ∷ []))))))
 events_parts p l w o = simp append_assoc

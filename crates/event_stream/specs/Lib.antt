@@ -1,5 +1,6 @@
 pub mod Outcomes
 pub mod Reports
+pub mod Naming
 pub mod Lines
 pub mod Streams
 pub mod Writing

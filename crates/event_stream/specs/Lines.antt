@@ -1,7 +1,7 @@
 -- The lines of a report.
 use Rattle.std.specs.Prelude.{ℕ, ◌+◌, ◌-◌, List, [], ◌∷◌, ◌++◌, Option, Some, None, length, take, codes, decimal}
 use Rattle.std.specs.List.{flat_map}
-use Rattle.assembly.specs.Assembly.{assembly}
+use Rattle.elf_symbols.specs.Named.{Named}
 use Rattle.hart.specs.declared.retired.Retired.{Retired}
 use Rattle.machine_model.specs.declared.event.Event.{Event}
 use Rattle.machine_model.specs.declared.outcome.Outcome.{Outcome}
@@ -11,6 +11,7 @@ use Rattle.rv32_decode.specs.declared.instruction.Instr.{Instr}
 use Rattle.text_fields.specs.Fields.{number}
 use Rattle.trace_text.specs.Scripts as script
 use Rattle.trace_text.specs.Traces as trace
+use Rattle.event_stream.specs.Naming.{instruction}
 use Rattle.event_stream.specs.Outcomes.{outcome}
 use Rattle.event_stream.specs.Reports.{Report}
 
@@ -26,21 +27,21 @@ line_of line e o = codes "E " ++ (line ++ (32 ∷ (unended (script.event e) ++ (
 abbrev pub event_line : ℕ → Event → Outcome → List ℕ
 event_line index e o = line_of (decimal (index + 2)) e o
 
--- the instruction as an assembler writes it
-abbrev pub disassembled : ℕ → Option Instr → List ℕ
-disassembled pc None = []
-disassembled pc (Some i) = codes " ; " ++ assembly (Some pc) i
+-- the instruction, by the names that addresses have
+abbrev pub disassembled : List Named → ℕ → Option Instr → List ℕ
+disassembled names pc None = []
+disassembled names pc (Some i) = codes " ; " ++ instruction names pc i
 
 -- a trace's R line, and the instruction behind it
-abbrev pub retired_line : ℕ → Retired → List ℕ
-retired_line h r = unended (trace.retired_lead h ++ trace.retired_text r) ++ (disassembled r.pc (decoded r.word) ++ 10 ∷ [])
+abbrev pub retired_line : List Named → ℕ → Retired → List ℕ
+retired_line names h r = unended (trace.retired_lead h ++ trace.retired_text r) ++ (disassembled names r.pc (decoded r.word) ++ 10 ∷ [])
 
 -- a number that a hart put out
 abbrev pub output_line : ℕ → ℕ → List ℕ
 output_line h n = codes "O " ++ (number 32 h ++ number 10 n)
 
 -- an event's line, and the lines of what it made longer
-abbrev pub report_lines : Report → List ℕ
-report_lines r =
-    event_line r.index r.event r.outcome ++ (flat_map (retired_line (hart_of r.event)) r.entries
+abbrev pub report_lines : List Named → Report → List ℕ
+report_lines names r =
+    event_line r.index r.event r.outcome ++ (flat_map (retired_line names (hart_of r.event)) r.entries
     ++ (flat_map trace.operation r.performed ++ (flat_map trace.logged r.log ++ flat_map (output_line (hart_of r.event)) r.output)))

@@ -2,6 +2,7 @@
 use Rattle.std.specs.Prelude.{ℕ, ◌/◌, List, [], ◌∷◌, ◌++◌, if◌then◌else◌, codes, length}
 use Rattle.std.specs.List.{flat_map}
 use Rattle.elf_loader.specs.Image.{Initial}
+use Rattle.elf_symbols.specs.Named.{Named}
 use Rattle.machine_model.specs.declared.config.Config.{Config}
 use Rattle.machine_model.specs.declared.event.Event.{Event}
 use Rattle.machine_model.specs.Views.{State, opening}
@@ -25,9 +26,9 @@ head harts kib entry line =
 abbrev pub opening_lines : History → List ℕ
 opening_lines t = head (length t.statuses) (length t.image.bytes / 1024) t.image.entry (length_of t.line) ++ image t.line t.image.bytes
 
--- the lines of events, the first of which has this index
-abbrev pub lines : Strictness → ℕ → State → List Event → List ℕ
-lines strictness index s events = flat_map report_lines (reports strictness index s events)
+-- the lines of events, the first of which has this index, by the names that addresses have
+abbrev pub lines : List Named → Strictness → ℕ → State → List Event → List ℕ
+lines names strictness index s events = flat_map (report_lines names) (reports strictness index s events)
 
 -- each hart's H line, where all events were told
 abbrev pub closing_lines : Ending → List ℕ
@@ -36,8 +37,8 @@ closing_lines (Refused index error) = []
 closing_lines (Idle index o) = []
 
 -- a stream up to here: its head, and the lines of these events
-abbrev pub stream_up_to : Strictness → Initial → Config → List Event → List ℕ
-stream_up_to strictness i config events = opening_lines (opening i config).trace ++ lines strictness 0 (opening i config) events
+abbrev pub stream_up_to : List Named → Strictness → Initial → Config → List Event → List ℕ
+stream_up_to names strictness i config events = opening_lines (opening i config).trace ++ lines names strictness 0 (opening i config) events
 
-abbrev pub stream_of : Strictness → Initial → Config → List Event → List ℕ
-stream_of strictness i config events = stream_up_to strictness i config events ++ closing_lines (ending strictness 0 (opening i config) events)
+abbrev pub stream_of : List Named → Strictness → Initial → Config → List Event → List ℕ
+stream_of names strictness i config events = stream_up_to names strictness i config events ++ closing_lines (ending strictness 0 (opening i config) events)

@@ -2,6 +2,7 @@
 use Rattle.std.specs.Prelude.{ℕ, ◌≡◌, ◌⊎◌, ◌++◌, Bool, false, ◌==◌, List, length, drop, Option, Result, Ok, Err}
 use Rattle.std.specs.Io.KnownBytes.{Appends}
 use Rattle.coherent_machine.specs.Machine.{Refuses}
+use Rattle.elf_symbols.specs.Named.{Named}
 use Rattle.machine_model.specs.declared.event.Event.{Event}
 use Rattle.machine_model.specs.declared.outcome.Outcome.{Outcome}
 use Rattle.machine_model.specs.Events.{hart_of}
@@ -49,10 +50,10 @@ abbrev pub IsHandedOn : Option (List ℕ) → Option (List ℕ) → List ℕ →
 IsHandedOn old new page error answer = ((answer ≡ error) × Appends old new page) ⊎ ((fault : _) × (answer ≡ errors.Writing fault) × Begins old new page)
 
 -- what became of telling events: all are told, onto the page; or one ends the stream, and what stood on the page and is told of those before it went out
-abbrev pub IsTold : Strictness → State → List Event → (old new : Option (List ℕ)) → (page after : List ℕ) → Result (Unit {0}) StreamError → State → Type 0
-IsTold strictness s events old new page after (Ok _) reached = (ending strictness 0 s events ≡ Ending.Reached reached) × Paged old new page after (lines strictness 0 s events)
-IsTold strictness s events old new page after (Err (errors.New error)) reached = ⊥
-IsTold strictness s events old new page after (Err (errors.Refused index error)) reached = IsCut strictness s events index (Refuses error) (λ told. page ++ lines strictness 0 s told) old new
-IsTold strictness s events old new page after (Err (errors.Idle index o)) reached =
-    (strictness ≡ Strict) × IsCut strictness s events index (λ v. v ≡ Keeps o) (λ told. page ++ lines strictness 0 s told) old new
-IsTold strictness s events old new page after (Err (errors.Writing fault)) reached = Begins old new (page ++ lines strictness 0 s events)
+abbrev pub IsTold : List Named → Strictness → State → List Event → (old new : Option (List ℕ)) → (page after : List ℕ) → Result (Unit {0}) StreamError → State → Type 0
+IsTold names strictness s events old new page after (Ok _) reached = (ending strictness 0 s events ≡ Ending.Reached reached) × Paged old new page after (lines names strictness 0 s events)
+IsTold names strictness s events old new page after (Err (errors.New error)) reached = ⊥
+IsTold names strictness s events old new page after (Err (errors.Refused index error)) reached = IsCut strictness s events index (Refuses error) (λ told. page ++ lines names strictness 0 s told) old new
+IsTold names strictness s events old new page after (Err (errors.Idle index o)) reached =
+    (strictness ≡ Strict) × IsCut strictness s events index (λ v. v ≡ Keeps o) (λ told. page ++ lines names strictness 0 s told) old new
+IsTold names strictness s events old new page after (Err (errors.Writing fault)) reached = Begins old new (page ++ lines names strictness 0 s events)

@@ -3,6 +3,7 @@ use Rattle.std.specs.Prelude.{ℕ, ◌≡◌, List, ◌∷◌, ◌++◌, length,
 use Rattle.std.specs.Io.KnownBytes.{Appends}
 use Rattle.coherent_machine.specs.Machine.{Refuses}
 use Rattle.elf_loader.specs.Image.{Initial}
+use Rattle.elf_symbols.specs.Named.{Named}
 use Rattle.machine_model.specs.declared.config.Config.{Config}
 use Rattle.machine_model.specs.declared.event.Event.{Event}
 use Rattle.machine_model.specs.Events.{Verdict, verdict}
@@ -29,15 +30,15 @@ pub record IsCut (strictness : Strictness) (s : State) (events : List Event) (in
   pub sent : Appends old new (text before)
 
 -- all events are told, and lead to this state; the stream was appended
-pub record IsWhole (strictness : Strictness) (image : Initial) (config : Config) (events : List Event) (old new : Option (List ℕ)) (s : State) : Type 0 where
+pub record IsWhole (names : List Named) (strictness : Strictness) (image : Initial) (config : Config) (events : List Event) (old new : Option (List ℕ)) (s : State) : Type 0 where
   pub leads : ending strictness 0 (opening image config) events ≡ Ending.Reached s
-  pub sent : Appends old new (stream_of strictness image config events)
+  pub sent : Appends old new (stream_of names strictness image config events)
 
 -- why a stream isn't whole: no machine was made, and nothing went out; an event is refused, or a strict stream met one that changes nothing, and the stream up to there went out; or the writer had a fault, and a beginning of the stream did
-abbrev pub IsUnfinished : Strictness → Initial → Config → List Event → Option (List ℕ) → Option (List ℕ) → StreamError → Type 0
-IsUnfinished strictness image config events old new (errors.New error) = new ≡ old
-IsUnfinished strictness image config events old new (errors.Refused index error) =
-    IsCut strictness (opening image config) events index (Refuses error) (stream_up_to strictness image config) old new
-IsUnfinished strictness image config events old new (errors.Idle index outcome) =
-    (strictness ≡ Strict) × IsCut strictness (opening image config) events index (λ v. v ≡ Keeps outcome) (stream_up_to strictness image config) old new
-IsUnfinished strictness image config events old new (errors.Writing fault) = Begins old new (stream_of strictness image config events)
+abbrev pub IsUnfinished : List Named → Strictness → Initial → Config → List Event → Option (List ℕ) → Option (List ℕ) → StreamError → Type 0
+IsUnfinished names strictness image config events old new (errors.New error) = new ≡ old
+IsUnfinished names strictness image config events old new (errors.Refused index error) =
+    IsCut strictness (opening image config) events index (Refuses error) (stream_up_to names strictness image config) old new
+IsUnfinished names strictness image config events old new (errors.Idle index outcome) =
+    (strictness ≡ Strict) × IsCut strictness (opening image config) events index (λ v. v ≡ Keeps outcome) (stream_up_to names strictness image config) old new
+IsUnfinished names strictness image config events old new (errors.Writing fault) = Begins old new (stream_of names strictness image config events)

@@ -4,6 +4,7 @@
 
 mod errors;
 mod laws;
+mod naming;
 mod report;
 mod report_writing;
 mod spellings;

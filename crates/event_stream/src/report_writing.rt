@@ -5,9 +5,10 @@ ghost use Rattle.text_fields.specs.Pages.{HasRoom, Spells};
 ghost use Rattle.event_stream.specs.Lines as lines;
 ghost use Rattle.event_stream.specs.Telling.{report_of};
 
+use crate::naming::spell_instruction;
 use crate::report::{Report, hart_of};
 use crate::spellings::spell_outcome;
-use assembly::spell_assembly;
+use elf_symbols::Symbols;
 use hart::Retired;
 use machine_model::{Event, Outcome};
 use rv32_decode::decode;
@@ -29,27 +30,33 @@ fn spell_event_line(page: &mut Page, index: usize, event: Event, outcome: Outcom
 }
 
 /// An R line, with the instruction behind it.
-fn spell_retired_line(page: &mut Page, hart: u8, entry: &Retired)
+fn spell_retired_line(page: &mut Page, names: &Symbols, hart: u8, entry: &Retired)
     requires { HasRoom page.old }
-    ensures { page.new ≡ page.old ++ lines.retired_line hart entry.now }
+    ensures { page.new ≡ page.old ++ lines.retired_line names.now hart entry.now }
 {
     match decode(entry.word) {
         Some(instr) => {
             spell_retired(page, hart as u64, entry, b' ');
             page.text(b"; ");
-            spell_assembly(page, &instr, Some(entry.pc));
+            spell_instruction(page, names, entry.pc, &instr);
             page.text(b"\n");
         }
         None => spell_retired(page, hart as u64, entry, b'\n'),
     }
 }
 
-fn put_entries<W: Write>(page: &mut Page, out: &mut W, hart: u8, entries: &[Retired]) -> Result<()>
-    ensures { Spells (W.contents out.old) (W.contents out.new) page.old page.new (flat_map (lines.retired_line hart) entries.now) result }
+fn put_entries<W: Write>(
+    page: &mut Page,
+    out: &mut W,
+    names: &Symbols,
+    hart: u8,
+    entries: &[Retired],
+) -> Result<()>
+    ensures { Spells (W.contents out.old) (W.contents out.new) page.old page.new (flat_map (lines.retired_line names.now hart) entries.now) result }
 {
     for entry in entries {
         page.make_room(out)?;
-        spell_retired_line(page, hart, entry);
+        spell_retired_line(page, names, hart, entry);
     }
     Ok(())
 }
@@ -74,14 +81,19 @@ fn put_output<W: Write>(page: &mut Page, out: &mut W, hart: u8, output: &[u32]) 
 }
 
 /// The event's line, and the lines of what it made longer.
-pub(crate) fn put_report<W: Write>(page: &mut Page, out: &mut W, report: &Report<'_>) -> Result<()>
+pub(crate) fn put_report<W: Write>(
+    page: &mut Page,
+    out: &mut W,
+    names: &Symbols,
+    report: &Report<'_>,
+) -> Result<()>
     requires { report.now.index + 2 < 2 ^ 64 }
-    ensures { Spells (W.contents out.old) (W.contents out.new) page.old page.new (lines.report_lines (report_of report.now)) result }
+    ensures { Spells (W.contents out.old) (W.contents out.new) page.old page.new (lines.report_lines names.now (report_of report.now)) result }
 {
     let hart = hart_of(report.event);
     page.make_room(out)?;
     spell_event_line(page, report.index, report.event, report.outcome);
-    put_entries(page, out, hart, report.entries)?;
+    put_entries(page, out, names, hart, report.entries)?;
     put_performed(page, out, report.performed)?;
     put_log(page, out, report.log)?;
     put_output(page, out, hart, report.output)

@@ -17,6 +17,7 @@ use crate::report_writing::put_report;
 use crate::strictness::Strictness;
 use coherent_machine::Machine;
 use elf_loader::Image;
+use elf_symbols::Symbols;
 use hart::Status;
 use machine_model::{Config, Event, changes_are_counted};
 use std::alloc::Global;
@@ -80,10 +81,11 @@ fn tell<W: Write>(
     machine: &mut Machine,
     events: &[Event],
     strictness: Strictness,
+    names: &Symbols,
     page: &mut Page,
     out: &mut W,
 ) -> Result<(), StreamError>
-    ensures { IsTold strictness machine.old events.now (W.contents out.old) (W.contents out.new) page.old page.new result machine.new }
+    ensures { IsTold names.now strictness machine.old events.now (W.contents out.old) (W.contents out.new) page.old page.new result machine.new }
 {
     changes_are_counted();
     let mut index = 0;
@@ -98,7 +100,7 @@ fn tell<W: Write>(
             return Err(ended_by(page, out, StreamError::Idle(index, outcome)));
         }
         let report = Report::behind(&before, machine, index, *event, outcome);
-        if let Err(fault) = put_report(page, out, &report) {
+        if let Err(fault) = put_report(page, out, names, &report) {
             return Err(StreamError::Writing(fault));
         }
         index += 1;
@@ -115,7 +117,8 @@ fn put_closing<W: Write>(page: &mut Page, out: &mut W, statuses: &[Status]) -> i
     page.hand_on(out)
 }
 
-/// Applies the events in their order to a machine at reset, and writes what each did. A write that takes
+/// Applies the events in their order to a machine at reset, and writes what each did, with the names that
+/// addresses have. A write that takes
 /// no byte is a writer's fault.
 pub fn write_stream<W: Write>(
     alloc: Global,
@@ -123,18 +126,19 @@ pub fn write_stream<W: Write>(
     config: Config,
     events: &[Event],
     strictness: Strictness,
+    names: &Symbols,
     out: &mut W,
 ) -> Result<Machine, StreamError>
-    ensures whole { IfOk result (λ machine. IsWhole strictness image config events.now (W.contents out.old) (W.contents out.new) machine) }
+    ensures whole { IfOk result (λ machine. IsWhole names.now strictness image config events.now (W.contents out.old) (W.contents out.new) machine) }
     ensures limits { (result ≡ Err (StreamError.New making.Config)) ↔ (is_within_limits config ≡ false) }
-    ensures unfinished { IfErr result (λ error. IsUnfinished strictness image config events.now (W.contents out.old) (W.contents out.new) error) }
+    ensures unfinished { IfErr result (λ error. IsUnfinished names.now strictness image config events.now (W.contents out.old) (W.contents out.new) error) }
 {
     let mut machine = Machine::new(alloc, image, config)?;
     let mut page = Page::new();
     if let Err(fault) = put_opening(&mut page, out, machine.trace()) {
         return Err(StreamError::Writing(fault));
     }
-    if let Err(error) = tell(&mut machine, events, strictness, &mut page, out) {
+    if let Err(error) = tell(&mut machine, events, strictness, names, &mut page, out) {
         return Err(error);
     }
     match put_closing(&mut page, out, machine.trace().statuses()) {

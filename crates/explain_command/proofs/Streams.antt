@@ -19,7 +19,9 @@ use Rattle.text_fields.specs.Writing.{Begins}
 use Rattle.text_fields.proofs.Written.{appends_kept}
 use Rattle.trace_text.specs.declared.script.Script.{Script}
 use Rattle.command_files.specs.Sizes.{config_of}
-use Rattle.command_files.specs.Files.{HoldsImage, HoldsScript}
+use Rattle.command_files.specs.Files.{HoldsScript}
+use Rattle.elf_symbols.specs.Named.{Named}
+use Rattle.explain_command.specs.Named.{HoldsNamedImage}
 use Rattle.command_files.specs.Held.{Held}
 use Rattle.explain_command.specs.Explaining.{IsPartOfStream, IsExplainFault}
 use Rattle.command_files.specs.Status.{IsStreamFault}
@@ -36,9 +38,9 @@ begun_on old mid new text begun kept = record {
   sent = kept_on old mid new begun.front begun.sent kept;
 }
 
-module _ (strictness : Strictness) (image : Initial) (config : Config) (events : List Event) (old mid new : Option (List ℕ)) where
-  cut_on : (index : ℕ) (IsSuch : Verdict → Type 0) → Keeps mid new → IsCut strictness (opening image config) events index IsSuch (stream_up_to strictness image config) old mid
-      → IsCut strictness (opening image config) events index IsSuch (stream_up_to strictness image config) old new
+module _ (names : List Named) (strictness : Strictness) (image : Initial) (config : Config) (events : List Event) (old mid new : Option (List ℕ)) where
+  cut_on : (index : ℕ) (IsSuch : Verdict → Type 0) → Keeps mid new → IsCut strictness (opening image config) events index IsSuch (stream_up_to names strictness image config) old mid
+      → IsCut strictness (opening image config) events index IsSuch (stream_up_to names strictness image config) old new
   cut_on index IsSuch kept cut = record {
     before = cut.before;
     event = cut.event;
@@ -51,48 +53,48 @@ module _ (strictness : Strictness) (image : Initial) (config : Config) (events :
     sent = kept_on old mid new _ cut.sent kept;
   }
 
-  pub part_on : (error : StreamError) → Keeps mid new → IsUnfinished strictness image config events old mid error → IsPartOfStream strictness image config events old new error
+  pub part_on : (error : StreamError) → Keeps mid new → IsUnfinished names strictness image config events old mid error → IsPartOfStream names strictness image config events old new error
   part_on (stream.New error) kept so = appends_kept old new (subst (λ (o : Option (List ℕ)). Keeps o new) so kept)
   part_on (stream.Refused index error) kept so = cut_on index (Refuses error) kept so
   part_on (stream.Idle index outcome) kept so = (so.0, cut_on index (λ v. v ≡ Stays outcome) kept so.1)
   part_on (stream.Writing error) kept so = begun_on old mid new _ so kept
 
   -- whatever became of the stream, where what went out last was not passed on
-  pub part_of : (told : Result State StreamError) (lost : StreamError) → (Begins old new (stream_of strictness image config events) → IsPartOfStream strictness image config events old new lost) → Keeps mid new → IfOk told (IsWhole strictness image config events old mid) → IfErr told (IsUnfinished strictness image config events old mid)
-      → (error : StreamError) × IsPartOfStream strictness image config events old new error
+  pub part_of : (told : Result State StreamError) (lost : StreamError) → (Begins old new (stream_of names strictness image config events) → IsPartOfStream names strictness image config events old new lost) → Keeps mid new → IfOk told (IsWhole names strictness image config events old mid) → IfErr told (IsUnfinished names strictness image config events old mid)
+      → (error : StreamError) × IsPartOfStream names strictness image config events old new error
   part_of (Ok s) lost begun kept whole so = (lost, begun (all_begun old mid new _ whole.sent kept))
   part_of (Err error) lost begun kept whole so = (error, part_on error kept so)
 
 -- of the configuration and events that the script names
-pub part_at : (strictness : Strictness) (image : Initial) (config wanted : Config) (events given : List Event) (old new : Option (List ℕ)) (error : StreamError) → config ≡ wanted → events ≡ given
-    → IsPartOfStream strictness image config events old new error → IsPartOfStream strictness image wanted given old new error
-part_at strictness image config wanted events given old new error same_config same_events part =
-    subst (λ (c : Config). IsPartOfStream strictness image c given old new error) same_config (subst (λ (e : List Event). IsPartOfStream strictness image config e old new error) same_events part)
+pub part_at : (names : List Named) (strictness : Strictness) (image : Initial) (config wanted : Config) (events given : List Event) (old new : Option (List ℕ)) (error : StreamError) → config ≡ wanted → events ≡ given
+    → IsPartOfStream names strictness image config events old new error → IsPartOfStream names strictness image wanted given old new error
+part_at names strictness image config wanted events given old new error same_config same_events part =
+    subst (λ (c : Config). IsPartOfStream names strictness image c given old new error) same_config (subst (λ (e : List Event). IsPartOfStream names strictness image config e old new error) same_events part)
 
-pub whole_at : (strictness : Strictness) (image : Initial) (config wanted : Config) (events given : List Event) (old mid new : Option (List ℕ)) (s : State) → config ≡ wanted → events ≡ given → Keeps mid new
-    → IsWhole strictness image config events old mid s → IsWhole strictness image wanted given old new s
-whole_at strictness image config wanted events given old mid new s same_config same_events kept whole =
-    let here : IsWhole strictness image config events old new s = record { leads = whole.leads; sent = kept_on old mid new _ whole.sent kept } in
-    subst (λ (c : Config). IsWhole strictness image c given old new s) same_config (subst (λ (e : List Event). IsWhole strictness image config e old new s) same_events here)
+pub whole_at : (names : List Named) (strictness : Strictness) (image : Initial) (config wanted : Config) (events given : List Event) (old mid new : Option (List ℕ)) (s : State) → config ≡ wanted → events ≡ given → Keeps mid new
+    → IsWhole names strictness image config events old mid s → IsWhole names strictness image wanted given old new s
+whole_at names strictness image config wanted events given old mid new s same_config same_events kept whole =
+    let here : IsWhole names strictness image config events old new s = record { leads = whole.leads; sent = kept_on old mid new _ whole.sent kept } in
+    subst (λ (c : Config). IsWhole names strictness image c given old new s) same_config (subst (λ (e : List Event). IsWhole names strictness image config e old new s) same_events here)
 
 -- what a stream's end is told as
-pub told_as : (held : Held) (replay : Replay) (strictness : Strictness) (script : Script) (image : Initial) (old new : Option (List ℕ)) (error : StreamError) (fault : Fault)
-    → HoldsScript held replay.script.now script → HoldsImage held replay.raw replay.image.now script.kib image
-    → (error ≡ stream.New making.Config → ⊥) → IsPartOfStream strictness image (config_of script replay.model) script.events old new error
+pub told_as : (names : List Named) (held : Held) (replay : Replay) (strictness : Strictness) (script : Script) (image : Initial) (old new : Option (List ℕ)) (error : StreamError) (fault : Fault)
+    → HoldsScript held replay.script.now script → HoldsNamedImage held replay.raw replay.image.now script.kib image names
+    → (error ≡ stream.New making.Config → ⊥) → IsPartOfStream names strictness image (config_of script replay.model) script.events old new error
     → IsStreamFault replay.script error fault → IsExplainFault held replay strictness old new fault
-told_as held replay strictness script image old new (stream.New making.Config) fault script_file image_file within part told = absurd (within refl)
-told_as held replay strictness script image old new (stream.New making.NoMemory) fault script_file image_file within part told = subst (IsExplainFault held replay strictness old new) (sym told) tt
-told_as held replay strictness script image old new (stream.Refused index applying.NoMemory) fault script_file image_file within part told = subst (IsExplainFault held replay strictness old new) (sym told) tt
-told_as held replay strictness script image old new (stream.Refused index applying.BadEvent) fault script_file image_file within part told =
+told_as names held replay strictness script image old new (stream.New making.Config) fault script_file image_file within part told = absurd (within refl)
+told_as names held replay strictness script image old new (stream.New making.NoMemory) fault script_file image_file within part told = subst (IsExplainFault held replay strictness old new) (sym told) tt
+told_as names held replay strictness script image old new (stream.Refused index applying.NoMemory) fault script_file image_file within part told = subst (IsExplainFault held replay strictness old new) (sym told) tt
+told_as names held replay strictness script image old new (stream.Refused index applying.BadEvent) fault script_file image_file within part told =
     subst (IsExplainFault held replay strictness old new) (sym told)
-    (refl, record { script = script; image = image; script_file = script_file; image_file = image_file; index = index; place = refl; cut = part })
-told_as held replay strictness script image old new (stream.Refused index applying.Limit) fault script_file image_file within part told =
+    (refl, record { script = script; image = image; names = names; script_file = script_file; image_file = image_file; index = index; place = refl; cut = part })
+told_as names held replay strictness script image old new (stream.Refused index applying.Limit) fault script_file image_file within part told =
     subst (IsExplainFault held replay strictness old new) (sym told)
-    (refl, record { script = script; image = image; script_file = script_file; image_file = image_file; index = index; place = refl; cut = part })
-told_as held replay strictness script image old new (stream.Idle index outcome) fault script_file image_file within part told =
+    (refl, record { script = script; image = image; names = names; script_file = script_file; image_file = image_file; index = index; place = refl; cut = part })
+told_as names held replay strictness script image old new (stream.Idle index outcome) fault script_file image_file within part told =
     subst (IsExplainFault held replay strictness old new) (sym told)
-    (refl, (part.0, record { script = script; image = image; script_file = script_file; image_file = image_file; index = index; place = refl; cut = part.1 }))
-told_as held replay strictness script image old new (stream.Writing error) fault script_file image_file within part told = elim told [
+    (refl, (part.0, record { script = script; image = image; names = names; script_file = script_file; image_file = image_file; index = index; place = refl; cut = part.1 }))
+told_as names held replay strictness script image old new (stream.Writing error) fault script_file image_file within part told = elim told [
   | inl at ↦ subst (IsExplainFault held replay strictness old new) (sym at) tt
   | inr at ↦ subst (IsExplainFault held replay strictness old new) (sym at) tt
 ]

@@ -2,5 +2,6 @@
 #![tactic(auto)]
 
 mod explaining;
+mod named;
 
 pub use explaining::explain_files;

@@ -8,7 +8,7 @@ returns-in_err-make_room g c = page_stops _ _ _ _ _ _ c.from_residual.ensures.0 
 
 pub loop-entry-preserved : goal.loop-entry-preserved
 loop-entry-preserved g c =
-    page_spelled _ _ _ _ _ _ _ (page_as _ _ _ _ _ _ (item_next (retired_line c.args.hart) c.args.entries.now c.loop-entry.entry-index _ c.loop-entry-test.true) (page_more _ _ _ _ _ [] _ _ c.loop-entry.invariant c.in_ok-make_room.ensures.sent)) c.spell_retired_line.ensures
+    page_spelled _ _ _ _ _ _ _ (page_as _ _ _ _ _ _ (item_next (retired_line c.args.names.now c.args.hart) c.args.entries.now c.loop-entry.entry-index _ c.loop-entry-test.true) (page_more _ _ _ _ _ [] _ _ c.loop-entry.invariant c.in_ok-make_room.ensures.sent)) c.spell_retired_line.ensures
 
 pub returns : goal.returns
-returns g c = page_ends _ _ _ _ _ (page_as _ _ _ _ _ _ (item_none (retired_line c.args.hart) c.args.entries.now c.loop-entry.entry-index (omega (arith, c.loop-entry-test.false))) c.loop-entry.invariant)
+returns g c = page_ends _ _ _ _ _ (page_as _ _ _ _ _ _ (item_none (retired_line c.args.names.now c.args.hart) c.args.entries.now c.loop-entry.entry-index (omega (arith, c.loop-entry-test.false))) c.loop-entry.invariant)

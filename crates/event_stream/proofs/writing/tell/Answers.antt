@@ -10,36 +10,36 @@ use Rattle.event_stream.proofs.writing.tell.Goals as goal
 
 pub returns-in-Err : goal.returns-in-Err
 returns-in-Err g c =
-    refused_next _ _ _ _ _ c.apply.new.self _ _ c.in-Err.error _ _ _ _ _ c.ended_by.new.page _
-    (next_of _ _ _ _ _ c.loop-rest.rest.now _ _ _ _ _ c.in-len1-up.len_at_least c.loop-rest.invariant.told)
+    refused_next _ _ _ _ _ _ c.apply.new.self _ _ c.in-Err.error _ _ _ _ _ c.ended_by.new.page _
+    (next_of _ _ _ _ _ _ c.loop-rest.rest.now _ _ _ _ _ c.in-len1-up.len_at_least c.loop-rest.invariant.told)
     c.in-Err.ensures.answers
     c.ended_by.ensures
 
 pub returns-then-ends_at : goal.returns-then-ends_at
 returns-then-ends_at g c =
-    idle_next c.changes_are_counted.ensures _ _ _ _ _ c.apply.new.self _ _ c.in-Ok.outcome _ _ _ _ _ c.ended_by-then-ends_at.new.page _
-    (next_of _ _ _ _ _ c.loop-rest.rest.now _ _ _ _ _ c.in-len1-up.len_at_least c.loop-rest.invariant.told)
+    idle_next c.changes_are_counted.ensures _ _ _ _ _ _ c.apply.new.self _ _ c.in-Ok.outcome _ _ _ _ _ c.ended_by-then-ends_at.new.page _
+    (next_of _ _ _ _ _ _ c.loop-rest.rest.now _ _ _ _ _ c.in-len1-up.len_at_least c.loop-rest.invariant.told)
     c.in-Ok.ensures.answers
     (ends_is _ _ _ _ _ c.loop-rest.machine c.apply.new.self c.ends_at.ensures c.if-ends_at.true (ap (λ (b : Lengths). b.changes) c.of-before.ensures) (c.changes.ensures ∙ ap (λ (s : State). s.views.changes) c.views.ensures))
     c.ended_by-then-ends_at.ensures
 
 pub returns-in-Err-put_report : goal.returns-in-Err-put_report
 returns-in-Err-put_report g c =
-    fails_next _ _ _ _ _ c.apply.new.self _ _ c.in-Ok.outcome _ _ _ _ _
-    (next_of _ _ _ _ _ c.loop-rest.rest.now _ _ _ _ _ c.in-len1-up.len_at_least c.loop-rest.invariant.told)
+    fails_next _ _ _ _ _ _ c.apply.new.self _ _ c.in-Ok.outcome _ _ _ _ _
+    (next_of _ _ _ _ _ _ c.loop-rest.rest.now _ _ _ _ _ c.in-len1-up.len_at_least c.loop-rest.invariant.told)
     c.in-Ok.ensures.answers
     (ends_is _ _ _ _ _ c.loop-rest.machine c.apply.new.self c.ends_at.ensures c.if-ends_at.false (ap (λ (b : Lengths). b.changes) c.of-before.ensures) (c.changes.ensures ∙ ap (λ (s : State). s.views.changes) c.views.ensures))
-    (subst (λ (x : Report). Begins (g.W.Write.contents c.loop-rest.out) (g.W.Write.contents c.put_report.new.out) (c.loop-rest.page ++ report_lines x))
+    (subst (λ (x : Report). Begins (g.W.Write.contents c.loop-rest.out) (g.W.Write.contents c.put_report.new.out) (c.loop-rest.page ++ report_lines c.args.names.now x))
     (behind _ _ _ _ c.apply.new.self _ _ _ c.of-before.ensures c.hart_of.ensures c.in-Ok.ensures.ok c.behind-report.ensures) c.in-Err-put_report.ensures)
 
 pub loop-rest-preserved : goal.loop-rest-preserved
 loop-rest-preserved g c = record {
-  told = one_told _ _ _ _ _ c.apply.new.self _ _ c.in-Ok.outcome _ _ _ _ _ _
-      (next_of _ _ _ _ _ c.loop-rest.rest.now _ _ _ _ _ c.in-len1-up.len_at_least c.loop-rest.invariant.told)
+  told = one_told _ _ _ _ _ _ c.apply.new.self _ _ c.in-Ok.outcome _ _ _ _ _ _
+      (next_of _ _ _ _ _ _ c.loop-rest.rest.now _ _ _ _ _ c.in-len1-up.len_at_least c.loop-rest.invariant.told)
       c.in-Ok.ensures.answers
       c.in-Ok.ensures.ok
       (ends_is _ _ _ _ _ c.loop-rest.machine c.apply.new.self c.ends_at.ensures c.if-ends_at.false (ap (λ (b : Lengths). b.changes) c.of-before.ensures) (c.changes.ensures ∙ ap (λ (s : State). s.views.changes) c.views.ensures))
-      (subst (λ (x : Report). Paged (g.W.Write.contents c.loop-rest.out) (g.W.Write.contents c.put_report.new.out) c.loop-rest.page c.put_report.new.page (report_lines x))
+      (subst (λ (x : Report). Paged (g.W.Write.contents c.loop-rest.out) (g.W.Write.contents c.put_report.new.out) c.loop-rest.page c.put_report.new.page (report_lines c.args.names.now x))
       (behind _ _ _ _ c.apply.new.self _ _ _ c.of-before.ensures c.hart_of.ensures c.in-Ok.ensures.ok c.behind-report.ensures) c.in_default-put_report.ensures);
   place = rest_place c.loop-rest.rest.now _ _ c.in-len1-up.len_at_least c.loop-rest.invariant.place;
 }

@@ -4,7 +4,7 @@ use Rattle.event_stream.proofs.writing.tell.Given as goal
 
 abbrev pub invariant-loop-rest : goal.invariant-loop-rest
 invariant-loop-rest g l = record {
-  told : Told l.fn.strictness l.fn.machine l.fn.events l.index l.machine l.rest (g.W.Write.contents l.initial.out) (g.W.Write.contents l.out) l.initial.page l.page;
+  told : Told l.fn.names l.fn.strictness l.fn.machine l.fn.events l.index l.machine l.rest (g.W.Write.contents l.initial.out) (g.W.Write.contents l.out) l.initial.page l.page;
   place : l.index + length l.rest ≡ length l.fn.events;
 }
 

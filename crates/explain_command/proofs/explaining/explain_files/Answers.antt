@@ -2,7 +2,7 @@ use Rattle.std.proofs.Common.{◌∙◌, Err, ap, false, inr, subst, sym}
 use Rattle.std.proofs.lemmas.Bool.{false≢true}
 use Rattle.event_stream.specs.declared.errors.StreamError.TheVariants as stream
 use Rattle.machine_model.specs.Config.{is_within_limits}
-use Rattle.command_files.specs.Files.{HoldsImage}
+use Rattle.explain_command.specs.Named.{HoldsNamedImage}
 use Rattle.command_files.specs.Held.{Held}
 use Rattle.command_files.proofs.Left.{handed_up, image_as_before}
 use Rattle.explain_command.proofs.Told.{of_explained_image, of_explained_script}
@@ -10,45 +10,48 @@ use Rattle.command_files.proofs.Limits.{machine_within, memory_within}
 use Rattle.explain_command.proofs.Streams.{lost_told, part_at, part_of, part_on, told_as, whole_at}
 use Rattle.explain_command.proofs.explaining.explain_files.Goals as goal
 
-pub image_in-requires : goal.image_in-requires
-image_in-requires g c = memory_within c.in_ok-script.script c.in_ok-script.ensures.script.is_script
+pub named_image_in-requires : goal.named_image_in-requires
+named_image_in-requires g c = memory_within c.in_ok-script.script c.in_ok-script.ensures.script.is_script
 
 pub returns-in_err-script-clause-told : goal.returns-in_err-script-clause-told
 returns-in_err-script-clause-told g c =
     handed_up _ c.from_residual.result _ c.from_residual.ensures.1 (of_explained_script (g.F.Files.held c.args.files.now) c.args.wanted _ _ _ _ c.in_err-script.ensures.fault)
 
-pub returns-in_err-image-clause-told : goal.returns-in_err-image-clause-told
-returns-in_err-image-clause-told g c =
-    handed_up _ c.from_residual-in_err-image.result _ c.from_residual-in_err-image.ensures.1
-    (of_explained_image (g.F.Files.held c.args.files.now) c.args.wanted _ _ _ c.in_ok-script.script _ c.in_ok-script.ensures.script (image_as_before (g.F.Files.held c.script_in.new.files) (g.F.Files.held c.args.files.now) c.args.wanted.raw c.args.wanted.image c.in_ok-script.script.kib _ c.in_ok-script.ensures.stays c.in_err-image.ensures.fault))
+pub returns-in_err-named-clause-told : goal.returns-in_err-named-clause-told
+returns-in_err-named-clause-told g c =
+    handed_up _ c.from_residual-in_err-named.result _ c.from_residual-in_err-named.ensures.1
+    (of_explained_image (g.F.Files.held c.args.files.now) c.args.wanted _ _ _ c.in_ok-script.script _ c.in_ok-script.ensures.script
+    (image_as_before (g.F.Files.held c.script_in.new.files) (g.F.Files.held c.args.files.now) c.args.wanted.raw c.args.wanted.image c.in_ok-script.script.kib _ c.in_ok-script.ensures.stays c.in_err-named.ensures.fault))
 
 pub returns-in-Ok-clause-explained : goal.returns-in-Ok-clause-explained
 returns-in-Ok-clause-explained g c = record {
   script = c.in_ok-script.script;
-  image = c.in_ok-image.image;
+  image = c.in_ok-named.named.image;
+  names = c.in_ok-named.named.names;
   reached = c.in-Ok.field-0;
   script_file = c.in_ok-script.ensures.script;
   image_file =
-      subst (λ (held : Held). HoldsImage held c.args.wanted.raw c.args.wanted.image.now c.in_ok-script.script.kib c.in_ok-image.image)
-      c.in_ok-script.ensures.stays c.in_ok-image.ensures.image;
+      subst (λ (held : Held). HoldsNamedImage held c.args.wanted.raw c.args.wanted.image.now c.in_ok-script.script.kib c.in_ok-named.named.image c.in_ok-named.named.names)
+      c.in_ok-script.ensures.stays c.in_ok-named.ensures.image;
   only = c.in_ok-script.ensures.only;
-  whole = whole_at _ _ _ _ _ _ _ _ _ _ c.config_of-config.ensures c.as_slice-events.ensures c.flush.ensures.bytes c.in-Ok.ensures.whole;
+  whole = whole_at _ _ _ _ _ _ _ _ _ _ _ c.config_of-config.ensures c.as_slice-events.ensures c.flush.ensures.bytes c.in-Ok.ensures.whole;
 }
 
 pub returns-in-Err-clause-unfinished : goal.returns-in-Err-clause-unfinished
 returns-in-Err-clause-unfinished g c =
     let part =
-    part_of c.args.strictness c.in_ok-image.image c.config_of-config.result c.as_slice-events.result.now (g.O.Write.contents c.args.out.now) (g.O.Write.contents c.write_stream-told.new.out)
+    part_of c.in_ok-named.named.names c.args.strictness c.in_ok-named.named.image c.config_of-config.result c.as_slice-events.result.now (g.O.Write.contents c.args.out.now) (g.O.Write.contents c.write_stream-told.new.out)
     (g.O.Write.contents c.flush.new.self) c.write_stream-told.result (stream.Writing c.in-Err.error) (λ begun. begun) c.flush.ensures.bytes c.write_stream-told.ensures.whole c.write_stream-told.ensures.unfinished in
     inr (record {
       script = c.in_ok-script.script;
-      image = c.in_ok-image.image;
+      image = c.in_ok-named.named.image;
+      names = c.in_ok-named.named.names;
       error = part.0;
       script_file = c.in_ok-script.ensures.script;
       image_file =
-          subst (λ (held : Held). HoldsImage held c.args.wanted.raw c.args.wanted.image.now c.in_ok-script.script.kib c.in_ok-image.image)
-          c.in_ok-script.ensures.stays c.in_ok-image.ensures.image;
-      part = part_at _ _ _ _ _ _ _ _ _ c.config_of-config.ensures c.as_slice-events.ensures part.1;
+          subst (λ (held : Held). HoldsNamedImage held c.args.wanted.raw c.args.wanted.image.now c.in_ok-script.script.kib c.in_ok-named.named.image c.in_ok-named.named.names)
+          c.in_ok-script.ensures.stays c.in_ok-named.ensures.image;
+      part = part_at _ _ _ _ _ _ _ _ _ _ c.config_of-config.ensures c.as_slice-events.ensures part.1;
     })
 
 pub returns-in-Err-clause-told : goal.returns-in-Err-clause-told
@@ -57,23 +60,24 @@ returns-in-Err-clause-told g c = lost_told _ c.args.wanted _ _ _ _ c.writing.ens
 pub returns-clause-unfinished : goal.returns-clause-unfinished
 returns-clause-unfinished g c = inr (record {
   script = c.in_ok-script.script;
-  image = c.in_ok-image.image;
+  image = c.in_ok-named.named.image;
+  names = c.in_ok-named.named.names;
   error = c.in-Err-told.error;
   script_file = c.in_ok-script.ensures.script;
   image_file =
-      subst (λ (held : Held). HoldsImage held c.args.wanted.raw c.args.wanted.image.now c.in_ok-script.script.kib c.in_ok-image.image)
-      c.in_ok-script.ensures.stays c.in_ok-image.ensures.image;
-  part = part_at _ _ _ _ _ _ _ _ _ c.config_of-config.ensures c.as_slice-events.ensures
-      (part_on c.args.strictness c.in_ok-image.image c.config_of-config.result c.as_slice-events.result.now (g.O.Write.contents c.args.out.now) (g.O.Write.contents c.write_stream-told.new.out)
+      subst (λ (held : Held). HoldsNamedImage held c.args.wanted.raw c.args.wanted.image.now c.in_ok-script.script.kib c.in_ok-named.named.image c.in_ok-named.named.names)
+      c.in_ok-script.ensures.stays c.in_ok-named.ensures.image;
+  part = part_at _ _ _ _ _ _ _ _ _ _ c.config_of-config.ensures c.as_slice-events.ensures
+      (part_on c.in_ok-named.named.names c.args.strictness c.in_ok-named.named.image c.config_of-config.result c.as_slice-events.result.now (g.O.Write.contents c.args.out.now) (g.O.Write.contents c.write_stream-told.new.out)
       (g.O.Write.contents c.flush.new.self) c.in-Err-told.error c.flush.ensures.bytes c.in-Err-told.ensures.unfinished);
 })
 
 pub returns-clause-told : goal.returns-clause-told
 returns-clause-told g c =
-    told_as _ c.args.wanted c.args.strictness c.in_ok-script.script c.in_ok-image.image _ _ c.in-Err-told.error _ c.in_ok-script.ensures.script
-    (subst (λ (held : Held). HoldsImage held c.args.wanted.raw c.args.wanted.image.now c.in_ok-script.script.kib c.in_ok-image.image) c.in_ok-script.ensures.stays c.in_ok-image.ensures.image)
+    told_as c.in_ok-named.named.names _ c.args.wanted c.args.strictness c.in_ok-script.script c.in_ok-named.named.image _ _ c.in-Err-told.error _ c.in_ok-script.ensures.script
+    (subst (λ (held : Held). HoldsNamedImage held c.args.wanted.raw c.args.wanted.image.now c.in_ok-script.script.kib c.in_ok-named.named.image c.in_ok-named.named.names) c.in_ok-script.ensures.stays c.in_ok-named.ensures.image)
     (λ at. false≢true (sym (c.write_stream-told.ensures.limits.0 (c.in-Err-told.is ∙ ap Err at)) ∙ (ap is_within_limits c.config_of-config.ensures ∙ machine_within c.in_ok-script.script c.args.wanted.model c.in_ok-script.ensures.script.is_script)))
-    (part_at _ _ _ _ _ _ _ _ _ c.config_of-config.ensures c.as_slice-events.ensures
-    (part_on c.args.strictness c.in_ok-image.image c.config_of-config.result c.as_slice-events.result.now (g.O.Write.contents c.args.out.now) (g.O.Write.contents c.write_stream-told.new.out)
+    (part_at _ _ _ _ _ _ _ _ _ _ c.config_of-config.ensures c.as_slice-events.ensures
+    (part_on c.in_ok-named.named.names c.args.strictness c.in_ok-named.named.image c.config_of-config.result c.as_slice-events.result.now (g.O.Write.contents c.args.out.now) (g.O.Write.contents c.write_stream-told.new.out)
     (g.O.Write.contents c.flush.new.self) c.in-Err-told.error c.flush.ensures.bytes c.in-Err-told.ensures.unfinished))
     c.explaining.ensures
