@@ -2,6 +2,7 @@
 
 use coherent_machine::ApplyError;
 use elf_loader::{Image, raw, size_of_kib};
+use elf_symbols::Symbols;
 use event_stream::{StreamError, Strictness, write_stream};
 use machine_model::{Config, Event, Model, Outcome};
 use std::alloc::Global;
@@ -184,6 +185,7 @@ fn a_stream_has_each_line_below_its_event(rt: HostRuntime) -> Result<(), Fail> {
         config,
         &LOAD_EVENTS,
         Strictness::Strict,
+        &Symbols::new(rt.alloc()),
         &mut out,
     );
     assert!(rt; told.is_ok());
@@ -202,6 +204,7 @@ fn a_stream_tells_what_a_hart_puts_out(rt: HostRuntime) -> Result<(), Fail> {
         config,
         &OUTPUT_EVENTS,
         Strictness::Lenient,
+        &Symbols::new(rt.alloc()),
         &mut out,
     );
     assert!(rt; told.is_ok());
@@ -220,6 +223,7 @@ fn a_lenient_stream_tells_events_that_change_nothing(rt: HostRuntime) -> Result<
         config,
         &IDLE_EVENTS,
         Strictness::Lenient,
+        &Symbols::new(rt.alloc()),
         &mut out,
     );
     assert!(rt; told.is_ok());
@@ -238,6 +242,7 @@ fn a_strict_stream_ends_before_them(rt: HostRuntime) -> Result<(), Fail> {
         config,
         &IDLE_EVENTS,
         Strictness::Strict,
+        &Symbols::new(rt.alloc()),
         &mut out,
     ) {
         Err(StreamError::Idle(index, outcome)) => {
@@ -262,6 +267,7 @@ fn a_stream_ends_before_a_refused_event(rt: HostRuntime) -> Result<(), Fail> {
         config,
         &events,
         Strictness::Lenient,
+        &Symbols::new(rt.alloc()),
         &mut out,
     ) {
         Err(StreamError::Refused(index, error)) => {
@@ -289,6 +295,7 @@ fn a_beginning_goes_out_before_a_fault(rt: HostRuntime) -> Result<(), Fail> {
             config,
             &LOAD_EVENTS,
             Strictness::Lenient,
+            &Symbols::new(rt.alloc()),
             &mut out,
         ) {
             Err(StreamError::Writing(_)) => {}

@@ -34,7 +34,7 @@ returns-in-Ok-clause-explained g c = record {
       subst (λ (held : Held). HoldsNamedImage held c.args.wanted.raw c.args.wanted.image.now c.in_ok-script.script.kib c.in_ok-named.named.image c.in_ok-named.named.names)
       c.in_ok-script.ensures.stays c.in_ok-named.ensures.image;
   only = c.in_ok-script.ensures.only;
-  whole = whole_at _ _ _ _ _ _ _ _ _ _ _ c.config_of-config.ensures c.as_slice-events.ensures c.flush.ensures.bytes c.in-Ok.ensures.whole;
+  whole = whole_at c.in_ok-named.named.names _ _ _ _ _ _ _ _ _ _ c.config_of-config.ensures c.as_slice-events.ensures c.flush.ensures.bytes c.in-Ok.ensures.whole;
 }
 
 pub returns-in-Err-clause-unfinished : goal.returns-in-Err-clause-unfinished
@@ -51,7 +51,7 @@ returns-in-Err-clause-unfinished g c =
       image_file =
           subst (λ (held : Held). HoldsNamedImage held c.args.wanted.raw c.args.wanted.image.now c.in_ok-script.script.kib c.in_ok-named.named.image c.in_ok-named.named.names)
           c.in_ok-script.ensures.stays c.in_ok-named.ensures.image;
-      part = part_at _ _ _ _ _ _ _ _ _ _ c.config_of-config.ensures c.as_slice-events.ensures part.1;
+      part = part_at c.in_ok-named.named.names _ _ _ _ _ _ _ _ _ c.config_of-config.ensures c.as_slice-events.ensures part.1;
     })
 
 pub returns-in-Err-clause-told : goal.returns-in-Err-clause-told
@@ -67,7 +67,7 @@ returns-clause-unfinished g c = inr (record {
   image_file =
       subst (λ (held : Held). HoldsNamedImage held c.args.wanted.raw c.args.wanted.image.now c.in_ok-script.script.kib c.in_ok-named.named.image c.in_ok-named.named.names)
       c.in_ok-script.ensures.stays c.in_ok-named.ensures.image;
-  part = part_at _ _ _ _ _ _ _ _ _ _ c.config_of-config.ensures c.as_slice-events.ensures
+  part = part_at c.in_ok-named.named.names _ _ _ _ _ _ _ _ _ c.config_of-config.ensures c.as_slice-events.ensures
       (part_on c.in_ok-named.named.names c.args.strictness c.in_ok-named.named.image c.config_of-config.result c.as_slice-events.result.now (g.O.Write.contents c.args.out.now) (g.O.Write.contents c.write_stream-told.new.out)
       (g.O.Write.contents c.flush.new.self) c.in-Err-told.error c.flush.ensures.bytes c.in-Err-told.ensures.unfinished);
 })
@@ -77,7 +77,7 @@ returns-clause-told g c =
     told_as c.in_ok-named.named.names _ c.args.wanted c.args.strictness c.in_ok-script.script c.in_ok-named.named.image _ _ c.in-Err-told.error _ c.in_ok-script.ensures.script
     (subst (λ (held : Held). HoldsNamedImage held c.args.wanted.raw c.args.wanted.image.now c.in_ok-script.script.kib c.in_ok-named.named.image c.in_ok-named.named.names) c.in_ok-script.ensures.stays c.in_ok-named.ensures.image)
     (λ at. false≢true (sym (c.write_stream-told.ensures.limits.0 (c.in-Err-told.is ∙ ap Err at)) ∙ (ap is_within_limits c.config_of-config.ensures ∙ machine_within c.in_ok-script.script c.args.wanted.model c.in_ok-script.ensures.script.is_script)))
-    (part_at _ _ _ _ _ _ _ _ _ _ c.config_of-config.ensures c.as_slice-events.ensures
+    (part_at c.in_ok-named.named.names _ _ _ _ _ _ _ _ _ c.config_of-config.ensures c.as_slice-events.ensures
     (part_on c.in_ok-named.named.names c.args.strictness c.in_ok-named.named.image c.config_of-config.result c.as_slice-events.result.now (g.O.Write.contents c.args.out.now) (g.O.Write.contents c.write_stream-told.new.out)
     (g.O.Write.contents c.flush.new.self) c.in-Err-told.error c.flush.ensures.bytes c.in-Err-told.ensures.unfinished))
     c.explaining.ensures
