@@ -1,7 +1,10 @@
 #!/usr/bin/env python3
 """Writes traces on which a checker of memory orders is slow that looks at too much: `worst_traces.py FOLDER`.
 
-Each is a file that `rvtl check` calls legal, with at most 4,096 memory operations.
+Each is a file that `rvtl check` calls legal, with at most 4,096 memory operations. Beside each but `long` stands one
+named NAME_illegal, of the same size, in which two operations at the end of the order break a rule: a load that comes
+behind a store that must follow it (of one hart the store's number comes from the load, rule 10; of several they are
+of one word, rule 1).
 
     reversed          4,095 loads of one hart, performed in reverse
     late_store        980,003 instructions with 4,000 loads, and a store before them performed last
@@ -66,6 +69,7 @@ class Hart:
     def __init__(self, number, words, memory):
         self.number, self.words, self.memory = number, words, memory
         self.pc, self.registers, self.lines, self.reserved = BASE, [0] * 32, [], None
+        self.loads, self.stores = [], []
         self.registers[ID] = number
 
     def register(self, number):
@@ -106,12 +110,14 @@ class Hart:
                 self.pc = pc + offset - ((offset & 0x1000) << 1)
         elif opcode == 0x03:
             self.pc -= 4
+            self.loads.append((len(self.lines), self.address()))
             number = load(self.address())
             self.pc += 4
             self.write(rd, number)
             loaded = f"0x{number:08x}"
         elif opcode == 0x23:
             self.pc -= 4
+            self.stores.append((len(self.lines), self.address()))
             store(self.address(), self.register(rs2))
             self.pc += 4
         elif opcode == 0x2F:
@@ -183,6 +189,21 @@ def write_alone(path, kib, words, count, order):
     write_trace(path, kib, words, [hart], [(0, place) for place in order(places)])
 
 
+def write_both(path, kib, words, count, order, room=0):
+    """The trace, and its illegal twin: a load and a store of what it loaded, performed store first, stand behind the
+    others. Of these the first `room` loads or AMOs are left out there."""
+    write_alone(path, kib, words, count, order)
+    words = words + [lw(FROM, 0x40, PLACE), sw(FROM, 0x44, PLACE)]
+    for number in range(room):
+        first = next(index for index, word in enumerate(words) if word & 0x7F in (0x03, 0x2F))
+        words[first] = addi(6, 6, 1)
+    write_alone(illegal(path), kib, words, count + 2, lambda places: order(places[:-2]) + places[:-3:-1])
+
+
+def illegal(path):
+    return path.with_name(path.name + "_illegal")
+
+
 def counted(register, number):
     """Puts a number of at most 2,047 into a register."""
     return addi(register, ZERO, number)
@@ -193,7 +214,7 @@ def counted(register, number):
 
 def reversed_loads(folder):
     words = [lui(PLACE, BASE >> 12)] + [lw(FROM, 4 * (index % 500), PLACE) for index in range(4095)]
-    write_alone(folder / "reversed", 20, words, 4096, lambda places: places[::-1])
+    write_both(folder / "reversed", 20, words, 4096, lambda places: places[::-1], 1)
 
 
 def loop_of_loads(rounds, length, loads):
@@ -207,19 +228,19 @@ def loop_of_loads(rounds, length, loads):
 def late_store(folder):
     words = loop_of_loads(2000, 490, 2)
     words.insert(2, sw(TO, 0x100, PLACE))
-    write_alone(folder / "late_store", 64, words, 980_003, lambda places: places[1:] + places[:1])
+    write_both(folder / "late_store", 64, words, 980_003, lambda places: places[1:] + places[:1])
 
 
 def undrained(folder):
     words = [lui(PLACE, (BASE >> 12) + 8), sw(TO, 0x100, PLACE), counted(COUNT, 2000)]
     words += [addi(6, 6, 1)] * 98 + [addi(COUNT, COUNT, -1), bne(COUNT, ZERO, 4 - 400)]
     words += [lw(FROM, 4 * (index % 60), PLACE) for index in range(4000)]
-    write_alone(folder / "undrained", 64, words, 3 + 200_000 + 4000, lambda places: places[1:])
+    write_both(folder / "undrained", 64, words, 3 + 200_000 + 4000, lambda places: places[1:])
 
 
 def sparse_reversed(folder):
     words = loop_of_loads(400, 500, 1)
-    write_alone(folder / "sparse_reversed", 64, words, 200_002, lambda places: places[::-1])
+    write_both(folder / "sparse_reversed", 64, words, 200_002, lambda places: places[::-1])
 
 
 def amos_reversed(folder):
@@ -228,14 +249,14 @@ def amos_reversed(folder):
         words += [addi(PLACE, PLACE, 4), amo(AMOADD, ZERO, 7, PLACE)]
     # the word of each is read and written once, so that no order changes what it reads; but an address that
     # is counted on needs no earlier access
-    write_alone(folder / "amos_reversed", 128, words, len(words), lambda places: places[::-1])
+    write_both(folder / "amos_reversed", 128, words, len(words), lambda places: places[::-1], 1)
 
 
 def stores_between(folder):
     words = [lui(PLACE, (BASE >> 12) + 16), lui(9, (BASE >> 12) + 20)]
     for _ in range(2047):
         words += [lw(FROM, 0, PLACE), addi(FROM, FROM, 1), sw(FROM, 0, 9), addi(PLACE, PLACE, 4), addi(9, 9, 4)]
-    write_alone(folder / "stores_between", 128, words, len(words), lambda places: places[::2] + places[1::2])
+    write_both(folder / "stores_between", 128, words, len(words), lambda places: places[::2] + places[1::2])
 
 
 # ---- several harts
@@ -335,7 +356,22 @@ def write_mixed(path, count, operations, queue, kinds=("load", "load", "store", 
                     other.hart.reserved = None
     for hart in harts:
         hart.drain_all()
-    write_trace(path, 128, words, [hart.hart for hart in harts], performed)
+    harts = [hart.hart for hart in harts]
+    write_trace(path, 128, words, harts, performed)
+    write_trace(illegal(path), 128, words, harts, broken(harts, performed))
+
+
+def broken(harts, performed):
+    """The order with a load moved behind a store of its hart to its word: of such stores the last."""
+    at = {name: index for index, name in enumerate(performed)}
+    pairs = []
+    for hart in harts:
+        for store, address in hart.stores:
+            loads = [load for load, other in hart.loads if other == address and load < store]
+            if loads:
+                pairs.append((at[hart.number, store], (hart.number, loads[-1])))
+    end, load = max(pairs)
+    return [name for name in performed[: end + 1] if name != load] + [load] + performed[end + 1 :]
 
 
 def long(folder):

@@ -1,9 +1,11 @@
 -- Where the bound of an operation is no more than its rank, nothing behind it must come before it.
-use Rattle.std.proofs.Common.{◌≡◌, ℕ, zero, suc, ◌+◌, ◌<◌, ◌≤◌, List, [], ◌∷◌, Bool, true, false, Option, Some, None, refl, sym, subst, ap, ◌∙◌, ◌⊎◌, inl, inr, arith, drop, find, length}
+use Rattle.std.proofs.Common.{◌≡◌, ℕ, zero, suc, ◌+◌, ◌-◌, ◌<◌, ◌≤◌, List, [], ◌∷◌, Bool, true, false, Option, Some, None, refl, cond, sym, subst, ap, ◌∙◌, ◌⊎◌, inl, inr, arith, drop, find, get_or, length, max}
 use Rattle.std.specs.Prelude.{slice_get, slice_index_or}
 use Rattle.std.specs.List.{AllByRecursion as Each}
 use Rattle.std.proofs.lemmas.Bool.{true≢false}
-use Rattle.std.proofs.lemmas.List.{drop-drop, length-drop}
+use Rattle.std.proofs.Math.Seq.{drop-nil}
+use Rattle.std.proofs.lemmas.List.{at_drop_more, drop-drop}
+use Rattle.std.proofs.lemmas.Option.{slice_get_within}
 use Rattle.memory_model.specs.declared.Model.{Model}
 use Rattle.memory_model.specs.declared.operation.Operation.{Operation}
 use Rattle.memory_model.specs.Items.{Item}
@@ -18,7 +20,7 @@ use Rattle.rvwmo_order.specs.Codes.{rule_of}
 use Rattle.rvwmo_order.specs.Scans.{first_out_of_order, found_or}
 use Rattle.rvwmo_order.specs.declared.rows.Row.{Row}
 use Rattle.rvwmo_order.specs.declared.verdict.Rule.{Rule}
-use Rattle.rvwmo_order.proofs.Judged.{place_head, place_tail}
+use Rattle.rvwmo_order.proofs.Judged.{place_head, place_tail, same_value}
 
 pub distinct_once : (order : List Operation) → EachOnce order → IsDistinct order
 distinct_once [] h = tt
@@ -76,19 +78,71 @@ clear_behind model harts order rows rule p b behind d ranks e l =
         absurd (omega (arith, below, above, l))
     go a m false t = t
 
--- where that is so of each operation, the order keeps the rule
-pub all_clear : (model : Model) (harts : List (List Item)) (order : List Operation) (rows : List Row) (rule : Rule) (count : ℕ) → IsDistinct order → RanksEach model harts order rows → count ≡ length order
-    → ((p : ℕ) → p < count → bound_of rule (slice_index_or rows p unbounded) ≤ p + 1) → first_out_of_order (asked_by model harts order (rule_of rule)) order ≡ None
-all_clear model harts order rows rule count distinct ranks counted clear = from 0 order refl
+-- ---- a search along the order
+
+pub clear_there : (model : Model) (harts : List (List Item)) (order : List Operation) (rows : List Row) (rule : Rule) (p : ℕ) → IsDistinct order → RanksEach model harts order rows
+    → bound_of rule (slice_index_or rows p unbounded) ≤ p + 1 → first_out_of_order (asked_by model harts order (rule_of rule)) (drop p order) ≡ first_out_of_order (asked_by model harts order (rule_of rule)) (drop (p + 1) order)
+clear_there model harts order rows rule p distinct ranks l = go (drop p order) refl ∙ ap (first_out_of_order (asked_by model harts order (rule_of rule))) (drop-drop 1 p order)
   where
-    from : (p : ℕ) (rest : List Operation) → drop p order ≡ rest → first_out_of_order (asked_by model harts order (rule_of rule)) rest ≡ None
-    from p [] e = refl
-    from p (b ∷ behind) e =
-        let long = length-drop p order in
-        let same = ap length e in
-        let inside : p < count = omega (arith, long, same, counted) in
-        ap (λ (o : Option Operation). found_or o b (first_out_of_order (asked_by model harts order (rule_of rule)) behind)) (clear_behind model harts order rows rule p b behind distinct ranks e (clear p inside))
-        ∙ from (p + 1) behind (sym (drop-drop 1 p order) ∙ ap (drop 1) e)
+    go : (rest : List Operation) → drop p order ≡ rest → first_out_of_order (asked_by model harts order (rule_of rule)) rest ≡ first_out_of_order (asked_by model harts order (rule_of rule)) (drop 1 rest)
+    go [] e = refl
+    go (b ∷ behind) e = ap (λ (o : Option Operation). found_or o b (first_out_of_order (asked_by model harts order (rule_of rule)) behind)) (clear_behind model harts order rows rule p b behind distinct ranks e l)
+
+pub found_there : (must : Operation → Operation → Bool) (order xs : List Operation) (p : ℕ) (a d : Operation) → xs ≡ order → p < length xs → Some a ≡ find (λ a. must a (get_or xs p d)) (drop (p + 1) order) → first_out_of_order must order ≡ first_out_of_order must (drop p order)
+    → Some (a, get_or xs p d) ≡ first_out_of_order must order
+found_there must order xs p a d e h f i =
+    sym (i
+    ∙ (ap (λ (ys : List Operation). first_out_of_order must (drop p ys)) (sym e)
+    ∙ (at_drop_more (first_out_of_order must) xs p d h
+    ∙ (ap (λ (ys : List Operation). found_or (find (λ a. must a (get_or xs p d)) (drop (p + 1) ys)) (get_or xs p d) (first_out_of_order must (drop (p + 1) xs))) e
+    ∙ ap (λ (o : Option Operation). found_or o (get_or xs p d) (first_out_of_order must (drop (p + 1) xs))) (sym f)))))
+
+-- ---- what a second walk leaves of those behind an operation
+
+nothing_left : (test : Operation → Bool) (n : ℕ) → find test (drop n []) ≡ None
+nothing_left test n = ap (find test) (drop-nil n)
+
+cut_off : (test : Operation → Bool) (order : List Operation) (p q : ℕ) → p ≤ q → ((k : ℕ) (a : Operation) → slice_get order k ≡ Some a → p ≤ k → k < q → test a ≡ false) → find test (drop p order) ≡ find test (drop q order)
+cut_off test [] p q l f = nothing_left test p ∙ sym (nothing_left test q)
+cut_off test (x ∷ xs) zero zero l f = refl
+cut_off test (x ∷ xs) zero (suc q) l f =
+    ap (λ (c : Bool). cond c (Some x) (find test xs)) (f zero x refl (omega arith) (omega arith))
+    ∙ cut_off test xs zero q (omega arith) (λ k a e m n. f (suc k) a e (omega arith) (omega (arith, n)))
+cut_off test (x ∷ xs) (suc p) zero l f = absurd (omega (arith, l))
+cut_off test (x ∷ xs) (suc p) (suc q) l f = cut_off test xs p q (omega (arith, l)) (λ k a e m n. f (suc k) a e (omega (arith, m)) (omega (arith, n)))
+
+member_at : (order : List Operation) (k : ℕ) (a : Operation) → slice_get order k ≡ Some a → Member a order
+member_at [] k a e = absurd (no_some a e)
+  where
+    no_some : (a : Operation) → None ≡ Some a → ⊥
+    no_some a e = cc
+member_at (x ∷ xs) zero a e = inl (sym (same_value x a e))
+member_at (x ∷ xs) (suc k) a e = inr (member_at xs k a e)
+
+position_at : (order : List Operation) (k : ℕ) (a : Operation) → IsDistinct order → slice_get order k ≡ Some a → position_in order a ≡ k
+position_at [] k a d e = absurd (member_at [] k a e)
+position_at (x ∷ xs) zero a d e = place_head a x xs (ap (same a) (same_value x a e) ∙ same-self a)
+position_at (x ∷ xs) (suc k) a d e =
+    let other : same a x ≡ false = same-swap x a (Each-at (λ (c : Operation). same x c ≡ false) a xs d.0 (member_at xs k a e)) in
+    let place = place_tail a x xs other in
+    let ih = position_at xs k a d.1 e in
+    omega (arith, place, ih)
+
+-- those that the bound leaves have the first that must come before it
+pub first_left : (model : Model) (harts : List (List Item)) (order : List Operation) (weights : List ℕ) (rows : List Row) (rule : Rule) (p count first from : ℕ) (b : Operation) → IsDistinct order → BoundsEach model harts order weights rows → count ≡ length order → slice_get order p ≡ Some b
+    → ((k : ℕ) → p < k → k < count → slice_index_or weights k 0 ≡ count - k) → first ≡ count - bound_of rule (slice_index_or rows p unbounded) → from ≡ max first (p + 1)
+    → find (λ a. asked_by model harts order (rule_of rule) a b) (drop from order) ≡ find (λ a. asked_by model harts order (rule_of rule) a b) (drop (p + 1) order)
+first_left model harts order weights rows rule p count first from b d bounds counted there weighed bound cut =
+    sym (cut_off (λ a. asked_by model harts order (rule_of rule) a b) order (p + 1) from (omega (arith, cut)) (λ k a e m n. go k a e m n (asked_by model harts order (rule_of rule) a b) refl))
+  where
+    go : (k : ℕ) (a : Operation) → slice_get order k ≡ Some a → p + 1 ≤ k → k < from → (c : Bool) → asked_by model harts order (rule_of rule) a b ≡ c → asked_by model harts order (rule_of rule) a b ≡ false
+    go k a e m n true t =
+        let heavy = Each-at (λ (y : Operation). asked_by model harts order (rule_of rule) y b ≡ true → weight_of weights order y ≤ bound_of rule (slice_index_or rows p unbounded)) a order (bounds.each p b there rule) (member_at order k a e) t in
+        let long = slice_get_within order k a e in
+        let at = ap (λ (j : ℕ). slice_index_or weights j 0) (position_at order k a d e) in
+        let weight = weighed k (omega (arith, m)) (omega (arith, long, counted)) in
+        absurd (omega (arith, heavy, at, weight, long, counted, bound, cut, m, n))
+    go k a e m n false t = t
 
 -- ---- ranks
 

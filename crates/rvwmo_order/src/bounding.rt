@@ -38,8 +38,8 @@ fn ranks(alloc: Global, count: usize) -> Result<Vec<usize>, AllocError>
     Ok(ranks)
 }
 
-// For each operation of an order the bounds on the weights of those that must come before it.
-fn rows_of(
+/// For each operation of an order the bounds on the weights of those that must come before it.
+pub(crate) fn rows_of(
     alloc: Global,
     model: Model,
     harts: &Harts,

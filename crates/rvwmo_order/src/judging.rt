@@ -14,16 +14,14 @@ ghost use Rattle.rvwmo_order.specs.Marks.{Tells, TellsEach};
 ghost use Rattle.rvwmo_order.specs.Scans as scans;
 ghost use Rattle.rvwmo_order.specs.Scans.{all_rules, first_broken_pair, first_broken_rule, judged};
 
-use crate::accesses::{
-    end_of, is_conditional, is_same, name_of, precedes, read_at, reads, stores_to,
-};
+use crate::accesses::{end_of, is_conditional, is_same, name_of, read_at, reads, stores_to};
 use crate::bounding::ranked_rows;
 use crate::index::Index;
 use crate::items::Harts;
-use crate::rows::{Row, row_at};
-use crate::rules::{are_paired, asks};
+use crate::rows::Row;
+use crate::rules::are_paired;
+use crate::searching::first_broken_by;
 use crate::sources::byte_from;
-use crate::sweeping::Sweep;
 use crate::verdict::{Code, RULES, Rule, Verdict};
 use elf_loader::Image;
 use memory_model::{Model, Operation};
@@ -62,6 +60,7 @@ fn broken_rule(
     index: &Index,
     rows: &[Row],
 ) -> Result<Option<(Rule, Operation, Operation)>, AllocError>
+    requires gives { GivesEach harts.now index.now }
     requires distinct { IsDistinct index.now }
     requires ranked { RanksEach model harts.now index.now rows.now }
     ensures { IfOk result (λ broken. broken ≡ first_broken_rule model harts.now index.now all_rules) }
@@ -74,139 +73,6 @@ fn broken_rule(
         left = rest;
     }
     Ok(None)
-}
-
-// Two operations of which the one behind must come first by this rule. They are looked for only where a
-// bound leaves room for them.
-fn first_broken_by(
-    alloc: Global,
-    rule: Rule,
-    model: Model,
-    harts: &Harts,
-    index: &Index,
-    rows: &[Row],
-) -> Result<Option<(Operation, Operation)>, AllocError>
-    requires distinct { IsDistinct index.now }
-    requires ranked { RanksEach model harts.now index.now rows.now }
-    ensures { IfOk result (λ found. found
-        ≡ scans.first_out_of_order (rules.asked_by model harts.now index.now (rule_of rule)) index.now) }
-{
-    if is_clear(rule, rows, index.order().len()) {
-        return Ok(None);
-    }
-    first_out_of_order(alloc, rule, model, harts, index)
-}
-
-// Whether the bound of each of so many operations is no more than its own rank.
-fn is_clear(rule: Rule, rows: &[Row], count: usize) -> bool
-    ensures { result ≡ true → (p : ℕ) → p < count → bound_of rule (slice_index_or rows.now p unbounded) ≤ p + 1 }
-{
-    for place in 0..count {
-        if row_at(rows, place).bound(rule) > place + 1 {
-            return false;
-        }
-    }
-    true
-}
-
-// Two operations of which the one behind must come first by this rule.
-fn first_out_of_order(
-    alloc: Global,
-    rule: Rule,
-    model: Model,
-    harts: &Harts,
-    index: &Index,
-) -> Result<Option<(Operation, Operation)>, AllocError>
-    ensures { IfOk result (λ found. found
-        ≡ scans.first_out_of_order (rules.asked_by model harts.now index.now (rule_of rule)) index.now) }
-{
-    let mut sweep = Sweep::new(alloc, rule);
-    let mut rest = index.order();
-    let mut reaches = index.reaches();
-    while let [b, behind @ ..] = rest {
-        let [reach, others @ ..] = reaches else {
-            return Ok(None);
-        };
-        if let Some(a) = first_in_reach(&mut sweep, model, harts, index, behind, *reach, b)? {
-            return Ok(Some((a, *b)));
-        }
-        rest = behind;
-        reaches = others;
-    }
-    Ok(None)
-}
-
-// The first of the operations behind `b` that must come before it, where it is known how far behind it the
-// last one stands that precedes it in program order.
-fn first_in_reach(
-    sweep: &mut Sweep,
-    model: Model,
-    harts: &Harts,
-    index: &Index,
-    behind: &[Operation],
-    reach: usize,
-    b: &Operation,
-) -> Result<Option<Operation>, AllocError>
-    requires { reach ≡ reach_from 0 0 b.now behind.now }
-    ensures rule { sweep.new.rule ≡ sweep.old.rule }
-    ensures first { IfOk result (λ found. found
-        ≡ find (λ a. rules.asked_by model harts.now index.now (rule_of sweep.old.rule) a b.now) behind.now) }
-{
-    if reach == 0 {
-        return Ok(None);
-    }
-    let among = first_of(behind, reach);
-    sweep.mark(harts.items_of(b.hart), index, among, b)?;
-    Ok(first_asked(sweep, model, harts, index, among, b))
-}
-
-// The first so many.
-fn first_of(operations: &[Operation], count: usize) -> &[Operation]
-    ensures { result.now ≡ take count operations.now }
-{
-    if count <= operations.len() {
-        &operations[..count]
-    } else {
-        operations
-    }
-}
-
-// The first of these operations that must come before `b`, by the marks where the rule is one on
-// dependencies.
-fn first_asked(
-    sweep: &Sweep,
-    model: Model,
-    harts: &Harts,
-    index: &Index,
-    among: &[Operation],
-    b: &Operation,
-) -> Option<Operation>
-    requires { TellsEach sweep.now.rule (rules.items_of harts.now b.now.hart) index.now b.now sweep.now.low sweep.now.marks.items among.now }
-    ensures { result
-        ≡ find (λ a. rules.asked_by model harts.now index.now (rule_of sweep.now.rule) a b.now) among.now }
-{
-    for a in among {
-        if is_asked(sweep, model, harts, index, a, b) {
-            return Some(*a);
-        }
-    }
-    None
-}
-
-// Whether the rule says that `a` must come before `b`.
-fn is_asked(
-    sweep: &Sweep,
-    model: Model,
-    harts: &Harts,
-    index: &Index,
-    a: &Operation,
-    b: &Operation,
-) -> bool
-    requires { operations.precedes a.now b.now ≡ true → Tells sweep.now.rule (rules.items_of harts.now b.now.hart) index.now b.now sweep.now.low sweep.now.marks.items a.now }
-    ensures { result
-        ≡ rules.asked_by model harts.now index.now (rule_of sweep.now.rule) a.now b.now }
-{
-    precedes(a, b) && asks(sweep, model, harts.items_of(a.hart), index, a, b)
 }
 
 // The first load that returns another byte than its source's.

@@ -19,6 +19,7 @@ mod reaches;
 mod rows;
 mod rules;
 mod runs;
+mod searching;
 mod sources;
 mod stored;
 mod sweeping;

@@ -70,3 +70,13 @@ pub(crate) fn row_at(rows: &[Row], position: usize) -> Row
         None => UNBOUNDED,
     }
 }
+
+/// The bound by a rule at a place.
+pub(crate) fn bound_at(rows: &[Row], position: usize, rule: Rule) -> usize
+    ensures { result ≡ spec.bound_of rule (slice_index_or rows.now position spec.unbounded) }
+{
+    match rows.get(position) {
+        Some(row) => row.bound(rule),
+        None => usize::MAX,
+    }
+}

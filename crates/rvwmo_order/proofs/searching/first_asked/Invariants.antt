@@ -1,7 +1,7 @@
 use Rattle.std.proofs.Common.{◌≡◌, drop, find}
 use Rattle.rvwmo_order.specs.Codes.{rule_of}
 use Rattle.memory_model.specs.Rules.{asked_by}
-use Rattle.rvwmo_order.proofs.judging.first_asked.Given as goal
+use Rattle.rvwmo_order.proofs.searching.first_asked.Given as goal
 
 abbrev pub invariant-loop-a : goal.invariant-loop-a
 invariant-loop-a l = find (λ a. asked_by l.model l.harts l.index (rule_of l.sweep.rule) a l.b) l.among ≡ find (λ a. asked_by l.model l.harts l.index (rule_of l.sweep.rule) a l.b) (drop l.a-index l.among)

@@ -1,0 +1,136 @@
+//! Looking for two operations of which the one behind must come first by a rule: only where a bound leaves
+//! room for one, and then where the bounds of a second walk do.
+ghost use Rattle.std.specs.Prelude.{◌≡◌, ◌<◌, ◌-◌, ◌+◌, ℕ, true, IfOk, Some, drop, find, slice_get, slice_index_or};
+ghost use Rattle.memory_model.specs.Operations as operations;
+ghost use Rattle.memory_model.specs.Rules as rules;
+ghost use Rattle.rvwmo_order.specs.Bounds.{BoundsEach, GivesEach, IsDistinct, RanksEach};
+ghost use Rattle.rvwmo_order.specs.Codes.{rule_of};
+ghost use Rattle.rvwmo_order.specs.Marks.{Tells, TellsEach};
+ghost use Rattle.rvwmo_order.specs.Scans as scans;
+
+use crate::accesses::precedes;
+use crate::bounding::rows_of;
+use crate::index::Index;
+use crate::items::Harts;
+use crate::rows::{Row, bound_at};
+use crate::rules::asks;
+use crate::sweeping::Sweep;
+use crate::verdict::Rule;
+use memory_model::{Model, Operation};
+use std::alloc::{AllocError, Global};
+
+/// Two operations of which the one behind must come first by this rule, where `rows` bound the ranks of
+/// those that must come before each.
+pub(crate) fn first_broken_by(
+    alloc: Global,
+    rule: Rule,
+    model: Model,
+    harts: &Harts,
+    index: &Index,
+    rows: &[Row],
+) -> Result<Option<(Operation, Operation)>, AllocError>
+    requires gives { GivesEach harts.now index.now }
+    requires distinct { IsDistinct index.now }
+    requires ranked { RanksEach model harts.now index.now rows.now }
+    ensures { IfOk result (λ found. found
+        ≡ scans.first_out_of_order (rules.asked_by model harts.now index.now (rule_of rule)) index.now) }
+{
+    let order = index.order();
+    for place in 0..order.len() {
+        let b = &order[place];
+        if bound_at(rows, place, rule) <= place + 1 {
+            continue;
+        }
+        if let Some(a) = first_behind(alloc, rule, model, harts, index, place, b)? {
+            return Ok(Some((a, *b)));
+        }
+    }
+    Ok(None)
+}
+
+// The first of the operations behind `b` that must come before it. Of those behind, the first has the most
+// weight, so that the bound on weights tells how far behind it stands at least.
+fn first_behind(
+    alloc: Global,
+    rule: Rule,
+    model: Model,
+    harts: &Harts,
+    index: &Index,
+    place: usize,
+    b: &Operation,
+) -> Result<Option<Operation>, AllocError>
+    requires gives { GivesEach harts.now index.now }
+    requires distinct { IsDistinct index.now }
+    requires there { slice_get index.now place ≡ Some b.now }
+    ensures { IfOk result (λ found. found
+        ≡ find (λ a. rules.asked_by model harts.now index.now (rule_of rule) a b.now) (drop (place + 1) index.now)) }
+{
+    let count = index.order().len();
+    let weights = weights_behind(alloc, count, place)?;
+    let rows = rows_of(alloc, model, harts, index, &weights)?;
+    let first = count.saturating_sub(bound_at(&rows, place, rule));
+    let among = behind(index.order(), first.max(place + 1));
+    let mut sweep = Sweep::new(alloc, rule);
+    sweep.mark(harts.items_of(b.hart), index, among, b)?;
+    Ok(first_asked(&sweep, model, harts, index, among, b))
+}
+
+// For each of so many operations that stands behind a place, how many stand from it on; 0 for the others.
+fn weights_behind(alloc: Global, count: usize, place: usize) -> Result<Vec<usize>, AllocError>
+    ensures { IfOk result (λ weights. (k : ℕ) → place < k → k < count → slice_index_or weights.items k 0 ≡ count - k) }
+{
+    let mut weights = Vec::new(alloc);
+    for other in 0..count {
+        weights.push(if other > place { count - other } else { 0 })?;
+    }
+    Ok(weights)
+}
+
+// What stands behind so many.
+fn behind(operations: &[Operation], count: usize) -> &[Operation]
+    ensures { result.now ≡ drop count operations.now }
+{
+    if count <= operations.len() {
+        &operations[count..]
+    } else {
+        &[]
+    }
+}
+
+// The first of these operations that must come before `b`, by the marks where the rule is one on
+// dependencies.
+fn first_asked(
+    sweep: &Sweep,
+    model: Model,
+    harts: &Harts,
+    index: &Index,
+    among: &[Operation],
+    b: &Operation,
+) -> Option<Operation>
+    requires { TellsEach sweep.now.rule (rules.items_of harts.now b.now.hart) index.now b.now sweep.now.low sweep.now.marks.items among.now }
+    ensures { result
+        ≡ find (λ a. rules.asked_by model harts.now index.now (rule_of sweep.now.rule) a b.now) among.now }
+{
+    for a in among {
+        if is_asked(sweep, model, harts, index, a, b) {
+            return Some(*a);
+        }
+    }
+    None
+}
+
+// Whether the rule says that `a` must come before `b`.
+fn is_asked(
+    sweep: &Sweep,
+    model: Model,
+    harts: &Harts,
+    index: &Index,
+    a: &Operation,
+    b: &Operation,
+) -> bool
+    requires { operations.precedes a.now b.now ≡ true → Tells sweep.now.rule (rules.items_of harts.now b.now.hart) index.now b.now sweep.now.low sweep.now.marks.items a.now }
+    ensures { result
+        ≡ rules.asked_by model harts.now index.now (rule_of sweep.now.rule) a.now b.now }
+{
+    precedes(a, b) && asks(sweep, model, harts.items_of(a.hart), index, a, b)
+}
