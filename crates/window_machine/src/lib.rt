@@ -4,6 +4,7 @@
 
 mod access;
 mod allowed;
+mod changes;
 mod fetching;
 mod joining;
 mod liveness;
