@@ -49,14 +49,9 @@ def reader_goes_away(rvtl, folder):
     tell("a reader that goes away", child.wait() == 1 and err == b"", err)
 
 
-def progress(rvtl, folder):
-    """On a terminal a long run tells its progress, and its harts' ends stand on lines of their own."""
-    amos = os.path.join(folder, "amos.bin")
-    with open(amos, "wb") as file:
-        file.write(AMOS)
-    journal = os.path.join(folder, "j")
+def on_terminal(words):
+    """What the words write on standard error, where that is a terminal."""
     near, far = pty.openpty()
-    words = [rvtl, "run", "--raw", "--harts", "8", "--limit", "2000000", "--journal", journal, amos]
     child = subprocess.Popen(words, stdout=subprocess.DEVNULL, stderr=far)
     os.close(far)
     shown = b""
@@ -66,8 +61,28 @@ def progress(rvtl, folder):
     except OSError:
         pass
     child.wait()
+    return shown
+
+
+def progress(rvtl, folder):
+    """On a terminal a long run tells its progress, and its harts' ends stand on lines of their own."""
+    amos = os.path.join(folder, "amos.bin")
+    with open(amos, "wb") as file:
+        file.write(AMOS)
+    journal = os.path.join(folder, "j")
+    shown = on_terminal([rvtl, "run", "--raw", "--harts", "8", "--limit", "2000000", "--journal", journal, amos])
     is_well = b" events, retired " in shown and b"\r" in shown and shown.endswith(b"hart 7: run\r\n")
     tell("progress on a terminal", is_well, shown)
+
+
+def progress_of_a_search(rvtl):
+    """On a terminal a long search tells its progress, and erases it before it prints; a short one tells nothing."""
+    explore = [rvtl, "explore", "--harts"]
+    shown = on_terminal([*explore, "4", "--states", "1000000", os.path.join(EXAMPLES, "filter_lock.elf")])
+    is_well = b" states (" in shown and b" a second), " in shown and shown.endswith(b" outcomes\x1b[K\r\x1b[K")
+    tell("progress of a search on a terminal", is_well, shown)
+    shown = on_terminal([*explore, "2", os.path.join(EXAMPLES, "dekker.elf")])
+    tell("no progress of a short search", shown == b"", shown)
 
 
 def main():
@@ -107,6 +122,7 @@ def main():
         ends("a stack of 24 KiB", [*read_script, SCRIPT], 0, ["hart 0: exit 5"], preexec_fn=small)
         reader_goes_away(rvtl, folder)
         progress(rvtl, folder)
+        progress_of_a_search(rvtl)
     sys.exit(failures > 0)
 
 

@@ -12,7 +12,7 @@ use crate::outcome::{Outcome, Way};
 use elf_loader::Image;
 use explorer::{Exploration, Found, explore};
 use machine_model::Config;
-use state_search::Extent;
+use state_search::{Extent, Unwatched};
 use std::alloc::{AllocError, Global};
 use window_machine::Allowed;
 
@@ -48,7 +48,7 @@ pub fn explore_architecture(
         extent,
         states: machine_states,
         ..
-    } = explore(alloc, image, config, limit)?;
+    } = explore(alloc, image, config, limit, &Unwatched)?;
     let Allowed {
         witnesses,
         reach,

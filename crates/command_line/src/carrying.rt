@@ -71,18 +71,19 @@ pub(crate) fn carry_out<
             run_files(rt, alloc, files, run, out, err, progress)?;
             Ok(Judgement::Allowed)
         }
-        Settings::Explore(explore) => explored(alloc, files, explore, out, err),
+        Settings::Explore(explore) => explored(alloc, files, explore, out, err, progress),
         Settings::Check(check) => checked(alloc, files, check, out, err),
     }
 }
 
 /// The program's ends are looked for, by random runs, or under the memory model.
-fn explored<'a, F: Files, O: Write, E: Write>(
+fn explored<'a, F: Files, O: Write, E: Write, P: Progress>(
     alloc: Global,
     files: &mut F,
     wanted: Explore<'a>,
     out: &mut O,
     err: &mut E,
+    progress: &P,
 ) -> Result<Judgement, Fault<'a>>
     requires room { 0 < wanted.states }
     ensures came { IfOk result (λ judgement. ExploreCame wanted.entry.architecture (nat_lt 0 wanted.entry.sample) judgement
@@ -98,7 +99,7 @@ fn explored<'a, F: Files, O: Write, E: Write>(
     if 0 < wanted.sample {
         return sample_files(alloc, files, wanted, wanted.sample, wanted.seed, out, err);
     }
-    explore_files(alloc, files, wanted, out, err)
+    explore_files(alloc, files, wanted, out, err, progress)
 }
 
 /// The order of a trace is judged, or its messages.

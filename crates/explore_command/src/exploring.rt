@@ -18,20 +18,34 @@ use command_files::{Fault, Files, contents, image_in, named_config};
 use command_settings::Explore;
 use exploration_text::text_of;
 use explorer::{Exploration, explore};
-use state_search::Extent;
+use progress_line::{Progress, Stage};
+use state_search::{Extent, Watch};
 use std::alloc::Global;
 use std::io::Write;
 use text_fields::{Piece, put_pieces};
 
+/// Tells a command's progress how far its search is.
+#[derive(Drop)]
+struct Telling<'p, P> {
+    progress: &'p P,
+}
+
+impl<P: Progress> Watch for Telling<'_, P> {
+    fn found(&self, states: u64, outcomes: u64) {
+        self.progress.tell(Stage::Explore { states, outcomes });
+    }
+}
+
 /// Judges the machine's size, reads what is allowed, then the image, explores it, prints what is found on
 /// `out`, writes the scripts, and judges the outcomes: `err` tells which ones aren't allowed. Where memory
-/// ends, what was found is printed, written and judged all the same.
-pub fn explore_files<'a, F: Files, O: Write, E: Write>(
+/// ends, what was found is printed, written and judged all the same. While it explores, `progress` is told how far it is.
+pub fn explore_files<'a, F: Files, O: Write, E: Write, P: Progress>(
     alloc: Global,
     files: &mut F,
     wanted: Explore<'a>,
     out: &mut O,
     err: &mut E,
+    progress: &P,
 ) -> Result<Judgement, Fault<'a>>
     requires room { 0 < wanted.states }
     ensures explored { IfOk result (λ judgement. IsExplored (F.held files.old) (F.held files.new) wanted.entry judgement (O.contents out.old) (O.contents out.new)) }
@@ -54,9 +68,12 @@ pub fn explore_files<'a, F: Files, O: Write, E: Write>(
         wanted.image,
         wanted.machine.memory,
     )?;
-    let Ok(found) = explore(alloc, &image, config, wanted.states) else {
+    let watch = Telling { progress };
+    let Ok(found) = explore(alloc, &image, config, wanted.states, &watch) else {
+        progress.end();
         return Err(Fault::OutOfMemory);
     };
+    progress.end();
     print(alloc, &found, out)?;
     keep(alloc, files, wanted, &found)?;
     judge(alloc, &allowed, &found, err)

@@ -5,7 +5,7 @@ use flat_machine::{FlatMachine, Key, Results, Tables};
 use flat_model::FlatEvent;
 use hart::Status;
 use machine_model::{Config, Model};
-use state_search::{Extent, Findings, search};
+use state_search::{Extent, Findings, Unwatched, search};
 use std::alloc::Global;
 use std::test::Fail;
 
@@ -98,7 +98,7 @@ fn explored(alloc: Global, words: &[u32], harts: u32, ways: u32) -> Result<Found
         return Err("limits".into());
     }
     let machine = FlatMachine::new(alloc, &image, config);
-    Ok(search(&machine, Tables::new(alloc), alloc, 1000)?)
+    Ok(search(&machine, Tables::new(alloc), alloc, 1000, &Unwatched)?)
 }
 
 /// Whether two harts have exited with these codes in one of the outcomes.
