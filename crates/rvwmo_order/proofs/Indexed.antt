@@ -1,25 +1,24 @@
 -- The source of a byte is found among the stores to it, by where the load stands in the order.
-use Rattle.std.proofs.Common.{◌≡◌, ℕ, zero, suc, ◌+◌, ◌-◌, find, ⊎_elim, ◌++◌, ◌≤◌, ◌<◌, List, [], ◌∷◌, Bool, true, false, Option, Some, None, refl, cond, sym, ap, ◌∙◌, ◌&&◌, ◌||◌, arith, length, map, take, drop, get_or, not}
+use Rattle.std.proofs.Common.{◌≡◌, ℕ, zero, suc, ◌+◌, ◌-◌, find, ◌++◌, ◌≤◌, ◌<◌, List, [], ◌∷◌, Bool, true, false, Option, Some, None, refl, cond, sym, ap, ◌∙◌, ◌&&◌, ◌||◌, arith, length, map, take, drop, get_or, not}
 use Rattle.std.specs.Prelude.{filter, is_some, nat_eq, nat_lt, unwrap_or}
 use Rattle.std.specs.List.{last_or, list_any}
 use Rattle.std.specs.Option.{option_map, option_map_or, option_or}
 use Rattle.std.specs.Ordering.{is_eq, nat_cmp, ordering_then}
 use Rattle.std.specs.BTreeMap.{is_at}
-use Rattle.std.proofs.lemmas.Bool.{cases_lt, eqb-true, le-ltb, lt-ltb, and_parts, true≢false}
+use Rattle.std.proofs.lemmas.Bool.{eqb-true, le-ltb, lt-ltb, and_parts, true≢false}
 use Rattle.std.proofs.lemmas.Grind.{common_steps}
 use Rattle.std.proofs.lemmas.List.{drop_all, length-drop, take_all, take_more}
-use Rattle.memory_model.specs.declared.Model.{Model}
 use Rattle.memory_model.specs.declared.operation.Operation.{Operation}
 use Rattle.memory_model.specs.Items.{Item}
 use Rattle.memory_model.specs.Dependencies.{between}
 use Rattle.memory_model.specs.Legal.{behind, is_atomic}
-use Rattle.memory_model.specs.Rules.{Rule, asked_by, is_lr_or_sc, items_of}
+use Rattle.memory_model.specs.Rules.{is_lr_or_sc, items_of}
 use Rattle.memory_model.specs.Operations.{is_conditional, is_reserve, precedes, same, stores_to}
 use Rattle.memory_model.specs.Order.{candidates, position_in, source}
 use Rattle.memory_model.specs.Verdict.{name_of}
 use Rattle.memory_model.proofs.Forms.{same-swap}
 use Rattle.trace_recorder.specs.declared.operation.OpId.{OpId}
-use Rattle.rvwmo_order.specs.Indexed.{is_reserve_of, is_seen, name_cmp, place_from, reach_from, stored_from}
+use Rattle.rvwmo_order.specs.Indexed.{is_reserve_of, is_seen, name_cmp, place_from, stored_from}
 use Rattle.rvwmo_order.specs.Scans.{is_broken_pair}
 use Rattle.rvwmo_order.specs.declared.stored.Stored.{Stored}
 use Rattle.rvwmo_order.proofs.Judged.{place_head, place_tail}
@@ -214,50 +213,6 @@ bucket_there f o v xs e g = ap (λ p. option_map_or f p []) (sym g) ∙ e
 
 pub bucket_missing : {V : Type 0} (f : V → List Stored) (o : Option V) (xs : List Stored) → option_map_or f o [] ≡ xs → o ≡ None → [] ≡ xs
 bucket_missing f o xs e g = ap (λ p. option_map_or f p []) (sym g) ∙ e
-
--- ---- a search for operations that precede b in program order ends at the last of them
-
-reach_grows : (count reach : ℕ) (b : Operation) (xs : List Operation) → reach ≤ count → reach ≤ reach_from count reach b xs
-reach_grows count reach b [] h = omega arith
-reach_grows count reach b (a ∷ rest) h = go (precedes a b) (reach_grows (count + 1) (count + 1) b rest (omega arith)) (reach_grows (count + 1) reach b rest (omega arith))
-  where
-    go : (c : Bool) → count + 1 ≤ reach_from (count + 1) (count + 1) b rest → reach ≤ reach_from (count + 1) reach b rest → reach ≤ reach_from (count + 1) (cond c (count + 1) reach) b rest
-    go true k l = omega arith
-    go false k l = l
-
-found_within : (p : Operation → Bool) (b : Operation) → ((a : Operation) → precedes a b ≡ false → p a ≡ false) → (count reach : ℕ) (xs : List Operation) → reach ≤ count → find p xs ≡ find p (take (reach_from count reach b xs - count) xs)
-found_within p b f count reach [] h = nothing (reach - count)
-  where
-    nothing : (n : ℕ) → find p [] ≡ find p (take n [])
-    nothing zero = refl
-    nothing (suc n) = refl
-found_within p b f count reach (a ∷ rest) h = go (precedes a b) refl (found_within p b f (count + 1) (count + 1) rest (omega arith)) (reach_grows (count + 1) (count + 1) b rest (omega arith)) (found_within p b f (count + 1) reach rest (omega arith))
-  where
-    more : (n m : ℕ) → m ≡ suc n → find p rest ≡ find p (take n rest) → find p (a ∷ rest) ≡ find p (take m (a ∷ rest))
-    more n m e ih = rw e (ap (λ (o : Option Operation). cond (p a) (Some a) o) ih)
-
-    skipped : p a ≡ false → (n m : ℕ) → n ≡ 0 → m ≡ 0 → find p rest ≡ find p (take n rest) → find p (a ∷ rest) ≡ find p (take m (a ∷ rest))
-    skipped e n m z y ih = rw (y, e) (ih ∙ rw z refl)
-
-    go : (c : Bool) → precedes a b ≡ c → find p rest ≡ find p (take (reach_from (count + 1) (count + 1) b rest - (count + 1)) rest) → count + 1 ≤ reach_from (count + 1) (count + 1) b rest
-        → find p rest ≡ find p (take (reach_from (count + 1) reach b rest - (count + 1)) rest)
-        → find p (a ∷ rest) ≡ find p (take (reach_from (count + 1) (cond c (count + 1) reach) b rest - count) (a ∷ rest))
-    go true e ih k jh = more (reach_from (count + 1) (count + 1) b rest - (count + 1)) (reach_from (count + 1) (count + 1) b rest - count) (omega (arith, k)) ih
-    go false e ih k jh = ⊎_elim
-        (λ l. more (reach_from (count + 1) reach b rest - (count + 1)) (reach_from (count + 1) reach b rest - count) (omega (arith, l)) jh)
-        (λ l. skipped (f a e) (reach_from (count + 1) reach b rest - (count + 1)) (reach_from (count + 1) reach b rest - count) (omega (arith, l)) (omega (arith, l)) jh)
-        (cases_lt count (reach_from (count + 1) reach b rest))
-
-pub found_in_reach : (must : Operation → Operation → Bool) (b : Operation) → ((a : Operation) → precedes a b ≡ false → must a b ≡ false) → (xs : List Operation) → find (λ a. must a b) xs ≡ find (λ a. must a b) (take (reach_from 0 0 b xs) xs)
-found_in_reach must b f xs = found_within (λ a. must a b) b f 0 0 xs (omega arith) ∙ ap (λ (n : ℕ). find (λ a. must a b) (take n xs)) less_zero
-  where
-    less_zero : reach_from 0 0 b xs - 0 ≡ reach_from 0 0 b xs
-    less_zero = omega arith
-
-pub reach_asked : (model : Model) (harts : List (List Item)) (order : List Operation) (rule : Rule) (b : Operation) (reach : ℕ) (behind front : List Operation) → reach ≡ reach_from 0 0 b behind → front ≡ take reach behind → find (λ a. asked_by model harts order rule a b) front ≡ find (λ a. asked_by model harts order rule a b) behind
-reach_asked model harts order rule b reach behind front e f =
-    ap (λ (xs : List Operation). find (λ a. asked_by model harts order rule a b) xs) (f ∙ ap (λ (n : ℕ). take n behind) e)
-    ∙ sym (found_in_reach (asked_by model harts order rule) b (λ a g. ap (λ (c : Bool). c && rule.asks model (items_of harts a.hart) order a b) g) behind)
 
 -- ---- what stands behind an operation
 

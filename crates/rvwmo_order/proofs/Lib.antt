@@ -23,3 +23,4 @@ pub mod Steps
 pub mod Sweeps
 pub mod Touches
 pub mod Verdicts
+pub mod Within

@@ -1,5 +1,5 @@
 -- What an index keeps of an order: where each operation stands, and the stores to each byte.
-use Rattle.std.specs.Prelude.{ℕ, ◌+◌, Bool, ◌&&◌, ◌||◌, ◌==◌, nat_lt, if◌then◌else◌, List, [], ◌∷◌, Option, Some, None, filter}
+use Rattle.std.specs.Prelude.{◌≡◌, ◌≤◌, ◌<◌, ◌-◌, ℕ, ◌+◌, Bool, false, slice_get, ◌&&◌, ◌||◌, ◌==◌, nat_lt, if◌then◌else◌, List, [], ◌∷◌, Option, Some, None, filter}
 use Rattle.std.specs.Ordering.{nat_cmp, ordering_then}
 use Rattle.std.specs.declared.cmp.Ordering.{Ordering}
 use Rattle.memory_model.specs.declared.operation.Operation.{Operation}
@@ -42,3 +42,15 @@ reaches_of (b ∷ rest) = reach_from 0 0 b rest ∷ reaches_of rest
 -- a is an LR of a hart
 abbrev pub is_reserve_of : ℕ → Operation → Bool
 is_reserve_of hart a = is_reserve a.kind && a.hart == hart
+
+-- none of these stands before an earlier one of them
+abbrev pub IsRising : List Stored → Type 0
+IsRising stores = (i j : ℕ) (s t : Stored) → i ≤ j → slice_get stores i ≡ Some s → slice_get stores j ≡ Some t → s.position ≤ t.position
+
+-- those from a number on stand further behind a place than so much
+abbrev pub IsBeyond : ℕ → ℕ → ℕ → List Stored → Type 0
+IsBeyond position reach count stores = (k : ℕ) (s : Stored) → count ≤ k → slice_get stores k ≡ Some s → reach < s.position - position
+
+-- a load sees none of these that stands further behind its place than so much
+abbrev pub SeesWithin : ℕ → ℕ → OpId → List Stored → Type 0
+SeesWithin position reach load stores = (k : ℕ) (s : Stored) → slice_get stores k ≡ Some s → reach < s.position - position → is_seen position load s ≡ false

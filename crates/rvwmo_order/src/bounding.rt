@@ -5,7 +5,6 @@ ghost use Rattle.rvwmo_order.specs.Bounds as spec;
 ghost use Rattle.rvwmo_order.specs.Bounds.{BoundsEach, GivesEach, HasCome, RanksEach};
 ghost use Rattle.rvwmo_order.specs.Placed.{GivesOwn, IsPlaced};
 
-use crate::accesses::name_of;
 use crate::index::Index;
 use crate::items::{Harts, Item};
 use crate::rows::{Row, UNBOUNDED};
@@ -113,8 +112,9 @@ fn bound_item(
     let Some(b) = item.operation() else {
         return 0;
     };
-    let row = walk.row(index, weights, rows, &b, item.instr());
-    put_row(rows, index.position(name_of(&b)), row);
+    let position = index.position_of(&b);
+    let row = walk.row(index, weights, rows, position, &b, item.instr());
+    put_row(rows, position, row);
     weight_of(index, weights, &b)
 }
 

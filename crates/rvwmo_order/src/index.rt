@@ -1,6 +1,6 @@
 //! An order of a trace's operations, with the stores to each byte and the place of each operation found
 //! without a walk over the order.
-ghost use Rattle.std.specs.Prelude.{◌≡◌, ◌≤◌, ◌<◌, ◌+◌, ◌++◌, ℕ, None, [], ◌∷◌, IfOk, OnOk, Some, filter, if◌then◌else◌, length};
+ghost use Rattle.std.specs.Prelude.{◌≡◌, ◌≤◌, ◌<◌, ◌+◌, ◌++◌, ℕ, None, [], ◌∷◌, IfOk, OnOk, Some, filter, if◌then◌else◌, length, slice_index_or};
 ghost use Rattle.std.specs.List.{last_or};
 ghost use Rattle.std.specs.Option.{option_map, option_map_or, option_or};
 ghost use Rattle.std.specs.BTreeMap as tree;
@@ -12,7 +12,7 @@ ghost use Rattle.memory_model.specs.Order as spec;
 ghost use Rattle.memory_model.specs.Traces as traces;
 ghost use Rattle.memory_model.specs.Verdict as verdict;
 ghost use Rattle.rvwmo_order.specs.Indexed as indexed;
-ghost use Rattle.rvwmo_order.specs.Indexed.{is_reserve_of, name_cmp, place_from, reaches_of, stored_from};
+ghost use Rattle.rvwmo_order.specs.Indexed.{IsBeyond, IsRising, SeesWithin, is_reserve_of, name_cmp, place_from, reaches_of, stored_from};
 
 use crate::accesses::{end_of, is_reserve, name_of, writes};
 use crate::items::Harts;
@@ -92,14 +92,6 @@ impl Index {
         self.order.as_slice()
     }
 
-    /// How far behind each operation the last one stands that precedes it in program order; 0 where none
-    /// does.
-    pub(crate) fn reaches(&self) -> &[usize]
-        ensures { result.now ≡ reaches_of self.now }
-    {
-        &self.reaches
-    }
-
     /// The LRs of a hart, in the order's order.
     pub(crate) fn reserves(&self, hart: u8) -> &[Operation]
         ensures { result.now ≡ filter (is_reserve_of hart) self.now }
@@ -137,16 +129,32 @@ impl Index {
     pub(crate) fn source_of(&self, load: &Operation, x: u64) -> Option<Operation>
         ensures { result ≡ spec.source self.now load.now x }
     {
-        self.find_on::<Brand>(name_of(load), x, Blank::new(1))
+        self.source_at(self.position_of(load), load, x)
     }
 
-    fn find_on<L: Ledger>(&self, load: OpId, x: u64, blank: Blank) -> Option<Operation>
-        requires name { blank.name ≡ L.name }
-        requires parts { blank.parts ≡ L.parts }
-        requires some { 0 < L.parts }
-        ensures { (a : OperationValue) → verdict.name_of a ≡ load → result ≡ spec.source self.now a x }
+    /// The same of a load that stands at this place of the order.
+    pub(crate) fn source_at(&self, position: usize, load: &Operation, x: u64) -> Option<Operation>
+        requires { position ≡ spec.position_in self.now load.now }
+        ensures { result ≡ spec.source self.now load.now x }
     {
-        self.find(load, x, &mut Ticks::<L>::new(blank))
+        match self.stores.get(&x) {
+            Some(stores) => {
+                let reach = self.reach_at(position);
+                last_within::<Brand>(stores, position, reach, name_of(load), Blank::new(1))
+            }
+            None => None,
+        }
+    }
+
+    // How far behind a place the last operation stands that precedes the one there in program order; 0 behind
+    // the order.
+    fn reach_at(&self, position: usize) -> usize
+        ensures { result ≡ slice_index_or (reaches_of self.now) position 0 }
+    {
+        match self.reaches.get(position) {
+            Some(reach) => *reach,
+            None => 0,
+        }
     }
 
     fn find<L: Ledger>(&self, load: OpId, x: u64, ticks: &mut Ticks<L>) -> Option<Operation>
@@ -158,6 +166,13 @@ impl Index {
             Some(stores) => last_seen(stores, position, load, ticks),
             None => None,
         }
+    }
+
+    /// How many operations stand before one.
+    pub(crate) fn position_of(&self, a: &Operation) -> usize
+        ensures { result ≡ spec.position_in self.now a.now }
+    {
+        self.position(name_of(a))
     }
 
     // How many operations stand before the one of this name.
@@ -273,4 +288,50 @@ fn is_seen(position: usize, load: OpId, place: usize, store: &Operation) -> bool
     ensures { result ≡ indexed.is_seen position load (record { position = place; store = store.now }) }
 {
     place < position || (store.hart == load.hart && store.place < load.place)
+}
+
+// The last of these stores that a load may see, where it sees none that stands further behind its place than
+// `reach`.
+fn last_within<L: Ledger>(
+    stores: &[Stored],
+    position: usize,
+    reach: usize,
+    load: OpId,
+    blank: Blank,
+) -> Option<Operation>
+    requires name { blank.name ≡ L.name }
+    requires parts { blank.parts ≡ L.parts }
+    requires some { 0 < L.parts }
+    requires rising { IsRising stores.now }
+    requires unseen { SeesWithin position reach load stores.now }
+    ensures { result ≡ option_map (λ s. s.store) (last_or None (filter (indexed.is_seen position load) stores.now)) }
+{
+    let mut ticks = Ticks::<L>::new(blank);
+    let count = count_within(stores, position, reach, &mut ticks);
+    last_seen(&stores[..count], position, load, &mut ticks)
+}
+
+// How many of these stores stand no further behind a place than `reach`.
+fn count_within<L: Ledger>(
+    stores: &[Stored],
+    position: usize,
+    reach: usize,
+    ticks: &mut Ticks<L>,
+) -> usize
+    requires { IsRising stores.now }
+    ensures inside { result ≤ length stores.now }
+    ensures beyond { IsBeyond position reach result stores.now }
+{
+    let mut low = 0;
+    let mut high = stores.len();
+    while low < high {
+        let middle = low + (high - low) / 2;
+        let (place, _) = stores[middle].look(ticks);
+        if place.saturating_sub(position) <= reach {
+            low = middle + 1;
+        } else {
+            high = middle;
+        }
+    }
+    high
 }

@@ -1,16 +1,12 @@
 //! Judging an order of operations, over its index: each definition as it stands, but dependencies by the
 //! marks of sweeps.
-ghost use Rattle.std.specs.Prelude.{◌≡◌, ◌+◌, ◌<◌, ◌≤◌, ◌==◌, ℕ, IfOk, Some, find, slice_index_or, take, true};
+ghost use Rattle.std.specs.Prelude.{◌≡◌, ◌==◌, IfOk, find};
 ghost use Rattle.std.specs.List.{list_all};
 ghost use Rattle.memory_model.specs.Operations as operations;
 ghost use Rattle.memory_model.specs.Order as orders;
 ghost use Rattle.elf_loader.specs.Image.{byte_at};
 ghost use Rattle.memory_model.specs.Legal as legal;
-ghost use Rattle.memory_model.specs.Rules as rules;
-ghost use Rattle.rvwmo_order.specs.Codes.{rule_of};
-ghost use Rattle.rvwmo_order.specs.Bounds.{GivesEach, IsDistinct, RanksEach, bound_of, unbounded};
-ghost use Rattle.rvwmo_order.specs.Indexed.{reach_from};
-ghost use Rattle.rvwmo_order.specs.Marks.{Tells, TellsEach};
+ghost use Rattle.rvwmo_order.specs.Bounds.{GivesEach, IsDistinct, RanksEach};
 ghost use Rattle.rvwmo_order.specs.Scans as scans;
 ghost use Rattle.rvwmo_order.specs.Scans.{all_rules, first_broken_pair, first_broken_rule, judged};
 

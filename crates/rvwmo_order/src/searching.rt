@@ -3,7 +3,7 @@
 ghost use Rattle.std.specs.Prelude.{◌≡◌, ◌<◌, ◌-◌, ◌+◌, ℕ, true, IfOk, Some, drop, find, slice_get, slice_index_or};
 ghost use Rattle.memory_model.specs.Operations as operations;
 ghost use Rattle.memory_model.specs.Rules as rules;
-ghost use Rattle.rvwmo_order.specs.Bounds.{BoundsEach, GivesEach, IsDistinct, RanksEach};
+ghost use Rattle.rvwmo_order.specs.Bounds.{GivesEach, IsDistinct, RanksEach};
 ghost use Rattle.rvwmo_order.specs.Codes.{rule_of};
 ghost use Rattle.rvwmo_order.specs.Marks.{Tells, TellsEach};
 ghost use Rattle.rvwmo_order.specs.Scans as scans;

@@ -54,8 +54,9 @@ impl Touch {
         }
     }
 
-    // Goes past an operation that touches the byte `x`.
-    fn pass(&mut self, index: &Index, x: u64, a: &Operation, own: usize)
+    // Goes past an operation that touches the byte `x`, and stands at this place of the order.
+    fn pass(&mut self, index: &Index, position: usize, x: u64, a: &Operation, own: usize)
+        requires { position ≡ orders.position_in index.now a.now }
         ensures { self.new ≡ spec.touched index.now x own a.now self.old }
     {
         if writes(a.kind) {
@@ -64,7 +65,7 @@ impl Touch {
             self.others = 0;
         }
         if reads(a.kind) {
-            self.load(index.source_of(a, x), own);
+            self.load(index.source_at(position, a, x), own);
         }
         self.all = self.all.max(own);
     }
@@ -104,9 +105,10 @@ pub(crate) fn pass_bytes(
     ensures { OnOk result ((x : ℕ) → touch_in touches.new x
         ≡ (if operations.touches x a.now then spec.touched index.now x own a.now (touch_in touches.old x) else touch_in touches.old x)) }
 {
+    let position = index.position_of(a);
     for x in u64::from(a.address)..end_of(a) {
         let mut touch = touch_of(touches, x);
-        touch.pass(index, x, a, own);
+        touch.pass(index, position, x, a, own);
         touches.insert(x, touch)?;
     }
     Ok(())

@@ -1,6 +1,6 @@
 //! A walk along a hart's list: what it carries, what it has passed and the bytes that it has touched bound,
 //! for each rule, the weights of the operations that must come before the one at hand.
-ghost use Rattle.std.specs.Prelude.{◌≡◌, ◌≤◌, ◌||◌, ℕ, max, true, List, OnOk, slice_index_or};
+ghost use Rattle.std.specs.Prelude.{◌≡◌, ◌≤◌, ◌||◌, ℕ, max, true, List, OnOk, Some, slice_index_or};
 ghost use Rattle.memory_model.specs.declared.operation.Operation.{Operation as OperationValue};
 ghost use Rattle.memory_model.specs.Items.{Item as ItemValue};
 ghost use Rattle.memory_model.specs.Dependencies.{uses_in};
@@ -12,9 +12,7 @@ ghost use Rattle.rvwmo_order.specs.Bounds as spec;
 ghost use Rattle.rvwmo_order.specs.Bounds.{HasCome, IsRow, IsSource};
 ghost use Rattle.rvwmo_order.specs.Touched.{but, touch_after, touch_in};
 
-use crate::accesses::{
-    end_of, has_rcsc, has_release, is_amo, is_conditional, name_of, reads, writes,
-};
+use crate::accesses::{end_of, has_rcsc, has_release, is_amo, is_conditional, reads, writes};
 use crate::carried::Carried;
 use crate::index::Index;
 use crate::items::Item;
@@ -68,17 +66,20 @@ impl Walk {
         index: &Index,
         weights: &[usize],
         rows: &[Row],
+        position: usize,
         b: &Operation,
         instr: Option<Instr>,
     ) -> Row
+        requires { position ≡ orders.position_in index.now b.now }
         ensures { IsRow index.now weights.now rows.now b.now (uses_in instr) self.now result }
     {
         let (address, data_stored) = self.in_sources(instr);
         let is_store = writes(b.kind);
+        let sourced = self.sourced(index, weights, rows, position, b);
         Row {
             overlapping_store: self.accesses(b),
-            same_byte_loads: self.loads(index, b),
-            atomic_source: atomic_source(index, weights, b),
+            same_byte_loads: sourced.loads,
+            atomic_source: sourced.atomics,
             fence: self.passed.fenced_before(b.kind),
             acquire: self.passed.acquires(),
             release: only_if(has_release(self.model, b), self.passed.all()),
@@ -87,7 +88,7 @@ impl Walk {
             address,
             data_stored,
             control: only_if(is_store, self.carried.steered()),
-            dependent_store: dependent_store(index, rows, b),
+            dependent_store: sourced.passed_on,
             dependent_address: only_if(is_store, self.carried.addressed()),
         }
     }
@@ -120,19 +121,49 @@ impl Walk {
         most
     }
 
-    // The loads of a byte of a load that return it from elsewhere.
-    fn loads(&self, index: &Index, b: &Operation) -> usize
-        ensures { operations.reads b.now.kind ≡ true → (x : ℕ) → operations.touches x b.now ≡ true → but (orders.source index.now b.now x) (touch_in self.now.touches x) ≤ result }
+    // By the stores that the bytes of a load come from.
+    fn sourced(
+        &self,
+        index: &Index,
+        weights: &[usize],
+        rows: &[Row],
+        position: usize,
+        b: &Operation,
+    ) -> Sourced
+        requires { position ≡ orders.position_in index.now b.now }
+        ensures loads { operations.reads b.now.kind ≡ true → (x : ℕ) → operations.touches x b.now ≡ true → but (orders.source index.now b.now x) (touch_in self.now.touches x) ≤ result.loads }
+        ensures atomics { operations.reads b.now.kind ≡ true → (x : ℕ) (s : OperationValue) → IsSource index.now b.now x s → (operations.is_amo s.kind || operations.is_conditional s.kind) ≡ true → spec.weight_of weights.now index.now s ≤ result.atomics }
+        ensures passed_on { operations.reads b.now.kind ≡ true → (x : ℕ) (s : OperationValue) → IsSource index.now b.now x s → max (slice_index_or rows.now (orders.position_in index.now s) spec.unbounded).address (slice_index_or rows.now (orders.position_in index.now s) spec.unbounded).data_stored ≤ result.passed_on }
     {
+        let mut most = Sourced {
+            loads: 0,
+            atomics: 0,
+            passed_on: 0,
+        };
         if !reads(b.kind) {
-            return 0;
+            return most;
         }
-        let mut most = 0;
         for x in u64::from(b.address)..end_of(b) {
-            most = most.max(touch_of(&self.touches, x).but(index.source_of(b, x)));
+            let source = index.source_at(position, b, x);
+            most = Sourced {
+                loads: most.loads.max(touch_of(&self.touches, x).but(source)),
+                atomics: most.atomics.max(atomic_source(index, weights, b, source)),
+                passed_on: most.passed_on.max(dependent_store(index, rows, b, source)),
+            };
         }
         most
     }
+}
+
+/// The greatest weights of the operations that a load waits for, by the stores that its bytes come from.
+#[derive(Clone, Copy)]
+struct Sourced {
+    /// Of the loads of a byte that return it from elsewhere.
+    loads: usize,
+    /// Of the AMOs and SCs of its hart that a byte comes from.
+    atomics: usize,
+    /// Of what came into the stores of its hart that a byte comes from.
+    passed_on: usize,
 }
 
 // The weight, where the test holds.
@@ -142,48 +173,44 @@ fn only_if(test: bool, weight: usize) -> usize
     if test { weight } else { 0 }
 }
 
-// The AMOs and SCs of its hart that a byte of a load comes from.
-fn atomic_source(index: &Index, weights: &[usize], b: &Operation) -> usize
-    ensures { operations.reads b.now.kind ≡ true → (x : ℕ) (s : OperationValue) → IsSource index.now b.now x s → (operations.is_amo s.kind || operations.is_conditional s.kind) ≡ true → spec.weight_of weights.now index.now s ≤ result }
+// The weight of a byte's source, where that is an AMO or an SC of its hart.
+fn atomic_source(
+    index: &Index,
+    weights: &[usize],
+    b: &Operation,
+    source: Option<Operation>,
+) -> usize
+    ensures { (s : OperationValue) → source ≡ Some s → s.hart ≡ b.now.hart → (operations.is_amo s.kind || operations.is_conditional s.kind) ≡ true → spec.weight_of weights.now index.now s ≤ result }
 {
-    if !reads(b.kind) {
+    let Some(s) = source else {
         return 0;
+    };
+    if s.hart == b.hart && (is_amo(s.kind) || is_conditional(s.kind)) {
+        weight_of(index, weights, &s)
+    } else {
+        0
     }
-    let mut most = 0;
-    for x in u64::from(b.address)..end_of(b) {
-        if let Some(s) = index.source_of(b, x) {
-            if s.hart == b.hart && (is_amo(s.kind) || is_conditional(s.kind)) {
-                most = most.max(weight_of(index, weights, &s));
-            }
-        }
-    }
-    most
 }
 
-// What came into the stores of its hart that a byte of a load comes from.
-fn dependent_store(index: &Index, rows: &[Row], b: &Operation) -> usize
-    ensures { operations.reads b.now.kind ≡ true → (x : ℕ) (s : OperationValue) → IsSource index.now b.now x s → max (slice_index_or rows.now (orders.position_in index.now s) spec.unbounded).address (slice_index_or rows.now (orders.position_in index.now s) spec.unbounded).data_stored ≤ result }
+// What came into a byte's source, where that is of its hart.
+fn dependent_store(index: &Index, rows: &[Row], b: &Operation, source: Option<Operation>) -> usize
+    ensures { (s : OperationValue) → source ≡ Some s → s.hart ≡ b.now.hart → max (slice_index_or rows.now (orders.position_in index.now s) spec.unbounded).address (slice_index_or rows.now (orders.position_in index.now s) spec.unbounded).data_stored ≤ result }
 {
-    if !reads(b.kind) {
+    let Some(s) = source else {
+        return 0;
+    };
+    if s.hart != b.hart {
         return 0;
     }
-    let mut most = 0;
-    for x in u64::from(b.address)..end_of(b) {
-        if let Some(s) = index.source_of(b, x) {
-            if s.hart == b.hart {
-                let row = row_at(rows, index.position(name_of(&s)));
-                most = most.max(row.address.max(row.data_stored));
-            }
-        }
-    }
-    most
+    let row = row_at(rows, index.position_of(&s));
+    row.address.max(row.data_stored)
 }
 
 /// The weight at an operation's place in the order.
 pub(crate) fn weight_of(index: &Index, weights: &[usize], a: &Operation) -> usize
     ensures { result ≡ spec.weight_of weights.now index.now a.now }
 {
-    match weights.get(index.position(name_of(a))) {
+    match weights.get(index.position_of(a)) {
         Some(weight) => *weight,
         None => 0,
     }
