@@ -230,10 +230,11 @@ impl Worker<'_> {
             std::hint::black_box(&lengths);
             match self.take_turn() {
                 Ok(true) => {}
-                Ok(false) => break None,
+                // A hart whose list is full ends alone.
+                Ok(false) | Err(Fault::Limit) => break None,
                 Err(fault) => {
                     self.board.stop.store(true, Ordering::SeqCst);
-                    break Some(fault).filter(|fault| !matches!(fault, Fault::Limit));
+                    break Some(fault);
                 }
             }
         };
