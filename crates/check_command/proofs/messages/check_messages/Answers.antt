@@ -1,4 +1,7 @@
-use Rattle.std.proofs.Common.{◌∙◌, arith, refl}
+use Rattle.std.proofs.Common.{◌∙◌, ℕ, List, arith, refl, subst}
+use Rattle.check_command.specs.Checking.{BeginWithNoTrace, GoOnBehindATrace}
+use Rattle.check_command.proofs.Unread.{goes_on, no_log_told, of_file}
+use Rattle.log_text.specs.Ending.{ended}
 use Rattle.command_files.proofs.Left.{handed_up, left, spoiled}
 use Rattle.check_command.proofs.Logs.{log_held, verdict_on}
 use Rattle.check_command.proofs.Told.{of_log, text_is_not_write}
@@ -29,3 +32,16 @@ returns-clause-judged g c = record {
   judged = verdict_on c.log.result.now _ c.in-Ok-check_log.verdict c.log.ensures c.in-Ok-check_log.ensures.lawful c.in-Ok-check_log.ensures.unlawful;
   printed = c.in_default-print.ensures;
 }
+
+pub returns-in-Err-clause-told : goal.returns-in-Err-clause-told
+returns-in-Err-clause-told g c =
+    no_log_told (g.F.Files.held c.args.files.now) c.args.file c.in_ok-bytes.bytes.items c.in_ok-bytes.ensures.bytes c.text.result c.in-Err.error c.text.ensures.told c.text.ensures.memory
+    (λ other. subst BeginWithNoTrace (c.as_slice.ensures.value ∙ c.in-Ok.ensures) (λ trace more is_trace same. c.in-Err.ensures.only trace more is_trace same other))
+
+pub returns-then-length-len-clause-told : goal.returns-then-length-len-clause-told
+returns-then-length-len-clause-told g c = (
+  refl,
+  of_file (g.F.Files.held c.args.files.now c.args.file.now) c.in_ok-bytes.bytes.items (λ (known : List ℕ). GoOnBehindATrace (ended known)) c.in_ok-bytes.ensures.bytes
+    (subst GoOnBehindATrace (c.as_slice.ensures.value ∙ c.in-Ok.ensures)
+    (goes_on c.as_slice.result.now c.in-Ok-read_trace.read.0.history c.in-Ok-read_trace.read.1 c.in-Ok-read_trace.ensures.found (omega arith))),
+)
