@@ -31,7 +31,7 @@ no_image_told is_raw name kib bytes error fault answer told memory = elim told [
 -- what the bytes of a file are refused for its image is
 pub of_bytes : (held : Held) (is_raw : Bool) (name : Name) (kib : ℕ) (bytes : List ℕ) (fault : Fault) → HoldsBytes held name.now bytes → IsLoadFault is_raw bytes name kib fault
     → IsImageFault held is_raw name kib fault
-of_bytes held is_raw name kib bytes (Image file error) holds is = (is.0, record { file = bytes; bytes = holds; refused = is.1; })
+of_bytes held is_raw name kib bytes (Image file error) holds is = (is.0, record { file = bytes; bytes = holds; refused = is.1 })
 of_bytes held is_raw name kib bytes OutOfMemory holds is = tt
 of_bytes held is_raw name kib bytes (CannotRead file) holds is = absurd is
 of_bytes held is_raw name kib bytes (CannotMake file) holds is = absurd is

@@ -42,6 +42,6 @@ pub returns-then-length-len-clause-told : goal.returns-then-length-len-clause-to
 returns-then-length-len-clause-told g c = (
   refl,
   of_file (g.F.Files.held c.args.files.now c.args.file.now) c.in_ok-bytes.bytes.items (λ (known : List ℕ). GoOnBehindATrace (ended known)) c.in_ok-bytes.ensures.bytes
-    (subst GoOnBehindATrace (c.as_slice.ensures.value ∙ c.in-Ok.ensures)
-    (goes_on c.as_slice.result.now c.in-Ok-read_trace.read.0.history c.in-Ok-read_trace.read.1 c.in-Ok-read_trace.ensures.found (omega arith))),
+      (subst GoOnBehindATrace (c.as_slice.ensures.value ∙ c.in-Ok.ensures)
+      (goes_on c.as_slice.result.now c.in-Ok-read_trace.read.0.history c.in-Ok-read_trace.read.1 c.in-Ok-read_trace.ensures.found (omega arith))),
 )

@@ -132,11 +132,16 @@ returns-in-Err-Usage-clause-faulted g c = λ one. elim (rw c.in-Err-Usage.field-
 pub returns-clause-faulted : goal.returns-clause-faulted
 unfolding IsFaulted
 returns-clause-faulted g c = λ one. elim c.match-settings.branch [
-  | in-Ok+in-Err w ↦ rw (w.out-is) (inr (w.in-Ok.wanted, w.in-Ok.ensures.named, w.in-Ok.ensures.fitting, record {
-    fault = w.in-Err.fault;
-    told = w.in-Err.ensures.told;
-    of_status = rw (← w.fault-is) (sym c.status.ensures ∙ one);
-  }))
+  | in-Ok+in-Err w ↦ rw (w.out-is) (inr (
+    w.in-Ok.wanted,
+    w.in-Ok.ensures.named,
+    w.in-Ok.ensures.fitting,
+    record {
+      fault = w.in-Err.fault;
+      told = w.in-Err.ensures.told;
+      of_status = rw (← w.fault-is) (sym c.status.ensures ∙ one);
+    },
+  ))
   | in-Err-NoMemory w ↦
       let four : c.status.result ≡ 4 = rw w.fault-is at c.status.ensures in
       let bad : 4 ≡ 1 = sym four ∙ one in cc
