@@ -4,7 +4,7 @@ use Rattle.std.specs.Prelude.{ℕ, ◌+◌, ◌*◌, ◌/◌, ◌%◌, ◌==◌,
 use Rattle.std.specs.Char.{is_ascii_graphic}
 use Rattle.std.specs.List.{filter_map, list_all, range_with_len}
 use Rattle.elf_symbols.specs.Named.{Named}
-use Rattle.elf_symbols.specs.Tables.{half_at, long_at}
+use Rattle.elf_loader.specs.Elf.{half_at, long_at}
 
 -- printable, and no mapping symbol as $x, which marks what stands there instead of naming it
 abbrev pub is_told : List ℕ → Bool

@@ -2,14 +2,8 @@
 -- Files": "ELF Header", "Sections").
 use Rattle.std.specs.Prelude.{ℕ, ◌+◌, ◌*◌, ◌==◌, nat_eq, nat_le, nat_lt, Bool, ◌&&◌, if◌then◌else◌, List, [], ◌∷◌, length, slice_index, take, drop, find, map, Option, Some, None, option_and_then}
 use Rattle.std.specs.List.{range_with_len, starts_with}
+use Rattle.elf_loader.specs.Elf.{half_at, long_at}
 use Rattle.elf_symbols.specs.declared.section.Section.{Section}
-
--- two and four bytes as a number, the lowest byte first
-abbrev pub half_at : List ℕ → ℕ → ℕ
-half_at bytes at = slice_index bytes at + 256 * slice_index bytes (at + 1)
-
-abbrev pub long_at : List ℕ → ℕ → ℕ
-long_at bytes at = half_at bytes at + 65536 * half_at bytes (at + 2)
 
 -- 7f 45 4c 46, ELFCLASS32, ELFDATA2LSB
 abbrev pub start : List ℕ

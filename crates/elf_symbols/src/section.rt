@@ -1,6 +1,7 @@
 //! Sections of a file: where they lie and what they are.
 ghost use Rattle.std.specs.Prelude.{◌≡◌, ◌+◌, ◌≤◌, length};
 ghost use Rattle.std.specs.Option.{option_copied};
+ghost use Rattle.elf_loader.specs.Elf as elf;
 ghost use Rattle.elf_symbols.specs.Tables as tables;
 
 use byteorder::{ByteOrder, LittleEndian};
@@ -11,7 +12,7 @@ const SHT_SYMTAB: u32 = 2;
 /// The two bytes at this place as a number.
 pub fn half(bytes: &[u8], at: usize) -> u16
     requires { at + 2 ≤ length bytes.now }
-    ensures { result ≡ tables.half_at bytes.now at }
+    ensures { result ≡ elf.half_at bytes.now at }
 {
     LittleEndian::read_u16(&bytes[at..])
 }
@@ -19,7 +20,7 @@ pub fn half(bytes: &[u8], at: usize) -> u16
 /// The four bytes at this place as a number.
 pub fn long(bytes: &[u8], at: usize) -> u32
     requires { at + 4 ≤ length bytes.now }
-    ensures { result ≡ tables.long_at bytes.now at }
+    ensures { result ≡ elf.long_at bytes.now at }
 {
     LittleEndian::read_u32(&bytes[at..])
 }

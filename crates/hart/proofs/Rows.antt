@@ -1,24 +1,20 @@
 -- Rows of private instructions: the longest one is a row, and how it goes on.
-use Rattle.std.proofs.Common.{◌≡◌, ℕ, zero, suc, ◌+◌, ◌-◌, ◌<◌, ◌≤◌, List, [], ◌∷◌, ◌++◌, Bool, true, false, Option, Some, None, refl, cond, sym, ap, ◌∙◌, subst, not, ◌&&◌, length, arith, append_assoc}
+use Rattle.std.proofs.Common.{◌≡◌, ℕ, zero, suc, ◌+◌, ◌-◌, ◌<◌, ◌≤◌, List, [], ◌∷◌, ◌++◌, Bool, true, false, Option, Some, None, refl, cond, sym, ap, ◌∙◌, subst, ◌&&◌, length, arith, append_assoc}
 use Rattle.std.proofs.lemmas.List.{append-nil}
-use Rattle.std.specs.Prelude.{nat_eq, nat_le, is_none, IsTrue, ◌↔◌}
-use Rattle.std.proofs.lemmas.Bool.{false≢true, true≢false, and_parts, and_from, and_left, and_right, eq-eqb, le-leb, leb-true}
+use Rattle.std.specs.Prelude.{nat_le, ◌↔◌}
+use Rattle.std.proofs.lemmas.Bool.{false≢true, and_parts, and_from, and_left, and_right, cond-false, cond-true, eq-eqb, le-leb, leb-true}
 use Rattle.elf_loader.specs.Image.{Initial, HasWord, word_at, end_of}
 use Rattle.elf_loader.specs.Size.{base}
 use Rattle.rv32_decode.specs.Rows.{decoded}
 use Rattle.rv32_decode.specs.declared.instruction.Instr.{Instr}
 use Rattle.rv32_decode.specs.declared.instruction.Instr.TheVariants as instr
 use Rattle.rv32_decode.specs.declared.instruction.SystemOp.TheVariants.{Ecall, Ebreak}
-use Rattle.rv32_exec.specs.Meaning.{Access, Private, Loads, Stores, Reserves, Tries, Updates, Fences, Calls, access_of, effect_of, stop_of}
-use Rattle.rv32_exec.specs.Plans.{plan_of_access, planned, stop_or}
-use Rattle.rv32_exec.specs.declared.plans.Plan.{Plan}
-use Rattle.rv32_exec.specs.declared.plans.Plan.TheVariants as plan
+use Rattle.rv32_exec.specs.Meaning.{Access, Private, Loads, Stores, Reserves, Tries, Updates, Fences, Calls, access_of, stop_of}
 use Rattle.hart.specs.declared.retired.Retired.{Retired}
 use Rattle.hart.specs.declared.state.Hart.{Hart}
-use Rattle.hart.specs.declared.status.Status.{Status}
-use Rattle.hart.specs.declared.status.Status.TheVariants.{Running, Stopped, Exited}
-use Rattle.hart.specs.Run.{after, after_instr, can_fetch, is_running, moved, reached, status_after}
-use Rattle.hart.specs.Local.{is_done_alone, can_go_alone, next_entry, next_step, private_row, is_private_step, are_private_steps, IsRow, is_private, Row, row_of, with_effect}
+use Rattle.hart.specs.declared.status.Status.TheVariants.{Running}
+use Rattle.hart.specs.Run.{after, can_fetch, is_running, reached, status_after}
+use Rattle.hart.specs.Local.{is_done_alone, can_go_alone, next_entry, next_step, private_row, is_private_step, are_private_steps, IsRow, is_private, Row, row_of}
 
 goes_alone : (image : Initial) (hart : Hart) → can_go_alone image hart ≡ true → is_private_step hart (next_entry image hart) ≡ true
 goes_alone image hart e =
@@ -80,44 +76,6 @@ stop_of-private (instr.Lr rd rs1 bits) pc x m n e = cc
 stop_of-private (instr.Sc rd rs1 rs2 bits) pc x m n e = cc
 stop_of-private (instr.Amo op rd rs1 rs2 bits) pc x m n e = cc
 
-abbrev pub is_local : Plan → Bool
-is_local plan.Local = true
-is_local (plan.Load address width) = false
-is_local (plan.Store address width value) = false
-is_local (plan.Lr address) = false
-is_local (plan.Sc address value) = false
-is_local (plan.Amo address op operand) = false
-is_local plan.Fence = false
-is_local plan.Call = false
-is_local (plan.Stop code) = false
-
-local_by : (a : Access) (s t : Option ℕ) → (a ≡ Private → s ≡ t) → is_local (stop_or s (plan_of_access a)) ≡ (is_private a && is_none t)
-local_by Private (Some code) t f = ap is_none (f refl)
-local_by Private None t f = ap is_none (f refl)
-local_by (Loads address bytes) (Some code) t f = refl
-local_by (Loads address bytes) None t f = refl
-local_by (Stores address bytes value) (Some code) t f = refl
-local_by (Stores address bytes value) None t f = refl
-local_by (Reserves address) (Some code) t f = refl
-local_by (Reserves address) None t f = refl
-local_by (Tries address value) (Some code) t f = refl
-local_by (Tries address value) None t f = refl
-local_by (Updates address op operand) (Some code) t f = refl
-local_by (Updates address op operand) None t f = refl
-local_by Fences (Some code) t f = refl
-local_by Fences None t f = refl
-local_by (Calls number argument) (Some code) t f = refl
-local_by (Calls number argument) None t f = refl
-
--- a plan is local exactly where the instruction is done alone
-pub is_local-planned : (i : Instr) (hart : Hart) (size : ℕ) → is_local (planned i hart.pc hart.regs size) ≡ is_done_alone hart (Some i)
-is_local-planned i hart size = local_by (access_of i hart.regs) (stop_of i hart.pc hart.regs size) (stop_of i hart.pc hart.regs 0) (stop_of-private i hart.pc hart.regs size 0)
-
-pub running_status : (s : Status) → is_running s ≡ true → s ≡ Running
-running_status Running e = refl
-running_status (Stopped code) e = absurd (false≢true e)
-running_status (Exited code) e = absurd (false≢true e)
-
 pub private_runs_on : (a : Access) → is_private a ≡ true → status_after a ≡ Running
 private_runs_on Private e = refl
 private_runs_on (Loads address bytes) e = absurd (false≢true e)
@@ -128,16 +86,7 @@ private_runs_on (Updates address op operand) e = absurd (false≢true e)
 private_runs_on Fences e = absurd (false≢true e)
 private_runs_on (Calls number argument) e = absurd (false≢true e)
 
--- behind an instruction that is done alone
-pub after-alone : (image : Initial) (hart : Hart) (i : Instr) → is_running hart.status ≡ true → decoded (word_at image hart.pc) ≡ Some i → is_done_alone hart (Some i) ≡ true → after hart (next_entry image hart) ≡ with_effect hart (effect_of i hart.pc hart.regs 0)
-after-alone image hart i r d e =
-    let p = (and_parts (is_private (access_of i hart.regs)) (is_none (stop_of i hart.pc hart.regs 0)) e).0 in
-    ap (after_instr hart (next_entry image hart)) d ∙ ap (λ (s : Status). record { id = hart.id; pc = (effect_of i hart.pc hart.regs 0).next; regs = (with_effect hart (effect_of i hart.pc hart.regs 0)).regs; status = s }) (private_runs_on (access_of i hart.regs) p ∙ sym (running_status hart.status r))
-
 -- whether a hart can go on alone, by what is tested in turn
-pub alone-halted : (image : Initial) (hart : Hart) → is_running hart.status ≡ false → can_go_alone image hart ≡ false
-alone-halted image hart e = and_left (is_running hart.status && can_fetch image hart.pc) (is_done_alone hart (decoded (word_at image hart.pc))) (and_left (is_running hart.status) (can_fetch image hart.pc) e)
-
 can_fetch-is : (image : Initial) (pc : ℕ) (b : Bool) → (b ≡ true) ↔ HasWord image pc → can_fetch image pc ≡ b
 can_fetch-is image pc true h = let w = h.0 refl in and_from _ _ (le-leb base pc w.0) (le-leb (pc + 4) (end_of image) w.1)
 can_fetch-is image pc false h = go (can_fetch image pc) refl
@@ -149,23 +98,12 @@ can_fetch-is image pc false h = go (can_fetch image pc) refl
 pub alone-outside : (image : Initial) (hart : Hart) (b : Bool) → (b ≡ true) ↔ HasWord image hart.pc → b ≡ false → can_go_alone image hart ≡ false
 alone-outside image hart b h e = and_left (is_running hart.status && can_fetch image hart.pc) (is_done_alone hart (decoded (word_at image hart.pc))) (and_right (is_running hart.status) (can_fetch image hart.pc) (can_fetch-is image hart.pc b h ∙ e))
 
-pub alone-done : (image : Initial) (hart : Hart) (b : Bool) (o : Option Instr) → is_running hart.status ≡ true → (b ≡ true) ↔ HasWord image hart.pc → b ≡ true → decoded (word_at image hart.pc) ≡ o → can_go_alone image hart ≡ is_done_alone hart o
-alone-done image hart b o r h e d =
-    ap (λ (c : Bool). (c && can_fetch image hart.pc) && is_done_alone hart (decoded (word_at image hart.pc))) r ∙ (ap (λ (c : Bool). c && is_done_alone hart (decoded (word_at image hart.pc))) (can_fetch-is image hart.pc b h ∙ e) ∙ ap (is_done_alone hart) d)
-
 abbrev pub pair : Retired → Hart → Retired × Hart
 pair entry hart = (entry, hart)
 
--- the step is none where the hart can't go on alone
-pub no_step : (image : Initial) (hart : Hart) → can_go_alone image hart ≡ false → None ≡ cond (can_go_alone image hart) (Some (next_step image hart)) None
-no_step image hart e = sym (ap (λ (b : Bool). cond b (Some (next_step image hart)) None) e)
-
-pub one_step : (image : Initial) (hart : Hart) → can_go_alone image hart ≡ true → Some (next_step image hart) ≡ cond (can_go_alone image hart) (Some (next_step image hart)) None
-one_step image hart e = sym (ap (λ (b : Bool). cond b (Some (next_step image hart)) None) e)
-
 -- ---- the longest row, step by step
 
-abbrev row_with : Hart → Hart → List Retired → Row
+abbrev pub row_with : Hart → Hart → List Retired → Row
 row_with first last entries = record { first = first; last = last; entries = entries }
 
 pub record Taken (image : Initial) (hart : Hart) (entry : Retired) (next : Hart) : Type 0 where
@@ -182,6 +120,39 @@ pub step_taken : (image : Initial) (hart : Hart) (o : Option (Retired × Hart)) 
     → o ≡ Some (pair entry next)
     → Taken image hart entry next
 step_taken image hart o entry next e f = let t = taken_by (can_go_alone image hart) (next_entry image hart) entry (after hart (next_entry image hart)) next (sym e ∙ f) in record { goes = t.0; entry_is = t.1; next_is = t.2 }
+
+some_by : (b : Bool) (e f : Retired) → Some f ≡ cond b (Some e) None → (b ≡ true) × (f ≡ e)
+some_by true e f q = (refl, cc)
+some_by false e f q = cc
+
+-- a hart that retired an entry alone
+pub gone : (image : Initial) (hart next : Hart) (o : Option Retired) (entry : Retired)
+    → o ≡ cond (can_go_alone image hart) (Some (next_entry image hart)) None
+    → next ≡ cond (can_go_alone image hart) (after hart (next_entry image hart)) hart
+    → o ≡ Some entry
+    → Taken image hart entry next
+gone image hart next o entry e n f =
+    let t = some_by (can_go_alone image hart) (next_entry image hart) entry (sym f ∙ e) in
+    record { goes = t.0; entry_is = t.1; next_is = n ∙ cond-true (can_go_alone image hart) (after hart (next_entry image hart)) hart t.0 }
+
+pub taken_is : (image : Initial) (hart next : Hart) (entry : Retired) → Taken image hart entry next → Some (pair entry next) ≡ cond (can_go_alone image hart) (Some (next_step image hart)) None
+taken_is image hart next entry t =
+    ap (λ (e : Retired). Some (pair e next)) t.entry_is ∙ (ap (λ (h : Hart). Some (pair (next_entry image hart) h)) t.next_is ∙ sym (cond-true (can_go_alone image hart) (Some (next_step image hart)) None t.goes))
+
+none_by : (b : Bool) (e : Retired) → None ≡ cond b (Some e) None → b ≡ false
+none_by true e q = cc
+none_by false e q = refl
+
+-- a hart that can't go alone
+pub stays : (image : Initial) (hart : Hart) (o : Option Retired)
+    → o ≡ cond (can_go_alone image hart) (Some (next_entry image hart)) None
+    → o ≡ None
+    → can_go_alone image hart ≡ false
+stays image hart o e f = none_by (can_go_alone image hart) (next_entry image hart) (sym f ∙ e)
+
+pub no_row : (image : Initial) (hart : Hart) (room : ℕ) → 0 < room → can_go_alone image hart ≡ false → private_row image hart room ≡ []
+no_row image hart room l e =
+    private_row-more image hart room l ∙ cond-false (can_go_alone image hart) (next_entry image hart ∷ private_row image (after hart (next_entry image hart)) (room - 1)) [] e
 
 refused_by : (b : Bool) (p : Retired × Hart) → cond b (Some p) None ≡ None → b ≡ false
 refused_by true p q = cc
@@ -212,8 +183,7 @@ pub none_refused : (image : Initial) (hart : Hart) (room : ℕ) (o : Option (Ret
     → o ≡ cond (can_go_alone image hart) (Some (next_step image hart)) None
     → o ≡ None
     → private_row image hart room ≡ []
-none_refused image hart room o l e f =
-    private_row-more image hart room l ∙ ap (λ (b : Bool). cond b (next_entry image hart ∷ private_row image (after hart (next_entry image hart)) (room - 1)) []) (refused_by (can_go_alone image hart) (next_step image hart) (sym e ∙ f))
+none_refused image hart room o l e f = no_row image hart room l (refused_by (can_go_alone image hart) (next_step image hart) (sym e ∙ f))
 
 pub row_done : (image : Initial) (hart last : Hart) (items : List Retired) (most room : ℕ)
     → private_row image hart most ≡ items ++ private_row image last room
@@ -223,12 +193,6 @@ pub row_done : (image : Initial) (hart last : Hart) (items : List Retired) (most
 row_done image hart last items most room row leads none =
     let e : items ≡ private_row image hart most = sym (row ∙ (ap (λ (r : List Retired). items ++ r) none ∙ append-nil items)) in
     ap (λ (h : Hart). row_with hart h items) leads ∙ ap (λ (es : List Retired). row_with hart (reached hart es) es) e
-
-abbrev pub bare_entry : ℕ → ℕ → Retired
-bare_entry pc word = record { pc = pc; word = word; loaded = None; sc_ok = None }
-
-pub step_of : (image : Initial) (hart : Hart) (word : ℕ) (next : Hart) → word ≡ word_at image hart.pc → next ≡ after hart (next_entry image hart) → Some (pair (bare_entry hart.pc word) next) ≡ Some (next_step image hart)
-step_of image hart word next e f = ap (λ (w : ℕ). Some (pair (bare_entry hart.pc w) next)) e ∙ ap (λ (h : Hart). Some (pair (next_entry image hart) h)) f
 
 pub the_row : (image : Initial) (hart last : Hart) (items : List Retired) (most : ℕ) → most ≤ 256 → record { first = hart; last = last; entries = items } ≡ row_of image hart most → IsRow (record { first = hart; last = last; entries = items })
 the_row image hart last items most few e = subst IsRow (sym e) (row_of-IsRow image hart most few)

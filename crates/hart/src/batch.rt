@@ -1,7 +1,8 @@
 //! Rows of instructions that a hart does alone.
 ghost use Rattle.std.specs.Prelude.{◌≡◌, ◌≤◌, IfOk, Some, None, if◌then◌else◌};
 ghost use Rattle.elf_loader.specs.Size.{IsMemorySize};
-ghost use Rattle.hart.specs.Local.{IsRow, can_go_alone, is_done_alone, next_step, row_of, with_effect};
+ghost use Rattle.hart.specs.Local.{IsRow, can_go_alone, is_done_alone, next_entry, next_step, row_of, with_effect};
+ghost use Rattle.hart.specs.Run.{after};
 ghost use Rattle.rv32_exec.specs.Meaning.{effect_of};
 
 use crate::retired::Retired;
@@ -68,11 +69,10 @@ pub fn run_local(alloc: Global, image: &Image, hart: &Hart, max: u32) -> Result<
     let mut last = *hart;
     let mut room = max;
     while room > 0 {
-        let Some((entry, next)) = next_alone(image, &last) else {
+        let Some(entry) = go_alone(image, &mut last) else {
             break;
         };
         entries.push(entry)?;
-        last = next;
         room -= 1;
     }
     Ok(Batch {
@@ -85,6 +85,16 @@ pub fn run_local(alloc: Global, image: &Image, hart: &Hart, max: u32) -> Result<
 /// The hart's next instruction and where the hart stands behind it, where it is private and doesn't stop.
 pub fn next_alone(image: &Image, hart: &Hart) -> Option<(Retired, Hart)>
     ensures { result ≡ (if can_go_alone image.now hart.now then Some (next_step image.now hart.now) else None) }
+{
+    let mut next = *hart;
+    let entry = go_alone(image, &mut next)?;
+    Some((entry, next))
+}
+
+// The hart retires its next instruction, where that is private and doesn't stop; else it stays.
+fn go_alone(image: &Image, hart: &mut Hart) -> Option<Retired>
+    ensures entry { result ≡ (if can_go_alone image.now hart.old then Some (next_entry image.now hart.old) else None) }
+    ensures hart { hart.new ≡ (if can_go_alone image.now hart.old then after hart.old (next_entry image.now hart.old) else hart.old) }
 {
     if !hart.status.is_running() {
         return None;
@@ -105,7 +115,8 @@ pub fn next_alone(image: &Image, hart: &Hart) -> Option<(Retired, Hart)>
         loaded: None,
         sc_ok: None,
     };
-    Some((entry, moved_alone(&instr, hart)))
+    move_alone(&instr, hart);
+    Some(entry)
 }
 
 fn is_alone(instr: &Instr, hart: &Hart, size: u32) -> bool
@@ -118,11 +129,9 @@ fn is_alone(instr: &Instr, hart: &Hart, size: u32) -> bool
     }
 }
 
-// The hart behind an instruction that reads nothing and leaves it running.
-fn moved_alone(instr: &Instr, hart: &Hart) -> Hart
-    ensures { result ≡ with_effect hart.now (effect_of instr.now hart.now.pc hart.now.regs 0) }
+// The hart passes an instruction that reads nothing and leaves it running.
+fn move_alone(instr: &Instr, hart: &mut Hart)
+    ensures { hart.new ≡ with_effect hart.old (effect_of instr.now hart.old.pc hart.old.regs 0) }
 {
-    let mut next = *hart;
-    next.pc = finish(instr, hart.pc, &mut next.regs, None);
-    next
+    hart.pc = finish(instr, hart.pc, &mut hart.regs, None);
 }

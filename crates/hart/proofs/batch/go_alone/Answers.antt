@@ -1,0 +1,8 @@
+use Rattle.std.proofs.Common.{Some, None, sym}
+use Rattle.std.proofs.lemmas.Bool.{cond-false}
+use Rattle.hart.specs.Local.{can_go_alone, next_entry}
+use Rattle.hart.proofs.Rows.{alone-outside}
+use Rattle.hart.proofs.batch.go_alone.Goals as goal
+
+pub returns-then-not-has_word-clause-entry : goal.returns-then-not-has_word-clause-entry
+returns-then-not-has_word-clause-entry c = sym (cond-false (can_go_alone c.args.image.now c.args.hart.now) (Some (next_entry c.args.image.now c.args.hart.now)) None (alone-outside c.args.image.now c.args.hart.now c.has_word.result c.has_word.ensures c.if-not-has_word.true))
