@@ -10,7 +10,7 @@ use Rattle.machine_model.proofs.LogLists.{comes_out, goes_in, is_in, one_more, p
 use Rattle.machine_model.specs.LawfulLog.{IsBeginningOf, IsLawfulLog, is_on, may_send, sent_on, taken_on}
 use Rattle.lawful_log.proofs.Sends.{goes, goes_by}
 use Rattle.lawful_log.specs.Laws.{EntriesDecide}
-use Rattle.lawful_log.specs.Rules.{IsFront, IsLawfulByEntries, Keeps, KeepsGoing, MayComeBy}
+use Rattle.lawful_log.specs.Rules.{IsFront, IsLawfulByEntries, Obeys, KeepsGoing, MayComeBy}
 use Rattle.lawful_log.specs.declared.rule.LogRule.{LogRule}
 use Rattle.lawful_log.specs.declared.rule.LogRule.TheVariants.{InOrder, Question, Permission, Data, AcquireOnce, ProbeOnce, GrantAlone, ReleaseAlone}
 use Rattle.tl_types.specs.Message.{channel_of}
@@ -136,7 +136,7 @@ keeps_each log rest Taken h m all rule = came rule
     came GrantAlone = refl
     came ReleaseAlone = refl
 
-pub lawful_keeps : (log rest : List Logged) (e : Logged) → IsLawfulLog (log ++ e ∷ rest) → (rule : LogRule) → Keeps rule log e
+pub lawful_keeps : (log rest : List Logged) (e : Logged) → IsLawfulLog (log ++ e ∷ rest) → (rule : LogRule) → Obeys rule log e
 lawful_keeps log rest e = keeps_each log rest e.direction e.hart e.message
 
 -- a lawful log with one more entry that keeps each rule is lawful
@@ -178,7 +178,7 @@ one_lawful : (log : List Logged) (d : Direction) (h : ℕ) (m : Msg) → IsLawfu
 one_lawful log Sent h m all each = one_sent_lawful log h m all (goes h m.line log m.body each)
 one_lawful log Taken h m all each = one_taken_lawful log h m all (each InOrder)
 
-pub lawful_with : (log : List Logged) (e : Logged) → IsLawfulLog log → ((rule : LogRule) → Keeps rule log e) → IsLawfulLog (log ++ e ∷ [])
+pub lawful_with : (log : List Logged) (e : Logged) → IsLawfulLog log → ((rule : LogRule) → Obeys rule log e) → IsLawfulLog (log ++ e ∷ [])
 lawful_with log e = one_lawful log e.direction e.hart e.message
 
 -- ---- whole and by entries

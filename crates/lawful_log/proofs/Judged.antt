@@ -6,7 +6,7 @@ use Rattle.machine_model.specs.LogLaws.{AgreeInSum}
 use Rattle.machine_model.proofs.LogSums.{sums_agree}
 use Rattle.lawful_log.specs.Facts as by_facts
 use Rattle.lawful_log.specs.Facts.{GoesBy, KeepsBy, front_for, known_of, without_data}
-use Rattle.lawful_log.specs.Rules.{Keeps, KeepsGoing, fits_data, is_asked, may_go_by}
+use Rattle.lawful_log.specs.Rules.{Obeys, KeepsGoing, fits_data, is_asked, may_go_by}
 use Rattle.lawful_log.specs.declared.rule.LogRule.{LogRule}
 use Rattle.lawful_log.specs.declared.rule.LogRule.TheVariants.{InOrder, Question, Permission, Data, AcquireOnce, ProbeOnce, GrantAlone, ReleaseAlone}
 use Rattle.tl_types.specs.declared.message.Body.{Body}
@@ -119,5 +119,5 @@ going Taken ProbeOnce h m log agree = (λ t. t, λ t. t)
 going Taken GrantAlone h m log agree = (λ t. t, λ t. t)
 going Taken ReleaseAlone h m log agree = (λ t. t, λ t. t)
 
-pub keeps_by_facts : (rule : LogRule) (e : Logged) (log : List Logged) → IsLawfulLog log → KeepsBy rule (front_for e.hart e.message log) (known_of e.hart e.message.line log) e ↔ Keeps rule log e
+pub keeps_by_facts : (rule : LogRule) (e : Logged) (log : List Logged) → IsLawfulLog log → KeepsBy rule (front_for e.hart e.message log) (known_of e.hart e.message.line log) e ↔ Obeys rule log e
 keeps_by_facts rule e log lawful = going e.direction rule e.hart e.message log (sums_agree e.message.line log lawful)

@@ -7,7 +7,7 @@ use Rattle.lawful_log.proofs.Counted.{grows_more, lost_more, tallies_more}
 use Rattle.lawful_log.proofs.Waiting.{front_waits, queue_more}
 use Rattle.lawful_log.specs.Facts.{FindsBreach, FindsBroken, GoesBy, Known, MayComeBy, counted, front_for, known_of}
 use Rattle.lawful_log.specs.Followed.{Follows, HartKnown, all_in, grows_given, hart_known_of, known_from, known_in, noted, waiting_after, waiting_on}
-use Rattle.lawful_log.specs.Rules.{Keeps}
+use Rattle.lawful_log.specs.Rules.{Obeys}
 use Rattle.lawful_log.specs.declared.followed.Followed.{Followed}
 use Rattle.lawful_log.specs.declared.rule.LogRule.{LogRule}
 use Rattle.lawful_log.specs.declared.rule.LogRule.TheVariants.{InOrder, Question, Permission, Data, AcquireOnce, ProbeOnce, GrantAlone, ReleaseAlone}
@@ -97,7 +97,7 @@ pub record IsNoted (f g : Followed) (e : Logged) : Type 0 where
   pub lines : (line : ℕ) → all_in g.lines line ≡ (if is_of_line line e then counted e (all_in f.lines line) else all_in f.lines line)
   pub queues : (c : Channel) (h : ℕ) → waiting_on g.queues c h ≡ waiting_after c h e (waiting_on f.queues c h)
 
-pub noted_follows : (f g : Followed) (log : List Logged) (e : Logged) → Follows f log → Keeps InOrder log e → IsNoted f g e → Follows g (log ++ e ∷ [])
+pub noted_follows : (f g : Followed) (log : List Logged) (e : Logged) → Follows f log → Obeys InOrder log e → IsNoted f g e → Follows g (log ++ e ∷ [])
 noted_follows f g log e old keeps now = record {
   harts = λ h line. now.harts h line ∙ (ap (λ (k : HartKnown). if concerns h line e then noted e k else k) (old.harts h line) ∙ sym (hart_more h line log e));
   lines = λ line. now.lines line ∙ (ap (λ (t : Tallies). if is_of_line line e then counted e t else t) (old.lines line) ∙ sym (tallies_more (is_of_line line) log e));

@@ -9,7 +9,7 @@ use Rattle.lawful_log.proofs.Judged.{keeps_by_facts}
 use Rattle.lawful_log.specs.Facts.{FindsBreach, front_for, known_of}
 use Rattle.lawful_log.specs.Followed.{Follows}
 use Rattle.lawful_log.specs.Laws.{IsFirstBreach}
-use Rattle.lawful_log.specs.Rules.{Keeps}
+use Rattle.lawful_log.specs.Rules.{Obeys}
 use Rattle.lawful_log.specs.declared.followed.Followed.{Followed}
 use Rattle.lawful_log.specs.declared.rule.LogRule.{LogRule}
 use Rattle.lawful_log.specs.declared.rule.LogRule.TheVariants.{InOrder}
@@ -21,13 +21,13 @@ abbrev pub BreaksFirst : List Logged → Logged → Option LogRule → Type 0
 BreaksFirst log e o = FindsBreach (front_for e.hart e.message log) (known_of e.hart e.message.line log) e o
 
 -- no rule is broken
-pub keeps_all : (log : List Logged) (e : Logged) (o : Option LogRule) → IsLawfulLog log → o ≡ None → BreaksFirst log e o → (rule : LogRule) → Keeps rule log e
+pub keeps_all : (log : List Logged) (e : Logged) (o : Option LogRule) → IsLawfulLog log → o ≡ None → BreaksFirst log e o → (rule : LogRule) → Obeys rule log e
 keeps_all log e o lawful is found rule =
     let none : BreaksFirst log e None = subst (BreaksFirst log e) is found in
     (keeps_by_facts rule e log lawful).0 (none rule)
 
 module _ (log : List Logged) (i : ℕ) (d : Logged) (within : i < length log) where
-  pub lawful_further : IsLawfulLog (take i log) → ((rule : LogRule) → Keeps rule (take i log) (get_or log i d)) → IsLawfulLog (take (i + 1) log)
+  pub lawful_further : IsLawfulLog (take i log) → ((rule : LogRule) → Obeys rule (take i log) (get_or log i d)) → IsLawfulLog (take (i + 1) log)
   lawful_further lawful each = subst IsLawfulLog (sym (take_more log i d within)) (lawful_with (take i log) (get_or log i d) lawful each)
 
   pub follows_further : (f : Followed) → Follows f (take i log ++ get_or log i d ∷ []) → Follows f (take (i + 1) log)
@@ -54,7 +54,7 @@ lawful_decides log i past lawful = (λ same. subst IsLawfulLog (take_all i log p
 
 -- one entry further, where it breaks no rule
 pub passes : (log : List Logged) (i : ℕ) (d : Logged) (within : i < length log) (o : Option LogRule) (next : Followed) → IsLawfulLog (take i log) → o ≡ None → BreaksFirst (take i log) (get_or log i d) o
-    → (Keeps InOrder (take i log) (get_or log i d) → Follows next (take i log ++ get_or log i d ∷ [])) → Follows next (take (i + 1) log) × IsLawfulLog (take (i + 1) log)
+    → (Obeys InOrder (take i log) (get_or log i d) → Follows next (take i log ++ get_or log i d ∷ [])) → Follows next (take (i + 1) log) × IsLawfulLog (take (i + 1) log)
 passes log i d within o next lawful is found noted =
-    let each : (rule : LogRule) → Keeps rule (take i log) (get_or log i d) = keeps_all (take i log) (get_or log i d) o lawful is found in
+    let each : (rule : LogRule) → Obeys rule (take i log) (get_or log i d) = keeps_all (take i log) (get_or log i d) o lawful is found in
     (follows_further log i d within next (noted (each InOrder)), lawful_further log i d within lawful each)

@@ -1,7 +1,7 @@
 -- The lawful log, whole and by entries.
 use Rattle.std.specs.Prelude.{ℕ, ◌≡◌, ◌<◌, ◌+◌, ◌↔◌, List, Some, slice_get, take}
 use Rattle.machine_model.specs.LawfulLog.{IsLawfulLog}
-use Rattle.lawful_log.specs.Rules.{IsLawfulByEntries, Keeps, rank}
+use Rattle.lawful_log.specs.Rules.{IsLawfulByEntries, Obeys, rank}
 use Rattle.lawful_log.specs.declared.rule.LogRule.{LogRule}
 use Rattle.lawful_log.specs.declared.rule.LogVerdict.{LogVerdict}
 use Rattle.lawful_log.specs.declared.rule.LogVerdict.TheVariants.{Lawful, Unlawful}
@@ -17,8 +17,8 @@ pub record IsFirstBreach (log : List Logged) (rule : LogRule) (index : ℕ) : Ty
   pub stands : slice_get log index ≡ Some entry
   pub lawful_before : IsLawfulLog (take index log)
   pub unlawful_with : ¬ IsLawfulLog (take (index + 1) log)
-  pub broken : ¬ Keeps rule (take index log) entry
-  pub first : (r : LogRule) → rank r < rank rule → Keeps r (take index log) entry
+  pub broken : ¬ Obeys rule (take index log) entry
+  pub first : (r : LogRule) → rank r < rank rule → Obeys r (take index log) entry
 
 abbrev pub IfUnlawful : LogVerdict → (LogRule → ℕ → Type 0) → Type 0
 IfUnlawful Lawful P = Unit {0}

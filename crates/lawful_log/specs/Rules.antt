@@ -99,12 +99,12 @@ abbrev pub KeepsGoing : Direction → LogRule → ℕ → Msg → List Logged �
 KeepsGoing Sent rule h m log = IsTrue (may_go_by rule m.body h m.line log)
 KeepsGoing Taken rule h m log = MayComeBy rule h m log
 
-abbrev pub Keeps : LogRule → List Logged → Logged → Type 0
-Keeps rule log e = KeepsGoing e.direction rule e.hart e.message log
+abbrev pub Obeys : LogRule → List Logged → Logged → Type 0
+Obeys rule log e = KeepsGoing e.direction rule e.hart e.message log
 
 -- each entry keeps each rule, behind those before it
 abbrev pub IsLawfulByEntries : List Logged → Type 0
-IsLawfulByEntries log = (rule : LogRule) (before rest : List Logged) (e : Logged) → before ++ e ∷ rest ≡ log → Keeps rule before e
+IsLawfulByEntries log = (rule : LogRule) (before rest : List Logged) (e : Logged) → before ++ e ∷ rest ≡ log → Obeys rule before e
 
 -- the rules' order
 abbrev pub rank : LogRule → ℕ

@@ -2,7 +2,7 @@
 ghost use Rattle.std.specs.Prelude.{◌≡◌, ◌+◌, ◌<◌, ℕ, List, ◌∷◌, ◌++◌, [], OnOk, if◌then◌else◌};
 ghost use Rattle.lawful_log.specs.Facts.{FindsBreach, FindsBroken, HaveRoom, counted, front_for, known_of};
 ghost use Rattle.lawful_log.specs.Followed.{Follows, IsFollowable, all_in, known_from, known_in, noted};
-ghost use Rattle.lawful_log.specs.Rules.{Keeps};
+ghost use Rattle.lawful_log.specs.Rules.{Obeys};
 ghost use Rattle.lawful_log.specs.declared.rule.LogRule.TheVariants.{InOrder};
 ghost use Rattle.machine_model.specs.LawfulLog.{concerns, is_of_line};
 ghost use Rattle.trace_recorder.specs.declared.logged.Logged.{Logged as LoggedValue};
@@ -54,7 +54,7 @@ impl Followed {
     /// One more entry, in its queue's order.
     pub(crate) fn note(&mut self, alloc: Global, entry: &Logged) -> Result<(), AllocError>
         requires { IsFollowable self.old }
-        ensures { OnOk result ((log : List LoggedValue) → Follows self.old log → Keeps InOrder log entry.now → Follows self.new (log ++ entry.now ∷ [])) }
+        ensures { OnOk result ((log : List LoggedValue) → Follows self.old log → Obeys InOrder log entry.now → Follows self.new (log ++ entry.now ∷ [])) }
     {
         note_line(alloc, &mut self.lines, entry)?;
         self.queues.note(entry)?;

@@ -7,7 +7,7 @@ use Rattle.std.proofs.lemmas.List.Elements.{filter-append}
 use Rattle.memory_model.specs.declared.Model.{Model}
 use Rattle.memory_model.specs.declared.operation.Operation.{Operation}
 use Rattle.memory_model.specs.Operations.{same, precedes, stores_to}
-use Rattle.memory_model.specs.Order.{Keeps, before, position_in, in_order, none_must_precede, candidates, source, is_visible, last_visible}
+use Rattle.memory_model.specs.Order.{Respects, before, position_in, in_order, none_must_precede, candidates, source, is_visible, last_visible}
 use Rattle.memory_model.specs.Items.{Item}
 use Rattle.memory_model.specs.Rules.{Rule, rules, items_of, preserved}
 use Rattle.memory_model.specs.Traces.{instructions, operations_at}
@@ -96,13 +96,13 @@ Ordered-from_keeps must (x ∷ xs) d k = (
         let z = place_head x x xs (same-self x) in absurd (omega (arith, l, z))
 
 -- for a test by which nothing must come before itself
-pub Keeps-from_in_order : (must : Operation → Operation → Bool) → ((a : Operation) → must a a ≡ false) → (xs : List Operation) → EachOnce xs → in_order must xs ≡ true → Keeps must xs
+pub Respects-from_in_order : (must : Operation → Operation → Bool) → ((a : Operation) → must a a ≡ false) → (xs : List Operation) → EachOnce xs → in_order must xs ≡ true → Respects must xs
 unfolding KeepsMembers
-Keeps-from_in_order must irr xs d e = λ a b ca cb t. keeps-from_Ordered must irr xs d (Ordered-from_in_order must xs e) a b (Member-from_Contains xs a ca) (Member-from_Contains xs b cb) t
+Respects-from_in_order must irr xs d e = λ a b ca cb t. keeps-from_Ordered must irr xs d (Ordered-from_in_order must xs e) a b (Member-from_Contains xs a ca) (Member-from_Contains xs b cb) t
 
-pub in_order-from_Keeps : (must : Operation → Operation → Bool) (xs : List Operation) → EachOnce xs → Keeps must xs → in_order must xs ≡ true
+pub in_order-from_Respects : (must : Operation → Operation → Bool) (xs : List Operation) → EachOnce xs → Respects must xs → in_order must xs ≡ true
 unfolding KeepsMembers
-in_order-from_Keeps must xs d k = in_order-from_Ordered must xs (Ordered-from_keeps must xs d (λ a b ma mb t. k a b (Contains-from_Member xs a ma) (Contains-from_Member xs b mb) t))
+in_order-from_Respects must xs d k = in_order-from_Ordered must xs (Ordered-from_keeps must xs d (λ a b ma mb t. k a b (Contains-from_Member xs a ma) (Contains-from_Member xs b mb) t))
 
 -- no operation precedes itself
 preserved-self : (model : Model) (harts : List (List Item)) (order : List Operation) (a : Operation) → preserved model harts order a a ≡ false
@@ -115,8 +115,8 @@ preserved-self model harts order a = ap (λ (b : Bool). (nat_eq a.hart a.hart &&
 pub order_forms_agree : OrderFormsAgree
 order_forms_agree model t order o =
     let d = operations_distinct t order (Pairwise-from_is_distinct order o.once) in (
-      λ e. Keeps-from_in_order (preserved model (instructions t) (operations_at (instructions t) order)) (preserved-self model (instructions t) (operations_at (instructions t) order)) (operations_at (instructions t) order) d e,
-      λ k. in_order-from_Keeps (preserved model (instructions t) (operations_at (instructions t) order)) (operations_at (instructions t) order) d k,
+      λ e. Respects-from_in_order (preserved model (instructions t) (operations_at (instructions t) order)) (preserved-self model (instructions t) (operations_at (instructions t) order)) (operations_at (instructions t) order) d e,
+      λ k. in_order-from_Respects (preserved model (instructions t) (operations_at (instructions t) order)) (operations_at (instructions t) order) d k,
     )
 
 -- ---- the source of a byte

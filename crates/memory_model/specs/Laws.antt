@@ -9,7 +9,7 @@ use Rattle.memory_model.specs.declared.Model.{Model}
 use Rattle.memory_model.specs.declared.Model.TheVariants.{Rvwmo, Ztso}
 use Rattle.memory_model.specs.declared.operation.Operation.{Operation}
 use Rattle.memory_model.specs.Operations.{precedes, reads, bytes_of, read_at, stores_to}
-use Rattle.memory_model.specs.Order.{Keeps, in_order, last_visible, source}
+use Rattle.memory_model.specs.Order.{Respects, in_order, last_visible, source}
 use Rattle.memory_model.specs.Items.{Item, has_operation, item_of}
 use Rattle.memory_model.specs.Rules.{preserved}
 use Rattle.memory_model.specs.Legal.{IsLegal, keeps_preserved_order}
@@ -30,7 +30,7 @@ OrderFormsAgree =
     (model : Model) (t : History) (order : List OpId)
     → IsOrder t order
     → IsTrue (keeps_preserved_order model (instructions t) (operations_at (instructions t) order))
-    ↔ Keeps (preserved model (instructions t) (operations_at (instructions t) order)) (operations_at (instructions t) order)
+    ↔ Respects (preserved model (instructions t) (operations_at (instructions t) order)) (operations_at (instructions t) order)
 
 -- in an order of the trace's operations, the source of a byte of a load is its reader's form
 abbrev pub SourceFormsAgree : Type 0

@@ -25,8 +25,8 @@ in_order must [] = true
 in_order must (a ∷ rest) = none_must_precede must a rest && in_order must rest
 
 -- the reader's form: where a must come before b, a stands before b
-abbrev pub Keeps : (Operation → Operation → Bool) → List Operation → Type 0
-Keeps must order = (a b : Operation) → Contains order a → Contains order b → IsTrue (must a b) → IsTrue (before order a b)
+abbrev pub Respects : (Operation → Operation → Bool) → List Operation → Type 0
+Respects must order = (a b : Operation) → Contains order a → Contains order b → IsTrue (must a b) → IsTrue (before order a b)
 
 -- ---- the source of a byte of a load
 

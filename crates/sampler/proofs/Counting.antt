@@ -13,7 +13,7 @@ use Rattle.explorer.specs.Ranks.{outcome_cmp}
 use Rattle.flat_model.specs.Shown.{Result, results}
 use Rattle.machine_model.specs.declared.config.Config.{Config}
 use Rattle.machine_model.specs.declared.event.Event.{Event}
-use Rattle.sampler.specs.Sampled.{AreCounted, IsReached, LeadsTo, ends_led, have_ended, is_outcome_of, numbered, times_of}
+use Rattle.sampler.specs.Sampled.{AreCounted, IsRealEnd, LeadsTo, ends_led, have_ended, is_outcome_of, numbered, times_of}
 use Rattle.schedules.specs.Schedules.{Replays, led}
 
 -- equal as code finds it
@@ -85,7 +85,7 @@ module _ (image : Initial) (config : Config) (events : List Event) (replays : Re
         step found false e = are.times found ∙ sym (split found ∙ (ap (λ x. cond x 1 0 + count_by (is_outcome_of found) ends) (asked found false e) ∙ none_more (count_by (is_outcome_of found) ends)))
 
 -- an end that was told with a script counts as one
-pub end_counted : (image : Initial) (config : Config) (counted after : List (Found × ℕ)) (unended runs n : ℕ) (end told : Found) → AreCounted image config counted unended runs → IsReached image config told
+pub end_counted : (image : Initial) (config : Config) (counted after : List (Found × ℕ)) (unended runs n : ℕ) (end told : Found) → AreCounted image config counted unended runs → IsRealEnd image config told
     → outcome_of told ≡ outcome_of end → n ≡ times_of end counted
     → ((found : Found) → lookup (λ other. is_eq (outcome_cmp (outcome_of found) (outcome_of other))) after
     ≡ cond (is_eq (outcome_cmp (outcome_of told) (outcome_of found))) (Some (n + 1)) (lookup (λ other. is_eq (outcome_cmp (outcome_of found) (outcome_of other))) counted))

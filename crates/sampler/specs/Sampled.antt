@@ -30,8 +30,8 @@ LeadsTo image config outcome (Events events) = BringsAbout image config outcome 
 LeadsTo image config outcome _ = ⊥
 
 -- it is an end, and its script leads there
-abbrev pub IsReached : Initial → Config → Found → Type 0
-IsReached image config found = (have_ended (outcome_of found) ≡ true) × LeadsTo image config (outcome_of found) found.script
+abbrev pub IsRealEnd : Initial → Config → Found → Type 0
+IsRealEnd image config found = (have_ended (outcome_of found) ≡ true) × LeadsTo image config (outcome_of found) found.script
 
 -- ---- how often
 
@@ -65,11 +65,11 @@ pub record AreCounted (image : Initial) (config : Config) (counted : List (Found
 
 pub record IsTally (image : Initial) (config : Config) (t : Tally) : Type 0 where
   pub counted : AreCounted image config t.ends.entries t.unended t.runs
-  pub reached : All (IsReached image config) (keys_of t.ends.entries)
+  pub reached : All (IsRealEnd image config) (keys_of t.ends.entries)
 
 -- each end is one, and its script leads there; so many runs came to each, and so many to none; the ends stand in their order, each once
 pub record IsSampled (image : Initial) (config : Config) (s : Sampled) : Type 0 where
-  pub reached : All (IsReached image config) s.ends.items
+  pub reached : All (IsRealEnd image config) s.ends.items
   pub counted : AreCounted image config (numbered s.ends.items s.times.items) s.unended s.runs
   pub as_many : length s.times.items ≡ length s.ends.items
   pub order : IsStrictlySortedBy (on outcome_of outcome_cmp) s.ends.items

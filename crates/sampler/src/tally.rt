@@ -3,7 +3,7 @@
 ghost use Rattle.std.specs.Prelude.{◌≡◌, ◌+◌, ◌^◌, ◌<◌, [], IfOk, OnErr, OnOk};
 ghost use Rattle.explorer.specs.Ends.{outcome_of};
 ghost use Rattle.flat_model.specs.Shown.{results, told};
-ghost use Rattle.sampler.specs.Sampled.{IsReached, IsSampled, IsTally, have_ended};
+ghost use Rattle.sampler.specs.Sampled.{IsRealEnd, IsSampled, IsTally, have_ended};
 ghost use Rattle.schedules.specs.Schedules.{Replays, led};
 
 use crate::sampled::Sampled;
@@ -74,7 +74,7 @@ impl Tally {
     fn count_end(&mut self, program: &Program<'_>, end: Found) -> Result<(), AllocError>
         requires room { self.old.runs + 1 < 2 ^ 64 }
         requires tally { IsTally program.now.image.now program.now.config self.old }
-        requires reached { IsReached program.now.image.now program.now.config end }
+        requires reached { IsRealEnd program.now.image.now program.now.config end }
         ensures tally { IsTally program.now.image.now program.now.config self.new }
         ensures ok { OnOk result (self.new.runs ≡ self.old.runs + 1) }
         ensures err { OnErr result (self.new.runs ≡ self.old.runs) }
@@ -132,8 +132,8 @@ impl Program<'_> {
     /// The end as it is told: where it is new, with fewer events that lead there, if that was asked for and
     /// memory lasts.
     fn kept(&self, end: Found, is_new: bool) -> Found
-        requires reached { IsReached self.now.image.now self.now.config end }
-        ensures reached { IsReached self.now.image.now self.now.config result }
+        requires reached { IsRealEnd self.now.image.now self.now.config end }
+        ensures reached { IsRealEnd self.now.image.now self.now.config result }
         ensures outcome { outcome_of result ≡ outcome_of end }
     {
         if !is_new || !self.shortened {

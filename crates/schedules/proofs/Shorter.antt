@@ -2,7 +2,7 @@
 use Rattle.std.proofs.Common.{inl, inr, refl, sym, ap, subst, ℕ, ◌+◌, ◌<◌, List, [], ◌∷◌, ◌++◌, length, take, get_or}
 use Rattle.std.proofs.lemmas.List.{append-nil, take_more}
 use Rattle.machine_model.specs.declared.event.Event.{Event}
-use Rattle.schedules.specs.Schedules.{Keeps}
+use Rattle.schedules.specs.Schedules.{MayAdd}
 use Rattle.schedules.specs.Sublists.{IsSublist}
 
 pub whole : {A : Type 0} (xs : List A) → IsSublist xs xs
@@ -37,7 +37,7 @@ beside xs (y ∷ ys) vs ws p q =
 pub one_left_out : {A : Type 0} (xs ys : List A) (y : A) → IsSublist xs ys → IsSublist xs (ys ++ y ∷ [])
 one_left_out xs ys y p = subst (λ l. IsSublist l (ys ++ y ∷ [])) (append-nil xs) (beside xs ys [] (y ∷ []) p (nothing (y ∷ [])))
 
-pub one_more : (xs ys : List Event) (y : Event) (new : List Event) → IsSublist xs ys → Keeps xs y new → IsSublist new (ys ++ y ∷ [])
+pub one_more : (xs ys : List Event) (y : Event) (new : List Event) → IsSublist xs ys → MayAdd xs y new → IsSublist new (ys ++ y ∷ [])
 one_more xs ys y new p k =
     elim k [
       | inl out ↦ subst (λ l. IsSublist l (ys ++ y ∷ [])) (sym out) (one_left_out xs ys y p)
@@ -48,5 +48,5 @@ one_more xs ys y new p k =
 pub skip_next : (xs events : List Event) (i : ℕ) (d : Event) → i < length events → IsSublist xs (take i events) → IsSublist xs (take (i + 1) events)
 skip_next xs events i d below p = subst (IsSublist xs) (sym (take_more events i d below)) (one_left_out xs (take i events) (get_or events i d) p)
 
-pub take_next : (xs events : List Event) (i : ℕ) (d : Event) (new : List Event) → i < length events → Keeps xs (get_or events i d) new → IsSublist xs (take i events) → IsSublist new (take (i + 1) events)
+pub take_next : (xs events : List Event) (i : ℕ) (d : Event) (new : List Event) → i < length events → MayAdd xs (get_or events i d) new → IsSublist xs (take i events) → IsSublist new (take (i + 1) events)
 take_next xs events i d new below k p = subst (IsSublist new) (sym (take_more events i d below)) (one_more xs (take i events) (get_or events i d) new p k)

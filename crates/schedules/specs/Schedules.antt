@@ -40,5 +40,5 @@ pub record IsPlayed (p : Played) : Type 0 where
   pub within : IsTrue (is_within_limits p.machine.views.config)
 
 -- the event is kept behind the others, or left out
-abbrev pub Keeps : List Event → Event → List Event → Type 0
-Keeps old event new = (new ≡ old) ⊎ (new ≡ old ++ event ∷ [])
+abbrev pub MayAdd : List Event → Event → List Event → Type 0
+MayAdd old event new = (new ≡ old) ⊎ (new ≡ old ++ event ∷ [])

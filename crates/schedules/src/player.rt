@@ -6,7 +6,7 @@ ghost use Rattle.machine_model.specs.Config.{is_within_limits};
 ghost use Rattle.machine_model.specs.Events.{after_events};
 ghost use Rattle.machine_model.specs.Views.{opening};
 ghost use Rattle.coherent_machine.specs.Machine.{Replayed, replayed_from};
-ghost use Rattle.schedules.specs.Schedules.{Keeps, Played, start_of};
+ghost use Rattle.schedules.specs.Schedules.{MayAdd, Played, start_of};
 
 use crate::errors::Fault;
 use crate::results::results_of;
@@ -58,7 +58,7 @@ impl Player {
     /// line or count that there isn't.
     pub(crate) fn apply(&mut self, event: Event) -> Result<Option<Outcome>, Fault>
         ensures start { start_of self.new ≡ start_of self.old }
-        ensures kept { Keeps self.old.events event self.new.events }
+        ensures kept { MayAdd self.old.events event self.new.events }
     {
         changes_are_counted();
         self.events.reserve(1)?;

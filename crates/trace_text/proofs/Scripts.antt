@@ -19,7 +19,7 @@ use Rattle.trace_text.specs.Scripts.{event, IsEvent, is_first_version, head, is_
 use Rattle.trace_text.specs.declared.script.Script.{Script}
 use Rattle.trace_text.specs.declared.fault.TextError.{TextError}
 use Rattle.std.specs.Prelude.{IfOk}
-use Rattle.trace_text.specs.Reading.{Answers, IsNoMemory}
+use Rattle.trace_text.specs.Reading.{IsReadOrRefused, IsNoMemory}
 use Rattle.trace_text.specs.ScriptReading.{channels, word_line_at, channel_at, step_at, drain_at, evict_at, deliver_at, local_at, event_at, most, last_two_at, first_fields_at, first_head_at, second_fields_at, second_head_at, head_at, script_at}
 
 word_line_reads : Reads (λ w. word w ++ 10 ∷ []) (λ w. w < 2 ^ 32) word_line_at
@@ -287,11 +287,11 @@ script_again s fits =
 
 -- ---- the clauses of read_script
 
-pub is_found : (bytes : List ℕ) (r : Result Script TextError) → Answers (λ s. s) r (script_at bytes) → IfOk r (λ s. IsScript s × (bytes ≡ text s))
+pub is_found : (bytes : List ℕ) (r : Result Script TextError) → IsReadOrRefused (λ s. s) r (script_at bytes) → IfOk r (λ s. IsScript s × (bytes ≡ text s))
 is_found bytes (Ok s) e = script_takes bytes s e
 is_found bytes (Err e) h = tt
 
-pub is_only : (bytes : List ℕ) (r : Result Script TextError) → Answers (λ s. s) r (script_at bytes) → (s : Script) → IsScript s → bytes ≡ text s → ¬ IsNoMemory r → r ≡ Ok s
+pub is_only : (bytes : List ℕ) (r : Result Script TextError) → IsReadOrRefused (λ s. s) r (script_at bytes) → (s : Script) → IsScript s → bytes ≡ text s → ¬ IsNoMemory r → r ≡ Ok s
 is_only bytes (Ok x) h s fits e some = ap (λ (y : Script). Ok y) (some_is x s (sym h ∙ ap script_at e ∙ script_again s fits))
 is_only bytes (Err f) (inl gone) s fits e some = absurd (some gone)
 is_only bytes (Err f) (inr none) s fits e some = absurd (clash (sym none ∙ ap script_at e ∙ script_again s fits))

@@ -21,7 +21,7 @@ use Rattle.trace_recorder.specs.declared.operation.OpId.{OpId}
 use Rattle.trace_recorder.specs.declared.logged.Logged.{Logged}
 use Rattle.trace_recorder.specs.History.{History, Recorded}
 use Rattle.trace_recorder.specs.Limits.{AreWithinLimits}
-use Rattle.trace_text.specs.Reading.{Answers, IsNoMemory}
+use Rattle.trace_text.specs.Reading.{IsReadOrRefused, IsNoMemory}
 use Rattle.trace_text.specs.declared.fault.TextError.{TextError}
 use Rattle.trace_text.specs.declared.head.TraceHead.{TraceHead}
 use Rattle.trace_text.specs.TraceHeads.{IsTraceHead}
@@ -285,11 +285,11 @@ found bytes x (Some (t, rest)) e f =
     let front : take (length (text t)) bytes ≡ text t = ap (take (length (text t))) took.0 ∙ take_at (text t) rest (length (text t)) refl in
     ((subst IsTrace parts.0 took.1, ap (λ n. take n bytes) (sym parts.1 ∙ count) ∙ front ∙ ap text parts.0), sym parts.1 ∙ count ∙ ap (λ u. length (text u)) parts.0)
 
-pub is_found : (bytes : List ℕ) (r : Reader) → Answers seen r (counted bytes (trace_at bytes)) → IfOk r (λ x. IsTrace x.0.history × (take x.1 bytes ≡ text x.0.history))
+pub is_found : (bytes : List ℕ) (r : Reader) → IsReadOrRefused seen r (counted bytes (trace_at bytes)) → IfOk r (λ x. IsTrace x.0.history × (take x.1 bytes ≡ text x.0.history))
 is_found bytes (Err e) h = tt
 is_found bytes (Ok x) h = (found bytes x (trace_at bytes) refl h).0
 
-pub is_counted : (bytes : List ℕ) (r : Reader) → Answers seen r (counted bytes (trace_at bytes)) → IfOk r (λ x. x.1 ≡ length (text x.0.history))
+pub is_counted : (bytes : List ℕ) (r : Reader) → IsReadOrRefused seen r (counted bytes (trace_at bytes)) → IfOk r (λ x. x.1 ≡ length (text x.0.history))
 is_counted bytes (Err e) h = tt
 is_counted bytes (Ok x) h = (found bytes x (trace_at bytes) refl h).1
 
@@ -304,7 +304,7 @@ read_whole bytes t more fits e =
 clash : (t : History) (n : ℕ) → ◌≡◌ {A = Option (History × ℕ)} None (whole t n) → ⊥
 clash t n e = cc
 
-pub is_only : (bytes : List ℕ) (r : Reader) → Answers seen r (counted bytes (trace_at bytes)) → (t : History) (more : List ℕ) → IsTrace t → bytes ≡ text t ++ more → ¬ IsNoMemory r → IsReadAs t r
+pub is_only : (bytes : List ℕ) (r : Reader) → IsReadOrRefused seen r (counted bytes (trace_at bytes)) → (t : History) (more : List ℕ) → IsTrace t → bytes ≡ text t ++ more → ¬ IsNoMemory r → IsReadAs t r
 is_only bytes (Ok x) h t more fits e some = some_pair_parts x.0.history t x.1 (length (text t)) (sym h ∙ read_whole bytes t more fits e)
 is_only bytes (Err f) (inl gone) t more fits e some = absurd (some gone)
 is_only bytes (Err f) (inr none) t more fits e some = absurd (clash t (length (text t)) (sym none ∙ read_whole bytes t more fits e))

@@ -26,6 +26,6 @@ IsFaultOf (stops.Memory left) e = e.code ≡ NoMemory
 IsFaultOf (stops.Bytes left) e = Unit {0}
 
 -- the same as Gives, of a fault in the words of the table
-abbrev pub Answers : {X Y : Type 0} → (X → Y) → Result X TextError → Option Y → Type 0
-Answers view (Ok x) read = read ≡ Some (view x)
-Answers view (Err e) read = (e.code ≡ NoMemory) ⊎ (read ≡ None)
+abbrev pub IsReadOrRefused : {X Y : Type 0} → (X → Y) → Result X TextError → Option Y → Type 0
+IsReadOrRefused view (Ok x) read = read ≡ Some (view x)
+IsReadOrRefused view (Err e) read = (e.code ≡ NoMemory) ⊎ (read ≡ None)

@@ -5,7 +5,7 @@ ghost use Rattle.text_fields.specs.Reading.{all_at};
 ghost use Rattle.trace_text.specs.Scripts.{is_head, text, IsScript};
 ghost use Rattle.machine_model.specs.Config.{is_power_to_64};
 ghost use Rattle.trace_text.specs.ScriptReading as reads;
-ghost use Rattle.trace_text.specs.Reading.{Gives, Answers, IsNoMemory};
+ghost use Rattle.trace_text.specs.Reading.{Gives, IsReadOrRefused, IsNoMemory};
 
 use crate::fault::{Stop, TextError};
 use crate::script::{Events, Head, Script, is_first_version};
@@ -252,7 +252,7 @@ fn script_of(alloc: Global, bytes: &[u8]) -> Result<Script, Stop>
 }
 
 fn all(alloc: Global, bytes: &[u8]) -> Result<Script, TextError>
-    ensures { Answers (λ s. s) result (reads.script_at bytes.now) }
+    ensures { IsReadOrRefused (λ s. s) result (reads.script_at bytes.now) }
 {
     match script_of(alloc, bytes) {
         Ok(script) => Ok(script),

@@ -5,7 +5,7 @@ ghost use Rattle.text_fields.specs.Fields.{number};
 ghost use Rattle.text_fields.specs.Reading.{numbered_at};
 ghost use Rattle.elf_loader.specs.Size.{base, IsMemorySize};
 ghost use Rattle.trace_recorder.specs.History.{History};
-ghost use Rattle.trace_text.specs.Reading.{Gives, Answers, IsNoMemory};
+ghost use Rattle.trace_text.specs.Reading.{Gives, IsReadOrRefused, IsNoMemory};
 ghost use Rattle.trace_text.specs.TraceLimits.{IsTrace, IsReadAs, NoTextBeginsAnother};
 ghost use Rattle.trace_text.specs.TraceHeads.{IsTraceHead};
 ghost use Rattle.trace_text.specs.TraceSections as reads;
@@ -191,7 +191,7 @@ fn trace_of(alloc: Global, bytes: &[u8]) -> Result<(Trace, &[u8]), Stop>
 
 #[tactic(auto, using(crate::proofs::WholeTraces::trace_shortens))]
 fn counted(alloc: Global, bytes: &[u8]) -> Result<(Trace, usize), TextError>
-    ensures { Answers (λ x. (x.0.history, x.1)) result (reads.counted bytes.now (reads.trace_at bytes.now)) }
+    ensures { IsReadOrRefused (λ x. (x.0.history, x.1)) result (reads.counted bytes.now (reads.trace_at bytes.now)) }
 {
     match trace_of(alloc, bytes) {
         Ok((trace, rest)) => Ok((trace, bytes.len() - rest.len())),

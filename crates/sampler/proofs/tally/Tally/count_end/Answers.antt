@@ -4,7 +4,7 @@ use Rattle.std.specs.Ordering.{on}
 use Rattle.std.proofs.lemmas.Map.Views.{All-keys-insert_entry}
 use Rattle.explorer.specs.Ends.{outcome_of}
 use Rattle.explorer.specs.Ranks.{outcome_cmp}
-use Rattle.sampler.specs.Sampled.{IsReached, times_of}
+use Rattle.sampler.specs.Sampled.{IsRealEnd, times_of}
 use Rattle.sampler.proofs.Counting.{end_counted, on_ok, room}
 use Rattle.sampler.proofs.tally.Tally.count_end.Goals as goal
 
@@ -27,5 +27,5 @@ returns-clause-tally c =
     let entries = on_ok _ c.insert.result ok c.insert.ensures.entries in
     record {
       counted = end_counted image config before c.insert.new.self.entries _ _ c.unwrap_or-times.result c.args.end end c.requires.tally.counted c.kept-end.ensures.reached c.kept-end.ensures.outcome times updates.0;
-      reached = subst (λ es. All (IsReached image config) (keys_of es)) (sym entries) (All-keys-insert_entry (on outcome_of outcome_cmp) end (c.unwrap_or-times.result + 1) (IsReached image config) before c.requires.tally.reached c.kept-end.ensures.reached);
+      reached = subst (λ es. All (IsRealEnd image config) (keys_of es)) (sym entries) (All-keys-insert_entry (on outcome_of outcome_cmp) end (c.unwrap_or-times.result + 1) (IsRealEnd image config) before c.requires.tally.reached c.kept-end.ensures.reached);
     }

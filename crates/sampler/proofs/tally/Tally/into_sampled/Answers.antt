@@ -7,7 +7,7 @@ use Rattle.std.specs.Ordering.{on}
 use Rattle.explorer.specs.declared.found.Found.{Found}
 use Rattle.explorer.specs.Ends.{outcome_of}
 use Rattle.explorer.specs.Ranks.{outcome_cmp}
-use Rattle.sampler.specs.Sampled.{AreCounted, IsReached, numbered}
+use Rattle.sampler.specs.Sampled.{AreCounted, IsRealEnd, numbered}
 use Rattle.sampler.proofs.Counting.{ends_of, numbered_push}
 use Rattle.sampler.proofs.tally.Tally.into_sampled.Goals as goal
 
@@ -44,7 +44,7 @@ returns-clause-sampled c =
     sym (append-nil (numbered ends times)) ∙ (ap (λ xs. numbered ends times ++ xs) (sym empty) ∙ c.loop-end.invariant.left) in
     let keys : keys_of c.args.self.ends.entries ≡ ends = ap keys_of (sym all) ∙ ends_of ends times many in
     record {
-      reached = subst (All (IsReached image config)) keys c.requires.tally.reached;
+      reached = subst (All (IsRealEnd image config)) keys c.requires.tally.reached;
       counted = subst (λ (es : List (Found × ℕ)). AreCounted image config es c.args.self.unended c.args.self.runs) (sym all) c.requires.tally.counted;
       as_many = many;
       order = subst (IsStrictlySortedBy (on outcome_of outcome_cmp)) keys c.into_iter-end-iterator.ensures.into_iter_gives.5;
