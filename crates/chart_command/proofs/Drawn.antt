@@ -34,7 +34,7 @@ module _ (image : Initial) (config : Config) (events : List AnEvent) (address : 
   -- nothing went out, or a beginning did
   pub undrawn_is : (error : ChartError) → IsUndrawn image config events address style old mid error → (mid ≡ old) ⊎ IsBegun image config events address style old mid
   undrawn_is (chart.Replay refusal) h = inl h.0
-  undrawn_is chart.TooManyRows h = inl h
+  undrawn_is chart.TooManyRows h = inl h.0
   undrawn_is chart.NoMemory h = inl h
   undrawn_is (chart.Writing fault) h = inr h
 
@@ -71,10 +71,10 @@ left_or_stopped held replay line script image address style old new error script
 
 -- what the drawing's fault is told as
 pub told_as : (held : Held) (replay : Replay) (line : Option Name) (script : Script) (image : Initial) (address : Option ℕ) (style : List ℕ) (old new : Option (List ℕ)) (error : ChartError) (fault : Fault)
-    → HoldsScript held replay.script.now script → HoldsImage held replay.raw replay.image.now script.kib image
+    → HoldsScript held replay.script.now script → HoldsImage held replay.raw replay.image.now script.kib image → IsAddress line address
     → (error ≡ chart.Replay (refusals.New making.Config) → ⊥) → IsUndrawn image (config_of script replay.model) script.events address style old new error
     → IsDrawingFault replay.script error fault → IsChartFault held replay line fault
-told_as held replay line script image address style old new (chart.Replay refusal) fault script_file image_file within h told = elim told.0 [
+told_as held replay line script image address style old new (chart.Replay refusal) fault script_file image_file named within h told = elim told.0 [
   | inl at ↦ absurd (within (ap chart.Replay (told.1.0 at)))
   | inr other ↦ elim other [
     | inl at ↦ subst (IsChartFault held replay line) (sym at) tt
@@ -92,9 +92,11 @@ told_as held replay line script image address style old new (chart.Replay refusa
     )
   ]
 ]
-told_as held replay line script image address style old new chart.TooManyRows fault script_file image_file within h told = subst (IsChartFault held replay line) (sym told) (refl, (script, script_file))
-told_as held replay line script image address style old new chart.NoMemory fault script_file image_file within h told = subst (IsChartFault held replay line) (sym told) tt
-told_as held replay line script image address style old new (chart.Writing error) fault script_file image_file within h told = elim told [
+told_as held replay line script image address style old new chart.TooManyRows fault script_file image_file named within h told =
+    subst (IsChartFault held replay line) (sym told)
+    (refl, record { script = script; image = image; address = address; script_file = script_file; image_file = image_file; named = named; large = h.1 })
+told_as held replay line script image address style old new chart.NoMemory fault script_file image_file named within h told = subst (IsChartFault held replay line) (sym told) tt
+told_as held replay line script image address style old new (chart.Writing error) fault script_file image_file named within h told = elim told [
   | inl at ↦ subst (IsChartFault held replay line) (sym at) tt
   | inr at ↦ subst (IsChartFault held replay line) (sym at) tt
 ]

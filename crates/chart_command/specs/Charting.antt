@@ -3,7 +3,7 @@ use Rattle.chart_command.specs.Addresses.{address}
 use Rattle.coherent_machine.specs.declared.errors.NewError.TheVariants as making
 use Rattle.coherent_machine.specs.declared.errors.ReplayError.{ReplayError}
 use Rattle.coherent_machine.specs.declared.errors.ReplayError.TheVariants as refusals
-use Rattle.command_files.specs.Faults.{HasScript, IsReplayFault, Name}
+use Rattle.command_files.specs.Faults.{IsReplayFault, Name}
 use Rattle.command_files.specs.Files.{HoldsImage, HoldsScript, IsTheScriptIn}
 use Rattle.command_files.specs.Held.{Held}
 use Rattle.command_files.specs.Sizes.{config_of}
@@ -15,6 +15,7 @@ use Rattle.machine_model.specs.declared.config.Config.{Config}
 use Rattle.machine_model.specs.declared.event.Event.{Event as AnEvent}
 use Rattle.machine_parts.specs.declared.errors.ApplyError.{ApplyError}
 use Rattle.run_chart.specs.Charts.{IsBegun, IsDrawn}
+use Rattle.run_chart.specs.Stories.{IsOverfull}
 use Rattle.run_chart.specs.declared.errors.ChartError.{ChartError}
 use Rattle.run_chart.specs.declared.errors.ChartError.TheVariants as chart
 use Rattle.std.specs.Io.KnownBytes.{Appends}
@@ -54,6 +55,16 @@ pub record IsStopped (held : Held) (replay : Replay) (line : Option Name) (old n
   pub named : IsAddress line address
   pub begun : IsBegun image (config_of script replay.model) script.events address style old new
 
+-- the picture of what the script in the one file does with the image in the other would be too large
+pub record IsNotDrawable (held : Held) (replay : Replay) (line : Option Name) : Type 0 where
+  pub script : Script
+  pub image : Initial
+  pub address : Option ℕ
+  pub script_file : HoldsScript held replay.script.now script
+  pub image_file : HoldsImage held replay.raw replay.image.now script.kib image
+  pub named : IsAddress line address
+  pub large : IsOverfull image (config_of script replay.model) script.events address
+
 -- which fault tells why a script's run is not drawn
 abbrev pub IsDrawingFault : Name → ChartError → Fault → Type 0
 IsDrawingFault script (chart.Replay refusal) told =
@@ -63,8 +74,8 @@ IsDrawingFault script chart.TooManyRows told = told ≡ TooManyRows script
 IsDrawingFault script chart.NoMemory told = told ≡ OutOfMemory
 IsDrawingFault script (chart.Writing error) told = (told ≡ CannotWrite) ⊎ (told ≡ OutOfMemory)
 
--- as in a replay, but a word may name no address, and a script may do too much to be drawn
+-- as in a replay, but a word may name no address, and a picture may be too large
 abbrev pub IsChartFault : Held → Replay → Option Name → Fault → Type 0
 IsChartFault held replay line (BadAddress word) = (line ≡ Some word) × (address word.now ≡ None)
-IsChartFault held replay line (TooManyRows file) = (file ≡ replay.script) × HasScript held replay.script.now
+IsChartFault held replay line (TooManyRows file) = (file ≡ replay.script) × IsNotDrawable held replay line
 IsChartFault held replay line fault = IsReplayFault held replay fault

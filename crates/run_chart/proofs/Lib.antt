@@ -1,2 +1,3 @@
 pub mod Fetching
 pub mod Telling
+pub mod Limits

@@ -15,7 +15,7 @@ use Rattle.machine_model.specs.Views.{State}
 use Rattle.machine_parts.specs.Applying.{Answers}
 use Rattle.run_chart.specs.declared.before.Before.{Before}
 use Rattle.run_chart.specs.declared.gathering.Gathered.{Gathered}
-use Rattle.run_chart.specs.Rows.{Told, before, is_shown, line_behind, row, row_between, rows_at, rows_by, rows_of, shown, told}
+use Rattle.run_chart.specs.Rows.{Told, before, is_shown, line_behind, report_between, row, row_between, rows_at, rows_by, rows_of, shown, told}
 use Rattle.run_chart.specs.Stories.{IsTold}
 
 stays : (v : Verdict) (w : ℕ) (only : Option ℕ) (columns : List ℕ) (line index : ℕ) (s new : State) (e : Event) (o : Outcome) → Answers v s (Ok o) new
@@ -54,13 +54,14 @@ row_told only columns line index s new e o b r t eb er et =
 -- an event that changed the machine has this row, where it is shown
 pub one_told : (w : ℕ) (only : Option ℕ) (columns : List ℕ) (line index : ℕ) (s new : State) (e : Event) (o : Outcome) (b : Before) (r : Report) (t : Told) → Answers (verdict s e) s (Ok o) new → (new.views.changes ≡ s.views.changes → ⊥)
     → b ≡ before s e → r ≡ report_behind b.lengths new index e o → t ≡ row only columns b new line r
-    → rows_at w only columns line index s e ≡ shown (is_shown w only b.address t.log) t
+    → rows_at w only columns line index s e ≡ shown (is_shown w only b.address r.log) t
 one_told w only columns line index s new e o b r t a h eb er et =
     ap (λ (v : Verdict). rows_by v w only columns line index s e) (moves (verdict s e) s new o a h)
-    ∙ ap (λ (x : Told). shown (is_shown w only (before s e).address x.log) x) (sym (row_told only columns line index s new e o b r t eb er et))
-    ∙ ap (λ (x : Before). shown (is_shown w only x.address t.log) t) (sym eb)
+    ∙ ap (λ (x : Told). shown (is_shown w only (before s e).address (report_between index s e o new).log) x) (sym (row_told only columns line index s new e o b r t eb er et))
+    ∙ ap (λ (x : Before). shown (is_shown w only x.address (report_behind x.lengths new index e o).log) t) (sym eb)
+    ∙ ap (λ (x : Report). shown (is_shown w only b.address x.log) t) (sym er)
 
-rest_is : {A : Type 0} (xs : List A) (d : A) → 1 ≤ length xs → xs ≡ get_or xs 0 d ∷ take (length xs - 1) (drop 1 xs)
+pub rest_is : {A : Type 0} (xs : List A) (d : A) → 1 ≤ length xs → xs ≡ get_or xs 0 d ∷ take (length xs - 1) (drop 1 xs)
 rest_is {A = A} [] d some = absurd (omega (arith, some))
 rest_is {A = A} (x ∷ xs) d some = ap (λ (r : List A). x ∷ r) (sym (take_all (length (x ∷ xs) - 1) (drop 1 (x ∷ xs)) (omega (arith, length-drop 1 (x ∷ xs)))))
 

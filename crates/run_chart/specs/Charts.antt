@@ -11,7 +11,7 @@ use Rattle.machine_model.specs.declared.event.Event.{Event}
 use Rattle.text_fields.specs.Writing.{Begins}
 use Rattle.run_chart.specs.declared.errors.ChartError.{ChartError}
 use Rattle.run_chart.specs.declared.errors.ChartError.TheVariants.{Replay, TooManyRows, NoMemory, Writing}
-use Rattle.run_chart.specs.Stories.{IsStory}
+use Rattle.run_chart.specs.Stories.{IsOverfull, IsStory}
 
 -- the text is the picture of what the events do from reset
 pub record IsChart (image : Initial) (config : Config) (events : List Event) (address : Option ℕ) (style text : List ℕ) : Type 0 where
@@ -31,9 +31,9 @@ pub record IsBegun (image : Initial) (config : Config) (events : List Event) (ad
   pub chart : IsChart image config events address style text
   pub begun : Begins old new text
 
--- why a chart isn't there: nothing was written where no machine was made, an event is refused, there are too many rows or memory was refused, and a beginning where the writer had a fault
+-- why a chart isn't there: nothing was written where no machine was made, an event is refused, the picture would be too large or memory was refused, and a beginning where the writer had a fault
 abbrev pub IsUndrawn : Initial → Config → List Event → Option ℕ → List ℕ → Option (List ℕ) → Option (List ℕ) → ChartError → Type 0
 IsUndrawn image config events address style old new (Replay error) = (new ≡ old) × IsFirstRefusal (opening image config) events error
-IsUndrawn image config events address style old new TooManyRows = new ≡ old
+IsUndrawn image config events address style old new TooManyRows = (new ≡ old) × IsOverfull image config events address
 IsUndrawn image config events address style old new NoMemory = new ≡ old
 IsUndrawn image config events address style old new (Writing fault) = IsBegun image config events address style old new

@@ -1,5 +1,6 @@
 -- The rows of a run: one for each event that changes the machine, in their order.
-use Rattle.std.specs.Prelude.{ℕ, ◌+◌, ◌-◌, ◌^◌, ◌==◌, ◌||◌, not, min, Bool, true, false, List, [], ◌∷◌, ◌++◌, Option, Some, None, length, map, nat_lt, if◌then◌else◌}
+use Rattle.std.specs.Prelude.{ℕ, ◌+◌, ◌-◌, ◌^◌, ◌||◌, min, Bool, true, false, List, [], ◌∷◌, ◌++◌, Option, Some, None, length, map, nat_lt, if◌then◌else◌}
+use Rattle.std.specs.List.{list_any}
 use Rattle.chart_rows.specs.declared.rows.Copied.{Copied}
 use Rattle.chart_rows.specs.declared.rows.Note.{Note}
 use Rattle.chart_rows.specs.declared.rows.Noted.{Noted}
@@ -14,9 +15,10 @@ use Rattle.machine_model.specs.Events.Verdict.{IsBad, Keeps, IsLimited, Moves}
 use Rattle.machine_model.specs.Views.{State, node_at}
 use Rattle.run_chart.specs.declared.before.Before.{Before}
 use Rattle.run_chart.specs.Accesses.{address_at, lies_in}
-use Rattle.run_chart.specs.Copies.{copied}
+use Rattle.run_chart.specs.Copies.{copied, is_about}
 use Rattle.run_chart.specs.Lines.{end_of, noted, posted}
 use Rattle.run_chart.specs.Notes.{notes}
+use Rattle.trace_recorder.specs.declared.logged.Logged.{Logged}
 
 -- a row of a chart, with its lists
 pub record Told : Type 0 where
@@ -69,17 +71,20 @@ row only columns b s line r = record {
 }
 
 -- an event is shown where all are, or where it is about the line of memory that is asked for: by a message, or by the address that it reads, writes or names
-abbrev pub is_shown : ℕ → Option ℕ → Option ℕ → List Posted → Bool
-is_shown width None address posts = true
-is_shown width (Some line) address posts = not (length posts == 0) || lies_in width line address
+abbrev pub is_shown : ℕ → Option ℕ → Option ℕ → List Logged → Bool
+is_shown width None address log = true
+is_shown width (Some line) address log = list_any (is_about (Some line)) log || lies_in width line address
 
 abbrev pub shown : Bool → Told → List Told
 shown true t = t ∷ []
 shown false t = []
 
--- the row of an event that leads from one state to another
+-- what an event that leads from one state to another has done
+abbrev pub report_between : ℕ → State → Event → Outcome → State → Report
+report_between index s e o new = report_behind (lengths_of s (hart_of e)) new index e o
+
 abbrev pub row_between : Option ℕ → List ℕ → ℕ → ℕ → State → Event → Outcome → State → Told
-row_between only columns line index s e o new = row only columns (before s e) new line (report_behind (lengths_of s (hart_of e)) new index e o)
+row_between only columns line index s e o new = row only columns (before s e) new line (report_between index s e o new)
 
 -- an event has a row where it changes the machine and is shown
 abbrev pub rows_by : Verdict → ℕ → Option ℕ → List ℕ → ℕ → ℕ → State → Event → List Told
@@ -87,7 +92,7 @@ rows_by IsBad width only columns line index s e = []
 rows_by (Keeps o) width only columns line index s e = []
 rows_by IsLimited width only columns line index s e = []
 rows_by (Moves o new) width only columns line index s e =
-    shown (is_shown width only (address_at s e) (row_between only columns line index s e o new).log) (row_between only columns line index s e o new)
+    shown (is_shown width only (address_at s e) (report_between index s e o new).log) (row_between only columns line index s e o new)
 
 abbrev pub rows_at : ℕ → Option ℕ → List ℕ → ℕ → ℕ → State → Event → List Told
 rows_at width only columns line index s e = rows_by (verdict s e) width only columns line index s e

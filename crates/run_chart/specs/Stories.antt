@@ -1,5 +1,5 @@
 -- What a chart tells of a run.
-use Rattle.std.specs.Prelude.{ℕ, ◌≡◌, ◌++◌, List, Option, Some, None, length, map}
+use Rattle.std.specs.Prelude.{ℕ, ◌≡◌, ◌⊎◌, ◌+◌, ◌<◌, ◌++◌, List, Option, Some, None, length, map}
 use Rattle.coherent_machine.specs.Machine.{IsFirstRefusal, Replayed, replayed_from}
 use Rattle.elf_loader.specs.Image.{Initial}
 use Rattle.machine_model.specs.Events.{happens}
@@ -13,13 +13,17 @@ use Rattle.run_chart.specs.declared.errors.ChartError.TheVariants.{Replay, TooMa
 use Rattle.run_chart.specs.declared.gathering.Gathered.{Gathered}
 use Rattle.run_chart.specs.Accesses.{line_around}
 use Rattle.run_chart.specs.Copies.{lines_of}
-use Rattle.run_chart.specs.Rows.{line_behind, rows_at, rows_of, told}
+use Rattle.run_chart.specs.Rows.{Told, line_behind, rows_at, rows_of, told}
 
 -- an event of this index is told: by its row, if it has one
 pub record IsTold (width : ℕ) (only : Option ℕ) (columns : List ℕ) (index : ℕ) (s : State) (e : Event) (new : State) (before after : Gathered) : Type 0 where
   pub rows_are : map told after.rows.items ≡ map told before.rows.items ++ rows_at width only columns before.line index s e
   pub line_is : after.line ≡ line_behind before.line (rows_at width only columns before.line index s e)
   pub leads : new ≡ happens s e
+
+-- more rows, behind so many that end on this line of text, are more than 400 with them, or their text is of more than 65,535 lines
+abbrev pub AreTooMany : ℕ → ℕ → List Told → Type 0
+AreTooMany count line more = (400 < count + length more) ⊎ (65535 < line_behind line more)
 
 -- the line of memory around an address
 abbrev pub only_of : ℕ → Option ℕ → Option ℕ
@@ -30,17 +34,37 @@ only_of width (Some address) = Some (line_around width address)
 abbrev pub width_of : State → ℕ
 width_of s = length_of s.trace.line
 
+-- the rows of a run that ended in a state
+abbrev pub rows_to : Initial → Config → List Event → Option ℕ → State → List Told
+rows_to image config events address reached =
+    rows_of (width_of reached) (only_of (width_of reached) address) (lines_of (only_of (width_of reached) address) reached.trace.log) 0 0 (opening image config) events
+
+-- its bars: the lines of memory that messages are about
+abbrev pub bars_in : Option ℕ → State → List ℕ
+bars_in address reached = lines_of (only_of (width_of reached) address) reached.trace.log
+
+-- a picture has at most 400 rows, in at most 65,535 lines of text, and at most 400 bars
+abbrev pub IsTooLarge : Initial → Config → List Event → Option ℕ → State → Type 0
+IsTooLarge image config events address reached = AreTooMany 0 0 (rows_to image config events address reached) ⊎ (400 < length (bars_in address reached))
+
 -- the events lead from reset to a state; the rows are theirs, in their order, and the bars are of the lines of memory that messages are about
 pub record IsStory (image : Initial) (config : Config) (events : List Event) (address : Option ℕ) (story : Story) : Type 0 where
   pub reached : State
   pub leads : replayed_from 0 (opening image config) events ≡ Replayed.Reached reached
   pub harts_are : story.harts ≡ length reached.trace.statuses
-  pub columns_are : story.columns.items ≡ lines_of (only_of (width_of reached) address) reached.trace.log
-  pub rows_are : map told story.rows.items ≡ rows_of (width_of reached) (only_of (width_of reached) address) (lines_of (only_of (width_of reached) address) reached.trace.log) 0 0 (opening image config) events
+  pub columns_are : story.columns.items ≡ bars_in address reached
+  pub rows_are : map told story.rows.items ≡ rows_to image config events address reached
+  pub fits : IsTooLarge image config events address reached → ⊥
 
--- why nothing is told: no machine was made or an event is refused, or there are too many rows, or memory was refused
-abbrev pub IsUntold : State → List Event → ChartError → Type 0
-IsUntold s events (Replay error) = IsFirstRefusal s events error
-IsUntold s events TooManyRows = Unit {0}
-IsUntold s events NoMemory = Unit {0}
-IsUntold s events (Writing fault) = ⊥
+-- the events lead to a state, and the picture of that would be too large
+pub record IsOverfull (image : Initial) (config : Config) (events : List Event) (address : Option ℕ) : Type 0 where
+  pub reached : State
+  pub leads : replayed_from 0 (opening image config) events ≡ Replayed.Reached reached
+  pub large : IsTooLarge image config events address reached
+
+-- why nothing is told: no machine was made or an event is refused, or the picture would be too large, or memory was refused
+abbrev pub IsUntold : Initial → Config → List Event → Option ℕ → ChartError → Type 0
+IsUntold image config events address (Replay error) = IsFirstRefusal (opening image config) events error
+IsUntold image config events address TooManyRows = IsOverfull image config events address
+IsUntold image config events address NoMemory = Unit {0}
+IsUntold image config events address (Writing fault) = ⊥

@@ -47,6 +47,11 @@ pub(crate) enum RowError {
 }
 
 impl From<AllocError> for RowError {
+    ghost use Rattle.std.specs.Prelude.{◌≡◌};
+    ghost use Rattle.run_chart.specs.declared.errors.RowError.TheVariants as row;
+
+    ghost from_gives = { λ _ e. e ≡ row.NoMemory };
+
     fn from(_error: AllocError) -> Self {
         RowError::NoMemory
     }

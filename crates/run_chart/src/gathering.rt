@@ -1,5 +1,5 @@
 //! What happens in a run, row by row.
-ghost use Rattle.std.specs.Prelude.{◌≡◌, ◌<◌, ◌++◌, ◌∷◌, [], Err, IfErr, IfOk, OnOk, false, length, map};
+ghost use Rattle.std.specs.Prelude.{◌≡◌, ◌<◌, ◌≤◌, ◌++◌, ◌∷◌, [], Err, IfErr, IfOk, OnOk, false, length, map};
 ghost use Rattle.coherent_machine.specs.declared.errors.NewError.TheVariants as making;
 ghost use Rattle.coherent_machine.specs.declared.errors.ReplayError.TheVariants as replaying;
 ghost use Rattle.machine_model.specs.Config.{is_within_limits};
@@ -7,7 +7,8 @@ ghost use Rattle.machine_model.specs.Events.{happens};
 ghost use Rattle.machine_model.specs.Views.{opening};
 ghost use Rattle.run_chart.specs.Accesses.{line_around};
 ghost use Rattle.run_chart.specs.Rows as rows;
-ghost use Rattle.run_chart.specs.Stories.{IsStory, IsTold, IsUntold, only_of};
+ghost use Rattle.run_chart.specs.Stories.{AreTooMany, IsStory, IsTold, IsUntold, only_of};
+ghost use Rattle.run_chart.specs.declared.errors.RowError.TheVariants as error;
 
 use crate::accesses::line_around;
 use crate::before::stood_before;
@@ -40,6 +41,9 @@ impl Gathered {
     fn add(&mut self, row: Row) -> Result<(), RowError>
         ensures rows { OnOk result (self.new.rows.items ≡ self.old.rows.items ++ row ∷ []) }
         ensures line { OnOk result (self.new.line ≡ row.end) }
+        ensures count { OnOk result (length self.new.rows.items ≤ 400) }
+        ensures low { OnOk result (self.new.line ≤ 65535) }
+        ensures full { IfErr result (λ why. why ≡ error.TooManyRows → 400 ≤ length self.old.rows.items) }
     {
         if self.rows.len() >= MOST_ROWS {
             return Err(RowError::TooManyRows);
@@ -51,7 +55,7 @@ impl Gathered {
 }
 
 /// Applies an event of this index, and adds its row, if it has one. The events were replayed before, so that
-/// only memory can be refused.
+/// only memory can be refused, or a row be one too many.
 fn tell(
     alloc: Global,
     scope: &Scope<'_>,
@@ -60,8 +64,13 @@ fn tell(
     index: usize,
     event: Event,
 ) -> Result<(), RowError>
-    requires { 0 < scope.now.width }
-    ensures { OnOk result (IsTold scope.now.width scope.now.only scope.now.columns.now index machine.old event machine.new gathered.old gathered.new) }
+    requires width { 0 < scope.now.width }
+    requires few { length gathered.old.rows.items ≤ 400 }
+    requires low { gathered.old.line ≤ 65535 }
+    ensures told { OnOk result (IsTold scope.now.width scope.now.only scope.now.columns.now index machine.old event machine.new gathered.old gathered.new) }
+    ensures count { OnOk result (length gathered.new.rows.items ≤ 400) }
+    ensures low { OnOk result (gathered.new.line ≤ 65535) }
+    ensures full { IfErr result (λ why. why ≡ error.TooManyRows → AreTooMany (length gathered.old.rows.items) gathered.old.line (rows.rows_at scope.now.width scope.now.only scope.now.columns.now gathered.old.line index machine.old event)) }
 {
     changes_are_counted();
     let before = stood_before(machine, event);
@@ -73,8 +82,8 @@ fn tell(
         return Ok(());
     }
     let report = Report::behind(&before.lengths, machine, index, event, outcome);
-    let row = row_of(alloc, scope, &before, machine, gathered.line, &report)?;
-    if is_shown(scope, before.address, row.log.as_slice()) {
+    if is_shown(scope, before.address, report.log) {
+        let row = row_of(alloc, scope, &before, machine, gathered.line, &report)?;
         gathered.add(row)
     } else {
         Ok(())
@@ -89,7 +98,9 @@ fn rows_of(
     events: &[Event],
 ) -> Result<Vec<Row>, RowError>
     requires { 0 < scope.now.width }
-    ensures { IfOk result (λ list. map rows.told list.items ≡ rows.rows_of scope.now.width scope.now.only scope.now.columns.now 0 0 (opening image config) events.now) }
+    ensures rows { IfOk result (λ list. map rows.told list.items ≡ rows.rows_of scope.now.width scope.now.only scope.now.columns.now 0 0 (opening image config) events.now) }
+    ensures fits { IfOk result (λ list. AreTooMany 0 0 (map rows.told list.items) → ⊥) }
+    ensures full { IfErr result (λ why. why ≡ error.TooManyRows → AreTooMany 0 0 (rows.rows_of scope.now.width scope.now.only scope.now.columns.now 0 0 (opening image config) events.now)) }
 {
     let mut machine = match Machine::new(alloc, image, config) {
         Ok(machine) => machine,
@@ -132,7 +143,7 @@ pub fn gather(
 ) -> Result<Story, ChartError>
     ensures told { IfOk result (IsStory image config events.now address) }
     ensures limits { result ≡ Err (ChartError.Replay (replaying.New making.Config)) → is_within_limits config ≡ false }
-    ensures untold { IfErr result (IsUntold (opening image config) events.now) }
+    ensures untold { IfErr result (IsUntold image config events.now address) }
 {
     let machine = replay(alloc, image.try_copy(alloc)?, config, events)?;
     let width = machine.trace().line_size().bytes();

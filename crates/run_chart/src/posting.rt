@@ -1,6 +1,7 @@
 //! On which lines of text messages and notes stand.
-ghost use Rattle.std.specs.Prelude.{◌≡◌, ◌+◌, ◌++◌, ◌∷◌, [], IfOk, OnOk, max};
+ghost use Rattle.std.specs.Prelude.{◌≡◌, ◌+◌, ◌<◌, ◌++◌, ◌∷◌, [], IfErr, IfOk, OnOk, length, max};
 ghost use Rattle.run_chart.specs.Lines as lines;
+ghost use Rattle.run_chart.specs.declared.errors.RowError.TheVariants as row;
 
 use crate::copies::is_about;
 use crate::errors::RowError;
@@ -11,7 +12,8 @@ use trace_recorder::Logged;
 
 /// The line of text below another.
 fn below(line: u16) -> Result<u16, RowError>
-    ensures { IfOk result (λ next. next ≡ line + 1) }
+    ensures next { IfOk result (λ next. next ≡ line + 1) }
+    ensures last { IfErr result (λ _. line ≡ 65535) }
 {
     if line == MOST_LINES {
         Err(RowError::TooManyRows)
@@ -38,7 +40,8 @@ pub(crate) fn posts_of(
     line: u16,
     log: &[Logged],
 ) -> Result<Vec<Posted>, RowError>
-    ensures { IfOk result (λ posts. posts.items ≡ lines.posted only line log.now) }
+    ensures posts { IfOk result (λ posts. posts.items ≡ lines.posted only line log.now) }
+    ensures full { IfErr result (λ error. error ≡ row.TooManyRows → 65535 < line + length (lines.posted only line log.now)) }
 {
     let mut posts = Vec::new(alloc);
     let mut next = line;
@@ -55,7 +58,8 @@ pub(crate) fn posts_of(
 
 /// The notes of an event, each on a line of its own from this one on.
 pub(crate) fn noted(alloc: Global, line: u16, notes: &[Note]) -> Result<Vec<Noted>, RowError>
-    ensures { IfOk result (λ list. list.items ≡ lines.noted line notes.now) }
+    ensures noted { IfOk result (λ list. list.items ≡ lines.noted line notes.now) }
+    ensures full { IfErr result (λ error. error ≡ row.TooManyRows → 65535 < line + length notes.now) }
 {
     let mut list = Vec::new(alloc);
     let mut next = line;
@@ -77,7 +81,8 @@ fn push_note(list: &mut Vec<Noted>, line: u16, note: Note) -> Result<(), AllocEr
 
 /// The line on which a row ends that begins on this one, and has so many messages and notes.
 pub(crate) fn end_of(line: u16, posts: usize, notes: usize) -> Result<u16, RowError>
-    ensures { IfOk result (λ end. end ≡ lines.end_of line posts notes) }
+    ensures end { IfOk result (λ end. end ≡ lines.end_of line posts notes) }
+    ensures full { IfErr result (λ _. 65535 < lines.end_of line posts notes) }
 {
     let height = posts.max(notes).max(1);
     if height > (MOST_LINES - line) as usize {

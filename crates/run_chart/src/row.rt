@@ -1,18 +1,22 @@
 //! A row: what an event that changed the machine did.
-ghost use Rattle.std.specs.Prelude.{◌≡◌, ◌<◌, IfOk};
+ghost use Rattle.std.specs.Prelude.{◌≡◌, ◌<◌, IfErr, IfOk, Some};
+ghost use Rattle.std.specs.List.{list_any};
 ghost use Rattle.event_stream.specs.Telling.{report_of};
+ghost use Rattle.run_chart.specs.Copies.{is_about};
 ghost use Rattle.run_chart.specs.Rows as rows;
+ghost use Rattle.run_chart.specs.declared.errors.RowError.TheVariants as error;
 
 use crate::accesses::lies_in;
 use crate::before::{Before, reserved_in};
-use crate::copies::copies_in;
+use crate::copies::{copies_in, is_about};
 use crate::errors::RowError;
 use crate::notes::notes_of;
 use crate::posting::{end_of, noted, posts_of};
-use chart_rows::{Posted, Row};
+use chart_rows::Row;
 use coherent_machine::Machine;
 use event_stream::{Report, hart_of};
 use std::alloc::Global;
+use trace_recorder::Logged;
 
 /// A picture has no more rows.
 pub const MOST_ROWS: usize = 400;
@@ -30,13 +34,20 @@ pub(crate) struct Scope<'a> {
     pub columns: &'a [u32],
 }
 
+/// Whether one of these messages is about a line of memory.
+fn any_about(line: u32, log: &[Logged]) -> bool
+    ensures { result ≡ list_any (is_about (Some line)) log.now }
+{
+    log.iter().any(|entry| is_about(Some(line), entry))
+}
+
 /// Whether an event with these messages, about this address, is drawn.
-pub(crate) fn is_shown(scope: &Scope<'_>, address: Option<u32>, posts: &[Posted]) -> bool
+pub(crate) fn is_shown(scope: &Scope<'_>, address: Option<u32>, log: &[Logged]) -> bool
     requires { 0 < scope.now.width }
-    ensures { result ≡ rows.is_shown scope.now.width scope.now.only address posts.now }
+    ensures { result ≡ rows.is_shown scope.now.width scope.now.only address log.now }
 {
     match scope.only {
-        Some(line) => !posts.is_empty() || lies_in(scope.width, line, address),
+        Some(line) => any_about(line, log) || lies_in(scope.width, line, address),
         None => true,
     }
 }
@@ -50,7 +61,8 @@ pub(crate) fn row_of(
     line: u16,
     report: &Report<'_>,
 ) -> Result<Row, RowError>
-    ensures { IfOk result (λ row. rows.told row ≡ rows.row scope.now.only scope.now.columns.now before.now machine.now line (report_of report.now)) }
+    ensures row { IfOk result (λ row. rows.told row ≡ rows.row scope.now.only scope.now.columns.now before.now machine.now line (report_of report.now)) }
+    ensures full { IfErr result (λ why. why ≡ error.TooManyRows → 65535 < (rows.row scope.now.only scope.now.columns.now before.now machine.now line (report_of report.now)).end) }
 {
     let hart = hart_of(report.event);
     let reserved = reserved_in(machine.views(), hart as usize);

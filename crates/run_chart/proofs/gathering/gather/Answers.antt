@@ -1,0 +1,9 @@
+use Rattle.std.proofs.Common.{rules, ◌≡◌}
+use Rattle.run_chart.proofs.Limits.{given_up, overfull, untold_is}
+use Rattle.run_chart.proofs.gathering.gather.Goals as goal
+
+pub returns-in_err-rows-clause-untold : goal.returns-in_err-rows-clause-untold
+returns-in_err-rows-clause-untold c =
+    given_up _ c.from_residual-in_err-rows.result _ c.from_residual-in_err-rows.ensures.1
+    (untold_is c.args.image c.args.config c.args.events.now c.args.address c.in_err-rows.field-0.0
+    (λ why. overfull _ _ _ _ c.in_ok-machine.machine c.bytes-width.result c.only_of-only.result c.as_slice.result.now (search rules) (search rules) (search rules) (search rules) (c.in_err-rows.ensures.full why)))
