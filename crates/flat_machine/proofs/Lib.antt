@@ -19,3 +19,5 @@ mod Numbered
 mod Keeping
 mod Followings
 mod Opened
+mod OnwardKeeping
+mod OnwardFollowing

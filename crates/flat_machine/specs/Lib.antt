@@ -14,3 +14,6 @@ pub mod Following
 pub mod OnePatching
 pub mod SameNodes
 pub mod OneKey
+pub mod Onward
+pub mod OnwardKey
+pub mod SameEndings

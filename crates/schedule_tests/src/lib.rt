@@ -3,6 +3,8 @@
 #![tactic(auto)]
 
 #[cfg(test)]
+mod draining;
+#[cfg(test)]
 mod exploring;
 #[cfg(test)]
 mod realising;

@@ -1,0 +1,34 @@
+-- A machine's harts, looked at one after the other.
+use Rattle.std.proofs.Common.{◌≡◌, ℕ, zero, suc, ◌<◌, ◌≤◌, List, [], ◌∷◌, true, false, refl, sym, ap, ◌∙◌, not, arith, length, take, slice_index_or}
+use Rattle.std.proofs.lemmas.Bool.{and_from, and_parts}
+use Rattle.std.proofs.lemmas.List.{take_all}
+use Rattle.flat_exploration.specs.Drained.{HasDrained, none_waits_in}
+use Rattle.flat_exploration.specs.Laws.{none_runs}
+use Rattle.hart.specs.Run.{is_running}
+use Rattle.machine_model.specs.Views.{Node, State}
+use Rattle.store_buffer.specs.Groups.{is_empty}
+
+-- of the first of them none runs, and none has a store that waits
+pub record IsIdleBelow (ns : List Node) (n : ℕ) : Type 0 where
+  pub ended : none_runs (take n ns) ≡ true
+  pub empty : none_waits_in (take n ns) ≡ true
+
+pub idle_none : (ns : List Node) → IsIdleBelow ns 0
+idle_none [] = record { ended = refl; empty = refl }
+idle_none (n ∷ ns) = record { ended = refl; empty = refl }
+
+pub idle_more : (ns : List Node) (d : Node) (h : ℕ) → h < length ns → is_running (slice_index_or ns h d).hart.status ≡ false → is_empty (slice_index_or ns h d).buffer ≡ true → IsIdleBelow ns h → IsIdleBelow ns (suc h)
+idle_more [] d h l s e x = absurd (omega (arith, l))
+idle_more (n ∷ ns) d zero l s e x =
+    let t = idle_none ns in
+    record { ended = and_from (not (is_running n.hart.status)) (none_runs (take 0 ns)) (ap not s) t.ended; empty = and_from (is_empty n.buffer) (none_waits_in (take 0 ns)) e t.empty }
+idle_more (n ∷ ns) d (suc h) l s e x =
+    let a = and_parts (not (is_running n.hart.status)) (none_runs (take h ns)) x.ended in
+    let b = and_parts (is_empty n.buffer) (none_waits_in (take h ns)) x.empty in
+    let t = idle_more ns d h (omega (arith, l)) s e (record { ended = a.1; empty = b.1 }) in
+    record { ended = and_from (not (is_running n.hart.status)) (none_runs (take (suc h) ns)) a.0 t.ended; empty = and_from (is_empty n.buffer) (none_waits_in (take (suc h) ns)) b.0 t.empty }
+
+pub idle_all : (s : State) (n : ℕ) → length s.views.nodes ≤ n → IsIdleBelow s.views.nodes n → HasDrained s
+idle_all s n l x =
+    let all = take_all n s.views.nodes l in
+    record { ended = sym (ap none_runs all) ∙ x.ended; empty = sym (ap none_waits_in all) ∙ x.empty }

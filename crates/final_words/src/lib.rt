@@ -1,0 +1,6 @@
+//! What is read off a machine behind a list of events: whether it has drained, and words of memory.
+#![tactic(auto)]
+
+mod reading;
+
+pub use reading::{has_drained, words_of};
