@@ -4,5 +4,6 @@
 mod judging;
 mod keeping;
 mod searching;
+mod telling;
 
 pub use searching::architecture_files;

@@ -15,6 +15,7 @@ ghost use Rattle.text_fields.specs.Writing.{Begins};
 
 use crate::judging::are_allowed;
 use crate::keeping::keep_outcomes;
+use crate::telling::tell_overtakings;
 use architecture_outcomes::{Architecture, explore_architecture, text_of};
 use command_files::{Fault, Files, image_in, named_config};
 use command_settings::Explore;
@@ -27,8 +28,8 @@ use window_machine::Reach;
 
 /// Judges the machine's size, reads what is allowed, then the image, searches for what the memory model allows it with
 /// at most `window` operations of a hart waiting at a time, prints what is found on `out`, writes scripts and traces,
-/// and judges the outcomes: `err` tells which ones aren't allowed. Where memory ends, what was found is printed, written
-/// and judged all the same.
+/// and judges the outcomes: `err` tells how the traces that are written leave program order, and which outcomes aren't
+/// allowed. Where memory ends, what was found is printed, written and judged all the same.
 pub fn architecture_files<'a, F: Files, O: Write, E: Write>(
     alloc: Global,
     files: &mut F,
@@ -62,7 +63,7 @@ pub fn architecture_files<'a, F: Files, O: Write, E: Write>(
     // Called for its clause that the bytes are an image's.
     let _entry = image.entry();
     print(alloc, &found, out)?;
-    keep(alloc, files, wanted, &found)?;
+    keep(alloc, files, wanted, &found, err)?;
     judge(alloc, &allowed, &found, err)
 }
 
@@ -83,12 +84,13 @@ fn print<'a, O: Write>(alloc: Global, found: &Architecture, out: &mut O) -> Resu
     }
 }
 
-/// Writes scripts and traces into the folder that was named, if one was.
-fn keep<'a, F: Files>(
+/// Writes scripts and traces into the folder that was named, if one was, and tells what the traces show.
+fn keep<'a, F: Files, E: Write>(
     alloc: Global,
     files: &mut F,
     wanted: Explore<'a>,
     found: &Architecture,
+    err: &mut E,
 ) -> Result<(), Fault<'a>>
     requires within { is_within_limits (config_named wanted.machine) ≡ true }
     requires memory { IsMemoryKib wanted.machine.memory }
@@ -105,7 +107,11 @@ fn keep<'a, F: Files>(
         name,
         machine: wanted.machine,
     };
-    keep_outcomes(folder, files, &found.outcomes)
+    keep_outcomes(folder, files, &found.outcomes)?;
+    match tell_overtakings(alloc, &found.outcomes, err) {
+        Ok(()) => Ok(()),
+        Err(_) => Err(Fault::OutOfMemory),
+    }
 }
 
 /// Whether memory ended in one of the searches.

@@ -1,7 +1,9 @@
-//! What an order that is not legal breaks.
+//! What an order that is not legal breaks, and where one that is legal isn't that of the program.
 
+use crate::overtaking::Overtaking;
 use assembly::spell_assembly;
-use rv32_decode::decode;
+use memory_model::{Kind, Operation};
+use rv32_decode::{Instr, decode};
 use rvwmo_order::{Code, Rule};
 use std::fmt::{self, Display, Formatter};
 use std::io::{self, ErrorKind, Write};
@@ -39,6 +41,39 @@ impl Display for OrderRemark<'_> {
                 )
             }
         }
+    }
+}
+
+/// An operation of a trace that overtakes another, and what would forbid it.
+#[derive(Clone, Copy, Debug)]
+pub struct OvertakingRemark<'a> {
+    pub trace: &'a Trace,
+    pub overtaking: Overtaking,
+}
+
+impl Display for OvertakingRemark<'_> {
+    fn fmt<W: fmt::Write>(&self, f: &mut Formatter<W>) -> fmt::Result {
+        let Overtaking { first, second } = self.overtaking;
+        put_operation(self.trace, name_of(&second), f)?;
+        f.write_str(" is performed before ")?;
+        put_operation(self.trace, name_of(&first), f)?;
+        f.write_str(", which precedes it;")?;
+        put_instruction(&self.overtaking.fence(), None, f)?;
+        f.write_str(" between them would forbid it")?;
+        if matches!(first.kind, Kind::Reserve | Kind::Amo) && !first.aq {
+            f.write_str(", and so would aq on the one that precedes")?;
+        }
+        if matches!(second.kind, Kind::Conditional | Kind::Amo) && !second.rl {
+            f.write_str(", and so would rl on the other")?;
+        }
+        Ok(())
+    }
+}
+
+fn name_of(operation: &Operation) -> OpId {
+    OpId {
+        hart: operation.hart,
+        place: operation.place,
     }
 }
 
@@ -83,9 +118,17 @@ fn put_operation<W: fmt::Write>(
     let Some(instr) = decode(entry.word) else {
         return Ok(());
     };
+    put_instruction(&instr, Some(entry.pc), f)
+}
+
+fn put_instruction<W: fmt::Write>(
+    instr: &Instr,
+    pc: Option<u32>,
+    f: &mut Formatter<W>,
+) -> fmt::Result {
     let mut page = Page::new();
     page.text(b" `");
-    spell_assembly(&mut page, &instr, Some(entry.pc));
+    spell_assembly(&mut page, instr, pc);
     page.text(b"`");
     match page.hand_on(&mut Through(f)) {
         Ok(()) => Ok(()),

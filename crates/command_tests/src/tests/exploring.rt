@@ -26,6 +26,30 @@ const STORE_BUFFERING: [u32; 16] = [
     0x0000_0073,
 ];
 
+/// Hart 0 writes a message and then a flag, behind a fence; hart 1 loads the flag by an LR and then the message, and
+/// puts both out.
+const MESSAGE_PASSING: [u32; 19] = [
+    0x8000_02b7,
+    0x1402_8313,
+    0x1002_8293,
+    0x0010_0393,
+    0x0005_1a63,
+    0x0073_2023,
+    0x0110_000f,
+    0x0072_a023,
+    0x0200_006f,
+    0x1002_a62f,
+    0x0003_2683,
+    0x0010_0893,
+    0x0006_0513,
+    0x0000_0073,
+    0x0006_8513,
+    0x0000_0073,
+    0x0000_0513,
+    0x0000_0893,
+    0x0000_0073,
+];
+
 /// Both loads may come before both stores, so that each pair of numbers can be.
 const OUTCOMES: &str = "1  hart 0: exit 0 output 0   hart 1: exit 0 output 0
 2  hart 0: exit 0 output 0   hart 1: exit 0 output 1
@@ -235,6 +259,38 @@ fn what_the_model_allows(rt: HostRuntime) -> Result<(), Fail> {
     let out = ran.out.as_slice();
     assert!(rt; out.starts_with(b"1  hart 0: exit 5   this machine\nsearched: 1 outcomes, "));
     assert!(rt; out.ends_with(b" states, no window over 16 (not proved complete)\n"));
+    assert_eq!(rt; ran.status, 0);
+    Ok(())
+}
+
+/// What the model allows beyond the machine is told with what would forbid it.
+#[test]
+fn what_would_forbid_an_outcome(rt: HostRuntime) -> Result<(), Fail> {
+    let image = image_of(rt.alloc(), &MESSAGE_PASSING)?;
+    let files = [File::whole("image", &image)];
+    let mut files = MemoryFiles::new(rt.alloc(), &files);
+    let words = [
+        "rvtl",
+        "explore",
+        "--raw",
+        "--harts",
+        "2",
+        "--architecture",
+        "--scripts",
+        "folder",
+        "image",
+    ];
+    let ran = line_over(&rt, &words, &mut files);
+    let told = "1  hart 0: exit 0   hart 1: exit 0 output 0 0   this machine
+2  hart 0: exit 0   hart 1: exit 0 output 0 1   this machine
+3  hart 0: exit 0   hart 1: exit 0 output 1 0   RVWMO alone
+4  hart 0: exit 0   hart 1: exit 0 output 1 1   this machine
+";
+    assert!(rt; ran.out.starts_with(told.as_bytes()));
+    let forbidding =
+        "outcome 3: 1:6 `lw a3, 0(t1)` is performed before 1:5 `lr.w a2, (t0)`, which precedes it; \
+        `fence r, r` between them would forbid it, and so would aq on the one that precedes\n";
+    assert_eq!(rt; ran.err.as_slice(), forbidding.as_bytes());
     assert_eq!(rt; ran.status, 0);
     Ok(())
 }

@@ -1,0 +1,34 @@
+-- Operations that are performed before one that precedes them in their hart's list.
+use Rattle.std.specs.Prelude.{Bool, true, ◌&&◌, not, if◌then◌else◌, nat_lt, List, [], ◌∷◌, ◌++◌, Option, None, Some}
+use Rattle.memory_model.specs.Operations.{overlap, precedes}
+use Rattle.memory_model.specs.Traces.{instructions, operations_at}
+use Rattle.memory_model.specs.declared.operation.Operation.{Operation}
+use Rattle.order_remarks.specs.declared.overtaking.Overtaking.{Overtaking}
+use Rattle.trace_recorder.specs.History.{History}
+
+-- b, which is performed before a, overtakes it: a precedes b, and they have no byte in common
+abbrev pub overtakes : Operation → Operation → Bool
+overtakes b a = precedes a b && not (overlap a b)
+
+-- a stands further behind in their hart's list than what was found
+abbrev pub is_nearer : Operation → Option Operation → Bool
+is_nearer a None = true
+is_nearer a (Some found) = nat_lt found.place a.place
+
+-- of what was found and the operations of a list that b overtakes the one that stands furthest behind
+abbrev pub nearest_from : Option Operation → Operation → List Operation → Option Operation
+nearest_from found b [] = found
+nearest_from found b (a ∷ rest) = nearest_from (if overtakes b a && is_nearer a found then Some a else found) b rest
+
+abbrev pub pair_of : Option Operation → Operation → List Overtaking
+pair_of None b = []
+pair_of (Some a) b = record { first = a; second = b } ∷ []
+
+-- in the order in which operations are performed: each that overtakes one, with the nearest that it overtakes
+abbrev pub overtakings_in : List Operation → List Overtaking
+overtakings_in [] = []
+overtakings_in (b ∷ later) = pair_of (nearest_from None b later) b ++ overtakings_in later
+
+-- those of a trace's performed order
+abbrev pub overtakings : History → List Overtaking
+overtakings t = overtakings_in (operations_at (instructions t) t.performed)

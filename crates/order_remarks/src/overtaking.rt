@@ -1,0 +1,102 @@
+//! Operations that are performed before one that precedes them in their hart's list.
+
+ghost use Rattle.std.specs.Prelude.{◌≡◌, ◌<◌, IfOk, None, Some, true};
+ghost use Rattle.memory_model.specs.Operations as operations;
+ghost use Rattle.memory_model.specs.Rules.{fences, is_in_set};
+ghost use Rattle.order_remarks.specs.Overtaking as spec;
+
+use memory_model::{Kind, Operation};
+use rv32_decode::{FenceSet, FenceSets, Instr};
+use rvwmo_order::Index;
+use std::alloc::{AllocError, Global};
+use trace_recorder::Trace;
+
+/// Two operations of a hart without a common byte, of which the second is performed before the first, which precedes it.
+#[derive(Clone, Copy, Debug, PartialEq, Eq)]
+pub struct Overtaking {
+    pub first: Operation,
+    pub second: Operation,
+}
+
+impl Overtaking {
+    /// A FENCE that orders the two, where it stands between them (chapter 2.7).
+    pub fn fence(&self) -> Instr
+        ensures { fences (Some result) self.now.first.kind self.now.second.kind ≡ true }
+    {
+        let before = set_with(self.first.kind);
+        let after = set_with(self.second.kind);
+        Instr::Fence(FenceSets::new(before, after))
+    }
+}
+
+/// A set of a FENCE with the operations of a kind: an AMO is a load too.
+fn set_with(kind: Kind) -> FenceSet
+    ensures has { is_in_set result.0 kind ≡ true }
+    ensures known { result.0 < 16 }
+{
+    match kind {
+        Kind::Load | Kind::Reserve | Kind::Amo => FenceSet::R,
+        Kind::Store | Kind::Conditional => FenceSet::W,
+    }
+}
+
+/// Whether they have a byte in common.
+fn overlap(a: &Operation, b: &Operation) -> bool
+    ensures { result ≡ operations.overlap a.now b.now }
+{
+    let end_of_a = u64::from(a.address) + u64::from(a.size);
+    let end_of_b = u64::from(b.address) + u64::from(b.size);
+    u64::from(a.address) < end_of_b && u64::from(b.address) < end_of_a
+}
+
+/// Whether `b`, performed before `a`, overtakes it.
+fn overtakes(b: &Operation, a: &Operation) -> bool
+    ensures { result ≡ spec.overtakes b.now a.now }
+{
+    a.hart == b.hart && a.place < b.place && !overlap(a, b)
+}
+
+/// Whether `a` stands further behind than what was found.
+fn is_nearer(a: &Operation, found: Option<Operation>) -> bool
+    ensures { result ≡ spec.is_nearer a.now found }
+{
+    match found {
+        Some(found) => found.place < a.place,
+        None => true,
+    }
+}
+
+/// Of the operations performed later that `b` overtakes the one that stands furthest behind.
+fn nearest(b: &Operation, later: &[Operation]) -> Option<Operation>
+    ensures { result ≡ spec.nearest_from None b.now later.now }
+{
+    let mut found = None;
+    let mut rest = later;
+    while let [a, tail @ ..] = rest {
+        if overtakes(b, a) && is_nearer(a, found) {
+            found = Some(*a);
+        }
+        rest = tail;
+    }
+    found
+}
+
+/// Each performed operation of a trace that overtakes one, with the nearest before it that it overtakes, in the order
+/// in which they are performed.
+pub fn overtakings(alloc: Global, trace: &Trace) -> Result<Vec<Overtaking>, AllocError>
+    ensures { IfOk result (λ pairs. pairs.items ≡ spec.overtakings trace.now.history) }
+{
+    let index = Index::new(alloc, trace, trace.performed())?;
+    let mut pairs = Vec::new(alloc);
+    let mut rest = index.order();
+    while let [second, later @ ..] = rest {
+        if let Some(first) = nearest(second, later) {
+            pairs.push(Overtaking {
+                first,
+                second: *second,
+            })?;
+        }
+        rest = later;
+    }
+    Ok(pairs)
+}
