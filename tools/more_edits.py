@@ -1,6 +1,6 @@
 #!/usr/bin/env python3
-"""Tries the edits that the gate leaves out: crates/NAME/must-fail/*.md, each of a function that its crate keeps
-to itself, where a public function's edit is tried by the gate.
+"""Tries the edits that the gate leaves out, crates/NAME/must-fail/*.md: of functions that a crate keeps to itself, and
+of crates whose proof would be tried once more for them.
 
 usage: tools/more_edits.py [NAME..]     (from the top of the repository; of each crate where none is named)
 
