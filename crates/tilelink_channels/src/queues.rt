@@ -1,5 +1,5 @@
 //! The five queues of a hart.
-ghost use Rattle.std.specs.Prelude.{◌≡◌, ◌<◌, ◌↔◌, length, IfOk, IsTrue};
+ghost use Rattle.std.specs.Prelude.{◌≡◌, ◌<◌, ◌↔◌, length, slice_get, IfOk, IsTrue};
 ghost use Rattle.tl_types.specs.Message.{channel_of};
 ghost use Rattle.tilelink_channels.specs.Queues.{none_waiting, room_of, queue_of, front_of, pushed, popped};
 
@@ -89,6 +89,20 @@ impl Queues {
             Channel::E => self.e.front(),
         };
         first.copied()
+    }
+
+    /// The message with so many in front of it on the channel, if as many wait.
+    pub fn get(&self, channel: Channel, place: usize) -> Option<Msg>
+        ensures { result ≡ slice_get (queue_of self.now channel) place }
+    {
+        let found = match channel {
+            Channel::A => self.a.get(place),
+            Channel::B => self.b.get(place),
+            Channel::C => self.c.get(place),
+            Channel::D => self.d.get(place),
+            Channel::E => self.e.get(place),
+        };
+        found.copied()
     }
 
     /// Sends a message on its own channel.
