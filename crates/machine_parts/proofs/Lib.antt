@@ -2,6 +2,7 @@ pub mod Changes
 pub mod Nodes
 pub mod Drains
 mod Answered
+mod Decided
 mod Probes
 mod Rooms
 pub mod RowsAlone

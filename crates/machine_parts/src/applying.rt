@@ -5,7 +5,7 @@ ghost use Rattle.machine_model.specs.Changing as changing;
 ghost use Rattle.machine_model.specs.Events as events;
 ghost use Rattle.machine_model.specs.Events.{verdict};
 ghost use Rattle.machine_model.specs.Ready.{AreReady, IsReady, IsReadyAct, IsSound};
-ghost use Rattle.machine_parts.specs.Applying.{Answers};
+ghost use Rattle.machine_parts.specs.Applying.{Answers, answer_to, decided};
 ghost use Rattle.machine_parts.specs.Needs.{HasRoom, needs_of};
 ghost use Rattle.machine_parts.specs.Parts.{state_of};
 
@@ -44,6 +44,35 @@ fn perform(parts: &mut Parts, hart: u8, act: &Act) -> Result<(), AllocError>
 }
 
 impl Parts {
+    /// What an event comes to under the limits; nothing changes.
+    fn decide(&self, event: &Event) -> Result<Plan, ApplyError>
+        requires { IsSound (state_of self.now) }
+        ensures { result ≡ decided (state_of self.now) event.now }
+    {
+        if !self.is_good(event) {
+            return Err(ApplyError::BadEvent);
+        }
+        let plan = self.plan(event);
+        if let Plan::Changes(act) = &plan {
+            if is_limited(self, hart_of(event), act) {
+                return Err(ApplyError::Limit);
+            }
+        }
+        Ok(plan)
+    }
+
+    /// What `apply` would answer to the event, had it memory; nothing changes.
+    pub fn foresee(&self, event: &Event) -> Result<Outcome, ApplyError>
+        requires { IsSound (state_of self.now) }
+        ensures { result ≡ answer_to (verdict (state_of self.now) event.now) }
+    {
+        match self.decide(event) {
+            Ok(Plan::Stays(outcome)) => Ok(outcome),
+            Ok(Plan::Changes(act)) => Ok(outcome_of(self, hart_of(event), &act)),
+            Err(error) => Err(error),
+        }
+    }
+
     /// Decides what an event comes to, tests the limits, makes room for all that grows, and only then
     /// changes anything.
     pub fn apply(&mut self, event: &Event) -> Result<Outcome, ApplyError>
@@ -51,17 +80,12 @@ impl Parts {
         requires ready { AreReady (state_of self.old) }
         ensures { Answers (verdict (state_of self.old) event.now) (state_of self.old) result (state_of self.new) }
     {
-        if !self.is_good(event) {
-            return Err(ApplyError::BadEvent);
-        }
-        let act = match self.plan(event) {
-            Plan::Stays(outcome) => return Ok(outcome),
-            Plan::Changes(act) => act,
+        let act = match self.decide(event) {
+            Ok(Plan::Stays(outcome)) => return Ok(outcome),
+            Ok(Plan::Changes(act)) => act,
+            Err(error) => return Err(error),
         };
         let hart = hart_of(event);
-        if is_limited(self, hart, &act) {
-            return Err(ApplyError::Limit);
-        }
         let outcome = outcome_of(self, hart, &act);
         reserve(self, hart, &act)?;
         perform(self, hart, &act)?;
