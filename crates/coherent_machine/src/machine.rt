@@ -7,7 +7,7 @@ ghost use Rattle.machine_model.specs.Events.{Verdict, happens, verdict};
 ghost use Rattle.machine_model.specs.LawfulLog.{IsLawfulLog};
 ghost use Rattle.machine_model.specs.Laws.{Grows, IsHeadline, KeepsImageAndConfig};
 ghost use Rattle.machine_model.specs.Views.{State, opening};
-ghost use Rattle.machine_parts.specs.Applying.{Answers};
+ghost use Rattle.machine_parts.specs.Applying.{Answers, answer_to};
 ghost use Rattle.coherent_machine.specs.Adopting.{IsCurrent, local_of};
 ghost use Rattle.coherent_machine.specs.Machine.{IsFirstRefusal, IsReached, IsRefusedAt, KeepsHeadline, Replayed, replayed_from};
 
@@ -90,6 +90,14 @@ impl Machine {
         nothing_is_rewritten();
         image_and_config_stay();
         self.parts.apply(&event)
+    }
+
+    /// What `apply` would answer to the event, had it memory; nothing changes.
+    pub fn foresee(&self, event: Event) -> Result<Outcome, ApplyError>
+        ensures { result ≡ answer_to (verdict self.now event) }
+    {
+        sound_always();
+        self.parts.foresee(&event)
     }
 
     /// Adopts the private instructions that a hart has run by itself from where it stands, as the event
