@@ -1,6 +1,8 @@
 pub mod Unended
 pub mod Paging
 pub mod EventLines
+pub mod Fetching
+pub mod ClosingLines
 pub mod Telling
 pub mod Wholes
 pub mod OtherHarts

@@ -17,7 +17,6 @@ use Rattle.elf_loader.specs.Image.{Initial}
 use Rattle.hart.specs.Local.{private_row}
 use Rattle.hart.specs.Run.{after_instr, reached}
 use Rattle.hart.specs.declared.state.Hart.{Hart}
-use Rattle.hart.specs.declared.retired.Retired.{Retired}
 use Rattle.hart.specs.declared.status.Status.TheVariants.{Stopped}
 use Rattle.machine_model.specs.Changing.{acted, does, drained, outcome_of, performs, performs_own, place_at, put_behind, release_body, retired, sent_if_evicted, with_buffer, with_entries, with_halt, with_reservation, writes_word}
 use Rattle.machine_model.specs.Deliveries.{grant_body, handled, line_in_memory, on_probe_ack, probe_ack_body, sent_any, sent_grant, sent_if_answered, sent_if_granted, sent_if_handled, sent_probes, taken, with_less, with_memory, with_notes}
@@ -35,7 +34,6 @@ use Rattle.machine_model.specs.declared.event.Event.{Event}
 use Rattle.machine_model.specs.declared.outcome.Outcome.{Outcome}
 use Rattle.machine_model.specs.Words.{bytes_of_word}
 use Rattle.memory_model.specs.declared.Model.{Model}
-use Rattle.rv32_decode.specs.declared.instruction.Instr.{Instr}
 use Rattle.store_buffer.specs.Entry.{entry_of}
 use Rattle.store_buffer.specs.Groups.{Groups, after_seal, after_take, oldest}
 use Rattle.store_buffer.specs.ByteMask.{marks_of_access}

@@ -1,11 +1,12 @@
 -- What several calls spell onto one page, one after another.
-use Rattle.std.proofs.Common.{◌≡◌, ℕ, List, [], ◌++◌, Option, Result, Ok, Err, refl, sym, ap, subst, ◌∙◌, append_assoc}
+use Rattle.std.proofs.Common.{◌≡◌, ℕ, List, [], ◌++◌, Option, Result, Ok, Err, sym, ap, subst, ◌∙◌, append_assoc}
 use Rattle.std.proofs.lemmas.List.{append-nil}
 use Rattle.std.specs.Io.KnownBytes.{Appends}
 use Rattle.text_fields.specs.Pages.{Paged, Spells}
 use Rattle.text_fields.specs.Writing.{Begins, Writes}
-use Rattle.text_fields.proofs.Pages.{Spelling, page_as, page_ends, page_fails, page_more}
-use Rattle.text_fields.proofs.Written.{appends_then, begins_first, begins_then, writes_then}
+use Rattle.std.specs.Result.{IsErr}
+use Rattle.text_fields.proofs.Pages.{Spelling, page_as, page_ends, page_fails, page_more, page_spelled, page_starts, page_stops}
+use Rattle.text_fields.proofs.Written.{appends_then, begins_then, writes_then}
 
 pub paged_then : (a b c : Option (List ℕ)) (p q r x y : List ℕ) → Paged a b p q x → Paged b c q r y → Paged a c p r (x ++ y)
 paged_then a b c p q r x y h now = record {
@@ -43,3 +44,17 @@ page_last a b c before page after x text (Ok _) h now =
     page_ends a c before after text (page_more a b c page after x [] (before ++ text) (page_as a b page x (x ++ []) (before ++ text) (sym (append-nil x)) h) now)
 page_last a b c before page after x text (Err _) h now =
     page_fails a b c page x [] (before ++ text) (page_as a b page x (x ++ []) (before ++ text) (sym (append-nil x)) h) now
+
+-- ---- a call that first makes room
+
+pub room_fails : {T E : Type 0} (a b : Option (List ℕ)) (page after text : List ℕ) (r : Result T E) → IsErr r → Begins a b (page ++ []) → Spells a b page after text r
+room_fails a b page after text r failed now = page_stops a b page after text r failed (page_fails a a b page [] text (page ++ text) (page_starts a page text) now)
+
+-- with the text in parts, the first of which is spelled and the next handed to a call
+pub room_spelled : (a b : Option (List ℕ)) (page room after x rest text : List ℕ) → text ≡ x ++ rest → Paged a b page room [] → after ≡ room ++ x → Spelling a b after rest (page ++ text)
+room_spelled a b page room after x rest text is now spelled =
+    page_spelled a b room after x rest (page ++ text) (page_as a b room text (x ++ rest) (page ++ text) is (page_more a a b page room [] text (page ++ text) (page_starts a page text) now)) spelled
+
+-- with the whole text spelled
+pub room_whole : (a b : Option (List ℕ)) (page room after text : List ℕ) → Paged a b page room [] → after ≡ room ++ text → Paged a b page after text
+room_whole a b page room after text now spelled = page_ends a b page after text (room_spelled a b page room after text [] text (sym (append-nil text)) now spelled)

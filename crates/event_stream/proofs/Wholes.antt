@@ -4,19 +4,16 @@ use Rattle.std.specs.Io.KnownBytes.{Appends}
 use Rattle.coherent_machine.specs.Machine.{Refuses}
 use Rattle.elf_loader.specs.Image.{Initial}
 use Rattle.elf_symbols.specs.Named.{Named}
-use Rattle.hart.specs.declared.status.Status.{Status}
 use Rattle.machine_model.specs.declared.config.Config.{Config}
 use Rattle.machine_model.specs.declared.event.Event.{Event}
 use Rattle.machine_model.specs.Events.{Verdict}
 use Rattle.machine_model.specs.Events.Verdict.{Keeps}
 use Rattle.machine_model.specs.Views.{State, opening}
-use Rattle.text_fields.specs.Fields.{numbered}
 use Rattle.text_fields.specs.Writing.{Begins}
 use Rattle.text_fields.specs.Pages.{Paged}
 use Rattle.text_fields.proofs.Written.{begins_first}
 use Rattle.event_stream.proofs.Paging.{paged_fails, paged_then, paged_writes}
 use Rattle.trace_recorder.specs.History.{History}
-use Rattle.trace_text.specs.Traces.{status}
 use Rattle.event_stream.specs.declared.errors.StreamError.{StreamError}
 use Rattle.event_stream.specs.declared.errors.StreamError.TheVariants as errors
 use Rattle.event_stream.specs.declared.strictness.Strictness.{Strictness}
@@ -73,23 +70,22 @@ told_up_to : (names : List Named) (m : Strictness) (image : Initial) (config : C
 told_up_to names m image config events s t old mid told empty page after none et es w p =
     paged_then old mid told [] page after _ _ (opened s t image config empty page old mid none et es w) (subst (λ (x : State). Paged mid told page after (lines names m 0 x events)) es p)
 
-closes : (m : Strictness) (image : Initial) (config : Config) (events : List Event) (s reached : State) (t : History) (xs : List Status)
-    → s ≡ opening image config → ending m 0 s events ≡ Ending.Reached reached → t ≡ reached.trace → xs ≡ t.statuses → numbered status 0 xs ≡ closing_lines (ending m 0 (opening image config) events)
-closes m image config events s reached t xs es e et ex =
-    ap (numbered status 0) (ex ∙ ap (λ (x : History). x.statuses) et) ∙ sym (ap closing_lines (ap (λ (x : State). ending m 0 x events) (sym es) ∙ e))
+closes : (names : List Named) (m : Strictness) (image : Initial) (config : Config) (events : List Event) (s reached : State)
+    → s ≡ opening image config → ending m 0 s events ≡ Ending.Reached reached → closing_lines names (Ending.Reached reached) ≡ closing_lines names (ending m 0 (opening image config) events)
+closes names m image config events s reached es e = sym (ap (closing_lines names) (ap (λ (x : State). ending m 0 x events) (sym es) ∙ e))
 
-pub closing_fails : (names : List Named) (m : Strictness) (image : Initial) (config : Config) (events : List Event) (s : State) (t : History) (reached : State) (u : History) (xs : List Status) (old mid told new : Option (List ℕ)) (empty page after : List ℕ)
+pub closing_fails : (names : List Named) (m : Strictness) (image : Initial) (config : Config) (events : List Event) (s : State) (t : History) (reached : State) (old mid told new : Option (List ℕ)) (empty page after : List ℕ)
     → empty ≡ [] → t ≡ s.trace → s ≡ opening image config → Paged old mid empty page (opening_lines t) → (ending m 0 s events ≡ Ending.Reached reached) × Paged mid told page after (lines names m 0 s events)
-    → u ≡ reached.trace → xs ≡ u.statuses → Begins told new (after ++ numbered status 0 xs) → Begins old new (stream_of names m image config events)
-closing_fails names m image config events s t reached u xs old mid told new empty page after none et es w p eu ex h =
+    → Begins told new (after ++ closing_lines names (Ending.Reached reached)) → Begins old new (stream_of names m image config events)
+closing_fails names m image config events s t reached old mid told new empty page after none et es w p h =
     paged_fails old told new [] after _ _ (told_up_to names m image config events s t old mid told empty page after none et es w p.1)
-    (subst (λ (x : List ℕ). Begins told new (after ++ x)) (closes m image config events s reached u xs es p.0 eu ex) h)
+    (subst (λ (x : List ℕ). Begins told new (after ++ x)) (closes names m image config events s reached es p.0) h)
 
-pub all_written : (names : List Named) (m : Strictness) (image : Initial) (config : Config) (events : List Event) (s : State) (t : History) (reached : State) (u : History) (xs : List Status) (old mid told new : Option (List ℕ)) (empty page after : List ℕ)
+pub all_written : (names : List Named) (m : Strictness) (image : Initial) (config : Config) (events : List Event) (s : State) (t : History) (reached : State) (old mid told new : Option (List ℕ)) (empty page after : List ℕ)
     → empty ≡ [] → t ≡ s.trace → s ≡ opening image config → Paged old mid empty page (opening_lines t) → (ending m 0 s events ≡ Ending.Reached reached) × Paged mid told page after (lines names m 0 s events)
-    → u ≡ reached.trace → xs ≡ u.statuses → Appends told new (after ++ numbered status 0 xs) → IsWhole names m image config events old new reached
-all_written names m image config events s t reached u xs old mid told new empty page after none et es w p eu ex h = record {
+    → Appends told new (after ++ closing_lines names (Ending.Reached reached)) → IsWhole names m image config events old new reached
+all_written names m image config events s t reached old mid told new empty page after none et es w p h = record {
   leads = ap (λ (x : State). ending m 0 x events) (sym es) ∙ p.0;
   sent = paged_writes {T = Unit {0}} {E = Unit {0}} old told new [] after _ _ (Ok tt) (told_up_to names m image config events s t old mid told empty page after none et es w p.1)
-      (subst (λ (x : List ℕ). Appends told new (after ++ x)) (closes m image config events s reached u xs es p.0 eu ex) h);
+      (subst (λ (x : List ℕ). Appends told new (after ++ x)) (closes names m image config events s reached es p.0) h);
 }

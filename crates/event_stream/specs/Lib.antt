@@ -2,6 +2,7 @@ pub mod Outcomes
 pub mod Reports
 pub mod Naming
 pub mod Lines
+pub mod Closing
 pub mod Streams
 pub mod Writing
 pub mod Telling

@@ -10,8 +10,9 @@ use Rattle.text_fields.specs.Fields.{number, word, numbered}
 use Rattle.tl_types.specs.Line.{length_of}
 use Rattle.trace_recorder.specs.History.{History}
 use Rattle.trace_text.specs.Scripts.{is_first_version}
-use Rattle.trace_text.specs.Traces.{image, status}
+use Rattle.trace_text.specs.Traces.{image}
 use Rattle.event_stream.specs.declared.strictness.Strictness.{Strictness}
+use Rattle.event_stream.specs.Closing.{closing_line}
 use Rattle.event_stream.specs.Lines.{report_lines}
 use Rattle.event_stream.specs.Reports.{Ending, ending, reports}
 use Rattle.event_stream.specs.Reports.Ending.{Reached, Refused, Idle}
@@ -31,14 +32,14 @@ abbrev pub lines : List Named → Strictness → ℕ → State → List Event �
 lines names strictness index s events = flat_map (report_lines names) (reports strictness index s events)
 
 -- each hart's H line, where all events were told
-abbrev pub closing_lines : Ending → List ℕ
-closing_lines (Reached s) = numbered status 0 s.trace.statuses
-closing_lines (Refused index error) = []
-closing_lines (Idle index o) = []
+abbrev pub closing_lines : List Named → Ending → List ℕ
+closing_lines names (Reached s) = numbered (closing_line names s) 0 s.trace.statuses
+closing_lines names (Refused index error) = []
+closing_lines names (Idle index o) = []
 
 -- a stream up to here: its head, and the lines of these events
 abbrev pub stream_up_to : List Named → Strictness → Initial → Config → List Event → List ℕ
 stream_up_to names strictness i config events = opening_lines (opening i config).trace ++ lines names strictness 0 (opening i config) events
 
 abbrev pub stream_of : List Named → Strictness → Initial → Config → List Event → List ℕ
-stream_of names strictness i config events = stream_up_to names strictness i config events ++ closing_lines (ending strictness 0 (opening i config) events)
+stream_of names strictness i config events = stream_up_to names strictness i config events ++ closing_lines names (ending strictness 0 (opening i config) events)

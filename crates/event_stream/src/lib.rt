@@ -2,6 +2,7 @@
 //! that made the trace longer by them.
 #![tactic(auto)]
 
+mod closing;
 mod errors;
 mod laws;
 mod naming;
@@ -9,6 +10,7 @@ mod report;
 mod report_writing;
 mod spellings;
 mod strictness;
+mod waits;
 mod writing;
 
 pub use errors::StreamError;

@@ -1,16 +1,17 @@
 //! Writing a stream.
 ghost use Rattle.std.specs.Prelude.{◌≡◌, ◌↔◌, ◌++◌, Err, IfErr, IfOk, false};
+ghost use Rattle.coherent_machine.specs.Machine.{IsReached};
 ghost use Rattle.coherent_machine.specs.declared.errors.NewError.TheVariants as making;
+ghost use Rattle.event_stream.specs.Reports.{Ending};
 ghost use Rattle.event_stream.specs.Streams as streams;
 ghost use Rattle.event_stream.specs.Telling.{IsHandedOn, IsTold};
 ghost use Rattle.event_stream.specs.Writing.{IsUnfinished, IsWhole};
 ghost use Rattle.machine_model.specs.Config.{is_within_limits};
-ghost use Rattle.text_fields.specs.Fields.{numbered};
 ghost use Rattle.text_fields.specs.Pages.{HasRoom, Spells};
 ghost use Rattle.text_fields.specs.Writing.{Writes};
 ghost use Rattle.trace_text.specs.Scripts.{is_first_version};
-ghost use Rattle.trace_text.specs.Traces.{status};
 
+use crate::closing::put_statuses;
 use crate::errors::StreamError;
 use crate::report::{Lengths, Report, hart_of};
 use crate::report_writing::put_report;
@@ -18,13 +19,12 @@ use crate::strictness::Strictness;
 use coherent_machine::Machine;
 use elf_loader::Image;
 use elf_symbols::Symbols;
-use hart::Status;
 use machine_model::{Config, Event, changes_are_counted};
 use std::alloc::Global;
 use std::io::{self, Write};
 use text_fields::Page;
 use trace_recorder::Trace;
-use trace_text::{put_image, put_statuses};
+use trace_text::put_image;
 
 /// The first version is for lines of 16 bytes and at most 4 harts, as a trace's.
 fn is_first_version(harts: usize, line: u32) -> bool
@@ -85,7 +85,9 @@ fn tell<W: Write>(
     page: &mut Page,
     out: &mut W,
 ) -> Result<(), StreamError>
-    ensures { IsTold names.now strictness machine.old events.now (W.contents out.old) (W.contents out.new) page.old page.new result machine.new }
+    requires { IsReached machine.old }
+    ensures told { IsTold names.now strictness machine.old events.now (W.contents out.old) (W.contents out.new) page.old page.new result machine.new }
+    ensures reached { IsReached machine.new }
 {
     changes_are_counted();
     let mut index = 0;
@@ -110,16 +112,21 @@ fn tell<W: Write>(
 }
 
 /// The H lines, and all that stands on the page.
-fn put_closing<W: Write>(page: &mut Page, out: &mut W, statuses: &[Status]) -> io::Result<()>
-    ensures { Writes (W.contents out.old) (W.contents out.new) (page.old ++ numbered status 0 statuses.now) result }
+fn put_closing<W: Write>(
+    page: &mut Page,
+    out: &mut W,
+    names: &Symbols,
+    machine: &Machine,
+) -> io::Result<()>
+    requires { IsReached machine.now }
+    ensures { Writes (W.contents out.old) (W.contents out.new) (page.old ++ streams.closing_lines names.now (Ending.Reached machine.now)) result }
 {
-    put_statuses(page, out, statuses)?;
+    put_statuses(page, out, names, machine)?;
     page.hand_on(out)
 }
 
 /// Applies the events in their order to a machine at reset, and writes what each did, with the names that
-/// addresses have. A write that takes
-/// no byte is a writer's fault.
+/// addresses have. A write that takes no byte is a writer's fault.
 pub fn write_stream<W: Write>(
     alloc: Global,
     image: Image,
@@ -141,7 +148,7 @@ pub fn write_stream<W: Write>(
     if let Err(error) = tell(&mut machine, events, strictness, names, &mut page, out) {
         return Err(error);
     }
-    match put_closing(&mut page, out, machine.trace().statuses()) {
+    match put_closing(&mut page, out, names, &machine) {
         Ok(()) => Ok(machine),
         Err(fault) => Err(StreamError::Writing(fault)),
     }

@@ -52,7 +52,7 @@ M t E 0 GrantAck 0x80000000
 E 7 step 0 Retired
 R 0 0x80000004 0x00062703 0x80000637 - ; lw a4, 0(a2)
 P 0 1
-H 0 run
+H 0 run ; Stopped 2
 ";
 
 /// The line's Acquire is outstanding, no Probe waits, and no store waits.
@@ -80,7 +80,7 @@ M s A 0 AcquireBlock 0x80000000 NtoB
 E 4 step 0 WaitGrant
 E 5 deliver B 0 Empty
 E 6 drain 0 0x80000000 NoEntry
-H 0 run
+H 0 run ; WaitGrant 0x80000000 ; lw a4, 0(a2)
 ";
 
 /// What the same events give up to the first that changes nothing.
@@ -122,11 +122,58 @@ E 4 local 4 1 Retired
 R 4 0x8000000c 0x00000893 - - ; addi a7, zero, 0
 E 5 step 4 Exited 7
 R 4 0x80000010 0x00000073 - - ; ecall
-H 0 run
-H 1 run
-H 2 run
-H 3 run
+H 0 run ; Retired ; addi a0, zero, 7
+H 1 run ; Retired ; addi a0, zero, 7
+H 2 run ; Retired ; addi a0, zero, 7
+H 3 run ; Retired ; addi a0, zero, 7
 H 4 exit 7
+";
+
+/// Two stores before a fence, which wait in the store buffer.
+const FENCED: [u32; 4] = [0x8000_0637, 0x00c6_2823, 0x00c6_2a23, 0x0330_000f];
+
+const FENCED_STREAM: &str = "rvtl-stream 1
+T 1 4 0x80000000
+I 0x80000000 370600802328c600232ac6000f003003
+E 2 step 0 Retired
+R 0 0x80000000 0x80000637 - - ; lui a2, 0x80000
+E 3 step 0 Retired
+R 0 0x80000004 0x00c62823 - - ; sw a2, 16(a2)
+E 4 step 0 Retired
+R 0 0x80000008 0x00c62a23 - - ; sw a2, 20(a2)
+H 0 run ; MustDrain 0x80000010 0x80000014 ; fence rw, rw
+";
+
+/// Loads from two lines, in a cache of one set by one way.
+const NARROW: [u32; 3] = [0x8000_0637, 0x0006_2703, 0x0106_2703];
+
+const NARROW_STREAM: &str = "rvtl-stream 1
+T 1 4 0x80000000
+I 0x80000000 37060080032706000327060100000000
+E 2 step 0 Retired
+R 0 0x80000000 0x80000637 - - ; lui a2, 0x80000
+E 3 step 0 Missed 0x80000000
+M s A 0 AcquireBlock 0x80000000 NtoB
+E 4 deliver A 0 Delivered
+M t A 0 AcquireBlock 0x80000000 NtoB
+M s D 0 GrantData 0x80000000 toB 37060080032706000327060100000000
+E 5 deliver D 0 Delivered
+M t D 0 GrantData 0x80000000 toB 37060080032706000327060100000000
+M s E 0 GrantAck 0x80000000
+E 6 deliver E 0 Delivered
+M t E 0 GrantAck 0x80000000
+E 7 step 0 Retired
+R 0 0x80000004 0x00062703 0x80000637 - ; lw a4, 0(a2)
+P 0 1
+H 0 run ; SetFull 0x80000000 ; lw a4, 16(a2)
+";
+
+/// An EBREAK.
+const STOPPED_STREAM: &str = "rvtl-stream 1
+T 1 4 0x80000000
+I 0x80000000 73001000000000000000000000000000
+E 2 step 0 Stopped 3
+H 0 stop 3 ; EBREAK ; ebreak
 ";
 
 fn image_of(alloc: Global, words: &[u32]) -> Result<Image, Fail> {
@@ -228,6 +275,47 @@ fn a_lenient_stream_tells_events_that_change_nothing(rt: HostRuntime) -> Result<
     );
     assert!(rt; told.is_ok());
     assert_eq!(rt; out.as_slice(), IDLE_STREAM.as_bytes());
+    Ok(())
+}
+
+/// Harts at the end of a stream: before a fence, at a full set, and stopped.
+#[test]
+fn a_stream_ends_with_what_its_harts_wait_for(rt: HostRuntime) -> Result<(), Fail> {
+    let small = Config {
+        sets: 1,
+        ways: 1,
+        ..config_of(1, 16)
+    };
+    let cases = [
+        (
+            FENCED.as_slice(),
+            config_of(1, 16),
+            [STEP; 3].as_slice(),
+            FENCED_STREAM,
+        ),
+        (
+            NARROW.as_slice(),
+            small,
+            LOAD_EVENTS.as_slice(),
+            NARROW_STREAM,
+        ),
+        (&[0x0010_0073], config_of(1, 16), &[STEP], STOPPED_STREAM),
+    ];
+    for (words, config, events, text) in cases {
+        let image = image_of(rt.alloc(), words)?;
+        let mut out = Vec::new(rt.alloc());
+        let told = write_stream(
+            rt.alloc(),
+            image,
+            config,
+            events,
+            Strictness::Lenient,
+            &Symbols::new(rt.alloc()),
+            &mut out,
+        );
+        assert!(rt; told.is_ok());
+        assert_eq!(rt; out.as_slice(), text.as_bytes());
+    }
     Ok(())
 }
 

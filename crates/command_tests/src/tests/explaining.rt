@@ -26,7 +26,7 @@ M t E 0 GrantAck 0x80000000
 E 7 step 0 Retired
 R 0 0x80000004 0x00062703 0x80000637 - ; lw a4, 0(a2)
 P 0 1
-H 0 run
+H 0 run ; Stopped 2
 ";
 
 /// The second step asks for the line, so the third has to wait for its Grant.
@@ -83,9 +83,9 @@ fn a_strict_stream_ends_where_nothing_happens(rt: HostRuntime) -> Result<(), Fai
     assert!(rt; ran.err.is_empty());
     assert!(rt; ran.out.as_slice().starts_with(WAITING_START.as_bytes()));
     assert!(rt;
-        ran.out
-            .as_slice()
-            .ends_with(b"E 4 step 0 WaitGrant\nH 0 run\n")
+        ran.out.as_slice().ends_with(
+            b"E 4 step 0 WaitGrant\nH 0 run ; WaitGrant 0x80000000 ; lw a4, 0(a2)\n"
+        )
     );
     assert_eq!(rt; ran.status, 0);
     Ok(())

@@ -1,4 +1,4 @@
-use Rattle.std.proofs.Common.{[], ◌++◌, ℕ, List, subst}
+use Rattle.std.proofs.Common.{[], ◌++◌, ℕ, subst}
 use Rattle.std.specs.List.{flat_map}
 use Rattle.text_fields.specs.Pages.{Paged, Spells}
 use Rattle.text_fields.specs.Writing.{Begins}
