@@ -92,7 +92,7 @@ fn explored(alloc: Global, words: &[u32], harts: u32, model: Model) -> Result<Fo
     if !machine_parts::is_within_limits(&config) {
         return Err("limits".into());
     }
-    let machine = DrainingMachine::new(alloc, &image, config, &[X, Y]);
+    let machine = DrainingMachine::new(alloc, &image, config, &[X, Y])?;
     Ok(search(&machine, Tables::new(alloc), alloc, 1000, &Unwatched)?)
 }
 

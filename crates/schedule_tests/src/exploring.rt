@@ -68,6 +68,31 @@ const COUNT: [u32; 8] = [
     0x0000_0073, // ecall
 ];
 
+/// Hart 0 stores and exits, hart 1 loads what hart 0 stores into a register that its next load sets again.
+const UNREAD: [u32; 9] = [
+    0x8000_0637, // lui a2, 0x80000
+    0x0010_0293, // li t0, 1
+    0x0005_1863, // bnez a0, the second half
+    0x1056_2023, // sw t0, 0x100(a2)
+    0x0000_0513, // li a0, 0
+    0x0000_0073, // ecall
+    0x1006_2303, // lw t1, 0x100(a2)
+    0x2006_2303, // lw t1, 0x200(a2)
+    0x0000_0073, // ecall
+];
+
+/// Hart 0 stores 0 and exits, hart 1 reserves the same word, which no SC asks for.
+const UNASKED: [u32; 8] = [
+    0x8000_0637, // lui a2, 0x80000
+    0x1006_0613, // addi a2, a2, 0x100
+    0x0005_1663, // bnez a0, the second half
+    0x00a6_2023, // sw a0, (a2)
+    0x0000_0073, // ecall
+    0x1006_232f, // lr.w t1, (a2)
+    0x1006_2303, // lw t1, 0x100(a2)
+    0x0000_0073, // ecall
+];
+
 /// Hart 0 exits with 0, the others run in a circle.
 const CIRCLE: [u32; 2] = [
     0x0005_1063, // bnez a0, itself
@@ -97,7 +122,7 @@ fn explored(alloc: Global, words: &[u32], harts: u32, ways: u32) -> Result<Found
     if !machine_parts::is_within_limits(&config) {
         return Err("limits".into());
     }
-    let machine = FlatMachine::new(alloc, &image, config);
+    let machine = FlatMachine::new(alloc, &image, config)?;
     Ok(search(&machine, Tables::new(alloc), alloc, 1000, &Unwatched)?)
 }
 
@@ -165,6 +190,36 @@ fn what_is_put_out_is_told(rt: HostRuntime) -> Result<(), Fail> {
                 || (first == [1].as_slice() && second == [0].as_slice())
         );
     }
+    Ok(())
+}
+
+// Hart 0's store waits, or has drained; hart 1 stands before its first load, or before its second: four states, and
+// the end. The numbers of states here are those of `tools/plain_explorer --live`, too.
+
+#[test]
+fn a_register_that_is_set_again_tells_no_states_apart(rt: HostRuntime) -> Result<(), Fail> {
+    let found = explored(rt.alloc(), &UNREAD, 2, 2)?;
+    assert_eq!(rt; found.extent, Extent::Complete);
+    assert_eq!(rt; found.outcomes.outcomes.len(), 1);
+    assert_eq!(rt; found.table.keys.len(), 5);
+    Ok(())
+}
+
+#[test]
+fn a_reservation_that_no_sc_asks_for_tells_no_states_apart(rt: HostRuntime) -> Result<(), Fail> {
+    let found = explored(rt.alloc(), &UNASKED, 2, 2)?;
+    assert_eq!(rt; found.extent, Extent::Complete);
+    assert_eq!(rt; found.outcomes.outcomes.len(), 1);
+    assert_eq!(rt; found.table.keys.len(), 5);
+    Ok(())
+}
+
+#[test]
+fn what_may_be_read_tells_states_apart(rt: HostRuntime) -> Result<(), Fail> {
+    let loaded = explored(rt.alloc(), &STORE_BUFFERING, 2, 2)?;
+    assert_eq!(rt; loaded.table.keys.len(), 20);
+    let reserved = explored(rt.alloc(), &RESERVED, 2, 2)?;
+    assert_eq!(rt; reserved.table.keys.len(), 15);
     Ok(())
 }
 
