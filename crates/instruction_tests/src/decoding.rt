@@ -1,4 +1,5 @@
 //! Worked rows, and printing.
+use crate::same::same;
 use rv32_decode::*;
 use std::test::Fail;
 
@@ -15,12 +16,12 @@ fn row_28(rt: HostRuntime) {
 
 #[test]
 fn row_33(rt: HostRuntime) {
-    assert_eq!(rt; spelled(0x0230_000f), Some(0x0230_000f));
-    assert_eq!(rt; spelled(0x0840_000f), Some(0x0840_000f));
-    assert_eq!(rt; spelled(0x0110_008f), Some(0x0110_000f));
-    assert_eq!(rt; spelled(0x1110_000f), Some(0x0110_000f));
-    assert_eq!(rt; spelled(0x8310_000f), Some(0x0310_000f));
-    assert_eq!(rt; spelled(0x8330_000f), Some(0x8330_000f));
+    same(&rt, spelled(0x0230_000f), Some(0x0230_000f));
+    same(&rt, spelled(0x0840_000f), Some(0x0840_000f));
+    same(&rt, spelled(0x0110_008f), Some(0x0110_000f));
+    same(&rt, spelled(0x1110_000f), Some(0x0110_000f));
+    same(&rt, spelled(0x8310_000f), Some(0x0310_000f));
+    same(&rt, spelled(0x8330_000f), Some(0x8330_000f));
 }
 
 #[test]
@@ -49,7 +50,7 @@ fn instructions_are_printed_as_the_assembler_spells_them(rt: HostRuntime) -> Res
     for (word, text) in words {
         let instr = decode(word).ok_or(text)?;
         let printed = format!(in rt.alloc(); "{instr}")?;
-        assert_eq!(rt; printed.as_str(), text);
+        same(&rt, printed.as_str(), text);
     }
     Ok(())
 }

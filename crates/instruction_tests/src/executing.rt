@@ -1,4 +1,5 @@
 //! Worked rows, with the values that the manual and other implementations give.
+use crate::same::same;
 use rv32_decode::{Instr, Register, RegisterOp, decode};
 use rv32_exec::*;
 use std::test::Fail;
@@ -28,34 +29,35 @@ fn planned(word: u32) -> Option<Plan> {
 
 #[test]
 fn row_3(rt: HostRuntime) {
-    assert_eq!(rt;
+    same(
+        &rt,
         computed(RegisterOp::Div, 0x8000_0000, 0xffff_ffff),
-        0x8000_0000
+        0x8000_0000,
     );
-    assert_eq!(rt; computed(RegisterOp::Rem, 0x8000_0000, 0xffff_ffff), 0);
-    assert_eq!(rt; computed(RegisterOp::Divu, 7, 0), 0xffff_ffff);
-    assert_eq!(rt; computed(RegisterOp::Remu, 7, 0), 7);
+    same(&rt, computed(RegisterOp::Rem, 0x8000_0000, 0xffff_ffff), 0);
+    same(&rt, computed(RegisterOp::Divu, 7, 0), 0xffff_ffff);
+    same(&rt, computed(RegisterOp::Remu, 7, 0), 7);
 }
 
 #[test]
 fn row_28(rt: HostRuntime) {
-    assert_eq!(rt; planned(0x0020_0067), Some(Plan::Stop(0)));
-    assert_eq!(rt; planned(0x0020_00ef), Some(Plan::Stop(0)));
-    assert_eq!(rt; planned(0x0000_0163), Some(Plan::Stop(0)));
-    assert_eq!(rt; planned(0x0000_1163), Some(Plan::Local));
-    assert_eq!(rt; planned(0x0010_0073), Some(Plan::Stop(3)));
-    assert_eq!(rt; planned(0x0000_0067), Some(Plan::Local));
+    same(&rt, planned(0x0020_0067), Some(Plan::Stop(0)));
+    same(&rt, planned(0x0020_00ef), Some(Plan::Stop(0)));
+    same(&rt, planned(0x0000_0163), Some(Plan::Stop(0)));
+    same(&rt, planned(0x0000_1163), Some(Plan::Local));
+    same(&rt, planned(0x0010_0073), Some(Plan::Stop(3)));
+    same(&rt, planned(0x0000_0067), Some(Plan::Local));
     assert!(rt; decode(0x4000_1013).is_none());
 }
 
 #[test]
 fn row_29(rt: HostRuntime) {
     let ones = 0xffff_ffff;
-    assert_eq!(rt; computed(RegisterOp::Mulhsu, ones, ones), 0xffff_ffff);
-    assert_eq!(rt; computed(RegisterOp::Mulhu, ones, ones), 0xffff_fffe);
-    assert_eq!(rt; computed(RegisterOp::Mulh, ones, ones), 0);
-    assert_eq!(rt; computed(RegisterOp::Sra, 0x8000_0000, 33), 0xc000_0000);
-    assert_eq!(rt; computed(RegisterOp::Srl, 0x8000_0000, 33), 0x4000_0000);
+    same(&rt, computed(RegisterOp::Mulhsu, ones, ones), 0xffff_ffff);
+    same(&rt, computed(RegisterOp::Mulhu, ones, ones), 0xffff_fffe);
+    same(&rt, computed(RegisterOp::Mulh, ones, ones), 0);
+    same(&rt, computed(RegisterOp::Sra, 0x8000_0000, 33), 0xc000_0000);
+    same(&rt, computed(RegisterOp::Srl, 0x8000_0000, 33), 0x4000_0000);
 }
 
 #[test]
@@ -65,15 +67,16 @@ fn a_load_is_planned_and_finished(rt: HostRuntime) -> Result<(), Fail> {
     let mut regs = Regs::at_reset(0, 1);
     regs.set(Register::new(12), 0x8000_0100);
     let addr = 0x8000_0101;
-    assert_eq!(rt;
+    same(
+        &rt,
         plan(&instr, PC, &regs, 4096),
         Plan::Load {
             addr,
-            size: Width::Byte
-        }
+            size: Width::Byte,
+        },
     );
-    assert_eq!(rt; Width::Byte.bytes(), 1);
-    assert_eq!(rt; finish(&instr, PC, &mut regs, Some(0xf2)), PC + 4);
-    assert_eq!(rt; regs.get(Register::new(14)), 0xffff_fff2);
+    same(&rt, Width::Byte.bytes(), 1);
+    same(&rt, finish(&instr, PC, &mut regs, Some(0xf2)), PC + 4);
+    same(&rt, regs.get(Register::new(14)), 0xffff_fff2);
     Ok(())
 }

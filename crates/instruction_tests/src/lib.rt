@@ -12,3 +12,5 @@ mod executing;
 mod recording;
 #[cfg(test)]
 mod running;
+#[cfg(test)]
+mod same;

@@ -1,4 +1,5 @@
 //! Each call of a trace at least once.
+use crate::same::same;
 use elf_loader::{raw, size_of_kib};
 use hart::{Retired, Status};
 use std::test::Fail;
@@ -22,22 +23,22 @@ fn a_trace_keeps_what_happened(rt: HostRuntime) -> Result<(), Fail> {
     let size = size_of_kib(4).ok_or("a size")?;
     let image = raw(rt.alloc(), &[0x13, 0, 0, 0], size)?;
     let mut trace = Trace::new(rt.alloc(), image, LineSize::Bytes16, 2)?;
-    assert_eq!(rt; trace.harts(), 2);
+    same(&rt, trace.harts(), 2);
     trace.reserve(1, 1, 1, 2)?;
     trace.retire(1, ENTRY);
     trace.perform(OpId { hart: 1, place: 0 });
     trace.send(1, ACK);
     trace.take(1, ACK);
     trace.halt(1, Status::Stopped(3));
-    assert_eq!(rt; trace.entries(1).len(), 1);
-    assert_eq!(rt; trace.entries(0).len(), 0);
-    assert_eq!(rt; trace.performed().len(), 1);
-    assert_eq!(rt; trace.log().len(), 2);
-    assert_eq!(rt; trace.log()[0].direction, Direction::Sent);
-    assert_eq!(rt; trace.log()[1].direction, Direction::Taken);
-    assert_eq!(rt; trace.statuses().len(), 2);
-    assert_eq!(rt; trace.image().entry(), 0x8000_0000);
-    assert_eq!(rt; trace.line_size(), LineSize::Bytes16);
+    assert!(rt; trace.entries(1).len() == 1);
+    assert!(rt; trace.entries(0).len() == 0);
+    assert!(rt; trace.performed().len() == 1);
+    assert!(rt; trace.log().len() == 2);
+    same(&rt, trace.log()[0].direction, Direction::Sent);
+    same(&rt, trace.log()[1].direction, Direction::Taken);
+    assert!(rt; trace.statuses().len() == 2);
+    same(&rt, trace.image().entry(), 0x8000_0000);
+    same(&rt, trace.line_size(), LineSize::Bytes16);
     Ok(())
 }
 
@@ -58,11 +59,11 @@ fn a_trace_is_made_of_lists(rt: HostRuntime) -> Result<(), Fail> {
     };
     let log = vec![in alloc; sent; 1]?;
     let trace = Trace::from_parts(image, LineSize::Bytes64, entries, statuses, performed, log);
-    assert_eq!(rt; trace.harts(), 1);
-    assert_eq!(rt; trace.entries(0).len(), 3);
-    assert_eq!(rt; trace.statuses()[0], Status::Exited(7));
-    assert_eq!(rt; trace.performed()[0].place, 2);
-    assert_eq!(rt; trace.log()[0].hart, 0);
-    assert_eq!(rt; trace.line_size(), LineSize::Bytes64);
+    same(&rt, trace.harts(), 1);
+    assert!(rt; trace.entries(0).len() == 3);
+    same(&rt, trace.statuses()[0], Status::Exited(7));
+    same(&rt, trace.performed()[0].place, 2);
+    same(&rt, trace.log()[0].hart, 0);
+    same(&rt, trace.line_size(), LineSize::Bytes64);
     Ok(())
 }

@@ -1,4 +1,5 @@
 //! Rows of private instructions, worked by hand.
+use crate::same::same;
 use elf_loader::{Image, raw, size_of_kib};
 use hart::{Hart, Status, run_local};
 use std::alloc::Global;
@@ -23,13 +24,13 @@ fn row_39(rt: HostRuntime) -> Result<(), Fail> {
     )?;
     let reset = Hart::at_reset(0, 0x8000_0000, 1);
     let long = run_local(rt.alloc(), &image, &reset, 256)?;
-    assert_eq!(rt; long.entries().len(), 2);
-    assert_eq!(rt; long.first().pc, 0x8000_0000);
-    assert_eq!(rt; long.last().pc, 0x8000_0008);
+    same(&rt, long.entries().len(), 2);
+    same(&rt, long.first().pc, 0x8000_0000);
+    same(&rt, long.last().pc, 0x8000_0008);
     let short = run_local(rt.alloc(), &image, &reset, 1)?;
-    assert_eq!(rt; short.entries().len(), 1);
+    same(&rt, short.entries().len(), 1);
     let store_next = run_local(rt.alloc(), &image, long.last(), 256)?;
-    assert_eq!(rt; store_next.entries().len(), 0);
+    same(&rt, store_next.entries().len(), 0);
     Ok(())
 }
 
@@ -38,10 +39,10 @@ fn row_39_exits(rt: HostRuntime) -> Result<(), Fail> {
     let image = image_of(rt.alloc(), &[0x00000073, 0x00000013])?;
     let mut hart = Hart::at_reset(0, 0x8000_0000, 1);
     let call_next = run_local(rt.alloc(), &image, &hart, 256)?;
-    assert_eq!(rt; call_next.entries().len(), 0);
+    same(&rt, call_next.entries().len(), 0);
     hart.pc = 0x8000_0004;
     hart.status = Status::Exited(0);
     let ended = run_local(rt.alloc(), &image, &hart, 256)?;
-    assert_eq!(rt; ended.entries().len(), 0);
+    same(&rt, ended.entries().len(), 0);
     Ok(())
 }

@@ -1,3 +1,4 @@
+use crate::same::same;
 use std::alloc::Global;
 use std::process::Abort;
 use std::test::Fail;
@@ -63,36 +64,36 @@ fn put_single(buffer: &mut StoreBuffer, put: Entering) -> Result<(), PutError> {
 fn drains(rt: &impl Abort, buffer: &mut StoreBuffer, word: u32, value: u32, stores: &[u32]) {
     assert!(rt; buffer.drainable(word));
     let Entry { bytes, ops, .. } = buffer.take(word);
-    assert_eq!(rt; u32::from_le_bytes(bytes), value);
-    assert_eq!(rt; ops.into_vec().as_slice(), stores);
+    same(rt, u32::from_le_bytes(bytes), value);
+    same(rt, ops.into_vec().as_slice(), stores);
 }
 
 fn forwards(rt: &impl Abort, buffer: &StoreBuffer, word: u32, copy: u32, loaded: u32) {
     let (mask, bytes) = buffer.forward(word);
     let seen = mask.lay_over(bytes, copy.to_le_bytes());
-    assert_eq!(rt; u32::from_le_bytes(seen), loaded);
+    same(rt, u32::from_le_bytes(seen), loaded);
 }
 
 fn covers(rt: &impl Abort, buffer: &StoreBuffer, word: u32, marks: [bool; 4], all: bool) {
     let (mask, _) = buffer.forward(word);
-    assert_eq!(rt; mask.covers(ByteMask::from_marks(marks)), all);
+    same(rt, mask.covers(ByteMask::from_marks(marks)), all);
 }
 
 fn holds(rt: &impl Abort, buffer: &StoreBuffer, sealed: bool, groups: usize, entries: usize) {
-    assert_eq!(rt; buffer.has_sealed(), sealed);
-    assert_eq!(rt; buffer.group_count(), groups);
-    assert_eq!(rt; buffer.entry_count(), entries);
-    assert_eq!(rt; buffer.is_empty(), entries == 0);
+    same(rt, buffer.has_sealed(), sealed);
+    same(rt, buffer.group_count(), groups);
+    same(rt, buffer.entry_count(), entries);
+    same(rt, buffer.is_empty(), entries == 0);
 }
 
 fn cannot_drain(rt: &impl Abort, buffer: &StoreBuffer, word: u32, has: bool) {
     assert!(rt; !buffer.drainable(word));
-    assert_eq!(rt; buffer.has(word), has);
+    same(rt, buffer.has(word), has);
 }
 
 fn finds_no_room(rt: &impl Abort, buffer: &mut StoreBuffer, store: Entering) {
     assert!(rt; !buffer.fits(store.word));
-    assert_eq!(rt; put(buffer, store), Err(PutError::Full));
+    same(rt, put(buffer, store), Err(PutError::Full));
 }
 
 fn answers(rt: &impl Abort, buffer: &mut StoreBuffer, call: Call) -> Result<(), Fail> {
@@ -105,7 +106,7 @@ fn answers(rt: &impl Abort, buffer: &mut StoreBuffer, call: Call) -> Result<(), 
         }
         Call::FindsNoRoomSingly(word, value, place) => {
             let answer = put_single(buffer, whole(word, value, place));
-            assert_eq!(rt; answer, Err(PutError::Full));
+            same(rt, answer, Err(PutError::Full));
         }
         Call::Seals => buffer.seal(),
         Call::Drains(word, value, stores) => drains(rt, buffer, word, value, stores),
@@ -113,7 +114,7 @@ fn answers(rt: &impl Abort, buffer: &mut StoreBuffer, call: Call) -> Result<(), 
         Call::Forwards(word, copy, loaded) => forwards(rt, buffer, word, copy, loaded),
         Call::Covers(word, marks, all) => covers(rt, buffer, word, marks, all),
         Call::Holds(sealed, groups, entries) => holds(rt, buffer, sealed, groups, entries),
-        Call::Lowest(word) => assert_eq!(rt; buffer.lowest(), word),
+        Call::Lowest(word) => same(rt, buffer.lowest(), word),
     }
     Ok(())
 }
@@ -272,32 +273,32 @@ fn lent_groups(rt: HostRuntime) -> Result<(), Fail> {
     let mut buffer = StoreBuffer::new(rt.alloc());
     put(&mut buffer, whole(X, 1, 0))?;
     assert!(rt; buffer.drainable(X));
-    assert_eq!(rt; buffer.entry(X).mask.marks(), WHOLE);
+    same(&rt, buffer.entry(X).mask.marks(), WHOLE);
     buffer.seal();
-    assert_eq!(rt; buffer.oldest().len(), 1);
-    assert_eq!(rt; buffer.current().len(), 0);
+    same(&rt, buffer.oldest().len(), 1);
+    same(&rt, buffer.current().len(), 0);
     assert!(rt; buffer.group_count() == 2);
-    assert_eq!(rt; buffer.group(0).len(), 1);
+    same(&rt, buffer.group(0).len(), 1);
     Ok(())
 }
 
 /// The numbers that a refused put is known by.
 #[test]
 fn put_errors_have_their_numbers(rt: HostRuntime) {
-    assert_eq!(rt; PutError::Full as u8, 1);
-    assert_eq!(rt; PutError::NoMemory as u8, 2);
+    same(&rt, PutError::Full as u8, 1);
+    same(&rt, PutError::NoMemory as u8, 2);
 }
 
 #[test]
 fn masks_and_ops(rt: HostRuntime) -> Result<(), Fail> {
     let mask = ByteMask::from_marks([true, false, false, true]);
     let all = mask.union(ByteMask::of_access(1, 2));
-    assert_eq!(rt; all.marks(), WHOLE);
+    same(&rt, all.marks(), WHOLE);
     assert!(rt; !ByteMask::none().covers(mask));
     let mut ops = Ops::from_vec(vec![in rt.alloc(); 3]?);
     ops.push(7)?;
-    assert_eq!(rt; ops.len(), 2);
-    assert_eq!(rt; ops.into_vec().as_slice(), [3, 7].as_slice());
+    same(&rt, ops.len(), 2);
+    same(&rt, ops.into_vec().as_slice(), [3, 7].as_slice());
     group_of_stores();
     buffer_of_stores();
     single_groups_stay();
@@ -341,16 +342,16 @@ fn seen(buffer: &StoreBuffer) -> Looks {
 fn asks_twice(rt: &impl Abort, buffer: &mut StoreBuffer, store: Entering) {
     let before = seen(buffer);
     if put(buffer, store).is_err() {
-        assert_eq!(rt; seen(buffer), before);
-        assert_eq!(rt; put(buffer, store), Ok(()));
+        same(rt, seen(buffer), before);
+        same(rt, put(buffer, store), Ok(()));
     }
 }
 
 fn asks_twice_singly(rt: &impl Abort, buffer: &mut StoreBuffer, store: Entering) {
     let before = seen(buffer);
     if put_single(buffer, store).is_err() {
-        assert_eq!(rt; seen(buffer), before);
-        assert_eq!(rt; put_single(buffer, store), Ok(()));
+        same(rt, seen(buffer), before);
+        same(rt, put_single(buffer, store), Ok(()));
     }
 }
 
@@ -360,7 +361,7 @@ fn copies(rt: &impl Abort, buffer: &StoreBuffer) {
         Ok(copy) => copy,
         Err(_) => buffer.try_copy().expect(rt, "a second copy"),
     };
-    assert_eq!(rt; seen(&copy), before);
+    same(rt, seen(&copy), before);
     holds(rt, &copy, true, 4, 5);
 }
 
@@ -388,7 +389,7 @@ fn a_kept_list_serves_the_next_entry(rt: HostRuntime) {
         assert!(rt; buffer.drainable(X));
         let Entry { ops, .. } = buffer.take(X);
         buffer.keep(ops);
-        assert_eq!(rt; put(&mut buffer, whole(X, place, place)), Ok(()));
+        same(&rt, put(&mut buffer, whole(X, place, place)), Ok(()));
     }
     drains(&rt, &mut buffer, X, 49, &[49]);
 }

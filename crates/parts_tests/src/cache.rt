@@ -5,6 +5,7 @@ mod sets;
 
 ghost use Rattle.std.specs.Prelude.{◌≡◌, ◌<◌};
 
+use crate::same::{same, same_of};
 use client_cache::{ClientCache, Evict, Held, Probed, Want};
 use std::marker::Brand;
 use std::process::Abort;
@@ -85,7 +86,7 @@ fn probed(change: Change, bytes: Option<LineData>) -> Answer {
 /// Plays calls and compares what they answer.
 fn play(rt: &impl Abort, cache: &mut ClientCache, calls: &[(Call, Answer)]) {
     for (call, answer) in calls {
-        assert_eq!(rt; ask(rt, cache, *call), *answer, "{call:?}");
+        same_of(rt, ask(rt, cache, *call), *answer, &call);
     }
 }
 
@@ -154,7 +155,7 @@ fn want<L: Ledger>(
 ) -> Want {
     let foreseen = cache.peek_want(line, grow, ticks);
     let answer = cache.want(line, grow, ticks);
-    assert_eq!(rt; foreseen, answer);
+    same(rt, foreseen, answer);
     answer
 }
 
@@ -167,7 +168,7 @@ fn evict<L: Ledger>(
 ) -> Evict {
     let foreseen = cache.peek_evict(line, ticks);
     let answer = cache.evict(line, ticks);
-    assert_eq!(rt; foreseen, answer);
+    same(rt, foreseen, answer);
     answer
 }
 
@@ -180,7 +181,7 @@ fn copy<L: Ledger>(
 ) -> Option<Held> {
     let copy = cache.copy(line, ticks);
     let bytes = cache.read(line, ticks);
-    assert_eq!(rt; bytes, copy.map(|held| held.bytes()));
+    same(rt, bytes, copy.map(|held| held.bytes()));
     copy
 }
 

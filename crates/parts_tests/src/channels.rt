@@ -1,4 +1,5 @@
 //! Queues in the order of sending, and how many messages each holds in the worked rows.
+use crate::same::{same, same_of};
 use std::process::Abort;
 use std::test::Fail;
 use tilelink_channels::{Queues, room};
@@ -19,14 +20,14 @@ fn send(rt: &impl Abort, queues: &mut Queues, line: u32, body: Body) {
 fn taken(rt: &impl Abort, queues: &mut Queues, line: u32, body: Body) {
     let message = Msg { line, body };
     let channel = message.channel();
-    assert_eq!(rt; queues.front(channel), Some(message));
-    assert_eq!(rt; queues.pop(channel), Some(message));
+    same(rt, queues.front(channel), Some(message));
+    same(rt, queues.pop(channel), Some(message));
 }
 
 #[test]
 fn rooms_are_4_28_32_8_4(rt: HostRuntime) {
     for (channel, size) in CHANNELS.into_iter().zip([4, 28, 32, 8, 4]) {
-        assert_eq!(rt; room(channel), size, "{channel:?}");
+        same_of(&rt, room(channel), size, &channel);
     }
 }
 
@@ -34,9 +35,9 @@ fn rooms_are_4_28_32_8_4(rt: HostRuntime) {
 fn first_in_first_out_on_each_channel_alone(rt: HostRuntime) -> Result<(), Fail> {
     let mut queues = Queues::new(rt.alloc())?;
     for channel in CHANNELS {
-        assert_eq!(rt; queues.front(channel), None);
-        assert_eq!(rt; queues.pop(channel), None);
-        assert_eq!(rt; queues.len(channel), 0);
+        same(&rt, queues.front(channel), None);
+        same(&rt, queues.pop(channel), None);
+        same(&rt, queues.len(channel), 0);
     }
     let bytes = LineData::Bytes64([9; 64]);
     let release = Body::ReleaseData {
@@ -46,12 +47,12 @@ fn first_in_first_out_on_each_channel_alone(rt: HostRuntime) -> Result<(), Fail>
     send(&rt, &mut queues, X, release);
     send(&rt, &mut queues, X, Body::ProbeBlock(Cap::ToN));
     send(&rt, &mut queues, X, Body::ProbeAck(Change::NtoN));
-    assert_eq!(rt; queues.len(Channel::C), 2);
-    assert_eq!(rt; queues.len(Channel::B), 1);
+    same(&rt, queues.len(Channel::C), 2);
+    same(&rt, queues.len(Channel::B), 1);
     taken(&rt, &mut queues, X, release);
     taken(&rt, &mut queues, X, Body::ProbeAck(Change::NtoN));
     taken(&rt, &mut queues, X, Body::ProbeBlock(Cap::ToN));
-    assert_eq!(rt; queues.pop(Channel::C), None);
+    same(&rt, queues.pop(Channel::C), None);
     Ok(())
 }
 
@@ -99,7 +100,7 @@ fn row_45(rt: HostRuntime) -> Result<(), Fail> {
     assert!(rt; !queues.has_room(Channel::A));
     taken(&rt, &mut queues, X, Body::AcquireBlock(Grow::NtoT));
     send(&rt, &mut queues, X + 0x40, Body::AcquireBlock(Grow::NtoT));
-    assert_eq!(rt; queues.len(Channel::A), 4);
+    same(&rt, queues.len(Channel::A), 4);
     Ok(())
 }
 
@@ -142,7 +143,7 @@ fn long_use_keeps_the_order(rt: HostRuntime) -> Result<(), Fail> {
             );
         }
     }
-    assert_eq!(rt; queues.len(Channel::D), 0);
+    same(&rt, queues.len(Channel::D), 0);
     Ok(())
 }
 
@@ -168,6 +169,6 @@ fn memory_is_taken_at_making_alone(rt: HostRuntime) {
         for _ in 0..room(channel) {
             taken(&rt, &mut queues, X, body);
         }
-        assert_eq!(rt; queues.len(channel), 0);
+        same(&rt, queues.len(channel), 0);
     }
 }

@@ -9,6 +9,8 @@ mod cache;
 #[cfg(test)]
 mod channels;
 #[cfg(test)]
+mod loading;
+#[cfg(test)]
 mod memory;
 #[cfg(test)]
 mod messages;
@@ -18,3 +20,5 @@ mod names;
 mod notes;
 #[cfg(test)]
 mod reserving;
+#[cfg(test)]
+mod same;

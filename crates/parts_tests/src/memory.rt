@@ -1,5 +1,6 @@
 //! Lines of both sizes, read and written.
 
+use crate::same::same;
 use backing_memory::Memory;
 use elf_loader::raw;
 use std::process::Abort;
@@ -35,17 +36,17 @@ fn lines_of_16_bytes(rt: HostRuntime) -> Result<(), Fail> {
     ];
     let image = raw(rt.alloc(), &words, 4096)?;
     let mut memory = Memory::new(rt.alloc(), &image, LineSize::Bytes16)?;
-    assert_eq!(rt; memory.line_count(), 256);
+    same(&rt, memory.line_count(), 256);
     let first = [1, 2, 3, 4, 5, 6, 7, 8, 9, 10, 11, 12, 13, 14, 15, 16];
     let second = [17, 18, 19, 20, 0, 0, 0, 0, 0, 0, 0, 0, 0, 0, 0, 0];
-    assert_eq!(rt; line_of(&rt, &memory, 0), LineData::Bytes16(first));
-    assert_eq!(rt; line_of(&rt, &memory, 1), LineData::Bytes16(second));
-    assert_eq!(rt; line_of(&rt, &memory, 255), LineData::Bytes16([0; 16]));
-    assert_eq!(rt; line_of(&rt, &memory, 255).size(), LineSize::Bytes16);
+    same(&rt, line_of(&rt, &memory, 0), LineData::Bytes16(first));
+    same(&rt, line_of(&rt, &memory, 1), LineData::Bytes16(second));
+    same(&rt, line_of(&rt, &memory, 255), LineData::Bytes16([0; 16]));
+    same(&rt, line_of(&rt, &memory, 255).size(), LineSize::Bytes16);
     set_short(&rt, &mut memory, 255, first);
-    assert_eq!(rt; line_of(&rt, &memory, 255), LineData::Bytes16(first));
-    assert_eq!(rt; line_of(&rt, &memory, 254), LineData::Bytes16([0; 16]));
-    assert_eq!(rt; memory.line_count(), 256);
+    same(&rt, line_of(&rt, &memory, 255), LineData::Bytes16(first));
+    same(&rt, line_of(&rt, &memory, 254), LineData::Bytes16([0; 16]));
+    same(&rt, memory.line_count(), 256);
     Ok(())
 }
 
@@ -56,17 +57,21 @@ fn lines_of_64_bytes(rt: HostRuntime) -> Result<(), Fail> {
     words[64] = 0x64;
     let image = raw(rt.alloc(), &words, 8192)?;
     let mut memory = Memory::new(rt.alloc(), &image, LineSize::Bytes64)?;
-    assert_eq!(rt; memory.line_count(), 128);
+    same(&rt, memory.line_count(), 128);
     let mut first = [0; 64];
     first[63] = 0x63;
     let mut second = [0; 64];
     second[0] = 0x64;
-    assert_eq!(rt; line_of(&rt, &memory, 0), LineData::Bytes64(first));
-    assert_eq!(rt; line_of(&rt, &memory, 1), LineData::Bytes64(second));
-    assert_eq!(rt; line_of(&rt, &memory, 127).as_slice(), [0; 64].as_slice());
+    same(&rt, line_of(&rt, &memory, 0), LineData::Bytes64(first));
+    same(&rt, line_of(&rt, &memory, 1), LineData::Bytes64(second));
+    same(
+        &rt,
+        line_of(&rt, &memory, 127).as_slice(),
+        [0; 64].as_slice(),
+    );
     set_long(&rt, &mut memory, 0, second);
-    assert_eq!(rt; line_of(&rt, &memory, 0), LineData::Bytes64(second));
-    assert_eq!(rt; line_of(&rt, &memory, 1), LineData::Bytes64(second));
+    same(&rt, line_of(&rt, &memory, 0), LineData::Bytes64(second));
+    same(&rt, line_of(&rt, &memory, 1), LineData::Bytes64(second));
     Ok(())
 }
 
@@ -82,6 +87,6 @@ fn memory_is_taken_at_making_alone(rt: HostRuntime) -> Result<(), Fail> {
         Err(_) => Memory::new(rt.alloc(), &image, LineSize::Bytes16)?,
     };
     set_short(&rt, &mut memory, 3, [7; 16]);
-    assert_eq!(rt; line_of(&rt, &memory, 3), LineData::Bytes16([7; 16]));
+    same(&rt, line_of(&rt, &memory, 3), LineData::Bytes16([7; 16]));
     Ok(())
 }

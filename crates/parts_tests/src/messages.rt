@@ -1,6 +1,7 @@
 //! The table of what a Probe leaves, the channel of each message, and lines of both sizes.
 ghost use Rattle.std.specs.Prelude.{◌≡◌, ◌<◌};
 
+use crate::same::{same, same_of};
 use std::marker::Brand;
 use std::mem::size_of;
 use std::sync::ledger::{Blank, Ledger};
@@ -22,8 +23,8 @@ const SHRINK: [(Perm, Cap, Perm, Change); 9] = [
 #[test]
 fn shrink_is_its_table(rt: HostRuntime) {
     for (held, cap, left, change) in SHRINK {
-        assert_eq!(rt; shrink(held, cap), (left, change), "{held:?} {cap:?}");
-        assert_eq!(rt; change.left(), left);
+        same_of(&rt, shrink(held, cap), (left, change), &(held, cap));
+        same(&rt, change.left(), left);
     }
 }
 
@@ -34,10 +35,10 @@ fn grants_name_what_was_asked_for(rt: HostRuntime) {
         (Grow::NtoT, Cap::ToT, Perm::Trunk),
         (Grow::BtoT, Cap::ToT, Perm::Trunk),
     ] {
-        assert_eq!(rt; grow.granted(), cap);
-        assert_eq!(rt; cap.perm(), perm);
+        same(&rt, grow.granted(), cap);
+        same(&rt, cap.perm(), perm);
     }
-    assert_eq!(rt; Cap::ToN.perm(), Perm::Nothing);
+    same(&rt, Cap::ToN.perm(), Perm::Nothing);
 }
 
 const BYTES: LineData = LineData::Bytes16([7; 16]);
@@ -81,7 +82,7 @@ fn each_message_has_its_channel(rt: HostRuntime) {
             line: 0x8000_0100,
             body,
         };
-        assert_eq!(rt; message.channel(), channel, "{body:?}");
+        same_of(&rt, message.channel(), channel, &body);
     }
 }
 
@@ -89,12 +90,12 @@ fn each_message_has_its_channel(rt: HostRuntime) {
 fn lines_have_16_or_64_bytes(rt: HostRuntime) {
     let short = LineData::Bytes16([1; 16]);
     let long = LineData::Bytes64([2; 64]);
-    assert_eq!(rt; short.size(), LineSize::Bytes16);
-    assert_eq!(rt; long.size(), LineSize::Bytes64);
-    assert_eq!(rt; short.size().bytes(), 16);
-    assert_eq!(rt; long.size().bytes(), 64);
-    assert_eq!(rt; short.as_slice(), [1; 16].as_slice());
-    assert_eq!(rt; long.as_slice(), [2; 64].as_slice());
+    same(&rt, short.size(), LineSize::Bytes16);
+    same(&rt, long.size(), LineSize::Bytes64);
+    same(&rt, short.size().bytes(), 16);
+    same(&rt, long.size().bytes(), 64);
+    same(&rt, short.as_slice(), [1; 16].as_slice());
+    same(&rt, long.as_slice(), [2; 64].as_slice());
 }
 
 /// Counts two looks on any ledger: nothing of it is kept at run time.
@@ -111,5 +112,5 @@ fn two_looks<L: Ledger>(blank: Blank)
 #[test]
 fn looks_are_counted_for_contracts_alone(rt: HostRuntime) {
     two_looks::<Brand>(Blank::new(1));
-    assert_eq!(rt; size_of::<Ticks<Brand>>(), 0);
+    same(&rt, size_of::<Ticks<Brand>>(), 0);
 }

@@ -1,5 +1,6 @@
 //! Names of addresses, of a file that clang and ld.lld 14 built, by what readelf shows of it.
 
+use crate::same::same;
 use elf_symbols::{Place, Symbols};
 use std::alloc::{AllocError, Global};
 use std::process::Abort;
@@ -69,11 +70,11 @@ fn names_of_a_file(rt: HostRuntime) -> Result<(), Fail> {
         assert!(rt; is_told(&symbols, address, name, offset));
     }
     assert!(rt; symbols.nearest(0x7fff_ffff).is_none());
-    assert_eq!(rt; symbols.address_of(b"_start"), Some(0x8000_0000));
-    assert_eq!(rt; symbols.address_of(b"alias"), Some(0x8000_0018));
-    assert_eq!(rt; symbols.address_of(b"constant"), None);
-    assert_eq!(rt; symbols.address_of(b"star"), None);
-    assert_eq!(rt; symbols.address_of(b""), None);
+    same(&rt, symbols.address_of(b"_start"), Some(0x8000_0000));
+    same(&rt, symbols.address_of(b"alias"), Some(0x8000_0018));
+    same(&rt, symbols.address_of(b"constant"), None);
+    same(&rt, symbols.address_of(b"star"), None);
+    same(&rt, symbols.address_of(b""), None);
     Ok(())
 }
 
@@ -81,7 +82,7 @@ fn names_of_a_file(rt: HostRuntime) -> Result<(), Fail> {
 fn no_names(rt: HostRuntime) -> Result<(), Fail> {
     let symbols = Symbols::new(rt.alloc());
     assert!(rt; symbols.nearest(u32::MAX).is_none());
-    assert_eq!(rt; symbols.address_of(b"_start"), None);
+    same(&rt, symbols.address_of(b"_start"), None);
     Ok(())
 }
 
@@ -149,10 +150,10 @@ fn untold_names(rt: HostRuntime) -> Result<(), Fail> {
 fn names_of_one_address(rt: HostRuntime) -> Result<(), Fail> {
     let symbols = changed(rt.alloc(), ENTRIES + 3 * 16 + 4, b"\x14")?;
     assert!(rt; is_told(&symbols, 0x8000_0014, b"shared", 0));
-    assert_eq!(rt; symbols.address_of(b"alias"), Some(0x8000_0014));
+    same(&rt, symbols.address_of(b"alias"), Some(0x8000_0014));
     let symbols = changed(rt.alloc(), ENTRIES + 2 * 16, b"\x01")?;
     assert!(rt; is_told(&symbols, 0x8000_000c, b"loop", 0));
-    assert_eq!(rt; symbols.address_of(b"loop"), Some(0x8000_0004));
+    same(&rt, symbols.address_of(b"loop"), Some(0x8000_0004));
     Ok(())
 }
 

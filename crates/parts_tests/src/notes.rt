@@ -2,6 +2,7 @@
 ghost use Rattle.std.specs.Prelude.{◌≡◌, ◌≢◌, ◌<◌, length};
 ghost use Rattle.tl_types.specs.Permission.{left_by};
 
+use crate::same::{same, same_of};
 use directory::{Acquired, Directory, Grant, HartSet, Known, Sent, Transaction};
 use std::alloc::Global;
 use std::marker::Brand;
@@ -52,12 +53,12 @@ fn granted_by(answer: Acquired) -> Option<Grant> {
 fn expect_probes(rt: &impl Abort, answer: &Acquired, cap: Cap, harts: &[u8], step: Step) {
     match answer {
         Acquired::Handled(Sent::Probes(probe, set)) => {
-            assert_eq!(rt; *probe, cap, "{step:?}");
+            same_of(rt, *probe, cap, &step);
             let mut expected = harts.iter();
             for hart in set.iter() {
-                assert_eq!(rt; expected.next().copied(), Some(hart), "{step:?}");
+                same_of(rt, expected.next().copied(), Some(hart), &step);
             }
-            assert_eq!(rt; expected.next().copied(), None, "{step:?}");
+            same_of(rt, expected.next().copied(), None, &step);
         }
         _ => panic!(rt; "{answer:?} at {step:?}"),
     }
@@ -104,7 +105,7 @@ fn take<L: Ledger>(rt: &impl Abort, directory: &mut Directory, step: Step, ticks
     match step {
         Step::Granted(line, hart, grow, cap, with_data) => {
             let answer = acquire(rt, directory, line, hart, grow, ticks);
-            assert_eq!(rt; granted_by(answer), grant(hart, cap, with_data), "{step:?}");
+            same_of(rt, granted_by(answer), grant(hart, cap, with_data), &step);
         }
         Step::Probed(line, hart, grow, cap, harts) => {
             let answer = acquire(rt, directory, line, hart, grow, ticks);
@@ -112,13 +113,13 @@ fn take<L: Ledger>(rt: &impl Abort, directory: &mut Directory, step: Step, ticks
         }
         Step::Busy(line, hart, grow) => {
             let answer = acquire(rt, directory, line, hart, grow, ticks);
-            assert_eq!(rt; answer, Acquired::Busy, "{step:?}");
+            same_of(rt, answer, Acquired::Busy, &step);
         }
         Step::ProbeAck(line, hart, change, due) => {
             is_there(rt, directory, line, hart);
             is_pruned(rt, change);
             let sent = directory.on_probe_ack(line, hart, change, ticks);
-            assert_eq!(rt; sent, due, "{step:?}");
+            same_of(rt, sent, due, &step);
         }
         Step::Release(line, hart) => {
             is_there(rt, directory, line, hart);
@@ -131,12 +132,12 @@ fn take<L: Ledger>(rt: &impl Abort, directory: &mut Directory, step: Step, ticks
         Step::Known(line, hart, perm, awaited) => {
             is_there(rt, directory, line, hart);
             let known = directory.known(line, hart, ticks);
-            assert_eq!(rt; known, Known { perm, awaited }, "{step:?}");
+            same_of(rt, known, Known { perm, awaited }, &step);
         }
         Step::Stands(line, stands) => {
             is_there(rt, directory, line, 0);
             let transaction = directory.transaction(line, ticks);
-            assert_eq!(rt; transaction, stands, "{step:?}");
+            same_of(rt, transaction, stands, &step);
         }
     }
 }
@@ -327,10 +328,10 @@ fn seven_readers_are_probed_rising(rt: HostRuntime) -> Result<(), Fail> {
 fn sets_of_harts(rt: HostRuntime) {
     let none = HartSet::new();
     assert!(rt; none.is_empty());
-    assert_eq!(rt; none.first(), None);
+    same(&rt, none.first(), None);
     let set = none.with(6).with(1).with(6);
     assert!(rt; set.contains(6) && set.contains(1) && !set.contains(0));
-    assert_eq!(rt; set.first(), Some(1));
-    assert_eq!(rt; set.without(1).first(), Some(6));
-    assert_eq!(rt; set.without(1).without(6), none);
+    same(&rt, set.first(), Some(1));
+    same(&rt, set.without(1).first(), Some(6));
+    same(&rt, set.without(1).without(6), none);
 }

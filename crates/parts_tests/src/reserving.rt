@@ -1,3 +1,4 @@
+use crate::same::{same, same_of};
 use reservations::*;
 use tl_types::LineSize;
 
@@ -15,19 +16,19 @@ fn lost_with_its_line(rt: HostRuntime) {
         let mut reservation = Reservation::none();
         reservation.set(word);
         reservation.lose_line(line, size);
-        assert_eq!(rt; reservation.valid(word), kept, "{word:x} in {line:x}");
+        same_of(&rt, reservation.valid(word), kept, &(word, line));
     }
 }
 
 #[test]
 fn one_word_at_a_time(rt: HostRuntime) {
     let mut reservation = Reservation::none();
-    assert_eq!(rt; reservation.word(), None);
+    same(&rt, reservation.word(), None);
     reservation.set(0x8000_0100);
     reservation.set(0x8000_0200);
     assert!(rt; !reservation.valid(0x8000_0100));
     assert!(rt; reservation.valid(0x8000_0200));
-    assert_eq!(rt; reservation.word(), Some(0x8000_0200));
+    same(&rt, reservation.word(), Some(0x8000_0200));
     reservation.clear();
     assert!(rt; !reservation.valid(0x8000_0200));
 }

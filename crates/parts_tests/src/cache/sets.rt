@@ -1,5 +1,6 @@
 //! Sets that are full, lines of 64 bytes, and what a store writes.
 use super::*;
+use crate::same::same;
 use std::test::Fail;
 use tl_types::LineSize;
 
@@ -137,9 +138,9 @@ fn stores(rt: HostRuntime) -> Result<(), Fail> {
         dirty: true,
         bytes: last,
     };
-    assert_eq!(rt; held.perm(), Perm::Trunk);
-    assert_eq!(rt; held.dirty_bytes(), Some(last));
-    assert_eq!(rt; Held::Branch(last).dirty_bytes(), None);
+    same(&rt, held.perm(), Perm::Trunk);
+    same(&rt, held.dirty_bytes(), Some(last));
+    same(&rt, Held::Branch(last).dirty_bytes(), None);
     Ok(())
 }
 

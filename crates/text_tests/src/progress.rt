@@ -1,0 +1,107 @@
+//! The line's texts, and when they come.
+
+use crate::same::same_of;
+use progress_line::{Progress, ProgressLine, Silent, Stage};
+use std::alloc::Global;
+use std::cell::{Cell, RefCell};
+use std::fmt::Display;
+use std::io::{self, Eprint, ErrorKind, Write};
+use std::process::Abort;
+use std::test::Fail;
+use std::time::{Clock, Duration};
+
+/// A clock that is set by hand, and what was written to standard error.
+#[derive(Drop)]
+struct Desk {
+    millis: Cell<u64>,
+    written: RefCell<Vec<u8>>,
+}
+
+impl Clock for Desk {
+    fn monotonic(&self) -> io::Result<Duration> {
+        Ok(Duration::from_millis(self.millis.get()))
+    }
+
+    fn since_1970(&self) -> io::Result<Duration> {
+        Err(io::Error::from(ErrorKind::Unsupported))
+    }
+}
+
+impl Eprint for Desk {
+    fn eprint<D: Display + Drop>(&self, value: D) -> io::Result<()> {
+        let mut written = self.written.try_borrow_mut()?;
+        write!(&mut *written, "{value}")
+    }
+
+    fn eprintln<D: Display + Drop>(&self, value: D) -> io::Result<()> {
+        self.eprint(value)
+    }
+}
+
+impl Desk {
+    fn new(alloc: Global, millis: u64) -> Desk {
+        Desk {
+            millis: Cell::new(millis),
+            written: RefCell::new(Vec::new(alloc)),
+        }
+    }
+
+    fn holds(&self, text: &str) -> Result<bool, Fail> {
+        Ok(self.written.try_borrow()?.as_slice() == text.as_bytes())
+    }
+}
+
+const RUN: Stage<'static> = Stage::Run {
+    events: 12_345_678,
+    retired: &[0, 9_999, 10_000, 1_000_000, 10_000_000],
+};
+
+/// Milliseconds since the start, and whether a line comes.
+const TIMES: [(u64, bool); 8] = [
+    (0, false),
+    (999, false),
+    (1_000, true),
+    (1_001, false),
+    (1_499, false),
+    (1_500, true),
+    (9_999, true),
+    (10_000, true),
+];
+
+#[test]
+fn a_line_comes_twice_a_second(rt: HostRuntime) -> Result<(), Fail> {
+    let desk = Desk::new(rt.alloc(), 70);
+    let progress = Some(ProgressLine::start(&desk)?);
+    for (millis, is_due) in TIMES {
+        desk.millis.set(millis.wrapping_add(70));
+        desk.written.try_borrow_mut()?.clear();
+        progress.tell(RUN);
+        let is_told = !desk.written.try_borrow()?.is_empty();
+        same_of(&rt, is_told, is_due, &millis);
+    }
+    Ok(())
+}
+
+#[test]
+fn lines_are_short(rt: HostRuntime) -> Result<(), Fail> {
+    let desk = Desk::new(rt.alloc(), 0);
+    let progress = ProgressLine::start(&desk)?;
+    progress.end();
+    assert!(rt; desk.holds("")?);
+    desk.millis.set(12_000);
+    progress.tell(RUN);
+    assert!(rt; desk.holds("12 s, 12M events, retired 0 9999 10k 1000k 10M\x1b[K\r")?);
+    desk.written.try_borrow_mut()?.clear();
+    desk.millis.set(20_000);
+    progress.tell(Stage::Explore {
+        states: 1_000_000,
+        outcomes: 3,
+    });
+    assert!(rt; desk.holds("20 s, 1000k states (50k a second), 3 outcomes\x1b[K\r")?);
+    desk.written.try_borrow_mut()?.clear();
+    progress.end();
+    assert!(rt; desk.holds("\x1b[K")?);
+    Silent.tell(RUN);
+    Silent.end();
+    Ok(())
+}

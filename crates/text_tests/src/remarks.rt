@@ -1,0 +1,224 @@
+//! The texts of remarks.
+
+use crate::same::same;
+use elf_loader::{LoadError, load, raw};
+use file_remarks::{EventRemark, FileRemark, ImageRemark, ScriptRemark, TraceRemark};
+use machine_model::Event;
+use std::alloc::Global;
+use std::fmt::Display;
+use std::io::{self, ErrorKind};
+use std::process::Abort;
+use std::test::Fail;
+use trace_text::{Events, Script, read_script, read_trace};
+
+/// Scripts that are refused, and what is remarked of each.
+const SCRIPTS: [(&str, &str); 16] = [
+    ("", "this is an empty file, and a script is wanted"),
+    (
+        "rvtl-trace 1\nT 1 4 0x80000000\n",
+        "this is a trace, and a script is wanted",
+    ),
+    (
+        "step 0\n",
+        "a script begins with `rvtl-script 1 HARTS KIB SETS WAYS`, not with `step 0`",
+    ),
+    ("rvtl-script 1 9 4 4 2\n", "HARTS is 1 to 8, not `9`"),
+    (
+        "rvtl-script 1 1 6 4 2\n",
+        "KIB is a multiple of 4 from 4 to 1024, not `6`",
+    ),
+    (
+        "rvtl-script 1 1 4 3 2\n",
+        "SETS is a power of two to 64, not `3`",
+    ),
+    ("rvtl-script 1 1 4 4 02\n", "WAYS is 1 to 4, not `02`"),
+    ("rvtl-script 1 1 4 4\n", "WAYS is 1 to 4, and is missing"),
+    (
+        "rvtl-script 1 1 4 4 2 16\n",
+        "no further number is due: `16`",
+    ),
+    ("rvtl-script 2 8 4 4 2 32\n", "LINE is 16 or 64, not `32`"),
+    ("rvtl-script 3 1 4 4 2\n", "the version is 1 or 2, not `3`"),
+    (
+        "rvtl-script 1 5 4 4 2\n",
+        "5 to 8 harts are for version 2, `rvtl-script 2 HARTS KIB SETS WAYS LINE`",
+    ),
+    (
+        "rvtl-script 2 4 4 4 2 16\n",
+        "up to 4 harts with lines of 16 bytes are for version 1, `rvtl-script 1 HARTS KIB SETS WAYS`",
+    ),
+    (
+        "rvtl-script 1 1 4 4 2\n\x1b[2Jstop 0123456789012345678901234567890123456789\n",
+        "no event begins with `\\x1b[2Jstop`: they are step, drain, evict, deliver and local",
+    ),
+    (
+        "rvtl-script 1 1 4 4 2\nstep 0\nstep 00\n",
+        "`step HART` is wanted, not `step 00`",
+    ),
+    (
+        "rvtl-script 1 1 4 4 2\nstep 0\r\n",
+        "a carriage return stands at the end of the line",
+    ),
+];
+
+#[test]
+fn scripts(rt: HostRuntime) -> Result<(), Fail> {
+    for (text, remark) in SCRIPTS {
+        let bytes = text.as_bytes();
+        let Err(error) = read_script(rt.alloc(), bytes) else {
+            panic!(rt; "{text} is read")
+        };
+        let told = format!(in rt.alloc(); "{}", ScriptRemark { bytes, error })?;
+        same(&rt, told.as_str(), remark);
+    }
+    Ok(())
+}
+
+/// Traces that are refused, and what is remarked of each.
+const TRACES: [(&str, &str); 6] = [
+    (
+        "rvtl-script 1 1 4 4 2\n",
+        "this is a script, and a trace is wanted",
+    ),
+    (
+        "rvtl-trace 1\nT 1 4\n",
+        "a trace begins with `rvtl-trace 1` and `T HARTS KIB ENTRY`; `T 1 4` stands here",
+    ),
+    (
+        "rvtl-trace 1\nT 1 4 0x80000000\nH 0 run",
+        "the text ends within this line, or before it",
+    ),
+    (
+        "rvtl-trace 1\nT 1 4 0x80000000\nQ 0123456789\n",
+        "no line of a trace begins with `Q`: they are T, I, R, P, M and H",
+    ),
+    (
+        "rvtl-trace 1\nT 1 4 0x80000000\nP 0 01234567890123456789012345678901234567890123456789\n",
+        "`P HART PLACE` is wanted, not `P 0 012345678901234567890123456789012345..`",
+    ),
+    (
+        "rvtl-trace 1\nT 1 4 0x80000000\nT 1 4 0x80000000\n",
+        "`T 1 4 0x80000000` may not stand here: I, R by hart, P, M and H lines follow each other",
+    ),
+];
+
+#[test]
+fn traces(rt: HostRuntime) -> Result<(), Fail> {
+    for (text, remark) in TRACES {
+        let bytes = text.as_bytes();
+        let Err(error) = read_trace(rt.alloc(), bytes) else {
+            panic!(rt; "{text} is read")
+        };
+        let told = format!(in rt.alloc(); "{}", TraceRemark { bytes, error })?;
+        same(&rt, told.as_str(), remark);
+    }
+    Ok(())
+}
+
+/// The head of an ELF file for RISC-V in 32 bits, little-endian, with floating-point code.
+const FLOATING: [u8; 52] = [
+    0x7f, b'E', b'L', b'F', 1, 1, 1, 0, 0, 0, 0, 0, 0, 0, 0, 0, 2, 0, 243, 0, 1, 0, 0, 0, 0, 0, 0,
+    0x80, 52, 0, 0, 0, 0, 0, 0, 0, 5, 0, 0, 0, 52, 0, 32, 0, 0, 0, 0, 0, 0, 0, 0, 0,
+];
+
+/// Programs that are refused, whether as bare words, and what is remarked of each.
+const IMAGES: [(&[u8], bool, &str); 5] = [
+    (&[0; 4], false, "this is no ELF file: bare words take --raw"),
+    (
+        b"rvtl-script 1 1 4 4 2\n",
+        true,
+        "this is a script, and a program is wanted",
+    ),
+    (
+        &[0; 7],
+        true,
+        "bare words are 4 bytes each, and the file ends within one",
+    ),
+    (&[0; 4100], true, "the words are more than memory holds"),
+    (
+        &FLOATING,
+        false,
+        "compressed and floating-point code are not supported: build it with -march=rv32ima -mabi=ilp32",
+    ),
+];
+
+#[test]
+fn images(rt: HostRuntime) -> Result<(), Fail> {
+    for (bytes, is_raw, remark) in IMAGES {
+        let loaded = if is_raw {
+            raw(rt.alloc(), bytes, 4096)
+        } else {
+            load(rt.alloc(), bytes, 4096)
+        };
+        let Err(error) = loaded else {
+            panic!(rt; "a program is loaded")
+        };
+        let told = format!(in rt.alloc();
+            "{}",
+            ImageRemark {
+                bytes,
+                is_raw,
+                error
+            }
+        )?;
+        same(&rt, told.as_str(), remark);
+    }
+    Ok(())
+}
+
+/// Events that a machine of 2 harts, 4 KiB and lines of 16 bytes hasn't, and what is remarked of each.
+const EVENTS: [(Event, &str); 4] = [
+    (
+        Event::Step { hart: 3 },
+        "no hart 3: the script's first line names 2",
+    ),
+    (
+        Event::Drain {
+            hart: 0,
+            word: 0x8000_0102,
+        },
+        "0x80000102 is not a multiple of 4",
+    ),
+    (
+        Event::Evict {
+            hart: 0,
+            line: 0x8000_1000,
+        },
+        "0x80001000 is outside memory, 0x80000000 to 0x80000fff",
+    ),
+    (
+        Event::Local { hart: 0, count: 0 },
+        "count 0: it is 1 to 256",
+    ),
+];
+
+#[test]
+fn events(rt: HostRuntime) -> Result<(), Fail> {
+    let script = Script {
+        harts: 2,
+        kib: 4,
+        sets: 4,
+        ways: 2,
+        line: 16,
+        events: Events::new(Vec::new(rt.alloc())),
+    };
+    for (event, remark) in EVENTS {
+        let told = format!(in rt.alloc();
+            "{}",
+            EventRemark {
+                event,
+                script: &script
+            }
+        )?;
+        same(&rt, told.as_str(), remark);
+    }
+    Ok(())
+}
+
+#[test]
+fn files(rt: HostRuntime) -> Result<(), Fail> {
+    let error = io::Error::from(ErrorKind::NotFound);
+    let told = format!(in rt.alloc(); "{}", FileRemark(error))?;
+    same(&rt, told.as_str(), "there is no such file or folder");
+    Ok(())
+}
