@@ -5,4 +5,5 @@ mod mnemonics;
 mod operands;
 mod writing;
 
+pub use operands::register;
 pub use writing::spell_assembly;

@@ -26,7 +26,8 @@ const REGISTERS: [&[u8]; 32] = [
     b"s10", b"s11", b"t3", b"t4", b"t5", b"t6",
 ];
 
-pub(crate) fn register(register: Register) -> &'static [u8]
+/// A register as the calling convention names it.
+pub fn register(register: Register) -> &'static [u8]
     ensures value { result.now ≡ operand.register register }
     ensures len { length result.now ≤ 4 }
 {

@@ -3,6 +3,7 @@ pub mod Paging
 pub mod EventLines
 pub mod Fetching
 pub mod ClosingLines
+pub mod Counting
 pub mod Telling
 pub mod Wholes
 pub mod OtherHarts

@@ -6,7 +6,7 @@ use Rattle.text_fields.specs.Pages.{Paged, Spells}
 use Rattle.text_fields.specs.Writing.{Begins, Writes}
 use Rattle.std.specs.Result.{IsErr}
 use Rattle.text_fields.proofs.Pages.{Spelling, page_as, page_ends, page_fails, page_more, page_spelled, page_starts, page_stops}
-use Rattle.text_fields.proofs.Written.{appends_then, begins_then, writes_then}
+use Rattle.text_fields.proofs.Written.{appends_then, begins_first, begins_then, writes_then}
 
 pub paged_then : (a b c : Option (List ℕ)) (p q r x y : List ℕ) → Paged a b p q x → Paged b c q r y → Paged a c p r (x ++ y)
 paged_then a b c p q r x y h now = record {
@@ -58,3 +58,12 @@ room_spelled a b page room after x rest text is now spelled =
 -- with the whole text spelled
 pub room_whole : (a b : Option (List ℕ)) (page room after text : List ℕ) → Paged a b page room [] → after ≡ room ++ text → Paged a b page after text
 room_whole a b page room after text now spelled = page_ends a b page after text (room_spelled a b page room after text [] text (sym (append-nil text)) now spelled)
+
+-- ---- one call behind another
+
+pub spells_then : {T E : Type 0} (a b c : Option (List ℕ)) (p q after x y : List ℕ) (r : Result T E) → Paged a b p q x → Spells b c q after y r → Spells a c p after (x ++ y) r
+spells_then a b c p q after x y (Ok _) h now = paged_then a b c p q after x y h now
+spells_then a b c p q after x y (Err _) h now = paged_fails a b c p q x y h now
+
+pub spells_fails : {T E : Type 0} (a b : Option (List ℕ)) (p after x y : List ℕ) (r : Result T E) → IsErr r → Begins a b (p ++ x) → Spells a b p after (x ++ y) r
+spells_fails a b p after x y r failed now = page_stops a b p after (x ++ y) r failed (subst (Begins a b) (append_assoc p x y) (begins_first a b (p ++ x) y now))

@@ -3,6 +3,7 @@ pub mod Reports
 pub mod Naming
 pub mod Lines
 pub mod Closing
+pub mod Holding
 pub mod Streams
 pub mod Writing
 pub mod Telling

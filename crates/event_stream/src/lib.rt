@@ -4,6 +4,7 @@
 
 mod closing;
 mod errors;
+mod holding;
 mod laws;
 mod naming;
 mod report;
@@ -14,6 +15,7 @@ mod waits;
 mod writing;
 
 pub use errors::StreamError;
+pub use holding::put_held;
 pub use laws::stream_is_the_trace;
 pub use report::{Lengths, Report, hart_of};
 pub use spellings::outcome_name;

@@ -128,7 +128,7 @@ fn copy_on<L: Ledger>(cache: &ClientCache, line: u32, blank: Blank) -> Option<He
 }
 
 /// The cache's copy of a line.
-fn copy_in(cache: &ClientCache, line: u32) -> Option<Held>
+pub(crate) fn copy_in(cache: &ClientCache, line: u32) -> Option<Held>
     ensures { result ≡ copy_at cache.now line }
 {
     copy_on::<Brand>(cache, line, Blank::new(1))
@@ -142,14 +142,14 @@ fn takes_way(cache: &ClientCache, line: u32) -> bool
 }
 
 /// How many bytes a line of the machine has.
-fn size_of(machine: &Machine) -> LineSize
+pub(crate) fn size_of(machine: &Machine) -> LineSize
     ensures { result ≡ line_size machine.now }
 {
     line_size(machine.views().config())
 }
 
 /// The address of memory's line of this number.
-fn line_address(size: LineSize, number: u32) -> u32
+pub(crate) fn line_address(size: LineSize, number: u32) -> u32
     requires { number < 65536 }
     ensures { result ≡ base + number * length_of size }
 {

@@ -1,18 +1,8 @@
-use Rattle.std.proofs.Common.{◌≡◌, ◌<◌, ◌≤◌, ◌++◌, ◌+◌, ℕ, List, [], ap, arith, length, drop, ◌∙◌}
-use Rattle.std.proofs.lemmas.List.FromFn.{get_or-range_with_len, length-range_with_len}
-use Rattle.std.specs.List.{flat_map, range_with_len}
-use Rattle.text_fields.proofs.Pages.{page_as, page_ends, page_fails, page_more, page_spelled, page_stops, item_next, item_none}
+use Rattle.std.proofs.Common.{[], ap, arith, length, ◌∙◌}
+use Rattle.text_fields.proofs.Pages.{page_as, page_ends, page_fails, page_more, page_spelled, page_stops}
 use Rattle.event_stream.specs.Closing.{way_of_set}
+use Rattle.event_stream.proofs.Counting.{numbered_next, numbered_none}
 use Rattle.event_stream.proofs.waits.put_ways.Goals as goal
-
--- the item of the next number
-numbered_next : (f : ℕ → List ℕ) (n i : ℕ) → i < n → flat_map f (drop i (range_with_len 0 n)) ≡ f i ++ flat_map f (drop (i + 1) (range_with_len 0 n))
-numbered_next f n i lt =
-    let len : length (range_with_len 0 n) ≡ n = length-range_with_len 0 n in
-    item_next f (range_with_len 0 n) i 0 (omega (arith, lt, len)) ∙ ap (λ (k : ℕ). f k ++ flat_map f (drop (i + 1) (range_with_len 0 n))) (get_or-range_with_len 0 n i 0 lt ∙ omega arith)
-
-numbered_none : (f : ℕ → List ℕ) (n i : ℕ) → n ≤ i → flat_map f (drop i (range_with_len 0 n)) ≡ []
-numbered_none f n i le = let len : length (range_with_len 0 n) ≡ n = length-range_with_len 0 n in item_none f (range_with_len 0 n) i (omega (arith, le, len))
 
 pub returns-in_err-make_room : goal.returns-in_err-make_room
 returns-in_err-make_room g c = page_stops _ _ _ _ _ _ c.from_residual.ensures.0 (page_fails _ _ _ _ [] _ _ c.loop-number.invariant c.in_err-make_room.ensures.sent)
