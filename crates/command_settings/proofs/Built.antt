@@ -70,6 +70,7 @@ Takes Argument.model how v = IsModelName v
 Takes (Argument.number id default low high) how v = IsNumeric low high how v
 Takes (Argument.required_option id) how v = Unit {0}
 Takes (Argument.optional id) how v = Unit {0}
+Takes (Argument.repeated id) how v = Unit {0}
 Takes (Argument.file id) how v = Unit {0}
 
 abbrev pub id_of : Argument → Text
@@ -78,6 +79,7 @@ id_of Argument.model = codes "model"
 id_of (Argument.number id default low high) = id
 id_of (Argument.required_option id) = id
 id_of (Argument.optional id) = id
+id_of (Argument.repeated id) = id
 id_of (Argument.file id) = id
 
 abbrev TakesAny : Option Argument → Reading → Text → Type 0
@@ -326,6 +328,10 @@ module _ (all : List Argument) where
       let bad : kind.InvalidValue ∷ [] ≡ [] = none in cc
   keeps_of names are i (Argument.optional id) known (v ∷ vs) rows none good =
       values_good _ _ _ v vs _ (fine_of (Argument.optional id) _ v known tt) (without_good _ rows good)
+  keeps_of names are i (Argument.repeated id) known [] rows none good =
+      let bad : kind.InvalidValue ∷ [] ≡ [] = none in cc
+  keeps_of names are i (Argument.repeated id) known (v ∷ vs) rows none good =
+      values_good _ _ _ v vs rows (fine_of (Argument.repeated id) _ v known tt) good
   keeps_of names are i (Argument.file id) known [] rows none good =
       let bad : kind.InvalidValue ∷ [] ≡ [] = none in cc
   keeps_of names are i (Argument.file id) known (v ∷ vs) rows none good =
@@ -349,6 +355,7 @@ module _ (all : List Argument) where
       fine_of (Argument.number id default low high) _ _ sound.0 (refl, accepts-Accepts false (parser.Unsigned low high) default sound.1)
   fine_default names i (Argument.required_option id) sound = tt
   fine_default names i (Argument.optional id) sound = tt
+  fine_default names i (Argument.repeated id) sound = tt
   fine_default names i (Argument.file id) sound = tt
 
   fine_defaults : (names : ModelNames) (xs : List Argument) (rules : List Rule) → Each IsSound xs → IsBuilt names xs rules → FineDefaults rules
@@ -370,6 +377,7 @@ module _ (all : List Argument) where
   -- there is a row for each argument that has to be given or has a default
   abbrev HasRow : Argument → List Row → Type 0
   HasRow (Argument.optional id) rows = Unit {0}
+  HasRow (Argument.repeated id) rows = Unit {0}
   HasRow x rows = has_row (id_of x) rows ≡ true
 
   row_of : (names : ModelNames) (i : ℕ) (x : Argument) (rows : List Row) → IsChosen rows (built_of names i x) → IsGiven rows (built_of names i x) → HasRow x rows
@@ -378,6 +386,7 @@ module _ (all : List Argument) where
   row_of names i (Argument.number id default low high) rows chosen given = chosen default [] refl
   row_of names i (Argument.required_option id) rows chosen given = given_has id rows (given refl)
   row_of names i (Argument.optional id) rows chosen given = tt
+  row_of names i (Argument.repeated id) rows chosen given = tt
   row_of names i (Argument.file id) rows chosen given = given_has id rows (given refl)
 
   taken : (x : Argument) (rows : List Row) → IsKnown x → Good rows → has_row (id_of x) rows ≡ true
@@ -407,6 +416,7 @@ module _ (all : List Argument) where
   has_of (Argument.required_option id) rows known good has =
       let it = taken (Argument.required_option id) rows known good has in (it.0, it.2)
   has_of (Argument.optional id) rows known good has = tt
+  has_of (Argument.repeated id) rows known good has = tt
   has_of (Argument.file id) rows known good has =
       let it = taken (Argument.file id) rows known good has in (it.0, it.2)
 

@@ -5,4 +5,5 @@ mod Missing
 mod Numbers
 mod Ranges
 mod Rules
+mod Shown
 mod Walked

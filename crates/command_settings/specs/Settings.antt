@@ -1,10 +1,10 @@
 -- What the program's words ask for, as the kit reads the words for the program's usage.
-use Rattle.std.specs.Prelude.{ℕ, ◌≡◌, ◌≤◌, ◌∷◌, [], Bool, true, false, List, None, Option, Some, codes, if◌then◌else◌, option_map}
+use Rattle.std.specs.Prelude.{ℕ, ◌≡◌, ◌≢◌, ◌≤◌, ◌∷◌, [], Bool, true, false, List, None, Option, Some, codes, if◌then◌else◌, map, option_map, unwrap_or}
 use Rattle.std.specs.Borrow.{Bor}
 use Rattle.std.specs.Str.{bytes_eq}
 use Rattle.std.specs.Str.Parse.{IsNumeral, digits_value, without_leading_plus}
 use Rattle.clap.specs.Values.{IsUnsignedIn}
-use Rattle.clap.specs.Words.{App, Row, Text, first_of, one_of, subcommand_of}
+use Rattle.clap.specs.Words.{App, Row, Text, all_of, first_of, one_of, subcommand_of}
 use Rattle.command_settings.specs.Usage.{Argument, IsUsage, Subcommand, least_limit, least_window, most_limit, most_size, most_window, subcommands}
 use Rattle.command_settings.specs.declared.wanted.Chart.{Chart}
 use Rattle.command_settings.specs.declared.wanted.Check.{Check}
@@ -14,6 +14,7 @@ use Rattle.command_settings.specs.declared.wanted.MachineOptions.{MachineOptions
 use Rattle.command_settings.specs.declared.wanted.Replay.{Replay}
 use Rattle.command_settings.specs.declared.wanted.Run.{Run}
 use Rattle.command_settings.specs.declared.wanted.Settings.{Settings}
+use Rattle.command_settings.specs.declared.wanted.Show.{Show}
 use Rattle.command_settings.specs.declared.wanted.Settings.TheVariants as settings
 use Rattle.memory_model.specs.declared.Model.{Model}
 use Rattle.memory_model.specs.declared.Model.TheVariants.{Rvwmo, Ztso}
@@ -109,7 +110,7 @@ pub record IsCheckMeant (rows : List Row) (check : Check) : Type 0 where
   pub model : IsModel rows check.model
   pub trace : IsText (codes "TRACE") rows check.trace.now
 
--- the settings are those of the subcommand of this name, whose arguments have these texts
+-- the settings are those of the subcommand of this name, whose arguments have these texts, whichever words an end is to show
 abbrev pub IsMeant : Text → List Row → Settings → Type 0
 IsMeant name rows (settings.Replay replay) = (name ≡ codes "replay") × IsReplayMeant rows replay
 IsMeant name rows (settings.Explain explain) = (name ≡ codes "explain") × IsExplainMeant rows explain
@@ -117,11 +118,32 @@ IsMeant name rows (settings.Chart chart) = (name ≡ codes "chart") × IsChartMe
 IsMeant name rows (settings.Run run) = (name ≡ codes "run") × IsRunMeant rows run
 IsMeant name rows (settings.Explore explore) = (name ≡ codes "explore") × IsExploreMeant rows explore
 IsMeant name rows (settings.Check check) = (name ≡ codes "check") × IsCheckMeant rows check
+IsMeant name rows (settings.Show show) = ⊥
+
+-- the words that an end is to show, in the order of their asking
+abbrev pub shown_in : List Row → List Text
+shown_in rows = unwrap_or (all_of (codes "show") rows) []
+
+-- the arguments of `explore` have these texts and numbers, and these words are to be shown, one at least
+pub record IsShowMeant (rows : List Row) (show : Show) : Type 0 where
+  pub explore : IsExploreMeant rows show.explore
+  pub words : map (λ (word : Bor Text). word.now) show.words.items ≡ shown_in rows
+  pub some : show.words.items ≢ []
+
+-- and the words that are to be shown are those that were given
+abbrev pub IsAsked : Text → List Row → Settings → Type 0
+IsAsked name rows (settings.Replay replay) = IsMeant name rows (settings.Replay replay)
+IsAsked name rows (settings.Explain explain) = IsMeant name rows (settings.Explain explain)
+IsAsked name rows (settings.Chart chart) = IsMeant name rows (settings.Chart chart)
+IsAsked name rows (settings.Run run) = IsMeant name rows (settings.Run run)
+IsAsked name rows (settings.Explore explore) = IsMeant name rows (settings.Explore explore) × (shown_in rows ≡ [])
+IsAsked name rows (settings.Show show) = (name ≡ codes "explore") × IsShowMeant rows show
+IsAsked name rows (settings.Check check) = IsMeant name rows (settings.Check check)
 
 -- the settings are what the words, the first of which is the program's name, say by the usage
 abbrev pub IsNamed : List Text → Settings → Type 0
 IsNamed words wanted = (app : App) × IsUsage app × (name : Text) × (rows : List Row)
-    × (subcommand_of app words ≡ Some (name, rows)) × IsMeant name rows wanted
+    × (subcommand_of app words ≡ Some (name, rows)) × IsAsked name rows wanted
 
 -- ---- what words without a fault have given
 
@@ -136,6 +158,7 @@ Has rows Argument.model = (meant : Model) × IsModel rows meant
 Has rows (Argument.number id default low high) = HasNumber id low high rows
 Has rows (Argument.required_option id) = (text : Text) × IsText id rows text
 Has rows (Argument.optional id) = Unit {0}
+Has rows (Argument.repeated id) = Unit {0}
 Has rows (Argument.file id) = (text : Text) × IsText id rows text
 
 abbrev pub HasAll : List Row → List Argument → Type 0

@@ -2,7 +2,7 @@
 use Rattle.std.specs.Prelude.{ℕ, ◌≡◌, ◌∷◌, ◌++◌, [], true, List, Some, codes, fold, map}
 use Rattle.std.specs.Borrow.{Bor}
 use Rattle.clap.specs.Words.{App, Rule, Text, new_app, new_rule, with_rule, with_subcommand}
-use Rattle.clap.specs.declared.builder.action.ArgAction.TheVariants.{SetTrue}
+use Rattle.clap.specs.declared.builder.action.ArgAction.TheVariants.{Append, SetTrue}
 use Rattle.clap.specs.declared.builder.value_parser.ValueParser.TheVariants.{Names, Unsigned}
 
 -- ---- arguments
@@ -18,6 +18,8 @@ pub data Argument : Type 0 where
   required_option : (id : Text) → Argument
   -- `--ID TEXT`, or nothing
   optional : (id : Text) → Argument
+  -- `--ID TEXT`, as often as one likes
+  repeated : (id : Text) → Argument
   -- a file that has to be named
   file : (id : Text) → Argument
 
@@ -56,6 +58,9 @@ required_rule id = record (new_rule id) { long = Some id; value_names = 1; requi
 abbrev pub optional_rule : Text → Rule
 optional_rule id = record (new_rule id) { long = Some id; value_names = 1 }
 
+abbrev pub repeated_rule : Text → Rule
+repeated_rule id = record (optional_rule id) { action = Some Append }
+
 abbrev pub file_rule : Text → Rule
 file_rule id = record (new_rule id) { required = true }
 
@@ -66,6 +71,7 @@ rule_for names model = model_rule names
 rule_for names (number id default low high) = number_rule id default low high
 rule_for names (required_option id) = required_rule id
 rule_for names (optional id) = optional_rule id
+rule_for names (repeated id) = repeated_rule id
 rule_for names (file id) = file_rule id
 
 abbrev pub with_argument : ModelNames → App → Argument → App
@@ -143,10 +149,10 @@ most_window = 64
 abbrev pub window_arguments : List Argument
 window_arguments = flag (codes "architecture") ∷ number (codes "window") (codes "16") least_window most_window ∷ []
 
--- `[--raw]`, those of a machine, of a search, of random runs and of a window, and `IMAGE`
+-- `[--raw]`, those of a machine, of a search, of random runs and of a window, `[--show ADDRESS|SYMBOL]..` and `IMAGE`
 abbrev pub explore_arguments : List Argument
 explore_arguments =
-    flag (codes "raw") ∷ machine_arguments ++ search_arguments ++ sample_arguments ++ window_arguments ++ file (codes "IMAGE") ∷ []
+    flag (codes "raw") ∷ machine_arguments ++ search_arguments ++ sample_arguments ++ window_arguments ++ repeated (codes "show") ∷ file (codes "IMAGE") ∷ []
 
 -- `[--messages] [--model NAME] TRACE`
 abbrev pub check_arguments : List Argument

@@ -2,11 +2,11 @@
 
 ghost use Rattle.std.specs.Prelude.{◌≡◌, IfOk, codes, false, true};
 ghost use Rattle.clap.specs.Words.{App, Rule, app_of, new_app, rule_of, with_rule, with_subcommand};
-ghost use Rattle.command_settings.specs.Usage.{AreModelNames, ModelNames, IsUsage, app_for, chart, check, explain, explore, file_rule, flag_rule, least_limit, least_window, machine_arguments, model_rule, most_limit, most_size, most_window, named_rule, number_rule, optional_rule, replay, replay_arguments, required_rule, run, sample_arguments, search_arguments, window_arguments, with_arguments};
+ghost use Rattle.command_settings.specs.Usage.{AreModelNames, ModelNames, IsUsage, app_for, chart, check, explain, explore, file_rule, flag_rule, least_limit, least_window, machine_arguments, model_rule, most_limit, most_size, most_window, named_rule, number_rule, optional_rule, repeated_rule, replay, replay_arguments, required_rule, run, sample_arguments, search_arguments, window_arguments, with_arguments};
 
 use crate::help::{
     ALLOW_HELP, CHART_HELP, CHECK_HELP, EXPLAIN_HELP, EXPLORE_HELP, LINE_HELP, PROGRAM_HELP,
-    REPLAY_HELP, RUN_HELP, SCRIPTS_HELP,
+    REPLAY_HELP, RUN_HELP, SCRIPTS_HELP, SHOW_HELP,
 };
 use clap::builder::ValueParser;
 use clap::{Arg, ArgAction, Command};
@@ -127,7 +127,8 @@ fn explore_command<'a>(alloc: Global, models: &'a [&'a str]) -> Result<Command<'
     let command = with_machine(alloc, models, command);
     let command = with_search(alloc, command);
     let command = with_sample(alloc, command);
-    add_arg(with_window(alloc, command), image(alloc))
+    let command = add_arg(with_window(alloc, command), show(alloc));
+    add_arg(command, image(alloc))
 }
 
 fn check_command<'a>(alloc: Global, models: &'a [&'a str]) -> Result<Command<'a>, AllocError>
@@ -363,6 +364,13 @@ fn allow<'a>(alloc: Global) -> Arg<'a>
     optional(alloc, "allow", "FILE", ALLOW_HELP)
 }
 
+fn show<'a>(alloc: Global) -> Arg<'a>
+    ensures rule { rule_of result ≡ repeated_rule (codes "show") }
+    ensures local { result.global ≡ false }
+{
+    repeated(alloc, "show", "ADDRESS|SYMBOL", SHOW_HELP)
+}
+
 fn drawn_line<'a>(alloc: Global) -> Arg<'a>
     ensures rule { rule_of result ≡ optional_rule (codes "line") }
     ensures local { result.global ≡ false }
@@ -512,6 +520,13 @@ fn optional<'a>(alloc: Global, id: &'a str, unit: &'a str, help: &'a str) -> Arg
     ensures local { result.global ≡ false }
 {
     named(alloc, id, help).value_name(unit)
+}
+
+fn repeated<'a>(alloc: Global, id: &'a str, unit: &'a str, help: &'a str) -> Arg<'a>
+    ensures rule { rule_of result ≡ repeated_rule id.entry.now }
+    ensures local { result.global ≡ false }
+{
+    optional(alloc, id, unit, help).action(ArgAction::Append)
 }
 
 fn file<'a>(alloc: Global, id: &'a str, help: &'a str) -> Arg<'a>

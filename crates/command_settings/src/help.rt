@@ -96,6 +96,9 @@ out. The order of the lines is fixed. The last line is one of
   incomplete: LIMIT states met        the outcomes are some of those that there are
   incomplete: out of memory           so are they here, and the status is 4
 Before it, stuck: N states from which no schedule ends, where there are any.
+With --show, the final word at an address or symbol stands behind the harts, and an end is one at which
+no store waits:
+  1  hart 0: exit 0   hart 1: exit 0   counter = 0x00000002
 The machine carries loads out as they retire, so that what a missing fence between two loads allows is
 not among the outcomes. With --architecture it is: behind each outcome stands whether this machine shows
 it, or the memory model alone allows it, and the last line is
@@ -104,6 +107,9 @@ or incomplete: and the limit that was met. With --sample, random runs are made a
 the last line is sampled: RUNS runs, not complete.
 
 Example: rvtl explore --harts 2 examples/dekker.elf";
+
+pub(crate) const SHOW_HELP: &str =
+    "show the word of memory at this address (decimal, or hexadecimal behind 0x) or symbol in each outcome, which then ends only once no store waits; may be given again";
 
 pub(crate) const SCRIPTS_HELP: &str =
     "the folder to write outcome-1.script .. and stuck.script into, each for replay; and outcome-1.trace .., each for check, of outcomes that this machine can't show";

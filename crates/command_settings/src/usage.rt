@@ -3,17 +3,17 @@
 ghost use Rattle.std.specs.Prelude.{ℕ, ◌≡◌, ◌≢◌, ◌<◌, ◌^◌, IfErr, IfOk, IfSome, IsNone, List, OnOk, Some, map};
 ghost use Rattle.clap.specs.Words.{Row, Text, app_of, found_of, rows_of, subcommand_rows_of};
 ghost use Rattle.command_settings.specs.Refusals.{IsFitting, IsRefused};
-ghost use Rattle.command_settings.specs.Settings.{HasAll, HasNumber, IsChartMeant, IsCheckMeant, IsComplete, IsExplainMeant, IsExploreMeant, IsMachineMeant, IsMeant, IsNamed, IsNumberIn, IsReplayMeant, IsRunMeant, name_of};
+ghost use Rattle.command_settings.specs.Settings.{HasAll, HasNumber, IsChartMeant, IsCheckMeant, IsComplete, IsExplainMeant, IsExploreMeant, IsMachineMeant, IsMeant, IsNamed, IsNumberIn, IsReplayMeant, IsRunMeant, IsAsked, name_of, shown_in};
 ghost use Rattle.command_settings.specs.Usage.{IsUsage, chart_arguments, check_arguments, explain_arguments, explore_arguments, machine_arguments, replay_arguments, run_arguments};
 
 use crate::commands::command;
 use crate::wanted::{
-    Chart, Check, Explain, Explore, MachineOptions, Replay, Run, Settings, SettingsError,
+    Chart, Check, Explain, Explore, MachineOptions, Replay, Run, Settings, SettingsError, Show,
 };
 use clap::error::ErrorKind;
 use clap::{ArgMatches, Command};
 use memory_model::Model;
-use std::alloc::Global;
+use std::alloc::{AllocError, Global};
 use std::convert::AsStr;
 
 /// What the words ask for, of which the first is the program's name.
@@ -23,11 +23,12 @@ pub fn settings<'a, S: AsStr>(alloc: Global, words: &'a [S]) -> Result<Settings<
     ensures refused { IfErr result (IsRefused (map S.text words.entry.now)) }
 {
     let mut command = command(alloc)?;
-    settings_by(&mut command, words)
+    settings_by(alloc, &mut command, words)
 }
 
 // What the words ask for by a command, which is the usage.
 fn settings_by<'a, S: AsStr>(
+    alloc: Global,
     command: &mut Command<'a>,
     words: &'a [S],
 ) -> Result<Settings<'a>, SettingsError>
@@ -37,7 +38,7 @@ fn settings_by<'a, S: AsStr>(
 {
     let matches = command.try_get_matches_from_mut(words)?;
     match settings_of(&matches) {
-        Some(settings) => Ok(settings),
+        Some(settings) => Ok(with_shown(alloc, &matches, settings)?),
         // The usage asks for a subcommand and its files, so that the parse has refused such words.
         None => {
             let missing = command.error(
@@ -47,6 +48,39 @@ fn settings_by<'a, S: AsStr>(
             Err(SettingsError::Usage(missing))
         }
     }
+}
+
+/// The settings with the words of memory that are to be shown, if any are.
+fn with_shown<'a>(
+    alloc: Global,
+    matches: &ArgMatches<'a>,
+    settings: Settings<'a>,
+) -> Result<Settings<'a>, AllocError>
+    ensures { (name : Text) → (rows : List Row) → subcommand_rows_of matches.now ≡ Some (name, rows) → IsMeant name rows settings.entry → IfOk result (IsAsked name rows) }
+{
+    let Settings::Explore(explore) = settings else {
+        return Ok(settings);
+    };
+    let words = shown_in(alloc, matches)?;
+    if words.as_slice().is_empty() {
+        return Ok(Settings::Explore(explore));
+    }
+    Ok(Settings::Show(Show { explore, words }))
+}
+
+/// The words of memory that are to be shown.
+fn shown_in<'a>(alloc: Global, matches: &ArgMatches<'a>) -> Result<Vec<&'a str>, AllocError>
+    ensures { (name : Text) → (rows : List Row) → subcommand_rows_of matches.now ≡ Some (name, rows)
+        → IfOk result (λ words. map (λ word. word.now) words.items ≡ shown_in rows) }
+{
+    let mut words = Vec::new(alloc);
+    let Some((_, explore)) = matches.subcommand() else {
+        return Ok(words);
+    };
+    if let Some(given) = explore.get_strs("show") {
+        words.extend_from_slice(given)?;
+    }
+    Ok(words)
 }
 
 fn settings_of<'a>(matches: &ArgMatches<'a>) -> Option<Settings<'a>>

@@ -84,6 +84,14 @@ pub struct Explore<'a> {
     pub image: &'a str,
 }
 
+/// Explore until no store waits, and show words of memory at the ends.
+#[derive(Debug, Drop)]
+pub struct Show<'a> {
+    pub explore: Explore<'a>,
+    /// The words, one at least, in the order of their asking: each an address or a symbol, as it was given.
+    pub words: Vec<&'a str>,
+}
+
 /// Judge the order of the trace in the file `trace`, or its messages.
 #[derive(Clone, Copy, Debug, PartialEq, Eq)]
 pub struct Check<'a> {
@@ -95,13 +103,14 @@ pub struct Check<'a> {
 }
 
 /// What the program is to do.
-#[derive(Clone, Copy, Debug, PartialEq, Eq)]
+#[derive(Debug, Drop)]
 pub enum Settings<'a> {
     Replay(Replay<'a>),
     Run(Run<'a>),
     Explain(Explain<'a>),
     Chart(Chart<'a>),
     Explore(Explore<'a>),
+    Show(Show<'a>),
     Check(Check<'a>),
 }
 

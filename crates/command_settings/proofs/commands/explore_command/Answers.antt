@@ -7,4 +7,5 @@ returns c =
     let search_is = c.with_search-command.ensures _ c.args.models machine_is in
     let sample_is = c.with_sample-command.ensures _ c.args.models search_is in
     let window_is = c.with_window.ensures _ c.args.models sample_is in
-    c.add_arg.ensures _ _ window_is c.image.ensures.rule c.image.ensures.local
+    let show_is = c.add_arg-command-2.ensures _ _ window_is c.show.ensures.rule c.show.ensures.local in
+    c.add_arg.ensures _ _ show_is c.image.ensures.rule c.image.ensures.local

@@ -34,7 +34,7 @@ pub returns-in_err-number_of-clause-missing : goal.returns-in_err-number_of-clau
 returns-in_err-number_of-clause-missing c = λ none whole. c.in_err-number_of.ensures.missing refl least_limit most_limit small_limit (has_rest (rows_of (found_of c.args.matches.now)) machine_arguments (drop 7 explore_arguments) whole.1).0
 
 pub returns-in_err-get_str-clause-missing : goal.returns-in_err-get_str-clause-missing
-returns-in_err-get_str-clause-missing c = λ none whole. none_some _ _ (c.in_err-get_str.ensures ∙ first_value-rows (found_of c.args.matches.now) (codes "IMAGE")) (has_rest (rows_of (found_of c.args.matches.now)) machine_arguments (drop 7 explore_arguments) whole.1).1.1.1.1.1.1.1.0.1
+returns-in_err-get_str-clause-missing c = λ none whole. none_some _ _ (c.in_err-get_str.ensures ∙ first_value-rows (found_of c.args.matches.now) (codes "IMAGE")) (has_rest (rows_of (found_of c.args.matches.now)) machine_arguments (drop 7 explore_arguments) whole.1).1.1.1.1.1.1.1.1.0.1
 
 pub returns-in_err-number_of-2-clause-missing : goal.returns-in_err-number_of-2-clause-missing
 returns-in_err-number_of-2-clause-missing c = λ none whole.

@@ -34,7 +34,7 @@ returns-in-Some-clause-named g c = λ is_usage.
     let read = (c.in_ok-matches.ensures.ok.2 (simple app is_usage)).1 in
     let meant = c.in-Some.ensures.meant in
     let whole = fitting app _ is_usage (c.in_ok-matches.ensures.kinds (free _ is_usage)) in
-    (app, is_usage, meant.0, meant.1, sym read ∙ meant.2, meant.3 (same_complete _ _ _ _ _ whole.2 (sym read ∙ meant.2) whole.3))
+    (app, is_usage, meant.0, meant.1, sym read ∙ meant.2, c.in_ok-with_shown-in-Some.ensures meant.0 meant.1 meant.2 (meant.3 (same_complete _ _ _ _ _ whole.2 (sym read ∙ meant.2) whole.3)))
 
 pub returns-in-Some-clause-fitting : goal.returns-in-Some-clause-fitting
 returns-in-Some-clause-fitting g c = λ is_usage. (app_of c.args.command.now, is_usage, c.in_ok-matches.ensures.kinds (free _ is_usage))
