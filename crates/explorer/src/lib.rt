@@ -10,7 +10,9 @@ mod scripts;
 mod stuck;
 
 pub use exploration::{Exploration, Stuck};
-pub use exploring::explore;
+pub use exploring::{States, explore};
 pub use found::{Found, Script};
 pub use laws::{each_end_is_seen, ends_are_real, stuck_is_seen};
 pub use ranks::compare;
+pub use scripts::Program;
+pub use stuck::{key_at, nodes_of};
