@@ -1,2 +1,3 @@
 pub mod Sampling
 pub mod Text
+pub mod Words

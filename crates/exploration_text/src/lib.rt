@@ -3,6 +3,8 @@
 
 mod sampling;
 mod spelling;
+mod wording;
 
 pub use sampling::sampled_text;
 pub use spelling::{harts_text, text_of};
+pub use wording::{WordName, end_text, words_text_of};

@@ -118,7 +118,7 @@ fn spell_outcomes(into: &mut Vec<u8>, outcomes: &[Found]) -> Result<(), AllocErr
     Ok(())
 }
 
-fn spell_stuck(into: &mut Vec<u8>, stuck: &Option<Stuck>) -> Result<(), AllocError>
+pub(crate) fn spell_stuck(into: &mut Vec<u8>, stuck: &Option<Stuck>) -> Result<(), AllocError>
     ensures { OnOk result (into.new.items ≡ into.old.items ++ text.stuck_line stuck.now) }
 {
     if let Some(stuck) = stuck {
@@ -129,7 +129,7 @@ fn spell_stuck(into: &mut Vec<u8>, stuck: &Option<Stuck>) -> Result<(), AllocErr
     Ok(())
 }
 
-fn spell_extent(
+pub(crate) fn spell_extent(
     into: &mut Vec<u8>,
     extent: Extent,
     outcomes: usize,
