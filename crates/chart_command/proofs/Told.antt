@@ -8,7 +8,7 @@ use Rattle.command_files.specs.Files.{HoldsScript}
 use Rattle.command_files.specs.Held.{Held}
 use Rattle.command_files.specs.Status.{status_of}
 use Rattle.command_files.specs.declared.fault.Fault.{Fault}
-use Rattle.command_files.specs.declared.fault.Fault.TheVariants.{BadAddress, BadEvent, BytesAfterTrace, CannotMake, CannotRead, CannotWrite, Check, Configuration, Event, Image, Mismatch, NoThread, NothingHappens, OutOfMemory, Text, TooManyRows}
+use Rattle.command_files.specs.declared.fault.Fault.TheVariants.{BadAddress, BadEvent, BytesAfterTrace, CannotMake, CannotRead, CannotShow, CannotWrite, Check, Configuration, Event, Image, Mismatch, NoThread, NothingHappens, OutOfMemory, Text, TooManyRows}
 use Rattle.command_settings.specs.declared.wanted.Replay.{Replay}
 use Rattle.run_chart.specs.declared.errors.ChartError.{ChartError}
 use Rattle.run_chart.specs.declared.errors.ChartError.TheVariants as chart
@@ -30,6 +30,7 @@ of_chart_script held replay line (BytesAfterTrace file) is = absurd is
 of_chart_script held replay line (Check file error) is = absurd is
 of_chart_script held replay line (TooManyRows file) is = absurd is
 of_chart_script held replay line (BadAddress word) is = absurd is
+of_chart_script held replay line (CannotShow word cause) is = absurd is
 of_chart_script held replay line NoThread is = absurd is
 of_chart_script held replay line Mismatch is = absurd is
 of_chart_script held replay line BadEvent is = absurd is
@@ -49,6 +50,7 @@ of_chart_image held replay line script (BytesAfterTrace file) has is = absurd is
 of_chart_image held replay line script (Check file error) has is = absurd is
 of_chart_image held replay line script (TooManyRows file) has is = absurd is
 of_chart_image held replay line script (BadAddress word) has is = absurd is
+of_chart_image held replay line script (CannotShow word cause) has is = absurd is
 of_chart_image held replay line script NoThread has is = absurd is
 of_chart_image held replay line script Mismatch has is = absurd is
 of_chart_image held replay line script BadEvent has is = absurd is
@@ -74,6 +76,7 @@ chart_misused held replay line (BytesAfterTrace file) so two = absurd (one_not_t
 chart_misused held replay line (Check file error) so two = absurd (one_not_two two)
 chart_misused held replay line (TooManyRows file) so two = absurd (one_not_two two)
 chart_misused held replay line (BadAddress word) so two = subst (λ (l : Option Name). IsNoAddress l (BadAddress word)) (sym so.0) (so.1, refl)
+chart_misused held replay line (CannotShow word cause) so two = absurd so
 chart_misused held replay line NoThread so two = absurd (one_not_two two)
 chart_misused held replay line Mismatch so two = absurd (one_not_two two)
 chart_misused held replay line BadEvent so two = absurd (one_not_two two)

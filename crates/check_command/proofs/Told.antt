@@ -14,7 +14,7 @@ use Rattle.trace_recorder.specs.History.{History}
 use Rattle.trace_text.specs.TraceLimits.{IsTrace}
 use Rattle.trace_text.specs.Traces.{text}
 use Rattle.command_files.specs.declared.fault.Fault.{Fault}
-use Rattle.command_files.specs.declared.fault.Fault.TheVariants.{BadAddress, BadEvent, BytesAfterTrace, CannotMake, CannotRead, CannotWrite, Check, Configuration, Event, Image, Mismatch, NoThread, NothingHappens, OutOfMemory, Text, TooManyRows}
+use Rattle.command_files.specs.declared.fault.Fault.TheVariants.{BadAddress, BadEvent, BytesAfterTrace, CannotMake, CannotRead, CannotShow, CannotWrite, Check, Configuration, Event, Image, Mismatch, NoThread, NothingHappens, OutOfMemory, Text, TooManyRows}
 
 pub of_trace : (held : Held) (name : Name) (fault : Fault) → IsTextFault held name fault → IsCheckFault held name fault
 of_trace held name (CannotRead file) is = is
@@ -29,6 +29,7 @@ of_trace held name (NothingHappens file line outcome) is = absurd is
 of_trace held name (Check file error) is = absurd is
 of_trace held name (TooManyRows file) is = absurd is
 of_trace held name (BadAddress word) is = absurd is
+of_trace held name (CannotShow word cause) is = absurd is
 of_trace held name NoThread is = absurd is
 of_trace held name Mismatch is = absurd is
 of_trace held name BadEvent is = absurd is
@@ -47,6 +48,7 @@ of_log held name (NothingHappens file line outcome) is = absurd is
 of_log held name (Check file error) is = absurd is
 of_log held name (TooManyRows file) is = absurd is
 of_log held name (BadAddress word) is = absurd is
+of_log held name (CannotShow word cause) is = absurd is
 of_log held name NoThread is = absurd is
 of_log held name Mismatch is = absurd is
 of_log held name BadEvent is = absurd is

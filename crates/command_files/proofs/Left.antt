@@ -4,7 +4,8 @@ use Rattle.command_files.specs.Held.{Held}
 use Rattle.command_files.specs.Status.{status_of}
 use Rattle.command_files.specs.Faults.{IsImageFault, IsReadFault, IsScriptFault, Leaves, Name}
 use Rattle.command_files.specs.declared.fault.Fault.{Fault}
-use Rattle.command_files.specs.declared.fault.Fault.TheVariants.{BadAddress, BadEvent, BytesAfterTrace, CannotMake, CannotRead, CannotWrite, Check, Configuration, Event, Image, Mismatch, NoThread, NothingHappens, OutOfMemory, Text, TooManyRows}
+use Rattle.command_files.specs.declared.fault.Unshown.{Unshown}
+use Rattle.command_files.specs.declared.fault.Fault.TheVariants.{BadAddress, BadEvent, BytesAfterTrace, CannotMake, CannotRead, CannotShow, CannotWrite, Check, Configuration, Event, Image, Mismatch, NoThread, NothingHappens, OutOfMemory, Text, TooManyRows}
 
 module _ (old new : Option (List ℕ)) (broken : Type 0) where
   -- any fault but the output's leaves it as it was
@@ -21,6 +22,7 @@ module _ (old new : Option (List ℕ)) (broken : Type 0) where
   left (Check file error) other same = same
   left (TooManyRows file) other same = same
   left (BadAddress word) other same = same
+  left (CannotShow word cause) other same = same
   left NoThread other same = same
   left Mismatch other same = same
   left BadEvent other same = same
@@ -45,6 +47,7 @@ module _ (old new : Option (List ℕ)) (broken : Type 0) where
   either (Check file error) so = inl so
   either (TooManyRows file) so = inl so
   either (BadAddress word) so = inl so
+  either (CannotShow word cause) so = inl so
   either NoThread so = inl so
   either Mismatch so = inl so
   either BadEvent so = inl so
@@ -68,20 +71,21 @@ image_as_before now held is_raw name kib fault same is = subst (λ (files : Held
 pub read_is_not_write : (name : Name) (fault : Fault) → IsReadFault name fault → fault ≡ CannotWrite → ⊥
 read_is_not_write name fault is at = subst (IsReadFault name) at is
 
-pub only_configuration : (fault : Fault) → ((word : Name) → fault ≡ BadAddress word → ⊥) → status_of fault ≡ 2 → fault ≡ Configuration
-only_configuration CannotWrite named two = cc
-only_configuration OutOfMemory named two = cc
-only_configuration (CannotRead file) named two = cc
-only_configuration (CannotMake file) named two = cc
-only_configuration (Image file error) named two = cc
-only_configuration (Text file error) named two = cc
-only_configuration (Event file line error) named two = cc
-only_configuration (BytesAfterTrace file) named two = cc
-only_configuration (NothingHappens file line outcome) named two = cc
-only_configuration (Check file error) named two = cc
-only_configuration (TooManyRows file) named two = cc
-only_configuration (BadAddress word) named two = absurd (named word refl)
-only_configuration NoThread named two = cc
-only_configuration Mismatch named two = cc
-only_configuration BadEvent named two = cc
-only_configuration Configuration named two = refl
+pub only_configuration : (fault : Fault) → ((word : Name) → fault ≡ BadAddress word → ⊥) → ((word : Name) (cause : Unshown) → fault ≡ CannotShow word cause → ⊥) → status_of fault ≡ 2 → fault ≡ Configuration
+only_configuration CannotWrite named shown two = cc
+only_configuration OutOfMemory named shown two = cc
+only_configuration (CannotRead file) named shown two = cc
+only_configuration (CannotMake file) named shown two = cc
+only_configuration (Image file error) named shown two = cc
+only_configuration (Text file error) named shown two = cc
+only_configuration (Event file line error) named shown two = cc
+only_configuration (BytesAfterTrace file) named shown two = cc
+only_configuration (NothingHappens file line outcome) named shown two = cc
+only_configuration (Check file error) named shown two = cc
+only_configuration (TooManyRows file) named shown two = cc
+only_configuration (BadAddress word) named shown two = absurd (named word refl)
+only_configuration (CannotShow word cause) named shown two = absurd (shown word cause refl)
+only_configuration NoThread named shown two = cc
+only_configuration Mismatch named shown two = cc
+only_configuration BadEvent named shown two = cc
+only_configuration Configuration named shown two = refl

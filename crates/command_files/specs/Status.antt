@@ -3,7 +3,9 @@ use Rattle.std.specs.Prelude.{◌≡◌, ◌⊎◌, ◌+◌, ◌-◌, ◌^◌, �
 use Rattle.std.specs.Borrow.{Bor}
 use Rattle.command_files.specs.declared.fault.Fault.{Fault}
 use Rattle.command_files.specs.declared.fault.Fault.TheVariants as fault
-use Rattle.command_files.specs.declared.fault.Fault.TheVariants.{BadAddress, BytesAfterTrace, CannotMake, CannotRead, CannotWrite, Check, Configuration, Event, Image, NoThread, NothingHappens, OutOfMemory, Text, TooManyRows}
+use Rattle.command_files.specs.declared.fault.Fault.TheVariants.{BadAddress, BytesAfterTrace, CannotMake, CannotRead, CannotShow, CannotWrite, Check, Configuration, Event, Image, NoThread, NothingHappens, OutOfMemory, Text, TooManyRows}
+use Rattle.command_files.specs.declared.fault.Unshown.{Unshown}
+use Rattle.command_files.specs.declared.fault.Unshown.TheVariants.{Elsewhere, NoSymbol, NoWord}
 use Rattle.coherent_machine.specs.declared.errors.NewError.TheVariants as making
 use Rattle.coherent_machine.specs.declared.errors.ReplayError.{ReplayError}
 use Rattle.coherent_machine.specs.declared.errors.ReplayError.TheVariants as replay
@@ -11,7 +13,13 @@ use Rattle.machine_parts.specs.declared.errors.ApplyError.TheVariants as applyin
 use Rattle.event_stream.specs.declared.errors.StreamError.{StreamError}
 use Rattle.event_stream.specs.declared.errors.StreamError.TheVariants as stream
 
--- 1 for files, streams, threads and what files hold, 2 for a configuration that no machine has and for a word that is no address, 4 for want of memory
+-- 1 for what an image hasn't, 2 for settings under which nothing is shown
+abbrev pub status_unshown : Unshown → ℕ
+status_unshown Elsewhere = 2
+status_unshown NoSymbol = 1
+status_unshown NoWord = 1
+
+-- 1 for files, streams, threads and what files hold, 2 for a configuration that no machine has, for a word that is no address and for words of memory that are to be shown where none can, 4 for want of memory
 abbrev pub status_of : Fault → ℕ
 status_of (CannotRead file) = 1
 status_of (CannotMake file) = 1
@@ -26,6 +34,7 @@ status_of (TooManyRows file) = 1
 status_of NoThread = 1
 status_of fault.Mismatch = 1
 status_of fault.BadEvent = 1
+status_of (CannotShow word cause) = status_unshown cause
 status_of (BadAddress word) = 2
 status_of Configuration = 2
 status_of OutOfMemory = 4

@@ -14,6 +14,20 @@ use std::io::{self, ErrorKind};
 use thiserror::Error;
 use trace_text::{TextCode, TextError};
 
+/// Why a word of memory can't be shown.
+#[derive(Clone, Copy, Debug, PartialEq, Eq, Error)]
+pub enum Unshown {
+    /// Random runs, or a search under the memory model, show none.
+    #[error("not with --sample or --architecture: leave out one of them")]
+    Elsewhere,
+    /// It is no number below 2^32, and the image has no such symbol.
+    #[error("no such symbol in IMAGE: name another (nm lists them) or give an address")]
+    NoSymbol,
+    /// No aligned word of memory lies at its address.
+    #[error("no aligned word of memory: choose a multiple of 4 from 0x80000000 to the end of --memory")]
+    NoWord,
+}
+
 /// What went wrong, with the file in which it did. Its text is the program's message, of one line: what
 /// would end a line or steer a terminal is escaped in a file's name.
 #[derive(Debug, Drop, Error)]
@@ -69,6 +83,12 @@ pub enum Fault<'a> {
     BadAddress {
         word: &'a str,
     },
+    /// What was given as a word of memory to show can't be shown.
+    #[error("rvtl: --show {}: {cause}", .word.escape_debug())]
+    CannotShow {
+        word: &'a str,
+        cause: Unshown,
+    },
     #[error("rvtl: cannot start a thread")]
     NoThread,
     /// The machine that the threads gave back is of another image or configuration.
@@ -86,7 +106,8 @@ pub enum Fault<'a> {
 
 impl Fault<'_> {
     /// The program's exit status: 1 for files, streams, threads and what files hold, 2 for a
-    /// configuration that no machine has and for a word that is no address, 4 for want of memory.
+    /// configuration that no machine has, for a word that is no address and for words of memory that are to be
+    /// shown where none can, 4 for want of memory.
     pub fn status(&self) -> u8
         ensures { result ≡ status_of self.now }
     {
@@ -104,6 +125,10 @@ impl Fault<'_> {
             | Fault::NoThread
             | Fault::Mismatch
             | Fault::BadEvent => 1,
+            Fault::CannotShow { cause, .. } => match cause {
+                Unshown::NoSymbol | Unshown::NoWord => 1,
+                Unshown::Elsewhere => 2,
+            },
             Fault::BadAddress { .. } => 2,
             Fault::Configuration => 2,
             Fault::OutOfMemory => 4,

@@ -12,7 +12,7 @@ mod remarked;
 mod system;
 
 pub use ends::print_ends;
-pub use fault::Fault;
+pub use fault::{Fault, Unshown};
 pub use files::Files;
 pub use input::{Source, WithInput};
 pub use machines::{config_of, named_config};

@@ -7,7 +7,7 @@ use Rattle.command_files.specs.Faults.{IsImageFault, IsScriptFault}
 use Rattle.command_files.specs.Files.{HoldsScript}
 use Rattle.explain_command.specs.Explaining.{IsExplainFault}
 use Rattle.command_files.specs.declared.fault.Fault.{Fault}
-use Rattle.command_files.specs.declared.fault.Fault.TheVariants.{BadAddress, BadEvent, BytesAfterTrace, CannotMake, CannotRead, CannotWrite, Check, Configuration, Event, Image, Mismatch, NoThread, NothingHappens, OutOfMemory, Text, TooManyRows}
+use Rattle.command_files.specs.declared.fault.Fault.TheVariants.{BadAddress, BadEvent, BytesAfterTrace, CannotMake, CannotRead, CannotShow, CannotWrite, Check, Configuration, Event, Image, Mismatch, NoThread, NothingHappens, OutOfMemory, Text, TooManyRows}
 use Rattle.command_settings.specs.declared.wanted.Replay.{Replay}
 use Rattle.trace_text.specs.declared.script.Script.{Script}
 
@@ -24,6 +24,7 @@ of_explained_script held replay strictness old new (BytesAfterTrace file) is = a
 of_explained_script held replay strictness old new (Check file error) is = absurd is
 of_explained_script held replay strictness old new (TooManyRows file) is = absurd is
 of_explained_script held replay strictness old new (BadAddress word) is = absurd is
+of_explained_script held replay strictness old new (CannotShow word cause) is = absurd is
 of_explained_script held replay strictness old new NoThread is = absurd is
 of_explained_script held replay strictness old new Mismatch is = absurd is
 of_explained_script held replay strictness old new BadEvent is = absurd is
@@ -43,6 +44,7 @@ of_explained_image held replay strictness old new script (BytesAfterTrace file) 
 of_explained_image held replay strictness old new script (Check file error) has is = absurd is
 of_explained_image held replay strictness old new script (TooManyRows file) has is = absurd is
 of_explained_image held replay strictness old new script (BadAddress word) has is = absurd is
+of_explained_image held replay strictness old new script (CannotShow word cause) has is = absurd is
 of_explained_image held replay strictness old new script NoThread has is = absurd is
 of_explained_image held replay strictness old new script Mismatch has is = absurd is
 of_explained_image held replay strictness old new script BadEvent has is = absurd is
@@ -61,6 +63,7 @@ explain_never_misused held replay strictness old new (BytesAfterTrace file) so t
 explain_never_misused held replay strictness old new (Check file error) so two = cc
 explain_never_misused held replay strictness old new (TooManyRows file) so two = cc
 explain_never_misused held replay strictness old new (BadAddress word) so two = so
+explain_never_misused held replay strictness old new (CannotShow word cause) so two = so
 explain_never_misused held replay strictness old new NoThread so two = cc
 explain_never_misused held replay strictness old new Mismatch so two = cc
 explain_never_misused held replay strictness old new BadEvent so two = cc

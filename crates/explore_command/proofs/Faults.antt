@@ -3,7 +3,7 @@ use Rattle.std.proofs.Common.{◌≡◌, ◌∙◌, ◌⊎◌, ℕ, List, None, 
 use Rattle.command_files.specs.Faults.{IsImageFault, IsReadFault, Name}
 use Rattle.command_files.specs.Held.{Held}
 use Rattle.command_files.specs.declared.fault.Fault.{Fault}
-use Rattle.command_files.specs.declared.fault.Fault.TheVariants.{BadAddress, BadEvent, BytesAfterTrace, CannotMake, CannotRead, CannotWrite, Check, Configuration, Event, Image, Mismatch, NoThread, NothingHappens, OutOfMemory, Text, TooManyRows}
+use Rattle.command_files.specs.declared.fault.Fault.TheVariants.{BadAddress, BadEvent, BytesAfterTrace, CannotMake, CannotRead, CannotShow, CannotWrite, Check, Configuration, Event, Image, Mismatch, NoThread, NothingHappens, OutOfMemory, Text, TooManyRows}
 use Rattle.command_settings.specs.declared.wanted.Explore.{Explore}
 use Rattle.explore_command.specs.Exploring.{ComesAfter, HasAllowFile, IsExploreFault, IsFolderFault, IsNamedBy, LeavesPart}
 
@@ -43,7 +43,9 @@ first_told held explore (Check file error) (inr so) = absurd so
 first_told held explore (TooManyRows file) (inl so) = absurd (no_other explore.allow (TooManyRows file) (λ name is. is) so)
 first_told held explore (TooManyRows file) (inr so) = absurd so
 first_told held explore (BadAddress word) (inl so) = absurd (no_other explore.allow (BadAddress word) (λ name is. is) so)
+first_told held explore (CannotShow word cause) (inl so) = absurd (no_other explore.allow (CannotShow word cause) (λ name is. is) so)
 first_told held explore (BadAddress word) (inr so) = absurd so
+first_told held explore (CannotShow word cause) (inr so) = absurd so
 first_told held explore NoThread (inl so) = absurd (no_other explore.allow NoThread (λ name is. is) so)
 first_told held explore NoThread (inr so) = absurd so
 first_told held explore Mismatch (inl so) = absurd (no_other explore.allow Mismatch (λ name is. is) so)
@@ -68,6 +70,7 @@ first_left held explore (BytesAfterTrace file) old new part so same = same
 first_left held explore (Check file error) old new part so same = same
 first_left held explore (TooManyRows file) old new part so same = same
 first_left held explore (BadAddress word) old new part so same = same
+first_left held explore (CannotShow word cause) old new part so same = same
 first_left held explore NoThread old new part so same = same
 first_left held explore Mismatch old new part so same = same
 first_left held explore BadEvent old new part so same = same
@@ -122,6 +125,7 @@ module _ (held : Held) (explore : Explore) (printed : Type 0) where
   allow_first (Check file error) so = tt
   allow_first (TooManyRows file) so = tt
   allow_first (BadAddress word) so = tt
+  allow_first (CannotShow word cause) so = tt
   allow_first NoThread so = tt
   allow_first Mismatch so = tt
   allow_first BadEvent so = tt
@@ -140,6 +144,7 @@ module _ (held : Held) (explore : Explore) (printed : Type 0) where
   image_next (Check file error) read so = tt
   image_next (TooManyRows file) read so = tt
   image_next (BadAddress word) read so = tt
+  image_next (CannotShow word cause) read so = tt
   image_next NoThread read so = tt
   image_next Mismatch read so = tt
   image_next BadEvent read so = tt
@@ -174,6 +179,7 @@ some_part old new part (BytesAfterTrace file) so = inl so
 some_part old new part (Check file error) so = inl so
 some_part old new part (TooManyRows file) so = inl so
 some_part old new part (BadAddress word) so = inl so
+some_part old new part (CannotShow word cause) so = inl so
 some_part old new part NoThread so = inl so
 some_part old new part Mismatch so = inl so
 some_part old new part BadEvent so = inl so

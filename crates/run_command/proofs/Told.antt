@@ -3,7 +3,7 @@ use Rattle.command_files.specs.Held.{Held}
 use Rattle.command_files.specs.Faults.{IsImageFault}
 use Rattle.run_command.specs.Running.{IsRunFault}
 use Rattle.command_files.specs.declared.fault.Fault.{Fault}
-use Rattle.command_files.specs.declared.fault.Fault.TheVariants.{BadAddress, BadEvent, BytesAfterTrace, CannotMake, CannotRead, CannotWrite, Check, Configuration, Event, Image, Mismatch, NoThread, NothingHappens, OutOfMemory, Text, TooManyRows}
+use Rattle.command_files.specs.declared.fault.Fault.TheVariants.{BadAddress, BadEvent, BytesAfterTrace, CannotMake, CannotRead, CannotShow, CannotWrite, Check, Configuration, Event, Image, Mismatch, NoThread, NothingHappens, OutOfMemory, Text, TooManyRows}
 use Rattle.command_settings.specs.declared.wanted.Run.{Run}
 
 pub of_run_image : (held : Held) (run : Run) (fault : Fault) → IsImageFault held run.raw run.image run.machine.memory fault → IsRunFault held run fault
@@ -19,6 +19,7 @@ of_run_image held run (NothingHappens file line outcome) is = absurd is
 of_run_image held run (Check file error) is = absurd is
 of_run_image held run (TooManyRows file) is = absurd is
 of_run_image held run (BadAddress word) is = absurd is
+of_run_image held run (CannotShow word cause) is = absurd is
 of_run_image held run NoThread is = absurd is
 of_run_image held run Mismatch is = absurd is
 of_run_image held run BadEvent is = absurd is
