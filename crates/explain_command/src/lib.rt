@@ -5,3 +5,4 @@ mod explaining;
 mod named;
 
 pub use explaining::explain_files;
+pub use named::{NamedImage, named_image_in};

@@ -13,7 +13,7 @@ use std::alloc::Global;
 
 /// An image, and names of its addresses.
 #[derive(Drop)]
-pub(crate) struct NamedImage {
+pub struct NamedImage {
     pub image: Image,
     pub names: Symbols,
 }
@@ -33,7 +33,7 @@ fn names_of<'a>(alloc: Global, is_raw: bool, bytes: &[u8]) -> Result<Symbols, Fa
 }
 
 /// The image that the file holds, of bare words or an ELF file, in memory of so many KiB, and its names.
-pub(crate) fn named_image_in<'a, F: Files>(
+pub fn named_image_in<'a, F: Files>(
     alloc: Global,
     files: &mut F,
     is_raw: bool,

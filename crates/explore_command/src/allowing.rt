@@ -29,7 +29,8 @@ impl<'a> Allowed<'a> {
         Ok(Allowed { lines })
     }
 
-    pub(crate) fn has(&self, line: &[u8]) -> bool
+    /// Whether one of the lines is this one, without its number.
+    pub fn has(&self, line: &[u8]) -> bool
         ensures { result ≡ has_line self.now.lines.keys line.now }
     {
         self.lines.contains(line)
@@ -73,7 +74,7 @@ fn without_source<'a>(line: &'a [u8]) -> &'a [u8]
 }
 
 /// The line behind the digits and spaces at its beginning.
-pub(crate) fn without_number<'a>(line: &'a [u8]) -> &'a [u8]
+pub fn without_number<'a>(line: &'a [u8]) -> &'a [u8]
     ensures { result.now ≡ without_number line.now }
 {
     let mut rest = line;

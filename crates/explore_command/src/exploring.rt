@@ -26,8 +26,8 @@ use text_fields::{Piece, put_pieces};
 
 /// Tells a command's progress how far its search is.
 #[derive(Drop)]
-struct Telling<'p, P> {
-    progress: &'p P,
+pub struct Telling<'p, P> {
+    pub progress: &'p P,
 }
 
 impl<P: Progress> Watch for Telling<'_, P> {

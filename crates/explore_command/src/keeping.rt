@@ -29,7 +29,7 @@ pub struct Folder<'a> {
 
 impl<'a> Folder<'a> {
     /// Writes a script for each outcome, and one that gets stuck. One that has none can't be written.
-    pub(crate) fn keep<F: Files>(&self, files: &mut F, found: &Exploration) -> Result<(), Fault<'a>>
+    pub fn keep<F: Files>(&self, files: &mut F, found: &Exploration) -> Result<(), Fault<'a>>
         requires within { is_within_limits (config_named self.now.machine) ≡ true }
         requires memory { IsMemoryKib self.now.machine.memory }
         ensures kept { OnOk result (AreKept (F.held files.new) self.now.machine self.now.name.now found.now) }

@@ -6,7 +6,7 @@ mod exploring;
 mod judging;
 mod keeping;
 
-pub use allowing::Allowed;
-pub use exploring::{allow_file, explore_files};
+pub use allowing::{Allowed, without_number};
+pub use exploring::{Telling, allow_file, explore_files};
 pub use judging::{Judgement, are_allowed};
 pub use keeping::Folder;
