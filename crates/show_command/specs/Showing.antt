@@ -1,0 +1,92 @@
+-- What an exploration that shows words of memory has told, written and judged, and which faults it tells.
+use Rattle.std.specs.Prelude.{◌≡◌, ◌≢◌, ◌<◌, ◌⊎◌, ℕ, [], All, Contains, IfSome, List, None, Option, true}
+use Rattle.std.specs.Io.KnownBytes.{Appends}
+use Rattle.std.specs.List.Sorted.{IsSortedByKey}
+use Rattle.command_files.specs.Faults.{Name}
+use Rattle.command_files.specs.Held.{Held}
+use Rattle.command_files.specs.Sizes.{config_named}
+use Rattle.command_files.specs.declared.fault.Fault.{Fault}
+use Rattle.command_files.specs.declared.fault.Fault.TheVariants.{CannotShow}
+use Rattle.command_files.specs.declared.fault.Unshown.TheVariants.{Elsewhere}
+use Rattle.command_settings.specs.declared.wanted.Explore.{Explore}
+use Rattle.command_settings.specs.declared.wanted.Show.{Show}
+use Rattle.elf_loader.specs.Image.{Initial}
+use Rattle.elf_symbols.specs.Named.{Named}
+use Rattle.explain_command.specs.Named.{HoldsNamedImage}
+use Rattle.exploration_text.specs.Words.{words_text}
+use Rattle.explore_command.specs.Exploring.{IsExploreFault}
+use Rattle.explore_command.specs.declared.judging.Judgement.{Judgement}
+use Rattle.explore_command.specs.declared.judging.Judgement.TheVariants.{Allowed}
+use Rattle.flat_model.specs.Flat.{Flat}
+use Rattle.machine_model.specs.declared.config.Config.{Config}
+use Rattle.show_command.specs.Judging.{IsJudged}
+use Rattle.show_command.specs.Keeping.{AreWordsKept}
+use Rattle.show_command.specs.Targets.{IsPlaced, IsUnplaced, names_of}
+use Rattle.state_search.specs.declared.findings.Extent.TheVariants.{Complete, LimitMet}
+use Rattle.state_search.specs.declared.findings.Extent.TheVariants as extent
+use Rattle.text_fields.specs.Writing.{Begins}
+use Rattle.word_explorer.specs.declared.exploration.WordExploration.{WordExploration}
+use Rattle.word_explorer.specs.Ends.{CanAlwaysDrain, HasEachEnding, IsRealIn, ending_of, endings_of}
+use Rattle.word_explorer.specs.Orders.{ending_cmp}
+use Rattle.word_explorer.specs.Stuck.{IsStuckIn}
+use Rattle.word_explorer.specs.Visited.{AreVisited}
+
+-- ---- what is found
+
+-- each end is one, with these words, and its script leads there; where it says complete no end is missing, and where nothing is stuck an end can always be reached, and one is told;
+-- the ends stand in their order; there are states, as many as it says, that were found
+pub record IsFoundIn (image : Initial) (config : Config) (addresses : List ℕ) (limit : ℕ) (found : WordExploration) : Type 0 where
+  pub real : All (IsRealIn image config addresses) found.outcomes.items
+  pub complete : found.extent ≡ Complete → HasEachEnding image config addresses (endings_of found.outcomes.items)
+  pub none_stuck : found.extent ≡ Complete → found.stuck ≡ None → CanAlwaysDrain image config
+  pub some : found.extent ≡ Complete → found.stuck ≡ None → found.outcomes.items ≢ []
+  pub stuck : IfSome found.stuck (IsStuckIn image config addresses)
+  pub order : IsSortedByKey ending_of ending_cmp found.outcomes.items
+  pub full : found.extent ≡ LimitMet → found.states ≡ limit
+  pub visited : (states : List Flat) × AreVisited image config addresses found states
+
+-- the exploration is of the image in the file, and the words lie where its symbols say
+pub record IsOfFile (held : Held) (show : Show) (exploration : WordExploration) : Type 0 where
+  pub image : Initial
+  pub symbols : List Named
+  pub addresses : List ℕ
+  pub image_file : HoldsNamedImage held show.explore.raw show.explore.image.now show.explore.machine.memory image symbols
+  pub placed : IsPlaced symbols show.words.items addresses
+  pub found : IsFoundIn image (config_named show.explore.machine) addresses show.explore.states exploration
+
+-- what was found was printed, its scripts are in the folder, if one was named, and it was judged by the file that says what is allowed; it is allowed only where memory sufficed for all states, or for as many as were asked for
+pub record IsShown (held left : Held) (show : Show) (judgement : Judgement) (old new : Option (List ℕ)) : Type 0 where
+  pub exploration : WordExploration
+  pub of_file : IsOfFile held show exploration
+  pub printed : Appends old new (words_text (names_of show.words.items) exploration)
+  pub kept : IfSome show.explore.scripts (λ folder. AreWordsKept left show.explore.machine folder.now exploration)
+  pub judged : IsJudged held show.explore.allow (names_of show.words.items) (endings_of exploration.outcomes.items) judgement
+  pub whole : judgement ≡ Allowed → exploration.extent ≢ extent.OutOfMemory
+
+-- such a text was printed, all of it or a beginning
+pub record IsPartlyShown (held : Held) (show : Show) (old new : Option (List ℕ)) : Type 0 where
+  pub exploration : WordExploration
+  pub of_file : IsOfFile held show exploration
+  pub begun : Begins old new (words_text (names_of show.words.items) exploration)
+
+-- ---- faults
+
+-- random runs are asked for, or what the memory model allows
+abbrev pub IsElsewhere : Explore → Type 0
+IsElsewhere explore = (explore.architecture ≡ true) ⊎ (0 < explore.sample)
+
+-- one of the words can't be shown, by the image in the file
+pub record HasUnshown (held : Held) (show : Show) (fault : Fault) : Type 0 where
+  pub image : Initial
+  pub symbols : List Named
+  pub image_file : HoldsNamedImage held show.explore.raw show.explore.image.now show.explore.machine.memory image symbols
+  pub word : Name
+  pub given : Contains show.words.items word
+  pub unplaced : IsUnplaced image symbols word fault
+
+-- as an exploration has them; or words can't be shown
+abbrev pub IsShowFault : Held → Show → Fault → Type 0
+IsShowFault held show fault =
+    IsExploreFault held show.explore fault
+    ⊎ (HasUnshown held show fault
+    ⊎ ((word : Name) × (fault ≡ CannotShow word Elsewhere) × IsElsewhere show.explore))
