@@ -5,19 +5,21 @@ use Rattle.clap.specs.Words.{Text}
 use Rattle.command_files.specs.Held.{Held}
 use Rattle.command_files.specs.Status.{status_of}
 use Rattle.command_files.specs.declared.fault.Fault.{Fault}
-use Rattle.command_line.proofs.Meant.{beyond_explore, written}
+use Rattle.command_line.proofs.Meant.{beyond_explore, beyond_show, written}
 use Rattle.command_line.specs.Running.{Came, CheckCame, ExploreCame, IsBeyond, IsBroken, IsCheckBroken, IsDone, IsExploreBroken, IsExploreFile, IsFaulty, IsWritten, strictness_of}
 use Rattle.command_settings.specs.declared.wanted.Check.{Check as Judging}
 use Rattle.command_settings.specs.declared.wanted.Explain.{Explain as Telling}
 use Rattle.command_settings.specs.declared.wanted.Explore.{Explore as Sought}
 use Rattle.command_settings.specs.declared.wanted.Settings.{Settings}
-use Rattle.command_settings.specs.declared.wanted.Settings.TheVariants.{Check, Explain, Explore}
+use Rattle.command_settings.specs.declared.wanted.Show.{Show as Shown}
+use Rattle.command_settings.specs.declared.wanted.Settings.TheVariants.{Check, Explain, Explore, Show}
 use Rattle.event_stream.specs.declared.strictness.Strictness.{Strictness}
 use Rattle.command_line.specs.Telling.{IsFaultOf}
 use Rattle.explain_command.specs.Explaining.{IsExplainFault, IsExplained, IsStopped}
 use Rattle.explore_command.proofs.Faults.{some_part}
 use Rattle.explore_command.specs.Exploring.{IsExploreFault, LeavesPart}
-use Rattle.explore_command.specs.Keeping.{SparesOthers}
+use Rattle.explore_command.specs.Keeping.{IsScriptFile, SparesOthers}
+use Rattle.show_command.specs.Showing.{IsPartlyShown, IsShowFault, IsShown}
 use Rattle.explore_command.specs.declared.judging.Judgement.{Judgement}
 use Rattle.explore_command.specs.declared.judging.Judgement.TheVariants.{Allowed, NotAllowed}
 
@@ -46,6 +48,16 @@ module _ (held left : Held) (old new : Option (List ℕ)) (wanted : Settings) wh
   explore_broken explore (Ok judgement) is so = tt
   explore_broken explore (Err fault) is so = broken held left old new wanted (Explore explore) is (some_part old new _ fault so)
 
+  pub show_came : (show : Shown) (r : Result Judgement Fault) → wanted ≡ Show show → IfOk r (λ judgement. IsShown held left show judgement old new) → IfOk r (Came held left old new wanted)
+  show_came show (Ok Allowed) is so = subst (IsDone held left old new) (sym is) so
+  show_came show (Ok NotAllowed) is so = subst (IsFaulty held left old new) (sym is) so
+  show_came show (Err fault) is so = tt
+
+  pub show_broken : (show : Shown) (r : Result Judgement Fault) → wanted ≡ Show show → IfErr r (λ fault. LeavesPart fault old new (IsPartlyShown held show old new))
+      → IfErr r (λ _. (new ≡ old) ⊎ IsBroken held left old new wanted)
+  show_broken show (Ok judgement) is so = tt
+  show_broken show (Err fault) is so = broken held left old new wanted (Show show) is (some_part old new _ fault so)
+
   pub check_came : (check : Judging) (r : Result Judgement Fault) → wanted ≡ Check check → IfOk r (λ judgement. CheckCame judgement check.messages held check old new) → IfOk r (Came held left old new wanted)
   check_came check (Ok Allowed) is so = subst (IsDone held left old new) (sym is) so
   check_came check (Ok NotAllowed) is so = subst (IsFaulty held left old new) (sym is) so
@@ -73,6 +85,16 @@ pub explore_beyond : (held : Held) (old new : Option (List ℕ)) (wanted : Setti
 explore_beyond held old new wanted explore part (Ok judgement) is told leaves = tt
 explore_beyond held old new wanted explore part (Err fault) is told leaves = λ two.
     let it = beyond_explore held old new explore part fault told leaves two in (subst IsBeyond (sym is) it.0, it.1)
+
+pub show_beyond : (held : Held) (old new : Option (List ℕ)) (wanted : Settings) (show : Shown) (part : Type 0) (r : Result Judgement Fault) → wanted ≡ Show show → IfErr r (IsShowFault held show)
+    → IfErr r (λ fault. LeavesPart fault old new part) → IfErr r (λ fault. status_of fault ≡ 2 → IsBeyond wanted × (new ≡ old))
+show_beyond held old new wanted show part (Ok judgement) is told leaves = tt
+show_beyond held old new wanted show part (Err fault) is told leaves = λ two.
+    let it = beyond_show held old new show part fault told leaves two in (subst IsBeyond (sym is) it.0, it.1)
+
+pub show_written : (held left : Held) (wanted : Settings) (show : Shown) → wanted ≡ Show show → SparesOthers (IsScriptFile show.explore.scripts) held left
+    → (name : Text) → left name ≢ held name → IsWritten name wanted
+show_written held left wanted show is spares = λ name changed. subst (IsWritten name) (sym is) (written held left _ spares name changed)
 
 pub explore_written : (held left : Held) (wanted : Settings) (explore : Sought) → wanted ≡ Explore explore → SparesOthers (IsExploreFile explore.architecture explore) held left
     → (name : Text) → left name ≢ held name → IsWritten name wanted

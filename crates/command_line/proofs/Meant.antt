@@ -1,5 +1,5 @@
 -- What the words' settings allow to be done, and what faults say of them.
-use Rattle.std.proofs.Common.{◌≡◌, ◌≢◌, ◌∙◌, ℕ, Bool, IfSome, List, None, Option, Some, arith, false, true, inl, inr, subst, sym, ap, refl}
+use Rattle.std.proofs.Common.{◌≡◌, ◌≢◌, ◌∙◌, ◌⊎◌, ℕ, Bool, IfSome, List, None, Option, Some, arith, false, true, inl, inr, subst, sym, ap, refl}
 use Rattle.std.proofs.lemmas.Bool.{false≢true}
 use Rattle.std.proofs.lemmas.Slice.Eq.{bytes_eq-Decides}
 use Rattle.std.specs.Str.{bytes_eq}
@@ -17,14 +17,17 @@ use Rattle.command_settings.specs.Settings.{IsNamed}
 use Rattle.command_settings.specs.declared.wanted.Explore.{Explore as Sought}
 use Rattle.command_settings.specs.declared.wanted.Run.{Run as Asked}
 use Rattle.command_settings.specs.declared.wanted.Settings.{Settings}
-use Rattle.command_settings.specs.declared.wanted.Settings.TheVariants.{Chart, Check, Explain, Explore, Replay, Run}
+use Rattle.command_settings.specs.declared.wanted.Show.{Show as Shown}
+use Rattle.command_settings.specs.declared.wanted.Settings.TheVariants.{Chart, Check, Explain, Explore, Replay, Run, Show}
 use Rattle.explore_command.specs.Exploring.{IsExploreFault, LeavesPart}
 use Rattle.explore_command.specs.Keeping.{SparesOthers}
 use Rattle.run_command.specs.Running.{IsRunFault}
+use Rattle.show_command.specs.Showing.{HasUnshown, IsElsewhere, IsShowFault}
 
 -- the words give an exploration a state at least
 pub some_states : (words : List Text) (wanted : Settings) → IsNamed words wanted → MeetsSomeState wanted
-some_states words (Explore explore) named = omega (arith, named.5.1.states.1)
+some_states words (Explore explore) named = omega (arith, named.5.0.1.states.1)
+some_states words (Show show) named = omega (arith, named.5.1.explore.states.1)
 some_states words (Replay replay) named = tt
 some_states words (Explain explain) named = tt
 some_states words (Chart chart) named = tt
@@ -35,14 +38,32 @@ some_states words (Check check) named = tt
 pub beyond_run : (held : Held) (old new : Option (List ℕ)) (run : Asked) (broken : Type 0) (fault : Fault) → IsRunFault held run fault → Leaves fault old new broken → status_of fault ≡ 2
     → IsOutside run.machine × (new ≡ old)
 beyond_run held old new run broken fault told leaves two =
-    let at = only_configuration fault (λ word address. subst (IsRunFault held run) address told) two in
+    let at = only_configuration fault (λ word address. subst (IsRunFault held run) address told) (λ word cause shown. subst (IsRunFault held run) shown told) two in
     (subst (IsRunFault held run) at told, subst (λ f. Leaves f old new broken) at leaves)
 
 pub beyond_explore : (held : Held) (old new : Option (List ℕ)) (explore : Sought) (broken : Type 0) (fault : Fault) → IsExploreFault held explore fault → LeavesPart fault old new broken → status_of fault ≡ 2
     → IsOutside explore.machine × (new ≡ old)
 beyond_explore held old new explore broken fault told leaves two =
-    let at = only_configuration fault (λ word address. subst (IsExploreFault held explore) address told) two in
+    let at = only_configuration fault (λ word address. subst (IsExploreFault held explore) address told) (λ word cause shown. subst (IsExploreFault held explore) shown told) two in
     (subst (IsExploreFault held explore) at told, subst (λ f. LeavesPart f old new broken) at leaves)
+
+-- what an image hasn't is a fault of status 1
+one_is_not_two : (fault other : Fault) → fault ≡ other → status_of other ≡ 1 → status_of fault ≡ 2 → ⊥
+one_is_not_two fault other is one two =
+    let bad : 1 ≡ 2 = sym one ∙ (ap status_of (sym is) ∙ two) in cc
+
+unshown_once : (held : Held) (show : Shown) (fault : Fault) → HasUnshown held show fault → status_of fault ≡ 2 → ⊥
+unshown_once held show fault unshown two = elim unshown.unplaced [
+  | inl at ↦ one_is_not_two fault _ at.1 refl two
+  | inr at ↦ one_is_not_two fault _ at.3 refl two
+]
+
+pub beyond_show : (held : Held) (old new : Option (List ℕ)) (show : Shown) (broken : Type 0) (fault : Fault) → IsShowFault held show fault → LeavesPart fault old new broken → status_of fault ≡ 2
+    → (IsOutside show.explore.machine ⊎ IsElsewhere show.explore) × (new ≡ old)
+beyond_show held old new show broken fault (inl told) leaves two =
+    let it = beyond_explore held old new show.explore broken fault told leaves two in (inl it.0, it.1)
+beyond_show held old new show broken fault (inr (inl unshown)) leaves two = absurd (unshown_once held show fault unshown two)
+beyond_show held old new show broken fault (inr (inr (word, is, elsewhere))) leaves two = (inr elsewhere, subst (λ f. LeavesPart f old new broken) is leaves)
 
 -- the word names no address
 pub no_address : (line : Option Name) (fault : Fault) → IsNoAddress line fault → IfSome line (λ word. address word.now ≡ None)

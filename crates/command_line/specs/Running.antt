@@ -11,6 +11,7 @@ use Rattle.explore_command.specs.declared.judging.Judgement.TheVariants.{Allowed
 use Rattle.architecture_command.specs.Keeping.{IsFileOf}
 use Rattle.architecture_command.specs.Searching.{IsPartlySearched, IsSearched}
 use Rattle.sample_command.specs.Sampling.{IsPartlySampled, IsSampled}
+use Rattle.show_command.specs.Showing.{IsElsewhere, IsPartlyShown, IsShown}
 use Rattle.chart_command.specs.Addresses.{address}
 use Rattle.chart_command.specs.Charting.{IsCharted, IsStopped as IsHalfCharted}
 use Rattle.check_command.specs.Checking.{IsJudged, IsVerdictCutOff}
@@ -22,7 +23,7 @@ use Rattle.command_files.specs.Sizes.{IsOutside}
 use Rattle.command_settings.specs.declared.wanted.Check.{Check as Judging}
 use Rattle.command_settings.specs.declared.wanted.Explore.{Explore as Seeking}
 use Rattle.command_settings.specs.declared.wanted.Settings.{Settings}
-use Rattle.command_settings.specs.declared.wanted.Settings.TheVariants.{Chart, Check, Explain, Explore, Replay, Run}
+use Rattle.command_settings.specs.declared.wanted.Settings.TheVariants.{Chart, Check, Explain, Explore, Replay, Run, Show}
 use Rattle.event_stream.specs.declared.strictness.Strictness.{Strictness}
 use Rattle.event_stream.specs.declared.strictness.Strictness.TheVariants.{Lenient, Strict}
 use Rattle.lawful_log.specs.declared.rule.LogRule.{LogRule}
@@ -83,6 +84,7 @@ IsDone held left old new (Replay replay) = IsReplayed held replay old new
 IsDone held left old new (Explain explain) = IsExplained held explain.replay (strictness_of explain.strict) old new
 IsDone held left old new (Run run) = IsRun held left run old new
 IsDone held left old new (Explore explore) = ExploreCame explore.architecture (nat_lt 0 explore.sample) Allowed held left explore old new
+IsDone held left old new (Show show) = IsShown held left show Allowed old new
 IsDone held left old new (Chart chart) = IsCharted held chart.replay chart.line old new
 IsDone held left old new (Check check) = IsClean check.messages held check old new
 
@@ -96,6 +98,7 @@ IsFaulty held left old new (Replay replay) = ⊥
 IsFaulty held left old new (Explain explain) = ⊥
 IsFaulty held left old new (Run run) = ⊥
 IsFaulty held left old new (Explore explore) = ExploreCame explore.architecture (nat_lt 0 explore.sample) NotAllowed held left explore old new
+IsFaulty held left old new (Show show) = IsShown held left show NotAllowed old new
 IsFaulty held left old new (Chart chart) = ⊥
 IsFaulty held left old new (Check check) = IsUnclean check.messages held check old new
 
@@ -113,6 +116,7 @@ IsBroken held left old new (Replay replay) = IsCutOff held replay old new
 IsBroken held left old new (Explain explain) = IsStopped held explain.replay (strictness_of explain.strict) old new
 IsBroken held left old new (Run run) = IsRunCutOff held left run old new
 IsBroken held left old new (Explore explore) = IsExploreBroken explore.architecture (nat_lt 0 explore.sample) held explore old new
+IsBroken held left old new (Show show) = IsPartlyShown held show old new
 IsBroken held left old new (Chart chart) = IsHalfCharted held chart.replay chart.line old new
 IsBroken held left old new (Check check) = IsCheckBroken check.messages held check old new
 
@@ -120,22 +124,25 @@ IsBroken held left old new (Check check) = IsCheckBroken check.messages held che
 unfoldable pub IsUnprinted : List Text → Held → Held → Option (List ℕ) → Option (List ℕ) → Type 0
 IsUnprinted words held left old new = (new ≡ old) ⊎ (IsForHelp words ⊎ HasNamed words (IsBroken held left old new))
 
--- the words name a machine that can't be made, or as an address what is none
+-- the words name a machine that can't be made, or as an address what is none, or words of memory to show where none are shown
 abbrev pub IsBeyond : Settings → Type 0
 IsBeyond (Run run) = IsOutside run.machine
 IsBeyond (Explore explore) = IsOutside explore.machine
+IsBeyond (Show show) = IsOutside show.explore.machine ⊎ IsElsewhere show.explore
 IsBeyond (Chart chart) = IfSome chart.line (λ word. address word.now ≡ None)
 IsBeyond _ = ⊥
 
 -- an exploration may meet a state at least
 abbrev pub MeetsSomeState : Settings → Type 0
 MeetsSomeState (Explore explore) = 0 < explore.states
+MeetsSomeState (Show show) = 0 < show.explore.states
 MeetsSomeState _ = Unit {0}
 
 -- the file is the journal of a run, or shows an outcome of an exploration
 abbrev pub IsWritten : Text → Settings → Type 0
 IsWritten name (Run run) = name ≡ run.journal.now
 IsWritten name (Explore explore) = IsExploreFile explore.architecture explore name
+IsWritten name (Show show) = IsScriptFile show.explore.scripts name
 IsWritten name _ = ⊥
 
 -- no file but the journal or the scripts of what the words name is another than before

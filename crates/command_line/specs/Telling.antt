@@ -12,10 +12,11 @@ use Rattle.command_line.specs.Running.{HasNamed, strictness_of}
 use Rattle.command_settings.specs.Refusals.{IsForHelp}
 use Rattle.command_settings.specs.declared.wanted.Check.{Check as Judging}
 use Rattle.command_settings.specs.declared.wanted.Settings.{Settings}
-use Rattle.command_settings.specs.declared.wanted.Settings.TheVariants.{Chart, Check, Explain, Explore, Replay, Run}
+use Rattle.command_settings.specs.declared.wanted.Settings.TheVariants.{Chart, Check, Explain, Explore, Replay, Run, Show}
 use Rattle.explain_command.specs.Explaining.{IsExplainFault}
 use Rattle.explore_command.specs.Exploring.{IsExploreFault}
 use Rattle.run_command.specs.Running.{IsRunFault}
+use Rattle.show_command.specs.Showing.{IsShowFault}
 
 -- the messages of a trace can't be judged, or its order
 abbrev pub IsJudgingFault : (of_messages : Bool) → Held → Judging → Fault → Type 0
@@ -28,6 +29,7 @@ IsFaultOf held old new (Replay replay) = IsReplayFault held replay
 IsFaultOf held old new (Explain explain) = IsExplainFault held explain.replay (strictness_of explain.strict) old new
 IsFaultOf held old new (Run run) = IsRunFault held run
 IsFaultOf held old new (Explore explore) = IsExploreFault held explore
+IsFaultOf held old new (Show show) = IsShowFault held show
 IsFaultOf held old new (Chart chart) = IsChartFault held chart.replay chart.line
 IsFaultOf held old new (Check check) = IsJudgingFault check.messages held check
 

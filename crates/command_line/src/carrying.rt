@@ -22,6 +22,7 @@ use replay_command::replay_files;
 use run_command::run_files;
 use rvwmo_order::Verdict;
 use sample_command::sample_files;
+use show_command::show_files;
 use std::alloc::Global;
 use std::io::Write;
 use std::sync::Wait;
@@ -72,6 +73,7 @@ pub(crate) fn carry_out<
             Ok(Judgement::Allowed)
         }
         Settings::Explore(explore) => explored(alloc, files, explore, out, err, progress),
+        Settings::Show(show) => show_files(alloc, files, &show, out, err, progress),
         Settings::Check(check) => checked(alloc, files, check, out, err),
     }
 }

@@ -1,6 +1,6 @@
 use Rattle.std.proofs.Common.{subst, sym}
 use Rattle.command_files.proofs.Left.{either, handed_up}
-use Rattle.command_line.proofs.Carried.{all_told_of, broken, broken_off, check_beyond, check_broken, check_came, explain_told, explained, explore_beyond, explore_broken, explore_came, explore_written, told_of}
+use Rattle.command_line.proofs.Carried.{all_told_of, broken, broken_off, check_beyond, check_broken, check_came, explain_told, explained, explore_beyond, explore_broken, explore_came, explore_written, show_beyond, show_broken, show_came, show_written, told_of}
 use Rattle.command_line.proofs.Meant.{beyond_run, journal_alone, no_address, unwritten}
 use Rattle.command_line.specs.Running.{IsBeyond, IsDone, IsWritten}
 use Rattle.explain_command.proofs.Told.{explain_never_misused}
@@ -109,3 +109,18 @@ returns-in-Explore-clause-told g c = all_told_of _ _ _ _ _ c.explored.result c.i
 
 pub returns-in-Check-clause-told : goal.returns-in-Check-clause-told
 returns-in-Check-clause-told g c = all_told_of _ _ _ _ _ c.checked.result c.in-Check.is c.checked.ensures.told
+
+pub returns-in-Show-clause-came : goal.returns-in-Show-clause-came
+returns-in-Show-clause-came g c = show_came _ _ _ _ _ c.in-Show.show c.show_files.result c.in-Show.is c.show_files.ensures.shown
+
+pub returns-in-Show-clause-unfinished : goal.returns-in-Show-clause-unfinished
+returns-in-Show-clause-unfinished g c = show_broken _ _ _ _ _ c.in-Show.show c.show_files.result c.in-Show.is c.show_files.ensures.unfinished
+
+pub returns-in-Show-clause-beyond : goal.returns-in-Show-clause-beyond
+returns-in-Show-clause-beyond g c = show_beyond _ _ _ _ c.in-Show.show _ c.show_files.result c.in-Show.is c.show_files.ensures.told c.show_files.ensures.unfinished
+
+pub returns-in-Show-clause-spared : goal.returns-in-Show-clause-spared
+returns-in-Show-clause-spared g c = show_written _ _ _ c.in-Show.show c.in-Show.is c.show_files.ensures.spared
+
+pub returns-in-Show-clause-told : goal.returns-in-Show-clause-told
+returns-in-Show-clause-told g c = all_told_of _ _ _ _ _ c.show_files.result c.in-Show.is c.show_files.ensures.told
