@@ -3,6 +3,4 @@
 #![tactic(auto)]
 
 #[cfg(test)]
-mod same;
-#[cfg(test)]
 mod tests;

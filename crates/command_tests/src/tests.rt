@@ -10,7 +10,6 @@ mod orders;
 mod running;
 mod texts;
 
-use crate::same::{same, same_of};
 use command_line::run_line;
 use memory::{File, MemoryFiles, Narrow, Stuck};
 use progress_line::Silent;
@@ -68,9 +67,9 @@ fn replays(
 ) -> Result<(), Fail> {
     let image = image_of(rt.alloc(), words)?;
     let ran = replay(rt, image.as_slice(), script.as_bytes());
-    same(rt, ran.err.as_slice(), ends.as_bytes());
-    same(rt, ran.out.as_slice(), trace.as_bytes());
-    same(rt, ran.status, 0);
+    assert_eq!(rt; ran.err.as_slice(), ends.as_bytes());
+    assert_eq!(rt; ran.out.as_slice(), trace.as_bytes());
+    assert_eq!(rt; ran.status, 0);
     Ok(())
 }
 
@@ -84,12 +83,11 @@ fn breaks_off<R: Abort + Threads + Wait + Sync + AllocGlobal, O: Write>(
     let mut err = Vec::new(rt.alloc());
     let mut held = MemoryFiles::new(rt.alloc(), files);
     let status = run_line(rt, rt.alloc(), words, &mut held, out, &mut err, &Silent);
-    same_of(rt, status, 1, &words);
-    same_of(
-        rt,
+    assert_eq!(rt; status, 1, "{words:?}");
+    assert_eq!(rt;
         err.as_slice(),
         b"rvtl: cannot write\n".as_slice(),
-        &words,
+        "{words:?}"
     );
     Ok(())
 }
@@ -107,7 +105,7 @@ fn breaks_anywhere<R: Abort + Threads + Wait + Sync + AllocGlobal>(
             room,
         };
         breaks_off(rt, words, files, &mut out)?;
-        same(rt, out.taken.len(), room);
+        assert_eq!(rt; out.taken.len(), room);
         assert!(rt; text.as_bytes().starts_with(out.taken.as_slice()));
     }
     Ok(())
@@ -179,20 +177,19 @@ fn outputs_stand_behind_the_status(rt: HostRuntime) -> Result<(), Fail> {
     )?;
     let script = "rvtl-script 1 1 4 4 2\nstep 0\nstep 0\nstep 0\nstep 0\n";
     let ran = replay(&rt, image.as_slice(), script.as_bytes());
-    same(
-        &rt,
+    assert_eq!(rt;
         ran.err.as_slice(),
-        b"hart 0: run output 4294967295 4294967295\n".as_slice(),
+        b"hart 0: run output 4294967295 4294967295\n".as_slice()
     );
-    same(&rt, ran.status, 0);
+    assert_eq!(rt; ran.status, 0);
     Ok(())
 }
 
 #[test]
 fn stops_are_told(rt: HostRuntime) {
     let ran = replay(&rt, &[0; 4], b"rvtl-script 1 1 4 4 2\nstep 0\n");
-    same(&rt, ran.err.as_slice(), b"hart 0: stop 2\n".as_slice());
-    same(&rt, ran.status, 0);
+    assert_eq!(rt; ran.err.as_slice(), b"hart 0: stop 2\n".as_slice());
+    assert_eq!(rt; ran.status, 0);
 }
 
 /// An image, a script, and the message and status that they give.
@@ -253,8 +250,8 @@ const FAULTS: [(&[u8], &[u8], &str, u8); 9] = [
 fn row_23_and_the_other_faults(rt: HostRuntime) {
     for (image, script, message, status) in FAULTS {
         let ran = replay(&rt, image, script);
-        same_of(&rt, ran.err.as_slice(), message.as_bytes(), &message);
-        same_of(&rt, ran.status, status, &message);
+        assert_eq!(rt; ran.err.as_slice(), message.as_bytes(), "{message}");
+        assert_eq!(rt; ran.status, status, "{message}");
         assert!(rt; ran.out.is_empty(), "{message}");
     }
 }
@@ -281,8 +278,8 @@ fn files_that_are_not_there(rt: HostRuntime) {
         ),
     ] {
         let ran = line(&rt, words, &script);
-        same_of(&rt, ran.err.as_slice(), message.as_bytes(), &message);
-        same_of(&rt, ran.status, status, &message);
+        assert_eq!(rt; ran.err.as_slice(), message.as_bytes(), "{message}");
+        assert_eq!(rt; ran.status, status, "{message}");
         assert!(rt; ran.out.is_empty(), "{message}");
     }
 }
@@ -294,19 +291,17 @@ fn files_that_break(rt: HostRuntime) {
     let script = File::whole("script", texts::EXIT_SCRIPT.as_bytes());
     let broken = File::broken("script", texts::EXIT_SCRIPT.as_bytes());
     let ran = line(&rt, &words, &[broken, File::whole("image", &[0; 4])]);
-    same(
-        &rt,
+    assert_eq!(rt;
         ran.err.as_slice(),
-        b"rvtl: script: cannot read\n".as_slice(),
+        b"rvtl: script: cannot read\n".as_slice()
     );
-    same(&rt, ran.status, 1);
+    assert_eq!(rt; ran.status, 1);
     let ran = line(&rt, &words, &[script, File::broken("image", &[0; 4])]);
-    same(
-        &rt,
+    assert_eq!(rt;
         ran.err.as_slice(),
-        b"rvtl: image: cannot read\n".as_slice(),
+        b"rvtl: image: cannot read\n".as_slice()
     );
-    same(&rt, ran.status, 1);
+    assert_eq!(rt; ran.status, 1);
 }
 
 /// A file whose first line is longer than any text's is refused by its beginning: this one fails behind it.
@@ -320,12 +315,11 @@ fn no_more_is_read_than_decides(rt: HostRuntime) -> Result<(), Fail> {
         &["rvtl", "check", "--messages", "long"],
     ] {
         let ran = line(&rt, words, &[File::broken("long", long.as_slice())]);
-        same(
-            &rt,
+        assert_eq!(rt;
             ran.err.as_slice(),
-            b"rvtl: long: line 1: text fault 1 Header\n".as_slice(),
+            b"rvtl: long: line 1: text fault 1 Header\n".as_slice()
         );
-        same(&rt, ran.status, 1);
+        assert_eq!(rt; ran.status, 1);
     }
     Ok(())
 }
@@ -372,12 +366,11 @@ fn two_harts_end(rt: HostRuntime) -> Result<(), Fail> {
     let image = image_of(rt.alloc(), &texts::EXIT)?;
     let script = "rvtl-script 1 2 4 4 2\nstep 1\nstep 1\nstep 0\n";
     let ran = replay(&rt, image.as_slice(), script.as_bytes());
-    same(
-        &rt,
+    assert_eq!(rt;
         ran.err.as_slice(),
-        b"hart 0: run\nhart 1: exit 5\n".as_slice(),
+        b"hart 0: run\nhart 1: exit 5\n".as_slice()
     );
-    same(&rt, ran.status, 0);
+    assert_eq!(rt; ran.status, 0);
     Ok(())
 }
 
@@ -395,7 +388,7 @@ fn usage_and_help(rt: HostRuntime) {
         (&["rvtl", "explain", "--help"], 0),
     ] {
         let ran = line(&rt, words, &[]);
-        same_of(&rt, ran.status, status, &words);
+        assert_eq!(rt; ran.status, status, "{words:?}");
         assert!(rt; ran.out.is_empty() == (status == 2), "{words:?}");
         assert!(rt; ran.err.is_empty() == (status == 0), "{words:?}");
     }
@@ -404,12 +397,11 @@ fn usage_and_help(rt: HostRuntime) {
 #[test]
 fn a_name_stays_on_its_line(rt: HostRuntime) {
     let ran = line(&rt, &["rvtl", "replay", "image", "a\nb\x1b[2J"], &[]);
-    same(
-        &rt,
+    assert_eq!(rt;
         ran.err.as_slice(),
-        b"rvtl: a\\nb\\u{1b}[2J: cannot read\n".as_slice(),
+        b"rvtl: a\\nb\\u{1b}[2J: cannot read\n".as_slice()
     );
-    same(&rt, ran.status, 1);
+    assert_eq!(rt; ran.status, 1);
 }
 
 /// Numbers that a run's options don't take.
@@ -423,7 +415,7 @@ fn usage_of_a_run(rt: HostRuntime) {
     ] {
         let words = ["rvtl", "run", option, number, "--journal", "j", "image"];
         let ran = line(&rt, &words, &[]);
-        same_of(&rt, ran.status, 2, &(option, number));
+        assert_eq!(rt; ran.status, 2, "{option} {number}");
         assert!(rt; ran.out.is_empty(), "{option} {number}");
         assert!(rt; !ran.err.is_empty(), "{option} {number}");
     }

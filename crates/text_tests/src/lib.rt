@@ -9,8 +9,6 @@ mod progress;
 #[cfg(test)]
 mod remarks;
 #[cfg(test)]
-mod same;
-#[cfg(test)]
 mod spelling;
 #[cfg(test)]
 mod streams;

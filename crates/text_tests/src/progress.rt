@@ -1,6 +1,5 @@
 //! The line's texts, and when they come.
 
-use crate::same::same_of;
 use progress_line::{Progress, ProgressLine, Silent, Stage};
 use std::alloc::Global;
 use std::cell::{Cell, RefCell};
@@ -77,7 +76,7 @@ fn a_line_comes_twice_a_second(rt: HostRuntime) -> Result<(), Fail> {
         desk.written.try_borrow_mut()?.clear();
         progress.tell(RUN);
         let is_told = !desk.written.try_borrow()?.is_empty();
-        same_of(&rt, is_told, is_due, &millis);
+        assert_eq!(rt; is_told, is_due, "after {millis} ms");
     }
     Ok(())
 }

@@ -1,6 +1,5 @@
 //! The texts of remarks.
 
-use crate::same::same;
 use elf_loader::{LoadError, load, raw};
 use file_remarks::{EventRemark, FileRemark, ImageRemark, ScriptRemark, TraceRemark};
 use machine_model::Event;
@@ -69,7 +68,7 @@ fn scripts(rt: HostRuntime) -> Result<(), Fail> {
             panic!(rt; "{text} is read")
         };
         let told = format!(in rt.alloc(); "{}", ScriptRemark { bytes, error })?;
-        same(&rt, told.as_str(), remark);
+        assert_eq!(rt; told.as_str(), remark);
     }
     Ok(())
 }
@@ -110,7 +109,7 @@ fn traces(rt: HostRuntime) -> Result<(), Fail> {
             panic!(rt; "{text} is read")
         };
         let told = format!(in rt.alloc(); "{}", TraceRemark { bytes, error })?;
-        same(&rt, told.as_str(), remark);
+        assert_eq!(rt; told.as_str(), remark);
     }
     Ok(())
 }
@@ -161,7 +160,7 @@ fn images(rt: HostRuntime) -> Result<(), Fail> {
                 error
             }
         )?;
-        same(&rt, told.as_str(), remark);
+        assert_eq!(rt; told.as_str(), remark);
     }
     Ok(())
 }
@@ -210,7 +209,7 @@ fn events(rt: HostRuntime) -> Result<(), Fail> {
                 script: &script
             }
         )?;
-        same(&rt, told.as_str(), remark);
+        assert_eq!(rt; told.as_str(), remark);
     }
     Ok(())
 }
@@ -219,6 +218,6 @@ fn events(rt: HostRuntime) -> Result<(), Fail> {
 fn files(rt: HostRuntime) -> Result<(), Fail> {
     let error = io::Error::from(ErrorKind::NotFound);
     let told = format!(in rt.alloc(); "{}", FileRemark(error))?;
-    same(&rt, told.as_str(), "there is no such file or folder");
+    assert_eq!(rt; told.as_str(), "there is no such file or folder");
     Ok(())
 }

@@ -1,6 +1,5 @@
 //! Words that the GNU assembler makes of the texts.
 
-use crate::same::same;
 use assembly::spell_assembly;
 use rv32_decode::decode;
 use std::alloc::Global;
@@ -121,7 +120,7 @@ fn text_of(alloc: Global, word: u32, pc: Option<u32>) -> Result<Vec<u8>, Fail> {
 fn texts_are_what_the_assembler_reads(rt: HostRuntime) -> Result<(), Fail> {
     for (word, text) in ROWS {
         let spelled = text_of(rt.alloc(), word, None)?;
-        same(&rt, spelled.as_slice(), text.as_bytes());
+        assert_eq!(rt; spelled.as_slice(), text.as_bytes());
     }
     Ok(())
 }
@@ -130,7 +129,7 @@ fn texts_are_what_the_assembler_reads(rt: HostRuntime) -> Result<(), Fail> {
 fn jumps_lead_where_the_disassembler_says(rt: HostRuntime) -> Result<(), Fail> {
     for (pc, word, text) in TARGETS {
         let spelled = text_of(rt.alloc(), word, Some(pc))?;
-        same(&rt, spelled.as_slice(), text.as_bytes());
+        assert_eq!(rt; spelled.as_slice(), text.as_bytes());
     }
     Ok(())
 }
@@ -139,6 +138,6 @@ fn jumps_lead_where_the_disassembler_says(rt: HostRuntime) -> Result<(), Fail> {
 #[test]
 fn a_set_of_no_access_is_0(rt: HostRuntime) -> Result<(), Fail> {
     let spelled = text_of(rt.alloc(), 0x0010_000f, None)?;
-    same(&rt, spelled.as_slice(), b"fence 0, w".as_slice());
+    assert_eq!(rt; spelled.as_slice(), b"fence 0, w".as_slice());
     Ok(())
 }

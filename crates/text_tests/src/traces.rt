@@ -2,7 +2,6 @@
 
 mod texts;
 
-use crate::same::{same, same_of};
 use std::alloc::Global;
 use std::io::{Error, ErrorKind, Result as IoResult, Write};
 use std::test::Fail;
@@ -45,9 +44,9 @@ fn names_of_codes(rt: HostRuntime) -> Result<(), Fail> {
         (TextCode::NoMemory, 6, "NoMemory"),
     ];
     for (code, number, name) in codes {
-        same(&rt, code.number(), number);
+        assert_eq!(rt; code.number(), number);
         let printed = format!(in rt.alloc(); "{code}")?;
-        same(&rt, printed.as_str(), name);
+        assert_eq!(rt; printed.as_str(), name);
     }
     Ok(())
 }
@@ -58,7 +57,7 @@ fn scripts_are_read_and_spelled_back(rt: HostRuntime) -> Result<(), Fail> {
         let script = read_script(rt.alloc(), text)?;
         let mut out = Vec::new(rt.alloc());
         write_script(&script, &mut out)?;
-        same(&rt, out.as_slice(), text);
+        assert_eq!(rt; out.as_slice(), text);
     }
     Ok(())
 }
@@ -67,10 +66,10 @@ fn scripts_are_read_and_spelled_back(rt: HostRuntime) -> Result<(), Fail> {
 fn traces_are_read_and_spelled_back(rt: HostRuntime) -> Result<(), Fail> {
     for text in texts::TRACES {
         let (trace, length) = read_trace(rt.alloc(), text)?;
-        same(&rt, length, text.len());
+        assert_eq!(rt; length, text.len());
         let mut out = Vec::new(rt.alloc());
         write_trace(&trace, &mut out)?;
-        same(&rt, out.as_slice(), text);
+        assert_eq!(rt; out.as_slice(), text);
     }
     Ok(())
 }
@@ -78,10 +77,10 @@ fn traces_are_read_and_spelled_back(rt: HostRuntime) -> Result<(), Fail> {
 #[test]
 fn messages_that_no_machine_sends(rt: HostRuntime) -> Result<(), Fail> {
     let (trace, length) = read_trace(rt.alloc(), texts::UNUSUAL)?;
-    same(&rt, length, texts::UNUSUAL.len());
+    assert_eq!(rt; length, texts::UNUSUAL.len());
     let mut out = Vec::new(rt.alloc());
     write_trace(&trace, &mut out)?;
-    same(&rt, out.as_slice(), texts::UNUSUAL);
+    assert_eq!(rt; out.as_slice(), texts::UNUSUAL);
     Ok(())
 }
 
@@ -90,26 +89,26 @@ fn row_18(rt: HostRuntime) -> Result<(), Fail> {
     let mut more = texts::ROW_18.to_vec(rt.alloc())?;
     more.push(b'H')?;
     let (trace, length) = read_trace(rt.alloc(), &more)?;
-    same(&rt, length, texts::ROW_18.len());
-    same(&rt, trace.harts(), 1);
-    assert!(rt; trace.log().len() == 6);
+    assert_eq!(rt; length, texts::ROW_18.len());
+    assert_eq!(rt; trace.harts(), 1);
+    assert_eq!(rt; trace.log().len(), 6);
     let mut out = Vec::new(rt.alloc());
     write_trace(&trace, &mut out)?;
-    same(&rt, out.as_slice(), texts::ROW_18);
+    assert_eq!(rt; out.as_slice(), texts::ROW_18);
     Ok(())
 }
 
 #[test]
 fn rows_23_42_and_52(rt: HostRuntime) {
     for (text, line, code) in texts::SCRIPT_FAULTS {
-        same_of(&rt, script_answer(rt.alloc(), text), (line, code), &text);
+        assert_eq!(rt; script_answer(rt.alloc(), text), (line, code), "{text:?}");
     }
 }
 
 #[test]
 fn rows_41_and_52(rt: HostRuntime) {
     for (text, line, code) in texts::TRACE_FAULTS {
-        same_of(&rt, trace_answer(rt.alloc(), text), (line, code), &text);
+        assert_eq!(rt; trace_answer(rt.alloc(), text), (line, code), "{text:?}");
     }
 }
 
@@ -118,11 +117,10 @@ fn broken_scripts(rt: HostRuntime) -> Result<(), Fail> {
     for broken in texts::BROKEN_SCRIPTS {
         for place in 0..=broken.text.len() {
             let (front, _) = broken.text.split_at(place);
-            same_of(
-                &rt,
+            assert_eq!(rt;
                 script_answer(rt.alloc(), front),
                 expected(broken.cut, place),
-                &place,
+                "cut at {place}"
             );
         }
         for (byte, answers) in [(0, broken.zeros), (0xff, broken.ones)] {
@@ -131,11 +129,10 @@ fn broken_scripts(rt: HostRuntime) -> Result<(), Fail> {
                 if let Some(at) = changed.get_mut(place) {
                     *at = byte;
                 }
-                same_of(
-                    &rt,
+                assert_eq!(rt;
                     script_answer(rt.alloc(), &changed),
                     expected(answers, place),
-                    &(byte, place),
+                    "{byte} at {place}"
                 );
             }
         }
@@ -148,11 +145,10 @@ fn broken_traces(rt: HostRuntime) -> Result<(), Fail> {
     for broken in texts::BROKEN_TRACES {
         for place in 0..=broken.text.len() {
             let (front, _) = broken.text.split_at(place);
-            same_of(
-                &rt,
+            assert_eq!(rt;
                 trace_answer(rt.alloc(), front),
                 expected(broken.cut, place),
-                &place,
+                "cut at {place}"
             );
         }
         for (byte, answers) in [(0, broken.zeros), (0xff, broken.ones)] {
@@ -161,11 +157,10 @@ fn broken_traces(rt: HostRuntime) -> Result<(), Fail> {
                 if let Some(at) = changed.get_mut(place) {
                     *at = byte;
                 }
-                same_of(
-                    &rt,
+                assert_eq!(rt;
                     trace_answer(rt.alloc(), &changed),
                     expected(answers, place),
-                    &(byte, place),
+                    "{byte} at {place}"
                 );
             }
         }
@@ -209,7 +204,7 @@ fn a_beginning_goes_out_before_a_fault(rt: HostRuntime) -> Result<(), Fail> {
             let mut out = Narrow { room, fails, taken };
             assert!(rt; write_trace(&trace, &mut out).is_err());
             let (front, _) = texts::ROW_18.split_at(room);
-            same(&rt, out.taken.as_slice(), front);
+            assert_eq!(rt; out.taken.as_slice(), front);
         }
     }
     Ok(())
@@ -228,7 +223,7 @@ fn a_beginning_of_a_script_goes_out_before_a_fault(rt: HostRuntime) -> Result<()
             };
             assert!(rt; write_script(&script, &mut out).is_err());
             let (front, _) = broken.text.split_at(room);
-            same(&rt, out.taken.as_slice(), front);
+            assert_eq!(rt; out.taken.as_slice(), front);
         }
     }
     Ok(())
@@ -267,7 +262,7 @@ fn an_interrupted_write_is_tried_again(rt: HostRuntime) -> Result<(), Fail> {
     let taken = Vec::new(rt.alloc());
     let mut out = Interrupted { now: false, taken };
     write_trace(&trace, &mut out)?;
-    same(&rt, out.taken.as_slice(), texts::ROW_18);
+    assert_eq!(rt; out.taken.as_slice(), texts::ROW_18);
     Ok(())
 }
 
@@ -288,7 +283,7 @@ fn a_text_of_many_pages_goes_out_whole(rt: HostRuntime) -> Result<(), Fail> {
     let taken = Vec::new(rt.alloc());
     let mut out = Interrupted { now: false, taken };
     write_script(&script, &mut out)?;
-    same(&rt, out.taken.as_slice(), text.as_slice());
+    assert_eq!(rt; out.taken.as_slice(), text.as_slice());
     Ok(())
 }
 
@@ -303,7 +298,7 @@ fn a_beginning_of_many_pages_goes_out_before_a_fault(rt: HostRuntime) -> Result<
             let mut out = Narrow { room, fails, taken };
             assert!(rt; write_script(&script, &mut out).is_err());
             let (front, _) = text.split_at(room);
-            same(&rt, out.taken.as_slice(), front);
+            assert_eq!(rt; out.taken.as_slice(), front);
         }
     }
     Ok(())

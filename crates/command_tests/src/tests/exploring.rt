@@ -2,7 +2,6 @@
 
 use super::memory::{File, MemoryFiles};
 use super::{Ran, breaks_anywhere, image_of, line, line_over, replay, texts};
-use crate::same::{same, same_of};
 use std::sync::Wait;
 use std::test::Fail;
 use std::thread::Threads;
@@ -90,12 +89,11 @@ fn an_exit_is_one_state(rt: HostRuntime) -> Result<(), Fail> {
     let image = image_of(rt.alloc(), &texts::EXIT)?;
     let files = [File::whole("image", &image)];
     let ran = line(&rt, &["rvtl", "explore", "--raw", "image"], &files);
-    same(
-        &rt,
+    assert_eq!(rt;
         ran.out.as_slice(),
-        b"1  hart 0: exit 5\ncomplete: 1 outcomes, 1 states\n".as_slice(),
+        b"1  hart 0: exit 5\ncomplete: 1 outcomes, 1 states\n".as_slice()
     );
-    same(&rt, ran.status, 0);
+    assert_eq!(rt; ran.status, 0);
     assert!(rt; ran.err.is_empty());
     Ok(())
 }
@@ -104,7 +102,7 @@ fn an_exit_is_one_state(rt: HostRuntime) -> Result<(), Fail> {
 fn each_outcome_has_its_line(rt: HostRuntime) -> Result<(), Fail> {
     let (ran, written) = explore(&rt, &[], b"")?;
     assert!(rt; ran.out.starts_with(OUTCOMES.as_bytes()));
-    same(&rt, ran.status, 0);
+    assert_eq!(rt; ran.status, 0);
     assert!(rt; ran.err.is_empty());
     assert!(rt; written.is_empty());
     Ok(())
@@ -115,15 +113,14 @@ fn each_outcome_has_its_line(rt: HostRuntime) -> Result<(), Fail> {
 fn a_script_leads_to_its_outcome(rt: HostRuntime) -> Result<(), Fail> {
     let (ran, written) = explore(&rt, &["--scripts", "folder"], b"")?;
     assert!(rt; ran.out.starts_with(OUTCOMES.as_bytes()));
-    same(&rt, ran.status, 0);
+    assert_eq!(rt; ran.status, 0);
     let image = image_of(rt.alloc(), &STORE_BUFFERING)?;
     let again = replay(&rt, &image, &written);
-    same(
-        &rt,
+    assert_eq!(rt;
         again.err.as_slice(),
-        b"hart 0: exit 0 output 0\nhart 1: exit 0 output 0\n".as_slice(),
+        b"hart 0: exit 0 output 0\nhart 1: exit 0 output 0\n".as_slice()
     );
-    same(&rt, again.status, 0);
+    assert_eq!(rt; again.status, 0);
     Ok(())
 }
 
@@ -145,12 +142,11 @@ fn a_full_folder_is_told(rt: HostRuntime) -> Result<(), Fail> {
     ];
     let ran = line_over(&rt, &words, &mut files);
     assert!(rt; ran.out.starts_with(OUTCOMES.as_bytes()));
-    same(
-        &rt,
+    assert_eq!(rt;
         ran.err.as_slice(),
-        b"rvtl: folder: cannot write\n".as_slice(),
+        b"rvtl: folder: cannot write\n".as_slice()
     );
-    same(&rt, ran.status, 1);
+    assert_eq!(rt; ran.status, 1);
     Ok(())
 }
 
@@ -158,12 +154,11 @@ fn a_full_folder_is_told(rt: HostRuntime) -> Result<(), Fail> {
 fn an_outcome_that_is_not_allowed(rt: HostRuntime) -> Result<(), Fail> {
     let (ran, _) = explore(&rt, &["--allow", "allowed"], ALLOWED.as_bytes())?;
     assert!(rt; ran.out.starts_with(OUTCOMES.as_bytes()));
-    same(
-        &rt,
+    assert_eq!(rt;
         ran.err.as_slice(),
-        b"outcome 1 is not allowed\n".as_slice(),
+        b"outcome 1 is not allowed\n".as_slice()
     );
-    same(&rt, ran.status, 3);
+    assert_eq!(rt; ran.status, 3);
     Ok(())
 }
 
@@ -171,7 +166,7 @@ fn an_outcome_that_is_not_allowed(rt: HostRuntime) -> Result<(), Fail> {
 #[test]
 fn what_was_printed_is_allowed(rt: HostRuntime) -> Result<(), Fail> {
     let (ran, _) = explore(&rt, &["--allow", "allowed"], OUTCOMES.as_bytes())?;
-    same(&rt, ran.status, 0);
+    assert_eq!(rt; ran.status, 0);
     assert!(rt; ran.err.is_empty());
     Ok(())
 }
@@ -179,12 +174,11 @@ fn what_was_printed_is_allowed(rt: HostRuntime) -> Result<(), Fail> {
 #[test]
 fn a_limit_ends_the_search(rt: HostRuntime) -> Result<(), Fail> {
     let (ran, _) = explore(&rt, &["--states", "1"], b"")?;
-    same(
-        &rt,
+    assert_eq!(rt;
         ran.out.as_slice(),
-        b"incomplete: 1 states met\n".as_slice(),
+        b"incomplete: 1 states met\n".as_slice()
     );
-    same(&rt, ran.status, 0);
+    assert_eq!(rt; ran.status, 0);
     Ok(())
 }
 
@@ -215,8 +209,8 @@ fn faults_of_an_exploration(rt: HostRuntime) -> Result<(), Fail> {
         ),
     ] {
         let ran = line(&rt, words, &files);
-        same_of(&rt, ran.err.as_slice(), message.as_bytes(), &message);
-        same_of(&rt, ran.status, status, &message);
+        assert_eq!(rt; ran.err.as_slice(), message.as_bytes(), "{message}");
+        assert_eq!(rt; ran.status, status, "{message}");
         assert!(rt; ran.out.is_empty(), "{message}");
     }
     Ok(())
@@ -227,7 +221,7 @@ fn faults_of_an_exploration(rt: HostRuntime) -> Result<(), Fail> {
 fn usage_of_an_exploration(rt: HostRuntime) {
     for (option, number) in [("--states", "0"), ("--states", "1000000001")] {
         let ran = line(&rt, &["rvtl", "explore", option, number, "image"], &[]);
-        same_of(&rt, ran.status, 2, &(option, number));
+        assert_eq!(rt; ran.status, 2, "{option} {number}");
         assert!(rt; ran.out.is_empty(), "{option} {number}");
     }
 }
@@ -249,8 +243,8 @@ fn random_runs_are_counted(rt: HostRuntime) -> Result<(), Fail> {
     let ran = line(&rt, &words, &files);
     assert!(rt; ran.err.is_empty());
     let text = b"1  3  hart 0: exit 5\nsampled: 3 runs, not complete\n";
-    same(&rt, ran.out.as_slice(), text.as_slice());
-    same(&rt, ran.status, 0);
+    assert_eq!(rt; ran.out.as_slice(), text.as_slice());
+    assert_eq!(rt; ran.status, 0);
     Ok(())
 }
 
@@ -265,7 +259,7 @@ fn what_the_model_allows(rt: HostRuntime) -> Result<(), Fail> {
     let out = ran.out.as_slice();
     assert!(rt; out.starts_with(b"1  hart 0: exit 5   this machine\nsearched: 1 outcomes, "));
     assert!(rt; out.ends_with(b" states, no window over 16 (not proved complete)\n"));
-    same(&rt, ran.status, 0);
+    assert_eq!(rt; ran.status, 0);
     Ok(())
 }
 
@@ -296,8 +290,8 @@ fn what_would_forbid_an_outcome(rt: HostRuntime) -> Result<(), Fail> {
     let forbidding =
         "outcome 3: 1:6 `lw a3, 0(t1)` is performed before 1:5 `lr.w a2, (t0)`, which precedes it; \
         `fence r, r` between them would forbid it, and so would aq on the one that precedes\n";
-    same(&rt, ran.err.as_slice(), forbidding.as_bytes());
-    same(&rt, ran.status, 0);
+    assert_eq!(rt; ran.err.as_slice(), forbidding.as_bytes());
+    assert_eq!(rt; ran.status, 0);
     Ok(())
 }
 
@@ -329,7 +323,7 @@ fn a_line_is_allowed_as_printed(rt: HostRuntime) -> Result<(), Fail> {
             "image",
         ];
         let ran = line(&rt, &words, &files);
-        same_of(&rt, ran.status, status, &allowed);
+        assert_eq!(rt; ran.status, status, "{allowed}");
     }
     Ok(())
 }
@@ -340,5 +334,5 @@ fn the_version_is_told(rt: HostRuntime) {
     let ran = line(&rt, &["rvtl", "--version"], &[]);
     assert!(rt; ran.out.starts_with(b"rvtl "));
     assert!(rt; ran.err.is_empty());
-    same(&rt, ran.status, 0);
+    assert_eq!(rt; ran.status, 0);
 }

@@ -1,7 +1,6 @@
 //! The store that a byte comes from, by the index and by a walk over the whole order as it is defined.
 ghost use Rattle.std.specs.Prelude.{◌≡◌, ◌<◌};
 
-use crate::same::{same, same_of};
 use elf_loader::{raw, size_of_kib};
 use hart::{Retired, Status};
 use memory_model::Operation;
@@ -87,18 +86,17 @@ fn told<L: Ledger>(index: &Index, load: OpId, byte: u32, blank: Blank) -> Option
 fn exchanged_neighbours_have_the_same_sources(rt: HostRuntime) -> Result<(), Fail> {
     let trace = trace(rt.alloc())?;
     let mut order = completed(rt.alloc(), &trace)?;
-    assert!(rt; order.len() == 14);
+    assert_eq!(rt; order.len(), 14);
     for exchanged in 1..order.len() {
         order.swap(exchanged - 1, exchanged);
         let index = Index::new(rt.alloc(), &trace, &order)?;
         for load in index.order() {
             for byte in WORD - 1..WORD + 5 {
                 let walked = source(index.order(), load, u64::from(byte));
-                same_of(
-                    &rt,
+                assert_eq!(rt;
                     indexed(&index, name_of(load), byte),
                     walked.map(|store| name_of(&store)),
-                    &(byte, exchanged),
+                    "byte {byte} with {exchanged} exchanged"
                 );
             }
         }
