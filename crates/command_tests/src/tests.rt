@@ -8,6 +8,7 @@ mod memory;
 mod messages;
 mod orders;
 mod running;
+mod showing;
 mod texts;
 
 use command_line::run_line;

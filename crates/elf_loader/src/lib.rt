@@ -14,6 +14,3 @@ pub use image::{Image, raw};
 pub use laws::{each_segment_is_loaded, overlap_is_a_common_address};
 pub use loader::load;
 pub use size::{BASE, size_of_kib};
-
-#[cfg(test)]
-mod tests;

@@ -17,6 +17,3 @@ pub use file::FileRemark;
 pub use image::ImageRemark;
 pub use script::ScriptRemark;
 pub use trace::TraceRemark;
-
-#[cfg(test)]
-mod tests;

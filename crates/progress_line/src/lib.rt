@@ -6,6 +6,3 @@ mod progress;
 
 pub use line::ProgressLine;
 pub use progress::{Progress, Silent, Stage};
-
-#[cfg(test)]
-mod tests;

@@ -1,0 +1,180 @@
+//! What `rvtl explore --show` prints, writes and answers.
+
+use super::memory::{File, MemoryFiles};
+use super::{line, line_over};
+use std::test::Fail;
+
+/// Each hart loads a counter, adds 1 and stores it: `examples/lost_update.elf`, with the symbol `counter` at
+/// 0x80000040.
+const LOST_UPDATE: &[u8] =
+    b"\x7fELF\x01\x01\x01\0\0\0\0\0\0\0\0\0\x02\0\xf3\0\x01\0\0\0\0\0\0\x804\0\0\0h\x01\0\0\0\
+        \0\0\04\0 \0\x02\0(\0\x06\0\x04\0\x01\0\0\0\x80\0\0\0\0\0\0\x80\0\0\0\x80D\0\0\0D\0\0\0\
+        \x05\0\0\0@\0\0\0Q\xe5td\0\0\0\0\0\0\0\0\0\0\0\0\0\0\0\0\0\0\0\0\x06\0\0\0\0\0\0\0\0\0\0\
+        \0\0\0\0\0\0\0\0\0\x97\x02\0\0\x93\x82\x02\x04\x03\xa3\x02\0\x13\x03\x13\0#\xa0b\0\x13\
+        \x05\0\0\x93\x08\0\0s\0\0\0\x13\0\0\0\x13\0\0\0\x13\0\0\0\x13\0\0\0\x13\0\0\0\x13\0\0\0\
+        \x13\0\0\0\x13\0\0\0\0\0\0\0Linker: Debian LLD 14.0.6\0\0\0\0\0\0\0\0\0\0\0\0\0\0\0\0\0\
+        \0\0\x01\0\0\0\0\0\0\x80\0\0\0\0\0\0\x01\0\x0d\0\0\0\0\0\0\x80\0\0\0\0\x10\0\x01\0\x14\0\
+        \0\0@\0\0\x80\0\0\0\0\x10\0\x01\0\0.text\0.comment\0.symtab\0.shstrtab\0.strtab\0\0.Lpcr\
+        el_hi0\0_start\0counter\0\0\0\0\0\0\0\0\0\0\0\0\0\0\0\0\0\0\0\0\0\0\0\0\0\0\0\0\0\0\0\0\
+        \0\0\0\0\0\0\0\0\0\0\0\x01\0\0\0\x01\0\0\0\x06\0\0\0\0\0\0\x80\x80\0\0\0D\0\0\0\0\0\0\0\
+        \0\0\0\0@\0\0\0\0\0\0\0\x07\0\0\0\x01\0\0\00\0\0\0\0\0\0\0\xc4\0\0\0\x1a\0\0\0\0\0\0\0\0\
+        \0\0\0\x01\0\0\0\x01\0\0\0\x10\0\0\0\x02\0\0\0\0\0\0\0\0\0\0\0\xe0\0\0\0@\0\0\0\x05\0\0\
+        \0\x02\0\0\0\x04\0\0\0\x10\0\0\0\x18\0\0\0\x03\0\0\0\0\0\0\0\0\0\0\0 \x01\0\0*\0\0\0\0\0\
+        \0\0\0\0\0\0\x01\0\0\0\0\0\0\0\"\0\0\0\x03\0\0\0\0\0\0\0\0\0\0\0J\x01\0\0\x1c\0\0\0\0\0\
+        \0\0\0\0\0\0\x01\0\0\0\0\0\0\0";
+
+/// Both may load the counter before either stores.
+const OUTCOMES: &str = "1  hart 0: exit 0   hart 1: exit 0   counter = 0x00000001
+2  hart 0: exit 0   hart 1: exit 0   counter = 0x00000002
+complete: 2 outcomes, ";
+
+#[test]
+fn a_lost_update_shows_in_the_counter(rt: HostRuntime) -> Result<(), Fail> {
+    let files = [File::whole("image", LOST_UPDATE)];
+    let words = [
+        "rvtl", "explore", "--harts", "2", "--show", "counter", "image",
+    ];
+    let ran = line(&rt, &words, &files);
+    assert!(rt; ran.err.is_empty());
+    assert!(rt; ran.out.starts_with(OUTCOMES.as_bytes()));
+    assert_eq!(rt; ran.status, 0);
+    Ok(())
+}
+
+/// The second word is the program's fourth instruction, which nothing changes.
+#[test]
+fn words_stand_in_the_order_of_their_asking(rt: HostRuntime) -> Result<(), Fail> {
+    let files = [File::whole("image", LOST_UPDATE)];
+    let words = [
+        "rvtl",
+        "explore",
+        "--show",
+        "0x80000040",
+        "--show",
+        "2147483660",
+        "--show",
+        "counter",
+        "image",
+    ];
+    let ran = line(&rt, &words, &files);
+    let told =
+        "1  hart 0: exit 0   0x80000040 = 0x00000001   0x8000000c = 0x00130313   counter = 0x00000001
+complete: 1 outcomes, ";
+    assert!(rt; ran.err.is_empty());
+    assert!(rt; ran.out.starts_with(told.as_bytes()));
+    assert_eq!(rt; ran.status, 0);
+    Ok(())
+}
+
+/// An allowed line has the words too.
+#[test]
+fn an_allowed_line_is_the_whole_line(rt: HostRuntime) -> Result<(), Fail> {
+    for (allowed, told, status) in [
+        (OUTCOMES, "", 0),
+        (
+            "hart 0: exit 0   hart 1: exit 0   counter = 0x00000002\n",
+            "outcome 1 is not allowed\n",
+            3,
+        ),
+        (
+            "hart 0: exit 0   hart 1: exit 0\n",
+            "outcome 1 is not allowed\noutcome 2 is not allowed\n",
+            3,
+        ),
+    ] {
+        let files = [
+            File::whole("image", LOST_UPDATE),
+            File::whole("allowed", allowed.as_bytes()),
+        ];
+        let words = [
+            "rvtl", "explore", "--harts", "2", "--allow", "allowed", "--show", "counter", "image",
+        ];
+        let ran = line(&rt, &words, &files);
+        assert_eq!(rt; ran.err.as_slice(), told.as_bytes(), "{allowed}");
+        assert_eq!(rt; ran.status, status, "{allowed}");
+    }
+    Ok(())
+}
+
+/// The last script to be written is that of the first outcome: no store waits behind it.
+#[test]
+fn a_script_leads_to_where_no_store_waits(rt: HostRuntime) -> Result<(), Fail> {
+    let files = [File::whole("image", LOST_UPDATE)];
+    let mut files = MemoryFiles::new(rt.alloc(), &files);
+    let words = [
+        "rvtl",
+        "explore",
+        "--harts",
+        "2",
+        "--scripts",
+        "folder",
+        "--show",
+        "counter",
+        "image",
+    ];
+    let ran = line_over(&rt, &words, &mut files);
+    assert!(rt; ran.out.starts_with(OUTCOMES.as_bytes()));
+    assert_eq!(rt; ran.status, 0);
+    let again = [
+        File::whole("image", LOST_UPDATE),
+        File::whole("script", &files.written),
+    ];
+    let ran = line(&rt, &["rvtl", "replay", "image", "script"], &again);
+    assert_eq!(rt;
+        ran.err.as_slice(),
+        b"hart 0: exit 0\nhart 1: exit 0\n".as_slice()
+    );
+    assert_eq!(rt; ran.status, 0);
+    Ok(())
+}
+
+#[test]
+fn words_that_cannot_be_shown(rt: HostRuntime) -> Result<(), Fail> {
+    let files = [File::whole("image", LOST_UPDATE)];
+    for (words, message, status) in [
+        (
+            ["--show", "counter", "--show", "nowhere", "image"].as_slice(),
+            "rvtl: --show nowhere: no such symbol in IMAGE: name another (nm lists them) or give an address\n",
+            1,
+        ),
+        (
+            &["--show", "0x80000042", "image"],
+            "rvtl: --show 0x80000042: no aligned word of memory: choose a multiple of 4 from 0x80000000 to the end of --memory\n",
+            1,
+        ),
+        (
+            &["--show", "0x80001000", "--memory", "4", "image"],
+            "rvtl: --show 0x80001000: no aligned word of memory: choose a multiple of 4 from 0x80000000 to the end of --memory\n",
+            1,
+        ),
+        (
+            &["--show", "counter", "--sample", "3", "image"],
+            "rvtl: --show counter: not with --sample or --architecture: leave out one of them\n",
+            2,
+        ),
+        (
+            &["--show", "counter", "--architecture", "image"],
+            "rvtl: --show counter: not with --sample or --architecture: leave out one of them\n",
+            2,
+        ),
+        (
+            &["--show", "counter", "--harts", "9", "image"],
+            "rvtl: bad configuration\n",
+            2,
+        ),
+        (
+            &["--show", "counter", "gone"],
+            "rvtl: gone: cannot read\n",
+            1,
+        ),
+    ] {
+        let mut all = Vec::new(rt.alloc());
+        all.extend_from_slice(&["rvtl", "explore"])?;
+        all.extend_from_slice(words)?;
+        let ran = line(&rt, &all, &files);
+        assert_eq!(rt; ran.err.as_slice(), message.as_bytes(), "{message}");
+        assert_eq!(rt; ran.status, status, "{message}");
+        assert!(rt; ran.out.is_empty(), "{message}");
+    }
+    Ok(())
+}
