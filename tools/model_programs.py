@@ -1,8 +1,8 @@
 #!/usr/bin/env python3
-"""Writes the programs of whose memory models `comparisons` asks what they allow.
+"""Writes the programs of whose memory models `model_outcomes` asks what they allow.
 
-usage: tools/model_programs.py litmus > crates/comparisons/data/litmus
-       tools/model_programs.py straight > crates/comparisons/data/straight
+usage: tools/model_programs.py litmus > crates/model_outcomes/data/litmus
+       tools/model_programs.py straight > crates/model_outcomes/data/straight
 
 A line of `litmus` has a name, the number of harts, whether RVWMO and Ztso allow the outcome that is asked for, and the
 program's words from 0x80000000 on. The outcome asked for is that all harts exit with 0: each exits with 1 where a number

@@ -1,7 +1,7 @@
 //! Litmus programs, whose answers are published (tools/model_programs.py).
 
-use super::found::{allowed, config_of};
-use super::words::image_of_digits;
+use crate::found::{allowed, config_of};
+use crate::words::image_of_digits;
 use anyhow::{Context, Result, bail, ensure};
 use elf_loader::Image;
 use hart::Status;

@@ -1,8 +1,7 @@
 //! Images by their words, as text.
 
-use crate::images::{ImageKind, image_of};
-use anyhow::Result;
-use elf_loader::Image;
+use anyhow::{Context, Result, bail};
+use elf_loader::{Image, raw, size_of_kib};
 use std::alloc::Global;
 use std::str::Split;
 
@@ -13,5 +12,9 @@ pub fn image_of_digits(alloc: Global, words: Split<'_, char>) -> Result<Image> {
         let word = u32::from_str_radix(digits, 16)?;
         bytes.extend_from_slice(&word.to_le_bytes())?;
     }
-    image_of(alloc, ImageKind::Raw, &bytes, 4)
+    let size = size_of_kib(4).context("a memory size")?;
+    match raw(alloc, &bytes, size) {
+        Ok(image) => Ok(image),
+        Err(error) => bail!("image fault {error}"),
+    }
 }
