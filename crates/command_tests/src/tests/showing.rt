@@ -128,46 +128,49 @@ fn a_script_leads_to_where_no_store_waits(rt: HostRuntime) -> Result<(), Fail> {
     Ok(())
 }
 
+/// Words of a command line that are refused, what standard error tells, and the status.
+const REFUSED: [(&[&str], &str, u8); 7] = [
+    (
+        &["--show", "counter", "--show", "nowhere", "image"],
+        "rvtl: --show nowhere: no such symbol in IMAGE: name another (nm lists them) or give an address\n",
+        1,
+    ),
+    (
+        &["--show", "0x80000042", "image"],
+        "rvtl: --show 0x80000042: no aligned word of memory: choose a multiple of 4 from 0x80000000 to the end of --memory\n",
+        1,
+    ),
+    (
+        &["--show", "0x80001000", "--memory", "4", "image"],
+        "rvtl: --show 0x80001000: no aligned word of memory: choose a multiple of 4 from 0x80000000 to the end of --memory\n",
+        1,
+    ),
+    (
+        &["--show", "counter", "--sample", "3", "image"],
+        "rvtl: --show counter: not with --sample or --architecture: leave out one of them\n",
+        2,
+    ),
+    (
+        &["--show", "counter", "--architecture", "image"],
+        "rvtl: --show counter: not with --sample or --architecture: leave out one of them\n",
+        2,
+    ),
+    (
+        &["--show", "counter", "--harts", "9", "image"],
+        "rvtl: bad configuration\n",
+        2,
+    ),
+    (
+        &["--show", "counter", "gone"],
+        "rvtl: gone: cannot read\n",
+        1,
+    ),
+];
+
 #[test]
 fn words_that_cannot_be_shown(rt: HostRuntime) -> Result<(), Fail> {
     let files = [File::whole("image", LOST_UPDATE)];
-    for (words, message, status) in [
-        (
-            ["--show", "counter", "--show", "nowhere", "image"].as_slice(),
-            "rvtl: --show nowhere: no such symbol in IMAGE: name another (nm lists them) or give an address\n",
-            1,
-        ),
-        (
-            &["--show", "0x80000042", "image"],
-            "rvtl: --show 0x80000042: no aligned word of memory: choose a multiple of 4 from 0x80000000 to the end of --memory\n",
-            1,
-        ),
-        (
-            &["--show", "0x80001000", "--memory", "4", "image"],
-            "rvtl: --show 0x80001000: no aligned word of memory: choose a multiple of 4 from 0x80000000 to the end of --memory\n",
-            1,
-        ),
-        (
-            &["--show", "counter", "--sample", "3", "image"],
-            "rvtl: --show counter: not with --sample or --architecture: leave out one of them\n",
-            2,
-        ),
-        (
-            &["--show", "counter", "--architecture", "image"],
-            "rvtl: --show counter: not with --sample or --architecture: leave out one of them\n",
-            2,
-        ),
-        (
-            &["--show", "counter", "--harts", "9", "image"],
-            "rvtl: bad configuration\n",
-            2,
-        ),
-        (
-            &["--show", "counter", "gone"],
-            "rvtl: gone: cannot read\n",
-            1,
-        ),
-    ] {
+    for (words, message, status) in REFUSED {
         let mut all = Vec::new(rt.alloc());
         all.extend_from_slice(&["rvtl", "explore"])?;
         all.extend_from_slice(words)?;
