@@ -6,7 +6,7 @@ use Rattle.std.proofs.lemmas.List.{append_cancel_left, append_cancel_right, appe
 use Rattle.std.proofs.lemmas.List.Elements.{All-head, All-tail}
 use Rattle.std.proofs.lemmas.List.Sums.{fold-append}
 use Rattle.std.proofs.lemmas.Slice.Eq.{bytes_eq-Decides}
-use Rattle.architecture_command.specs.Keeping.{AreKept, IsFileIn, IsKeptAt, file_path, trace_path}
+use Rattle.architecture_command.specs.Keeping.{AreWaysKept, IsFileIn, IsWayKeptAt, file_path, trace_path}
 use Rattle.architecture_outcomes.specs.declared.outcome.Outcome.{Outcome}
 use Rattle.architecture_outcomes.specs.declared.outcome.Way.{Way}
 use Rattle.architecture_outcomes.specs.declared.outcome.Way.TheVariants.{Machine, Model, ModelAlone}
@@ -67,7 +67,7 @@ module _ (before after : Held) (machine : MachineOptions) (folder path : Name) (
   trace_stays : (name : Name) (trace : History) → after name ≡ before name → HoldsTrace before name trace → HoldsTrace after name trace
   trace_stays name trace same held = record { is_trace = held.is_trace; bytes = bytes_stay name (trace_of trace) same held.bytes }
 
-  kept_at : (name : Name) (way : Way) → name ≢ path → IsKeptAt before machine name way → IsKeptAt after machine name way
+  kept_at : (name : Name) (way : Way) → name ≢ path → IsWayKeptAt before machine name way → IsWayKeptAt after machine name way
   kept_at name (Machine (Events events)) another kept = script_stays name _ (others name another) kept
   kept_at name (Machine NoMemory) another kept = kept
   kept_at name (Machine Limit) another kept = kept
@@ -75,8 +75,8 @@ module _ (before after : Held) (machine : MachineOptions) (folder path : Name) (
   kept_at name (ModelAlone trace) another kept = trace_stays name _ (others name another) kept
   kept_at name (Model trace) another kept = trace_stays name _ (others name another) kept
 
-  kept_from : (number : ℕ) (outcomes : List Outcome) → ((n : ℕ) (w : Way) → number ≤ n → n < number + length outcomes → path ≢ file_path folder n w) → AreKept before machine folder number outcomes
-      → AreKept after machine folder number outcomes
+  kept_from : (number : ℕ) (outcomes : List Outcome) → ((n : ℕ) (w : Way) → number ≤ n → n < number + length outcomes → path ≢ file_path folder n w) → AreWaysKept before machine folder number outcomes
+      → AreWaysKept after machine folder number outcomes
   kept_from number [] differs kept = tt
   kept_from number (o ∷ os) differs kept = (
     kept_at (file_path folder number o.way) o.way (λ same. differs number o.way (omega arith) (omega arith) (sym same)) kept.0,
@@ -108,7 +108,7 @@ spares_one held before after machine folder path number way path_is others = spa
 pub record HasKept (held now : Held) (machine : MachineOptions) (folder : Name) (left all : List Outcome) : Type 0 where
   pub done : List Outcome
   pub whole : left ++ done ≡ all
-  pub kept : AreKept now machine folder (length left + 1) done
+  pub kept : AreWaysKept now machine folder (length left + 1) done
   pub spared : SparesOthers (IsFileIn folder) held now
 
 pub none_kept : (held : Held) (machine : MachineOptions) (folder : Name) (all : List Outcome) → HasKept held held machine folder all all
@@ -120,7 +120,7 @@ none_kept held machine folder all = record {
 }
 
 pub one_more : (held before after : Held) (machine : MachineOptions) (folder path : Name) (left front all : List Outcome) (last : Outcome) → length all < 2 ^ 64 → left ≡ front ++ last ∷ [] → path ≡ file_path folder (length left) last.way
-    → ((other : Name) → other ≢ path → after other ≡ before other) → IsKeptAt after machine path last.way → HasKept held before machine folder left all → HasKept held after machine folder front all
+    → ((other : Name) → other ≢ path → after other ≡ before other) → IsWayKeptAt after machine path last.way → HasKept held before machine folder left all → HasKept held after machine folder front all
 one_more held before after machine folder path left front all last small left_is path_is others written has =
     let count : length left ≡ length front + 1 = ap (λ (xs : List Outcome). length xs) left_is ∙ length-append front (last ∷ []) in
     let total : length left + length has.done ≡ length all = sym (length-append left has.done) ∙ ap (λ (xs : List Outcome). length xs) has.whole in
@@ -131,8 +131,8 @@ one_more held before after machine folder path left front all last small left_is
       done = last ∷ has.done;
       whole = sym (append_assoc front (last ∷ []) has.done) ∙ (ap (λ (xs : List Outcome). xs ++ has.done) (sym left_is) ∙ has.whole);
       kept = (
-        subst (λ (p : Name). IsKeptAt after machine p last.way) (path_is ∙ ap (λ n. file_path folder n last.way) count) written,
-        subst (λ (n : ℕ). AreKept after machine folder (n + 1) has.done) count (kept_from before after machine folder path others (length left + 1) has.done differs has.kept),
+        subst (λ (p : Name). IsWayKeptAt after machine p last.way) (path_is ∙ ap (λ n. file_path folder n last.way) count) written,
+        subst (λ (n : ℕ). AreWaysKept after machine folder (n + 1) has.done) count (kept_from before after machine folder path others (length left + 1) has.done differs has.kept),
       );
       spared = spares_one held before after machine folder path (length left) last.way path_is others has.spared;
     }

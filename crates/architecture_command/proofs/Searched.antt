@@ -1,7 +1,7 @@
 -- What is known of a search, and what it leaves.
 use Rattle.std.proofs.Common.{◌≡◌, ◌≢◌, ℕ, IfSome, List, Option, subst}
 use Rattle.std.specs.Io.KnownBytes.{Appends}
-use Rattle.architecture_command.specs.Keeping.{AreKept}
+use Rattle.architecture_command.specs.Keeping.{AreWaysKept}
 use Rattle.architecture_command.specs.Searching.{IsFoundUnder, IsPartlySearched, IsSearched}
 use Rattle.architecture_outcomes.specs.declared.architecture.Architecture.{Architecture}
 use Rattle.architecture_outcomes.specs.Outcomes.{outcomes_of}
@@ -30,7 +30,7 @@ module _ (held first : Held) (wanted : Explore) (window : ℕ) (config : Config)
   pub part : Begins old new (architecture_text found) → IsPartlySearched held wanted window old new
   part begun = record { image = image; architecture = found; image_file = image_file; found = is_found; begun = begun }
 
-  pub whole : (left : Held) (judgement : Judgement) → Appends old new (architecture_text found) → IfSome wanted.scripts (λ folder. AreKept left wanted.machine folder.now 1 found.outcomes.items)
+  pub whole : (left : Held) (judgement : Judgement) → Appends old new (architecture_text found) → IfSome wanted.scripts (λ folder. AreWaysKept left wanted.machine folder.now 1 found.outcomes.items)
       → IsJudged held wanted.allow (outcomes_of found.outcomes.items) judgement
       → (judgement ≡ Allowed → (found.machine ≢ extent.OutOfMemory) × (found.reach ≢ reach.OutOfMemory)) → IsSearched held left wanted window judgement old new
   whole left judgement printed kept by memory = record {

@@ -23,13 +23,13 @@ file_path folder number (ModelAlone trace) = trace_path folder number
 file_path folder number (Model trace) = trace_path folder number
 
 -- the file has the script of these events, for the machine that was named, or the trace of the lists and the order
-abbrev pub IsKeptAt : Held → MachineOptions → Name → Way → Type 0
-IsKeptAt left machine path (Machine (Events events)) = HoldsScript left path (script_named machine events.items)
-IsKeptAt left machine path (Machine NoMemory) = ⊥
-IsKeptAt left machine path (Machine Limit) = ⊥
-IsKeptAt left machine path (Machine Unrealised) = ⊥
-IsKeptAt left machine path (ModelAlone trace) = HoldsTrace left path trace.history
-IsKeptAt left machine path (Model trace) = HoldsTrace left path trace.history
+abbrev pub IsWayKeptAt : Held → MachineOptions → Name → Way → Type 0
+IsWayKeptAt left machine path (Machine (Events events)) = HoldsScript left path (script_named machine events.items)
+IsWayKeptAt left machine path (Machine NoMemory) = ⊥
+IsWayKeptAt left machine path (Machine Limit) = ⊥
+IsWayKeptAt left machine path (Machine Unrealised) = ⊥
+IsWayKeptAt left machine path (ModelAlone trace) = HoldsTrace left path trace.history
+IsWayKeptAt left machine path (Model trace) = HoldsTrace left path trace.history
 
 -- its trace, where it is told by one, is within the limits of a trace's text
 abbrev pub HasText : Way → Type 0
@@ -38,9 +38,9 @@ HasText (ModelAlone trace) = IsTrace trace.history
 HasText (Model trace) = IsTrace trace.history
 
 -- what shows each outcome, counted from a number on
-abbrev pub AreKept : Held → MachineOptions → Name → ℕ → List Outcome → Type 0
-AreKept left machine folder number [] = Unit {0}
-AreKept left machine folder number (o ∷ rest) = IsKeptAt left machine (file_path folder number o.way) o.way × AreKept left machine folder (number + 1) rest
+abbrev pub AreWaysKept : Held → MachineOptions → Name → ℕ → List Outcome → Type 0
+AreWaysKept left machine folder number [] = Unit {0}
+AreWaysKept left machine folder number (o ∷ rest) = IsWayKeptAt left machine (file_path folder number o.way) o.way × AreWaysKept left machine folder (number + 1) rest
 
 -- the file is one of those
 abbrev pub IsFileIn : Name → Name → Type 0

@@ -3,9 +3,9 @@ use Rattle.std.specs.Prelude.{◌≡◌, ◌≢◌, ℕ, All, IfSome, List, Opti
 use Rattle.std.specs.Io.KnownBytes.{Appends}
 use Rattle.std.specs.List.Sorted.{IsStrictlySortedBy}
 use Rattle.std.specs.Ordering.{on}
-use Rattle.architecture_command.specs.Keeping.{AreKept}
+use Rattle.architecture_command.specs.Keeping.{AreWaysKept}
 use Rattle.architecture_outcomes.specs.declared.architecture.Architecture.{Architecture}
-use Rattle.architecture_outcomes.specs.Outcomes.{IsShown, TellsEachEnd, outcome_of, outcomes_of}
+use Rattle.architecture_outcomes.specs.Outcomes.{IsWitnessed, TellsEachEnd, outcome_of, outcomes_of}
 use Rattle.architecture_outcomes.specs.Text.{architecture_text}
 use Rattle.command_files.specs.Files.{HoldsImage}
 use Rattle.command_files.specs.Held.{Held}
@@ -24,7 +24,7 @@ use Rattle.window_machine.specs.declared.allowed.Reach.TheVariants as reach
 
 -- what is said to show an outcome does; where the machine's own search is complete, each of its outcomes is told as one of the machine; the outcomes stand in their order, each once; where that search met its limit it found as many states
 pub record IsFoundUnder (image : Initial) (config : Config) (window limit : ℕ) (found : Architecture) : Type 0 where
-  pub shown : All (IsShown image config) found.outcomes.items
+  pub shown : All (IsWitnessed image config) found.outcomes.items
   pub machine : found.machine ≡ Complete → TellsEachEnd image config found.outcomes.items
   pub order : IsStrictlySortedBy (on outcome_of outcome_cmp) found.outcomes.items
   pub full : found.machine ≡ LimitMet → found.machine_states ≡ limit
@@ -38,7 +38,7 @@ pub record IsSearched (held left : Held) (wanted : Explore) (window : ℕ) (judg
   pub image_file : HoldsImage held wanted.raw wanted.image.now wanted.machine.memory image
   pub found : IsFoundUnder image (config_named wanted.machine) window wanted.states architecture
   pub printed : Appends old new (architecture_text architecture)
-  pub kept : IfSome wanted.scripts (λ folder. AreKept left wanted.machine folder.now 1 architecture.outcomes.items)
+  pub kept : IfSome wanted.scripts (λ folder. AreWaysKept left wanted.machine folder.now 1 architecture.outcomes.items)
   pub judged : IsJudged held wanted.allow (outcomes_of architecture.outcomes.items) judgement
   pub whole : judgement ≡ Allowed → (architecture.machine ≢ extent.OutOfMemory) × (architecture.reach ≢ reach.OutOfMemory)
 

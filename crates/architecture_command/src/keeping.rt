@@ -2,7 +2,7 @@
 
 ghost use Rattle.std.specs.Prelude.{◌≡◌, ◌≢◌, All, IfErr, IfOk, List, OnOk, true, ℕ};
 ghost use Rattle.std.specs.String.{string_bytes};
-ghost use Rattle.architecture_command.specs.Keeping.{AreKept, HasText, IsFileIn, IsKeptAt, file_path};
+ghost use Rattle.architecture_command.specs.Keeping.{AreWaysKept, HasText, IsFileIn, IsWayKeptAt, file_path};
 ghost use Rattle.command_files.specs.Files.{HoldsTrace};
 ghost use Rattle.command_files.specs.Sizes.{config_named};
 ghost use Rattle.elf_loader.specs.Size.{IsMemoryKib};
@@ -28,7 +28,7 @@ pub(crate) fn keep_outcomes<'a, F: Files>(
     requires within { is_within_limits (config_named folder.machine) ≡ true }
     requires memory { IsMemoryKib folder.machine.memory }
     requires readable { All (λ o. HasText o.way) outcomes.now }
-    ensures kept { OnOk result (AreKept (F.held files.new) folder.entry.machine folder.entry.name.now 1 outcomes.now) }
+    ensures kept { OnOk result (AreWaysKept (F.held files.new) folder.entry.machine folder.entry.name.now 1 outcomes.now) }
     ensures told { IfErr result (IsFolderFault folder.entry.name) }
     ensures spared { SparesOthers (IsFileIn folder.entry.name.now) (F.held files.old) (F.held files.new) }
 {
@@ -66,7 +66,7 @@ fn keep_at<'a, F: Files>(
     requires within { is_within_limits (config_named folder.machine) ≡ true }
     requires memory { IsMemoryKib folder.machine.memory }
     requires readable { HasText way.now }
-    ensures kept { OnOk result (IsKeptAt (F.held files.new) folder.entry.machine path.now way.now) }
+    ensures kept { OnOk result (IsWayKeptAt (F.held files.new) folder.entry.machine path.now way.now) }
     ensures told { IfErr result (IsFolderFault folder.entry.name) }
     ensures others { (other : List ℕ) → other ≢ path.now → F.held files.new other ≡ F.held files.old other }
 {

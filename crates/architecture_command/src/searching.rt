@@ -2,7 +2,7 @@
 
 ghost use Rattle.std.specs.Prelude.{◌≡◌, ◌≢◌, ◌<◌, ◌⊎◌, All, Err, IfErr, IfOk, IfSome, OnErr, OnOk, false, option_map, true};
 ghost use Rattle.std.specs.Io.KnownBytes.{Appends};
-ghost use Rattle.architecture_command.specs.Keeping.{AreKept, HasText, IsFileOf};
+ghost use Rattle.architecture_command.specs.Keeping.{AreWaysKept, HasText, IsFileOf};
 ghost use Rattle.architecture_command.specs.Searching.{IsPartlySearched, IsSearched};
 ghost use Rattle.architecture_outcomes.specs.Outcomes.{outcomes_of};
 ghost use Rattle.architecture_outcomes.specs.Text.{architecture_text};
@@ -95,7 +95,7 @@ fn keep<'a, F: Files, E: Write>(
     requires within { is_within_limits (config_named wanted.machine) ≡ true }
     requires memory { IsMemoryKib wanted.machine.memory }
     requires readable { All (λ o. HasText o.way) found.now.outcomes.items }
-    ensures kept { OnOk result (IfSome wanted.entry.scripts (λ folder. AreKept (F.held files.new) wanted.entry.machine folder.now 1 found.now.outcomes.items)) }
+    ensures kept { OnOk result (IfSome wanted.entry.scripts (λ folder. AreWaysKept (F.held files.new) wanted.entry.machine folder.now 1 found.now.outcomes.items)) }
     ensures told { IfErr result (IsNamedBy wanted.entry.scripts IsFolderFault) }
     ensures spared { SparesOthers (IsFileOf wanted.entry.scripts) (F.held files.old) (F.held files.new) }
 {

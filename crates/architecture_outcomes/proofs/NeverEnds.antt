@@ -2,7 +2,7 @@
 use Rattle.std.proofs.Common.{◌≡◌, ◌∙◌, ◌||◌, ◌<◌, ℕ, Bool, List, [], ◌∷◌, true, false, true≢false, zero, suc, Contains, ap, arith, is_eq, length, le_of_suc-le-suc, refl, slice_index_or, subst, sym}
 use Rattle.std.specs.List.{list_any}
 use Rattle.std.proofs.lemmas.Cmp.{tied_itself}
-use Rattle.architecture_outcomes.specs.Outcomes.{IsShown, NeverEnds, is_end, of_witness}
+use Rattle.architecture_outcomes.specs.Outcomes.{IsWitnessed, NeverEnds, is_end, of_witness}
 use Rattle.elf_loader.specs.Image.{Initial}
 use Rattle.explorer.specs.declared.found.Found.{Found}
 use Rattle.explorer.specs.Ends.{outcomes_of}
@@ -31,6 +31,6 @@ never image config found o each none events ended same =
 
 -- a witness of such an outcome shows it
 pub shown : (image : Initial) (config : Config) (found : List Found) (is_complete : Bool) (w : Witness) → (is_complete ≡ true → HasEachEnd image config (outcomes_of found)) → list_any (is_end (told w.harts.items)) found ≡ false
-    → IsWitness image config w → IsShown image config (of_witness is_complete w)
+    → IsWitness image config w → IsWitnessed image config (of_witness is_complete w)
 shown image config found true w each none is = (is, never image config found (told w.harts.items) (each refl) none)
 shown image config found false w each none is = is

@@ -4,7 +4,7 @@ use Rattle.std.proofs.lemmas.List.{get_or-map, length-map, map-append}
 use Rattle.std.proofs.lemmas.List.Elements.{All-append, All-map, Contains-append_right}
 use Rattle.std.proofs.lemmas.List.Sorted.{All-permutation, Contains-permutation, IsPermutation-map}
 use Rattle.architecture_outcomes.specs.declared.outcome.Outcome.{Outcome}
-use Rattle.architecture_outcomes.specs.Outcomes.{IsShown, TellsEachEnd, machine_end, of_found}
+use Rattle.architecture_outcomes.specs.Outcomes.{IsWitnessed, TellsEachEnd, machine_end, of_found}
 use Rattle.elf_loader.specs.Image.{Initial}
 use Rattle.explorer.specs.declared.found.Found.{Found}
 use Rattle.explorer.specs.Ends.{IsRealIn, outcomes_of}
@@ -28,10 +28,10 @@ told_found beyond found o has =
     (subst (λ (os : List (Option (List Result))). Contains os (Some o)) (sym (told_ends found)) (Contains-map Some (outcomes_of found) o has)))
 
 module _ (image : Initial) (config : Config) (beyond joined sorted : List Outcome) (found : List Found) (joined_is : joined ≡ beyond ++ map of_found found) (moved : IsPermutation joined sorted) where
-  pub all_shown : All (IsShown image config) beyond → All (IsRealIn image config) found → All (IsShown image config) sorted
+  pub all_shown : All (IsWitnessed image config) beyond → All (IsRealIn image config) found → All (IsWitnessed image config) sorted
   all_shown first second =
-      All-permutation (IsShown image config) joined sorted moved
-      (subst (All (IsShown image config)) (sym joined_is) (All-append (IsShown image config) beyond (map of_found found) first (All-map (IsShown image config) of_found found second)))
+      All-permutation (IsWitnessed image config) joined sorted moved
+      (subst (All (IsWitnessed image config)) (sym joined_is) (All-append (IsWitnessed image config) beyond (map of_found found) first (All-map (IsWitnessed image config) of_found found second)))
 
   pub each_told : HasEachEnd image config (outcomes_of found) → TellsEachEnd image config sorted
   each_told each events ended =

@@ -31,13 +31,13 @@ abbrev pub NeverEnds : Initial → Config → List Result → Type 0
 NeverEnds image config outcome = (events : List Event) → none_runs (led image config events).views.nodes ≡ true → results (led image config events) ≡ outcome → ⊥
 
 -- the machine's script leads there; or lists that are runs of the image from reset to their ends have a legal order, and the outcome is read off them; where it is the model's alone, the machine never ends so
-abbrev pub IsShownBy : Initial → Config → Outcome → Way → Type 0
-IsShownBy image config o (Machine script) = IsRealIn image config (record { harts = o.harts; script = script })
-IsShownBy image config o (ModelAlone trace) = IsWitness image config (record { harts = o.harts; trace = trace }) × NeverEnds image config (outcome_of o)
-IsShownBy image config o (Model trace) = IsWitness image config (record { harts = o.harts; trace = trace })
+abbrev pub IsWitnessedBy : Initial → Config → Outcome → Way → Type 0
+IsWitnessedBy image config o (Machine script) = IsRealIn image config (record { harts = o.harts; script = script })
+IsWitnessedBy image config o (ModelAlone trace) = IsWitness image config (record { harts = o.harts; trace = trace }) × NeverEnds image config (outcome_of o)
+IsWitnessedBy image config o (Model trace) = IsWitness image config (record { harts = o.harts; trace = trace })
 
-abbrev pub IsShown : Initial → Config → Outcome → Type 0
-IsShown image config o = IsShownBy image config o o.way
+abbrev pub IsWitnessed : Initial → Config → Outcome → Type 0
+IsWitnessed image config o = IsWitnessedBy image config o o.way
 
 -- ---- where outcomes come from
 

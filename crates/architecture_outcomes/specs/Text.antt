@@ -7,8 +7,8 @@ use Rattle.architecture_outcomes.specs.declared.outcome.Way.TheVariants as way
 use Rattle.architecture_outcomes.specs.Outcomes.{outcome_of}
 use Rattle.exploration_text.specs.Text.{harts_text}
 use Rattle.explorer.specs.declared.found.Script.TheVariants.{Events, Limit, NoMemory, Unrealised}
-use Rattle.memory_model.specs.declared.Model.{Model}
-use Rattle.memory_model.specs.declared.Model.TheVariants.{Rvwmo, Ztso}
+use Rattle.memory_model.specs.declared.MemoryModel.{MemoryModel}
+use Rattle.memory_model.specs.declared.MemoryModel.TheVariants.{Rvwmo, Ztso}
 use Rattle.state_search.specs.declared.findings.Extent.{Extent}
 use Rattle.state_search.specs.declared.findings.Extent.TheVariants as extent
 use Rattle.window_machine.specs.declared.allowed.Reach.{Reach}
@@ -16,12 +16,12 @@ use Rattle.window_machine.specs.declared.allowed.Reach.TheVariants as reach
 
 -- ---- outcomes
 
-abbrev pub model_text : Model → List ℕ
+abbrev pub model_text : MemoryModel → List ℕ
 model_text Rvwmo = codes "RVWMO"
 model_text Ztso = codes "Ztso"
 
 -- who comes to it
-abbrev pub way_text : Model → Way → List ℕ
+abbrev pub way_text : MemoryModel → Way → List ℕ
 way_text model (way.Machine (Events events)) = codes "this machine"
 way_text model (way.Machine NoMemory) = codes "without a script"
 way_text model (way.Machine Limit) = codes "without a script"
@@ -29,11 +29,11 @@ way_text model (way.Machine Unrealised) = codes "without a script"
 way_text model (way.ModelAlone trace) = model_text model ++ codes " alone"
 way_text model (way.Model trace) = model_text model
 
-abbrev pub outcome_line : Model → ℕ → Outcome → List ℕ
+abbrev pub outcome_line : MemoryModel → ℕ → Outcome → List ℕ
 outcome_line model number o = decimal number ++ (harts_text 0 (outcome_of o) ++ (codes "   " ++ (way_text model o.way ++ codes "\n")))
 
 -- counted from a number on
-abbrev pub outcome_lines : Model → ℕ → List Outcome → List ℕ
+abbrev pub outcome_lines : MemoryModel → ℕ → List Outcome → List ℕ
 outcome_lines model number [] = []
 outcome_lines model number (o ∷ os) = outcome_line model number o ++ outcome_lines model (number + 1) os
 

@@ -1,7 +1,7 @@
 //! What is found of a program under a memory model.
 
 use crate::outcome::Outcome;
-use machine_model::Model;
+use machine_model::MemoryModel;
 use state_search::Extent;
 use window_machine::Reach;
 
@@ -11,7 +11,7 @@ pub struct Architecture {
     /// By hart: status first, then the numbers that were put out.
     pub outcomes: Vec<Outcome>,
     /// The model under which they are allowed.
-    pub model: Model,
+    pub model: MemoryModel,
     /// How many operations of a hart might wait.
     pub window: u32,
     /// How far the search under the model came.

@@ -3,7 +3,7 @@ ghost use Rattle.std.specs.Prelude.{◌≡◌, ◌||◌, All, IfOk, IsTrue};
 ghost use Rattle.std.specs.List.{list_any};
 ghost use Rattle.std.specs.List.Sorted.{IsStrictlySortedBy};
 ghost use Rattle.std.specs.Ordering.{on};
-ghost use Rattle.architecture_outcomes.specs.Outcomes.{IsShown, TellOnce, is_end, tells};
+ghost use Rattle.architecture_outcomes.specs.Outcomes.{IsWitnessed, TellOnce, is_end, tells};
 ghost use Rattle.explorer.specs.Ends.{outcome_of, outcomes_of};
 ghost use Rattle.explorer.specs.Outcomes.{HasEachEnd};
 ghost use Rattle.explorer.specs.Ranks.{outcome_cmp};
@@ -77,7 +77,7 @@ pub(crate) fn beyond(
     requires witnessed { All (IsWitness image.now config) witnesses.items }
     requires complete { IsTrue is_complete → HasEachEnd image.now config (outcomes_of found.now) }
     requires once { IsStrictlySortedBy (on outcome_of outcome_cmp) found.now }
-    ensures shown { IfOk result (λ outcomes. All (IsShown image.now config) outcomes.items) }
+    ensures shown { IfOk result (λ outcomes. All (IsWitnessed image.now config) outcomes.items) }
     ensures once { IfOk result (λ outcomes. TellOnce found.now outcomes.items) }
 {
     let mut outcomes = Vec::new(alloc);

@@ -2,7 +2,7 @@
 ghost use Rattle.std.specs.Prelude.{◌≡◌, ◌<◌, ◌++◌, All, IfOk, IsTrue, OnOk, map};
 ghost use Rattle.std.specs.List.Sorted.{IsStrictlySortedBy};
 ghost use Rattle.std.specs.Ordering.{on};
-ghost use Rattle.architecture_outcomes.specs.Outcomes.{IsShown, TellsEachEnd, of_found, outcome_of};
+ghost use Rattle.architecture_outcomes.specs.Outcomes.{IsWitnessed, TellsEachEnd, of_found, outcome_of};
 ghost use Rattle.explorer.specs.Ranks.{outcome_cmp};
 ghost use Rattle.machine_model.specs.Config.{is_within_limits};
 
@@ -31,7 +31,7 @@ pub fn explore_architecture(
     requires room { 0 < limit }
 
     // What is said to show an outcome does.
-    ensures shown { IfOk result (λ a. All (IsShown image.now config) a.outcomes.items) }
+    ensures shown { IfOk result (λ a. All (IsWitnessed image.now config) a.outcomes.items) }
 
     // Where the machine's own search is complete, each of its outcomes is told as one of the machine.
     ensures machine { IfOk result (λ a. a.machine ≡ Extent.Complete → TellsEachEnd image.now config a.outcomes.items) }

@@ -10,7 +10,7 @@ use exploration_text::harts_text;
 use explorer::Script;
 use flat_model::HartResult;
 use itoa::Buffer;
-use machine_model::Model;
+use machine_model::MemoryModel;
 use state_search::Extent;
 use std::alloc::{AllocError, Global};
 use window_machine::Reach;
@@ -31,17 +31,17 @@ fn spell_harts(alloc: Global, into: &mut Vec<u8>, harts: &[HartResult]) -> Resul
     Ok(())
 }
 
-fn spell_model(into: &mut Vec<u8>, model: Model) -> Result<(), AllocError>
+fn spell_model(into: &mut Vec<u8>, model: MemoryModel) -> Result<(), AllocError>
     ensures { OnOk result (into.new.items ≡ into.old.items ++ text.model_text model) }
 {
     match model {
-        Model::Rvwmo => into.extend_from_slice(b"RVWMO")?,
-        Model::Ztso => into.extend_from_slice(b"Ztso")?,
+        MemoryModel::Rvwmo => into.extend_from_slice(b"RVWMO")?,
+        MemoryModel::Ztso => into.extend_from_slice(b"Ztso")?,
     }
     Ok(())
 }
 
-fn spell_way(into: &mut Vec<u8>, model: Model, way: &Way) -> Result<(), AllocError>
+fn spell_way(into: &mut Vec<u8>, model: MemoryModel, way: &Way) -> Result<(), AllocError>
     ensures { OnOk result (into.new.items ≡ into.old.items ++ text.way_text model way.now) }
 {
     match way {
@@ -61,7 +61,7 @@ fn spell_way(into: &mut Vec<u8>, model: Model, way: &Way) -> Result<(), AllocErr
 fn spell_outcome(
     alloc: Global,
     into: &mut Vec<u8>,
-    model: Model,
+    model: MemoryModel,
     number: usize,
     outcome: &Outcome,
 ) -> Result<(), AllocError>
@@ -78,7 +78,7 @@ fn spell_outcome(
 fn spell_outcomes(
     alloc: Global,
     into: &mut Vec<u8>,
-    model: Model,
+    model: MemoryModel,
     outcomes: &[Outcome],
 ) -> Result<(), AllocError>
     ensures { OnOk result (into.new.items ≡ into.old.items ++ text.outcome_lines model 1 outcomes.now) }

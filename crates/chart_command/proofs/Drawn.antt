@@ -5,7 +5,7 @@ use Rattle.std.specs.Io.KnownBytes.{Appends, Keeps}
 use Rattle.coherent_machine.specs.Machine.{IsFirstRefusal}
 use Rattle.coherent_machine.specs.declared.errors.NewError.TheVariants as making
 use Rattle.coherent_machine.specs.declared.errors.ReplayError.TheVariants as refusals
-use Rattle.chart_command.specs.Charting.{IsAddress, IsChartFault, IsDrawingFault, IsStopped}
+use Rattle.chart_command.specs.Charting.{IsAddress, IsChartFault, IsDrawingFault, IsPictureCutOff}
 use Rattle.command_files.specs.Faults.{Name}
 use Rattle.command_files.specs.Files.{HoldsImage, HoldsScript}
 use Rattle.command_files.specs.Held.{Held}
@@ -57,13 +57,13 @@ undrawn_at image config wanted events given address style old new error same_con
 -- a script, an image and an address whose picture broke off
 pub stopped : (held : Held) (replay : Replay) (line : Option Name) (script : Script) (image : Initial) (address : Option ℕ) (style : List ℕ) (old new : Option (List ℕ))
     → HoldsScript held replay.script.now script → HoldsImage held replay.raw replay.image.now script.kib image → IsAddress line address
-    → IsBegun image (config_of script replay.model) script.events address style old new → IsStopped held replay line old new
+    → IsBegun image (config_of script replay.model) script.events address style old new → IsPictureCutOff held replay line old new
 stopped held replay line script image address style old new script_file image_file named begun =
     record { script = script; image = image; address = address; style = style; script_file = script_file; image_file = image_file; named = named; begun = begun }
 
 pub left_or_stopped : (held : Held) (replay : Replay) (line : Option Name) (script : Script) (image : Initial) (address : Option ℕ) (style : List ℕ) (old new : Option (List ℕ)) (error : ChartError)
     → HoldsScript held replay.script.now script → HoldsImage held replay.raw replay.image.now script.kib image → IsAddress line address
-    → IsUndrawn image (config_of script replay.model) script.events address style old new error → (new ≡ old) ⊎ IsStopped held replay line old new
+    → IsUndrawn image (config_of script replay.model) script.events address style old new error → (new ≡ old) ⊎ IsPictureCutOff held replay line old new
 left_or_stopped held replay line script image address style old new error script_file image_file named h = elim (undrawn_is image (config_of script replay.model) script.events address style old new new error h) [
   | inl same ↦ inl same
   | inr begun ↦ inr (stopped held replay line script image address style old new script_file image_file named begun)

@@ -45,7 +45,7 @@ pub record IsCharted (held : Held) (replay : Replay) (line : Option Name) (old n
   pub drawn : IsDrawn image (config_of script replay.model) script.events address style old new
 
 -- a beginning of that picture was appended, where the output took no more
-pub record IsStopped (held : Held) (replay : Replay) (line : Option Name) (old new : Option (List ℕ)) : Type 0 where
+pub record IsPictureCutOff (held : Held) (replay : Replay) (line : Option Name) (old new : Option (List ℕ)) : Type 0 where
   pub script : Script
   pub image : Initial
   pub address : Option ℕ

@@ -2,7 +2,7 @@
 
 ghost use Rattle.std.specs.Prelude.{◌≡◌, ◌⊎◌, IfErr, IfOk, OnOk};
 ghost use Rattle.command_files.specs.Status.{status_of};
-ghost use Rattle.chart_command.specs.Charting.{IsAddress, IsChartFault, IsCharted, IsDrawingFault, IsNoAddress, IsStopped};
+ghost use Rattle.chart_command.specs.Charting.{IsAddress, IsChartFault, IsCharted, IsDrawingFault, IsNoAddress, IsPictureCutOff};
 
 use crate::address::address_in;
 use chart_drawing::STYLE;
@@ -50,7 +50,7 @@ pub fn chart_files<'a, F: Files, O: Write>(
     out: &mut O,
 ) -> Result<(), Fault<'a>>
     ensures charted { OnOk result (IsCharted (F.held files.old) wanted.entry line.entry (O.contents out.old) (O.contents out.new)) }
-    ensures unfinished { IfErr result (λ _. (O.contents out.new ≡ O.contents out.old) ⊎ IsStopped (F.held files.old) wanted.entry line.entry (O.contents out.old) (O.contents out.new)) }
+    ensures unfinished { IfErr result (λ _. (O.contents out.new ≡ O.contents out.old) ⊎ IsPictureCutOff (F.held files.old) wanted.entry line.entry (O.contents out.old) (O.contents out.new)) }
     ensures misused { IfErr result (λ fault. status_of fault ≡ 2 → IsNoAddress line.entry fault × (O.contents out.new ≡ O.contents out.old)) }
     ensures told { IfErr result (IsChartFault (F.held files.old) wanted.entry line.entry) }
     ensures spared { F.held files.new ≡ F.held files.old }

@@ -1,6 +1,6 @@
 //! The texts of a chart.
 ghost use Rattle.std.specs.Prelude.{◌≡◌, ◌+◌, ◌≤◌, ◌++◌, length};
-ghost use Rattle.text_fields.specs.Pages.{HasRoom, size};
+ghost use Rattle.text_fields.specs.Pages.{HasLineRoom, size};
 ghost use Rattle.chart_rows.specs.Texts as texts;
 
 use crate::rows::{Note, Row, Story};
@@ -47,7 +47,7 @@ fn spell_answer(page: &mut Page, answer: Option<bool>)
 }
 
 fn spell_retired(page: &mut Page, entry: &Retired)
-    requires { HasRoom page.old }
+    requires { HasLineRoom page.old }
     ensures { page.new ≡ page.old ++ texts.retired entry.now }
 {
     spell_instruction(page, entry);
@@ -57,7 +57,7 @@ fn spell_retired(page: &mut Page, entry: &Retired)
 
 /// What is told of something that a core did.
 pub fn spell_note(page: &mut Page, note: &Note)
-    requires { HasRoom page.old }
+    requires { HasLineRoom page.old }
     ensures { page.new ≡ page.old ++ texts.note note.now }
 {
     match note {
@@ -101,7 +101,7 @@ fn spell_outcome(page: &mut Page, outcome: Outcome)
 
 /// The event of a row, behind the number of its line in the script.
 pub fn spell_row(page: &mut Page, row: &Row)
-    requires { HasRoom page.old }
+    requires { HasLineRoom page.old }
     ensures { page.new ≡ page.old ++ texts.row row.now }
 {
     page.number(row.script_line as u64, b' ');
@@ -110,7 +110,7 @@ pub fn spell_row(page: &mut Page, row: &Row)
 }
 
 pub(crate) fn spell_title(page: &mut Page, harts: u8)
-    requires { HasRoom page.old }
+    requires { HasLineRoom page.old }
     ensures { page.new ≡ page.old ++ texts.title harts }
 {
     page.text(b"A run, harts: ");
@@ -119,7 +119,7 @@ pub(crate) fn spell_title(page: &mut Page, harts: u8)
 
 /// What a screen reader tells of the picture.
 pub(crate) fn spell_description(page: &mut Page, story: &Story)
-    requires { HasRoom page.old }
+    requires { HasLineRoom page.old }
     ensures { page.new ≡ page.old ++ texts.description story.now }
 {
     page.text(

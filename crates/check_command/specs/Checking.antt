@@ -6,7 +6,7 @@ use Rattle.command_files.specs.declared.fault.Fault.{Fault}
 use Rattle.command_files.specs.Faults.{Name}
 use Rattle.memory_model.specs.Traces.{IsLegalOrder, completed}
 use Rattle.memory_model.specs.Verdict.{fault_in}
-use Rattle.memory_model.specs.declared.Model.{Model}
+use Rattle.memory_model.specs.declared.MemoryModel.{MemoryModel}
 use Rattle.rvwmo_order.specs.Answers.{fault_told, refusal}
 use Rattle.rvwmo_order.specs.Codes.{code_number}
 use Rattle.rvwmo_order.specs.declared.error.CheckError.{CheckError}
@@ -31,20 +31,20 @@ verdict_text (AtFault code a b) =
     codes "fault " ++ (decimal (code_number code) ++ (codes " " ++ (operation_text a ++ (codes " " ++ (operation_text b ++ codes "\n")))))
 
 -- the verdict on a trace's completed order, where the checker doesn't refuse it: legal, or the first fault that the order has
-pub record IsVerdict (model : Model) (trace : History) (verdict : Verdict) : Type 0 where
+pub record IsVerdict (model : MemoryModel) (trace : History) (verdict : Verdict) : Type 0 where
   pub judged : refusal trace (completed trace) ≡ None
   pub legal : (verdict ≡ Legal) ↔ IsLegalOrder model trace (completed trace)
   pub first : fault_told verdict ≡ fault_in model trace (completed trace)
 
 -- what was appended is the verdict on the trace in the file
-pub record IsJudged (held : Held) (name : List ℕ) (model : Model) (verdict : Verdict) (old new : Option (List ℕ)) : Type 0 where
+pub record IsVerdictTold (held : Held) (name : List ℕ) (model : MemoryModel) (verdict : Verdict) (old new : Option (List ℕ)) : Type 0 where
   pub trace : History
   pub file : HoldsTrace held name trace
   pub judged : IsVerdict model trace verdict
   pub printed : Appends old new (verdict_text verdict)
 
 -- it took no more than a beginning of the verdict on the trace in the file
-pub record IsVerdictCutOff (held : Held) (name : List ℕ) (model : Model) (old new : Option (List ℕ)) : Type 0 where
+pub record IsVerdictCutOff (held : Held) (name : List ℕ) (model : MemoryModel) (old new : Option (List ℕ)) : Type 0 where
   pub trace : History
   pub verdict : Verdict
   pub file : HoldsTrace held name trace

@@ -4,13 +4,13 @@ ghost use Rattle.std.specs.Prelude.{◌≡◌, ◌≢◌, IfErr, IfOk};
 ghost use Rattle.memory_model.specs.Traces as traces;
 ghost use Rattle.rvwmo_order.specs.Answers.{refusal};
 ghost use Rattle.text_fields.specs.Writing.{Writes};
-ghost use Rattle.check_command.specs.Checking.{IsJudged, IsVerdict, IsVerdictCutOff, verdict_text};
+ghost use Rattle.check_command.specs.Checking.{IsVerdictTold, IsVerdict, IsVerdictCutOff, verdict_text};
 ghost use Rattle.check_command.specs.Checking.{IsCheckFault};
-ghost use Rattle.command_files.specs.Faults.{Leaves};
+ghost use Rattle.command_files.specs.Faults.{LeavesAtFault};
 
 use command_files::{Fault, Files, remark, text_in};
 use file_remarks::TraceRemark;
-use machine_model::Model;
+use machine_model::MemoryModel;
 use order_remarks::{OrderRemark, RunRemark};
 use rvwmo_order::{CheckError, Verdict, check_model, completed, has_too_many};
 use std::alloc::Global;
@@ -24,11 +24,11 @@ pub fn check_file<'a, F: Files, O: Write>(
     alloc: Global,
     files: &mut F,
     file: &'a str,
-    model: Model,
+    model: MemoryModel,
     out: &mut O,
 ) -> Result<Verdict, Fault<'a>>
-    ensures judged { IfOk result (λ verdict. IsJudged (F.held files.old) file.entry.now model verdict (O.contents out.old) (O.contents out.new)) }
-    ensures unfinished { IfErr result (λ fault. Leaves fault (O.contents out.old) (O.contents out.new)
+    ensures judged { IfOk result (λ verdict. IsVerdictTold (F.held files.old) file.entry.now model verdict (O.contents out.old) (O.contents out.new)) }
+    ensures unfinished { IfErr result (λ fault. LeavesAtFault fault (O.contents out.old) (O.contents out.new)
         (IsVerdictCutOff (F.held files.old) file.entry.now model (O.contents out.old) (O.contents out.new))) }
     ensures told { IfErr result (IsCheckFault (F.held files.old) file.entry) }
     ensures spared { F.held files.new ≡ F.held files.old }
@@ -73,7 +73,7 @@ pub fn check_file<'a, F: Files, O: Write>(
     }
 }
 
-fn judged(alloc: Global, trace: &Trace, model: Model) -> Result<Verdict, CheckError>
+fn judged(alloc: Global, trace: &Trace, model: MemoryModel) -> Result<Verdict, CheckError>
     ensures judged { IfOk result (IsVerdict model trace.now.history) }
     ensures refused { IfErr result (λ error. error ≢ CheckError.NoMemory → refusal trace.now.history (traces.completed trace.now.history) ≡ Some error) }
 {

@@ -4,7 +4,7 @@ ghost use Rattle.std.specs.Prelude.{◌≡◌, IfErr, IfOk};
 ghost use Rattle.text_fields.specs.Writing.{Writes};
 ghost use Rattle.log_text.specs.Verdicts.{verdict_text};
 ghost use Rattle.check_command.specs.Messages.{IsLogCutOff, IsLogFault, IsLogJudged};
-ghost use Rattle.command_files.specs.Faults.{Leaves};
+ghost use Rattle.command_files.specs.Faults.{LeavesAtFault};
 
 use command_files::{Fault, Files, text_in};
 use lawful_log::{LogVerdict, check_log};
@@ -25,7 +25,7 @@ pub fn check_messages<'a, F: Files, O: Write, E: Write>(
     err: &mut E,
 ) -> Result<LogVerdict, Fault<'a>>
     ensures judged { IfOk result (λ verdict. IsLogJudged (F.held files.old) file.entry.now verdict (O.contents out.old) (O.contents out.new)) }
-    ensures unfinished { IfErr result (λ fault. Leaves fault (O.contents out.old) (O.contents out.new)
+    ensures unfinished { IfErr result (λ fault. LeavesAtFault fault (O.contents out.old) (O.contents out.new)
         (IsLogCutOff (F.held files.old) file.entry.now (O.contents out.old) (O.contents out.new))) }
     ensures told { IfErr result (IsLogFault (F.held files.old) file.entry) }
     ensures spared { F.held files.new ≡ F.held files.old }

@@ -2,14 +2,14 @@
 use Rattle.std.proofs.Common.{◌≡◌, ◌⊎◌, ℕ, Bool, Err, IfErr, IsErrAnd, List, Ok, Option, Result, inl, inr, refl, subst, sym}
 use Rattle.command_files.specs.Held.{Held}
 use Rattle.command_files.specs.Status.{status_of}
-use Rattle.command_files.specs.Faults.{IsImageFault, IsReadFault, IsScriptFault, Leaves, Name}
+use Rattle.command_files.specs.Faults.{IsImageFault, IsReadFault, IsScriptFault, LeavesAtFault, Name}
 use Rattle.command_files.specs.declared.fault.Fault.{Fault}
 use Rattle.command_files.specs.declared.fault.Unshown.{Unshown}
 use Rattle.command_files.specs.declared.fault.Fault.TheVariants.{BadAddress, BadEvent, BytesAfterTrace, CannotMake, CannotRead, CannotShow, CannotWrite, Check, Configuration, Event, Image, Mismatch, NoThread, NothingHappens, OutOfMemory, Text, TooManyRows}
 
 module _ (old new : Option (List ℕ)) (broken : Type 0) where
   -- any fault but the output's leaves it as it was
-  pub left : (fault : Fault) → (fault ≡ CannotWrite → ⊥) → new ≡ old → Leaves fault old new broken
+  pub left : (fault : Fault) → (fault ≡ CannotWrite → ⊥) → new ≡ old → LeavesAtFault fault old new broken
   left CannotWrite other same = absurd (other refl)
   left OutOfMemory other same = inl same
   left (CannotRead file) other same = same
@@ -28,13 +28,13 @@ module _ (old new : Option (List ℕ)) (broken : Type 0) where
   left BadEvent other same = same
   left Configuration other same = same
 
-  pub spoiled : (fault : Fault) → (fault ≡ CannotWrite) ⊎ (fault ≡ OutOfMemory) → broken → Leaves fault old new broken
+  pub spoiled : (fault : Fault) → (fault ≡ CannotWrite) ⊎ (fault ≡ OutOfMemory) → broken → LeavesAtFault fault old new broken
   spoiled fault is so = elim is [
-    | inl at ↦ subst (λ f. Leaves f old new broken) (sym at) so
-    | inr at ↦ subst (λ f. Leaves f old new broken) (sym at) (inr so)
+    | inl at ↦ subst (λ f. LeavesAtFault f old new broken) (sym at) so
+    | inr at ↦ subst (λ f. LeavesAtFault f old new broken) (sym at) (inr so)
   ]
 
-  pub either : (fault : Fault) → Leaves fault old new broken → (new ≡ old) ⊎ broken
+  pub either : (fault : Fault) → LeavesAtFault fault old new broken → (new ≡ old) ⊎ broken
   either CannotWrite so = inr so
   either OutOfMemory so = so
   either (CannotRead file) so = inl so

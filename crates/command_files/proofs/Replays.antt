@@ -7,7 +7,7 @@ use Rattle.elf_loader.specs.Image.{Initial}
 use Rattle.machine_model.specs.Views.{State, opening}
 use Rattle.machine_model.specs.declared.config.Config.{Config}
 use Rattle.machine_model.specs.declared.event.Event.{Event}
-use Rattle.memory_model.specs.declared.Model.{Model}
+use Rattle.memory_model.specs.declared.MemoryModel.{MemoryModel}
 use Rattle.trace_text.specs.MachineTraces.{EveryTraceHasAText}
 use Rattle.trace_text.specs.TraceLimits.{IsTrace}
 use Rattle.trace_text.specs.declared.script.Script.{Script}
@@ -15,7 +15,7 @@ use Rattle.trace_text.specs.declared.script.Script.{Script}
 pub readable : EveryTraceHasAText → (s : State) → IsReached s → IsTrace s.trace
 readable law s r = subst (λ (s : State). IsTrace s.trace) r.leads (law s.trace.image s.views.config r.events r.loaded r.within)
 
-pub leads_there : (image : Initial) (script : Script) (model : Model) (config : Config) (events : List Event) (s : State)
+pub leads_there : (image : Initial) (script : Script) (model : MemoryModel) (config : Config) (events : List Event) (s : State)
     → config ≡ config_of script model → events ≡ script.events
     → replayed_from 0 (opening image config) events ≡ Replayed.Reached s → Leads image script model s
 leads_there image script model config events s config_is events_are p =

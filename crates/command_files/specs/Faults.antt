@@ -85,7 +85,7 @@ IsReplayFault held replay OutOfMemory = Unit {0}
 IsReplayFault held replay _ = ⊥
 
 -- nothing, but where the output itself had the fault or memory ran out
-abbrev pub Leaves : Fault → Option (List ℕ) → Option (List ℕ) → Type 0 → Type 0
-Leaves CannotWrite old new broken = broken
-Leaves OutOfMemory old new broken = (new ≡ old) ⊎ broken
-Leaves _ old new broken = new ≡ old
+abbrev pub LeavesAtFault : Fault → Option (List ℕ) → Option (List ℕ) → Type 0 → Type 0
+LeavesAtFault CannotWrite old new broken = broken
+LeavesAtFault OutOfMemory old new broken = (new ≡ old) ⊎ broken
+LeavesAtFault _ old new broken = new ≡ old

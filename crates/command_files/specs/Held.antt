@@ -7,9 +7,9 @@ abbrev pub Held : Type 0
 Held = List ℕ → Option (List ℕ)
 
 -- a reader of the file still has all of it to read
-abbrev pub Gives : Option (List ℕ) → Option (List ℕ) → Type 0
-Gives None left = Unit {0}
-Gives (Some bytes) left = left ≡ Some bytes
+abbrev pub IsUnread : Option (List ℕ) → Option (List ℕ) → Type 0
+IsUnread None left = Unit {0}
+IsUnread (Some bytes) left = left ≡ Some bytes
 
 -- a file of these bytes, where they are known
 abbrev pub HoldsBytes : Held → List ℕ → List ℕ → Type 0

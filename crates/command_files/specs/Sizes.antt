@@ -4,12 +4,12 @@ use Rattle.command_settings.specs.declared.wanted.MachineOptions.{MachineOptions
 use Rattle.elf_loader.specs.Size.{IsMemoryKib}
 use Rattle.machine_model.specs.Config.{is_within_limits}
 use Rattle.machine_model.specs.declared.config.Config.{Config}
-use Rattle.memory_model.specs.declared.Model.{Model}
+use Rattle.memory_model.specs.declared.MemoryModel.{MemoryModel}
 use Rattle.machine_model.specs.declared.event.Event.{Event}
 use Rattle.trace_text.specs.declared.script.Script.{Script}
 
 -- the machine that a script is for
-abbrev pub config_of : Script → Model → Config
+abbrev pub config_of : Script → MemoryModel → Config
 config_of s model = record { harts = s.harts; sets = s.sets; ways = s.ways; line = s.line; model = model }
 
 -- the machine that the words name

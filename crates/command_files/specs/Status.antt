@@ -54,6 +54,6 @@ IsStreamFault script (stream.Idle index outcome) told = told ≡ NothingHappens 
 IsStreamFault script (stream.Writing error) told = (told ≡ CannotWrite) ⊎ (told ≡ OutOfMemory)
 
 -- no memory for the machine, or for what an event adds
-abbrev pub IsNoMemory : ReplayError → Type 0
-IsNoMemory (replay.New error) = error ≡ making.NoMemory
-IsNoMemory (replay.Event index error) = error ≡ applying.NoMemory
+abbrev pub IsOutOfMemory : ReplayError → Type 0
+IsOutOfMemory (replay.New error) = error ≡ making.NoMemory
+IsOutOfMemory (replay.Event index error) = error ≡ applying.NoMemory

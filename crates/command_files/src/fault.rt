@@ -2,7 +2,7 @@
 
 ghost use Rattle.std.specs.Prelude.{◌≡◌, ◌≢◌, ◌↔◌, ◌⊎◌, ◌+◌, ◌-◌, ◌^◌, ℕ, min};
 ghost use Rattle.std.specs.IoError.{error_kind};
-ghost use Rattle.command_files.specs.Status.{IsNoMemory, IsStreamFault, status_of};
+ghost use Rattle.command_files.specs.Status.{IsOutOfMemory, IsStreamFault, status_of};
 
 use coherent_machine::{ApplyError, NewError, ReplayError};
 use elf_loader::LoadError;
@@ -205,7 +205,7 @@ impl<'a> Fault<'a> {
         ensures told { (result ≡ Fault.Configuration) ⊎ ((result ≡ Fault.OutOfMemory) ⊎ ((index : ℕ) × (refusal : _)
             × (error ≡ ReplayError.Event index refusal) × (result ≡ Fault.Event script.entry (min (index + 2) (2 ^ 64 - 1)) refusal))) }
         ensures configuration { (result ≡ Fault.Configuration) ↔ (error ≡ ReplayError.New NewError.Config) }
-        ensures memory { (result ≡ Fault.OutOfMemory) ↔ IsNoMemory error }
+        ensures memory { (result ≡ Fault.OutOfMemory) ↔ IsOutOfMemory error }
     {
         match error {
             ReplayError::New(NewError::Config) => Fault::Configuration,

@@ -1,7 +1,7 @@
 //! Where the program's files come from, and where it makes one.
 
 ghost use Rattle.std.specs.Prelude.{◌≡◌, ◌≢◌, ℕ, IfOk, List, None, OnOk, Option};
-ghost use Rattle.command_files.specs.Held.{Gives, HoldsBytes};
+ghost use Rattle.command_files.specs.Held.{IsUnread, HoldsBytes};
 
 use std::io::{self, Read};
 
@@ -14,7 +14,7 @@ pub trait Files {
 
     /// Opens a file for reading.
     fn open(&mut self, name: &str) -> io::Result<Self::Reader>
-        ensures reader { IfOk result (λ reader. Gives (held self.old name.now) (Self.Reader.remaining reader)) }
+        ensures reader { IfOk result (λ reader. IsUnread (held self.old name.now) (Self.Reader.remaining reader)) }
         ensures stays { held self.new ≡ held self.old };
 
     /// Makes a file of these bytes, in place of the one that has the name.

@@ -7,12 +7,12 @@ ghost use Rattle.machine_model.specs.Config.{is_within_limits as is_within};
 
 use command_settings::MachineOptions;
 use elf_loader::size_of_kib;
-use machine_model::{Config, Model};
+use machine_model::{Config, MemoryModel};
 use machine_parts::is_within_limits;
 use trace_text::Script;
 
 /// The machine that a script is for.
-pub fn config_of(script: &Script, model: Model) -> Config
+pub fn config_of(script: &Script, model: MemoryModel) -> Config
     ensures { result ≡ config_of script.now model }
 {
     Config {

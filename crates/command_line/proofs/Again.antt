@@ -10,7 +10,7 @@ use Rattle.command_line.specs.Runs.{RunsReplay}
 use Rattle.elf_loader.specs.Image.{Initial}
 use Rattle.elf_loader.specs.declared.error.LoadError.{LoadError}
 use Rattle.machine_model.specs.Views.{State, opening}
-use Rattle.memory_model.specs.declared.Model.{Model}
+use Rattle.memory_model.specs.declared.MemoryModel.{MemoryModel}
 use Rattle.std.specs.Io.KnownBytes.{Appends}
 use Rattle.trace_text.specs.Traces.{text}
 use Rattle.trace_text.specs.declared.script.Script.{Script}
@@ -42,7 +42,7 @@ state_or d (Replayed.Reached s) = s
 state_or d _ = d
 
 -- events lead to one state
-one_state : (image again : Initial) (script other : Script) (model another : Model) (s t : State) → again ≡ image → other ≡ script → another ≡ model
+one_state : (image again : Initial) (script other : Script) (model another : MemoryModel) (s t : State) → again ≡ image → other ≡ script → another ≡ model
     → Leads image script model s → Leads again other another t → t ≡ s
 one_state image again script other model another s t image_same script_same model_same leads led =
     let same : replayed_from 0 (opening again (config_of other another)) other.events ≡ replayed_from 0 (opening image (config_of script model)) script.events =

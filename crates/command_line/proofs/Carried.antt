@@ -6,7 +6,7 @@ use Rattle.command_files.specs.Held.{Held}
 use Rattle.command_files.specs.Status.{status_of}
 use Rattle.command_files.specs.declared.fault.Fault.{Fault}
 use Rattle.command_line.proofs.Meant.{beyond_explore, beyond_show, written}
-use Rattle.command_line.specs.Running.{Came, CheckCame, ExploreCame, IsBeyond, IsBroken, IsCheckBroken, IsDone, IsExploreBroken, IsExploreFile, IsFaulty, IsWritten, strictness_of}
+use Rattle.command_line.specs.Running.{Came, CheckCame, ExploreCame, IsOutOfRange, IsHalfPrinted, IsCheckBroken, IsDone, IsExploreBroken, IsExploreFile, IsFaulty, IsWritten, strictness_of}
 use Rattle.command_settings.specs.declared.wanted.Check.{Check as Judging}
 use Rattle.command_settings.specs.declared.wanted.Explain.{Explain as Telling}
 use Rattle.command_settings.specs.declared.wanted.Explore.{Explore as Sought}
@@ -14,17 +14,17 @@ use Rattle.command_settings.specs.declared.wanted.Settings.{Settings}
 use Rattle.command_settings.specs.declared.wanted.Show.{Show as Shown}
 use Rattle.command_settings.specs.declared.wanted.Settings.TheVariants.{Check, Explain, Explore, Show}
 use Rattle.event_stream.specs.declared.strictness.Strictness.{Strictness}
-use Rattle.command_line.specs.Telling.{IsFaultOf}
-use Rattle.explain_command.specs.Explaining.{IsExplainFault, IsExplained, IsStopped}
+use Rattle.command_line.specs.Telling.{IsFaultOfCommand}
+use Rattle.explain_command.specs.Explaining.{IsExplainFault, IsExplained, IsStreamCutOff}
 use Rattle.explore_command.proofs.Faults.{some_part}
 use Rattle.explore_command.specs.Exploring.{IsExploreFault, LeavesPart}
 use Rattle.explore_command.specs.Keeping.{IsScriptFile, SparesOthers}
-use Rattle.show_command.specs.Showing.{IsPartlyShown, IsShowFault, IsShown}
+use Rattle.show_command.specs.Showing.{IsPartlyShown, IsShowFault, AreWordsShown}
 use Rattle.explore_command.specs.declared.judging.Judgement.{Judgement}
 use Rattle.explore_command.specs.declared.judging.Judgement.TheVariants.{Allowed, NotAllowed}
 
-pub broken : (held left : Held) (old new : Option (List ℕ)) (wanted meant : Settings) → wanted ≡ meant → (new ≡ old) ⊎ IsBroken held left old new meant → (new ≡ old) ⊎ IsBroken held left old new wanted
-broken held left old new wanted meant is so = subst (λ w. (new ≡ old) ⊎ IsBroken held left old new w) (sym is) so
+pub broken : (held left : Held) (old new : Option (List ℕ)) (wanted meant : Settings) → wanted ≡ meant → (new ≡ old) ⊎ IsHalfPrinted held left old new meant → (new ≡ old) ⊎ IsHalfPrinted held left old new wanted
+broken held left old new wanted meant is so = subst (λ w. (new ≡ old) ⊎ IsHalfPrinted held left old new w) (sym is) so
 
 pub explained : (held left : Held) (old new : Option (List ℕ)) (wanted : Settings) (explain : Telling) (strictness : Strictness) → wanted ≡ Explain explain → strictness ≡ strictness_of explain.strict
     → IsExplained held explain.replay strictness old new → IsDone held left old new wanted
@@ -32,8 +32,8 @@ explained held left old new wanted explain strictness is is_strict told =
     subst (IsDone held left old new) (sym is) (subst (λ s. IsExplained held explain.replay s old new) is_strict told)
 
 pub broken_off : (held : Held) (old new : Option (List ℕ)) (explain : Telling) (strictness : Strictness) → strictness ≡ strictness_of explain.strict
-    → (new ≡ old) ⊎ IsStopped held explain.replay strictness old new → (new ≡ old) ⊎ IsStopped held explain.replay (strictness_of explain.strict) old new
-broken_off held old new explain strictness is_strict so = subst (λ s. (new ≡ old) ⊎ IsStopped held explain.replay s old new) is_strict so
+    → (new ≡ old) ⊎ IsStreamCutOff held explain.replay strictness old new → (new ≡ old) ⊎ IsStreamCutOff held explain.replay (strictness_of explain.strict) old new
+broken_off held old new explain strictness is_strict so = subst (λ s. (new ≡ old) ⊎ IsStreamCutOff held explain.replay s old new) is_strict so
 
 module _ (held left : Held) (old new : Option (List ℕ)) (wanted : Settings) where
   pub explore_came : (explore : Sought) (r : Result Judgement Fault) → wanted ≡ Explore explore
@@ -44,17 +44,17 @@ module _ (held left : Held) (old new : Option (List ℕ)) (wanted : Settings) wh
 
   pub explore_broken : (explore : Sought) (r : Result Judgement Fault) → wanted ≡ Explore explore
       → IfErr r (λ fault. LeavesPart fault old new (IsExploreBroken explore.architecture (nat_lt 0 explore.sample) held explore old new))
-      → IfErr r (λ _. (new ≡ old) ⊎ IsBroken held left old new wanted)
+      → IfErr r (λ _. (new ≡ old) ⊎ IsHalfPrinted held left old new wanted)
   explore_broken explore (Ok judgement) is so = tt
   explore_broken explore (Err fault) is so = broken held left old new wanted (Explore explore) is (some_part old new _ fault so)
 
-  pub show_came : (show : Shown) (r : Result Judgement Fault) → wanted ≡ Show show → IfOk r (λ judgement. IsShown held left show judgement old new) → IfOk r (Came held left old new wanted)
+  pub show_came : (show : Shown) (r : Result Judgement Fault) → wanted ≡ Show show → IfOk r (λ judgement. AreWordsShown held left show judgement old new) → IfOk r (Came held left old new wanted)
   show_came show (Ok Allowed) is so = subst (IsDone held left old new) (sym is) so
   show_came show (Ok NotAllowed) is so = subst (IsFaulty held left old new) (sym is) so
   show_came show (Err fault) is so = tt
 
   pub show_broken : (show : Shown) (r : Result Judgement Fault) → wanted ≡ Show show → IfErr r (λ fault. LeavesPart fault old new (IsPartlyShown held show old new))
-      → IfErr r (λ _. (new ≡ old) ⊎ IsBroken held left old new wanted)
+      → IfErr r (λ _. (new ≡ old) ⊎ IsHalfPrinted held left old new wanted)
   show_broken show (Ok judgement) is so = tt
   show_broken show (Err fault) is so = broken held left old new wanted (Show show) is (some_part old new _ fault so)
 
@@ -64,15 +64,15 @@ module _ (held left : Held) (old new : Option (List ℕ)) (wanted : Settings) wh
   check_came check (Err fault) is so = tt
 
   pub check_broken : (check : Judging) (r : Result Judgement Fault) → wanted ≡ Check check → IfErr r (λ _. (new ≡ old) ⊎ IsCheckBroken check.messages held check old new)
-      → IfErr r (λ _. (new ≡ old) ⊎ IsBroken held left old new wanted)
+      → IfErr r (λ _. (new ≡ old) ⊎ IsHalfPrinted held left old new wanted)
   check_broken check (Ok judgement) is so = tt
   check_broken check (Err fault) is so = broken held left old new wanted (Check check) is so
 
 -- whatever fault a command tells is one of what the settings name
-pub told_of : (held : Held) (old new : Option (List ℕ)) (wanted meant : Settings) (fault : Fault) → wanted ≡ meant → IsFaultOf held old new meant fault → IsFaultOf held old new wanted fault
-told_of held old new wanted meant fault is so = subst (λ w. IsFaultOf held old new w fault) (sym is) so
+pub told_of : (held : Held) (old new : Option (List ℕ)) (wanted meant : Settings) (fault : Fault) → wanted ≡ meant → IsFaultOfCommand held old new meant fault → IsFaultOfCommand held old new wanted fault
+told_of held old new wanted meant fault is so = subst (λ w. IsFaultOfCommand held old new w fault) (sym is) so
 
-pub all_told_of : (held : Held) (old new : Option (List ℕ)) (wanted meant : Settings) (r : Result Judgement Fault) → wanted ≡ meant → IfErr r (IsFaultOf held old new meant) → IfErr r (IsFaultOf held old new wanted)
+pub all_told_of : (held : Held) (old new : Option (List ℕ)) (wanted meant : Settings) (r : Result Judgement Fault) → wanted ≡ meant → IfErr r (IsFaultOfCommand held old new meant) → IfErr r (IsFaultOfCommand held old new wanted)
 all_told_of held old new wanted meant (Ok judgement) is so = tt
 all_told_of held old new wanted meant (Err fault) is so = told_of held old new wanted meant fault is so
 
@@ -81,16 +81,16 @@ pub explain_told : (held : Held) (old new : Option (List ℕ)) (explain : Tellin
 explain_told held old new explain strictness fault is_strict so = subst (λ s. IsExplainFault held explain.replay s old new fault) is_strict so
 
 pub explore_beyond : (held : Held) (old new : Option (List ℕ)) (wanted : Settings) (explore : Sought) (part : Type 0) (r : Result Judgement Fault) → wanted ≡ Explore explore → IfErr r (IsExploreFault held explore)
-    → IfErr r (λ fault. LeavesPart fault old new part) → IfErr r (λ fault. status_of fault ≡ 2 → IsBeyond wanted × (new ≡ old))
+    → IfErr r (λ fault. LeavesPart fault old new part) → IfErr r (λ fault. status_of fault ≡ 2 → IsOutOfRange wanted × (new ≡ old))
 explore_beyond held old new wanted explore part (Ok judgement) is told leaves = tt
 explore_beyond held old new wanted explore part (Err fault) is told leaves = λ two.
-    let it = beyond_explore held old new explore part fault told leaves two in (subst IsBeyond (sym is) it.0, it.1)
+    let it = beyond_explore held old new explore part fault told leaves two in (subst IsOutOfRange (sym is) it.0, it.1)
 
 pub show_beyond : (held : Held) (old new : Option (List ℕ)) (wanted : Settings) (show : Shown) (part : Type 0) (r : Result Judgement Fault) → wanted ≡ Show show → IfErr r (IsShowFault held show)
-    → IfErr r (λ fault. LeavesPart fault old new part) → IfErr r (λ fault. status_of fault ≡ 2 → IsBeyond wanted × (new ≡ old))
+    → IfErr r (λ fault. LeavesPart fault old new part) → IfErr r (λ fault. status_of fault ≡ 2 → IsOutOfRange wanted × (new ≡ old))
 show_beyond held old new wanted show part (Ok judgement) is told leaves = tt
 show_beyond held old new wanted show part (Err fault) is told leaves = λ two.
-    let it = beyond_show held old new show part fault told leaves two in (subst IsBeyond (sym is) it.0, it.1)
+    let it = beyond_show held old new show part fault told leaves two in (subst IsOutOfRange (sym is) it.0, it.1)
 
 pub show_written : (held left : Held) (wanted : Settings) (show : Shown) → wanted ≡ Show show → SparesOthers (IsScriptFile show.explore.scripts) held left
     → (name : Text) → left name ≢ held name → IsWritten name wanted
@@ -100,6 +100,6 @@ pub explore_written : (held left : Held) (wanted : Settings) (explore : Sought) 
     → (name : Text) → left name ≢ held name → IsWritten name wanted
 explore_written held left wanted explore is spares = λ name changed. subst (IsWritten name) (sym is) (written held left _ spares name changed)
 
-pub check_beyond : (old new : Option (List ℕ)) (wanted : Settings) (r : Result Judgement Fault) → IfErr r (λ fault. status_of fault ≢ 2) → IfErr r (λ fault. status_of fault ≡ 2 → IsBeyond wanted × (new ≡ old))
+pub check_beyond : (old new : Option (List ℕ)) (wanted : Settings) (r : Result Judgement Fault) → IfErr r (λ fault. status_of fault ≢ 2) → IfErr r (λ fault. status_of fault ≡ 2 → IsOutOfRange wanted × (new ≡ old))
 check_beyond old new wanted (Ok judgement) never = tt
 check_beyond old new wanted (Err fault) never = λ two. absurd (never two)

@@ -7,7 +7,7 @@ use Rattle.chart_command.specs.Addresses.{address}
 use Rattle.chart_command.specs.Charting.{IsNoAddress}
 use Rattle.clap.specs.Words.{Text}
 use Rattle.command_files.proofs.Left.{only_configuration}
-use Rattle.command_files.specs.Faults.{Leaves, Name}
+use Rattle.command_files.specs.Faults.{LeavesAtFault, Name}
 use Rattle.command_files.specs.Held.{Held}
 use Rattle.command_files.specs.Sizes.{IsOutside}
 use Rattle.command_files.specs.Status.{status_of}
@@ -35,11 +35,11 @@ some_states words (Run run) named = tt
 some_states words (Check check) named = tt
 
 -- a fault of status 2 tells of a machine that can't be, and leaves the output as it was
-pub beyond_run : (held : Held) (old new : Option (List ℕ)) (run : Asked) (broken : Type 0) (fault : Fault) → IsRunFault held run fault → Leaves fault old new broken → status_of fault ≡ 2
+pub beyond_run : (held : Held) (old new : Option (List ℕ)) (run : Asked) (broken : Type 0) (fault : Fault) → IsRunFault held run fault → LeavesAtFault fault old new broken → status_of fault ≡ 2
     → IsOutside run.machine × (new ≡ old)
 beyond_run held old new run broken fault told leaves two =
     let at = only_configuration fault (λ word address. subst (IsRunFault held run) address told) (λ word cause shown. subst (IsRunFault held run) shown told) two in
-    (subst (IsRunFault held run) at told, subst (λ f. Leaves f old new broken) at leaves)
+    (subst (IsRunFault held run) at told, subst (λ f. LeavesAtFault f old new broken) at leaves)
 
 pub beyond_explore : (held : Held) (old new : Option (List ℕ)) (explore : Sought) (broken : Type 0) (fault : Fault) → IsExploreFault held explore fault → LeavesPart fault old new broken → status_of fault ≡ 2
     → IsOutside explore.machine × (new ≡ old)

@@ -3,18 +3,18 @@ use Rattle.std.specs.Prelude.{◌≡◌, ◌≢◌, ◌⊎◌, ◌<◌, ℕ, Boo
 use Rattle.clap.specs.Words.{Text}
 use Rattle.command_files.specs.Held.{Held}
 use Rattle.replay_command.specs.Replaying.{IsCutOff, IsReplayed}
-use Rattle.explain_command.specs.Explaining.{IsExplained, IsStopped}
-use Rattle.explore_command.specs.Exploring.{IsExplored, IsPartlyExplored}
+use Rattle.explain_command.specs.Explaining.{IsExplained, IsStreamCutOff}
+use Rattle.explore_command.specs.Exploring.{IsExplorationTold, IsPartlyExplored}
 use Rattle.explore_command.specs.Keeping.{IsScriptFile}
 use Rattle.explore_command.specs.declared.judging.Judgement.{Judgement}
 use Rattle.explore_command.specs.declared.judging.Judgement.TheVariants.{Allowed, NotAllowed}
 use Rattle.architecture_command.specs.Keeping.{IsFileOf}
 use Rattle.architecture_command.specs.Searching.{IsPartlySearched, IsSearched}
-use Rattle.sample_command.specs.Sampling.{IsPartlySampled, IsSampled}
-use Rattle.show_command.specs.Showing.{IsElsewhere, IsPartlyShown, IsShown}
+use Rattle.sample_command.specs.Sampling.{IsPartlySampled, IsSampleTold}
+use Rattle.show_command.specs.Showing.{IsElsewhere, IsPartlyShown, AreWordsShown}
 use Rattle.chart_command.specs.Addresses.{address}
-use Rattle.chart_command.specs.Charting.{IsCharted, IsStopped as IsHalfCharted}
-use Rattle.check_command.specs.Checking.{IsJudged, IsVerdictCutOff}
+use Rattle.chart_command.specs.Charting.{IsCharted, IsPictureCutOff as IsHalfCharted}
+use Rattle.check_command.specs.Checking.{IsVerdictTold, IsVerdictCutOff}
 use Rattle.check_command.specs.Messages.{IsLogCutOff, IsLogJudged}
 use Rattle.run_command.specs.Running.{IsRun, IsRunCutOff}
 use Rattle.command_settings.specs.Refusals.{IsFitting, IsForHelp}
@@ -43,14 +43,14 @@ strictness_of true = Strict
 -- what a check judges is legal: the messages of the trace, or its order
 abbrev pub IsClean : (of_messages : Bool) → Held → Judging → Option (List ℕ) → Option (List ℕ) → Type 0
 IsClean true held check old new = IsLogJudged held check.trace.now Lawful old new
-IsClean false held check old new = IsJudged held check.trace.now check.model Legal old new
+IsClean false held check old new = IsVerdictTold held check.trace.now check.model Legal old new
 
 -- it is not, and what shows it was printed
 abbrev pub IsUnclean : (of_messages : Bool) → Held → Judging → Option (List ℕ) → Option (List ℕ) → Type 0
 IsUnclean true held check old new =
     (rule : LogRule) × (index : ℕ) × IsLogJudged held check.trace.now (Unlawful rule index) old new
 IsUnclean false held check old new =
-    (code : Code) × (a : OpId) × (b : OpId) × IsJudged held check.trace.now check.model (Fault code a b) old new
+    (code : Code) × (a : OpId) × (b : OpId) × IsVerdictTold held check.trace.now check.model (Fault code a b) old new
 
 -- no more than a beginning of the verdict went out
 abbrev pub IsCheckBroken : (of_messages : Bool) → Held → Judging → Option (List ℕ) → Option (List ℕ) → Type 0
@@ -64,8 +64,8 @@ CheckCame NotAllowed = IsUnclean
 -- what is found of a program's ends, under the memory model, by random runs or by a search of all that the machine does, was told and judged
 abbrev pub ExploreCame : (architecture sampled : Bool) → Judgement → Held → Held → Seeking → Option (List ℕ) → Option (List ℕ) → Type 0
 ExploreCame true sampled judgement held left explore old new = IsSearched held left explore explore.window judgement old new
-ExploreCame false true judgement held left explore old new = IsSampled held left explore explore.sample judgement old new
-ExploreCame false false judgement held left explore old new = IsExplored held left explore judgement old new
+ExploreCame false true judgement held left explore old new = IsSampleTold held left explore explore.sample judgement old new
+ExploreCame false false judgement held left explore old new = IsExplorationTold held left explore judgement old new
 
 -- of it no more than a beginning, or it wasn't kept or judged
 abbrev pub IsExploreBroken : (architecture sampled : Bool) → Held → Seeking → Option (List ℕ) → Option (List ℕ) → Type 0
@@ -84,7 +84,7 @@ IsDone held left old new (Replay replay) = IsReplayed held replay old new
 IsDone held left old new (Explain explain) = IsExplained held explain.replay (strictness_of explain.strict) old new
 IsDone held left old new (Run run) = IsRun held left run old new
 IsDone held left old new (Explore explore) = ExploreCame explore.architecture (nat_lt 0 explore.sample) Allowed held left explore old new
-IsDone held left old new (Show show) = IsShown held left show Allowed old new
+IsDone held left old new (Show show) = AreWordsShown held left show Allowed old new
 IsDone held left old new (Chart chart) = IsCharted held chart.replay chart.line old new
 IsDone held left old new (Check check) = IsClean check.messages held check old new
 
@@ -98,7 +98,7 @@ IsFaulty held left old new (Replay replay) = ⊥
 IsFaulty held left old new (Explain explain) = ⊥
 IsFaulty held left old new (Run run) = ⊥
 IsFaulty held left old new (Explore explore) = ExploreCame explore.architecture (nat_lt 0 explore.sample) NotAllowed held left explore old new
-IsFaulty held left old new (Show show) = IsShown held left show NotAllowed old new
+IsFaulty held left old new (Show show) = AreWordsShown held left show NotAllowed old new
 IsFaulty held left old new (Chart chart) = ⊥
 IsFaulty held left old new (Check check) = IsUnclean check.messages held check old new
 
@@ -111,26 +111,26 @@ unfoldable pub IsNotLegal : List Text → Held → Held → Option (List ℕ) �
 IsNotLegal words held left old new = HasNamed words (IsFaulty held left old new)
 
 -- no more than a beginning of what was to be printed went out: of a stream, all that stands before the event at which it ends
-abbrev pub IsBroken : Held → Held → Option (List ℕ) → Option (List ℕ) → Settings → Type 0
-IsBroken held left old new (Replay replay) = IsCutOff held replay old new
-IsBroken held left old new (Explain explain) = IsStopped held explain.replay (strictness_of explain.strict) old new
-IsBroken held left old new (Run run) = IsRunCutOff held left run old new
-IsBroken held left old new (Explore explore) = IsExploreBroken explore.architecture (nat_lt 0 explore.sample) held explore old new
-IsBroken held left old new (Show show) = IsPartlyShown held show old new
-IsBroken held left old new (Chart chart) = IsHalfCharted held chart.replay chart.line old new
-IsBroken held left old new (Check check) = IsCheckBroken check.messages held check old new
+abbrev pub IsHalfPrinted : Held → Held → Option (List ℕ) → Option (List ℕ) → Settings → Type 0
+IsHalfPrinted held left old new (Replay replay) = IsCutOff held replay old new
+IsHalfPrinted held left old new (Explain explain) = IsStreamCutOff held explain.replay (strictness_of explain.strict) old new
+IsHalfPrinted held left old new (Run run) = IsRunCutOff held left run old new
+IsHalfPrinted held left old new (Explore explore) = IsExploreBroken explore.architecture (nat_lt 0 explore.sample) held explore old new
+IsHalfPrinted held left old new (Show show) = IsPartlyShown held show old new
+IsHalfPrinted held left old new (Chart chart) = IsHalfCharted held chart.replay chart.line old new
+IsHalfPrinted held left old new (Check check) = IsCheckBroken check.messages held check old new
 
 -- nothing was printed, or a beginning of a trace, a stream, a verdict or of what was found; or there was help to print, whatever of it went out
 unfoldable pub IsUnprinted : List Text → Held → Held → Option (List ℕ) → Option (List ℕ) → Type 0
-IsUnprinted words held left old new = (new ≡ old) ⊎ (IsForHelp words ⊎ HasNamed words (IsBroken held left old new))
+IsUnprinted words held left old new = (new ≡ old) ⊎ (IsForHelp words ⊎ HasNamed words (IsHalfPrinted held left old new))
 
 -- the words name a machine that can't be made, or as an address what is none, or words of memory to show where none are shown
-abbrev pub IsBeyond : Settings → Type 0
-IsBeyond (Run run) = IsOutside run.machine
-IsBeyond (Explore explore) = IsOutside explore.machine
-IsBeyond (Show show) = IsOutside show.explore.machine ⊎ IsElsewhere show.explore
-IsBeyond (Chart chart) = IfSome chart.line (λ word. address word.now ≡ None)
-IsBeyond _ = ⊥
+abbrev pub IsOutOfRange : Settings → Type 0
+IsOutOfRange (Run run) = IsOutside run.machine
+IsOutOfRange (Explore explore) = IsOutside explore.machine
+IsOutOfRange (Show show) = IsOutside show.explore.machine ⊎ IsElsewhere show.explore
+IsOutOfRange (Chart chart) = IfSome chart.line (λ word. address word.now ≡ None)
+IsOutOfRange _ = ⊥
 
 -- an exploration may meet a state at least
 abbrev pub MeetsSomeState : Settings → Type 0

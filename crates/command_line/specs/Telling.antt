@@ -24,19 +24,19 @@ IsJudgingFault true held check = IsLogFault held check.trace
 IsJudgingFault false held check = IsCheckFault held check.trace
 
 -- each command says which faults it has, of which file, and what that file then holds
-abbrev pub IsFaultOf : Held → Option (List ℕ) → Option (List ℕ) → Settings → Fault → Type 0
-IsFaultOf held old new (Replay replay) = IsReplayFault held replay
-IsFaultOf held old new (Explain explain) = IsExplainFault held explain.replay (strictness_of explain.strict) old new
-IsFaultOf held old new (Run run) = IsRunFault held run
-IsFaultOf held old new (Explore explore) = IsExploreFault held explore
-IsFaultOf held old new (Show show) = IsShowFault held show
-IsFaultOf held old new (Chart chart) = IsChartFault held chart.replay chart.line
-IsFaultOf held old new (Check check) = IsJudgingFault check.messages held check
+abbrev pub IsFaultOfCommand : Held → Option (List ℕ) → Option (List ℕ) → Settings → Fault → Type 0
+IsFaultOfCommand held old new (Replay replay) = IsReplayFault held replay
+IsFaultOfCommand held old new (Explain explain) = IsExplainFault held explain.replay (strictness_of explain.strict) old new
+IsFaultOfCommand held old new (Run run) = IsRunFault held run
+IsFaultOfCommand held old new (Explore explore) = IsExploreFault held explore
+IsFaultOfCommand held old new (Show show) = IsShowFault held show
+IsFaultOfCommand held old new (Chart chart) = IsChartFault held chart.replay chart.line
+IsFaultOfCommand held old new (Check check) = IsJudgingFault check.messages held check
 
 -- such a fault, and of this status
 pub record HasFault (held : Held) (old new : Option (List ℕ)) (status : ℕ) (wanted : Settings) : Type 0 where
   pub fault : Fault
-  pub told : IsFaultOf held old new wanted fault
+  pub told : IsFaultOfCommand held old new wanted fault
   pub of_status : status_of fault ≡ status
 
 -- what the words name has a fault of status 1, or there was help to print

@@ -3,8 +3,8 @@
 ghost use Rattle.std.specs.Prelude.{◌≡◌, ◌≢◌, ◌⊎◌, ◌<◌, IfErr, IfOk, nat_lt};
 ghost use Rattle.clap.specs.Words.{Text};
 ghost use Rattle.command_files.specs.Status.{status_of};
-ghost use Rattle.command_line.specs.Telling.{IsFaultOf, IsJudgingFault};
-ghost use Rattle.command_line.specs.Running.{Came, CheckCame, ExploreCame, MeetsSomeState, IsBeyond, IsBroken, IsCheckBroken, IsExploreBroken, IsExploreFile, IsWritten, strictness_of};
+ghost use Rattle.command_line.specs.Telling.{IsFaultOfCommand, IsJudgingFault};
+ghost use Rattle.command_line.specs.Running.{Came, CheckCame, ExploreCame, MeetsSomeState, IsOutOfRange, IsHalfPrinted, IsCheckBroken, IsExploreBroken, IsExploreFile, IsWritten, strictness_of};
 ghost use Rattle.explore_command.specs.Exploring.{IsExploreFault, LeavesPart};
 ghost use Rattle.explore_command.specs.Keeping.{SparesOthers};
 
@@ -49,9 +49,9 @@ pub(crate) fn carry_out<
     requires room { MeetsSomeState wanted }
     ensures came { IfOk result (Came (F.held files.old) (F.held files.new) (O.contents out.old) (O.contents out.new) wanted.entry) }
     ensures unfinished { IfErr result (λ _. (O.contents out.new ≡ O.contents out.old)
-        ⊎ IsBroken (F.held files.old) (F.held files.new) (O.contents out.old) (O.contents out.new) wanted.entry) }
-    ensures beyond { IfErr result (λ fault. status_of fault ≡ 2 → IsBeyond wanted.entry × (O.contents out.new ≡ O.contents out.old)) }
-    ensures told { IfErr result (IsFaultOf (F.held files.old) (O.contents out.old) (O.contents out.new) wanted.entry) }
+        ⊎ IsHalfPrinted (F.held files.old) (F.held files.new) (O.contents out.old) (O.contents out.new) wanted.entry) }
+    ensures beyond { IfErr result (λ fault. status_of fault ≡ 2 → IsOutOfRange wanted.entry × (O.contents out.new ≡ O.contents out.old)) }
+    ensures told { IfErr result (IsFaultOfCommand (F.held files.old) (O.contents out.old) (O.contents out.new) wanted.entry) }
     ensures spared { (name : Text) → F.held files.new name ≢ F.held files.old name → IsWritten name wanted.entry }
 {
     match wanted {

@@ -24,8 +24,8 @@ use Rattle.clap.specs.declared.error.kind.ErrorKind.TheVariants as kind
 use Rattle.clap.specs.declared.parser.matches.ValueSource.{ValueSource}
 use Rattle.command_settings.specs.Settings.{Has, HasAll, IsModel, IsText}
 use Rattle.command_settings.specs.Usage.{AreModelNames, Argument, ModelNames, rule_for}
-use Rattle.memory_model.specs.declared.Model.{Model}
-use Rattle.memory_model.specs.declared.Model.TheVariants.{Rvwmo, Ztso}
+use Rattle.memory_model.specs.declared.MemoryModel.{MemoryModel}
+use Rattle.memory_model.specs.declared.MemoryModel.TheVariants.{Rvwmo, Ztso}
 use Rattle.command_settings.proofs.Walked.{Among, no_kinds, settles, walks}
 
 -- ---- tests
@@ -394,7 +394,7 @@ module _ (all : List Argument) where
   taken x rows known good has =
       let it = fine_at (id_of x) rows good has in (it.0, it.1, it.2, it.3, subst (λ o. TakesAny o it.1 it.0) known it.4)
 
-  names_model : (rows : List Row) (v : Text) → IsText (codes "model") rows v → IsModelName v → (meant : Model) × IsModel rows meant
+  names_model : (rows : List Row) (v : Text) → IsText (codes "model") rows v → IsModelName v → (meant : MemoryModel) × IsModel rows meant
   names_model rows v is named = elim named [
     | inl rvwmo ↦ (Rvwmo, is ∙ ap (λ t. Some t) rvwmo)
     | inr ztso ↦ (Ztso, is ∙ ap (λ t. Some t) ztso)

@@ -9,9 +9,9 @@ use Rattle.command_settings.specs.declared.wanted.SettingsError.{SettingsError}
 use Rattle.command_settings.specs.declared.wanted.SettingsError.TheVariants.{NoMemory, Usage}
 
 -- want of memory is told as that, and each other error as it is
-abbrev pub Tells : Error → SettingsError → Type 0
-Tells error NoMemory = kind_of error ≡ OutOfMemory
-Tells error (Usage told) = (kind_of error ≢ OutOfMemory) × (told ≡ error)
+abbrev pub TellsError : Error → SettingsError → Type 0
+TellsError error NoMemory = kind_of error ≡ OutOfMemory
+TellsError error (Usage told) = (kind_of error ≢ OutOfMemory) × (told ≡ error)
 
 -- P holds of the kinds of error that the words, the first of which is the program's name, may give by the usage: none where they fit
 abbrev pub HasKinds : List Text → (Kinds → Type 0) → Type 0

@@ -16,12 +16,12 @@ use Rattle.command_settings.specs.declared.wanted.Run.{Run}
 use Rattle.command_settings.specs.declared.wanted.Settings.{Settings}
 use Rattle.command_settings.specs.declared.wanted.Show.{Show}
 use Rattle.command_settings.specs.declared.wanted.Settings.TheVariants as settings
-use Rattle.memory_model.specs.declared.Model.{Model}
-use Rattle.memory_model.specs.declared.Model.TheVariants.{Rvwmo, Ztso}
+use Rattle.memory_model.specs.declared.MemoryModel.{MemoryModel}
+use Rattle.memory_model.specs.declared.MemoryModel.TheVariants.{Rvwmo, Ztso}
 
 -- ---- the settings
 
-abbrev pub name_of : Model → Text
+abbrev pub name_of : MemoryModel → Text
 name_of Rvwmo = codes "rvwmo"
 name_of Ztso = codes "ztso"
 
@@ -36,16 +36,16 @@ IsFlag id rows given = one_of id rows ≡ Some (flag_text given)
 abbrev pub IsText : Text → List Row → Text → Type 0
 IsText id rows text = first_of id rows ≡ Some text
 
-abbrev pub IsModel : List Row → Model → Type 0
+abbrev pub IsModel : List Row → MemoryModel → Type 0
 IsModel rows model = IsText (codes "model") rows (name_of model)
 
 -- the text is the number in decimal digits, before which a plus may stand
-abbrev pub Spells : Text → ℕ → Type 0
-Spells text n = IsNumeral 10 (without_leading_plus text) × (digits_value 10 (without_leading_plus text) ≡ n)
+abbrev pub SpellsNumber : Text → ℕ → Type 0
+SpellsNumber text n = IsNumeral 10 (without_leading_plus text) × (digits_value 10 (without_leading_plus text) ≡ n)
 
 -- the argument has this number
 abbrev pub IsNumber : Text → List Row → ℕ → Type 0
-IsNumber id rows n = (text : Text) × (one_of id rows ≡ Some text) × Spells text n
+IsNumber id rows n = (text : Text) × (one_of id rows ≡ Some text) × SpellsNumber text n
 
 -- the argument has this number, which is in the range
 abbrev pub IsNumberIn : Text → (low high : ℕ) → List Row → ℕ → Type 0
@@ -154,7 +154,7 @@ HasNumber id low high rows = (text : Text) × (one_of id rows ≡ Some text) × 
 -- the argument has such a text as it takes
 abbrev pub Has : List Row → Argument → Type 0
 Has rows (Argument.flag id) = (given : Bool) × IsFlag id rows given
-Has rows Argument.model = (meant : Model) × IsModel rows meant
+Has rows Argument.model = (meant : MemoryModel) × IsModel rows meant
 Has rows (Argument.number id default low high) = HasNumber id low high rows
 Has rows (Argument.required_option id) = (text : Text) × IsText id rows text
 Has rows (Argument.optional id) = Unit {0}

@@ -12,7 +12,7 @@ use crate::wanted::{
 };
 use clap::error::ErrorKind;
 use clap::{ArgMatches, Command};
-use memory_model::Model;
+use memory_model::MemoryModel;
 use std::alloc::{AllocError, Global};
 use std::convert::AsStr;
 
@@ -207,13 +207,13 @@ fn number_of(matches: &ArgMatches<'_>, id: &str) -> Option<u32>
     matches.get_one(id)
 }
 
-fn model_of(name: &str) -> Option<Model>
+fn model_of(name: &str) -> Option<MemoryModel>
     ensures known { IfSome result (λ model. name.now ≡ name_of model) }
-    ensures unknown { IsNone result → (model : Model) → name.now ≢ name_of model }
+    ensures unknown { IsNone result → (model : MemoryModel) → name.now ≢ name_of model }
 {
     match name {
-        "rvwmo" => Some(Model::Rvwmo),
-        "ztso" => Some(Model::Ztso),
+        "rvwmo" => Some(MemoryModel::Rvwmo),
+        "ztso" => Some(MemoryModel::Ztso),
         _ => None,
     }
 }

@@ -1,7 +1,7 @@
 //! What the words of the command line ask for.
 
 use clap::error::ErrorKind;
-use memory_model::Model;
+use memory_model::MemoryModel;
 use std::alloc::AllocError;
 use thiserror::Error;
 
@@ -11,7 +11,7 @@ use thiserror::Error;
 pub struct Replay<'a> {
     pub raw: bool,
     /// Under which the machine runs.
-    pub model: Model,
+    pub model: MemoryModel,
     pub image: &'a str,
     pub script: &'a str,
 }
@@ -30,7 +30,7 @@ pub struct MachineOptions {
     /// How many bytes a line has.
     pub line: u32,
     /// Under which the machine runs.
-    pub model: Model,
+    pub model: MemoryModel,
 }
 
 /// Run the file `image` with a thread for each hart, and write the events that happened into the file
@@ -98,7 +98,7 @@ pub struct Check<'a> {
     /// Judge the messages in place of the order.
     pub messages: bool,
     /// Under which the order is judged.
-    pub model: Model,
+    pub model: MemoryModel,
     pub trace: &'a str,
 }
 
@@ -136,9 +136,9 @@ impl From<AllocError> for SettingsError {
 }
 
 impl From<clap::Error> for SettingsError {
-    ghost use Rattle.command_settings.specs.Refusals.{Tells};
+    ghost use Rattle.command_settings.specs.Refusals.{TellsError};
 
-    ghost from_gives = { Tells };
+    ghost from_gives = { TellsError };
 
     fn from(error: clap::Error) -> Self {
         match error.kind() {

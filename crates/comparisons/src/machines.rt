@@ -10,7 +10,7 @@ mod views;
 use crate::numbers::Numbers;
 use anyhow::{Result, bail, ensure};
 use flat::every_flat_event;
-use machine_model::{Event, Model};
+use machine_model::{Event, MemoryModel};
 use met::Met;
 use pair::Pair;
 use std::alloc::Global;
@@ -43,7 +43,7 @@ fn event_of(number: u32) -> Event {
 }
 
 /// Plays the stream, and fails at the first difference, or where an outcome isn't met that is expected.
-fn every_event(alloc: Global, model: Model) -> Result<()> {
+fn every_event(alloc: Global, model: MemoryModel) -> Result<()> {
     let mut pair = Pair::at_reset(alloc, model)?;
     let mut numbers = Numbers::from_seed(1);
     let mut met = Met::nothing();
@@ -63,7 +63,7 @@ fn every_event(alloc: Global, model: Model) -> Result<()> {
 
 /// Plays each stream, and says how many events were alike or shown.
 pub fn play_all<W: Write>(alloc: Global, out: &mut W) -> Result<()> {
-    let models = [("rvwmo", Model::Rvwmo), ("ztso", Model::Ztso)];
+    let models = [("rvwmo", MemoryModel::Rvwmo), ("ztso", MemoryModel::Ztso)];
     for (name, model) in models {
         every_event(alloc, model)?;
         writeln!(out, "{name}: {EVENTS} events alike")?;

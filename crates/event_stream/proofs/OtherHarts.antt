@@ -28,7 +28,7 @@ use Rattle.machine_model.specs.Changing.{acted, does, outcome_of, performs, with
 use Rattle.machine_model.specs.Deliveries.{handled, taken, sent_probes, sent_any, sent_if_handled, sent_if_granted, sent_if_answered, with_memory, with_notes, with_less, on_probe_ack}
 use Rattle.machine_model.specs.Events.{Verdict, counted, verdict_by, state_by, happens, is_good, is_limited, plan_of, hart_of}
 use Rattle.machine_model.specs.Views.{State, line_size, place_of, node_at, with_node, sent}
-use Rattle.memory_model.specs.declared.Model.{Model}
+use Rattle.memory_model.specs.declared.MemoryModel.{MemoryModel}
 use Rattle.rv32_decode.specs.declared.instruction.Instr.{Instr}
 use Rattle.store_buffer.specs.Entry.{entry_of}
 use Rattle.store_buffer.specs.Groups.{oldest}
@@ -117,16 +117,16 @@ performs_same : (h : ℕ) (places : List ℕ) (s : State) → Same s (performs h
 performs_same h [] s = refl
 performs_same h (place ∷ places) s = performs_same h places _
 
-does_same : (model : Model) (h : ℕ) (d : Deed) (s : State) → Same s (does model h d s)
-does_same model h deed.Alone s = refl
+does_same : (model : MemoryModel) (h : ℕ) (d : Deed) (s : State) → Same s (does model h d s)
+does_same model h deed.Private s = refl
 does_same model h (deed.Output number) s = refl
 does_same model h deed.Load s = refl
 does_same model h (deed.Store store) s = refl
 does_same model h deed.Seal s = refl
-does_same model h (deed.Reserve word) s = refl
+does_same model h (deed.Lr word) s = refl
 does_same model h deed.Fail s = refl
-does_same model h (deed.Conditional word value) s = refl
-does_same model h (deed.Update word value) s = refl
+does_same model h (deed.Sc word value) s = refl
+does_same model h (deed.Amo word value) s = refl
 
 halt_same : (h : ℕ) (status : Status) (t : History) → (with_halt h status t).entries ≡ t.entries
 halt_same h Running t = refl

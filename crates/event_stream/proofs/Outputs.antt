@@ -33,7 +33,7 @@ use Rattle.machine_model.specs.declared.config.Config.{Config}
 use Rattle.machine_model.specs.declared.event.Event.{Event}
 use Rattle.machine_model.specs.declared.outcome.Outcome.{Outcome}
 use Rattle.machine_model.specs.Words.{bytes_of_word}
-use Rattle.memory_model.specs.declared.Model.{Model}
+use Rattle.memory_model.specs.declared.MemoryModel.{MemoryModel}
 use Rattle.store_buffer.specs.Entry.{entry_of}
 use Rattle.store_buffer.specs.Groups.{Groups, after_seal, after_take, oldest}
 use Rattle.store_buffer.specs.ByteMask.{marks_of_access}
@@ -187,8 +187,8 @@ own_silent h s = performs_silent h (place_at s h ∷ []) s
 update_silent : (h word value : ℕ) (s : State) → Silent s (writes_word h word (marks_of_access 0 4) (bytes_of_word value) (performs_own h s))
 update_silent h word value s = λ k. write_silent h word (marks_of_access 0 4) (bytes_of_word value) (performs_own h s) k ∙ own_silent h s k
 
-does_puts : (model : Model) (h : ℕ) (d : Deed) (s : State) → PutsOut h s (does model h d s)
-does_puts model h deed.Alone s = silent h s s (λ k. refl)
+does_puts : (model : MemoryModel) (h : ℕ) (d : Deed) (s : State) → PutsOut h s (does model h d s)
+does_puts model h deed.Private s = silent h s s (λ k. refl)
 does_puts model h (deed.Output number) s = λ k. more_set s.views.nodes h k (record (node_at s h) { output = (node_at s h).output ++ number ∷ [] }) (no_node s) (number ∷ []) refl
 does_puts model h deed.Load s = silent h s (performs_own h s) (own_silent h s)
 does_puts model h (deed.Store store) s =
@@ -197,12 +197,12 @@ does_puts model h (deed.Store store) s =
 does_puts model h deed.Seal s =
     let b = after_seal (node_at s h).buffer in
     silent h s (with_buffer h b s) (buffer_silent h b s)
-does_puts model h (deed.Reserve word) s = silent h s (with_reservation h (Some word) (performs_own h s)) (λ k. reservation_silent h (Some word) (performs_own h s) k ∙ own_silent h s k)
+does_puts model h (deed.Lr word) s = silent h s (with_reservation h (Some word) (performs_own h s)) (λ k. reservation_silent h (Some word) (performs_own h s) k ∙ own_silent h s k)
 does_puts model h deed.Fail s = silent h s (with_reservation h None s) (reservation_silent h None s)
-does_puts model h (deed.Conditional word value) s =
+does_puts model h (deed.Sc word value) s =
     let t = writes_word h word (marks_of_access 0 4) (bytes_of_word value) (performs_own h s) in
     silent h s (with_reservation h None t) (λ k. reservation_silent h None t k ∙ update_silent h word value s k)
-does_puts model h (deed.Update word value) s = silent h s (writes_word h word (marks_of_access 0 4) (bytes_of_word value) (performs_own h s)) (update_silent h word value s)
+does_puts model h (deed.Amo word value) s = silent h s (writes_word h word (marks_of_access 0 4) (bytes_of_word value) (performs_own h s)) (update_silent h word value s)
 
 hart_silent : (t : History) (h : ℕ) (hart : Hart) (s : State) → Silent s (with_trace t (with_node h (record (node_at s h) { hart = hart }) s))
 hart_silent t h hart s = both_silent t h (record (node_at s h) { hart = hart }) s refl

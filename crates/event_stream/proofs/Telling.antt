@@ -25,7 +25,7 @@ use Rattle.event_stream.specs.declared.report.Lengths.{Lengths}
 use Rattle.event_stream.specs.declared.strictness.Strictness.{Strictness}
 use Rattle.event_stream.specs.declared.strictness.Strictness.TheVariants.{Lenient, Strict}
 use Rattle.event_stream.specs.Lines.{report_lines}
-use Rattle.event_stream.specs.Reports.{Report, Ending, ending, ending_by, report, reports, reports_by}
+use Rattle.event_stream.specs.Reports.{Report, StreamEnding, ending, ending_by, report, reports, reports_by}
 use Rattle.event_stream.specs.Streams.{lines}
 use Rattle.event_stream.specs.Telling.{IsHandedOn, IsTold, ends_at, lengths_of, report_behind}
 use Rattle.event_stream.specs.Writing.{IsCut}
@@ -62,7 +62,7 @@ next_of names m s events index here rest d old now page after some p = subst (λ
 changes_stay : (s new : State) → new ≡ s → (s.views.changes == new.views.changes) ≡ false → ⊥
 changes_stay s new e h = let same : (s.views.changes == new.views.changes) ≡ true = eq-eqb _ _ (sym (ap (λ (t : State). t.views.changes) e)) in cc
 
-goes_on : (v : Verdict) (m : Strictness) (s new : State) (o : Outcome) (i : ℕ) (rest : Ending) → Answers v s (Ok o) new → ends_at m s.views.changes new.views.changes ≡ false → ending_by v m i rest ≡ rest
+goes_on : (v : Verdict) (m : Strictness) (s new : State) (o : Outcome) (i : ℕ) (rest : StreamEnding) → Answers v s (Ok o) new → ends_at m s.views.changes new.views.changes ≡ false → ending_by v m i rest ≡ rest
 goes_on IsBad m s new o i rest a h = absurd (cc (a.0))
 goes_on (Keeps p) Lenient s new o i rest a h = refl
 goes_on (Keeps p) Strict s new o i rest a h = absurd (changes_stay s new a.1 h)
@@ -124,7 +124,7 @@ fails_next names m s events index here new event rest o old now then page after 
     (paged_fails old now then page after p.front (told ++ later) p.sent (subst (Begins now then) (append_assoc after told later) (begins_first now then (after ++ told) later w)))
 
 pub all_told : (names : List Named) (m : Strictness) (s : State) (events : List Event) (index : ℕ) (here : State) (old now : Option (List ℕ)) (page after : List ℕ) → Told names m s events index here [] old now page after
-    → (ending m 0 s events ≡ Ending.Reached here) × Paged old now page after (lines names m 0 s events)
+    → (ending m 0 s events ≡ StreamEnding.Reached here) × Paged old now page after (lines names m 0 s events)
 all_told names m s events index here old now page after p = (
   ap (ending m 0 s) (sym p.whole) ∙ p.ends [],
   subst (Paged old now page after) (sym (ap (lines names m 0 s) (sym p.whole) ∙ (p.lines_are [] ∙ append-nil p.front))) p.sent,

@@ -18,7 +18,7 @@ use Rattle.trace_recorder.specs.History.{entries_of}
 use Rattle.event_stream.specs.declared.strictness.Strictness.{Strictness}
 use Rattle.event_stream.specs.declared.strictness.Strictness.TheVariants.{Lenient, Strict}
 use Rattle.event_stream.specs.Laws.{StreamIsTheTrace, entries_in, output_in}
-use Rattle.event_stream.specs.Reports.{Report, Ending, ending, ending_by, grown, outputs_of, report, reports, reports_by}
+use Rattle.event_stream.specs.Reports.{Report, StreamEnding, ending, ending_by, grown, outputs_of, report, reports, reports_by}
 use Rattle.event_stream.proofs.OtherHarts.{others_stay}
 use Rattle.event_stream.proofs.Outputs.{nothing_at, puts_out}
 
@@ -30,18 +30,18 @@ grows_to {X = X} old new (rest, whole) =
 -- ---- any list that each event makes longer by what its report tells
 
 -- the state that events end in
-abbrev state_of : State → Ending → State
-state_of other (Ending.Reached s) = s
-state_of other (Ending.Refused index error) = other
-state_of other (Ending.Idle index o) = other
+abbrev state_of : State → StreamEnding → State
+state_of other (StreamEnding.Reached s) = s
+state_of other (StreamEnding.Refused index error) = other
+state_of other (StreamEnding.Idle index o) = other
 
 one_more : {X : Type 0} (told : Report → List X) (here next last : List X) (r : Report) (rest : List Report) → here ++ told r ≡ next → next ++ flat_map told rest ≡ last → here ++ flat_map told (r ∷ rest) ≡ last
 one_more {X = X} told here next last r rest one more =
     ap (λ (l : List X). here ++ l) (flat_map-cons told r rest) ∙ (sym (append_assoc here (told r) (flat_map told rest)) ∙ (ap (λ (l : List X). l ++ flat_map told rest) one ∙ more))
 
-by_verdict : {X : Type 0} (told : Report → List X) (list : State → List X) (v : Verdict) (m : Strictness) (i : ℕ) (s : State) (e : Event) (final : State) (rest : List Report) (end : Ending)
-    → ((o : Outcome) → list s ++ told (report i s e o) ≡ list (happens s e)) → (end ≡ Ending.Reached final → list (happens s e) ++ flat_map told rest ≡ list final)
-    → ending_by v m i end ≡ Ending.Reached final → list s ++ flat_map told (reports_by v m i s e rest) ≡ list final
+by_verdict : {X : Type 0} (told : Report → List X) (list : State → List X) (v : Verdict) (m : Strictness) (i : ℕ) (s : State) (e : Event) (final : State) (rest : List Report) (end : StreamEnding)
+    → ((o : Outcome) → list s ++ told (report i s e o) ≡ list (happens s e)) → (end ≡ StreamEnding.Reached final → list (happens s e) ++ flat_map told rest ≡ list final)
+    → ending_by v m i end ≡ StreamEnding.Reached final → list s ++ flat_map told (reports_by v m i s e rest) ≡ list final
 by_verdict told list IsBad m i s e final rest end one more h = absurd (cc (h))
 by_verdict told list IsLimited m i s e final rest end one more h = absurd (cc (h))
 by_verdict told list (Keeps o) Lenient i s e final rest end one more h = one_more told (list s) (list (happens s e)) (list final) (report i s e o) rest (one o) (more h)
@@ -49,8 +49,8 @@ by_verdict told list (Keeps o) Strict i s e final rest end one more h = absurd (
 by_verdict told list (Moves o new) m i s e final rest end one more h = one_more told (list s) (list (happens s e)) (list final) (report i s e o) rest (one o) (more h)
 
 all_events : {X : Type 0} (told : Report → List X) (list : State → List X) → ((i : ℕ) (s : State) (e : Event) (o : Outcome) → list s ++ told (report i s e o) ≡ list (happens s e))
-    → (m : Strictness) (events : List Event) (i : ℕ) (s final : State) → ending m i s events ≡ Ending.Reached final → list s ++ flat_map told (reports m i s events) ≡ list final
-all_events told list one m [] i s final h = append-nil (list s) ∙ ap (λ (end : Ending). list (state_of s end)) h
+    → (m : Strictness) (events : List Event) (i : ℕ) (s final : State) → ending m i s events ≡ StreamEnding.Reached final → list s ++ flat_map told (reports m i s events) ≡ list final
+all_events told list one m [] i s final h = append-nil (list s) ∙ ap (λ (end : StreamEnding). list (state_of s end)) h
 all_events told list one m (e ∷ events) i s final h =
     by_verdict told list (verdict s e) m i s e final (reports m (i + 1) (happens s e) events) (ending m (i + 1) (happens s e) events)
     (one i s e) (all_events told list one m events (i + 1) (happens s e) final) h
@@ -83,15 +83,15 @@ none_at (suc harts) (suc h) = none_at harts h
 
 -- ---- a replay of the events
 
-replays_by : (v : Verdict) (m : Strictness) (i : ℕ) (end : Ending) (rest : Replayed) (final : State) → (end ≡ Ending.Reached final → rest ≡ Replayed.Reached final) → ending_by v m i end ≡ Ending.Reached final → unless_refused v i rest ≡ Replayed.Reached final
+replays_by : (v : Verdict) (m : Strictness) (i : ℕ) (end : StreamEnding) (rest : Replayed) (final : State) → (end ≡ StreamEnding.Reached final → rest ≡ Replayed.Reached final) → ending_by v m i end ≡ StreamEnding.Reached final → unless_refused v i rest ≡ Replayed.Reached final
 replays_by IsBad m i end rest final more h = absurd (cc (h))
 replays_by IsLimited m i end rest final more h = absurd (cc (h))
 replays_by (Keeps o) Lenient i end rest final more h = more h
 replays_by (Keeps o) Strict i end rest final more h = absurd (cc (h))
 replays_by (Moves o new) m i end rest final more h = more h
 
-replays : (m : Strictness) (events : List Event) (i : ℕ) (s final : State) → ending m i s events ≡ Ending.Reached final → replayed_from i s events ≡ Replayed.Reached final
-replays m [] i s final h = ap (λ (end : Ending). Replayed.Reached (state_of s end)) h
+replays : (m : Strictness) (events : List Event) (i : ℕ) (s final : State) → ending m i s events ≡ StreamEnding.Reached final → replayed_from i s events ≡ Replayed.Reached final
+replays m [] i s final h = ap (λ (end : StreamEnding). Replayed.Reached (state_of s end)) h
 replays m (e ∷ events) i s final h =
     replays_by (verdict s e) m i (ending m (i + 1) (happens s e) events) (replayed_from (i + 1) (happens s e) events) final (replays m events (i + 1) (happens s e) final) h
 

@@ -22,9 +22,7 @@ use Rattle.machine_parts.specs.declared.errors.ApplyError.{ApplyError}
 use Rattle.machine_parts.specs.declared.errors.ApplyError.TheVariants.{BadEvent, Limit, NoMemory}
 use Rattle.rv32_decode.specs.Rows.{decoded}
 use Rattle.rv32_decode.specs.declared.instruction.Instr.{Instr}
-use Rattle.rv32_exec.specs.Plans.{planned}
-use Rattle.rv32_exec.specs.declared.plans.Plan.{Plan}
-use Rattle.rv32_exec.specs.declared.plans.Plan.TheVariants as plan
+use Rattle.rv32_exec.specs.Actions.{addressed, planned}
 use Rattle.store_buffer.specs.Groups.{Groups, groups_of}
 use Rattle.store_buffer.specs.declared.entry.Entry.{Entry}
 use Rattle.text_fields.specs.Fields.{word}
@@ -46,21 +44,10 @@ next_instr s h = instr_at s.trace.image (node_at s h).hart.pc
 abbrev pub next_text : List Named → State → ℕ → List ℕ
 next_text names s h = disassembled names (node_at s h).hart.pc (next_instr s h)
 
-abbrev pub address_of : Plan → Option ℕ
-address_of plan.Local = None
-address_of (plan.Load address size) = Some address
-address_of (plan.Store address size value) = Some address
-address_of (plan.Lr address) = Some address
-address_of (plan.Sc address value) = Some address
-address_of (plan.Amo address op operand) = Some address
-address_of plan.Fence = None
-address_of plan.Call = None
-address_of (plan.Stop code) = None
-
 -- the address that an instruction reads or writes, by its hart's registers
 abbrev pub named_by : Initial → Hart → Option Instr → Option ℕ
 named_by image h None = None
-named_by image h (Some i) = address_of (planned i h.pc h.regs (length image.bytes))
+named_by image h (Some i) = addressed (planned i h.pc h.regs (length image.bytes))
 
 abbrev pub next_address : State → ℕ → Option ℕ
 next_address s h = named_by s.trace.image (node_at s h).hart (next_instr s h)

@@ -10,7 +10,7 @@ use Rattle.machine_model.specs.Events.{hart_of}
 use Rattle.machine_model.specs.Views.{State, opening}
 use Rattle.trace_recorder.specs.History.{History, entries_of}
 use Rattle.event_stream.specs.declared.strictness.Strictness.{Strictness}
-use Rattle.event_stream.specs.Reports.{Report, Ending, ending, outputs_of, reports}
+use Rattle.event_stream.specs.Reports.{Report, StreamEnding, ending, outputs_of, reports}
 
 -- what a report tells of a hart's instructions
 abbrev pub entries_in : ℕ → Report → List Retired
@@ -33,6 +33,6 @@ pub record AreOfTrace (told : List Report) (t : History) : Type 0 where
 -- a stream that tells all events ends where a replay of them does, and tells the whole trace, all that the harts put out, and nothing else
 abbrev pub StreamIsTheTrace : Type 0
 StreamIsTheTrace = (strictness : Strictness) (image : Initial) (config : Config) (events : List Event) (s : State)
-    → ending strictness 0 (opening image config) events ≡ Ending.Reached s
+    → ending strictness 0 (opening image config) events ≡ StreamEnding.Reached s
     → (replayed_from 0 (opening image config) events ≡ Replayed.Reached s)
     × (AreOfTrace (reports strictness 0 (opening image config) events) s.trace × AreItsOutputs (reports strictness 0 (opening image config) events) s)

@@ -60,18 +60,18 @@ reports strictness index s [] = []
 reports strictness index s (e ∷ events) = reports_by (verdict s e) strictness index s e (reports strictness (index + 1) (happens s e) events)
 
 -- how events end: all were told, and led to a state; or the one of this index is refused; or under Strict it changes nothing
-pub data Ending : Type 0 where
-  Reached : (state : State) → Ending
-  Refused : (index : ℕ) (error : ApplyError) → Ending
-  Idle : (index : ℕ) (outcome : Outcome) → Ending
+pub data StreamEnding : Type 0 where
+  Reached : (state : State) → StreamEnding
+  Refused : (index : ℕ) (error : ApplyError) → StreamEnding
+  Idle : (index : ℕ) (outcome : Outcome) → StreamEnding
 
-abbrev pub ending_by : Verdict → Strictness → ℕ → Ending → Ending
-ending_by IsBad strictness index rest = Ending.Refused index BadEvent
-ending_by IsLimited strictness index rest = Ending.Refused index Limit
+abbrev pub ending_by : Verdict → Strictness → ℕ → StreamEnding → StreamEnding
+ending_by IsBad strictness index rest = StreamEnding.Refused index BadEvent
+ending_by IsLimited strictness index rest = StreamEnding.Refused index Limit
 ending_by (Keeps o) Lenient index rest = rest
-ending_by (Keeps o) Strict index rest = Ending.Idle index o
+ending_by (Keeps o) Strict index rest = StreamEnding.Idle index o
 ending_by (Moves o new) strictness index rest = rest
 
-abbrev pub ending : Strictness → ℕ → State → List Event → Ending
-ending strictness index s [] = Ending.Reached s
+abbrev pub ending : Strictness → ℕ → State → List Event → StreamEnding
+ending strictness index s [] = StreamEnding.Reached s
 ending strictness index s (e ∷ events) = ending_by (verdict s e) strictness index (ending strictness (index + 1) (happens s e) events)

@@ -14,7 +14,7 @@ use Rattle.trace_text.specs.Traces.{image}
 use Rattle.event_stream.specs.declared.strictness.Strictness.{Strictness}
 use Rattle.event_stream.specs.Closing.{closing_line}
 use Rattle.event_stream.specs.Lines.{report_lines}
-use Rattle.event_stream.specs.Reports.{Ending, ending, reports}
+use Rattle.event_stream.specs.Reports.{StreamEnding, ending, reports}
 use Rattle.event_stream.specs.Reports.Ending.{Reached, Refused, Idle}
 
 -- the first two lines, of a machine's harts, its memory in KiB, the address at which the harts begin and how many bytes a line has: as in a trace, but for the first word
@@ -32,7 +32,7 @@ abbrev pub lines : List Named → Strictness → ℕ → State → List Event �
 lines names strictness index s events = flat_map (report_lines names) (reports strictness index s events)
 
 -- each hart's H line, where all events were told
-abbrev pub closing_lines : List Named → Ending → List ℕ
+abbrev pub closing_lines : List Named → StreamEnding → List ℕ
 closing_lines names (Reached s) = numbered (closing_line names s) 0 s.trace.statuses
 closing_lines names (Refused index error) = []
 closing_lines names (Idle index o) = []

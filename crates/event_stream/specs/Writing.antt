@@ -14,7 +14,7 @@ use Rattle.event_stream.specs.declared.errors.StreamError.{StreamError}
 use Rattle.event_stream.specs.declared.errors.StreamError.TheVariants as errors
 use Rattle.event_stream.specs.declared.strictness.Strictness.{Strictness}
 use Rattle.event_stream.specs.declared.strictness.Strictness.TheVariants.{Strict}
-use Rattle.event_stream.specs.Reports.{Ending, ending}
+use Rattle.event_stream.specs.Reports.{StreamEnding, ending}
 use Rattle.event_stream.specs.Streams.{stream_of, stream_up_to}
 
 -- the events before this index are all told, and lead to a state in which the event of this index has such a verdict; what the told events come to as a text was appended
@@ -25,20 +25,20 @@ pub record IsCut (strictness : Strictness) (s : State) (events : List Event) (in
   pub state : State
   pub whole : before ++ event ∷ later ≡ events
   pub place : length before ≡ index
-  pub leads : ending strictness 0 s before ≡ Ending.Reached state
+  pub leads : ending strictness 0 s before ≡ StreamEnding.Reached state
   pub such : IsSuch (verdict state event)
   pub sent : Appends old new (text before)
 
 -- all events are told, and lead to this state; the stream was appended
-pub record IsWhole (names : List Named) (strictness : Strictness) (image : Initial) (config : Config) (events : List Event) (old new : Option (List ℕ)) (s : State) : Type 0 where
-  pub leads : ending strictness 0 (opening image config) events ≡ Ending.Reached s
+pub record IsWholeStream (names : List Named) (strictness : Strictness) (image : Initial) (config : Config) (events : List Event) (old new : Option (List ℕ)) (s : State) : Type 0 where
+  pub leads : ending strictness 0 (opening image config) events ≡ StreamEnding.Reached s
   pub sent : Appends old new (stream_of names strictness image config events)
 
 -- why a stream isn't whole: no machine was made, and nothing went out; an event is refused, or a strict stream met one that changes nothing, and the stream up to there went out; or the writer had a fault, and a beginning of the stream did
-abbrev pub IsUnfinished : List Named → Strictness → Initial → Config → List Event → Option (List ℕ) → Option (List ℕ) → StreamError → Type 0
-IsUnfinished names strictness image config events old new (errors.New error) = new ≡ old
-IsUnfinished names strictness image config events old new (errors.Refused index error) =
+abbrev pub IsStreamUnfinished : List Named → Strictness → Initial → Config → List Event → Option (List ℕ) → Option (List ℕ) → StreamError → Type 0
+IsStreamUnfinished names strictness image config events old new (errors.New error) = new ≡ old
+IsStreamUnfinished names strictness image config events old new (errors.Refused index error) =
     IsCut strictness (opening image config) events index (Refuses error) (stream_up_to names strictness image config) old new
-IsUnfinished names strictness image config events old new (errors.Idle index outcome) =
+IsStreamUnfinished names strictness image config events old new (errors.Idle index outcome) =
     (strictness ≡ Strict) × IsCut strictness (opening image config) events index (λ v. v ≡ Keeps outcome) (stream_up_to names strictness image config) old new
-IsUnfinished names strictness image config events old new (errors.Writing fault) = Begins old new (stream_of names strictness image config events)
+IsStreamUnfinished names strictness image config events old new (errors.Writing fault) = Begins old new (stream_of names strictness image config events)

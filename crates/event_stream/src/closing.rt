@@ -3,7 +3,7 @@ ghost use Rattle.std.specs.Prelude.{◌≡◌, ◌+◌, ◌<◌, ◌≤◌, ◌�
 ghost use Rattle.coherent_machine.specs.Machine.{IsReached};
 ghost use Rattle.event_stream.specs.Closing as closing;
 ghost use Rattle.text_fields.specs.Fields.{numbered};
-ghost use Rattle.text_fields.specs.Pages.{HasRoom, Spells, size};
+ghost use Rattle.text_fields.specs.Pages.{HasLineRoom, Spells, size};
 ghost use Rattle.trace_text.specs.Traces.{status_ended};
 
 use crate::naming::spell_instruction;
@@ -72,7 +72,7 @@ fn put_answer<W: Write>(
 
 /// The hart's next instruction, and the end of the line.
 fn spell_next(page: &mut Page, names: &Symbols, machine: &Machine, hart: usize)
-    requires room { HasRoom page.old }
+    requires room { HasLineRoom page.old }
     requires hart { hart < length machine.now.views.nodes }
     ensures { page.new ≡ page.old ++ (closing.next_text names.now machine.now hart ++ 10 ∷ []) }
 {
@@ -101,7 +101,7 @@ fn put_next<W: Write>(
 
 /// The beginning of a line on which more stands than in a trace.
 fn spell_lead(page: &mut Page, hart: u8, status: Status)
-    requires { HasRoom page.old }
+    requires { HasLineRoom page.old }
     ensures value { page.new ≡ page.old ++ (status_ended 32 hart status ++ codes "; ") }
     ensures len { length page.new ≤ length page.old + 51 }
 {
@@ -129,7 +129,7 @@ fn put_running<W: Write>(
 
 /// The beginning of the line of a hart that stopped, and why it did.
 fn spell_stop(page: &mut Page, hart: u8, code: u8)
-    requires { HasRoom page.old }
+    requires { HasLineRoom page.old }
     ensures { page.new ≡ page.old ++ ((status_ended 32 hart (Status.Stopped code) ++ codes "; ") ++ closing.reason code) }
 {
     spell_lead(page, hart, Status::Stopped(code));

@@ -3,7 +3,7 @@ ghost use Rattle.std.specs.Prelude.{◌≡◌, ◌+◌, ◌<◌, ◌≤◌, ◌+
 ghost use Rattle.std.specs.List.{flat_map, range_with_len};
 ghost use Rattle.event_stream.specs.Holding as holding;
 ghost use Rattle.machine_model.specs.Views.{node_at};
-ghost use Rattle.text_fields.specs.Pages.{HasRoom, Spells, size};
+ghost use Rattle.text_fields.specs.Pages.{HasLineRoom, Spells, size};
 ghost use Rattle.tilelink_channels.specs.Queues.{queue_of};
 
 use crate::waits::{copy_in, line_address, size_of};
@@ -22,7 +22,7 @@ use trace_text::spell_message;
 
 /// A name with a number.
 fn spell_value(page: &mut Page, hart: u8, name: &[u8], value: u32)
-    requires room { HasRoom page.old }
+    requires room { HasLineRoom page.old }
     requires short { length name.now ≤ 4 }
     ensures { page.new ≡ page.old ++ holding.value_line hart name.now value }
 {
@@ -35,7 +35,7 @@ fn spell_value(page: &mut Page, hart: u8, name: &[u8], value: u32)
 }
 
 fn spell_register(page: &mut Page, hart: u8, registers: &Regs, number: u8)
-    requires room { HasRoom page.old }
+    requires room { HasLineRoom page.old }
     requires inside { number < 32 }
     ensures { page.new ≡ page.old ++ holding.register_line hart registers.now number }
 {
@@ -81,7 +81,7 @@ fn spell_byte(page: &mut Page, entry: &Entry, place: usize)
 }
 
 fn spell_entry(page: &mut Page, hart: u8, group: u64, entry: &Entry)
-    requires { HasRoom page.old }
+    requires { HasLineRoom page.old }
     ensures { page.new ≡ page.old ++ holding.entry_line hart group entry.now }
 {
     page.text(b"B ");
@@ -152,7 +152,7 @@ fn put_reservation<W: Write>(
 }
 
 fn spell_reservation(page: &mut Page, hart: u8, reserved: Option<u32>)
-    requires { HasRoom page.old }
+    requires { HasLineRoom page.old }
     ensures { page.new ≡ page.old ++ holding.reservation_line hart reserved }
 {
     if let Some(word) = reserved {
@@ -197,7 +197,7 @@ fn spell_if(page: &mut Page, is_so: bool, letter: &[u8], hart: u8, line: u32)
 
 /// What a cache has to do with a line.
 fn spell_line(page: &mut Page, hart: u8, cache: &ClientCache, line: u32)
-    requires { HasRoom page.old }
+    requires { HasLineRoom page.old }
     ensures { page.new ≡ page.old ++ holding.cache_line hart cache.now line }
 {
     spell_copy(page, hart, line, copy_in(cache, line));
@@ -206,7 +206,7 @@ fn spell_line(page: &mut Page, hart: u8, cache: &ClientCache, line: u32)
 }
 
 fn spell_line_at(page: &mut Page, machine: &Machine, hart: u8, cache: &ClientCache, number: u32)
-    requires room { HasRoom page.old }
+    requires room { HasLineRoom page.old }
     requires few { number < 65536 }
     ensures { page.new ≡ page.old ++ holding.line_in_cache machine.now hart cache.now number }
 {
@@ -247,7 +247,7 @@ fn letter(channel: Channel) -> &'static [u8]
 }
 
 fn spell_waiting(page: &mut Page, hart: u8, channel: Channel, message: &Msg)
-    requires { HasRoom page.old }
+    requires { HasLineRoom page.old }
     ensures { page.new ≡ page.old ++ holding.message_line hart channel message.now }
 {
     page.text(b"Q ");
@@ -258,7 +258,7 @@ fn spell_waiting(page: &mut Page, hart: u8, channel: Channel, message: &Msg)
 }
 
 fn spell_waiting_at(page: &mut Page, hart: u8, channel: Channel, queues: &Queues, place: usize)
-    requires { HasRoom page.old }
+    requires { HasLineRoom page.old }
     ensures { page.new ≡ page.old ++ holding.message_if hart channel (slice_get (queue_of queues.now channel) place) }
 {
     if let Some(message) = queues.get(channel, place) {

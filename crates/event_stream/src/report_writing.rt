@@ -1,7 +1,7 @@
 //! Writing the lines of a report.
 ghost use Rattle.std.specs.Prelude.{◌≡◌, ◌+◌, ◌<◌, ◌^◌, ◌++◌};
 ghost use Rattle.std.specs.List.{flat_map};
-ghost use Rattle.text_fields.specs.Pages.{HasRoom, Spells};
+ghost use Rattle.text_fields.specs.Pages.{HasLineRoom, Spells};
 ghost use Rattle.event_stream.specs.Lines as lines;
 ghost use Rattle.event_stream.specs.Telling.{report_of};
 
@@ -18,7 +18,7 @@ use trace_text::{put_log, put_performed, spell_event, spell_retired};
 
 /// An event's line, behind the number of its line in the script.
 fn spell_event_line(page: &mut Page, index: usize, event: Event, outcome: Outcome)
-    requires room { HasRoom page.old }
+    requires room { HasLineRoom page.old }
     requires few { index + 2 < 2 ^ 64 }
     ensures { page.new ≡ page.old ++ lines.event_line index event outcome }
 {
@@ -31,7 +31,7 @@ fn spell_event_line(page: &mut Page, index: usize, event: Event, outcome: Outcom
 
 /// An R line, with the instruction behind it.
 fn spell_retired_line(page: &mut Page, names: &Symbols, hart: u8, entry: &Retired)
-    requires { HasRoom page.old }
+    requires { HasLineRoom page.old }
     ensures { page.new ≡ page.old ++ lines.retired_line names.now hart entry.now }
 {
     match decode(entry.word) {
@@ -62,7 +62,7 @@ fn put_entries<W: Write>(
 }
 
 fn spell_number(page: &mut Page, hart: u8, number: u32)
-    requires { HasRoom page.old }
+    requires { HasLineRoom page.old }
     ensures { page.new ≡ page.old ++ lines.output_line hart number }
 {
     page.text(b"O ");

@@ -9,7 +9,7 @@ ghost use Rattle.hart.specs.Run.{can_fetch};
 ghost use Rattle.machine_model.specs.Ready.{shape_of};
 ghost use Rattle.machine_model.specs.Views.{line_of, line_size, node_at, size_of_config};
 ghost use Rattle.client_cache.specs.Shape.{set_of};
-ghost use Rattle.text_fields.specs.Pages.{HasRoom, Spells};
+ghost use Rattle.text_fields.specs.Pages.{HasLineRoom, Spells};
 ghost use Rattle.tl_types.specs.Line.{length_of};
 
 use client_cache::{ClientCache, Held};
@@ -19,7 +19,7 @@ use hart::Hart;
 use machine_model::Outcome;
 use machine_parts::line_size;
 use rv32_decode::{Instr, decode};
-use rv32_exec::{Plan, plan};
+use rv32_exec::plan;
 use std::io::{Result, Write};
 use std::marker::Brand;
 use std::sync::ledger::{Blank, Ledger};
@@ -46,24 +46,11 @@ pub(crate) fn instr_at(image: &Image, pc: u32) -> Option<Instr>
     }
 }
 
-fn address_of(plan: Plan) -> Option<u32>
-    ensures { result ≡ closing.address_of plan }
-{
-    match plan {
-        Plan::Load { addr, .. }
-        | Plan::Store { addr, .. }
-        | Plan::Lr { addr }
-        | Plan::Sc { addr, .. }
-        | Plan::Amo { addr, .. } => Some(addr),
-        Plan::Local | Plan::Fence | Plan::Call | Plan::Stop(_) => None,
-    }
-}
-
 fn named_by(image: &Image, hart: &Hart, instr: Option<Instr>) -> Option<u32>
     ensures { result ≡ closing.named_by image.now hart.now instr }
 {
     match instr {
-        Some(instr) => address_of(plan(&instr, hart.pc, &hart.regs, image.size())),
+        Some(instr) => plan(&instr, hart.pc, &hart.regs, image.size()).address(),
         None => None,
     }
 }
@@ -80,7 +67,7 @@ fn next_address(machine: &Machine, hart: usize) -> Option<u32>
 }
 
 fn spell_address(page: &mut Page, address: u32)
-    requires { HasRoom page.old }
+    requires { HasLineRoom page.old }
     ensures { page.new ≡ page.old ++ closing.address address }
 {
     page.text(b" ");
@@ -88,7 +75,7 @@ fn spell_address(page: &mut Page, address: u32)
 }
 
 fn spell_entry(page: &mut Page, entry: &Entry)
-    requires { HasRoom page.old }
+    requires { HasLineRoom page.old }
     ensures { page.new ≡ page.old ++ closing.entry_word entry.now }
 {
     spell_address(page, entry.word);
@@ -187,7 +174,7 @@ fn is_in_set(machine: &Machine, cache: &ClientCache, wanted: u32, line: u32) -> 
 
 /// Memory's line of this number, where it takes a way of the set.
 fn spell_way(page: &mut Page, machine: &Machine, cache: &ClientCache, wanted: u32, number: u32)
-    requires room { HasRoom page.old }
+    requires room { HasLineRoom page.old }
     requires sets { 0 < machine.now.views.config.sets }
     requires few { number < 65536 }
     ensures { page.new ≡ page.old ++ closing.way_of_set machine.now cache.now wanted number }
@@ -240,7 +227,7 @@ fn put_ways_named<W: Write>(
 
 /// The line that an address lies in, where there is one.
 fn spell_line_named(page: &mut Page, machine: &Machine, address: Option<u32>)
-    requires { HasRoom page.old }
+    requires { HasLineRoom page.old }
     ensures { page.new ≡ page.old ++ closing.line_named machine.now address }
 {
     if let Some(address) = address {

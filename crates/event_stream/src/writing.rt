@@ -2,12 +2,12 @@
 ghost use Rattle.std.specs.Prelude.{◌≡◌, ◌↔◌, ◌++◌, Err, IfErr, IfOk, false};
 ghost use Rattle.coherent_machine.specs.Machine.{IsReached};
 ghost use Rattle.coherent_machine.specs.declared.errors.NewError.TheVariants as making;
-ghost use Rattle.event_stream.specs.Reports.{Ending};
+ghost use Rattle.event_stream.specs.Reports.{StreamEnding};
 ghost use Rattle.event_stream.specs.Streams as streams;
 ghost use Rattle.event_stream.specs.Telling.{IsHandedOn, IsTold};
-ghost use Rattle.event_stream.specs.Writing.{IsUnfinished, IsWhole};
+ghost use Rattle.event_stream.specs.Writing.{IsStreamUnfinished, IsWholeStream};
 ghost use Rattle.machine_model.specs.Config.{is_within_limits};
-ghost use Rattle.text_fields.specs.Pages.{HasRoom, Spells};
+ghost use Rattle.text_fields.specs.Pages.{HasLineRoom, Spells};
 ghost use Rattle.text_fields.specs.Writing.{Writes};
 ghost use Rattle.trace_text.specs.Scripts.{is_first_version};
 
@@ -34,7 +34,7 @@ fn is_first_version(harts: usize, line: u32) -> bool
 }
 
 fn spell_head(page: &mut Page, harts: usize, kib: u32, entry: u32, line: u32)
-    requires { HasRoom page.old }
+    requires { HasLineRoom page.old }
     ensures { page.new ≡ page.old ++ streams.head harts kib entry line }
 {
     if is_first_version(harts, line) {
@@ -55,7 +55,7 @@ fn spell_head(page: &mut Page, harts: usize, kib: u32, entry: u32, line: u32)
 
 /// The head, and memory at reset.
 fn put_opening<W: Write>(page: &mut Page, out: &mut W, trace: &Trace) -> io::Result<()>
-    requires { HasRoom page.old }
+    requires { HasLineRoom page.old }
     ensures { Spells (W.contents out.old) (W.contents out.new) page.old page.new (streams.opening_lines trace.now.history) result }
 {
     let memory = trace.image().bytes();
@@ -119,7 +119,7 @@ fn put_closing<W: Write>(
     machine: &Machine,
 ) -> io::Result<()>
     requires { IsReached machine.now }
-    ensures { Writes (W.contents out.old) (W.contents out.new) (page.old ++ streams.closing_lines names.now (Ending.Reached machine.now)) result }
+    ensures { Writes (W.contents out.old) (W.contents out.new) (page.old ++ streams.closing_lines names.now (StreamEnding.Reached machine.now)) result }
 {
     put_statuses(page, out, names, machine)?;
     page.hand_on(out)
@@ -136,9 +136,9 @@ pub fn write_stream<W: Write>(
     names: &Symbols,
     out: &mut W,
 ) -> Result<Machine, StreamError>
-    ensures whole { IfOk result (λ machine. IsWhole names.now strictness image config events.now (W.contents out.old) (W.contents out.new) machine) }
+    ensures whole { IfOk result (λ machine. IsWholeStream names.now strictness image config events.now (W.contents out.old) (W.contents out.new) machine) }
     ensures limits { (result ≡ Err (StreamError.New making.Config)) ↔ (is_within_limits config ≡ false) }
-    ensures unfinished { IfErr result (λ error. IsUnfinished names.now strictness image config events.now (W.contents out.old) (W.contents out.new) error) }
+    ensures unfinished { IfErr result (λ error. IsStreamUnfinished names.now strictness image config events.now (W.contents out.old) (W.contents out.new) error) }
 {
     let mut machine = Machine::new(alloc, image, config)?;
     let mut page = Page::new();

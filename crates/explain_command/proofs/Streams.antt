@@ -5,7 +5,7 @@ use Rattle.coherent_machine.specs.Machine.{Refuses}
 use Rattle.coherent_machine.specs.declared.errors.NewError.TheVariants as making
 use Rattle.elf_loader.specs.Image.{Initial}
 use Rattle.event_stream.specs.Streams.{stream_of, stream_up_to}
-use Rattle.event_stream.specs.Writing.{IsCut, IsUnfinished, IsWhole}
+use Rattle.event_stream.specs.Writing.{IsCut, IsStreamUnfinished, IsWholeStream}
 use Rattle.event_stream.specs.declared.errors.StreamError.{StreamError}
 use Rattle.event_stream.specs.declared.errors.StreamError.TheVariants as stream
 use Rattle.event_stream.specs.declared.strictness.Strictness.{Strictness}
@@ -53,14 +53,14 @@ module _ (names : List Named) (strictness : Strictness) (image : Initial) (confi
     sent = kept_on old mid new _ cut.sent kept;
   }
 
-  pub part_on : (error : StreamError) → Keeps mid new → IsUnfinished names strictness image config events old mid error → IsPartOfStream names strictness image config events old new error
+  pub part_on : (error : StreamError) → Keeps mid new → IsStreamUnfinished names strictness image config events old mid error → IsPartOfStream names strictness image config events old new error
   part_on (stream.New error) kept so = appends_kept old new (subst (λ (o : Option (List ℕ)). Keeps o new) so kept)
   part_on (stream.Refused index error) kept so = cut_on index (Refuses error) kept so
   part_on (stream.Idle index outcome) kept so = (so.0, cut_on index (λ v. v ≡ Stays outcome) kept so.1)
   part_on (stream.Writing error) kept so = begun_on old mid new _ so kept
 
   -- whatever became of the stream, where what went out last was not passed on
-  pub part_of : (told : Result State StreamError) (lost : StreamError) → (Begins old new (stream_of names strictness image config events) → IsPartOfStream names strictness image config events old new lost) → Keeps mid new → IfOk told (IsWhole names strictness image config events old mid) → IfErr told (IsUnfinished names strictness image config events old mid)
+  pub part_of : (told : Result State StreamError) (lost : StreamError) → (Begins old new (stream_of names strictness image config events) → IsPartOfStream names strictness image config events old new lost) → Keeps mid new → IfOk told (IsWholeStream names strictness image config events old mid) → IfErr told (IsStreamUnfinished names strictness image config events old mid)
       → (error : StreamError) × IsPartOfStream names strictness image config events old new error
   part_of (Ok s) lost begun kept whole so = (lost, begun (all_begun old mid new _ whole.sent kept))
   part_of (Err error) lost begun kept whole so = (error, part_on error kept so)
@@ -72,10 +72,10 @@ part_at names strictness image config wanted events given old new error same_con
     subst (λ (c : Config). IsPartOfStream names strictness image c given old new error) same_config (subst (λ (e : List Event). IsPartOfStream names strictness image config e old new error) same_events part)
 
 pub whole_at : (names : List Named) (strictness : Strictness) (image : Initial) (config wanted : Config) (events given : List Event) (old mid new : Option (List ℕ)) (s : State) → config ≡ wanted → events ≡ given → Keeps mid new
-    → IsWhole names strictness image config events old mid s → IsWhole names strictness image wanted given old new s
+    → IsWholeStream names strictness image config events old mid s → IsWholeStream names strictness image wanted given old new s
 whole_at names strictness image config wanted events given old mid new s same_config same_events kept whole =
-    let here : IsWhole names strictness image config events old new s = record { leads = whole.leads; sent = kept_on old mid new _ whole.sent kept } in
-    subst (λ (c : Config). IsWhole names strictness image c given old new s) same_config (subst (λ (e : List Event). IsWhole names strictness image config e old new s) same_events here)
+    let here : IsWholeStream names strictness image config events old new s = record { leads = whole.leads; sent = kept_on old mid new _ whole.sent kept } in
+    subst (λ (c : Config). IsWholeStream names strictness image c given old new s) same_config (subst (λ (e : List Event). IsWholeStream names strictness image config e old new s) same_events here)
 
 -- what a stream's end is told as
 pub told_as : (names : List Named) (held : Held) (replay : Replay) (strictness : Strictness) (script : Script) (image : Initial) (old new : Option (List ℕ)) (error : StreamError) (fault : Fault)

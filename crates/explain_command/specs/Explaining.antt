@@ -11,7 +11,7 @@ use Rattle.elf_loader.specs.Image.{Initial}
 use Rattle.elf_symbols.specs.Named.{Named}
 use Rattle.explain_command.specs.Named.{HoldsNamedImage}
 use Rattle.event_stream.specs.Streams.{stream_of, stream_up_to}
-use Rattle.event_stream.specs.Writing.{IsCut, IsWhole}
+use Rattle.event_stream.specs.Writing.{IsCut, IsWholeStream}
 use Rattle.event_stream.specs.declared.errors.StreamError.TheVariants as stream
 use Rattle.event_stream.specs.declared.errors.StreamError.{StreamError}
 use Rattle.event_stream.specs.declared.strictness.Strictness.TheVariants.{Strict}
@@ -36,7 +36,7 @@ pub record IsExplained (held : Held) (replay : Replay) (strictness : Strictness)
   pub script_file : HoldsScript held replay.script.now script
   pub image_file : HoldsNamedImage held replay.raw replay.image.now script.kib image names
   pub only : IsTheScriptIn held replay.script.now script
-  pub whole : IsWhole names strictness image (config_of script replay.model) script.events old new reached
+  pub whole : IsWholeStream names strictness image (config_of script replay.model) script.events old new reached
 
 -- what of a stream went out where it is not whole: nothing, where no machine was made; all before the event that is refused, or that changes nothing and so ends a strict stream; or a beginning, where the output took no more
 abbrev pub IsPartOfStream : List Named → Strictness → Initial → Config → List Event → Option (List ℕ) → Option (List ℕ) → StreamError → Type 0
@@ -48,7 +48,7 @@ IsPartOfStream names strictness image config events old new (stream.Idle index o
 IsPartOfStream names strictness image config events old new (stream.Writing error) = Begins old new (stream_of names strictness image config events)
 
 -- such a part went out of the stream that the script in the one file means for the image in the other
-pub record IsStopped (held : Held) (replay : Replay) (strictness : Strictness) (old new : Option (List ℕ)) : Type 0 where
+pub record IsStreamCutOff (held : Held) (replay : Replay) (strictness : Strictness) (old new : Option (List ℕ)) : Type 0 where
   pub script : Script
   pub image : Initial
   pub names : List Named

@@ -1,7 +1,7 @@
 //! `rvtl explain`: a script of events is applied to a machine, and told event by event.
 
 ghost use Rattle.std.specs.Prelude.{◌≡◌, ◌⊎◌, IfErr, OnOk};
-ghost use Rattle.explain_command.specs.Explaining.{IsExplainFault, IsExplained, IsStopped};
+ghost use Rattle.explain_command.specs.Explaining.{IsExplainFault, IsExplained, IsStreamCutOff};
 
 use crate::named::named_image_in;
 use command_files::{Fault, Files, config_of, script_in};
@@ -21,7 +21,7 @@ pub fn explain_files<'a, F: Files, O: Write>(
     out: &mut O,
 ) -> Result<(), Fault<'a>>
     ensures explained { OnOk result (IsExplained (F.held files.old) wanted.entry strictness (O.contents out.old) (O.contents out.new)) }
-    ensures unfinished { IfErr result (λ _. (O.contents out.new ≡ O.contents out.old) ⊎ IsStopped (F.held files.old) wanted.entry strictness (O.contents out.old) (O.contents out.new)) }
+    ensures unfinished { IfErr result (λ _. (O.contents out.new ≡ O.contents out.old) ⊎ IsStreamCutOff (F.held files.old) wanted.entry strictness (O.contents out.old) (O.contents out.new)) }
     ensures told { IfErr result (IsExplainFault (F.held files.old) wanted.entry strictness (O.contents out.old) (O.contents out.new)) }
     ensures spared { F.held files.new ≡ F.held files.old }
 {

@@ -12,7 +12,7 @@ use Rattle.command_settings.specs.declared.wanted.Explore.{Explore}
 use Rattle.elf_loader.specs.Image.{Initial}
 use Rattle.exploration_text.specs.Text.{exploration_text}
 use Rattle.explore_command.specs.Allowing.{IsJudged}
-use Rattle.explore_command.specs.Exploring.{IsAllowFile, IsExploreFault, IsExplored, IsFoundIn, IsPartlyExplored, IsPrinted, LeavesPart, judgement_on}
+use Rattle.explore_command.specs.Exploring.{IsAllowFile, IsExploreFault, IsExplorationTold, IsFoundIn, IsPartlyExplored, IsPrinted, LeavesPart, judgement_on}
 use Rattle.explore_command.specs.Keeping.{AreKept, SparesOthers}
 use Rattle.explore_command.specs.declared.judging.Judgement.{Judgement}
 use Rattle.explore_command.specs.declared.judging.Judgement.TheVariants.{Allowed}
@@ -72,7 +72,7 @@ module _ (held first : Held) (wanted : Explore) (config : Config) (image : Initi
   printed whole = record { image = image; exploration = found; image_file = image_file; found = is_found; whole = whole }
 
   pub whole : (left : Held) (judgement : Judgement) → Appends old new (exploration_text found) → IfSome wanted.scripts (λ folder. AreKept left wanted.machine folder.now found)
-      → IsJudged held wanted.allow (outcomes_of found.outcomes.items) judgement → (judgement ≡ Allowed → found.extent ≢ extent.OutOfMemory) → IsExplored held left wanted judgement old new
+      → IsJudged held wanted.allow (outcomes_of found.outcomes.items) judgement → (judgement ≡ Allowed → found.extent ≢ extent.OutOfMemory) → IsExplorationTold held left wanted judgement old new
   whole left judgement told kept by memory = record {
     image = image;
     exploration = found;

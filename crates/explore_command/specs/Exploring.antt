@@ -43,7 +43,7 @@ pub record IsFoundIn (image : Initial) (config : Config) (limit : ℕ) (found : 
   pub visited : (states : List Flat) × AreVisited image config found states
 
 -- what was found of the image in the file was printed, its scripts are in the folder, if one was named, and it was judged by the file that says what is allowed; it is allowed only where memory sufficed for all states, or for as many as were asked for
-pub record IsExplored (held left : Held) (wanted : Explore) (judgement : Judgement) (old new : Option (List ℕ)) : Type 0 where
+pub record IsExplorationTold (held left : Held) (wanted : Explore) (judgement : Judgement) (old new : Option (List ℕ)) : Type 0 where
   pub image : Initial
   pub exploration : Exploration
   pub image_file : HoldsImage held wanted.raw wanted.image.now wanted.machine.memory image

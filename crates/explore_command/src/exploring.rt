@@ -5,7 +5,7 @@ ghost use Rattle.std.specs.Io.KnownBytes.{Appends};
 ghost use Rattle.command_files.specs.Faults.{IsReadFault};
 ghost use Rattle.command_files.specs.Sizes.{IsOutside, config_named};
 ghost use Rattle.elf_loader.specs.Size.{IsMemoryKib};
-ghost use Rattle.explore_command.specs.Exploring.{ComesAfter, IsAllowFile, IsExploreFault, IsExplored, IsFolderFault, IsNamedBy, IsPartlyExplored, IsPrinted, LeavesPart, judgement_on};
+ghost use Rattle.explore_command.specs.Exploring.{ComesAfter, IsAllowFile, IsExploreFault, IsExplorationTold, IsFolderFault, IsNamedBy, IsPartlyExplored, IsPrinted, LeavesPart, judgement_on};
 ghost use Rattle.explore_command.specs.Keeping.{AreKept, IsScriptFile, SparesOthers};
 ghost use Rattle.exploration_text.specs.Text.{exploration_text};
 ghost use Rattle.explorer.specs.Ends.{outcomes_of};
@@ -48,7 +48,7 @@ pub fn explore_files<'a, F: Files, O: Write, E: Write, P: Progress>(
     progress: &P,
 ) -> Result<Judgement, Fault<'a>>
     requires room { 0 < wanted.states }
-    ensures explored { IfOk result (λ judgement. IsExplored (F.held files.old) (F.held files.new) wanted.entry judgement (O.contents out.old) (O.contents out.new)) }
+    ensures explored { IfOk result (λ judgement. IsExplorationTold (F.held files.old) (F.held files.new) wanted.entry judgement (O.contents out.old) (O.contents out.new)) }
     ensures outside { IsOutside wanted.entry.machine → result ≡ Err Fault.Configuration }
     ensures told { IfErr result (IsExploreFault (F.held files.old) wanted.entry) }
     ensures unfinished { IfErr result (λ fault. LeavesPart fault (O.contents out.old) (O.contents out.new)

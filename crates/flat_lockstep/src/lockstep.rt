@@ -9,7 +9,7 @@ use flat_model::FlatEvent;
 use machine_model::{Config, Event, Outcome};
 use plain_machine::{FlatMachine, Variant};
 use rv32_decode::decode;
-use rv32_exec::{Plan as Access, plan};
+use rv32_exec::{Action, plan};
 use std::alloc::Global;
 use std::fmt;
 use trace_recorder::OpId;
@@ -133,7 +133,7 @@ impl Lockstep {
     }
 
     /// What a hart's next instruction is going to do.
-    fn next_access(&self, hart: u8) -> Option<Access> {
+    fn next_access(&self, hart: u8) -> Option<Action> {
         let views = self.machine.views();
         let hart = usize::from(hart);
         if hart >= views.harts() {
@@ -150,8 +150,8 @@ impl Lockstep {
 
     /// Whether the SC that a hart has just retired failed though its flat reservation stands; it counts
     /// one that succeeded.
-    fn fails_for_no_reason(&mut self, hart: u8, access: Access) -> bool {
-        let Access::Sc { addr, .. } = access else {
+    fn fails_for_no_reason(&mut self, hart: u8, access: Action) -> bool {
+        let Action::Sc { addr, .. } = access else {
             return false;
         };
         let place = usize::from(hart);
@@ -182,7 +182,7 @@ impl Lockstep {
         &mut self,
         hart: u8,
         outcome: Outcome,
-        access: Option<Access>,
+        access: Option<Action>,
     ) -> Result<(), Difference> {
         let fails = access.is_some_and(|access| self.fails_for_no_reason(hart, access));
         if fails && self.failures == Failures::Follow {
@@ -197,7 +197,7 @@ impl Lockstep {
         &mut self,
         event: Event,
         outcome: Outcome,
-        access: Option<Access>,
+        access: Option<Action>,
     ) -> Result<(), Difference> {
         match (event, outcome) {
             (Event::Step { hart }, Outcome::Retired | Outcome::Exited(_) | Outcome::Stopped(_)) =>
@@ -216,7 +216,7 @@ impl Lockstep {
     }
 
     /// What the machine's event wrote, by its trace.
-    fn writes(&mut self, hart: u8, place: usize, access: Option<Access>) -> Result<(), Difference> {
+    fn writes(&mut self, hart: u8, place: usize, access: Option<Action>) -> Result<(), Difference> {
         let trace = self.machine.trace();
         let index = usize::from(hart);
         if index < trace.harts() {

@@ -3,7 +3,7 @@
 use amo_unit::combine;
 use elf_loader::{BASE, Image};
 use hart::Retired;
-use rv32_exec::Plan as Access;
+use rv32_exec::Action;
 use std::alloc::{AllocError, Global};
 use trace_recorder::OpId;
 
@@ -34,19 +34,19 @@ pub(crate) struct Written {
 }
 
 /// What a retired instruction writes, by what it was going to do.
-fn write_of(access: Access, entry: &Retired) -> Option<Write> {
+fn write_of(access: Action, entry: &Retired) -> Option<Write> {
     match access {
-        Access::Store { addr, size, value } => Some(Write {
+        Action::Store { addr, size, value } => Some(Write {
             address: addr,
             bytes: size.bytes() as usize,
             value,
         }),
-        Access::Sc { addr, value } if entry.sc_ok == Some(true) => Some(Write {
+        Action::Sc { addr, value } if entry.sc_ok == Some(true) => Some(Write {
             address: addr,
             bytes: 4,
             value,
         }),
-        Access::Amo { addr, op, operand } => Some(Write {
+        Action::Amo { addr, op, operand } => Some(Write {
             address: addr,
             bytes: 4,
             value: combine(op, entry.loaded?, operand),
@@ -74,7 +74,7 @@ impl Written {
     pub fn retired(
         &mut self,
         operation: OpId,
-        access: Access,
+        access: Action,
         entry: &Retired,
     ) -> Result<(), AllocError> {
         if let Some(write) = write_of(access, entry) {

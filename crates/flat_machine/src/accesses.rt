@@ -15,7 +15,7 @@ use crate::plan::Plan;
 use crate::words::{marks_of, read_from, store_of, word_of};
 use amo_unit::combine;
 use hart::Retired;
-use machine_model::{Deed, Model, Outcome};
+use machine_model::{Deed, MemoryModel, Outcome};
 use rv32_decode::{AmoOp, Instr, Register};
 use rv32_exec::Width;
 use store_buffer::StoreBuffer;
@@ -120,29 +120,24 @@ fn waits_for_stores(buffer: &StoreBuffer, instr: &Instr, word: u32) -> bool
 }
 
 /// A write that is performed at once passes no sealed group, and under Ztso no store.
-fn write_waits(model: Model, buffer: &StoreBuffer, instr: &Instr, word: u32) -> bool
+fn write_waits(model: MemoryModel, buffer: &StoreBuffer, instr: &Instr, word: u32) -> bool
     ensures { result ≡ spec.write_waits model buffer.now instr.now word }
 {
     match model {
-        Model::Rvwmo => waits_for_stores(buffer, instr, word) || buffer.has_sealed(),
-        Model::Ztso => !buffer.is_empty(),
+        MemoryModel::Rvwmo => waits_for_stores(buffer, instr, word) || buffer.has_sealed(),
+        MemoryModel::Ztso => !buffer.is_empty(),
     }
 }
 
-pub(crate) fn plan_reserve(
-    memory: &Memory<'_>,
-    node: &Node,
-    fetched: &Fetched,
-    address: u32,
-) -> Plan
+pub(crate) fn plan_lr(memory: &Memory<'_>, node: &Node, fetched: &Fetched, address: u32) -> Plan
     requires aligned { address % 4 ≡ 0 }
-    ensures { meant result ≡ spec.plan_reserve (memory_spec.bytes_of memory.now) node.now (fetched_of fetched.now) address }
+    ensures { meant result ≡ spec.plan_lr (memory_spec.bytes_of memory.now) node.now (fetched_of fetched.now) address }
 {
     if waits_for_stores(&node.buffer, &fetched.instr, address) {
         return Plan::Stays(Outcome::MustDrain);
     }
     let old = read_from(memory.word(address), address, Width::Word);
-    let deed = Deed::Reserve(address);
+    let deed = Deed::Lr(address);
     retires(node, fetched, Some(old), None, deed, Some(address))
 }
 
@@ -154,14 +149,14 @@ pub(crate) fn fails(node: &Node, fetched: &Fetched) -> Plan
 }
 
 /// Without its reservation a store conditional fails at once.
-pub(crate) fn plan_conditional(
-    model: Model,
+pub(crate) fn plan_sc(
+    model: MemoryModel,
     node: &Node,
     fetched: &Fetched,
     address: u32,
     value: u32,
 ) -> Plan
-    ensures { meant result ≡ spec.plan_conditional model node.now (fetched_of fetched.now) address value }
+    ensures { meant result ≡ spec.plan_sc model node.now (fetched_of fetched.now) address value }
 {
     if !node.reservation.valid(address) {
         return fails(node, fetched);
@@ -169,7 +164,7 @@ pub(crate) fn plan_conditional(
     if write_waits(model, &node.buffer, &fetched.instr, address) {
         return Plan::Stays(Outcome::MustDrain);
     }
-    let deed = Deed::Conditional {
+    let deed = Deed::Sc {
         word: address,
         value,
     };
@@ -180,7 +175,7 @@ pub(crate) fn plan_conditional(
 fn update(node: &Node, fetched: &Fetched, address: u32, op: AmoOp, operand: u32, old: u32) -> Plan
     ensures { meant result ≡ spec.update node.now (fetched_of fetched.now) address op operand old }
 {
-    let deed = Deed::Update {
+    let deed = Deed::Amo {
         word: address,
         value: combine(op, old, operand),
     };
@@ -188,7 +183,7 @@ fn update(node: &Node, fetched: &Fetched, address: u32, op: AmoOp, operand: u32,
 }
 
 pub(crate) fn plan_amo(
-    model: Model,
+    model: MemoryModel,
     memory: &Memory<'_>,
     node: &Node,
     fetched: &Fetched,
@@ -247,7 +242,7 @@ pub(crate) fn plan_fence(node: &Node, fetched: &Fetched) -> Plan
     let deed = if before_stores {
         Deed::Seal
     } else {
-        Deed::Alone
+        Deed::Private
     };
     retires(node, fetched, None, None, deed, None)
 }
@@ -259,7 +254,7 @@ pub(crate) fn plan_call(node: &Node, fetched: &Fetched) -> Plan
     let number = node.hart.regs.get(Register::new(17));
     let argument = node.hart.regs.get(Register::new(10));
     let deed = if number == 0 {
-        Deed::Alone
+        Deed::Private
     } else {
         Deed::Output(argument)
     };

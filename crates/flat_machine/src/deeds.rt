@@ -8,12 +8,12 @@ ghost use Rattle.machine_model.specs.declared.act.Deed.TheVariants as deed;
 ghost use Rattle.store_buffer.specs.ByteMask.{marks_of_access};
 
 use crate::state::State;
-use machine_model::{Deed, Model};
+use machine_model::{Deed, MemoryModel};
 use std::alloc::{AllocError, Global};
 use store_buffer::{Store, StoreBuffer};
 
 // A store waits; under Ztso a group holds one word. A buffer in which it doesn't fit is an error.
-fn put_store(buffer: &mut StoreBuffer, model: Model, store: &Store) -> Result<(), AllocError>
+fn put_store(buffer: &mut StoreBuffer, model: MemoryModel, store: &Store) -> Result<(), AllocError>
     ensures ok { OnOk result (buffer.new ≡ put_behind model store.now buffer.old) }
 {
     let Store {
@@ -23,8 +23,8 @@ fn put_store(buffer: &mut StoreBuffer, model: Model, store: &Store) -> Result<()
         op,
     } = *store;
     let put = match model {
-        Model::Rvwmo => buffer.put(word, mask, value, op),
-        Model::Ztso => buffer.put_single(word, mask, value, op),
+        MemoryModel::Rvwmo => buffer.put(word, mask, value, op),
+        MemoryModel::Ztso => buffer.put_single(word, mask, value, op),
     };
     match put {
         Ok(()) => Ok(()),
@@ -50,14 +50,14 @@ impl State<'_> {
         ensures ok { OnOk result (flat_of self.new ≡ unlisted (does self.old.config.model hart deed.now (flat_of self.old))) }
     {
         match deed {
-            Deed::Alone | Deed::Load => Ok(()),
+            Deed::Private | Deed::Load => Ok(()),
             Deed::Output(number) => self.put_out(hart, *number),
             Deed::Store(store) => self.put(hart, store),
             Deed::Seal => {
                 self.nodes[hart as usize].buffer.seal();
                 Ok(())
             }
-            Deed::Reserve(word) => {
+            Deed::Lr(word) => {
                 self.nodes[hart as usize].reservation.set(*word);
                 Ok(())
             }
@@ -65,12 +65,12 @@ impl State<'_> {
                 self.end_reservation(hart);
                 Ok(())
             }
-            Deed::Conditional { word, value } => {
+            Deed::Sc { word, value } => {
                 self.write_word(alloc, *word, *value)?;
                 self.end_reservation(hart);
                 Ok(())
             }
-            Deed::Update { word, value } => self.write_word(alloc, *word, *value),
+            Deed::Amo { word, value } => self.write_word(alloc, *word, *value),
         }
     }
 

@@ -11,34 +11,39 @@ ghost use Rattle.rv32_decode.specs.Rows.{decoded};
 ghost use Rattle.rv32_exec.specs.Meaning.{access_of, stop_of};
 
 use crate::accesses::{
-    Fetched, plan_amo, plan_call, plan_conditional, plan_fence, plan_load, plan_reserve,
-    plan_store, retires,
+    Fetched, plan_amo, plan_call, plan_fence, plan_load, plan_lr, plan_sc, plan_store, retires,
 };
 use crate::memory::Memory;
 use crate::node::Node;
 use crate::plan::Plan;
 use elf_loader::Image;
-use machine_model::{Deed, Model, Outcome};
+use machine_model::{Deed, MemoryModel, Outcome};
 use rv32_decode::decode;
-use rv32_exec::{Plan as Access, plan, stop};
+use rv32_exec::{Action, plan, stop};
 
 /// What an instruction of a running hart comes to, where memory has `size` bytes: its stop, or its access.
-fn plan_instr(model: Model, size: u32, memory: &Memory<'_>, node: &Node, fetched: &Fetched) -> Plan
+fn plan_instr(
+    model: MemoryModel,
+    size: u32,
+    memory: &Memory<'_>,
+    node: &Node,
+    fetched: &Fetched,
+) -> Plan
     requires memory { IsMemorySize size }
     ensures { meant result ≡ spec.plan_unless (stop_of fetched.now.instr node.now.hart.pc node.now.hart.regs size) (spec.plan_access model (bytes_of memory.now) node.now (fetched_of fetched.now) (access_of fetched.now.instr node.now.hart.regs)) }
 {
     match plan(&fetched.instr, node.hart.pc, &node.hart.regs, size) {
-        Access::Local => retires(node, fetched, None, None, Deed::Alone, None),
-        Access::Load { addr, size } => plan_load(memory, node, fetched, addr, size),
-        Access::Store { addr, size, value } => plan_store(node, fetched, addr, size, value),
-        Access::Lr { addr } => plan_reserve(memory, node, fetched, addr),
-        Access::Sc { addr, value } => plan_conditional(model, node, fetched, addr, value),
-        Access::Amo { addr, op, operand } => plan_amo(
+        Action::Private => retires(node, fetched, None, None, Deed::Private, None),
+        Action::Load { addr, size } => plan_load(memory, node, fetched, addr, size),
+        Action::Store { addr, size, value } => plan_store(node, fetched, addr, size, value),
+        Action::Lr { addr } => plan_lr(memory, node, fetched, addr),
+        Action::Sc { addr, value } => plan_sc(model, node, fetched, addr, value),
+        Action::Amo { addr, op, operand } => plan_amo(
             model, memory, node, fetched, addr, op, operand,
         ),
-        Access::Fence => plan_fence(node, fetched),
-        Access::Call => plan_call(node, fetched),
-        Access::Stop(code) => Plan::Stops(code),
+        Action::Fence => plan_fence(node, fetched),
+        Action::Call => plan_call(node, fetched),
+        Action::Stop(code) => Plan::Stops(code),
     }
 }
 
@@ -51,7 +56,7 @@ pub(crate) fn can_fetch(image: &Image, pc: u32) -> bool
 }
 
 /// What the next instruction of a running hart comes to.
-fn plan_next(model: Model, memory: &Memory<'_>, node: &Node) -> Plan
+fn plan_next(model: MemoryModel, memory: &Memory<'_>, node: &Node) -> Plan
     ensures { meant result ≡ spec.plan_unless (next_stop memory.now.image.now node.now.hart) (spec.plan_instr model (bytes_of memory.now) node.now (word_at memory.now.image.now node.now.hart.pc) 0 (decoded (word_at memory.now.image.now node.now.hart.pc))) }
 {
     let image = memory.image;
@@ -67,7 +72,7 @@ fn plan_next(model: Model, memory: &Memory<'_>, node: &Node) -> Plan
 }
 
 /// What the hart's next instruction comes to: it has to run.
-pub(crate) fn plan_step(model: Model, memory: &Memory<'_>, node: &Node) -> Plan
+pub(crate) fn plan_step(model: MemoryModel, memory: &Memory<'_>, node: &Node) -> Plan
     ensures { meant result ≡ spec.plan_step model memory.now.image.now (bytes_of memory.now) node.now 0 }
 {
     if node.hart.status.is_running() {

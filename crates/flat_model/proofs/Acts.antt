@@ -63,12 +63,12 @@ use Rattle.machine_model.proofs.OrderLast.{drained_elsewhere, drained_last, reti
 use Rattle.machine_model.proofs.OrderMoves.{OrderKept, done_same, drained_moves}
 use Rattle.machine_model.proofs.OrderTraces.{done, operations_on}
 use Rattle.machine_model.proofs.Runs.{AllStand}
-use Rattle.memory_model.specs.declared.Model.{Model}
+use Rattle.memory_model.specs.declared.MemoryModel.{MemoryModel}
 use Rattle.memory_model.specs.Order.{last_write}
 use Rattle.memory_model.specs.Traces.{instructions, last_performed, operations_at}
 use Rattle.reservations.specs.Reservation.{is_valid}
 use Rattle.rv32_decode.specs.declared.instruction.Instr.{Instr}
-use Rattle.rv32_exec.specs.Meaning.{Access, Tries, Updates, access_of}
+use Rattle.rv32_exec.specs.Meaning.{Access, DoesSc, DoesAmo, access_of}
 use Rattle.store_buffer.specs.ByteMask.{is_marked}
 use Rattle.store_buffer.specs.Entry.{entry_of}
 use Rattle.store_buffer.specs.Groups.{Groups, oldest}
@@ -124,28 +124,28 @@ accessed_memory : (h : ℕ) (o : Option ℕ) (f : Flat) → (accessed h o f).mem
 accessed_memory h None f = refl
 accessed_memory h (Some a) f = refl
 
-does_memory : (model : Model) (h : ℕ) (d : Deed) (f : Flat) → (flat.does model h d f).memory ≡ memory_by d f.memory
-does_memory model h deed.Alone f = refl
+does_memory : (model : MemoryModel) (h : ℕ) (d : Deed) (f : Flat) → (flat.does model h d f).memory ≡ memory_by d f.memory
+does_memory model h deed.Private f = refl
 does_memory model h (deed.Output n) f = refl
 does_memory model h deed.Load f = refl
 does_memory model h (deed.Store s) f = refl
 does_memory model h deed.Seal f = refl
-does_memory model h (deed.Reserve word) f = refl
+does_memory model h (deed.Lr word) f = refl
 does_memory model h deed.Fail f = refl
-does_memory model h (deed.Conditional word value) f = refl
-does_memory model h (deed.Update word value) f = refl
+does_memory model h (deed.Sc word value) f = refl
+does_memory model h (deed.Amo word value) f = refl
 
 -- how many nodes stay
-does_count : (model : Model) (h : ℕ) (d : Deed) (f : Flat) → length (flat.does model h d f).nodes ≡ length f.nodes
-does_count model h deed.Alone f = refl
+does_count : (model : MemoryModel) (h : ℕ) (d : Deed) (f : Flat) → length (flat.does model h d f).nodes ≡ length f.nodes
+does_count model h deed.Private f = refl
 does_count model h (deed.Output n) f = length-set f.nodes h _
 does_count model h deed.Load f = refl
 does_count model h (deed.Store s) f = length-set f.nodes h _
 does_count model h deed.Seal f = length-set f.nodes h _
-does_count model h (deed.Reserve word) f = length-set f.nodes h _
+does_count model h (deed.Lr word) f = length-set f.nodes h _
 does_count model h deed.Fail f = length-set f.nodes h _
-does_count model h (deed.Conditional word value) f = length-set f.nodes h _
-does_count model h (deed.Update word value) f = refl
+does_count model h (deed.Sc word value) f = length-set f.nodes h _
+does_count model h (deed.Amo word value) f = refl
 
 performs_memory : (h : ℕ) (places : List ℕ) (f : Flat) → (flat.performs h places f).memory ≡ f.memory
 performs_memory h [] f = refl
@@ -224,15 +224,15 @@ module _ (s : State) (f : Flat) (is : Base s) (v : Shows s f) (h : ℕ) (in_h : 
   valid_is word None e = absurd cc
   valid_is word (Some other) e = ap Some (eqb-true other word e)
 
-  writes_in : (model : Model) (g : Fetched) (e : Retired) (a : Access) (d : Deed) → Facts g.instr a → FitsDeed model n g a e d → WritesIn s.trace.image d
-  writes_in model g e (Tries address value) (deed.Conditional word w) x fits = line_inside word (ap (λ z. z % 4) fits.0 ∙ x.1) (subst (HasLine n) (sym fits.0) (alike.holds address (valid_is address n.reserved fits.3)))
-  writes_in model g e (Updates address op operand) (deed.Update word w) x fits = let t = fits.6 in line_inside word (ap (λ z. z % 4) fits.0 ∙ x.1) (subst (HasLine n) (sym fits.0) (Trunk t.0 t.1, t.2))
-  writes_in model g e a deed.Alone x fits = tt
+  writes_in : (model : MemoryModel) (g : Fetched) (e : Retired) (a : Access) (d : Deed) → Facts g.instr a → FitsDeed model n g a e d → WritesIn s.trace.image d
+  writes_in model g e (DoesSc address value) (deed.Sc word w) x fits = line_inside word (ap (λ z. z % 4) fits.0 ∙ x.1) (subst (HasLine n) (sym fits.0) (alike.holds address (valid_is address n.reserved fits.3)))
+  writes_in model g e (DoesAmo address op operand) (deed.Amo word w) x fits = let t = fits.6 in line_inside word (ap (λ z. z % 4) fits.0 ∙ x.1) (subst (HasLine n) (sym fits.0) (Trunk t.0 t.1, t.2))
+  writes_in model g e a deed.Private x fits = tt
   writes_in model g e a (deed.Output k) x fits = tt
   writes_in model g e a deed.Load x fits = tt
   writes_in model g e a (deed.Store k) x fits = tt
   writes_in model g e a deed.Seal x fits = tt
-  writes_in model g e a (deed.Reserve word) x fits = tt
+  writes_in model g e a (deed.Lr word) x fits = tt
   writes_in model g e a deed.Fail x fits = tt
   writes_in model g e _ _ x fits = absurd fits
 

@@ -26,7 +26,7 @@ use Rattle.machine_model.specs.declared.act.Deed.TheVariants as deed
 use Rattle.machine_model.specs.declared.outcome.Outcome.TheVariants as outcome
 use Rattle.machine_model.specs.Views as views
 use Rattle.machine_model.specs.Views.{State}
-use Rattle.memory_model.specs.declared.Model.{Model}
+use Rattle.memory_model.specs.declared.MemoryModel.{MemoryModel}
 use Rattle.rv32_decode.specs.Rows.{decoded}
 use Rattle.rv32_decode.specs.declared.instruction.Instr.{Instr}
 use Rattle.rv32_exec.specs.Meaning.{Private, access_of, stop_of}
@@ -47,7 +47,7 @@ no_stop image hart i c d p s =
     ap (λ (b : Bool). cond b (stop_with (length image.bytes) hart (decoded (word_at image hart.pc))) (Some 1)) c
     ∙ (ap (stop_with (length image.bytes) hart) d ∙ (stop_of-private i hart.pc hart.regs (length image.bytes) 0 p ∙ none_of (stop_of i hart.pc hart.regs 0) s))
 
-step_alone : (model : Model) (image : Initial) (memory : List ℕ) (n : FlatNode) (place : ℕ) (i : Instr) → is_running n.hart.status ≡ true → next_stop image n.hart ≡ None → decoded (word_at image n.hart.pc) ≡ Some i → access_of i n.hart.regs ≡ Private → plan_step model image memory n place ≡ Retires (next_entry image n.hart) i deed.Alone None
+step_alone : (model : MemoryModel) (image : Initial) (memory : List ℕ) (n : FlatNode) (place : ℕ) (i : Instr) → is_running n.hart.status ≡ true → next_stop image n.hart ≡ None → decoded (word_at image n.hart.pc) ≡ Some i → access_of i n.hart.regs ≡ Private → plan_step model image memory n place ≡ Retires (next_entry image n.hart) i deed.Private None
 step_alone model image memory n place i r s d p =
     ap (λ (b : Bool). cond (not b) (flat.Stays outcome.Halted) (plan_unless (next_stop image n.hart) (plan_instr model memory n (word_at image n.hart.pc) place (decoded (word_at image n.hart.pc))))) r
     ∙ (ap (λ (o : Option ℕ). plan_unless o (plan_instr model memory n (word_at image n.hart.pc) place (decoded (word_at image n.hart.pc)))) s
@@ -70,7 +70,7 @@ step_is f h l g =
     let a = alone image hart g in
     let x = found hart (decoded (word_at image hart.pc)) a.done in
     let entry = next_entry image hart in
-    let plan : plan_of f (event.Step h) ≡ Retires entry x.0 deed.Alone None = step_alone f.config.model image f.memory (node_at f h) (place_at f h) x.0 a.running (no_stop image hart x.0 a.fetched x.1 x.2 x.3) x.1 x.2 in
+    let plan : plan_of f (event.Step h) ≡ Retires entry x.0 deed.Private None = step_alone f.config.model image f.memory (node_at f h) (place_at f h) x.0 a.running (no_stop image hart x.0 a.fetched x.1 x.2 x.3) x.1 x.2 in
     let is : after_instr hart entry (Some x.0) ≡ after hart entry = ap (after_instr hart entry) (sym x.1) in
     let on : (after hart entry).status ≡ Running = running_is (after hart entry).status (after-running image hart g) in
     ap (λ (b : Bool). flat_by f (cond b (verdict_by f h (plan_of f (event.Step h))) IsBad)) (lt-ltb h (length f.nodes) l)

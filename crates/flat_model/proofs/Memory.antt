@@ -175,24 +175,24 @@ module _ (old new : History) (word value : ℕ) (aligned : word % 4 ≡ 0) (f : 
 
 -- the word that a deed writes lies in memory
 abbrev pub WritesIn : Initial → Deed → Type 0
-WritesIn image (deed.Conditional word value) = InMemory image word
-WritesIn image (deed.Update word value) = InMemory image word
+WritesIn image (deed.Sc word value) = InMemory image word
+WritesIn image (deed.Amo word value) = InMemory image word
 WritesIn image _ = Unit {0}
 
 abbrev pub memory_by : Deed → List ℕ → List ℕ
-memory_by (deed.Conditional word value) memory = with_word word (marks_of_access 0 4) (bytes_of_word value) memory
-memory_by (deed.Update word value) memory = with_word word (marks_of_access 0 4) (bytes_of_word value) memory
+memory_by (deed.Sc word value) memory = with_word word (marks_of_access 0 4) (bytes_of_word value) memory
+memory_by (deed.Amo word value) memory = with_word word (marks_of_access 0 4) (bytes_of_word value) memory
 memory_by _ memory = memory
 
 pub deed_holds : (old new : History) (d : Deed) (memory : List ℕ) → new.image ≡ old.image → WritesIn old.image d → ((x : ℕ) → last_performed new x ≡ unwrap_or (bytes_by d x) (last_performed old x)) → HoldsPerformed old memory → HoldsPerformed new (memory_by d memory)
-deed_holds old new (deed.Conditional word value) memory i w f k = holds_wrote old new word (marks_of_access 0 4) (bytes_of_word value) memory w (number_wrote old new word value w.aligned f i) k
-deed_holds old new (deed.Update word value) memory i w f k = holds_wrote old new word (marks_of_access 0 4) (bytes_of_word value) memory w (number_wrote old new word value w.aligned f i) k
-deed_holds old new deed.Alone memory i w f k = holds_still old new memory i f k
+deed_holds old new (deed.Sc word value) memory i w f k = holds_wrote old new word (marks_of_access 0 4) (bytes_of_word value) memory w (number_wrote old new word value w.aligned f i) k
+deed_holds old new (deed.Amo word value) memory i w f k = holds_wrote old new word (marks_of_access 0 4) (bytes_of_word value) memory w (number_wrote old new word value w.aligned f i) k
+deed_holds old new deed.Private memory i w f k = holds_still old new memory i f k
 deed_holds old new (deed.Output n) memory i w f k = holds_still old new memory i f k
 deed_holds old new deed.Load memory i w f k = holds_still old new memory i f k
 deed_holds old new (deed.Store s) memory i w f k = holds_still old new memory i f k
 deed_holds old new deed.Seal memory i w f k = holds_still old new memory i f k
-deed_holds old new (deed.Reserve word) memory i w f k = holds_still old new memory i f k
+deed_holds old new (deed.Lr word) memory i w f k = holds_still old new memory i f k
 deed_holds old new deed.Fail memory i w f k = holds_still old new memory i f k
 
 -- ---- copies

@@ -43,7 +43,7 @@ use Rattle.machine_model.specs.Ready.{IsReadyAct, IsReadyBody}
 use Rattle.machine_model.specs.Views.{Node, State, line_size, no_node, node_at, opening, opening_node, place_of, sent, size_of_config, with_node}
 use Rattle.machine_model.specs.Words.{bytes_of_word}
 use Rattle.machine_model.proofs.Nodes.{node_same}
-use Rattle.memory_model.specs.declared.Model.{Model}
+use Rattle.memory_model.specs.declared.MemoryModel.{MemoryModel}
 use Rattle.store_buffer.specs.ByteMask.{marks_of_access}
 use Rattle.store_buffer.specs.Entry.{entry_of}
 use Rattle.store_buffer.specs.Groups.{oldest}
@@ -259,16 +259,16 @@ performs_alone h (place ∷ places) s all = performs_alone h places _ (record { 
 writes_alone : (h word : ℕ) (marks : List Bool) (bytes : List ℕ) (s : State) → AloneIn s → AloneIn (writes_word h word marks bytes s)
 writes_alone h word marks bytes s all = with_alone h _ s (within_alone (node_at s h).cache _ (written_within (node_at s h).cache _ word marks bytes) (node_alone s h all)) all
 
-does_alone : (model : Model) (h : ℕ) (d : Deed) (s : State) → AloneIn s → AloneIn (does model h d s)
-does_alone model h deed.Alone s all = all
+does_alone : (model : MemoryModel) (h : ℕ) (d : Deed) (s : State) → AloneIn s → AloneIn (does model h d s)
+does_alone model h deed.Private s all = all
 does_alone model h (deed.Output number) s all = same_alone h _ s refl all
 does_alone model h deed.Load s all = record { each = all.each }
 does_alone model h (deed.Store store) s all = same_alone h _ s refl all
 does_alone model h deed.Seal s all = same_alone h _ s refl all
-does_alone model h (deed.Reserve word) s all = same_alone h _ (performs_own h s) refl (record { each = all.each })
+does_alone model h (deed.Lr word) s all = same_alone h _ (performs_own h s) refl (record { each = all.each })
 does_alone model h deed.Fail s all = same_alone h _ s refl all
-does_alone model h (deed.Conditional word value) s all = same_alone h _ _ refl (writes_alone h word (marks_of_access 0 4) (bytes_of_word value) (performs_own h s) (record { each = all.each }))
-does_alone model h (deed.Update word value) s all = writes_alone h word (marks_of_access 0 4) (bytes_of_word value) (performs_own h s) (record { each = all.each })
+does_alone model h (deed.Sc word value) s all = same_alone h _ _ refl (writes_alone h word (marks_of_access 0 4) (bytes_of_word value) (performs_own h s) (record { each = all.each }))
+does_alone model h (deed.Amo word value) s all = writes_alone h word (marks_of_access 0 4) (bytes_of_word value) (performs_own h s) (record { each = all.each })
 
 drained_alone : (h word : ℕ) (s : State) → AloneIn s → AloneIn (drained h word s)
 drained_alone h word s all =

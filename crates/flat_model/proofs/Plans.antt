@@ -22,19 +22,19 @@ use Rattle.machine_model.specs.declared.act.Plan.TheVariants.{Stays, Changes}
 use Rattle.machine_model.specs.declared.outcome.Outcome.TheVariants as outcome
 use Rattle.machine_model.specs.Deciding.{miss_by, reading, reading_by, writing, writing_by}
 use Rattle.machine_model.specs.Events.{plan_drain}
-use Rattle.machine_model.specs.Steps.{Fetched, plan_access, plan_amo, plan_conditional, plan_fence, plan_instr, plan_load, plan_reserve, plan_step, plan_store, plan_unless, retires, update, waits_for_stores, write_waits}
+use Rattle.machine_model.specs.Steps.{Fetched, plan_access, plan_amo, plan_sc, plan_fence, plan_instr, plan_load, plan_lr, plan_step, plan_store, plan_unless, retires, update, waits_for_stores, write_waits}
 use Rattle.machine_model.specs.Views.{Node, line_of}
 use Rattle.machine_model.specs.Words.{word_of, word_in, read_from, store_of}
 use Rattle.machine_model.proofs.OrderDeeds.{Facts, facts}
-use Rattle.memory_model.specs.declared.Model.{Model}
-use Rattle.memory_model.specs.declared.Model.TheVariants.{Rvwmo, Ztso}
+use Rattle.memory_model.specs.declared.MemoryModel.{MemoryModel}
+use Rattle.memory_model.specs.declared.MemoryModel.TheVariants.{Rvwmo, Ztso}
 use Rattle.memory_model.specs.declared.operation.Kind.TheVariants as kind
 use Rattle.memory_model.specs.Rules.{fences}
 use Rattle.reservations.specs.Reservation.{is_valid}
 use Rattle.rv32_decode.specs.Rows.{decoded}
 use Rattle.rv32_decode.specs.declared.instruction.AmoOp.{AmoOp}
 use Rattle.rv32_decode.specs.declared.instruction.Instr.{Instr}
-use Rattle.rv32_exec.specs.Meaning.{Access, Private, Loads, Stores, Reserves, Tries, Updates, Fences, Calls, access_of}
+use Rattle.rv32_exec.specs.Meaning.{Access, Private, Loads, Stores, DoesLr, DoesSc, DoesAmo, Fences, Calls, access_of}
 use Rattle.store_buffer.specs.ByteMask.{covers, laid_over, marks_of_access}
 use Rattle.store_buffer.specs.Groups.{drainable, fits, forwarded, has, is_empty}
 use Rattle.tl_types.specs.declared.line.LineData.{LineData}
@@ -96,7 +96,7 @@ writing_follows n p q go c line (Some (Trunk dirty bytes)) g = g (Trunk dirty by
 
 -- ---- the tests on the buffer
 
-waits_same : (model : Model) (n : Node) (i : Instr) (word : ℕ) → flat.write_waits model n.buffer i word ≡ write_waits model n i word
+waits_same : (model : MemoryModel) (n : Node) (i : Instr) (word : ℕ) → flat.write_waits model n.buffer i word ≡ write_waits model n i word
 waits_same Rvwmo n i word = refl
 waits_same Ztso n i word = refl
 
@@ -112,7 +112,7 @@ own_word address e = omega (arith, e)
 
 -- ---- accesses
 
-module _ (model : Model) (n : Node) (r : Option ℕ) (memory : List ℕ) (same : Alike n r memory) (f : Fetched) where
+module _ (model : MemoryModel) (n : Node) (r : Option ℕ) (memory : List ℕ) (same : Alike n r memory) (f : Fetched) where
   abbrev m : FlatNode
   m = seen n r
 
@@ -131,11 +131,11 @@ module _ (model : Model) (n : Node) (r : Option ℕ) (memory : List ℕ) (same :
   store_follows address bytes value q =
       both (λ p x. Follows n p q x) (fits (word_of address) n.buffer) (flat.retires m f None None (deed.Store (store_of address bytes value f.place)) None) (flat.Stays outcome.BufferFull) (retires n f None None (deed.Store (store_of address bytes value f.place))) (Stays outcome.BufferFull) (λ e. inl (None, refl, tt)) (λ e. tt)
 
-  reserve_follows : (address : ℕ) (q : FlatPlan) → address % 4 ≡ 0 → Follows n (flat.plan_reserve memory m f address) q (plan_reserve n f address)
-  reserve_follows address q aligned =
+  lr_follows : (address : ℕ) (q : FlatPlan) → address % 4 ≡ 0 → Follows n (flat.plan_lr memory m f address) q (plan_lr n f address)
+  lr_follows address q aligned =
       let line = line_of n.cache.shape.size address in
-      let go : LineData → Plan = λ held. retires n f (Some (read_from (word_in held address) address 4)) None (deed.Reserve address) in
-      let plan : List ℕ → FlatPlan = λ word. flat.retires m f (Some (read_from word address 4)) None (deed.Reserve address) (Some address) in
+      let go : LineData → Plan = λ held. retires n f (Some (read_from (word_in held address) address 4)) None (deed.Lr address) in
+      let plan : List ℕ → FlatPlan = λ word. flat.retires m f (Some (read_from word address 4)) None (deed.Lr address) (Some address) in
       let there : FlatPlan = plan (of_flat.word_in memory address) in
       both (λ p x. Follows n p q x) (waits_for_stores n f.instr address) (flat.Stays outcome.MustDrain) there (Stays outcome.MustDrain) (writing go n.cache line) (λ e. tt)
       (λ e. writing_follows n there q go n.cache line (copy_at n.cache line) (λ held g. inl (Some address, ap plan (sym (subst (λ w. word_in (bytes_in held) w ≡ of_flat.word_in memory w) (own_word address aligned) (same.reads address held g))), (held, g))))
@@ -150,14 +150,14 @@ module _ (model : Model) (n : Node) (r : Option ℕ) (memory : List ℕ) (same :
       (both (λ p x. Follows n p q x) (write_waits model n f.instr address) (flat.Stays outcome.MustDrain) there (Stays outcome.MustDrain) (writing go n.cache line) (λ e. tt)
       (λ e. writing_follows n there q go n.cache line (copy_at n.cache line) (λ held g. inl (Some address, ap plan (sym (subst (λ w. word_in (bytes_in held) w ≡ of_flat.word_in memory w) (own_word address aligned) (same.reads address held g))), (held, g)))))
 
-  conditional_follows : (address value : ℕ) → Follows n (flat.plan_conditional model m f address value) (flat.fails m f) (plan_conditional model n f address value)
-  conditional_follows address value = go (is_valid address n.reserved) refl (is_valid address r) refl
+  sc_follows : (address value : ℕ) → Follows n (flat.plan_sc model m f address value) (flat.fails m f) (plan_sc model n f address value)
+  sc_follows address value = go (is_valid address n.reserved) refl (is_valid address r) refl
     where
       writes : Plan
-      writes = retires n f None (Some true) (deed.Conditional address value)
+      writes = retires n f None (Some true) (deed.Sc address value)
 
       wrote : FlatPlan
-      wrote = flat.retires m f None (Some true) (deed.Conditional address value) (Some address)
+      wrote = flat.retires m f None (Some true) (deed.Sc address value) (Some address)
 
       go : (b : Bool) → is_valid address n.reserved ≡ b → (c : Bool) → is_valid address r ≡ c
           → Follows n (cond (not c) (flat.fails m f) (cond (flat.write_waits model n.buffer f.instr address) (flat.Stays outcome.MustDrain) wrote)) (flat.fails m f) (cond (not b) (retires n f None (Some false) deed.Fail) (cond (write_waits model n f.instr address) (Stays outcome.MustDrain) writes))
@@ -169,16 +169,16 @@ module _ (model : Model) (n : Node) (r : Option ℕ) (memory : List ℕ) (same :
 
   fence_follows : (q : FlatPlan) → Follows n (flat.plan_fence m f) q (plan_fence n f)
   fence_follows q =
-      let d : Deed = cond (fences (Some f.instr) kind.Store kind.Store) deed.Seal deed.Alone in
+      let d : Deed = cond (fences (Some f.instr) kind.Store kind.Store) deed.Seal deed.Private in
       both (λ p x. Follows n p q x) (fences (Some f.instr) kind.Store kind.Load && not (is_empty n.buffer)) (flat.Stays outcome.MustDrain) (flat.retires m f None None d None) (Stays outcome.MustDrain) (retires n f None None d) (λ e. tt) (λ e. inl (None, refl, tt))
 
   access_follows : (a : Access) → Facts f.instr a → Follows n (flat.plan_access model memory m f a) (flat.plan_fail_access m f a) (plan_access model n f a)
   access_follows Private x = inl (None, refl, tt)
   access_follows (Loads address bytes) x = load_follows address bytes _
   access_follows (Stores address bytes value) x = store_follows address bytes value _
-  access_follows (Reserves address) x = reserve_follows address _ x.1
-  access_follows (Tries address value) x = conditional_follows address value
-  access_follows (Updates address op operand) x = amo_follows address op operand _ x.1
+  access_follows (DoesLr address) x = lr_follows address _ x.1
+  access_follows (DoesSc address value) x = sc_follows address value
+  access_follows (DoesAmo address op operand) x = amo_follows address op operand _ x.1
   access_follows Fences x = fence_follows _
   access_follows (Calls number argument) x = inl (None, refl, tt)
 
@@ -188,7 +188,7 @@ can_be : (b : Bool) (o : Option ℕ) → cond b o (Some 1) ≡ None → (b ≡ t
 can_be true o e = (refl, e)
 can_be false o e = absurd cc
 
-module _ (model : Model) (image : Initial) (n : Node) (r : Option ℕ) (memory : List ℕ) (same : Alike n r memory) (place : ℕ) where
+module _ (model : MemoryModel) (image : Initial) (n : Node) (r : Option ℕ) (memory : List ℕ) (same : Alike n r memory) (place : ℕ) where
   by_instr : (w : ℕ) (o : Option Instr) → stop_with (length image.bytes) n.hart o ≡ None → Follows n (flat.plan_instr model memory (seen n r) w place o) (flat.plan_fail_instr (seen n r) w place o) (plan_instr model n w place o)
   by_instr w None e = absurd cc
   by_instr w (Some i) e = access_follows model n r memory same (record { word = w; instr = i; place = place }) (access_of i n.hart.regs) (facts i n.hart.pc n.hart.regs (length image.bytes) e)

@@ -20,7 +20,7 @@ use Rattle.machine_model.specs.declared.config.Config.{Config}
 use Rattle.machine_model.specs.declared.act.Deed.{Deed}
 use Rattle.machine_model.specs.declared.act.Deed.TheVariants as deed
 use Rattle.machine_model.proofs.Nodes.{node_other, node_same}
-use Rattle.memory_model.specs.declared.Model.{Model}
+use Rattle.memory_model.specs.declared.MemoryModel.{MemoryModel}
 use Rattle.rv32_decode.specs.declared.instruction.Instr.{Instr}
 use Rattle.store_buffer.specs.ByteMask.{marks_of_access}
 use Rattle.store_buffer.specs.Entry.{entry_of}
@@ -161,17 +161,17 @@ sees_write h word marks bytes s f l v = let i = v.nodes h l in sees_memory _ (wr
 wrote_count : (h word : ℕ) (marks : List Bool) (bytes : List ℕ) (s : State) → h < length s.views.nodes → h < length (writes_word h word marks bytes s).views.nodes
 wrote_count h word marks bytes s l = subst (λ c. h < c) (sym (length-set s.views.nodes h _)) l
 
-pub sees_does : (model : Model) (h : ℕ) (d : Deed) (s : State) (f : Flat) → h < length s.views.nodes → Sees s f → Sees (does model h d s) (flat.does model h d f)
-sees_does model h deed.Alone s f l v = v
+pub sees_does : (model : MemoryModel) (h : ℕ) (d : Deed) (s : State) (f : Flat) → h < length s.views.nodes → Sees s f → Sees (does model h d s) (flat.does model h d f)
+sees_does model h deed.Private s f l v = v
 sees_does model h (deed.Output number) s f l v = let i = v.nodes h l in sees_node h _ _ s f l (record { hart = i.hart; output = ap (λ o. o ++ number ∷ []) i.output; buffer = i.buffer; reserved = i.reserved }) v
 sees_does model h deed.Load s f l v = sees_own h s f v
 sees_does model h (deed.Store store) s f l v = sees_buffer h _ _ s f l (ap (put_behind model store) (v.nodes h l).buffer) v
 sees_does model h deed.Seal s f l v = sees_buffer h _ _ s f l (ap after_seal (v.nodes h l).buffer) v
-sees_does model h (deed.Reserve word) s f l v = sees_reservation h (Some word) (performs_own h s) (flat.performs_own h f) l (sees_own h s f v)
+sees_does model h (deed.Lr word) s f l v = sees_reservation h (Some word) (performs_own h s) (flat.performs_own h f) l (sees_own h s f v)
 sees_does model h deed.Fail s f l v = sees_reservation h None s f l v
-sees_does model h (deed.Conditional word value) s f l v =
+sees_does model h (deed.Sc word value) s f l v =
     sees_reservation h None _ _ (wrote_count h word (marks_of_access 0 4) (bytes_of_word value) (performs_own h s) l) (sees_write h word (marks_of_access 0 4) (bytes_of_word value) (performs_own h s) (flat.performs_own h f) l (sees_own h s f v))
-sees_does model h (deed.Update word value) s f l v = sees_write h word (marks_of_access 0 4) (bytes_of_word value) (performs_own h s) (flat.performs_own h f) l (sees_own h s f v)
+sees_does model h (deed.Amo word value) s f l v = sees_write h word (marks_of_access 0 4) (bytes_of_word value) (performs_own h s) (flat.performs_own h f) l (sees_own h s f v)
 
 -- ---- retiring, stopping, draining
 

@@ -11,7 +11,7 @@ use Rattle.machine_model.specs.declared.config.Config.{Config}
 use Rattle.machine_model.specs.Changing.{put_behind, with_halt}
 use Rattle.machine_model.specs.Views.{line_of, size_of_config}
 use Rattle.machine_model.specs.Words.{bytes_of_word}
-use Rattle.memory_model.specs.declared.Model.{Model}
+use Rattle.memory_model.specs.declared.MemoryModel.{MemoryModel}
 use Rattle.reservations.specs.Reservation.{without_line}
 use Rattle.rv32_decode.specs.declared.instruction.Instr.{Instr}
 use Rattle.store_buffer.specs.ByteMask.{marks_of_access}
@@ -81,16 +81,16 @@ with_reservation h reserved f = with_node h (record (node_at f h) { reserved = r
 abbrev pub writes_word : ℕ → List Bool → List ℕ → Flat → Flat
 writes_word word marks bytes f = record f { memory = with_word word marks bytes f.memory }
 
-abbrev pub does : Model → ℕ → Deed → Flat → Flat
-does model h deed.Alone f = f
+abbrev pub does : MemoryModel → ℕ → Deed → Flat → Flat
+does model h deed.Private f = f
 does model h (deed.Output number) f = with_node h (record (node_at f h) { output = (node_at f h).output ++ number ∷ [] }) f
 does model h deed.Load f = performs_own h f
 does model h (deed.Store store) f = with_buffer h (put_behind model store (node_at f h).buffer) f
 does model h deed.Seal f = with_buffer h (after_seal (node_at f h).buffer) f
-does model h (deed.Reserve word) f = with_reservation h (Some word) (performs_own h f)
+does model h (deed.Lr word) f = with_reservation h (Some word) (performs_own h f)
 does model h deed.Fail f = with_reservation h None f
-does model h (deed.Conditional word value) f = with_reservation h None (writes_word word (marks_of_access 0 4) (bytes_of_word value) (performs_own h f))
-does model h (deed.Update word value) f = writes_word word (marks_of_access 0 4) (bytes_of_word value) (performs_own h f)
+does model h (deed.Sc word value) f = with_reservation h None (writes_word word (marks_of_access 0 4) (bytes_of_word value) (performs_own h f))
+does model h (deed.Amo word value) f = writes_word word (marks_of_access 0 4) (bytes_of_word value) (performs_own h f)
 
 -- the hart moves on, and its list has one more entry
 abbrev pub retired : ℕ → Retired → Instr → Flat → Flat

@@ -10,7 +10,7 @@ use Rattle.machine_model.specs.declared.config.Config.{Config}
 use Rattle.machine_model.specs.declared.outcome.Outcome.TheVariants.{MustDrain, NoEntry}
 use Rattle.machine_model.specs.Words.{number_of_bytes}
 use Rattle.memory_model.specs.Examples.{bytes_of_words}
-use Rattle.memory_model.specs.declared.Model.TheVariants.{Rvwmo}
+use Rattle.memory_model.specs.declared.MemoryModel.TheVariants.{Rvwmo}
 
 -- ---- two harts that run one program, over lines of 16 bytes in one set
 

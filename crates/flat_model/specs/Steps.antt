@@ -11,8 +11,8 @@ use Rattle.machine_model.specs.declared.outcome.Outcome.{Outcome}
 use Rattle.machine_model.specs.declared.outcome.Outcome.TheVariants as outcome
 use Rattle.machine_model.specs.Steps.{Fetched}
 use Rattle.machine_model.specs.Words.{word_of, read_from, store_of}
-use Rattle.memory_model.specs.declared.Model.{Model}
-use Rattle.memory_model.specs.declared.Model.TheVariants.{Rvwmo, Ztso}
+use Rattle.memory_model.specs.declared.MemoryModel.{MemoryModel}
+use Rattle.memory_model.specs.declared.MemoryModel.TheVariants.{Rvwmo, Ztso}
 use Rattle.memory_model.specs.declared.operation.Kind.TheVariants.{Load, Store}
 use Rattle.memory_model.specs.Items.{annotations_of}
 use Rattle.memory_model.specs.Rules.{fences}
@@ -21,7 +21,7 @@ use Rattle.rv32_decode.specs.Amo.{combined}
 use Rattle.rv32_decode.specs.Rows.{decoded}
 use Rattle.rv32_decode.specs.declared.instruction.AmoOp.{AmoOp}
 use Rattle.rv32_decode.specs.declared.instruction.Instr.{Instr}
-use Rattle.rv32_exec.specs.Meaning.{Access, Private, Loads, Stores, Reserves, Tries, Updates, Fences, Calls, access_of}
+use Rattle.rv32_exec.specs.Meaning.{Access, Private, Loads, Stores, DoesLr, DoesSc, DoesAmo, Fences, Calls, access_of}
 use Rattle.store_buffer.specs.ByteMask.{covers, laid_over, marks_of_access}
 use Rattle.store_buffer.specs.Groups.{Groups, drainable, fits, forwarded, has, has_sealed, is_empty}
 
@@ -66,32 +66,32 @@ abbrev pub waits_for_stores : Groups → Instr → ℕ → Bool
 waits_for_stores b i word = ((annotations_of i).release && not (is_empty b)) || has word b
 
 -- a write that is performed at once passes no sealed group, and under Ztso no store
-abbrev pub write_waits : Model → Groups → Instr → ℕ → Bool
+abbrev pub write_waits : MemoryModel → Groups → Instr → ℕ → Bool
 write_waits Rvwmo b i word = waits_for_stores b i word || has_sealed b
 write_waits Ztso b i word = not (is_empty b)
 
-abbrev pub plan_reserve : List ℕ → FlatNode → Fetched → (address : ℕ) → FlatPlan
-plan_reserve memory n f address =
+abbrev pub plan_lr : List ℕ → FlatNode → Fetched → (address : ℕ) → FlatPlan
+plan_lr memory n f address =
     if waits_for_stores n.buffer f.instr address
     then Stays outcome.MustDrain
-    else retires n f (Some (read_from (word_in memory address) address 4)) None (deed.Reserve address) (Some address)
+    else retires n f (Some (read_from (word_in memory address) address 4)) None (deed.Lr address) (Some address)
 
 abbrev pub fails : FlatNode → Fetched → FlatPlan
 fails n f = retires n f None (Some false) deed.Fail None
 
 -- without its reservation a store conditional fails at once
-abbrev pub plan_conditional : Model → FlatNode → Fetched → (address value : ℕ) → FlatPlan
-plan_conditional model n f address value =
+abbrev pub plan_sc : MemoryModel → FlatNode → Fetched → (address value : ℕ) → FlatPlan
+plan_sc model n f address value =
     if not (is_valid address n.reserved)
     then fails n f
     else if write_waits model n.buffer f.instr address
     then Stays outcome.MustDrain
-    else retires n f None (Some true) (deed.Conditional address value) (Some address)
+    else retires n f None (Some true) (deed.Sc address value) (Some address)
 
 abbrev pub update : FlatNode → Fetched → (address : ℕ) → AmoOp → (operand old : ℕ) → FlatPlan
-update n f address op operand old = retires n f (Some old) None (deed.Update address (combined op old operand)) (Some address)
+update n f address op operand old = retires n f (Some old) None (deed.Amo address (combined op old operand)) (Some address)
 
-abbrev pub plan_amo : Model → List ℕ → FlatNode → Fetched → (address : ℕ) → AmoOp → (operand : ℕ) → FlatPlan
+abbrev pub plan_amo : MemoryModel → List ℕ → FlatNode → Fetched → (address : ℕ) → AmoOp → (operand : ℕ) → FlatPlan
 plan_amo model memory n f address op operand =
     if write_waits model n.buffer f.instr address
     then Stays outcome.MustDrain
@@ -104,27 +104,27 @@ abbrev pub plan_fence : FlatNode → Fetched → FlatPlan
 plan_fence n f =
     if fences (Some f.instr) Store Load && not (is_empty n.buffer)
     then Stays outcome.MustDrain
-    else retires n f None None (if fences (Some f.instr) Store Store then deed.Seal else deed.Alone) None
+    else retires n f None None (if fences (Some f.instr) Store Store then deed.Seal else deed.Private) None
 
 -- ---- environment calls: 0 ends the hart, 1 puts a number out
 
 abbrev pub plan_call : FlatNode → Fetched → (number argument : ℕ) → FlatPlan
-plan_call n f number argument = retires n f None None (if number == 0 then deed.Alone else deed.Output argument) None
+plan_call n f number argument = retires n f None None (if number == 0 then deed.Private else deed.Output argument) None
 
 -- ---- a step
 
-abbrev pub plan_access : Model → List ℕ → FlatNode → Fetched → Access → FlatPlan
-plan_access model memory n f Private = retires n f None None deed.Alone None
+abbrev pub plan_access : MemoryModel → List ℕ → FlatNode → Fetched → Access → FlatPlan
+plan_access model memory n f Private = retires n f None None deed.Private None
 plan_access model memory n f (Loads address bytes) = plan_load memory n f address bytes
 plan_access model memory n f (Stores address bytes value) = plan_store n f address bytes value
-plan_access model memory n f (Reserves address) = plan_reserve memory n f address
-plan_access model memory n f (Tries address value) = plan_conditional model n f address value
-plan_access model memory n f (Updates address op operand) = plan_amo model memory n f address op operand
+plan_access model memory n f (DoesLr address) = plan_lr memory n f address
+plan_access model memory n f (DoesSc address value) = plan_sc model n f address value
+plan_access model memory n f (DoesAmo address op operand) = plan_amo model memory n f address op operand
 plan_access model memory n f Fences = plan_fence n f
 plan_access model memory n f (Calls number argument) = plan_call n f number argument
 
 -- next_stop has judged a word that is no instruction already; 2 is its answer
-abbrev pub plan_instr : Model → List ℕ → FlatNode → (word place : ℕ) → Option Instr → FlatPlan
+abbrev pub plan_instr : MemoryModel → List ℕ → FlatNode → (word place : ℕ) → Option Instr → FlatPlan
 plan_instr model memory n word place None = Stops 2
 plan_instr model memory n word place (Some i) = plan_access model memory n (record { word = word; instr = i; place = place }) (access_of i n.hart.regs)
 
@@ -133,7 +133,7 @@ plan_unless (Some code) go = Stops code
 plan_unless None go = go
 
 -- the hart has to run; then come the stops
-abbrev pub plan_step : Model → Initial → List ℕ → FlatNode → (place : ℕ) → FlatPlan
+abbrev pub plan_step : MemoryModel → Initial → List ℕ → FlatNode → (place : ℕ) → FlatPlan
 plan_step model image memory n place =
     if not (is_running n.hart.status)
     then Stays outcome.Halted
@@ -142,7 +142,7 @@ plan_step model image memory n place =
 -- ---- a store conditional that fails, whatever the reservation and the buffer are (chapter 8.2 lets it fail at any time)
 
 abbrev pub plan_fail_access : FlatNode → Fetched → Access → FlatPlan
-plan_fail_access n f (Tries address value) = fails n f
+plan_fail_access n f (DoesSc address value) = fails n f
 plan_fail_access n f _ = Refused
 
 abbrev pub plan_fail_instr : FlatNode → (word place : ℕ) → Option Instr → FlatPlan

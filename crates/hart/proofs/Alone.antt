@@ -5,7 +5,7 @@ use Rattle.std.proofs.lemmas.Bool.{false≢true, and_parts, and_from, eq-eqb}
 use Rattle.elf_loader.specs.Image.{Initial, word_at}
 use Rattle.rv32_decode.specs.Rows.{decoded}
 use Rattle.rv32_decode.specs.declared.instruction.Instr.{Instr}
-use Rattle.rv32_exec.specs.Meaning.{Access, Private, Loads, Stores, Reserves, Tries, Updates, Fences, Calls, access_of, stop_of}
+use Rattle.rv32_exec.specs.Meaning.{Access, Private, Loads, Stores, DoesLr, DoesSc, DoesAmo, Fences, Calls, access_of, stop_of}
 use Rattle.hart.specs.declared.retired.Retired.{Retired}
 use Rattle.hart.specs.declared.state.Hart.{Hart}
 use Rattle.hart.specs.Local.{is_private, is_done_alone, can_go_alone, next_entry, private_row}
@@ -16,9 +16,9 @@ pub private_is : (a : Access) → is_private a ≡ true → a ≡ Private
 private_is Private e = refl
 private_is (Loads address bytes) e = absurd (false≢true e)
 private_is (Stores address bytes value) e = absurd (false≢true e)
-private_is (Reserves address) e = absurd (false≢true e)
-private_is (Tries address value) e = absurd (false≢true e)
-private_is (Updates address op operand) e = absurd (false≢true e)
+private_is (DoesLr address) e = absurd (false≢true e)
+private_is (DoesSc address value) e = absurd (false≢true e)
+private_is (DoesAmo address op operand) e = absurd (false≢true e)
 private_is Fences e = absurd (false≢true e)
 private_is (Calls number argument) e = absurd (false≢true e)
 

@@ -5,7 +5,7 @@ use Rattle.std.proofs.lemmas.Bool.{false≢true, true≢false, and_parts, eqb-tr
 use Rattle.elf_loader.specs.Image.{Initial, word_at}
 use Rattle.rv32_decode.specs.Rows.{decoded}
 use Rattle.rv32_decode.specs.declared.instruction.Instr.{Instr}
-use Rattle.rv32_exec.specs.Meaning.{Access, Private, Loads, Stores, Reserves, Tries, Updates, Fences, Calls, access_of, effect_of, stop_of}
+use Rattle.rv32_exec.specs.Meaning.{Access, Private, Loads, Stores, DoesLr, DoesSc, DoesAmo, Fences, Calls, access_of, effect_of, stop_of}
 use Rattle.hart.specs.declared.retired.Retired.{Retired}
 use Rattle.hart.specs.declared.state.Hart.{Hart}
 use Rattle.hart.specs.declared.status.Status.{Status}
@@ -54,9 +54,9 @@ exit_access (Calls number argument) code e = let f = cond_exit (nat_eq number 0)
 exit_access Private code e = cc
 exit_access (Loads address bytes) code e = cc
 exit_access (Stores address bytes value) code e = cc
-exit_access (Reserves address) code e = cc
-exit_access (Tries address value) code e = cc
-exit_access (Updates address op operand) code e = cc
+exit_access (DoesLr address) code e = cc
+exit_access (DoesSc address value) code e = cc
+exit_access (DoesAmo address op operand) code e = cc
 exit_access Fences code e = cc
 
 exit_instr : (size code : ℕ) (hart : Hart) (entry : Retired) (o : Option Instr) → does size hart entry o ≡ true → (after_instr hart entry o).status ≡ Exited code → (argument : ℕ) × (access_at hart o ≡ Calls 0 argument) × (argument % 256 ≡ code)

@@ -9,7 +9,7 @@ use Rattle.rv32_decode.specs.Rows.{decoded}
 use Rattle.rv32_decode.specs.declared.instruction.Instr.{Instr}
 use Rattle.rv32_decode.specs.declared.instruction.Instr.TheVariants as instr
 use Rattle.rv32_decode.specs.declared.instruction.SystemOp.TheVariants.{Ecall, Ebreak}
-use Rattle.rv32_exec.specs.Meaning.{Access, Private, Loads, Stores, Reserves, Tries, Updates, Fences, Calls, access_of, stop_of}
+use Rattle.rv32_exec.specs.Meaning.{Access, Private, Loads, Stores, DoesLr, DoesSc, DoesAmo, Fences, Calls, access_of, stop_of}
 use Rattle.hart.specs.declared.retired.Retired.{Retired}
 use Rattle.hart.specs.declared.state.Hart.{Hart}
 use Rattle.hart.specs.declared.status.Status.TheVariants.{Running}
@@ -80,9 +80,9 @@ pub private_runs_on : (a : Access) → is_private a ≡ true → status_after a 
 private_runs_on Private e = refl
 private_runs_on (Loads address bytes) e = absurd (false≢true e)
 private_runs_on (Stores address bytes value) e = absurd (false≢true e)
-private_runs_on (Reserves address) e = absurd (false≢true e)
-private_runs_on (Tries address value) e = absurd (false≢true e)
-private_runs_on (Updates address op operand) e = absurd (false≢true e)
+private_runs_on (DoesLr address) e = absurd (false≢true e)
+private_runs_on (DoesSc address value) e = absurd (false≢true e)
+private_runs_on (DoesAmo address op operand) e = absurd (false≢true e)
 private_runs_on Fences e = absurd (false≢true e)
 private_runs_on (Calls number argument) e = absurd (false≢true e)
 

@@ -4,7 +4,7 @@ use Rattle.elf_loader.specs.Image.{Initial, end_of, word_at}
 use Rattle.elf_loader.specs.Size.{base}
 use Rattle.rv32_decode.specs.Rows.{decoded}
 use Rattle.rv32_decode.specs.declared.instruction.Instr.{Instr}
-use Rattle.rv32_exec.specs.Meaning.{Access, Private, Loads, Stores, Reserves, Tries, Updates, Fences, Calls, Effect, effect_of, access_of, stop_of}
+use Rattle.rv32_exec.specs.Meaning.{Access, Private, Loads, Stores, DoesLr, DoesSc, DoesAmo, Fences, Calls, Effect, effect_of, access_of, stop_of}
 use Rattle.rv32_exec.specs.Registers.{after_write, reset_registers}
 use Rattle.hart.specs.declared.retired.Retired.{Retired}
 use Rattle.hart.specs.declared.state.Hart.{Hart}
@@ -44,9 +44,9 @@ is_below bound (Some n) = nat_lt n bound
 -- a loaded value is there exactly for a load, an LR and an AMO, and fits the access's bytes; whether it succeeded is there exactly for an SC
 abbrev pub has_answers : Access → Retired → Bool
 has_answers (Loads address bytes) entry = is_below (256 ^ bytes) entry.loaded && is_none entry.sc_ok
-has_answers (Reserves address) entry = is_below (256 ^ 4) entry.loaded && is_none entry.sc_ok
-has_answers (Updates address op operand) entry = is_below (256 ^ 4) entry.loaded && is_none entry.sc_ok
-has_answers (Tries address value) entry = is_none entry.loaded && is_some entry.sc_ok
+has_answers (DoesLr address) entry = is_below (256 ^ 4) entry.loaded && is_none entry.sc_ok
+has_answers (DoesAmo address op operand) entry = is_below (256 ^ 4) entry.loaded && is_none entry.sc_ok
+has_answers (DoesSc address value) entry = is_none entry.loaded && is_some entry.sc_ok
 has_answers _ entry = is_none entry.loaded && is_none entry.sc_ok
 
 abbrev pub is_running : Status → Bool

@@ -9,7 +9,7 @@ use crate::retired::Retired;
 use crate::state::Hart;
 use elf_loader::Image;
 use rv32_decode::{Instr, decode};
-use rv32_exec::{Plan, finish, plan};
+use rv32_exec::{Action, finish, plan};
 use std::alloc::{AllocError, Global};
 use std::marker::Model;
 
@@ -124,7 +124,7 @@ fn is_alone(instr: &Instr, hart: &Hart, size: u32) -> bool
     ensures { result ≡ is_done_alone hart.now (Some instr.now) }
 {
     match plan(instr, hart.pc, &hart.regs, size) {
-        Plan::Local => true,
+        Action::Private => true,
         _ => false,
     }
 }

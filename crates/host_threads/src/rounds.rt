@@ -13,7 +13,7 @@ use hart::Hart;
 use locked_fabric::Turn;
 use machine_model::{Config, Event, Outcome};
 use rv32_decode::decode;
-use rv32_exec::{Plan, plan};
+use rv32_exec::{Action, plan};
 use std::marker::Model;
 use tl_types::Channel;
 
@@ -170,7 +170,7 @@ fn accessed(image: &Image, hart: &Hart) -> Option<u32> {
     }
     let instr = decode(image.word(hart.pc))?;
     match plan(&instr, hart.pc, &hart.regs, image.size()) {
-        Plan::Load { addr, .. } | Plan::Lr { addr } | Plan::Amo { addr, .. } => Some(addr),
+        Action::Load { addr, .. } | Action::Lr { addr } | Action::Amo { addr, .. } => Some(addr),
         _ => None,
     }
 }

@@ -44,9 +44,9 @@ fn row_28(rt: HostRuntime) {
     same(&rt, planned(0x0020_0067), Some(Plan::Stop(0)));
     same(&rt, planned(0x0020_00ef), Some(Plan::Stop(0)));
     same(&rt, planned(0x0000_0163), Some(Plan::Stop(0)));
-    same(&rt, planned(0x0000_1163), Some(Plan::Local));
+    same(&rt, planned(0x0000_1163), Some(Plan::Private));
     same(&rt, planned(0x0010_0073), Some(Plan::Stop(3)));
-    same(&rt, planned(0x0000_0067), Some(Plan::Local));
+    same(&rt, planned(0x0000_0067), Some(Plan::Private));
     assert!(rt; decode(0x4000_1013).is_none());
 }
 

@@ -6,7 +6,7 @@ use Rattle.std.proofs.lemmas.List.{length-append}
 use Rattle.std.proofs.lemmas.List.Elements.{filter-append, filter_map-append}
 use Rattle.machine_model.proofs.LogCounts.{bit}
 use Rattle.machine_model.specs.LawfulLog.{concerns, grow_in, grows_taken, is_acquire, is_grant, is_grant_ack, is_probe, is_probe_ack, is_release, is_release_ack, is_sent, lost_after, lost_since_asking, sent_count, taken_count}
-use Rattle.lawful_log.specs.Facts.{HasRoom, HaveRoom, counted, counted_as, goes_up, tallies_of, tally_of}
+use Rattle.lawful_log.specs.Facts.{CanCount, HaveRoom, counted, counted_as, goes_up, tallies_of, tally_of}
 use Rattle.lawful_log.specs.Followed.{grows_given}
 use Rattle.lawful_log.specs.declared.tallies.Tallies.{Tallies}
 use Rattle.lawful_log.specs.declared.tallies.Tally.{Tally}
@@ -90,7 +90,7 @@ few p (e ∷ log) = go (p e) (few p log)
     go true h = omega (arith, h)
     go false h = omega (arith, h)
 
-has_room : (kind : Body → Bool) (who : Logged → Bool) (log : List Logged) → length log + 1 < 2 ^ 64 → HasRoom (tally_of kind who log)
+has_room : (kind : Body → Bool) (who : Logged → Bool) (log : List Logged) → length log + 1 < 2 ^ 64 → CanCount (tally_of kind who log)
 has_room kind who log h = record {
   for_sent = (let f : sent_count kind who log ≤ length log = few _ log in omega (arith, f, h));
   for_taken = (let f : taken_count kind who log ≤ length log = few _ log in omega (arith, f, h));

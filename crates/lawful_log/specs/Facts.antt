@@ -45,18 +45,18 @@ abbrev pub counted : Logged → Tallies → Tallies
 counted e t = counted_as e.message.body e.direction t
 
 -- a further message can be counted
-pub record HasRoom (t : Tally) : Type 0 where
+pub record CanCount (t : Tally) : Type 0 where
   pub for_sent : t.sent + 1 < 2 ^ 64
   pub for_taken : t.taken + 1 < 2 ^ 64
 
 pub record HaveRoom (t : Tallies) : Type 0 where
-  pub acquires : HasRoom t.acquires
-  pub probes : HasRoom t.probes
-  pub probe_acks : HasRoom t.probe_acks
-  pub releases : HasRoom t.releases
-  pub release_acks : HasRoom t.release_acks
-  pub grants : HasRoom t.grants
-  pub grant_acks : HasRoom t.grant_acks
+  pub acquires : CanCount t.acquires
+  pub probes : CanCount t.probes
+  pub probe_acks : CanCount t.probe_acks
+  pub releases : CanCount t.releases
+  pub release_acks : CanCount t.release_acks
+  pub grants : CanCount t.grants
+  pub grant_acks : CanCount t.grant_acks
 
 -- the tallies of a log
 abbrev pub tally_of : (Body → Bool) → (Logged → Bool) → List Logged → Tally

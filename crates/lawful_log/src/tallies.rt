@@ -1,6 +1,6 @@
 //! How many messages of each kind were sent and taken.
 ghost use Rattle.std.specs.Prelude.{◌≡◌};
-ghost use Rattle.lawful_log.specs.Facts.{HasRoom, counted, goes_up, HaveRoom, no_tallies};
+ghost use Rattle.lawful_log.specs.Facts.{CanCount, counted, goes_up, HaveRoom, no_tallies};
 
 use tl_types::Body;
 use trace_recorder::{Direction, Logged};
@@ -16,7 +16,7 @@ impl Tally {
     const NONE: Tally = Tally { sent: 0, taken: 0 };
 
     fn count(&mut self, direction: Direction)
-        requires { HasRoom self.old }
+        requires { CanCount self.old }
         ensures { self.new ≡ goes_up direction self.old }
     {
         match direction {

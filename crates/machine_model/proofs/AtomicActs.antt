@@ -14,10 +14,10 @@ use Rattle.machine_model.proofs.OrderRules.{precedes_not, touches_word}
 use Rattle.machine_model.proofs.OrderSplit.{gave_at, new_name}
 use Rattle.machine_model.proofs.OrderSteps.{HartKept, has_is}
 use Rattle.machine_model.proofs.OrderValues.{members, theirs, waits}
-use Rattle.memory_model.specs.declared.Model.{Model}
+use Rattle.memory_model.specs.declared.MemoryModel.{MemoryModel}
 use Rattle.memory_model.specs.declared.operation.Operation.{Operation}
 use Rattle.memory_model.specs.Items.{Item}
-use Rattle.memory_model.specs.Operations.{is_conditional, is_reserve, precedes, same, stores_to, touches, writes}
+use Rattle.memory_model.specs.Operations.{is_sc, is_lr, precedes, same, stores_to, touches, writes}
 use Rattle.memory_model.specs.Rules.{is_lr_or_sc}
 use Rattle.memory_model.proofs.Forms.{same-swap}
 use Rattle.memory_model.proofs.Lists.{Each-append, Each-both, Each-right, Each-weaker}
@@ -36,7 +36,7 @@ foreign_grows h k items performed out d below own = record {
   below = below;
   later = record { marked = tt; later = tt };
   still = λ r b c. record { still = λ mine reads x t. Each-weaker (λ a. a.hart ≡ h) (λ a. theirs r x a ≡ false) (λ a e. and_right (stores_to x a) _ (precedes_not a r (λ f. absurd (d (sym mine ∙ (f ∙ e)))))) out own };
-  late = Each-weaker (λ a. a.hart ≡ h) (λ a. a.hart ≡ k → is_reserve a.kind ≡ true → length items ≤ a.place) (λ a e mine. absurd (d (sym mine ∙ e))) out own;
+  late = Each-weaker (λ a. a.hart ≡ h) (λ a. a.hart ≡ k → is_lr a.kind ≡ true → length items ≤ a.place) (λ a e mine. absurd (d (sym mine ∙ e))) out own;
   new_clear = Each-weaker (λ a. a.hart ≡ h) (IsClear k (items ++ []) (performed ++ out)) (λ a e. record { clear = λ mine. absurd (d (sym mine ∙ e)) }) out own;
   new_pairs = Each-weaker (λ a. a.hart ≡ h) (λ w. Each (λ r. IsPair k (items ++ []) (performed ++ out) r w) (performed ++ out))
       (λ w e. Each-always (λ r. IsPair k (items ++ []) (performed ++ out) r w) (λ r. record { atomic = λ mine p. absurd (d (sym mine ∙ ((pair_parts (items ++ []) r w p).hart ∙ e))) }) (performed ++ out)) out own;
@@ -52,7 +52,7 @@ foreign_atomic h k items old next performed out d below own less spares a =
 
 -- of no pair
 abbrev pub IsOutside : Operation → Type 0
-IsOutside a = (is_reserve a.kind ≡ false) × (is_conditional a.kind ≡ false)
+IsOutside a = (is_lr a.kind ≡ false) × (is_sc a.kind ≡ false)
 
 abbrev Stays : ℕ → List Item → List Operation → List Operation → Type 0
 Stays h items performed out = (r : Operation) → IsBelow h (length items) r → IsClear h items performed r → IsStill h out r
@@ -62,7 +62,7 @@ outside_grows h items more performed out below later still none = record {
   below = below;
   later = later;
   still = still;
-  late = Each-weaker IsOutside (λ a. a.hart ≡ h → is_reserve a.kind ≡ true → length items ≤ a.place) (λ a e mine r. absurd (false≢true (sym e.0 ∙ r))) out none;
+  late = Each-weaker IsOutside (λ a. a.hart ≡ h → is_lr a.kind ≡ true → length items ≤ a.place) (λ a e mine r. absurd (false≢true (sym e.0 ∙ r))) out none;
   new_clear = Each-weaker IsOutside (IsClear h (items ++ more) (performed ++ out)) (λ a e. record { clear = λ mine r. absurd (false≢true (sym e.0 ∙ r)) }) out none;
   new_pairs = Each-weaker IsOutside (λ w. Each (λ r. IsPair h (items ++ more) (performed ++ out) r w) (performed ++ out))
       (λ w e. Each-always (λ r. IsPair h (items ++ more) (performed ++ out) r w) (λ r. record { atomic = λ mine p. absurd (false≢true (sym e.1 ∙ (pair_parts (items ++ more) r w p).conditional)) }) (performed ++ out)) out none;
@@ -118,7 +118,7 @@ none_atomic h items buffer old next performed m names empty b (inr (inr k)) a = 
 self_pair : (h : ℕ) (items : List Item) (performed : List Operation) (i : Operation) → IsPair h items performed i i
 self_pair h items performed i = record { atomic = λ mine p. let l = (pair_parts items i i p).before in absurd (omega (arith, l)) }
 
-ends_grows : (h word : ℕ) (items : List Item) (buffer : Groups) (performed : List Operation) (m : Item) (i : Operation) → Before h items buffer performed m → IsNewest h (length items) m i → is_reserve i.kind ≡ false → Each IsMarked items → Reserves h word items performed → Grows h items (m ∷ []) performed (i ∷ [])
+ends_grows : (h word : ℕ) (items : List Item) (buffer : Groups) (performed : List Operation) (m : Item) (i : Operation) → Before h items buffer performed m → IsNewest h (length items) m i → is_lr i.kind ≡ false → Each IsMarked items → Reserves h word items performed → Grows h items (m ∷ []) performed (i ∷ [])
 ends_grows h word items buffer performed m i b new kind marked k =
     let at = new.here in
     record {
@@ -193,7 +193,7 @@ once_atomic h items buffer old next performed m names i new b (inr (inr k)) a =
     word_same v w e = cc
 
 -- what waits of a word, where the buffer has none of it
-pub none_of_word : (model : Model) (h : ℕ) (items : List Item) (buffer : Groups) (performed : List Operation) → HartKept model h items buffer performed → (word : ℕ) → has word buffer ≡ false → Each (λ u. IsWaiting h u × (of_word word u ≡ false)) (waits items performed)
+pub none_of_word : (model : MemoryModel) (h : ℕ) (items : List Item) (buffer : Groups) (performed : List Operation) → HartKept model h items buffer performed → (word : ℕ) → has word buffer ≡ false → Each (λ u. IsWaiting h u × (of_word word u ≡ false)) (waits items performed)
 none_of_word model h items buffer performed k word free =
     let pend = joined k.sealed ++ k.current in
     subst (Each (λ u. IsWaiting h u × (of_word word u ≡ false))) (sym k.split.waits)

@@ -36,7 +36,7 @@ use Rattle.memory_model.specs.declared.operation.Kind.TheVariants.{Store}
 use Rattle.memory_model.specs.declared.operation.Operation.{Operation}
 use Rattle.memory_model.specs.Items.{Item, items_from}
 use Rattle.memory_model.specs.Legal.{is_atomic, is_atomic_at, keeps_atomicity}
-use Rattle.memory_model.specs.Operations.{is_conditional, is_reserve, same, touches}
+use Rattle.memory_model.specs.Operations.{is_sc, is_lr, same, touches}
 use Rattle.memory_model.specs.Rules.{items_of, paired}
 use Rattle.memory_model.specs.Traces.{completed, instructions, names_in, operations_at}
 use Rattle.memory_model.proofs.Lists.{Each-append, Each-both, Each-weaker, filter_none, list_all-from_Each}
@@ -128,7 +128,7 @@ atomicity s st o a =
     let order = done s.trace ++ tail_of s in
     let harts = instructions s.trace in
     let stores = (whole_tail s st o order).stores in
-    let behind : (w : Operation) → Each (Cell s w) (tail_of s) = λ w. Each-weaker (λ r. r.kind ≡ Store) (Cell s w) (λ r e. cell (items_of harts r.hart) order r w (λ p x t. absurd (false≢true (sym (ap is_reserve e) ∙ (pair_parts (items_of harts r.hart) r w p).reserves)))) (tail_of s) stores in
+    let behind : (w : Operation) → Each (Cell s w) (tail_of s) = λ w. Each-weaker (λ r. r.kind ≡ Store) (Cell s w) (λ r e. cell (items_of harts r.hart) order r w (λ p x t. absurd (false≢true (sym (ap is_lr e) ∙ (pair_parts (items_of harts r.hart) r w p).reserves)))) (tail_of s) stores in
     let whole : (w : Operation) → Each (Cell s w) (done s.trace) → list_all (λ r. not (paired (items_of harts r.hart) r w) || is_atomic order r w) order ≡ true =
     λ w f. list_all-from_Each (λ r. not (paired (items_of harts r.hart) r w) || is_atomic order r w) order (Each-append (Cell s w) (done s.trace) (tail_of s) f (behind w)) in
     subst (λ xs. keeps_atomicity harts xs ≡ true) (sym (completed_operations s.trace))
@@ -140,7 +140,7 @@ atomicity s st o a =
     (done s.trace) (Each-both (IsDone s) (λ r. (i : HartOf s) → IsPair i.0 (items_at s.trace i.0) (done s.trace) r w) (done s.trace) (each_done s st o a) (each_index (λ (i : HartOf s) r. IsPair i.0 (items_at s.trace i.0) (done s.trace) r w) (done s.trace) f))))
     (done s.trace) (each_index (λ (i : HartOf s) w. Each (λ r. IsPair i.0 (items_at s.trace i.0) (done s.trace) r w) (done s.trace)) (done s.trace) (λ i. (a.each i.0 i.1).pairs)))
     (Each-weaker (λ w. w.kind ≡ Store) (λ w. list_all (λ r. not (paired (items_of harts r.hart) r w) || is_atomic order r w) order ≡ true)
-    (λ w e. list_all-from_Each (λ r. not (paired (items_of harts r.hart) r w) || is_atomic order r w) order (Each-always (Cell s w) (λ r. cell (items_of harts r.hart) order r w (λ p x t. absurd (false≢true (sym (ap is_conditional e) ∙ (pair_parts (items_of harts r.hart) r w p).conditional)))) order))
+    (λ w e. list_all-from_Each (λ r. not (paired (items_of harts r.hart) r w) || is_atomic order r w) order (Each-always (Cell s w) (λ r. cell (items_of harts r.hart) order r w (λ p x t. absurd (false≢true (sym (ap is_sc e) ∙ (pair_parts (items_of harts r.hart) r w p).conditional)))) order))
     (tail_of s) stores)))
 
 -- ---- the laws

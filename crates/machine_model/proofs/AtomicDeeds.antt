@@ -21,14 +21,14 @@ use Rattle.machine_model.proofs.OrderRules.{InWord, touches_word}
 use Rattle.machine_model.proofs.OrderSplit.{gave_at}
 use Rattle.machine_model.proofs.OrderSteps.{Performs, names_by}
 use Rattle.machine_model.proofs.OrderValues.{names_cases, nothing_named, one_named}
-use Rattle.memory_model.specs.declared.Model.{Model}
+use Rattle.memory_model.specs.declared.MemoryModel.{MemoryModel}
 use Rattle.memory_model.specs.declared.operation.Operation.{Operation}
 use Rattle.memory_model.specs.Items.{Item, operation_of_access, succeeded}
-use Rattle.memory_model.specs.Operations.{is_conditional, is_reserve, stores_to, touches, writes}
+use Rattle.memory_model.specs.Operations.{is_sc, is_lr, stores_to, touches, writes}
 use Rattle.memory_model.specs.Rules.{is_lr_or_sc}
 use Rattle.reservations.specs.Reservation.{is_valid}
 use Rattle.rv32_decode.specs.declared.instruction.Annotations.{Annotations}
-use Rattle.rv32_exec.specs.Meaning.{Access, Private, Loads, Stores, Reserves, Tries, Updates, Fences, Calls}
+use Rattle.rv32_exec.specs.Meaning.{Access, Private, Loads, Stores, Reserves, DoesSc, DoesAmo, Fences, Calls}
 use Rattle.store_buffer.specs.Groups.{Groups, has}
 use Rattle.trace_recorder.specs.declared.operation.OpId.{OpId}
 use Rattle.tl_types.specs.declared.line.LineData.{LineData}
@@ -39,17 +39,17 @@ use Rattle.tl_types.specs.declared.line.LineData.{LineData}
 pub record Plain (m : Item) (old next : Option ℕ) : Type 0 where
   pub stays : next ≡ old
   pub alone : is_lr_or_sc m.instr ≡ false
-  pub kind : (i : Operation) → m.operation ≡ Some i → (is_reserve i.kind ≡ false) × (is_conditional i.kind ≡ false)
+  pub kind : (i : Operation) → m.operation ≡ Some i → (is_lr i.kind ≡ false) × (is_sc i.kind ≡ false)
 
 -- the reservation ends; what it performs, it performs where one was
 pub record Ends (m : Item) (old next : Option ℕ) : Type 0 where
   pub none : next ≡ None
-  pub kind : (i : Operation) → m.operation ≡ Some i → (is_reserve i.kind ≡ false) × (word : ℕ) × (old ≡ Some word)
+  pub kind : (i : Operation) → m.operation ≡ Some i → (is_lr i.kind ≡ false) × (word : ℕ) × (old ≡ Some word)
 
 -- what an LR of this word gives
 pub record IsReserving (word : ℕ) (i : Operation) : Type 0 where
-  pub reserves : is_reserve i.kind ≡ true
-  pub ends_none : is_conditional i.kind ≡ false
+  pub reserves : is_lr i.kind ≡ true
+  pub ends_none : is_sc i.kind ≡ false
   pub writes_none : writes i.kind ≡ false
   pub in_word : InWord i
   pub word_is : word_of i.address ≡ word
@@ -76,20 +76,20 @@ module _ (m : Item) (o : Option ℕ) (alone : is_lr_or_sc m.instr ≡ false) whe
   plain_none : m.operation ≡ None → Plain m o o
   plain_none e = record { stays = refl; alone = alone; kind = λ i f. absurd (none_not i (sym e ∙ f)) }
 
-  plain_some : (s : Operation) → m.operation ≡ Some s → is_reserve s.kind ≡ false → is_conditional s.kind ≡ false → Plain m o o
-  plain_some s e a b = record { stays = refl; alone = alone; kind = λ i f. let g = some_is s i (sym e ∙ f) in (ap (λ (x : Operation). is_reserve x.kind) (sym g) ∙ a, ap (λ (x : Operation). is_conditional x.kind) (sym g) ∙ b) }
+  plain_some : (s : Operation) → m.operation ≡ Some s → is_lr s.kind ≡ false → is_sc s.kind ≡ false → Plain m o o
+  plain_some s e a b = record { stays = refl; alone = alone; kind = λ i f. let g = some_is s i (sym e ∙ f) in (ap (λ (x : Operation). is_lr x.kind) (sym g) ∙ a, ap (λ (x : Operation). is_sc x.kind) (sym g) ∙ b) }
 
-pub deed_is : (model : Model) (h place : ℕ) (bits : Annotations) (n : Node) (f : Fetched) (entry : Retired) (a : Access) (d : Deed) (m : Item) → is_lr_or_sc m.instr ≡ is_pairing a → m.operation ≡ operation_of_access h place bits entry a → Facts f.instr a → FitsDeed model n f a entry d
+pub deed_is : (model : MemoryModel) (h place : ℕ) (bits : Annotations) (n : Node) (f : Fetched) (entry : Retired) (a : Access) (d : Deed) (m : Item) → is_lr_or_sc m.instr ≡ is_pairing a → m.operation ≡ operation_of_access h place bits entry a → Facts f.instr a → FitsDeed model n f a entry d
     → Plain m n.reserved (reserved_by d n.reserved) ⊎ (Ends m n.reserved (reserved_by d n.reserved) ⊎ Takes m n.buffer (names_by h place d) (reserved_by d n.reserved))
-deed_is model h place bits n f entry Private deed.Alone m p gave x e = inl (plain_none m n.reserved p gave)
-deed_is model h place bits n f entry (Calls number argument) deed.Alone m p gave x e = inl (plain_none m n.reserved p gave)
+deed_is model h place bits n f entry Private deed.Private m p gave x e = inl (plain_none m n.reserved p gave)
+deed_is model h place bits n f entry (Calls number argument) deed.Private m p gave x e = inl (plain_none m n.reserved p gave)
 deed_is model h place bits n f entry (Calls number argument) (deed.Output k) m p gave x e = inl (plain_none m n.reserved p gave)
 deed_is model h place bits n f entry (Loads address bytes) deed.Load m p gave x e = inl (plain_some m n.reserved p _ gave refl refl)
 deed_is model h place bits n f entry (Stores address bytes value) (deed.Store s) m p gave x e = inl (plain_some m n.reserved p _ gave refl refl)
-deed_is model h place bits n f entry (Updates address op operand) (deed.Update word v) m p gave x e = inl (plain_some m n.reserved p _ gave refl refl)
-deed_is model h place bits n f entry Fences deed.Alone m p gave x e = inl (plain_none m n.reserved p gave)
+deed_is model h place bits n f entry (DoesAmo address op operand) (deed.Amo word v) m p gave x e = inl (plain_some m n.reserved p _ gave refl refl)
+deed_is model h place bits n f entry Fences deed.Private m p gave x e = inl (plain_none m n.reserved p gave)
 deed_is model h place bits n f entry Fences deed.Seal m p gave x e = inl (plain_none m n.reserved p gave)
-deed_is model h place bits n f entry (Reserves address) (deed.Reserve word) m p gave x e = inr (inr (record {
+deed_is model h place bits n f entry (Reserves address) (deed.Lr word) m p gave x e = inr (inr (record {
   performs = λ z. one_not _ z;
   word = word;
   some = refl;
@@ -99,14 +99,14 @@ deed_is model h place bits n f entry (Reserves address) (deed.Reserve word) m p 
   where
     one_not : (k : OpId) → k ∷ [] ≡ [] → ⊥
     one_not k z = cc
-deed_is model h place bits n f entry (Tries address value) deed.Fail m p gave x e = inr (inl (record { none = refl; kind = λ i g. absurd (go entry.sc_ok e i (sym gave ∙ g)) }))
+deed_is model h place bits n f entry (DoesSc address value) deed.Fail m p gave x e = inr (inl (record { none = refl; kind = λ i g. absurd (go entry.sc_ok e i (sym gave ∙ g)) }))
   where
-    go : (o : Option Bool) → o ≡ Some false → (i : Operation) → operation_of_access h place bits (record entry { sc_ok = o }) (Tries address value) ≡ Some i → ⊥
-    go o q i g = none_not i (sym (ap (λ v. operation_of_access h place bits (record entry { sc_ok = v }) (Tries address value)) q) ∙ g)
-deed_is model h place bits n f entry (Tries address value) (deed.Conditional word v) m p gave x e = inr (inl (record { none = refl; kind = λ i g. (go entry.sc_ok e.2 i (sym gave ∙ g), address, valid_word address n.reserved e.3) }))
+    go : (o : Option Bool) → o ≡ Some false → (i : Operation) → operation_of_access h place bits (record entry { sc_ok = o }) (DoesSc address value) ≡ Some i → ⊥
+    go o q i g = none_not i (sym (ap (λ v. operation_of_access h place bits (record entry { sc_ok = v }) (DoesSc address value)) q) ∙ g)
+deed_is model h place bits n f entry (DoesSc address value) (deed.Sc word v) m p gave x e = inr (inl (record { none = refl; kind = λ i g. (go entry.sc_ok e.2 i (sym gave ∙ g), address, valid_word address n.reserved e.3) }))
   where
-    go : (o : Option Bool) → o ≡ Some true → (i : Operation) → operation_of_access h place bits (record entry { sc_ok = o }) (Tries address value) ≡ Some i → is_reserve i.kind ≡ false
-    go o q i g = sym (ap (λ (y : Operation). is_reserve y.kind) (some_is _ i (sym (ap (λ v. operation_of_access h place bits (record entry { sc_ok = v }) (Tries address value)) q) ∙ g)))
+    go : (o : Option Bool) → o ≡ Some true → (i : Operation) → operation_of_access h place bits (record entry { sc_ok = o }) (DoesSc address value) ≡ Some i → is_lr i.kind ≡ false
+    go o q i g = sym (ap (λ (y : Operation). is_lr y.kind) (some_is _ i (sym (ap (λ v. operation_of_access h place bits (record entry { sc_ok = v }) (DoesSc address value)) q) ∙ g)))
 deed_is model h place bits n f entry _ _ m p gave x e = absurd e
 
 -- ---- writes
@@ -126,21 +126,21 @@ stored_at : (u i : Operation) (word x : ℕ) → Some u ≡ Some i → InWord u 
 stored_at u i word x e f at s = store_word word x u f at (ap (stores_to x) (some_is u i e) ∙ s)
 
 -- what is performed as it retires is written to a copy that may be written
-pub deed_writes : (model : Model) (h place : ℕ) (bits : Annotations) (n : Node) (f : Fetched) (entry : Retired) (a : Access) (d : Deed) (m : Item) → m.operation ≡ operation_of_access h place bits entry a → Facts f.instr a → FitsDeed model n f a entry d
+pub deed_writes : (model : MemoryModel) (h place : ℕ) (bits : Annotations) (n : Node) (f : Fetched) (entry : Retired) (a : Access) (d : Deed) (m : Item) → m.operation ≡ operation_of_access h place bits entry a → Facts f.instr a → FitsDeed model n f a entry d
     → ((word : ℕ) → n.reserved ≡ Some word → Writable n word) → (names_by h place d ≡ [] → ⊥) → (i : Operation) → m.operation ≡ Some i → (x : ℕ) → stores_to x i ≡ true → Writable n (word_of x)
-deed_writes model h place bits n f entry Private deed.Alone m gave x e r some i g y s = absurd (some refl)
-deed_writes model h place bits n f entry (Calls number argument) deed.Alone m gave x e r some i g y s = absurd (some refl)
+deed_writes model h place bits n f entry Private deed.Private m gave x e r some i g y s = absurd (some refl)
+deed_writes model h place bits n f entry (Calls number argument) deed.Private m gave x e r some i g y s = absurd (some refl)
 deed_writes model h place bits n f entry (Calls number argument) (deed.Output k) m gave x e r some i g y s = absurd (some refl)
 deed_writes model h place bits n f entry (Loads address bytes) deed.Load m gave x e r some i g y s = absurd (false≢true (ap (stores_to y) (some_is _ i (sym gave ∙ g)) ∙ s))
 deed_writes model h place bits n f entry (Stores address bytes value) (deed.Store t) m gave x e r some i g y s = absurd (some refl)
-deed_writes model h place bits n f entry (Updates address op operand) (deed.Update word v) m gave x e r some i g y s =
+deed_writes model h place bits n f entry (DoesAmo address op operand) (deed.Amo word v) m gave x e r some i g y s =
     let at : word_of y ≡ address = stored_at _ i address y (sym gave ∙ g) (aligned_in_word address x.1) (word_aligned address x.1) s in
     subst (Writable n) (sym at) (trunk_writable n address e.6.0 e.6.1 e.6.2)
-deed_writes model h place bits n f entry Fences deed.Alone m gave x e r some i g y s = absurd (some refl)
+deed_writes model h place bits n f entry Fences deed.Private m gave x e r some i g y s = absurd (some refl)
 deed_writes model h place bits n f entry Fences deed.Seal m gave x e r some i g y s = absurd (some refl)
-deed_writes model h place bits n f entry (Reserves address) (deed.Reserve word) m gave x e r some i g y s = absurd (false≢true (ap (stores_to y) (some_is _ i (sym gave ∙ g)) ∙ s))
-deed_writes model h place bits n f entry (Tries address value) deed.Fail m gave x e r some i g y s = absurd (some refl)
-deed_writes model h place bits n f entry (Tries address value) (deed.Conditional word v) m gave x e r some i g y s =
+deed_writes model h place bits n f entry (Reserves address) (deed.Lr word) m gave x e r some i g y s = absurd (false≢true (ap (stores_to y) (some_is _ i (sym gave ∙ g)) ∙ s))
+deed_writes model h place bits n f entry (DoesSc address value) deed.Fail m gave x e r some i g y s = absurd (some refl)
+deed_writes model h place bits n f entry (DoesSc address value) (deed.Sc word v) m gave x e r some i g y s =
     subst (Writable n) (sym (go entry.sc_ok _ e.2 (sym gave ∙ g) (aligned_in_word address x.1) (word_aligned address x.1))) (r address (valid_word address n.reserved e.3))
   where
     go : (o : Option Bool) (u : Operation) → o ≡ Some true → cond (succeeded o) (Some u) None ≡ Some i → InWord u → word_of u.address ≡ address → word_of y ≡ address
@@ -155,7 +155,7 @@ pub record IsNewest (h n : ℕ) (m : Item) (i : Operation) : Type 0 where
   pub here : i.place ≡ n
   pub gave : m.operation ≡ Some i
 
-pub out_is : (model : Model) (h : ℕ) (items longer : List Item) (buffer : Groups) (performed : List Operation) (m : Item) (d : Deed) (names : List OpId) → longer ≡ items ++ m ∷ [] → names ≡ names_by h (length items) d → (p : Performs model h longer buffer performed names)
+pub out_is : (model : MemoryModel) (h : ℕ) (items longer : List Item) (buffer : Groups) (performed : List Operation) (m : Item) (d : Deed) (names : List OpId) → longer ≡ items ++ m ∷ [] → names ≡ names_by h (length items) d → (p : Performs model h longer buffer performed names)
     → ((names_by h (length items) d ≡ []) × (p.out ≡ [])) ⊎ ((names_by h (length items) d ≡ [] → ⊥) × (i : Operation) × (p.out ≡ i ∷ []) × IsNewest h (length items) m i)
 out_is model h items longer buffer performed m d names is_longer are_names p = go (names_cases h (length items) d)
   where

@@ -16,7 +16,7 @@ use Rattle.memory_model.specs.declared.operation.Operation.{Operation}
 use Rattle.memory_model.specs.Dependencies.{between}
 use Rattle.memory_model.specs.Items.{Item, item_of, operation_of_access, operation_of_entry}
 use Rattle.memory_model.specs.Legal.{is_atomic_at}
-use Rattle.memory_model.specs.Operations.{is_conditional, is_reserve, precedes, same, stores_to, touches}
+use Rattle.memory_model.specs.Operations.{is_sc, is_lr, precedes, same, stores_to, touches}
 use Rattle.memory_model.specs.Rules.{is_lr_or_sc, paired}
 use Rattle.memory_model.proofs.Lists.{Each-append, Each-both, Each-kept, Each-left, Each-weaker, filter_none}
 use Rattle.rv32_decode.specs.Rows.{decoded}
@@ -24,14 +24,14 @@ use Rattle.rv32_decode.specs.declared.instruction.Annotations.{Annotations}
 use Rattle.rv32_decode.specs.declared.instruction.Instr.{Instr}
 use Rattle.rv32_decode.specs.declared.instruction.Instr.TheVariants as instr
 use Rattle.rv32_decode.specs.declared.instruction.SystemOp.TheVariants as system
-use Rattle.rv32_exec.specs.Meaning.{Access, Private, Loads, Stores, Reserves as LoadReserves, Tries, Updates, Fences, Calls, access_of}
+use Rattle.rv32_exec.specs.Meaning.{Access, Private, Loads, Stores, DoesLr, DoesSc, DoesAmo, Fences, Calls, access_of}
 
 -- ---- items
 
 -- an LR or an SC
 abbrev pub is_pairing : Access → Bool
-is_pairing (LoadReserves address) = true
-is_pairing (Tries address value) = true
+is_pairing (DoesLr address) = true
+is_pairing (DoesSc address value) = true
 is_pairing _ = false
 
 pub pairing_is : (i : Instr) (regs : List ℕ) → is_lr_or_sc (Some i) ≡ is_pairing (access_of i regs)
@@ -55,7 +55,7 @@ pairing_is (instr.Register op rd rs1 rs2) regs = refl
 -- an item's operation has its place, and an LR's item is one
 pub record IsMarked (m : Item) : Type 0 where
   pub place : (a : Operation) → m.operation ≡ Some a → a.place ≡ m.place
-  pub reserves : (a : Operation) → m.operation ≡ Some a → is_reserve a.kind ≡ true → is_lr_or_sc m.instr ≡ true
+  pub reserves : (a : Operation) → m.operation ≡ Some a → is_lr a.kind ≡ true → is_lr_or_sc m.instr ≡ true
 
 pub some_is : (a b : Operation) → Some a ≡ Some b → a ≡ b
 some_is a b e = cc
@@ -63,21 +63,21 @@ some_is a b e = cc
 pub none_not : (a : Operation) → None ≡ Some a → ⊥
 none_not a e = cc
 
-access_gave : (h place : ℕ) (bits : Annotations) (entry : Retired) (access : Access) (a : Operation) → operation_of_access h place bits entry access ≡ Some a → (a.place ≡ place) × (is_reserve a.kind ≡ true → is_pairing access ≡ true)
+access_gave : (h place : ℕ) (bits : Annotations) (entry : Retired) (access : Access) (a : Operation) → operation_of_access h place bits entry access ≡ Some a → (a.place ≡ place) × (is_lr a.kind ≡ true → is_pairing access ≡ true)
 access_gave h place bits entry Private a e = absurd (none_not a e)
 access_gave h place bits entry Fences a e = absurd (none_not a e)
 access_gave h place bits entry (Calls number argument) a e = absurd (none_not a e)
-access_gave h place bits entry (Loads address bytes) a e = let f = some_is _ a e in (ap (λ (o : Operation). o.place) (sym f), λ r. absurd (false≢true (ap (λ (o : Operation). is_reserve o.kind) f ∙ r)))
-access_gave h place bits entry (Stores address bytes value) a e = let f = some_is _ a e in (ap (λ (o : Operation). o.place) (sym f), λ r. absurd (false≢true (ap (λ (o : Operation). is_reserve o.kind) f ∙ r)))
-access_gave h place bits entry (Updates address op operand) a e = let f = some_is _ a e in (ap (λ (o : Operation). o.place) (sym f), λ r. absurd (false≢true (ap (λ (o : Operation). is_reserve o.kind) f ∙ r)))
-access_gave h place bits entry (LoadReserves address) a e = let f = some_is _ a e in (ap (λ (o : Operation). o.place) (sym f), λ r. refl)
-access_gave h place bits entry (Tries address value) a e = (go _ _ refl e, λ r. refl)
+access_gave h place bits entry (Loads address bytes) a e = let f = some_is _ a e in (ap (λ (o : Operation). o.place) (sym f), λ r. absurd (false≢true (ap (λ (o : Operation). is_lr o.kind) f ∙ r)))
+access_gave h place bits entry (Stores address bytes value) a e = let f = some_is _ a e in (ap (λ (o : Operation). o.place) (sym f), λ r. absurd (false≢true (ap (λ (o : Operation). is_lr o.kind) f ∙ r)))
+access_gave h place bits entry (DoesAmo address op operand) a e = let f = some_is _ a e in (ap (λ (o : Operation). o.place) (sym f), λ r. absurd (false≢true (ap (λ (o : Operation). is_lr o.kind) f ∙ r)))
+access_gave h place bits entry (DoesLr address) a e = let f = some_is _ a e in (ap (λ (o : Operation). o.place) (sym f), λ r. refl)
+access_gave h place bits entry (DoesSc address value) a e = (go _ _ refl e, λ r. refl)
   where
     go : (b : Bool) (o : Operation) → o.place ≡ place → cond b (Some o) None ≡ Some a → a.place ≡ place
     go true o p f = ap (λ (x : Operation). x.place) (sym (some_is o a f)) ∙ p
     go false o p f = absurd (none_not a f)
 
-entry_gave : (place : ℕ) (hart : Hart) (entry : Retired) (o : Option Instr) (a : Operation) → operation_of_entry place hart entry o ≡ Some a → (a.place ≡ place) × (is_reserve a.kind ≡ true → is_lr_or_sc o ≡ true)
+entry_gave : (place : ℕ) (hart : Hart) (entry : Retired) (o : Option Instr) (a : Operation) → operation_of_entry place hart entry o ≡ Some a → (a.place ≡ place) × (is_lr a.kind ≡ true → is_lr_or_sc o ≡ true)
 entry_gave place hart entry None a e = absurd (none_not a e)
 entry_gave place hart entry (Some i) a e = let g = access_gave hart.id place _ entry (access_of i hart.regs) a e in (g.0, λ r. pairing_is i hart.regs ∙ g.1 r)
 
@@ -106,11 +106,11 @@ fresh n (m ∷ more) a b = go m.operation refl (fresh n more a.1 b.1)
 -- ---- what waits doesn't precede an LR that overlaps it
 
 pub record IsClear (h : ℕ) (items : List Item) (performed : List Operation) (r : Operation) : Type 0 where
-  pub clear : r.hart ≡ h → is_reserve r.kind ≡ true → (x : ℕ) → touches x r ≡ true → Each (λ t. theirs r x t ≡ false) (waits items performed)
+  pub clear : r.hart ≡ h → is_lr r.kind ≡ true → (x : ℕ) → touches x r ≡ true → Each (λ t. theirs r x t ≡ false) (waits items performed)
 
 -- nor does what is performed now
 pub record IsStill (h : ℕ) (out : List Operation) (r : Operation) : Type 0 where
-  pub still : r.hart ≡ h → is_reserve r.kind ≡ true → (x : ℕ) → touches x r ≡ true → Each (λ t. theirs r x t ≡ false) out
+  pub still : r.hart ≡ h → is_lr r.kind ≡ true → (x : ℕ) → touches x r ≡ true → Each (λ t. theirs r x t ≡ false) out
 
 pub theirs_later : (r t : Operation) (x : ℕ) → r.place ≤ t.place → theirs r x t ≡ false
 theirs_later r t x l = and_right (stores_to x t) _ (precedes_not t r (λ e. l))
@@ -135,15 +135,15 @@ pub record IsPair (h : ℕ) (items : List Item) (performed : List Operation) (r 
 pub record PairParts (items : List Item) (r w : Operation) : Type 0 where
   pub hart : r.hart ≡ w.hart
   pub before : r.place < w.place
-  pub reserves : is_reserve r.kind ≡ true
-  pub conditional : is_conditional w.kind ≡ true
+  pub reserves : is_lr r.kind ≡ true
+  pub conditional : is_sc w.kind ≡ true
   pub alone : list_any (λ (m : Item). is_lr_or_sc m.instr) (between items r w) ≡ false
 
 pub pair_parts : (items : List Item) (r w : Operation) → paired items r w ≡ true → PairParts items r w
 pair_parts items r w e =
-    let e1 = and_parts (precedes r w && is_reserve r.kind && is_conditional w.kind) _ e in
-    let e2 = and_parts (precedes r w && is_reserve r.kind) (is_conditional w.kind) e1.0 in
-    let e3 = and_parts (precedes r w) (is_reserve r.kind) e2.0 in
+    let e1 = and_parts (precedes r w && is_lr r.kind && is_sc w.kind) _ e in
+    let e2 = and_parts (precedes r w && is_lr r.kind) (is_sc w.kind) e1.0 in
+    let e3 = and_parts (precedes r w) (is_lr r.kind) e2.0 in
     let e4 = and_parts (nat_eq r.hart w.hart) (nat_lt r.place w.place) e3.0 in
     record { hart = eqb-true r.hart w.hart e4.0; before = ltb-true r.place w.place e4.1; reserves = e3.1; conditional = e2.1; alone = not-true _ e1.1 }
 
@@ -156,7 +156,7 @@ between_same items more n r w later l =
 
 paired_old : (items more : List Item) (n : ℕ) (r w : Operation) → Each (λ (m : Item). n ≤ m.place) more → w.place < n → paired (items ++ more) r w ≡ true → paired items r w ≡ true
 paired_old items more n r w later l e =
-    subst (λ ms. (precedes r w && is_reserve r.kind && is_conditional w.kind && not (list_any (λ (m : Item). is_lr_or_sc m.instr) ms)) ≡ true) (between_same items more n r w later l) e
+    subst (λ ms. (precedes r w && is_lr r.kind && is_sc w.kind && not (list_any (λ (m : Item). is_lr_or_sc m.instr) ms)) ≡ true) (between_same items more n r w later l) e
 
 -- an old pair stays
 pair_still : (h : ℕ) (items more : List Item) (performed out : List Operation) (r w : Operation) → AreLater (length items) more → list_any (λ s. same s r) performed ≡ true → IsBelow h (length items) w → IsStill h out r → IsPair h items performed r w → IsPair h (items ++ more) (performed ++ out) r w
@@ -172,7 +172,7 @@ pair_still h items more performed out r w later m below still k = record {
 pub record Reserves (h word : ℕ) (items : List Item) (performed : List Operation) : Type 0 where
   pub lr : Operation
   pub own : lr.hart ≡ h
-  pub reserves : is_reserve lr.kind ≡ true
+  pub reserves : is_lr lr.kind ≡ true
   pub in_word : InWord lr
   pub word_is : word_of lr.address ≡ word
   pub below : lr.place < length items
@@ -195,7 +195,7 @@ pub record Grows (h : ℕ) (items more : List Item) (performed out : List Operat
   pub below : Each (IsBelow h (length items)) performed
   pub later : AreLater (length items) more
   pub still : (r : Operation) → IsBelow h (length items) r → IsClear h items performed r → IsStill h out r
-  pub late : Each (λ r. r.hart ≡ h → is_reserve r.kind ≡ true → length items ≤ r.place) out
+  pub late : Each (λ r. r.hart ≡ h → is_lr r.kind ≡ true → length items ≤ r.place) out
   pub new_clear : Each (IsClear h (items ++ more) (performed ++ out)) out
   pub new_pairs : Each (λ w. Each (λ r. IsPair h (items ++ more) (performed ++ out) r w) (performed ++ out)) out
 
@@ -228,7 +228,7 @@ grown h items more reserved next performed out g res k = record {
         (Each-both (λ r. list_any (λ s. same s r) performed ≡ true) (λ r. IsBelow h (length items) r × IsClear h items performed r) performed (members performed) known) q)
 
     none : (w : Operation) → IsBelow h (length items) w → Each (λ r. IsPair h longer order r w) out
-    none w b = Each-weaker (λ r. r.hart ≡ h → is_reserve r.kind ≡ true → length items ≤ r.place) (λ r. IsPair h longer order r w)
+    none w b = Each-weaker (λ r. r.hart ≡ h → is_lr r.kind ≡ true → length items ≤ r.place) (λ r. IsPair h longer order r w)
         (λ r f. record { atomic = λ mine p x t. let q = pair_parts longer r w p in let l = f mine q.reserves in let m = b.below (sym q.hart ∙ mine) in let o = q.before in absurd (omega (arith, l, m, o)) }) out g.late
 
 gave_more : (items more : List Item) (k : ℕ) (a : Operation) → gave_at items k ≡ Some a → gave_at (items ++ more) k ≡ Some a

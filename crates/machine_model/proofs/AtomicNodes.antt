@@ -20,7 +20,7 @@ use Rattle.machine_model.specs.Deliveries.{delivered, handled, is_trunk, kept_re
 use Rattle.machine_model.specs.Views.{Node, State, line_size, no_node, place_of, node_at, with_node, with_trace, sent}
 use Rattle.machine_model.specs.Words.{bytes_of_word}
 use Rattle.machine_model.proofs.Nodes.{node_same, node_other}
-use Rattle.memory_model.specs.declared.Model.{Model}
+use Rattle.memory_model.specs.declared.MemoryModel.{MemoryModel}
 use Rattle.reservations.specs.Reservation.{lies_in, without_line}
 use Rattle.store_buffer.specs.ByteMask.{marks_of_access}
 use Rattle.store_buffer.specs.Entry.{entry_of}
@@ -185,9 +185,9 @@ drained_less h word s =
 -- ---- deeds
 
 abbrev pub reserved_by : Deed → Option ℕ → Option ℕ
-reserved_by (deed.Reserve word) o = Some word
+reserved_by (deed.Lr word) o = Some word
 reserved_by deed.Fail o = None
-reserved_by (deed.Conditional word value) o = None
+reserved_by (deed.Sc word value) o = None
 reserved_by _ o = o
 
 pub record Reserved (h : ℕ) (reserved : Option ℕ) (old new : State) : Type 0 where
@@ -203,18 +203,18 @@ reserved_to h o s t count k l = record {
   there = λ j d w e. k.less j w (sym (ap (λ (n : Node). n.reserved) (node_other h j _ t d)) ∙ e);
 }
 
-pub does_reserved : (model : Model) (h : ℕ) (d : Deed) (s : State) → h < length s.views.nodes → Reserved h (reserved_by d (node_at s h).reserved) s (does model h d s)
-does_reserved model h deed.Alone s l = less_by h s _ (less_not s)
+pub does_reserved : (model : MemoryModel) (h : ℕ) (d : Deed) (s : State) → h < length s.views.nodes → Reserved h (reserved_by d (node_at s h).reserved) s (does model h d s)
+does_reserved model h deed.Private s l = less_by h s _ (less_not s)
 does_reserved model h (deed.Output number) s l = less_by h s _ (node_less h _ s (λ w f. f))
 does_reserved model h deed.Load s l = less_by h s _ (record { less = λ k w f. f })
 does_reserved model h (deed.Store store) s l = less_by h s _ (node_less h _ s (λ w f. f))
 does_reserved model h deed.Seal s l = less_by h s _ (node_less h _ s (λ w f. f))
-does_reserved model h (deed.Reserve word) s l = reserved_to h (Some word) s (performs_own h s) refl (record { less = λ k w f. f }) l
+does_reserved model h (deed.Lr word) s l = reserved_to h (Some word) s (performs_own h s) refl (record { less = λ k w f. f }) l
 does_reserved model h deed.Fail s l = reserved_to h None s s refl (less_not s) l
-does_reserved model h (deed.Conditional word value) s l =
+does_reserved model h (deed.Sc word value) s l =
     let did = performs_own h s in
     let stored = writes_word h word (marks_of_access 0 4) (bytes_of_word value) did in
     reserved_to h None s stored (length-set did.views.nodes h _) (less_then s did stored (record { less = λ k w f. f }) (node_less h _ did (λ w f. f))) l
-does_reserved model h (deed.Update word value) s l =
+does_reserved model h (deed.Amo word value) s l =
     let did = performs_own h s in
     less_by h s _ (less_then s did _ (record { less = λ k w f. f }) (node_less h _ did (λ w f. f)))

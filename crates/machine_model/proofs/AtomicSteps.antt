@@ -40,17 +40,17 @@ use Rattle.machine_model.proofs.OrderValues.{theirs}
 use Rattle.machine_model.proofs.Runs.{AllStand, entries-with_entries}
 use Rattle.machine_model.proofs.WorldOpening.{one_writer}
 use Rattle.machine_model.proofs.WorldSteps.{Fits}
-use Rattle.memory_model.specs.declared.Model.{Model}
+use Rattle.memory_model.specs.declared.MemoryModel.{MemoryModel}
 use Rattle.memory_model.specs.declared.operation.Operation.{Operation}
 use Rattle.memory_model.specs.Items.{Item, annotations_of, item_of, items_from}
-use Rattle.memory_model.specs.Operations.{is_conditional, is_reserve, stores_to}
+use Rattle.memory_model.specs.Operations.{is_sc, is_lr, stores_to}
 use Rattle.memory_model.specs.Rules.{is_lr_or_sc}
 use Rattle.memory_model.specs.Traces.{instructions, operations_at}
 use Rattle.memory_model.proofs.Lists.{Each-filter, Each-kept, Each-left, Each-weaker}
 use Rattle.memory_model.proofs.Named.{operation_at-bears}
 use Rattle.rv32_decode.specs.Rows.{decoded}
 use Rattle.rv32_decode.specs.declared.instruction.Instr.{Instr}
-use Rattle.rv32_exec.specs.Meaning.{Access, Private, Loads, Stores, Reserves as LoadReserves, Tries, Updates, Fences, Calls, access_of}
+use Rattle.rv32_exec.specs.Meaning.{Access, Private, Loads, Stores, DoesLr, DoesSc, DoesAmo, Fences, Calls, access_of}
 use Rattle.store_buffer.specs.Groups.{Groups}
 use Rattle.tl_types.specs.declared.permission.Perm.{Perm}
 use Rattle.tl_types.specs.declared.permission.Perm.TheVariants as perm
@@ -111,7 +111,7 @@ step_atomic h names s t out c line own fit o a w less mine = record {
 
 -- ---- drains
 
-drain_still : (model : Model) (h word : ℕ) (items : List Item) (buffer : Groups) (performed : List Operation) (k : HartKept model h items buffer performed) (r : Operation) → IsClear h items performed r → IsStill h (drained_out word k) r
+drain_still : (model : MemoryModel) (h word : ℕ) (items : List Item) (buffer : Groups) (performed : List Operation) (k : HartKept model h items buffer performed) (r : Operation) → IsClear h items performed r → IsStill h (drained_out word k) r
 drain_still model h word items buffer performed k r c = record {
   still = λ mine reads x t.
       let P : Operation → Type 0 = λ u. theirs r x u ≡ false in
@@ -130,7 +130,7 @@ drained_atomic h word s l m trunk fit o a =
     let own : Each (λ x. x.hart ≡ h) out = Each-weaker (λ x. (of_word word x ≡ true) × IsWaiting h x) (λ x. x.hart ≡ h) (λ x z. z.1.own) out known in
     let now = outside_atomic h items [] (node_at s h).reserved (node_at t h).reserved (done s.trace) out (below_at s o h m) (record { marked = tt; later = tt })
     (λ r b c. drain_still s.views.config.model h word items (node_at s h).buffer (done s.trace) k r c)
-    (Each-weaker (λ x. (of_word word x ≡ true) × IsWaiting h x) IsOutside (λ x z. (ap is_reserve z.1.plain, ap is_conditional z.1.plain)) out known) own ((drained_less h word s).less h) tt (a.each h m) in
+    (Each-weaker (λ x. (of_word word x ≡ true) × IsWaiting h x) IsOutside (λ x z. (ap is_lr z.1.plain, ap is_sc z.1.plain)) out known) own ((drained_less h word s).less h) tt (a.each h m) in
     step_atomic h (drained_names h word s) s t out (drained_step h word s l m o).changes (drained_done h word s l m o) own fit o a
     (Each-weaker (λ x. (of_word word x ≡ true) × IsWaiting h x) (λ x. (y : ℕ) → stores_to y x ≡ true → Writable (node_at s h) (word_of y))
     (λ x z y e. subst (Writable (node_at s h)) (sym (store_word word y x z.1.in_word (eqb-true (word_of x.address) word z.0) e)) (trunk_writable (node_at s h) word trunk.0 trunk.1 trunk.2)) out known)
@@ -201,9 +201,9 @@ private_not : (x : Access) → is_private x ≡ true → is_pairing x ≡ false
 private_not Private e = refl
 private_not (Loads address bytes) e = refl
 private_not (Stores address bytes value) e = refl
-private_not (LoadReserves address) e = absurd (false≢true e)
-private_not (Tries address value) e = absurd (false≢true e)
-private_not (Updates address op operand) e = refl
+private_not (DoesLr address) e = absurd (false≢true e)
+private_not (DoesSc address value) e = absurd (false≢true e)
+private_not (DoesAmo address op operand) e = refl
 private_not Fences e = refl
 private_not (Calls number argument) e = refl
 

@@ -24,7 +24,7 @@ use Rattle.machine_model.specs.Laws.{LocalIsSteps, StepsRetire, with_changes}
 use Rattle.machine_model.specs.Steps.{plan_access, plan_instr, plan_step, plan_unless}
 use Rattle.machine_model.specs.Views.{Node, State, no_node, node_at, with_node, with_trace}
 use Rattle.machine_model.proofs.Nodes.{node_same}
-use Rattle.memory_model.specs.declared.Model.{Model}
+use Rattle.memory_model.specs.declared.MemoryModel.{MemoryModel}
 use Rattle.rv32_decode.specs.Rows.{decoded}
 use Rattle.rv32_decode.specs.declared.instruction.Instr.{Instr}
 use Rattle.rv32_exec.specs.Meaning.{Private, access_of, stop_of}
@@ -46,7 +46,7 @@ no_stop image hart i c d p s =
     ap (λ (b : Bool). cond b (stop_with (length image.bytes) hart (decoded (word_at image hart.pc))) (Some 1)) c
     ∙ (ap (stop_with (length image.bytes) hart) d ∙ (stop_of-private i hart.pc hart.regs (length image.bytes) 0 p ∙ none_of (stop_of i hart.pc hart.regs 0) s))
 
-step_alone : (model : Model) (image : Initial) (n : Node) (place : ℕ) (i : Instr) → is_running n.hart.status ≡ true → next_stop image n.hart ≡ None → decoded (word_at image n.hart.pc) ≡ Some i → access_of i n.hart.regs ≡ Private → plan_step model image n place ≡ Changes (act.Retire (next_entry image n.hart) i deed.Alone)
+step_alone : (model : MemoryModel) (image : Initial) (n : Node) (place : ℕ) (i : Instr) → is_running n.hart.status ≡ true → next_stop image n.hart ≡ None → decoded (word_at image n.hart.pc) ≡ Some i → access_of i n.hart.regs ≡ Private → plan_step model image n place ≡ Changes (act.Retire (next_entry image n.hart) i deed.Private)
 step_alone model image n place i r s d p =
     ap (λ (b : Bool). cond (not b) (Stays outcome.Halted) (plan_unless (next_stop image n.hart) (plan_instr model n (word_at image n.hart.pc) place (decoded (word_at image n.hart.pc))))) r
     ∙ (ap (λ (o : Option ℕ). plan_unless o (plan_instr model n (word_at image n.hart.pc) place (decoded (word_at image n.hart.pc)))) s
@@ -78,7 +78,7 @@ step_verdict s h i l g d p n c m =
     let image = s.trace.image in
     let a = alone image hart g in
     let entry = next_entry image hart in
-    let plan : plan_of s (event.Step h) ≡ Changes (act.Retire entry i deed.Alone) = step_alone s.views.config.model image (node_at s h) (place_at s h) i a.running (no_stop image hart i a.fetched d p n) d p in
+    let plan : plan_of s (event.Step h) ≡ Changes (act.Retire entry i deed.Private) = step_alone s.views.config.model image (node_at s h) (place_at s h) i a.running (no_stop image hart i a.fetched d p n) d p in
     let good : is_good s (event.Step h) ≡ true = and_from _ _ (lt-ltb h (length s.views.nodes) l) refl in
     let on : (after_instr hart entry (Some i)).status ≡ Running = ap (λ (o : Option Instr). (after_instr hart entry o).status) (sym d) ∙ running_is (after hart entry).status (after-running image hart g) in
     ap (λ (b : Bool). cond b (verdict_by s h (plan_of s (event.Step h))) Verdict.IsBad) good

@@ -30,7 +30,7 @@ use Rattle.machine_model.specs.Events.{Verdict, counted, verdict, verdict_by, st
 use Rattle.machine_model.specs.Laws.{Grows, KeepsImageAndConfig}
 use Rattle.machine_model.specs.LawfulLog.{IsBeginningOf}
 use Rattle.machine_model.specs.Views.{State, line_size, place_of, node_at, with_node, with_trace, sent}
-use Rattle.memory_model.specs.declared.Model.{Model}
+use Rattle.memory_model.specs.declared.MemoryModel.{MemoryModel}
 use Rattle.rv32_decode.specs.declared.instruction.Instr.{Instr}
 use Rattle.tl_types.specs.declared.line.LineData.{LineData}
 use Rattle.tl_types.specs.declared.message.Body.{Body}
@@ -161,16 +161,16 @@ performs_follows h (place ∷ places) s = follows_then _ _ _ (record { grows = r
 own_follows : (h : ℕ) (s : State) → Follows s (performs_own h s)
 own_follows h s = performs_follows h (place_at s h ∷ []) s
 
-does_follows : (model : Model) (h : ℕ) (d : Deed) (s : State) → Follows s (does model h d s)
-does_follows model h deed.Alone s = still s s refl refl refl
+does_follows : (model : MemoryModel) (h : ℕ) (d : Deed) (s : State) → Follows s (does model h d s)
+does_follows model h deed.Private s = still s s refl refl refl
 does_follows model h (deed.Output number) s = still s _ refl refl refl
 does_follows model h deed.Load s = own_follows h s
 does_follows model h (deed.Store store) s = still s _ refl refl refl
 does_follows model h deed.Seal s = still s _ refl refl refl
-does_follows model h (deed.Reserve word) s = follows_then _ _ _ (own_follows h s) (still _ _ refl refl refl)
+does_follows model h (deed.Lr word) s = follows_then _ _ _ (own_follows h s) (still _ _ refl refl refl)
 does_follows model h deed.Fail s = still s _ refl refl refl
-does_follows model h (deed.Conditional word value) s = follows_then _ _ _ (own_follows h s) (still _ _ refl refl refl)
-does_follows model h (deed.Update word value) s = follows_then _ _ _ (own_follows h s) (still _ _ refl refl refl)
+does_follows model h (deed.Sc word value) s = follows_then _ _ _ (own_follows h s) (still _ _ refl refl refl)
+does_follows model h (deed.Amo word value) s = follows_then _ _ _ (own_follows h s) (still _ _ refl refl refl)
 
 -- a halt changes a status alone
 halt_grows : (h : ℕ) (status : Status) (old t : History) → Grows old t → Grows old (with_halt h status t)

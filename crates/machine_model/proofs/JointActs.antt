@@ -30,13 +30,13 @@ use Rattle.machine_model.proofs.OrderTraces.{done, operations_on}
 use Rattle.machine_model.proofs.Runs.{AllStand}
 use Rattle.machine_model.proofs.WorldEvents.{IsAligned}
 use Rattle.machine_model.proofs.WorldSteps.{last_after, last_by, wrote_word}
-use Rattle.memory_model.specs.declared.Model.{Model}
+use Rattle.memory_model.specs.declared.MemoryModel.{MemoryModel}
 use Rattle.memory_model.specs.Operations.{byte_at as number_byte, stores_to}
 use Rattle.memory_model.specs.Order.{byte_from}
 use Rattle.memory_model.specs.Traces.{instructions, last_performed, operations_at}
 use Rattle.rv32_decode.specs.Rows.{decoded}
 use Rattle.rv32_decode.specs.declared.instruction.Instr.{Instr}
-use Rattle.rv32_exec.specs.Meaning.{Access, Tries, Updates, access_of}
+use Rattle.rv32_exec.specs.Meaning.{Access, DoesSc, DoesAmo, access_of}
 use Rattle.store_buffer.specs.ByteMask.{is_marked, marks_of_access}
 use Rattle.store_buffer.specs.Entry.{blank_entry, entry_of, joined}
 use Rattle.store_buffer.specs.Groups.{oldest}
@@ -122,19 +122,19 @@ drained_agrees h word s last l m o aligned =
 
 -- a deed's word is aligned
 abbrev IsAlignedDeed : Deed → Type 0
-IsAlignedDeed (deed.Conditional word value) = word % 4 ≡ 0
-IsAlignedDeed (deed.Update word value) = word % 4 ≡ 0
+IsAlignedDeed (deed.Sc word value) = word % 4 ≡ 0
+IsAlignedDeed (deed.Amo word value) = word % 4 ≡ 0
 IsAlignedDeed _ = Unit {0}
 
-deed_aligned : (model : Model) (n : Node) (f : Fetched) (e : Retired) (a : Access) (d : Deed) → Facts f.instr a → FitsDeed model n f a e d → IsAlignedDeed d
-deed_aligned model n f e (Tries address value) (deed.Conditional word v) x fits = ap (λ w. w % 4) fits.0 ∙ x.1
-deed_aligned model n f e (Updates address op operand) (deed.Update word v) x fits = ap (λ w. w % 4) fits.0 ∙ x.1
-deed_aligned model n f e a deed.Alone x fits = tt
+deed_aligned : (model : MemoryModel) (n : Node) (f : Fetched) (e : Retired) (a : Access) (d : Deed) → Facts f.instr a → FitsDeed model n f a e d → IsAlignedDeed d
+deed_aligned model n f e (DoesSc address value) (deed.Sc word v) x fits = ap (λ w. w % 4) fits.0 ∙ x.1
+deed_aligned model n f e (DoesAmo address op operand) (deed.Amo word v) x fits = ap (λ w. w % 4) fits.0 ∙ x.1
+deed_aligned model n f e a deed.Private x fits = tt
 deed_aligned model n f e a (deed.Output k) x fits = tt
 deed_aligned model n f e a deed.Load x fits = tt
 deed_aligned model n f e a (deed.Store s) x fits = tt
 deed_aligned model n f e a deed.Seal x fits = tt
-deed_aligned model n f e a (deed.Reserve word) x fits = tt
+deed_aligned model n f e a (deed.Lr word) x fits = tt
 deed_aligned model n f e a deed.Fail x fits = tt
 deed_aligned model n f e _ _ x fits = absurd fits
 
@@ -168,14 +168,14 @@ module _ (memory later : ℕ → ℕ) (word value : ℕ) (aligned : word % 4 ≡
   }
 
 deed_wrote : (size : LineSize) (memory later : ℕ → ℕ) (last : ℕ → LineData) (d : Deed) → IsAlignedDeed d → ((x : ℕ) → later x ≡ unwrap_or (bytes_by d x) (memory x)) → (q : ℕ) → q % length_of size ≡ 0 → IsOf size memory q (last q) → IsOf size later q (last_by size d last q)
-deed_wrote size memory later last (deed.Conditional word value) aligned f q on is = wrote size memory later word (marks_of_access 0 4) (bytes_of_word value) (number_writes memory later word value aligned f) last q on is
-deed_wrote size memory later last (deed.Update word value) aligned f q on is = wrote size memory later word (marks_of_access 0 4) (bytes_of_word value) (number_writes memory later word value aligned f) last q on is
-deed_wrote size memory later last deed.Alone aligned f q on is = same_bytes size memory later q (last q) f is
+deed_wrote size memory later last (deed.Sc word value) aligned f q on is = wrote size memory later word (marks_of_access 0 4) (bytes_of_word value) (number_writes memory later word value aligned f) last q on is
+deed_wrote size memory later last (deed.Amo word value) aligned f q on is = wrote size memory later word (marks_of_access 0 4) (bytes_of_word value) (number_writes memory later word value aligned f) last q on is
+deed_wrote size memory later last deed.Private aligned f q on is = same_bytes size memory later q (last q) f is
 deed_wrote size memory later last (deed.Output k) aligned f q on is = same_bytes size memory later q (last q) f is
 deed_wrote size memory later last deed.Load aligned f q on is = same_bytes size memory later q (last q) f is
 deed_wrote size memory later last (deed.Store s) aligned f q on is = same_bytes size memory later q (last q) f is
 deed_wrote size memory later last deed.Seal aligned f q on is = same_bytes size memory later q (last q) f is
-deed_wrote size memory later last (deed.Reserve word) aligned f q on is = same_bytes size memory later q (last q) f is
+deed_wrote size memory later last (deed.Lr word) aligned f q on is = same_bytes size memory later q (last q) f is
 deed_wrote size memory later last deed.Fail aligned f q on is = same_bytes size memory later q (last q) f is
 
 retired_agrees : (h : ℕ) (entry : Retired) (i : Instr) (d : Deed) (s : State) (last : ℕ → LineData) → h < s.views.config.harts → AllStand s → is_step s.trace.image (node_at s h).hart entry ≡ true → decoded entry.word ≡ Some i

@@ -29,7 +29,7 @@ use Rattle.machine_model.specs.declared.act.Act.TheVariants as act
 use Rattle.machine_model.specs.declared.act.Deed.{Deed}
 use Rattle.machine_model.specs.declared.act.Deed.TheVariants as deed
 use Rattle.machine_model.proofs.LogQueues.{Quiet, quiet_node, quiet_trace}
-use Rattle.memory_model.specs.declared.Model.{Model}
+use Rattle.memory_model.specs.declared.MemoryModel.{MemoryModel}
 use Rattle.store_buffer.specs.ByteMask.{marks_of_access}
 use Rattle.store_buffer.specs.Entry.{entry_of}
 use Rattle.store_buffer.specs.Groups.{oldest}
@@ -105,18 +105,18 @@ writes_still h word marks bytes s =
     let same = written_same c line word marks bytes (copy_at c line) in
     still_node h (record (node_at s h) { cache = word_written c line word marks bytes }) s refl same.0 same.1
 
-does_still : (model : Model) (h : ℕ) (d : Deed) (s : State) → Still s (does model h d s)
-does_still model h deed.Alone s = still_not s
+does_still : (model : MemoryModel) (h : ℕ) (d : Deed) (s : State) → Still s (does model h d s)
+does_still model h deed.Private s = still_not s
 does_still model h (deed.Output number) s = still_node h _ s refl refl refl
 does_still model h deed.Load s = own_still h s
 does_still model h (deed.Store store) s = still_node h _ s refl refl refl
 does_still model h deed.Seal s = still_node h _ s refl refl refl
-does_still model h (deed.Reserve word) s = still_then s (performs_own h s) _ (own_still h s) (still_node h _ (performs_own h s) refl refl refl)
+does_still model h (deed.Lr word) s = still_then s (performs_own h s) _ (own_still h s) (still_node h _ (performs_own h s) refl refl refl)
 does_still model h deed.Fail s = still_node h _ s refl refl refl
-does_still model h (deed.Conditional word value) s =
+does_still model h (deed.Sc word value) s =
     let stored = writes_word h word (marks_of_access 0 4) (bytes_of_word value) (performs_own h s) in
     still_then s (performs_own h s) _ (own_still h s) (still_then (performs_own h s) stored _ (writes_still h word (marks_of_access 0 4) (bytes_of_word value) (performs_own h s)) (still_node h _ stored refl refl refl))
-does_still model h (deed.Update word value) s = still_then s (performs_own h s) _ (own_still h s) (writes_still h word (marks_of_access 0 4) (bytes_of_word value) (performs_own h s))
+does_still model h (deed.Amo word value) s = still_then s (performs_own h s) _ (own_still h s) (writes_still h word (marks_of_access 0 4) (bytes_of_word value) (performs_own h s))
 
 halt_log : (h : ℕ) (status : Status) (t : History) → (with_halt h status t).log ≡ t.log
 halt_log h Running t = refl

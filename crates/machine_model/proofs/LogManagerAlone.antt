@@ -19,7 +19,7 @@ use Rattle.machine_model.specs.declared.act.Act.TheVariants as act
 use Rattle.machine_model.specs.declared.act.Deed.{Deed}
 use Rattle.machine_model.specs.declared.act.Deed.TheVariants as deed
 use Rattle.machine_model.proofs.LogActs.{IsAlone, same-set}
-use Rattle.memory_model.specs.declared.Model.{Model}
+use Rattle.memory_model.specs.declared.MemoryModel.{MemoryModel}
 use Rattle.store_buffer.specs.ByteMask.{marks_of_access}
 use Rattle.store_buffer.specs.Entry.{entry_of}
 use Rattle.store_buffer.specs.Groups.{oldest}
@@ -32,16 +32,16 @@ performs_views : (h : ℕ) (places : List ℕ) (s : State) → (performs h place
 performs_views h [] s = refl
 performs_views h (place ∷ places) s = performs_views h places (with_trace (with_performed (record { hart = h; place = place }) s.trace) s)
 
-does_notes : (model : Model) (h : ℕ) (d : Deed) (s : State) → (does model h d s).views.notes ≡ s.views.notes
-does_notes model h deed.Alone s = refl
+does_notes : (model : MemoryModel) (h : ℕ) (d : Deed) (s : State) → (does model h d s).views.notes ≡ s.views.notes
+does_notes model h deed.Private s = refl
 does_notes model h (deed.Output number) s = refl
 does_notes model h deed.Load s = refl
 does_notes model h (deed.Store store) s = refl
 does_notes model h deed.Seal s = refl
-does_notes model h (deed.Reserve word) s = refl
+does_notes model h (deed.Lr word) s = refl
 does_notes model h deed.Fail s = refl
-does_notes model h (deed.Conditional word value) s = refl
-does_notes model h (deed.Update word value) s = refl
+does_notes model h (deed.Sc word value) s = refl
+does_notes model h (deed.Amo word value) s = refl
 
 pub alone_notes : (h : ℕ) (a : Act) (s : State) → IsAlone a → (acted h a s).views.notes ≡ s.views.notes
 alone_notes h (act.Stop code) s is = refl
@@ -100,18 +100,18 @@ writes_keep h word marks bytes s =
 own_keeps : (h : ℕ) (s : State) → KeepsPerms s (performs_own h s)
 own_keeps h s = record { same = λ k d l f. refl }
 
-does_keep : (model : Model) (h : ℕ) (d : Deed) (s : State) → KeepsPerms s (does model h d s)
-does_keep model h deed.Alone s = same_views s s refl
+does_keep : (model : MemoryModel) (h : ℕ) (d : Deed) (s : State) → KeepsPerms s (does model h d s)
+does_keep model h deed.Private s = same_views s s refl
 does_keep model h (deed.Output number) s = keeps_node h _ s refl
 does_keep model h deed.Load s = own_keeps h s
 does_keep model h (deed.Store store) s = keeps_node h _ s refl
 does_keep model h deed.Seal s = keeps_node h _ s refl
-does_keep model h (deed.Reserve word) s = then s (performs_own h s) _ (own_keeps h s) (keeps_node h _ (performs_own h s) refl)
+does_keep model h (deed.Lr word) s = then s (performs_own h s) _ (own_keeps h s) (keeps_node h _ (performs_own h s) refl)
 does_keep model h deed.Fail s = keeps_node h _ s refl
-does_keep model h (deed.Conditional word value) s =
+does_keep model h (deed.Sc word value) s =
     let wrote : State = writes_word h word (marks_of_access 0 4) (bytes_of_word value) (performs_own h s) in
     then s (performs_own h s) _ (own_keeps h s) (then (performs_own h s) wrote _ (writes_keep h word (marks_of_access 0 4) (bytes_of_word value) (performs_own h s)) (keeps_node h _ wrote refl))
-does_keep model h (deed.Update word value) s = then s (performs_own h s) _ (own_keeps h s) (writes_keep h word (marks_of_access 0 4) (bytes_of_word value) (performs_own h s))
+does_keep model h (deed.Amo word value) s = then s (performs_own h s) _ (own_keeps h s) (writes_keep h word (marks_of_access 0 4) (bytes_of_word value) (performs_own h s))
 
 hart_keeps : (h : ℕ) (hart : Hart) (t : History) (s : State) → KeepsPerms s (with_trace t (with_node h (record (node_at s h) { hart = hart }) s))
 hart_keeps h hart t s =

@@ -22,7 +22,7 @@ use Rattle.elf_loader.specs.Image.{Initial, word_at}
 use Rattle.machine_model.specs.Deciding.{miss_by, plan_miss, reading, reading_by, writing, writing_by}
 use Rattle.machine_model.specs.Deliveries.{plan_body, plan_front, unless_acks_full, unless_busy, unless_releasing}
 use Rattle.machine_model.specs.Events.{evict_by, hart_of, plan_drain, plan_local, plan_of}
-use Rattle.machine_model.specs.Steps.{Fetched, plan_access, plan_conditional, plan_instr, plan_load, plan_step, plan_unless, retires, update, waits_for_stores, write_waits}
+use Rattle.machine_model.specs.Steps.{Fetched, plan_access, plan_sc, plan_instr, plan_load, plan_step, plan_unless, retires, update, waits_for_stores, write_waits}
 use Rattle.machine_model.specs.Views.{Node, State, line_of, line_size, node_at, place_of}
 use Rattle.machine_model.specs.Words.{read_from, store_of, word_in, word_of}
 use Rattle.machine_model.specs.declared.act.Act.TheVariants as act
@@ -34,12 +34,12 @@ use Rattle.machine_model.specs.declared.event.Event.TheVariants as event
 use Rattle.machine_model.specs.declared.outcome.Outcome.TheVariants as outcome
 use Rattle.machine_model.proofs.LineViews.{chosen}
 use Rattle.memory_model.specs.Rules.{fences}
-use Rattle.memory_model.specs.declared.Model.{Model}
+use Rattle.memory_model.specs.declared.MemoryModel.{MemoryModel}
 use Rattle.memory_model.specs.declared.operation.Kind.TheVariants.{Load, Store}
 use Rattle.reservations.specs.Reservation.{is_valid}
 use Rattle.rv32_decode.specs.Rows.{decoded}
 use Rattle.rv32_decode.specs.declared.instruction.Instr.{Instr}
-use Rattle.rv32_exec.specs.Meaning.{Access, Private, Loads, Stores, Reserves, Tries, Updates, Fences, Calls, access_of}
+use Rattle.rv32_exec.specs.Meaning.{Access, Private, Loads, Stores, DoesLr, DoesSc, DoesAmo, Fences, Calls, access_of}
 use Rattle.store_buffer.specs.ByteMask.{covers, laid_over, marks_of_access}
 use Rattle.store_buffer.specs.Groups.{drainable, fits, forwarded, has, is_empty}
 use Rattle.tilelink_channels.specs.Queues.{front_of, queue_of, room_of}
@@ -122,23 +122,23 @@ module _ (s : State) (h : ℕ) where
       let go : LineData → Plan = λ held. retires n f (Some (read_from (laid_over waiting.0 waiting.1 (word_in held (word_of address))) address bytes)) None deed.Load in
       either Good (covers waiting.0 (marks_of_access (address % 4) bytes)) (retires n f (Some (read_from waiting.1 address bytes)) None deed.Load) (reading go n.cache (line address)) tt (by_reading (line address) go (copy_at n.cache (line address)) (λ held. tt))
 
-  conditional : (model : Model) (f : Fetched) (address value : ℕ) → Good (plan_conditional model n f address value)
+  conditional : (model : MemoryModel) (f : Fetched) (address value : ℕ) → Good (plan_sc model n f address value)
   conditional model f address value =
-      let writes = retires n f None (Some true) (deed.Conditional address value) in
+      let writes = retires n f None (Some true) (deed.Sc address value) in
       let tries = cond (write_waits model n f.instr address) (Stays outcome.MustDrain) writes in
       either Good (not (is_valid address n.reserved)) (retires n f None (Some false) deed.Fail) tries tt (either Good (write_waits model n f.instr address) (Stays outcome.MustDrain) writes tt tt)
 
-  access : (model : Model) (f : Fetched) (a : Access) → Good (plan_access model n f a)
+  access : (model : MemoryModel) (f : Fetched) (a : Access) → Good (plan_access model n f a)
   access model f Private = tt
   access model f (Loads address bytes) = load f address bytes
   access model f (Stores address bytes value) = either Good (fits (word_of address) n.buffer) (retires n f None None (deed.Store (store_of address bytes value f.place))) (Stays outcome.BufferFull) tt tt
-  access model f (Reserves address) = waits (waits_for_stores n f.instr address) (line address) (λ held. retires n f (Some (read_from (word_in held address) address 4)) None (deed.Reserve address)) (λ held. tt)
-  access model f (Tries address value) = conditional model f address value
-  access model f (Updates address op operand) = waits (write_waits model n f.instr address) (line address) (λ held. update n f address op operand (read_from (word_in held address) address 4)) (λ held. tt)
-  access model f Fences = either Good (fences (Some f.instr) Store Load && not (is_empty n.buffer)) (Stays outcome.MustDrain) (retires n f None None (cond (fences (Some f.instr) Store Store) deed.Seal deed.Alone)) tt tt
+  access model f (DoesLr address) = waits (waits_for_stores n f.instr address) (line address) (λ held. retires n f (Some (read_from (word_in held address) address 4)) None (deed.Lr address)) (λ held. tt)
+  access model f (DoesSc address value) = conditional model f address value
+  access model f (DoesAmo address op operand) = waits (write_waits model n f.instr address) (line address) (λ held. update n f address op operand (read_from (word_in held address) address 4)) (λ held. tt)
+  access model f Fences = either Good (fences (Some f.instr) Store Load && not (is_empty n.buffer)) (Stays outcome.MustDrain) (retires n f None None (cond (fences (Some f.instr) Store Store) deed.Seal deed.Private)) tt tt
   access model f (Calls number argument) = tt
 
-  instr : (model : Model) (word place : ℕ) (o : Option Instr) → Good (plan_instr model n word place o)
+  instr : (model : MemoryModel) (word place : ℕ) (o : Option Instr) → Good (plan_instr model n word place o)
   instr model word place None = tt
   instr model word place (Some i) = access model (record { word = word; instr = i; place = place }) (access_of i n.hart.regs)
 
@@ -146,7 +146,7 @@ module _ (s : State) (h : ℕ) where
   unless (Some code) go good = tt
   unless None go good = good
 
-  step : (model : Model) (image : Initial) (place : ℕ) → Good (plan_step model image n place)
+  step : (model : MemoryModel) (image : Initial) (place : ℕ) → Good (plan_step model image n place)
   step model image place =
       let word = word_at image n.hart.pc in
       let go = plan_instr model n word place (decoded word) in

@@ -18,7 +18,7 @@ use Rattle.machine_model.specs.Changing.{does, performs, performs_own, place_at,
 use Rattle.machine_model.specs.Deliveries.{delivered, handled, taken, sent_probes, sent_any, sent_if_handled, sent_if_granted, sent_if_answered, with_memory, with_notes, with_less, on_probe_ack, on_release, on_grant}
 use Rattle.machine_model.specs.Views.{Node, State, line_size, place_of, node_at, with_node, with_trace, sent}
 use Rattle.machine_model.specs.Words.{bytes_of_word}
-use Rattle.memory_model.specs.declared.Model.{Model}
+use Rattle.memory_model.specs.declared.MemoryModel.{MemoryModel}
 use Rattle.store_buffer.specs.ByteMask.{marks_of_access}
 use Rattle.store_buffer.specs.Entry.{entry_of}
 use Rattle.store_buffer.specs.Groups.{oldest}
@@ -185,15 +185,15 @@ drained_keeps h word s =
     let stored = writes_word h word e.mask e.bytes done in
     harts_then s done _ (performs_keeps h e.ops s) (harts_then done stored _ (writes_keeps h word e.mask e.bytes done) (node_keeps h _ stored refl))
 
-pub does_keeps : (model : Model) (h : ℕ) (d : Deed) (s : State) → KeepsHarts s (does model h d s)
-does_keeps model h deed.Alone s = harts_not s
+pub does_keeps : (model : MemoryModel) (h : ℕ) (d : Deed) (s : State) → KeepsHarts s (does model h d s)
+does_keeps model h deed.Private s = harts_not s
 does_keeps model h (deed.Output number) s = node_keeps h _ s refl
 does_keeps model h deed.Load s = own_keeps h s
 does_keeps model h (deed.Store store) s = node_keeps h _ s refl
 does_keeps model h deed.Seal s = node_keeps h _ s refl
-does_keeps model h (deed.Reserve word) s = harts_then s (performs_own h s) _ (own_keeps h s) (node_keeps h _ (performs_own h s) refl)
+does_keeps model h (deed.Lr word) s = harts_then s (performs_own h s) _ (own_keeps h s) (node_keeps h _ (performs_own h s) refl)
 does_keeps model h deed.Fail s = node_keeps h _ s refl
-does_keeps model h (deed.Conditional word value) s =
+does_keeps model h (deed.Sc word value) s =
     let stored = writes_word h word (marks_of_access 0 4) (bytes_of_word value) (performs_own h s) in
     harts_then s (performs_own h s) _ (own_keeps h s) (harts_then _ stored _ (writes_keeps h word (marks_of_access 0 4) (bytes_of_word value) (performs_own h s)) (node_keeps h _ stored refl))
-does_keeps model h (deed.Update word value) s = harts_then s (performs_own h s) _ (own_keeps h s) (writes_keeps h word (marks_of_access 0 4) (bytes_of_word value) (performs_own h s))
+does_keeps model h (deed.Amo word value) s = harts_then s (performs_own h s) _ (own_keeps h s) (writes_keeps h word (marks_of_access 0 4) (bytes_of_word value) (performs_own h s))

@@ -23,12 +23,12 @@ use Rattle.machine_model.proofs.OrderMoves.{OrderKept, Changes, Step, step_kept,
 use Rattle.machine_model.proofs.OrderSplit.{ops_of, ops_same}
 use Rattle.machine_model.proofs.OrderSteps.{HartKept, Performs, IsNew, buffer_by, names_by, deed_keeps, keeps_plain, performs_none}
 use Rattle.machine_model.proofs.OrderTraces.{items_at, done, Extends, IsLonger, new_item, items_here, items_there, extends_longer, length-items_from, id-reached}
-use Rattle.memory_model.specs.declared.Model.{Model}
+use Rattle.memory_model.specs.declared.MemoryModel.{MemoryModel}
 use Rattle.memory_model.specs.declared.operation.Operation.{Operation}
 use Rattle.memory_model.specs.Items.{annotations_of, operation_of_entry, operation_of_access}
 use Rattle.rv32_decode.specs.Rows.{decoded}
 use Rattle.rv32_decode.specs.declared.instruction.Instr.{Instr}
-use Rattle.rv32_exec.specs.Meaning.{Access, Private, Loads, Stores, Reserves, Tries, Updates, Fences, Calls, access_of, effect_of, stop_of}
+use Rattle.rv32_exec.specs.Meaning.{Access, Private, Loads, Stores, DoesLr, DoesSc, DoesAmo, Fences, Calls, access_of, effect_of, stop_of}
 use Rattle.rv32_exec.specs.Registers.{after_write}
 use Rattle.store_buffer.specs.Groups.{Groups}
 use Rattle.trace_recorder.specs.History.{History, entries_of, with_entry}
@@ -168,7 +168,7 @@ pub record LeadsTo (h : ℕ) (hart : Hart) (t : History) : Type 0 where
   pub pc : (reached (at_reset t.image h (length t.entries)) (entries_of t h)).pc ≡ hart.pc
 
 -- a trace whose list of the hart h has grown
-pub record Grown (model : Model) (h : ℕ) (buffer : Groups) (performed : List Operation) (old new : History) : Type 0 where
+pub record Grown (model : MemoryModel) (h : ℕ) (buffer : Groups) (performed : List Operation) (old new : History) : Type 0 where
   pub image : new.image ≡ old.image
   pub performed_is : new.performed ≡ old.performed
   pub extends : Extends old new
@@ -180,9 +180,9 @@ private_plain : (i : Instr) (pc : ℕ) (regs : List ℕ) (a : Access) → access
 private_plain i pc regs Private e p s = (subst (Facts i) e (facts i pc regs 0 s), refl)
 private_plain i pc regs (Loads address bytes) e p s = absurd (false≢true p)
 private_plain i pc regs (Stores address bytes value) e p s = absurd (false≢true p)
-private_plain i pc regs (Reserves address) e p s = absurd (false≢true p)
-private_plain i pc regs (Tries address value) e p s = absurd (false≢true p)
-private_plain i pc regs (Updates address op operand) e p s = absurd (false≢true p)
+private_plain i pc regs (DoesLr address) e p s = absurd (false≢true p)
+private_plain i pc regs (DoesSc address value) e p s = absurd (false≢true p)
+private_plain i pc regs (DoesAmo address op operand) e p s = absurd (false≢true p)
 private_plain i pc regs Fences e p s = absurd (false≢true p)
 private_plain i pc regs (Calls number argument) e p s = absurd (false≢true p)
 
@@ -200,7 +200,7 @@ alone_gave h hart t i leads dec alone =
     let start = at_reset t.image h (length t.entries) in
     gives_there h (length (entries_of t h)) (reached start (entries_of t h)) (next_entry t.image hart) i hart.regs (id-reached start (entries_of t h)) leads.regs dec ∙ ap (operation_of_access h (length (entries_of t h)) (annotations_of i) (next_entry t.image hart)) q.1
 
-one_alone : (model : Model) (h : ℕ) (hart : Hart) (t : History) (buffer : Groups) (performed : List Operation) (i : Instr) → LeadsTo h hart t → decoded (word_at t.image hart.pc) ≡ Some i → is_done_alone hart (Some i) ≡ true → HartKept model h (items_at t h) buffer performed → HartKept model h (items_at t h ++ new_item h (next_entry t.image hart) t ∷ []) buffer performed
+one_alone : (model : MemoryModel) (h : ℕ) (hart : Hart) (t : History) (buffer : Groups) (performed : List Operation) (i : Instr) → LeadsTo h hart t → decoded (word_at t.image hart.pc) ≡ Some i → is_done_alone hart (Some i) ≡ true → HartKept model h (items_at t h) buffer performed → HartKept model h (items_at t h ++ new_item h (next_entry t.image hart) t ∷ []) buffer performed
 one_alone model h hart t buffer performed i leads dec alone k =
     let p = and_parts (is_private (access_of i hart.regs)) (is_none (stop_of i hart.pc hart.regs 0)) alone in
     let q = private_plain i hart.pc hart.regs (access_of i hart.regs) refl p.0 (none_is _ p.1) in
@@ -221,10 +221,10 @@ next_leads h hart t entry i l dec k =
     }
 
 -- what a row of so many instructions leaves, of any hart and trace
-abbrev RowKept : Model → ℕ → ℕ → Initial → Groups → List Operation → Type 0
+abbrev RowKept : MemoryModel → ℕ → ℕ → Initial → Groups → List Operation → Type 0
 RowKept model h count image buffer performed = (hart : Hart) (t : History) → t.image ≡ image → h < length t.entries → LeadsTo h hart t → HartKept model h (items_at t h) buffer performed → Grown model h buffer performed t (with_entries h (private_row image hart count) t)
 
-row_next : (model : Model) (h count : ℕ) (image : Initial) (buffer : Groups) (performed : List Operation) → RowKept model h count image buffer performed → RowKept model h (suc count) image buffer performed
+row_next : (model : MemoryModel) (h count : ℕ) (image : Initial) (buffer : Groups) (performed : List Operation) → RowKept model h count image buffer performed → RowKept model h (suc count) image buffer performed
 row_next model h count image buffer performed ih hart t e l leads k = go (can_go_alone image hart) refl
   where
     longer : IsLonger h (next_entry image hart) t (with_entry h (next_entry image hart) t)
@@ -250,7 +250,7 @@ row_next model h count image buffer performed ih hart t e l leads k = go (can_go
     go false f = record { image = refl; performed_is = refl; extends = λ j p a f. f; operations = refl; there = λ j d. refl; here = k }
     go true f = grow (decoded (word_at image hart.pc)) refl (and_parts (is_running hart.status && can_fetch image hart.pc) (is_done_alone hart (decoded (word_at image hart.pc))) f).1
 
-row_kept : (model : Model) (h count : ℕ) (image : Initial) (buffer : Groups) (performed : List Operation) → RowKept model h count image buffer performed
+row_kept : (model : MemoryModel) (h count : ℕ) (image : Initial) (buffer : Groups) (performed : List Operation) → RowKept model h count image buffer performed
 row_kept model h zero image buffer performed = λ hart t e l leads k. record { image = refl; performed_is = refl; extends = λ j p a f. f; operations = refl; there = λ j d. refl; here = k }
 row_kept model h (suc count) image buffer performed = row_next model h count image buffer performed (row_kept model h count image buffer performed)
 

@@ -46,7 +46,7 @@ use Rattle.machine_model.proofs.OrderDeeds.{FitsDeed, FitsPlan, access_fits}
 use Rattle.machine_model.proofs.OrderMoves.{OrderKept, order_still, order_drained}
 use Rattle.machine_model.proofs.OrderSteps.{HartKept}
 use Rattle.machine_model.proofs.OrderTraces.{items_at}
-use Rattle.memory_model.specs.declared.Model.{Model}
+use Rattle.memory_model.specs.declared.MemoryModel.{MemoryModel}
 use Rattle.memory_model.specs.Items.{Item, items_from}
 use Rattle.rv32_decode.specs.Rows.{decoded}
 use Rattle.rv32_decode.specs.declared.instruction.Instr.{Instr}
@@ -234,7 +234,7 @@ opening_stand image config = record {
         (subst (λ (xs : List Retired). Stands image config.harts h (at_reset image h config.harts) xs (slice_index_or (opening image config).trace.statuses h Running)) (sym (get_or-replicate config.harts h [] [] l))
         (subst (λ (x : Status). Stands image config.harts h (at_reset image h config.harts) [] x) (sym (get_or-replicate config.harts h Running Running l)) start))
 
-nothing_kept : (model : Model) (h : ℕ) → HartKept model h [] no_groups []
+nothing_kept : (model : MemoryModel) (h : ℕ) → HartKept model h [] no_groups []
 nothing_kept model h = record {
   sealed = [];
   current = [];

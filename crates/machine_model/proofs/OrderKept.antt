@@ -4,8 +4,8 @@ use Rattle.std.specs.Prelude.{nat_eq, slice_get}
 use Rattle.std.specs.List.{AllByRecursion as Each, filter}
 use Rattle.std.proofs.lemmas.Bool.{true≢false, and_left, and_right, or_from, eqb-true, eqb-false, le-ltb, ne_eqb, not-true}
 use Rattle.machine_model.specs.Words.{word_of}
-use Rattle.memory_model.specs.declared.Model.{Model}
-use Rattle.memory_model.specs.declared.Model.TheVariants.{Rvwmo, Ztso}
+use Rattle.memory_model.specs.declared.MemoryModel.{MemoryModel}
+use Rattle.memory_model.specs.declared.MemoryModel.TheVariants.{Rvwmo, Ztso}
 use Rattle.memory_model.specs.declared.operation.Kind.{Kind}
 use Rattle.memory_model.specs.declared.operation.Kind.TheVariants.{Load, Store}
 use Rattle.memory_model.specs.declared.operation.Operation.{Operation}
@@ -56,7 +56,7 @@ Free items g = Each (λ a. Each (λ b. fenced items b a ≡ false) g) g
 abbrev pub OneWord : List Operation → Type 0
 OneWord g = Each (λ a. Each (λ b. word_of b.address ≡ word_of a.address) g) g
 
-pub record Kept (model : Model) (h : ℕ) (items : List Item) (sealed : List (List Operation)) (current performed : List Operation) : Type 0 where
+pub record Kept (model : MemoryModel) (h : ℕ) (items : List Item) (sealed : List (List Operation)) (current performed : List Operation) : Type 0 where
   pub item_places : Each (λ (m : Item). m.place < length items) items
   pub waiting : Each (IsWaiting h) (joined sealed ++ current)
   pub places : Each (IsBelow h (length items)) (performed ++ (joined sealed ++ current))
@@ -103,7 +103,7 @@ places_more h items m xs k = rw length_more (Each-weaker (IsBelow h (length item
 new_place : (h : ℕ) (items : List Item) (m : Item) (s : Operation) → s.place ≡ length items → IsBelow h (length (items ++ m ∷ [])) s
 new_place h items m s here = record { below = λ e. rw length_more (omega (arith, here)) }
 
-ordered_more : (model : Model) (h : ℕ) (items : List Item) (m : Item) (xs : List Operation) → m.place ≡ length items → Each (IsBelow h (length items)) xs → Ordered (must model h items) xs → Ordered (must model h (items ++ m ∷ [])) xs
+ordered_more : (model : MemoryModel) (h : ℕ) (items : List Item) (m : Item) (xs : List Operation) → m.place ≡ length items → Each (IsBelow h (length items)) xs → Ordered (must model h items) xs → Ordered (must model h (items ++ m ∷ [])) xs
 ordered_more model h items m xs at k =
     Pairwise-weaker (λ a b. must model h items b a ≡ false) (λ a b. must model h (items ++ m ∷ []) b a ≡ false) (IsBelow h (length items))
     (λ a b ka kb e. must-more model h items m b a (λ mine. let l = ka.below mine in omega (arith, l, at)) e) xs k
@@ -161,7 +161,7 @@ known_more h items m xs b k =
 
 -- ---- an item that gives no operation retires
 
-pub item_keeps : (model : Model) (h : ℕ) (items : List Item) (sealed : List (List Operation)) (current performed : List Operation) (m : Item) → m.place ≡ length items
+pub item_keeps : (model : MemoryModel) (h : ℕ) (items : List Item) (sealed : List (List Operation)) (current performed : List Operation) (m : Item) → m.place ≡ length items
     → Each (λ a. late (items ++ m ∷ []) Store a ≡ false) current → Each (λ a. late (items ++ m ∷ []) Load a ≡ false) (joined sealed ++ current)
     → Kept model h items sealed current performed → Kept model h (items ++ m ∷ []) sealed current performed
 item_keeps model h items sealed current performed m at late_store late_load k =
@@ -183,7 +183,7 @@ item_keeps model h items sealed current performed m at late_store late_load k =
 
 -- ---- a store retires
 
-pub store_keeps : (model : Model) (h : ℕ) (items : List Item) (sealed : List (List Operation)) (current performed : List Operation) (m : Item) (s : Operation)
+pub store_keeps : (model : MemoryModel) (h : ℕ) (items : List Item) (sealed : List (List Operation)) (current performed : List Operation) (m : Item) (s : Operation)
     → m.place ≡ length items → ((j : Kind) → fences m.instr Store j ≡ false) → IsWaiting h s → IsQuiet (items ++ m ∷ []) s → s.place ≡ length items
     → (model ≡ Ztso → Each (λ a. word_of a.address ≡ word_of s.address) current)
     → Kept model h items sealed current performed → Kept model h (items ++ m ∷ []) sealed (current ++ s ∷ []) performed
@@ -216,7 +216,7 @@ pub sealed_line : (sealed : List (List Operation)) (current : List Operation) �
 sealed_line sealed [] = append-nil _ ∙ (joined-append sealed [])
 sealed_line sealed (a ∷ g) = append-nil _ ∙ (joined-append sealed ((a ∷ g) ∷ []) ∙ ap (λ ys. joined sealed ++ ys) (append-nil (a ∷ g)))
 
-pub seal_keeps : (model : Model) (h : ℕ) (items : List Item) (sealed : List (List Operation)) (current performed : List Operation)
+pub seal_keeps : (model : MemoryModel) (h : ℕ) (items : List Item) (sealed : List (List Operation)) (current performed : List Operation)
     → Kept model h items sealed current performed → Kept model h items (sealed ++ kept_group current) [] performed
 seal_keeps model h items sealed current performed k =
     let e = sym (sealed_line sealed current) in
@@ -236,7 +236,7 @@ seal_keeps model h items sealed current performed k =
 
 -- ---- an operation is performed as it retires
 
-pub at_once_keeps : (model : Model) (h : ℕ) (items : List Item) (sealed : List (List Operation)) (current performed : List Operation) (m : Item) (i : Operation)
+pub at_once_keeps : (model : MemoryModel) (h : ℕ) (items : List Item) (sealed : List (List Operation)) (current performed : List Operation) (m : Item) (i : Operation)
     → m.place ≡ length items → ((j : Kind) → fences m.instr Store j ≡ false) → i.hart ≡ h → is_store i.kind ≡ false → i.place ≡ length items
     → Each (λ b. (writes i.kind && overlap b i) ≡ false) (joined sealed ++ current) → (writes i.kind ≡ true → Each (λ a. late items Store a ≡ false) (joined sealed ++ current)) → Each (λ b. has_release model i ≡ false) (joined sealed ++ current)
     → Kept model h items sealed current performed → Kept model h (items ++ m ∷ []) sealed current (performed ++ i ∷ [])
@@ -272,13 +272,13 @@ at_once_keeps model h items sealed current performed m i at none mine kind_of he
 
 -- ---- another hart's operations are performed
 
-foreign_free : (model : Model) (h : ℕ) (items : List Item) (s x : Operation) → (s.hart ≡ h → ⊥) → must model h items s x ≡ false
+foreign_free : (model : MemoryModel) (h : ℕ) (items : List Item) (s x : Operation) → (s.hart ≡ h → ⊥) → must model h items s x ≡ false
 foreign_free model h items s x other = and_left _ _ (and_left (nat_eq s.hart h) (precedes s x) (ne_eqb s.hart h other))
 
-foreign_away : (model : Model) (h : ℕ) (items : List Item) (b s : Operation) → (s.hart ≡ h → ⊥) → IsWaiting h b → must model h items b s ≡ false
+foreign_away : (model : MemoryModel) (h : ℕ) (items : List Item) (b s : Operation) → (s.hart ≡ h → ⊥) → IsWaiting h b → must model h items b s ≡ false
 foreign_away model h items b s other q = must_not_after model h items b s (precedes_not b s (λ e. absurd (other (e ∙ q.own))))
 
-foreign_alone : (model : Model) (h : ℕ) (items : List Item) (xs : List Operation) → Each (λ s. s.hart ≡ h → ⊥) xs → Pairwise (λ a b. must model h items b a ≡ false) xs
+foreign_alone : (model : MemoryModel) (h : ℕ) (items : List Item) (xs : List Operation) → Each (λ s. s.hart ≡ h → ⊥) xs → Pairwise (λ a b. must model h items b a ≡ false) xs
 foreign_alone model h items [] f = tt
 foreign_alone model h items (x ∷ xs) f = (Each-weaker (λ s. s.hart ≡ h → ⊥) (λ s. must model h items s x ≡ false) (λ s other. foreign_free model h items s x other) xs f.1, foreign_alone model h items xs f.1)
 
@@ -289,7 +289,7 @@ insert_all R done out ys h own after before =
 among : (P : Operation → Type 0) (done out ys : List Operation) → Each P (done ++ ys) → Each P out → Each P ((done ++ out) ++ ys)
 among P done out ys a b = Each-append P (done ++ out) ys (Each-append P done out (Each-left P done ys a) b) (Each-right P done ys a)
 
-pub foreign_keeps : (model : Model) (h : ℕ) (items : List Item) (sealed : List (List Operation)) (current performed out : List Operation) → Each (λ s. s.hart ≡ h → ⊥) out
+pub foreign_keeps : (model : MemoryModel) (h : ℕ) (items : List Item) (sealed : List (List Operation)) (current performed out : List Operation) → Each (λ s. s.hart ≡ h → ⊥) out
     → Kept model h items sealed current performed → Kept model h items sealed current (performed ++ out)
 foreign_keeps model h items sealed current performed out foreign k =
     let pend = joined sealed ++ current in
@@ -315,17 +315,17 @@ apart_by : (word : ℕ) (a b : Operation) → of_word word a ≡ true → not (o
 apart_by word a b ea eb e = eqb-false (word_of b.address) word (not-true _ eb) (e ∙ eqb-true (word_of a.address) word ea)
 
 -- a store that leaves passes none of its group that it must not pass
-leaves_free : (model : Model) (h : ℕ) (items : List Item) (word : ℕ) (a b : Operation) → IsWaiting h a → IsWaiting h b → fenced items b a ≡ false → (model ≡ Ztso → word_of b.address ≡ word_of a.address) → of_word word a ≡ true → not (of_word word b) ≡ true → must model h items b a ≡ false
+leaves_free : (model : MemoryModel) (h : ℕ) (items : List Item) (word : ℕ) (a b : Operation) → IsWaiting h a → IsWaiting h b → fenced items b a ≡ false → (model ≡ Ztso → word_of b.address ≡ word_of a.address) → of_word word a ≡ true → not (of_word word b) ≡ true → must model h items b a ≡ false
 leaves_free Rvwmo h items word a b qa qb f single ea eb = must_free Rvwmo h items b a qb.plain (and_right (writes a.kind) (overlap b a) (apart b a qb.in_word qa.in_word (apart_by word a b ea eb))) f qa.no_release
 leaves_free Ztso h items word a b qa qb f single ea eb = absurd (apart_by word a b ea eb (single refl))
 
 -- a group, and what is known of it
-pub record Group (model : Model) (h : ℕ) (items : List Item) (g : List Operation) : Type 0 where
+pub record Group (model : MemoryModel) (h : ℕ) (items : List Item) (g : List Operation) : Type 0 where
   pub own : Each (IsWaiting h) g
   pub free : Free items g
   pub single : model ≡ Ztso → OneWord g
 
-single_at : (model : Model) (g xs ys : List Operation) → (model ≡ Ztso → Each (λ a. Each (λ b. word_of b.address ≡ word_of a.address) ys) xs) → Each (λ a. Each (λ b. model ≡ Ztso → word_of b.address ≡ word_of a.address) ys) xs
+single_at : (model : MemoryModel) (g xs ys : List Operation) → (model ≡ Ztso → Each (λ a. Each (λ b. word_of b.address ≡ word_of a.address) ys) xs) → Each (λ a. Each (λ b. model ≡ Ztso → word_of b.address ≡ word_of a.address) ys) xs
 single_at model g [] ys f = tt
 single_at model g (x ∷ xs) ys f = (each ys (λ z. (f z).0), single_at model g xs ys (λ z. (f z).1))
   where
@@ -333,7 +333,7 @@ single_at model g (x ∷ xs) ys f = (each ys (λ z. (f z).0), single_at model g 
     each [] f = tt
     each (y ∷ ys) f = (λ z. (f z).0, each ys (λ z. (f z).1))
 
-drain_ordered : (model : Model) (h : ℕ) (items : List Item) (word : ℕ) (done g rest : List Operation) → Group model h items g → Ordered (must model h items) (done ++ (g ++ rest)) → Ordered (must model h items) ((done ++ filter (of_word word) g) ++ (others (of_word word) g ++ rest))
+drain_ordered : (model : MemoryModel) (h : ℕ) (items : List Item) (word : ℕ) (done g rest : List Operation) → Group model h items g → Ordered (must model h items) (done ++ (g ++ rest)) → Ordered (must model h items) ((done ++ filter (of_word word) g) ++ (others (of_word word) g ++ rest))
 drain_ordered model h items word done g rest q k =
     Pairwise-moved (λ a b. must model h items b a ≡ false) (of_word word) done g rest k
     (Each-weaker (λ a. (IsWaiting h a × Each (λ b. fenced items b a ≡ false) g) × Each (λ b. model ≡ Ztso → word_of b.address ≡ word_of a.address) g) (λ a. Each (λ b. of_word word a ≡ true → not (of_word word b) ≡ true → must model h items b a ≡ false) g)
@@ -343,7 +343,7 @@ drain_ordered model h items word done g rest q k =
     g (Each-both (λ a. IsWaiting h a × Each (λ b. fenced items b a ≡ false) g) (λ a. Each (λ b. model ≡ Ztso → word_of b.address ≡ word_of a.address) g) g (Each-both (IsWaiting h) (λ a. Each (λ b. fenced items b a ≡ false) g) g q.own q.free) (single_at model g g g q.single)))
 
 -- from a sealed group
-pub drain_sealed_keeps : (model : Model) (h : ℕ) (items : List Item) (g : List Operation) (gs : List (List Operation)) (current performed : List Operation) (word : ℕ)
+pub drain_sealed_keeps : (model : MemoryModel) (h : ℕ) (items : List Item) (g : List Operation) (gs : List (List Operation)) (current performed : List Operation) (word : ℕ)
     → Kept model h items (g ∷ gs) current performed
     → Kept model h items (kept_group (others (of_word word) g) ++ gs) current (performed ++ filter (of_word word) g)
 drain_sealed_keeps model h items g gs current performed word k =
@@ -369,7 +369,7 @@ drain_sealed_keeps model h items g gs current performed word k =
     }
 
 -- from the open group, where no group is sealed
-pub drain_open_keeps : (model : Model) (h : ℕ) (items : List Item) (g performed : List Operation) (word : ℕ)
+pub drain_open_keeps : (model : MemoryModel) (h : ℕ) (items : List Item) (g performed : List Operation) (word : ℕ)
     → Kept model h items [] g performed
     → Kept model h items [] (others (of_word word) g) (performed ++ filter (of_word word) g)
 drain_open_keeps model h items g performed word k =

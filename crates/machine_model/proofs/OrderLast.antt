@@ -25,7 +25,7 @@ use Rattle.machine_model.proofs.OrderSplit.{gave_at}
 use Rattle.machine_model.proofs.OrderSteps.{Performs, names_by, stores_of}
 use Rattle.machine_model.proofs.OrderTraces.{items_at, items_here, done, new_item, IsLonger, length-items_from}
 use Rattle.machine_model.proofs.OrderValues.{names_cases, nothing_named, one_named}
-use Rattle.memory_model.specs.declared.Model.{Model}
+use Rattle.memory_model.specs.declared.MemoryModel.{MemoryModel}
 use Rattle.memory_model.specs.declared.operation.Kind.TheVariants as kind
 use Rattle.memory_model.specs.declared.operation.Operation.{Operation}
 use Rattle.memory_model.specs.Items.{Item, annotations_of, operation_of_access, succeeded}
@@ -37,7 +37,7 @@ use Rattle.rv32_decode.specs.Amo.{combined}
 use Rattle.rv32_decode.specs.Rows.{decoded}
 use Rattle.rv32_decode.specs.declared.instruction.Annotations.{Annotations}
 use Rattle.rv32_decode.specs.declared.instruction.Instr.{Instr}
-use Rattle.rv32_exec.specs.Meaning.{Access, Private, Loads, Stores, Reserves, Tries, Updates, Fences, Calls, access_of}
+use Rattle.rv32_exec.specs.Meaning.{Access, Private, Loads, Stores, DoesLr, DoesSc, DoesAmo, Fences, Calls, access_of}
 use Rattle.store_buffer.specs.Entry.{byte_at, entry_of}
 use Rattle.store_buffer.specs.Groups.{oldest}
 use Rattle.store_buffer.proofs.StoreLaws.{byte_is_last}
@@ -104,8 +104,8 @@ drained_elsewhere h word x s l m o other =
 
 -- the byte at x that a deed performs
 abbrev pub bytes_by : Deed → ℕ → Option ℕ
-bytes_by (deed.Conditional word value) x = cond (nat_le word x && nat_lt x (word + 4)) (Some (number_byte word value x)) None
-bytes_by (deed.Update word value) x = cond (nat_le word x && nat_lt x (word + 4)) (Some (number_byte word value x)) None
+bytes_by (deed.Sc word value) x = cond (nat_le word x && nat_lt x (word + 4)) (Some (number_byte word value x)) None
+bytes_by (deed.Amo word value) x = cond (nat_le word x && nat_lt x (word + 4)) (Some (number_byte word value x)) None
 bytes_by _ x = None
 
 -- the byte at x that an operation wrote
@@ -135,29 +135,29 @@ no_names : (n : OpId) → [] ≡ n ∷ [] → ⊥
 no_names n e = cc
 
 -- an operation that is performed as it retires writes what its deed says
-performed_bytes : (model : Model) (h place : ℕ) (n : Node) (f : Fetched) (e : Retired) (a : Access) (d : Deed) (bits : Annotations) (i : Operation) (x : ℕ) → FitsDeed model n f a e d → operation_of_access h place bits e a ≡ Some i → (names_by h place d ≡ record { hart = h; place = place } ∷ []) → bytes_if i x ≡ bytes_by d x
+performed_bytes : (model : MemoryModel) (h place : ℕ) (n : Node) (f : Fetched) (e : Retired) (a : Access) (d : Deed) (bits : Annotations) (i : Operation) (x : ℕ) → FitsDeed model n f a e d → operation_of_access h place bits e a ≡ Some i → (names_by h place d ≡ record { hart = h; place = place } ∷ []) → bytes_if i x ≡ bytes_by d x
 performed_bytes model h place n f e (Loads address bytes) deed.Load bits i x fits g named = bytes_given _ i x None g refl
-performed_bytes model h place n f e (Reserves address) (deed.Reserve word) bits i x fits g named = bytes_given _ i x None g refl
-performed_bytes model h place n f e (Tries address value) (deed.Conditional word v) bits i x fits g named =
-    bytes_given (record { hart = h; place = place; kind = kind.Conditional; address = address; size = 4; read = 0; written = value; aq = bits.acquire; rl = bits.release }) i x _
-    (sym (ap (λ o. cond (succeeded o) (Some (record { hart = h; place = place; kind = kind.Conditional; address = address; size = 4; read = 0; written = value; aq = bits.acquire; rl = bits.release })) None) fits.2) ∙ g) (number_same word address value v x fits.0 fits.1)
-performed_bytes model h place n f e (Updates address op operand) (deed.Update word v) bits i x fits g named =
+performed_bytes model h place n f e (DoesLr address) (deed.Lr word) bits i x fits g named = bytes_given _ i x None g refl
+performed_bytes model h place n f e (DoesSc address value) (deed.Sc word v) bits i x fits g named =
+    bytes_given (record { hart = h; place = place; kind = kind.Sc; address = address; size = 4; read = 0; written = value; aq = bits.acquire; rl = bits.release }) i x _
+    (sym (ap (λ o. cond (succeeded o) (Some (record { hart = h; place = place; kind = kind.Sc; address = address; size = 4; read = 0; written = value; aq = bits.acquire; rl = bits.release })) None) fits.2) ∙ g) (number_same word address value v x fits.0 fits.1)
+performed_bytes model h place n f e (DoesAmo address op operand) (deed.Amo word v) bits i x fits g named =
     bytes_given _ i x _ g (number_same word address (combined op (number_read e) operand) v x fits.0 (fits.5 ∙ ap (λ r. combined op r operand) (sym (ap (λ o. answered_number o e.loaded) fits.2 ∙ ap (answered_number None) fits.4))))
-performed_bytes model h place n f e Private deed.Alone bits i x fits g named = absurd (none_not i g)
-performed_bytes model h place n f e (Calls number argument) deed.Alone bits i x fits g named = absurd (none_not i g)
+performed_bytes model h place n f e Private deed.Private bits i x fits g named = absurd (none_not i g)
+performed_bytes model h place n f e (Calls number argument) deed.Private bits i x fits g named = absurd (none_not i g)
 performed_bytes model h place n f e (Calls number argument) (deed.Output k) bits i x fits g named = absurd (none_not i g)
-performed_bytes model h place n f e Fences deed.Alone bits i x fits g named = absurd (none_not i g)
+performed_bytes model h place n f e Fences deed.Private bits i x fits g named = absurd (none_not i g)
 performed_bytes model h place n f e Fences deed.Seal bits i x fits g named = absurd (none_not i g)
 performed_bytes model h place n f e (Stores address bytes value) (deed.Store s) bits i x fits g named = absurd (no_names _ named)
-performed_bytes model h place n f e (Tries address value) deed.Fail bits i x fits g named = absurd (no_names _ named)
+performed_bytes model h place n f e (DoesSc address value) deed.Fail bits i x fits g named = absurd (no_names _ named)
 performed_bytes model h place n f e _ _ bits i x fits g named = absurd fits
 
 -- what is performed by a deed that performs nothing
 nothing_by : (h place : ℕ) (d : Deed) (x : ℕ) → names_by h place d ≡ [] → bytes_by d x ≡ None
 nothing_by h place deed.Load x e = refl
-nothing_by h place (deed.Reserve word) x e = refl
-nothing_by h place (deed.Conditional word value) x e = absurd (no_names _ (sym e))
-nothing_by h place (deed.Update word value) x e = absurd (no_names _ (sym e))
+nothing_by h place (deed.Lr word) x e = refl
+nothing_by h place (deed.Sc word value) x e = absurd (no_names _ (sym e))
+nothing_by h place (deed.Amo word value) x e = absurd (no_names _ (sym e))
 nothing_by h place _ x e = refl
 
 -- an instruction that retires performs the bytes of its deed

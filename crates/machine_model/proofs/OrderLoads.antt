@@ -20,9 +20,9 @@ use Rattle.machine_model.proofs.OrderKept.{joined, of_word, IsWaiting}
 use Rattle.machine_model.proofs.OrderRules.{touches_word}
 use Rattle.machine_model.proofs.OrderSteps.{HartKept, waiting_of, stores_joined, has_is, empty_waits}
 use Rattle.machine_model.proofs.OrderValues.{ReadsLast}
-use Rattle.memory_model.specs.declared.Model.{Model}
-use Rattle.memory_model.specs.declared.Model.TheVariants.{Rvwmo, Ztso}
-use Rattle.memory_model.specs.declared.operation.Kind.TheVariants.{Conditional}
+use Rattle.memory_model.specs.declared.MemoryModel.{MemoryModel}
+use Rattle.memory_model.specs.declared.MemoryModel.TheVariants.{Rvwmo, Ztso}
+use Rattle.memory_model.specs.declared.operation.Kind.TheVariants.{Sc}
 use Rattle.memory_model.specs.declared.operation.Operation.{Operation}
 use Rattle.memory_model.specs.Items.{Item, annotations_of, operation_of_access, succeeded}
 use Rattle.memory_model.specs.Operations.{writes, touches, stores_to, byte_at}
@@ -31,7 +31,7 @@ use Rattle.memory_model.proofs.Lists.{filter_none}
 use Rattle.rv32_decode.specs.declared.instruction.AmoOp.{AmoOp}
 use Rattle.rv32_decode.specs.declared.instruction.Annotations.{Annotations}
 use Rattle.rv32_decode.specs.declared.instruction.Instr.{Instr}
-use Rattle.rv32_exec.specs.Meaning.{Access, Private, Loads, Stores, Reserves, Tries, Updates, Fences, Calls}
+use Rattle.rv32_exec.specs.Meaning.{Access, Private, Loads, Stores, DoesLr, DoesSc, DoesAmo, Fences, Calls}
 use Rattle.store_buffer.specs.ByteMask.{each_place, is_marked, laid_over}
 use Rattle.store_buffer.specs.Groups.{buffered_byte, groups_of, has, has_sealed, is_empty}
 use Rattle.store_buffer.specs.Stores.{last_byte}
@@ -42,7 +42,7 @@ abbrev pub HoldsLast : (ℕ → ℕ) → Node → Type 0
 HoldsLast memory n = (address k : ℕ) (held : Held) → k < 4 → copy_at n.cache (line_of n.cache.shape.size address) ≡ Some held → slice_index (word_in (bytes_in held) (word_of address)) k ≡ memory (word_of address + k)
 
 -- what the buffer has of a byte
-buffered_is : (model : Model) (h : ℕ) (items : List Item) (n : Node) (performed : List Operation) (k : HartKept model h items n.buffer performed) (word j : ℕ) → word % 4 ≡ 0 → j < 4
+buffered_is : (model : MemoryModel) (h : ℕ) (items : List Item) (n : Node) (performed : List Operation) (k : HartKept model h items n.buffer performed) (word j : ℕ) → word % 4 ≡ 0 → j < 4
     → buffered_byte word j (groups_of n.buffer) ≡ byte_of (word + j) (last_or None (filter (stores_to (word + j)) (joined k.sealed ++ k.current)))
 buffered_is model h items n performed k word j aligned l =
     ap (λ b. buffered_byte word j (groups_of b)) k.buffer_is
@@ -50,7 +50,7 @@ buffered_is model h items n performed k word j aligned l =
     ∙ (ap (last_byte word j) (stores_joined k.sealed k.current) ∙ last_is h word j (joined k.sealed ++ k.current) k.kept.waiting aligned l))
 
 -- a load's byte
-load_byte : (model : Model) (h : ℕ) (items : List Item) (n : Node) (performed : List Operation) (memory : ℕ → ℕ) → ((x : ℕ) → memory x < 256) → HoldsLast memory n → (k : HartKept model h items n.buffer performed) (address bytes v x : ℕ) (e : Retired) → e.loaded ≡ Some v → address % 4 + bytes ≤ 4 → ReadsBoth n address bytes e → address ≤ x → x < address + bytes
+load_byte : (model : MemoryModel) (h : ℕ) (items : List Item) (n : Node) (performed : List Operation) (memory : ℕ → ℕ) → ((x : ℕ) → memory x < 256) → HoldsLast memory n → (k : HartKept model h items n.buffer performed) (address bytes v x : ℕ) (e : Retired) → e.loaded ≡ Some v → address % 4 + bytes ≤ 4 → ReadsBoth n address bytes e → address ≤ x → x < address + bytes
     → byte_at address v x ≡ byte_from memory x (last_or None (filter (stores_to x) (joined k.sealed ++ k.current)))
 load_byte model h items n performed memory small holds k address bytes v x e loaded fit both l m = go both
   where
@@ -103,7 +103,7 @@ none_stores h word x (a ∷ g) at own e =
     let es = or_parts (of_word word a) (list_any (of_word word) g) e in
     (false_from_ne_true (stores_to x a) (λ t. eqb-false (word_of a.address) word es.0 (sym (touches_word x a own.0.in_word (and_parts (writes a.kind) (touches x a) t).1) ∙ at)), none_stores h word x g at own.1 es.1)
 
-trunk_byte : (model : Model) (h : ℕ) (items : List Item) (n : Node) (performed : List Operation) (memory : ℕ → ℕ) → ((x : ℕ) → memory x < 256) → HoldsLast memory n → (k : HartKept model h items n.buffer performed) (address old x : ℕ) → address % 4 ≡ 0 → list_any (of_word address) (joined k.sealed ++ k.current) ≡ false → ReadsTrunk n address old → address ≤ x → x < address + 4
+trunk_byte : (model : MemoryModel) (h : ℕ) (items : List Item) (n : Node) (performed : List Operation) (memory : ℕ → ℕ) → ((x : ℕ) → memory x < 256) → HoldsLast memory n → (k : HartKept model h items n.buffer performed) (address old x : ℕ) → address % 4 ≡ 0 → list_any (of_word address) (joined k.sealed ++ k.current) ≡ false → ReadsTrunk n address old → address ≤ x → x < address + 4
     → byte_at address old x ≡ byte_from memory x (last_or None (filter (stores_to x) (joined k.sealed ++ k.current)))
 trunk_byte model h items n performed memory small holds k address old x aligned none r l m =
     let held = Trunk r.0 r.1 in
@@ -117,10 +117,10 @@ trunk_byte model h items n performed memory small holds k address old x aligned 
     ∙ (ap memory (omega (arith, aligned, l))
     ∙ ap (λ xs. byte_from memory x (last_or None xs)) (sym (filter_none (stores_to x) (joined k.sealed ++ k.current) (none_stores h address x (joined k.sealed ++ k.current) (omega (arith, aligned, l, m)) k.kept.waiting none))))))
 
-lr_alone : (model : Model) (h : ℕ) (items : List Item) (n : Node) (performed : List Operation) (i : Instr) (address : ℕ) (k : HartKept model h items n.buffer performed) → waits_for_stores n i address ≡ false → list_any (of_word address) (joined k.sealed ++ k.current) ≡ false
+lr_alone : (model : MemoryModel) (h : ℕ) (items : List Item) (n : Node) (performed : List Operation) (i : Instr) (address : ℕ) (k : HartKept model h items n.buffer performed) → waits_for_stores n i address ≡ false → list_any (of_word address) (joined k.sealed ++ k.current) ≡ false
 lr_alone model h items n performed i address k e = sym (has_is address n.buffer k.sealed k.current k.buffer_is) ∙ (or_parts ((annotations_of i).release && not (is_empty n.buffer)) (has address n.buffer) e).1
 
-write_alone : (model : Model) (h : ℕ) (items : List Item) (n : Node) (performed : List Operation) (i : Instr) (address : ℕ) (k : HartKept model h items n.buffer performed) → write_waits model n i address ≡ false → list_any (of_word address) (joined k.sealed ++ k.current) ≡ false
+write_alone : (model : MemoryModel) (h : ℕ) (items : List Item) (n : Node) (performed : List Operation) (i : Instr) (address : ℕ) (k : HartKept model h items n.buffer performed) → write_waits model n i address ≡ false → list_any (of_word address) (joined k.sealed ++ k.current) ≡ false
 write_alone Rvwmo h items n performed i address k e = lr_alone Rvwmo h items n performed i address k (or_parts (waits_for_stores n i address) (has_sealed n.buffer) e).0
 write_alone Ztso h items n performed i address k e = ap (list_any (of_word address)) (empty_waits n.buffer k.sealed k.current k.buffer_is (turn (is_empty n.buffer) e))
   where
@@ -136,27 +136,27 @@ read_is e v a b = ap (λ o. answered_number o e.loaded) a ∙ ap (λ o. answered
 touched : (x address bytes : ℕ) → (nat_le address x && nat_lt x (address + bytes)) ≡ true → (address ≤ x) × (x < address + bytes)
 touched x address bytes t = let p = and_parts (nat_le address x) (nat_lt x (address + bytes)) t in (leb-true address x p.0, ltb-true x (address + bytes) p.1)
 
-loaded_of : (e : Retired) → (o : Option ℕ) → e.loaded ≡ o → (model : Model) (n : Node) (address bytes : ℕ) → ReadsBoth n address bytes e → (v : ℕ) × (e.loaded ≡ Some v)
+loaded_of : (e : Retired) → (o : Option ℕ) → e.loaded ≡ o → (model : MemoryModel) (n : Node) (address bytes : ℕ) → ReadsBoth n address bytes e → (v : ℕ) × (e.loaded ≡ Some v)
 loaded_of e o f model n address bytes (inl c) = (_, c.1)
 loaded_of e o f model n address bytes (inr c) = (_, c.2)
 
-load_found : (model : Model) (n : Node) (f : Fetched) (address bytes : ℕ) (e : Retired) (d : Deed) → FitsDeed model n f (Loads address bytes) e d → (e.sc_ok ≡ None) × ReadsBoth n address bytes e
+load_found : (model : MemoryModel) (n : Node) (f : Fetched) (address bytes : ℕ) (e : Retired) (d : Deed) → FitsDeed model n f (Loads address bytes) e d → (e.sc_ok ≡ None) × ReadsBoth n address bytes e
 load_found model n f address bytes e deed.Load x = x
 load_found model n f address bytes e _ x = absurd x
 
-record Found (n : Node) (address : ℕ) (e : Retired) (model : Model) (waits : Bool) : Type 0 where
+record Found (n : Node) (address : ℕ) (e : Retired) (model : MemoryModel) (waits : Bool) : Type 0 where
   free : waits ≡ false
   no_sc : e.sc_ok ≡ None
   old : ℕ
   loaded : e.loaded ≡ Some old
   trunk : ReadsTrunk n address old
 
-lr_found : (model : Model) (n : Node) (f : Fetched) (address : ℕ) (e : Retired) (d : Deed) → FitsDeed model n f (Reserves address) e d → Found n address e model (waits_for_stores n f.instr address)
-lr_found model n f address e (deed.Reserve word) x = record { free = x.1; no_sc = x.2; old = x.3; loaded = x.4; trunk = x.5 }
+lr_found : (model : MemoryModel) (n : Node) (f : Fetched) (address : ℕ) (e : Retired) (d : Deed) → FitsDeed model n f (DoesLr address) e d → Found n address e model (waits_for_stores n f.instr address)
+lr_found model n f address e (deed.Lr word) x = record { free = x.1; no_sc = x.2; old = x.3; loaded = x.4; trunk = x.5 }
 lr_found model n f address e _ x = absurd x
 
-amo_found : (model : Model) (n : Node) (f : Fetched) (address : ℕ) (op : AmoOp) (operand : ℕ) (e : Retired) (d : Deed) → FitsDeed model n f (Updates address op operand) e d → Found n address e model (write_waits model n f.instr address)
-amo_found model n f address op operand e (deed.Update word v) x = record { free = x.1; no_sc = x.2; old = x.3; loaded = x.4; trunk = x.6 }
+amo_found : (model : MemoryModel) (n : Node) (f : Fetched) (address : ℕ) (op : AmoOp) (operand : ℕ) (e : Retired) (d : Deed) → FitsDeed model n f (DoesAmo address op operand) e d → Found n address e model (write_waits model n f.instr address)
+amo_found model n f address op operand e (deed.Amo word v) x = record { free = x.1; no_sc = x.2; old = x.3; loaded = x.4; trunk = x.6 }
 amo_found model n f address op operand e _ x = absurd x
 
 same_operation : (r a : Operation) → Some r ≡ Some a → r ≡ a
@@ -171,7 +171,7 @@ none_gives image performed waiting a e = absurd (not_so e)
     not_so : None ≡ Some a → ⊥
     not_so e = cc
 
-pub value_of : (model : Model) (image : ℕ → ℕ) (h place : ℕ) (n : Node) (f : Fetched) (e : Retired) (x : Access) (d : Deed) (items : List Item) (performed : List Operation) (bits : Annotations) → ((y : ℕ) → image y < 256) → HoldsLast (last_write image performed) n → Facts f.instr x → FitsDeed model n f x e d
+pub value_of : (model : MemoryModel) (image : ℕ → ℕ) (h place : ℕ) (n : Node) (f : Fetched) (e : Retired) (x : Access) (d : Deed) (items : List Item) (performed : List Operation) (bits : Annotations) → ((y : ℕ) → image y < 256) → HoldsLast (last_write image performed) n → Facts f.instr x → FitsDeed model n f x e d
     → (k : HartKept model h items n.buffer performed) (a : Operation) → operation_of_access h place bits e x ≡ Some a → ReadsLast image performed (joined k.sealed ++ k.current) a
 value_of model image h place n f e (Loads address bytes) d items performed bits small holds y fits k a g =
     let found = load_found model n f address bytes e d fits in
@@ -179,16 +179,16 @@ value_of model image h place n f e (Loads address bytes) d items performed bits 
     reads_by image performed (joined k.sealed ++ k.current) _ a g (λ r x t. let q = touched x address bytes t in
     ap (λ v. byte_at address v x) (read_is e got.0 found.0 got.1) ∙ load_byte model h items n performed (last_write image performed) (λ z. both_small image small z (last_or None (filter (stores_to z) performed))) holds k address bytes got.0 x e got.1 y.1 found.1 q.0 q.1)
 value_of model image h place n f e (Stores address bytes value) d items performed bits small holds y fits k a g = reads_by image performed (joined k.sealed ++ k.current) _ a g (λ r x t. absurd (false≢true r))
-value_of model image h place n f e (Reserves address) d items performed bits small holds y fits k a g =
+value_of model image h place n f e (DoesLr address) d items performed bits small holds y fits k a g =
     let found = lr_found model n f address e d fits in
     reads_by image performed (joined k.sealed ++ k.current) _ a g (λ r x t. let q = touched x address 4 t in
     ap (λ v. byte_at address v x) (read_is e found.old found.no_sc found.loaded) ∙ trunk_byte model h items n performed (last_write image performed) (λ z. both_small image small z (last_or None (filter (stores_to z) performed))) holds k address found.old x y.1 (lr_alone model h items n performed f.instr address k found.free) found.trunk q.0 q.1)
-value_of model image h place n f e (Tries address value) d items performed bits small holds y fits k a g = tried (succeeded e.sc_ok) g
+value_of model image h place n f e (DoesSc address value) d items performed bits small holds y fits k a g = tried (succeeded e.sc_ok) g
   where
-    tried : (b : Bool) → cond b (Some (record { hart = h; place = place; kind = Conditional; address = address; size = 4; read = 0; written = value; aq = bits.acquire; rl = bits.release })) None ≡ Some a → ReadsLast image performed (joined k.sealed ++ k.current) a
+    tried : (b : Bool) → cond b (Some (record { hart = h; place = place; kind = Sc; address = address; size = 4; read = 0; written = value; aq = bits.acquire; rl = bits.release })) None ≡ Some a → ReadsLast image performed (joined k.sealed ++ k.current) a
     tried true g = reads_by image performed (joined k.sealed ++ k.current) _ a g (λ r x t. absurd (false≢true r))
     tried false g = none_gives image performed (joined k.sealed ++ k.current) a g
-value_of model image h place n f e (Updates address op operand) d items performed bits small holds y fits k a g =
+value_of model image h place n f e (DoesAmo address op operand) d items performed bits small holds y fits k a g =
     let found = amo_found model n f address op operand e d fits in
     reads_by image performed (joined k.sealed ++ k.current) _ a g (λ r x t. let q = touched x address 4 t in
     ap (λ v. byte_at address v x) (read_is e found.old found.no_sc found.loaded) ∙ trunk_byte model h items n performed (last_write image performed) (λ z. both_small image small z (last_or None (filter (stores_to z) performed))) holds k address found.old x y.1 (write_alone model h items n performed f.instr address k found.free) found.trunk q.0 q.1)

@@ -15,7 +15,7 @@ use Rattle.machine_model.proofs.OrderLists.{Pairwise-left, others}
 use Rattle.machine_model.proofs.OrderSplit.{Split, IsNamed, gave_at, absent, turned, split_drain, split_foreign, waiting_absent, waiting_distinct, waiting_named}
 use Rattle.machine_model.proofs.OrderSteps.{HartKept, Performs, stores_of, store_of_operation, waiting_of}
 use Rattle.machine_model.proofs.OrderTraces.{items_at, items_same, done, IsResolved, Extends, extends_same, operations_on, operations_named, resolved_on, resolved_named, Stands}
-use Rattle.memory_model.specs.declared.Model.{Model}
+use Rattle.memory_model.specs.declared.MemoryModel.{MemoryModel}
 use Rattle.memory_model.specs.declared.operation.Operation.{Operation}
 use Rattle.memory_model.specs.Items.{Item}
 use Rattle.memory_model.specs.Operations.{same}
@@ -37,7 +37,7 @@ pub record OrderKept (s : State) : Type 0 where
   pub resolved : Each (IsResolved s.trace) s.trace.performed
   pub distinct : EachOnce (done s.trace)
 
-kept_same : (model model' : Model) (h : ℕ) (items items' : List Item) (buffer buffer' : Groups) (performed performed' : List Operation) → model' ≡ model → items' ≡ items → buffer' ≡ buffer → performed' ≡ performed → HartKept model h items buffer performed → HartKept model' h items' buffer' performed'
+kept_same : (model model' : MemoryModel) (h : ℕ) (items items' : List Item) (buffer buffer' : Groups) (performed performed' : List Operation) → model' ≡ model → items' ≡ items → buffer' ≡ buffer → performed' ≡ performed → HartKept model h items buffer performed → HartKept model' h items' buffer' performed'
 kept_same model model' h items items' buffer buffer' performed performed' a b c d k =
     subst (λ m. HartKept m h items' buffer' performed') (sym a) (subst (λ i. HartKept model h i buffer' performed') (sym b) (subst (λ g. HartKept model h items g performed') (sym c) (subst (λ p. HartKept model h items buffer p) (sym d) k)))
 
@@ -56,7 +56,7 @@ order_still s t k o = record {
 
 -- ---- one hart's part changes
 
-hart_foreign : (model : Model) (h k : ℕ) (items : List Item) (buffer : Groups) (performed out : List Operation) → k ≢ h → Each (λ a. a.hart ≡ h) out → HartKept model k items buffer performed → HartKept model k items buffer (performed ++ out)
+hart_foreign : (model : MemoryModel) (h k : ℕ) (items : List Item) (buffer : Groups) (performed out : List Operation) → k ≢ h → Each (λ a. a.hart ≡ h) out → HartKept model k items buffer performed → HartKept model k items buffer (performed ++ out)
 hart_foreign model h k items buffer performed out d own q =
     let foreign : Each (λ a. a.hart ≡ k → ⊥) out = Each-weaker (λ a. a.hart ≡ h) (λ a. a.hart ≡ k → ⊥) (λ a e f. d (sym f ∙ e)) out own in
     record {
@@ -132,7 +132,7 @@ drained_places h word buffer g e own =
     named_own h (filter (of_word word) g) own
     ∙ ap (names_at h) (sym (ap (λ (es : List Entry). (entry_of word es).ops) e ∙ (ops_are_filter word (stores_of g) ∙ (ap (map (λ (s : Store). s.op)) (filter-stores (is_to_word word) (of_word word) (λ a. refl) g) ∙ places_of (filter (of_word word) g)))))
 
-pub drain_parts : (model : Model) (h word : ℕ) (items : List Item) (performed g rest : List Operation) → Split h items (g ++ rest) performed → Each (IsWaiting h) g → EachOnce performed → EachOnce (performed ++ filter (of_word word) g)
+pub drain_parts : (model : MemoryModel) (h word : ℕ) (items : List Item) (performed g rest : List Operation) → Split h items (g ++ rest) performed → Each (IsWaiting h) g → EachOnce performed → EachOnce (performed ++ filter (of_word word) g)
 drain_parts model h word items performed g rest k own d =
     let out = filter (of_word word) g in
     Pairwise-append (λ a b. same a b ≡ false) performed out d (Pairwise-filter (λ a b. same a b ≡ false) (of_word word) g (Pairwise-left (λ a b. same a b ≡ false) g rest (waiting_distinct h items (g ++ rest) performed k)))
@@ -165,7 +165,7 @@ rest_is word g = filter-stores (is_elsewhere word) (λ a. not (of_word word a)) 
 regrouped : (word : ℕ) (g : List Operation) (gs : List (List Operation)) (current : List Operation) → others (of_word word) g ++ (joined gs ++ current) ≡ joined (kept_group (others (of_word word) g) ++ gs) ++ current
 regrouped word g gs current = sym (ap (λ v. v ++ current) (joined-kept (others (of_word word) g) gs) ∙ append_assoc (others (of_word word) g) (joined gs) current)
 
-pub drain_hart : (model : Model) (h word : ℕ) (items : List Item) (buffer : Groups) (performed : List Operation) (sealed : List (List Operation)) (current : List Operation) → buffer ≡ entries_in (waiting_of sealed current) → Kept model h items sealed current performed → Split h items (oldest_group sealed current ++ younger sealed current) performed
+pub drain_hart : (model : MemoryModel) (h word : ℕ) (items : List Item) (buffer : Groups) (performed : List Operation) (sealed : List (List Operation)) (current : List Operation) → buffer ≡ entries_in (waiting_of sealed current) → Kept model h items sealed current performed → Split h items (oldest_group sealed current ++ younger sealed current) performed
     → HartKept model h items (after_take word buffer) (performed ++ filter (of_word word) (oldest_group sealed current))
 drain_hart model h word items buffer performed [] g e q split = record {
   sealed = [];
@@ -184,13 +184,13 @@ drain_hart model h word items buffer performed (g ∷ gs) current e q split = re
 }
 
 -- the operations that a drain of the word performs
-abbrev pub drained_out : {model : Model} {h : ℕ} {items : List Item} {buffer : Groups} {performed : List Operation} → ℕ → HartKept model h items buffer performed → List Operation
+abbrev pub drained_out : {model : MemoryModel} {h : ℕ} {items : List Item} {buffer : Groups} {performed : List Operation} → ℕ → HartKept model h items buffer performed → List Operation
 drained_out word k = filter (of_word word) (oldest_group k.sealed k.current)
 
-pub oldest_waiting : (model : Model) (h : ℕ) (items : List Item) (buffer : Groups) (performed : List Operation) (k : HartKept model h items buffer performed) → Each (IsWaiting h) (oldest_group k.sealed k.current)
+pub oldest_waiting : (model : MemoryModel) (h : ℕ) (items : List Item) (buffer : Groups) (performed : List Operation) (k : HartKept model h items buffer performed) → Each (IsWaiting h) (oldest_group k.sealed k.current)
 oldest_waiting model h items buffer performed k = Each-left (IsWaiting h) (oldest_group k.sealed k.current) (younger k.sealed k.current) (subst (Each (IsWaiting h)) (oldest_line k.sealed k.current) k.kept.waiting)
 
-abbrev pub drain_performs : (model : Model) (h word : ℕ) (items : List Item) (buffer : Groups) (performed : List Operation) → HartKept model h items buffer performed → Performs model h items (after_take word buffer) performed (names_at h (entry_of word (oldest buffer)).ops)
+abbrev pub drain_performs : (model : MemoryModel) (h word : ℕ) (items : List Item) (buffer : Groups) (performed : List Operation) → HartKept model h items buffer performed → Performs model h items (after_take word buffer) performed (names_at h (entry_of word (oldest buffer)).ops)
 drain_performs model h word items buffer performed k =
     let g = oldest_group k.sealed k.current in
     let rest = younger k.sealed k.current in
@@ -236,7 +236,7 @@ pub step_kept : (h : ℕ) (names : List OpId) (s t : State) → Step h names s t
 step_kept h names s t p o = order_changes h names s t p.changes p.performs o
 
 -- the same of other items and another buffer
-pub performs_same : (model : Model) (h : ℕ) (items items' : List Item) (buffer buffer' : Groups) (performed : List Operation) (names : List OpId) → items' ≡ items → buffer' ≡ buffer → Performs model h items buffer performed names → Performs model h items' buffer' performed names
+pub performs_same : (model : MemoryModel) (h : ℕ) (items items' : List Item) (buffer buffer' : Groups) (performed : List Operation) (names : List OpId) → items' ≡ items → buffer' ≡ buffer → Performs model h items buffer performed names → Performs model h items' buffer' performed names
 performs_same model h items items' buffer buffer' performed names e f p = subst (λ b. Performs model h items' b performed names) (sym f) (subst (λ is. Performs model h is buffer performed names) (sym e) p)
 
 abbrev pub drained_names : ℕ → ℕ → State → List OpId

@@ -6,14 +6,14 @@ use Rattle.std.proofs.lemmas.Bool.{false≢true, true≢false, and_parts, and_fr
 use Rattle.std.proofs.lemmas.List.Elements.{filter-append}
 use Rattle.std.proofs.lemmas.List.Folds.{list_any-append}
 use Rattle.machine_model.specs.Words.{word_of}
-use Rattle.memory_model.specs.declared.Model.{Model}
-use Rattle.memory_model.specs.declared.Model.TheVariants.{Rvwmo, Ztso}
+use Rattle.memory_model.specs.declared.MemoryModel.{MemoryModel}
+use Rattle.memory_model.specs.declared.MemoryModel.TheVariants.{Rvwmo, Ztso}
 use Rattle.memory_model.specs.declared.operation.Kind.{Kind}
-use Rattle.memory_model.specs.declared.operation.Kind.TheVariants.{Load, Store, Reserve, Conditional, Amo}
+use Rattle.memory_model.specs.declared.operation.Kind.TheVariants.{Load, Store, Lr, Sc, Amo}
 use Rattle.memory_model.specs.declared.operation.Operation.{Operation}
 use Rattle.memory_model.specs.Dependencies.{between, held_at, held_first, held_after, held_behind, holds, with_flags, sources, uses_in, uses_at, steers, any_steers, any_addresses, has_address_dependency, has_data_dependency}
 use Rattle.memory_model.specs.Items.{Item}
-use Rattle.memory_model.specs.Operations.{precedes, reads, writes, overlap, touches, is_reserve, is_amo, is_conditional, has_acquire, has_release, has_rcsc}
+use Rattle.memory_model.specs.Operations.{precedes, reads, writes, overlap, touches, is_lr, is_amo, is_sc, has_acquire, has_release, has_rcsc}
 use Rattle.memory_model.specs.Rules.{Rule, rules, fences, has_read, has_write, passes_on, rule_2, rule_3, rule_7, rule_8, rule_11, rule_12, rule_13}
 use Rattle.rv32_decode.specs.declared.instruction.Instr.{Instr}
 use Rattle.rv32_decode.specs.declared.instruction.Instr.TheVariants as instr
@@ -82,15 +82,15 @@ fenced-more items m a b h = ap (list_any (λ (m : Item). fences m.instr a.kind b
 
 -- ---- a fence before an operation of any kind
 
-reserve_as_load : (o : Option Instr) → fences o Store Reserve ≡ fences o Store Load
-reserve_as_load (Some (instr.Fence sets)) = refl
-reserve_as_load (Some instr.FenceTso) = refl
-reserve_as_load _ = refl
+lr_as_load : (o : Option Instr) → fences o Store Lr ≡ fences o Store Load
+lr_as_load (Some (instr.Fence sets)) = refl
+lr_as_load (Some instr.FenceTso) = refl
+lr_as_load _ = refl
 
-conditional_as_store : (o : Option Instr) → fences o Store Conditional ≡ fences o Store Store
-conditional_as_store (Some (instr.Fence sets)) = refl
-conditional_as_store (Some instr.FenceTso) = refl
-conditional_as_store _ = refl
+sc_as_store : (o : Option Instr) → fences o Store Sc ≡ fences o Store Store
+sc_as_store (Some (instr.Fence sets)) = refl
+sc_as_store (Some instr.FenceTso) = refl
+sc_as_store _ = refl
 
 in_either : (w r v : Bool) → (w && (r || false)) ≡ false → (w && v) ≡ false → (w && (r || v)) ≡ false
 in_either false r v e f = refl
@@ -120,8 +120,8 @@ late_amo (m ∷ items) a e f =
 pub late_kind : (k : Kind) (items : List Item) (a : Operation) → is_store k ≡ false → late items Load a ≡ false → (writes k ≡ true → late items Store a ≡ false) → late items k a ≡ false
 late_kind Load items a s e f = e
 late_kind Store items a s e f = absurd (true≢false s)
-late_kind Reserve items a s e f = late_same items Reserve Load a reserve_as_load e
-late_kind Conditional items a s e f = late_same items Conditional Store a conditional_as_store (f refl)
+late_kind Lr items a s e f = late_same items Lr Load a lr_as_load e
+late_kind Sc items a s e f = late_same items Sc Store a sc_as_store (f refl)
 late_kind Amo items a s e f = late_amo items a e (f refl)
 
 -- ---- the rules of two operations of the hart h
@@ -137,20 +137,20 @@ pub precedes_yes : (a b : Operation) → a.hart ≡ b.hart → a.place < b.place
 precedes_yes a b e l = and_from _ _ (eq-eqb a.hart b.hart e) (lt-ltb a.place b.place l)
 
 -- what must hold a store back: rules 1, 4 and 6; anything else is performed as it retires, so it is held back whatever the rules say
-abbrev pub holds_back : Model → List Item → Operation → Operation → Bool
+abbrev pub holds_back : MemoryModel → List Item → Operation → Operation → Bool
 holds_back model items a b = (writes b.kind && overlap a b) || (fenced items a b || has_release model b)
 
-abbrev pub must : Model → ℕ → List Item → Operation → Operation → Bool
+abbrev pub must : MemoryModel → ℕ → List Item → Operation → Operation → Bool
 must model h items a b = (nat_eq a.hart h && precedes a b) && (not (is_store a.kind) || holds_back model items a b)
 
-pub must_not_after : (model : Model) (h : ℕ) (items : List Item) (a b : Operation) → precedes a b ≡ false → must model h items a b ≡ false
+pub must_not_after : (model : MemoryModel) (h : ℕ) (items : List Item) (a b : Operation) → precedes a b ≡ false → must model h items a b ≡ false
 must_not_after model h items a b e = and_left _ _ (and_right (nat_eq a.hart h) _ e)
 
 and_if : (c x y : Bool) → (c ≡ true → x ≡ false → y ≡ false) → (c && x) ≡ false → (c && y) ≡ false
 and_if true x y f h = f refl h
 and_if false x y f h = refl
 
-pub must-more : (model : Model) (h : ℕ) (items : List Item) (m : Item) (a b : Operation) → (b.hart ≡ h → b.place ≤ m.place) → must model h items a b ≡ false → must model h (items ++ m ∷ []) a b ≡ false
+pub must-more : (model : MemoryModel) (h : ℕ) (items : List Item) (m : Item) (a b : Operation) → (b.hart ≡ h → b.place ≤ m.place) → must model h items a b ≡ false → must model h (items ++ m ∷ []) a b ≡ false
 must-more model h items m a b below =
     and_if (nat_eq a.hart h && precedes a b) (not (is_store a.kind) || holds_back model items a b) (not (is_store a.kind) || holds_back model (items ++ m ∷ []) a b)
     (λ mine e. let e1 = and_parts (nat_eq a.hart h) (precedes a b) mine in
@@ -159,7 +159,7 @@ must-more model h items m a b below =
     ap (λ c. not (is_store a.kind) || ((writes b.kind && overlap a b) || (c || has_release model b))) (fenced-more items m a b (below there)) ∙ e)
 
 -- a store that nothing holds back
-pub must_free : (model : Model) (h : ℕ) (items : List Item) (a b : Operation) → a.kind ≡ Store → (writes b.kind && overlap a b) ≡ false → fenced items a b ≡ false → has_release model b ≡ false → must model h items a b ≡ false
+pub must_free : (model : MemoryModel) (h : ℕ) (items : List Item) (a b : Operation) → a.kind ≡ Store → (writes b.kind && overlap a b) ≡ false → fenced items a b ≡ false → has_release model b ≡ false → must model h items a b ≡ false
 must_free model h items a b s o f r = and_right (nat_eq a.hart h && precedes a b) _ (or_from _ _ (ap (λ k. not (is_store k)) s) (or_from _ _ o (or_from _ _ f r)))
 
 -- ---- the thirteen rules come down to these three where the earlier one is a plain store
@@ -218,14 +218,14 @@ no_dependency items a b e =
     let c = clear_behind (held_first (uses_at items a)) (between items a b) (first_clear items a e) in
     (and_right (precedes a b) _ (clear_holds (held_at items a b) (uses_at items b).address c), and_right (precedes a b) _ (clear_holds (held_at items a b) (uses_at items b).stored c))
 
-store_alone : (k : Kind) → k ≡ Store → (reads k ≡ false) × (is_amo k || is_conditional k) ≡ false × (is_reserve k ≡ false) × (is_amo k ≡ false)
-store_alone k e = (ap reads e, ap (λ j. is_amo j || is_conditional j) e, ap is_reserve e, ap is_amo e)
+store_alone : (k : Kind) → k ≡ Store → (reads k ≡ false) × (is_amo k || is_sc k) ≡ false × (is_lr k ≡ false) × (is_amo k ≡ false)
+store_alone k e = (ap reads e, ap (λ j. is_amo j || is_sc j) e, ap is_lr e, ap is_amo e)
 
-quiet_acquire : (model : Model) (a : Operation) → a.kind ≡ Store → a.aq ≡ false → has_acquire model a ≡ false
+quiet_acquire : (model : MemoryModel) (a : Operation) → a.kind ≡ Store → a.aq ≡ false → has_acquire model a ≡ false
 quiet_acquire Rvwmo a s e = e
 quiet_acquire Ztso a s e = or_from a.aq (reads a.kind) e (ap reads s)
 
-quiet_rcsc : (model : Model) (a : Operation) → a.kind ≡ Store → a.aq ≡ false → a.rl ≡ false → has_rcsc model a ≡ false
+quiet_rcsc : (model : MemoryModel) (a : Operation) → a.kind ≡ Store → a.aq ≡ false → a.rl ≡ false → has_rcsc model a ≡ false
 quiet_rcsc Rvwmo a s e f = or_from a.aq a.rl e f
 quiet_rcsc Ztso a s e f = or_from (a.aq || a.rl) (is_amo a.kind) (or_from a.aq a.rl e f) (ap is_amo s)
 
@@ -235,10 +235,10 @@ none_passed items order a b e (Some m) =
     let d = no_dependency items a m e in and_left _ _ (and_right (writes m.kind) _ (or_from _ _ d.0 d.1))
 
 -- one of the rules asks it
-abbrev pub asked : Model → List Item → List Operation → Operation → Operation → Bool
+abbrev pub asked : MemoryModel → List Item → List Operation → Operation → Operation → Bool
 asked model items order a b = list_any (λ (r : Rule). r.asks model items order a b) rules
 
-pub asked_store : (model : Model) (items : List Item) (order : List Operation) (a b : Operation) → a.kind ≡ Store → IsQuiet items a → holds_back model items a b ≡ false → asked model items order a b ≡ false
+pub asked_store : (model : MemoryModel) (items : List Item) (order : List Operation) (a b : Operation) → a.kind ≡ Store → IsQuiet items a → holds_back model items a b ≡ false → asked model items order a b ≡ false
 asked_store model items order a b s q free =
     let f1 = or_parts (writes b.kind && overlap a b) _ free in
     let f2 = or_parts (fenced items a b) _ f1.1 in
@@ -247,7 +247,7 @@ asked_store model items order a b s q free =
     let clear = first_clear items a q.writes_none in
     or_from _ _ f1.0 (
     or_from (rule_2 items order a b) _ (and_left _ _ (and_left (reads a.kind) (reads b.kind) k.0)) (
-    or_from (rule_3 order a b) _ (and_left _ _ (and_left (is_amo a.kind || is_conditional a.kind) (reads b.kind) k.1)) (
+    or_from (rule_3 order a b) _ (and_left _ _ (and_left (is_amo a.kind || is_sc a.kind) (reads b.kind) k.1)) (
     or_from _ _ f2.0 (
     or_from _ _ (quiet_acquire model a s q.no_acquire) (
     or_from _ _ f2.1 (
@@ -259,7 +259,7 @@ asked_store model items order a b s q free =
     or_from (rule_12 items order a b) _ (and_right (reads b.kind) _ (none_any (λ (m : Item). passes_on items order a b m.operation) (λ m. none_passed items order a b q.writes_none m.operation) (between items a b))) (
     or_from (rule_13 items a b) _ (and_right (writes b.kind) _ (and_right (precedes a b) _ (addresses_none _ (between items a b) clear))) refl))))))))))))
 
-pub preserved_from : (model : Model) (h : ℕ) (items : List Item) (order : List Operation) (a b : Operation) → a.hart ≡ h → (a.kind ≡ Store → IsQuiet items a) → must model h items a b ≡ false → (precedes a b && asked model items order a b) ≡ false
+pub preserved_from : (model : MemoryModel) (h : ℕ) (items : List Item) (order : List Operation) (a b : Operation) → a.hart ≡ h → (a.kind ≡ Store → IsQuiet items a) → must model h items a b ≡ false → (precedes a b && asked model items order a b) ≡ false
 preserved_from model h items order a b mine quiet free = at_kind a.kind refl
   where
     held : (not (is_store a.kind) || holds_back model items a b) ≡ true → (precedes a b && asked model items order a b) ≡ false
@@ -275,8 +275,8 @@ preserved_from model h items order a b mine quiet free = at_kind a.kind refl
     at_kind : (k : Kind) → a.kind ≡ k → (precedes a b && asked model items order a b) ≡ false
     at_kind Load e = no_store (ap is_store e)
     at_kind Store e = at_store (holds_back model items a b) refl e
-    at_kind Reserve e = no_store (ap is_store e)
-    at_kind Conditional e = no_store (ap is_store e)
+    at_kind Lr e = no_store (ap is_store e)
+    at_kind Sc e = no_store (ap is_store e)
     at_kind Amo e = no_store (ap is_store e)
 
 -- ---- words

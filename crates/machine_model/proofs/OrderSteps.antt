@@ -12,8 +12,8 @@ use Rattle.machine_model.specs.Steps.{Fetched, waits_for_stores, write_waits}
 use Rattle.machine_model.specs.Views.{Node}
 use Rattle.machine_model.specs.Words.{word_of, store_of}
 use Rattle.memory_model.proofs.Named.{EachOnce}
-use Rattle.memory_model.specs.declared.Model.{Model}
-use Rattle.memory_model.specs.declared.Model.TheVariants.{Rvwmo, Ztso}
+use Rattle.memory_model.specs.declared.MemoryModel.{MemoryModel}
+use Rattle.memory_model.specs.declared.MemoryModel.TheVariants.{Rvwmo, Ztso}
 use Rattle.memory_model.specs.declared.operation.Kind.{Kind}
 use Rattle.memory_model.specs.declared.operation.Kind.TheVariants as kind
 use Rattle.memory_model.specs.declared.operation.Operation.{Operation}
@@ -30,7 +30,7 @@ use Rattle.machine_model.proofs.OrderLists.{Each-always}
 use Rattle.machine_model.proofs.OrderRules.{is_store, late, InWord, IsQuiet, apart}
 use Rattle.machine_model.proofs.OrderSplit.{Split, gave_at, new_name, split_store, split_at_once, split_item}
 use Rattle.rv32_decode.specs.declared.instruction.Instr.{Instr}
-use Rattle.rv32_exec.specs.Meaning.{Access, Private, Loads, Stores, Reserves, Tries, Updates, Fences, Calls}
+use Rattle.rv32_exec.specs.Meaning.{Access, Private, Loads, Stores, DoesLr, DoesSc, DoesAmo, Fences, Calls}
 use Rattle.store_buffer.specs.Groups.{Groups, after_put, after_put_single, after_seal, has, has_sealed, is_empty, is_nil}
 use Rattle.store_buffer.specs.Stores.{Waiting, entries_in, all_stores, kept_stores, is_to_word, put_behind, sealed_up}
 use Rattle.store_buffer.specs.declared.entry.Store.{Store}
@@ -48,7 +48,7 @@ stores_of g = map store_of_operation g
 abbrev pub waiting_of : List (List Operation) → List Operation → Waiting
 waiting_of sealed current = record { sealed = map stores_of sealed; current = stores_of current }
 
-pub record HartKept (model : Model) (h : ℕ) (items : List Item) (buffer : Groups) (performed : List Operation) : Type 0 where
+pub record HartKept (model : MemoryModel) (h : ℕ) (items : List Item) (buffer : Groups) (performed : List Operation) : Type 0 where
   pub sealed : List (List Operation)
   pub current : List Operation
   pub buffer_is : buffer ≡ entries_in (waiting_of sealed current)
@@ -91,7 +91,7 @@ unsealed_is buffer sealed current e f = nil_is sealed (turn (is_nil sealed) (sym
 
 -- ---- puts and seals
 
-abbrev pub buffer_by : Model → Deed → Groups → Groups
+abbrev pub buffer_by : MemoryModel → Deed → Groups → Groups
 buffer_by model (deed.Store s) b = buffered_behind model s b
 buffer_by model deed.Seal b = after_seal b
 buffer_by model _ b = b
@@ -110,12 +110,12 @@ sealed_is sealed current = ap (λ gs. entries_in (record { sealed = gs; current 
 
 abbrev pub names_by : ℕ → ℕ → Deed → List OpId
 names_by h place deed.Load = record { hart = h; place = place } ∷ []
-names_by h place (deed.Reserve word) = record { hart = h; place = place } ∷ []
-names_by h place (deed.Conditional word value) = record { hart = h; place = place } ∷ []
-names_by h place (deed.Update word value) = record { hart = h; place = place } ∷ []
+names_by h place (deed.Lr word) = record { hart = h; place = place } ∷ []
+names_by h place (deed.Sc word value) = record { hart = h; place = place } ∷ []
+names_by h place (deed.Amo word value) = record { hart = h; place = place } ∷ []
 names_by h place _ = []
 
-pub record Performs (model : Model) (h : ℕ) (items : List Item) (buffer : Groups) (performed : List Operation) (names : List OpId) : Type 0 where
+pub record Performs (model : MemoryModel) (h : ℕ) (items : List Item) (buffer : Groups) (performed : List Operation) (names : List OpId) : Type 0 where
   pub out : List Operation
   pub named : map name_of out ≡ names
   pub own : Each (λ a. a.hart ≡ h) out
@@ -123,7 +123,7 @@ pub record Performs (model : Model) (h : ℕ) (items : List Item) (buffer : Grou
   pub distinct : EachOnce performed → EachOnce (performed ++ out)
   pub kept : HartKept model h items buffer (performed ++ out)
 
-pub performs_none : (model : Model) (h : ℕ) (items : List Item) (buffer : Groups) (performed : List Operation) → HartKept model h items buffer performed → Performs model h items buffer performed []
+pub performs_none : (model : MemoryModel) (h : ℕ) (items : List Item) (buffer : Groups) (performed : List Operation) → HartKept model h items buffer performed → Performs model h items buffer performed []
 performs_none model h items buffer performed k = record {
   out = [];
   named = refl;
@@ -135,19 +135,19 @@ performs_none model h items buffer performed k = record {
 
 -- ---- an operation that is performed as it retires
 
-pub record Passes (model : Model) (items : List Item) (i : Operation) (waiting : List Operation) : Type 0 where
+pub record Passes (model : MemoryModel) (items : List Item) (i : Operation) (waiting : List Operation) : Type 0 where
   pub clear : Each (λ b. (writes i.kind && overlap b i) ≡ false) waiting
   pub unsealed : writes i.kind ≡ true → Each (λ a. late items kind.Store a ≡ false) waiting
   pub unreleased : Each (λ b. has_release model i ≡ false) waiting
 
-passes_nothing : (model : Model) (items : List Item) (i : Operation) (waiting : List Operation) → waiting ≡ [] → Passes model items i waiting
+passes_nothing : (model : MemoryModel) (items : List Item) (i : Operation) (waiting : List Operation) → waiting ≡ [] → Passes model items i waiting
 passes_nothing model items i waiting e = subst (Passes model items i) (sym e) (record { clear = tt; unsealed = λ w. tt; unreleased = tt })
 
-release_only : (model : Model) (i : Operation) → writes i.kind ≡ false → i.rl ≡ false → has_release model i ≡ false
+release_only : (model : MemoryModel) (i : Operation) → writes i.kind ≡ false → i.rl ≡ false → has_release model i ≡ false
 release_only Rvwmo i w e = e
 release_only Ztso i w e = or_from i.rl (writes i.kind) e w
 
-passes_reading : (model : Model) (items : List Item) (i : Operation) (waiting : List Operation) → writes i.kind ≡ false → i.rl ≡ false → Passes model items i waiting
+passes_reading : (model : MemoryModel) (items : List Item) (i : Operation) (waiting : List Operation) → writes i.kind ≡ false → i.rl ≡ false → Passes model items i waiting
 passes_reading model items i waiting w e = record {
   clear = Each-always (λ b. (writes i.kind && overlap b i) ≡ false) (λ b. and_left (writes i.kind) (overlap b i) w) waiting;
   unsealed = λ t. absurd (true≢false (sym t ∙ w));
@@ -162,7 +162,7 @@ none_waits h i word (b ∷ g) f at own e =
     (and_right (writes i.kind) _ (apart b i own.0.in_word f (λ q. eqb-false (word_of b.address) word es.0 (q ∙ at))), none_waits h i word g f at own.1 es.1)
 
 -- what an LR, SC or AMO need not wait for
-passes_lr : (model : Model) (h : ℕ) (n : Node) (items : List Item) (performed : List Operation) (instr : Instr) (i : Operation) (word : ℕ) → writes i.kind ≡ false → i.rl ≡ (annotations_of instr).release → waits_for_stores n instr word ≡ false → (k : HartKept model h items n.buffer performed) → Passes model items i (joined k.sealed ++ k.current)
+passes_lr : (model : MemoryModel) (h : ℕ) (n : Node) (items : List Item) (performed : List Operation) (instr : Instr) (i : Operation) (word : ℕ) → writes i.kind ≡ false → i.rl ≡ (annotations_of instr).release → waits_for_stores n instr word ≡ false → (k : HartKept model h items n.buffer performed) → Passes model items i (joined k.sealed ++ k.current)
 passes_lr model h n items performed instr i word w r e k = go (is_empty n.buffer) refl ((annotations_of instr).release) refl
   where
     go : (b : Bool) → is_empty n.buffer ≡ b → (c : Bool) → (annotations_of instr).release ≡ c → Passes model items i (joined k.sealed ++ k.current)
@@ -170,7 +170,7 @@ passes_lr model h n items performed instr i word w r e k = go (is_empty n.buffer
     go false f false g = passes_reading model items i (joined k.sealed ++ k.current) w (r ∙ g)
     go false f true g = absurd (true≢false (sym (rw (g, f) refl) ∙ (or_parts ((annotations_of instr).release && not (is_empty n.buffer)) (has word n.buffer) e).0))
 
-passes_write : (model : Model) (h : ℕ) (n : Node) (items : List Item) (performed : List Operation) (instr : Instr) (i : Operation) (word : ℕ) → i.rl ≡ (annotations_of instr).release → InWord i → word_of i.address ≡ word → write_waits model n instr word ≡ false → (k : HartKept model h items n.buffer performed) → Passes model items i (joined k.sealed ++ k.current)
+passes_write : (model : MemoryModel) (h : ℕ) (n : Node) (items : List Item) (performed : List Operation) (instr : Instr) (i : Operation) (word : ℕ) → i.rl ≡ (annotations_of instr).release → InWord i → word_of i.address ≡ word → write_waits model n instr word ≡ false → (k : HartKept model h items n.buffer performed) → Passes model items i (joined k.sealed ++ k.current)
 passes_write Ztso h n items performed instr i word r f at e k = passes_nothing Ztso items i (joined k.sealed ++ k.current) (empty_waits n.buffer k.sealed k.current k.buffer_is (turn (is_empty n.buffer) e))
   where
     turn : (b : Bool) → not b ≡ false → b ≡ true
@@ -198,7 +198,7 @@ pub record IsNew (h : ℕ) (items : List Item) (m : Item) (i : Instr) : Type 0 w
 no_fence_of : (h : ℕ) (items : List Item) (m : Item) (i : Instr) → IsNew h items m i → NoFence i → (j : Kind) → fences m.instr kind.Store j ≡ false
 no_fence_of h items m i new f j = ap (λ o. fences o kind.Store j) new.instr_is ∙ f j
 
-pub performs_once : (model : Model) (h : ℕ) (items : List Item) (buffer : Groups) (performed : List Operation) (m : Item) (instr : Instr) (i : Operation) → IsNew h items m instr → NoFence instr
+pub performs_once : (model : MemoryModel) (h : ℕ) (items : List Item) (buffer : Groups) (performed : List Operation) (m : Item) (instr : Instr) (i : Operation) → IsNew h items m instr → NoFence instr
     → m.operation ≡ Some i → i.hart ≡ h → i.place ≡ length items → is_store i.kind ≡ false → (k : HartKept model h items buffer performed) → Passes model items i (joined k.sealed ++ k.current) → Performs model h (items ++ m ∷ []) buffer performed (record { hart = h; place = length items } ∷ [])
 performs_once model h items buffer performed m instr i new plain gave mine here kind_of k p =
     let below : Each (IsBelow h (length items)) performed = Each-left (IsBelow h (length items)) performed (joined k.sealed ++ k.current) k.kept.places in
@@ -219,7 +219,7 @@ performs_once model h items buffer performed m instr i new plain gave mine here 
 
 -- ---- an instruction that gives no operation
 
-pub keeps_plain : (model : Model) (h : ℕ) (items : List Item) (buffer : Groups) (performed : List Operation) (m : Item) (i : Instr) → IsNew h items m i → NoFence i → m.operation ≡ None → HartKept model h items buffer performed → HartKept model h (items ++ m ∷ []) buffer performed
+pub keeps_plain : (model : MemoryModel) (h : ℕ) (items : List Item) (buffer : Groups) (performed : List Operation) (m : Item) (i : Instr) → IsNew h items m i → NoFence i → m.operation ≡ None → HartKept model h items buffer performed → HartKept model h (items ++ m ∷ []) buffer performed
 keeps_plain model h items buffer performed m i new plain gave k = record {
   sealed = k.sealed;
   current = k.current;
@@ -229,7 +229,7 @@ keeps_plain model h items buffer performed m i new plain gave k = record {
 }
 
 -- a fence before loads has nothing before it
-lates_behind : (model : Model) (h : ℕ) (n : Node) (items : List Item) (performed : List Operation) (m : Item) (i : Instr) → IsNew h items m i → (fences (Some i) kind.Store kind.Load && not (is_empty n.buffer)) ≡ false → (k : HartKept model h items n.buffer performed) → Each (λ a. late (items ++ m ∷ []) kind.Load a ≡ false) (joined k.sealed ++ k.current)
+lates_behind : (model : MemoryModel) (h : ℕ) (n : Node) (items : List Item) (performed : List Operation) (m : Item) (i : Instr) → IsNew h items m i → (fences (Some i) kind.Store kind.Load && not (is_empty n.buffer)) ≡ false → (k : HartKept model h items n.buffer performed) → Each (λ a. late (items ++ m ∷ []) kind.Load a ≡ false) (joined k.sealed ++ k.current)
 lates_behind model h n items performed m i new e k = go (fences (Some i) kind.Store kind.Load) refl (is_empty n.buffer) refl
   where
     go : (b : Bool) → fences (Some i) kind.Store kind.Load ≡ b → (c : Bool) → is_empty n.buffer ≡ c → Each (λ a. late (items ++ m ∷ []) kind.Load a ≡ false) (joined k.sealed ++ k.current)
@@ -237,7 +237,7 @@ lates_behind model h n items performed m i new e k = go (fences (Some i) kind.St
     go true f true g = subst (Each (λ a. late (items ++ m ∷ []) kind.Load a ≡ false)) (sym (empty_waits n.buffer k.sealed k.current k.buffer_is g)) tt
     go true f false g = absurd (true≢false (sym (rw (f, g) refl) ∙ e))
 
-keeps_fence : (model : Model) (h : ℕ) (n : Node) (items : List Item) (performed : List Operation) (m : Item) (i : Instr) → IsNew h items m i → m.operation ≡ None → (fences (Some i) kind.Store kind.Load && not (is_empty n.buffer)) ≡ false → fences (Some i) kind.Store kind.Store ≡ false → HartKept model h items n.buffer performed → HartKept model h (items ++ m ∷ []) n.buffer performed
+keeps_fence : (model : MemoryModel) (h : ℕ) (n : Node) (items : List Item) (performed : List Operation) (m : Item) (i : Instr) → IsNew h items m i → m.operation ≡ None → (fences (Some i) kind.Store kind.Load && not (is_empty n.buffer)) ≡ false → fences (Some i) kind.Store kind.Store ≡ false → HartKept model h items n.buffer performed → HartKept model h (items ++ m ∷ []) n.buffer performed
 keeps_fence model h n items performed m i new gave e f k = record {
   sealed = k.sealed;
   current = k.current;
@@ -246,7 +246,7 @@ keeps_fence model h n items performed m i new gave e f k = record {
   split = split_item h items (joined k.sealed ++ k.current) performed m gave k.split;
 }
 
-keeps_seal : (model : Model) (h : ℕ) (n : Node) (items : List Item) (performed : List Operation) (m : Item) (i : Instr) → IsNew h items m i → m.operation ≡ None → (fences (Some i) kind.Store kind.Load && not (is_empty n.buffer)) ≡ false → HartKept model h items n.buffer performed → HartKept model h (items ++ m ∷ []) (after_seal n.buffer) performed
+keeps_seal : (model : MemoryModel) (h : ℕ) (n : Node) (items : List Item) (performed : List Operation) (m : Item) (i : Instr) → IsNew h items m i → m.operation ≡ None → (fences (Some i) kind.Store kind.Load && not (is_empty n.buffer)) ≡ false → HartKept model h items n.buffer performed → HartKept model h (items ++ m ∷ []) (after_seal n.buffer) performed
 keeps_seal model h n items performed m i new gave e k =
     let line = sym (sealed_line k.sealed k.current) in
     record {
@@ -259,7 +259,7 @@ keeps_seal model h n items performed m i new gave e k =
 
 -- ---- a store waits
 
-keeps_put : (model : Model) (h : ℕ) (items : List Item) (sealed : List (List Operation)) (current : List Operation) (new_buffer : Groups) (performed : List Operation) (m : Item) (i : Instr) (s : Operation) → IsNew h items m i → NoFence i → m.operation ≡ Some s → IsWaiting h s → IsQuiet (items ++ m ∷ []) s → s.place ≡ length items
+keeps_put : (model : MemoryModel) (h : ℕ) (items : List Item) (sealed : List (List Operation)) (current : List Operation) (new_buffer : Groups) (performed : List Operation) (m : Item) (i : Instr) (s : Operation) → IsNew h items m i → NoFence i → m.operation ≡ Some s → IsWaiting h s → IsQuiet (items ++ m ∷ []) s → s.place ≡ length items
     → new_buffer ≡ entries_in (waiting_of sealed (current ++ s ∷ [])) → Kept model h items sealed current performed → Split h items (joined sealed ++ current) performed → (model ≡ Ztso → Each (λ a. word_of a.address ≡ word_of s.address) current) → HartKept model h (items ++ m ∷ []) new_buffer performed
 keeps_put model h items sealed current new_buffer performed m i s new plain gave own quiet here behind kept split fits =
     record {
@@ -282,7 +282,7 @@ fits_group word g one e = go g one e
     go [] q e = absurd (false≢true e)
     go (x ∷ xs) q e = at (of_word word x) x xs refl q.0 (go xs q.1) e
 
-keeps_store : (model : Model) (h : ℕ) (items : List Item) (buffer : Groups) (performed : List Operation) (m : Item) (i : Instr) (s : Operation) → IsNew h items m i → NoFence i → m.operation ≡ Some s → IsWaiting h s → IsQuiet (items ++ m ∷ []) s → s.place ≡ length items → HartKept model h items buffer performed → HartKept model h (items ++ m ∷ []) (buffered_behind model (store_of_operation s) buffer) performed
+keeps_store : (model : MemoryModel) (h : ℕ) (items : List Item) (buffer : Groups) (performed : List Operation) (m : Item) (i : Instr) (s : Operation) → IsNew h items m i → NoFence i → m.operation ≡ Some s → IsWaiting h s → IsQuiet (items ++ m ∷ []) s → s.place ≡ length items → HartKept model h items buffer performed → HartKept model h (items ++ m ∷ []) (buffered_behind model (store_of_operation s) buffer) performed
 keeps_store Rvwmo h items buffer performed m i s new plain gave own quiet here k =
     keeps_put Rvwmo h items k.sealed k.current _ performed m i s new plain gave own quiet here (ap (after_put (store_of_operation s)) k.buffer_is ∙ (put_is_behind (store_of_operation s) (waiting_of k.sealed k.current) ∙ pushed_is s k.sealed k.current)) k.kept k.split (λ z. absurd (rvwmo_not z))
   where
@@ -317,11 +317,11 @@ word_aligned address e = omega (arith, e)
 aligned_in_word : (address : ℕ) → address % 4 ≡ 0 → address % 4 + 4 ≤ 4
 aligned_in_word address e = omega (arith, e)
 
-pub deed_keeps : (model : Model) (h : ℕ) (n : Node) (f : Fetched) (entry : Retired) (a : Access) (d : Deed) (items : List Item) (performed : List Operation) (m : Item)
+pub deed_keeps : (model : MemoryModel) (h : ℕ) (n : Node) (f : Fetched) (entry : Retired) (a : Access) (d : Deed) (items : List Item) (performed : List Operation) (m : Item)
     → IsNew h items m f.instr → f.place ≡ length items → m.operation ≡ operation_of_access h (length items) (annotations_of f.instr) entry a → Facts f.instr a → FitsDeed model n f a entry d
     → HartKept model h items n.buffer performed → Performs model h (items ++ m ∷ []) (buffer_by model d n.buffer) performed (names_by h (length items) d)
-deed_keeps model h n f entry Private deed.Alone items performed m new at gave x e k = performs_none model h _ _ performed (keeps_plain model h items n.buffer performed m f.instr new x gave k)
-deed_keeps model h n f entry (Calls number argument) deed.Alone items performed m new at gave x e k = performs_none model h _ _ performed (keeps_plain model h items n.buffer performed m f.instr new x gave k)
+deed_keeps model h n f entry Private deed.Private items performed m new at gave x e k = performs_none model h _ _ performed (keeps_plain model h items n.buffer performed m f.instr new x gave k)
+deed_keeps model h n f entry (Calls number argument) deed.Private items performed m new at gave x e k = performs_none model h _ _ performed (keeps_plain model h items n.buffer performed m f.instr new x gave k)
 deed_keeps model h n f entry (Calls number argument) (deed.Output j) items performed m new at gave x e k = performs_none model h _ _ performed (keeps_plain model h items n.buffer performed m f.instr new x gave k)
 deed_keeps model h n f entry (Loads address bytes) deed.Load items performed m new at gave x e k =
     performs_once model h items n.buffer performed m f.instr _ new x.0.no_fence gave refl refl refl k (passes_reading model items _ _ refl x.0.no_release)
@@ -331,16 +331,16 @@ deed_keeps model h n f entry (Stores address bytes value) (deed.Store s) items p
     record { no_acquire = x.0.no_acquire; no_release = x.0.no_release; writes_none = ap (λ (o : Option Item). (uses_in (instr_in o)).written) (get_new items m (length items) refl) ∙ (ap (λ o. (uses_in o).written) new.instr_is ∙ x.2) } in
     performs_none model h _ _ performed (subst (λ (t : Store). HartKept model h (items ++ m ∷ []) (buffered_behind model t n.buffer) performed) (sym (e ∙ ap (store_of address bytes value) at))
     (keeps_store model h items n.buffer performed m f.instr _ new x.0.no_fence gave own quiet refl k))
-deed_keeps model h n f entry (Reserves address) (deed.Reserve word) items performed m new at gave x e k =
+deed_keeps model h n f entry (DoesLr address) (deed.Lr word) items performed m new at gave x e k =
     performs_once model h items n.buffer performed m f.instr _ new x.0 gave refl refl refl k (passes_lr model h n items performed f.instr _ address refl refl e.1 k)
-deed_keeps model h n f entry (Tries address value) deed.Fail items performed m new at gave x e k =
-    performs_none model h _ _ performed (keeps_plain model h items n.buffer performed m f.instr new x.0 (gave ∙ ap (λ o. cond (succeeded o) (Some (record { hart = h; place = length items; kind = kind.Conditional; address = address; size = 4; read = 0; written = value; aq = (annotations_of f.instr).acquire; rl = (annotations_of f.instr).release })) None) e) k)
-deed_keeps model h n f entry (Tries address value) (deed.Conditional word v) items performed m new at gave x e k =
-    performs_once model h items n.buffer performed m f.instr (record { hart = h; place = length items; kind = kind.Conditional; address = address; size = 4; read = 0; written = value; aq = (annotations_of f.instr).acquire; rl = (annotations_of f.instr).release }) new x.0
-    (gave ∙ ap (λ o. cond (succeeded o) (Some (record { hart = h; place = length items; kind = kind.Conditional; address = address; size = 4; read = 0; written = value; aq = (annotations_of f.instr).acquire; rl = (annotations_of f.instr).release })) None) e.2) refl refl refl k
+deed_keeps model h n f entry (DoesSc address value) deed.Fail items performed m new at gave x e k =
+    performs_none model h _ _ performed (keeps_plain model h items n.buffer performed m f.instr new x.0 (gave ∙ ap (λ o. cond (succeeded o) (Some (record { hart = h; place = length items; kind = kind.Sc; address = address; size = 4; read = 0; written = value; aq = (annotations_of f.instr).acquire; rl = (annotations_of f.instr).release })) None) e) k)
+deed_keeps model h n f entry (DoesSc address value) (deed.Sc word v) items performed m new at gave x e k =
+    performs_once model h items n.buffer performed m f.instr (record { hart = h; place = length items; kind = kind.Sc; address = address; size = 4; read = 0; written = value; aq = (annotations_of f.instr).acquire; rl = (annotations_of f.instr).release }) new x.0
+    (gave ∙ ap (λ o. cond (succeeded o) (Some (record { hart = h; place = length items; kind = kind.Sc; address = address; size = 4; read = 0; written = value; aq = (annotations_of f.instr).acquire; rl = (annotations_of f.instr).release })) None) e.2) refl refl refl k
     (passes_write model h n items performed f.instr _ address refl (aligned_in_word address x.1) (word_aligned address x.1) e.4 k)
-deed_keeps model h n f entry (Updates address op operand) (deed.Update word v) items performed m new at gave x e k =
+deed_keeps model h n f entry (DoesAmo address op operand) (deed.Amo word v) items performed m new at gave x e k =
     performs_once model h items n.buffer performed m f.instr _ new x.0 gave refl refl refl k (passes_write model h n items performed f.instr _ address refl (aligned_in_word address x.1) (word_aligned address x.1) e.1 k)
-deed_keeps model h n f entry Fences deed.Alone items performed m new at gave x e k = performs_none model h _ _ performed (keeps_fence model h n items performed m f.instr new gave e.0 e.1 k)
+deed_keeps model h n f entry Fences deed.Private items performed m new at gave x e k = performs_none model h _ _ performed (keeps_fence model h n items performed m f.instr new gave e.0 e.1 k)
 deed_keeps model h n f entry Fences deed.Seal items performed m new at gave x e k = performs_none model h _ _ performed (keeps_seal model h n items performed m f.instr new gave e k)
 deed_keeps model h n f entry _ _ items performed m new at gave x e k = absurd e

@@ -12,7 +12,7 @@ use Rattle.machine_model.proofs.OrderLists.{Each-always, filter-filter, last_or-
 use Rattle.machine_model.proofs.OrderRules.{precedes_not, precedes_yes, touches_word}
 use Rattle.machine_model.proofs.OrderSplit.{absent, gave_at, ops_of, new_name, split_store, split_at_once, split_item}
 use Rattle.machine_model.proofs.OrderSteps.{HartKept, Performs, names_by}
-use Rattle.memory_model.specs.declared.Model.{Model}
+use Rattle.memory_model.specs.declared.MemoryModel.{MemoryModel}
 use Rattle.memory_model.specs.declared.operation.Operation.{Operation}
 use Rattle.memory_model.specs.Items.{Item}
 use Rattle.memory_model.specs.Operations.{reads, writes, same, precedes, touches, stores_to, read_at}
@@ -110,10 +110,10 @@ right_once image h n done ys i mine here below_done below_ys own value = record 
 
 pub names_cases : (h place : ℕ) (d : Deed) → (names_by h place d ≡ []) ⊎ (names_by h place d ≡ record { hart = h; place = place } ∷ [])
 names_cases h place deed.Load = inr refl
-names_cases h place (deed.Reserve word) = inr refl
-names_cases h place (deed.Conditional word value) = inr refl
-names_cases h place (deed.Update word value) = inr refl
-names_cases h place deed.Alone = inl refl
+names_cases h place (deed.Lr word) = inr refl
+names_cases h place (deed.Sc word value) = inr refl
+names_cases h place (deed.Amo word value) = inr refl
+names_cases h place deed.Private = inl refl
 names_cases h place (deed.Output number) = inl refl
 names_cases h place (deed.Store s) = inl refl
 names_cases h place deed.Seal = inl refl
@@ -149,7 +149,7 @@ pub record Gives (image : ℕ → ℕ) (h n : ℕ) (performed waiting : List Ope
 not_theirs : (h n : ℕ) (s j : Operation) (x : ℕ) → s.place ≡ n → IsBelow h n j → j.hart ≡ h → theirs j x s ≡ false
 not_theirs h n s j x here q e = let l = q.below e in theirs_not j s x (precedes_not s j (λ _. omega (arith, l, here)))
 
-pub retire_rights : (model : Model) (image : ℕ → ℕ) (h : ℕ) (items longer : List Item) (old new : Groups) (performed : List Operation) (m : Item) (d : Deed) (names : List OpId) → longer ≡ items ++ m ∷ [] → names ≡ names_by h (length items) d
+pub retire_rights : (model : MemoryModel) (image : ℕ → ℕ) (h : ℕ) (items longer : List Item) (old new : Groups) (performed : List Operation) (m : Item) (d : Deed) (names : List OpId) → longer ≡ items ++ m ∷ [] → names ≡ names_by h (length items) d
     → (k : HartKept model h items old performed) → (p : Performs model h longer new performed names) → ((a : Operation) → m.operation ≡ Some a → Gives image h (length items) performed (joined k.sealed ++ k.current) a)
     → Each (IsRight image h (performed ++ waits items performed)) performed → Each (IsRight image h ((performed ++ p.out) ++ waits longer (performed ++ p.out))) (performed ++ p.out)
 retire_rights model image h items longer old new performed m d names is_longer are_names k p gives rights = subst (λ is. Each (IsRight image h ((performed ++ p.out) ++ waits is (performed ++ p.out))) (performed ++ p.out)) (sym is_longer) (go (names_cases h (length items) d))

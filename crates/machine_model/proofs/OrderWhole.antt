@@ -26,7 +26,7 @@ use Rattle.machine_model.proofs.OrderRules.{asked, must, precedes_not, preserved
 use Rattle.machine_model.proofs.OrderSplit.{gave_at, ops_of, absent}
 use Rattle.machine_model.proofs.OrderSteps.{HartKept}
 use Rattle.machine_model.proofs.OrderTraces.{items_at, items_of-at, done, IsResolved, operation_is}
-use Rattle.memory_model.specs.declared.Model.{Model}
+use Rattle.memory_model.specs.declared.MemoryModel.{MemoryModel}
 use Rattle.memory_model.specs.declared.operation.Kind.TheVariants.{Store}
 use Rattle.memory_model.specs.declared.operation.Operation.{Operation}
 use Rattle.memory_model.specs.Items.{Item, items_from, operation_of_entry, has_operation, accesses_memory, succeeded}
@@ -163,7 +163,7 @@ tail_part t h place hart (x ∷ es) r f =
         ∙ kept_or_not a (absent (done t) a) e ih
 
 -- the waiting stores of a hart
-abbrev pub waiting_at : {model : Model} {h : ℕ} {items : List Item} {buffer : Groups} {performed : List Operation} → HartKept model h items buffer performed → List Operation
+abbrev pub waiting_at : {model : MemoryModel} {h : ℕ} {items : List Item} {buffer : Groups} {performed : List Operation} → HartKept model h items buffer performed → List Operation
 waiting_at k = joined k.sealed ++ k.current
 
 -- ---- in order

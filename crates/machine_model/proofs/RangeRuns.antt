@@ -24,7 +24,7 @@ use Rattle.rv32_decode.specs.declared.instruction.LoadOp.{LoadOp}
 use Rattle.rv32_decode.specs.declared.instruction.LoadOp.TheVariants.{Lb, Lh, Lw, Lbu, Lhu}
 use Rattle.rv32_decode.specs.declared.instruction.SystemOp.TheVariants.{Ecall, Ebreak}
 use Rattle.rv32_exec.specs.Arithmetic.{bytes_loaded}
-use Rattle.rv32_exec.specs.Meaning.{Access, Private, Loads, Stores, Reserves, Tries, Updates, Fences, Calls, access_of, access_stop, is_outside, stop_of, stop_of_access, stop_of_target, target_of}
+use Rattle.rv32_exec.specs.Meaning.{Access, Private, Loads, Stores, DoesLr, DoesSc, DoesAmo, Fences, Calls, access_of, access_stop, is_outside, stop_of, stop_of_access, stop_of_target, target_of}
 use Rattle.trace_recorder.specs.History.{History, entries_of}
 use Rattle.trace_recorder.specs.declared.operation.OpId.{OpId}
 
@@ -58,9 +58,9 @@ none_loaded n loaded b e is = absurd (false≢true (subst (λ o. is_none o ≡ t
 
 loaded_few : (a : Access) (entry : Retired) (n : ℕ) → HasFew a → has_answers a entry ≡ true → entry.loaded ≡ Some n → n < 2 ^ 32
 loaded_few (Loads address bytes) entry n few e is = below_bound (256 ^ bytes) n entry.loaded _ few e is
-loaded_few (Reserves address) entry n few e is = below_bound (256 ^ 4) n entry.loaded _ (omega arith) e is
-loaded_few (Updates address op operand) entry n few e is = below_bound (256 ^ 4) n entry.loaded _ (omega arith) e is
-loaded_few (Tries address value) entry n few e is = none_loaded n entry.loaded _ e is
+loaded_few (DoesLr address) entry n few e is = below_bound (256 ^ 4) n entry.loaded _ (omega arith) e is
+loaded_few (DoesAmo address op operand) entry n few e is = below_bound (256 ^ 4) n entry.loaded _ (omega arith) e is
+loaded_few (DoesSc address value) entry n few e is = none_loaded n entry.loaded _ e is
 loaded_few Private entry n few e is = none_loaded n entry.loaded _ e is
 loaded_few (Stores address bytes value) entry n few e is = none_loaded n entry.loaded _ e is
 loaded_few Fences entry n few e is = none_loaded n entry.loaded _ e is
@@ -116,9 +116,9 @@ access_ends : (a : Access) (size : ℕ) → IsStop (stop_of_access a size)
 access_ends Private size = tt
 access_ends (Loads address bytes) size = access_stops 4 5 size address bytes (omega arith) (omega arith)
 access_ends (Stores address bytes value) size = access_stops 6 7 size address bytes (omega arith) (omega arith)
-access_ends (Reserves address) size = access_stops 6 7 size address 4 (omega arith) (omega arith)
-access_ends (Tries address value) size = access_stops 6 7 size address 4 (omega arith) (omega arith)
-access_ends (Updates address op operand) size = access_stops 6 7 size address 4 (omega arith) (omega arith)
+access_ends (DoesLr address) size = access_stops 6 7 size address 4 (omega arith) (omega arith)
+access_ends (DoesSc address value) size = access_stops 6 7 size address 4 (omega arith) (omega arith)
+access_ends (DoesAmo address op operand) size = access_stops 6 7 size address 4 (omega arith) (omega arith)
 access_ends Fences size = tt
 access_ends (Calls number argument) size = either_stop (nat_lt number 2) None (Some 8) tt (omega arith)
 

@@ -72,8 +72,8 @@ wrote_size size last word marks bytes q = go (q == line_of size word)
     go false = refl
 
 by_deed : (size : LineSize) (d : Deed) (last : ℕ → LineData) (q : ℕ) → size_of (last_by size d last q) ≡ size_of (last q)
-by_deed size (deed.Conditional word value) last q = wrote_size size last word _ _ q
-by_deed size (deed.Update word value) last q = wrote_size size last word _ _ q
+by_deed size (deed.Sc word value) last q = wrote_size size last word _ _ q
+by_deed size (deed.Amo word value) last q = wrote_size size last word _ _ q
 by_deed size _ last q = refl
 
 last_size : (s : State) (h : ℕ) (a : Act) (last : ℕ → LineData) (q : ℕ) → size_of (last_after s h a last q) ≡ size_of (last q)

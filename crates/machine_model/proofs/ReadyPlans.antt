@@ -23,7 +23,7 @@ use Rattle.machine_model.specs.Deciding.{miss_by, reading, reading_by, writing, 
 use Rattle.machine_model.specs.Deliveries.{plan_body, plan_front, unless_acks_full, unless_busy, unless_releasing}
 use Rattle.machine_model.specs.Events.{evict_by, hart_of, names_well, plan_drain, plan_local, plan_of}
 use Rattle.machine_model.specs.Ready.{IsReadyDeed, IsWritable}
-use Rattle.machine_model.specs.Steps.{Fetched, plan_access, plan_amo, plan_conditional, plan_fence, plan_instr, plan_load, plan_reserve, plan_step, plan_store, plan_unless, retires, update, waits_for_stores, write_waits}
+use Rattle.machine_model.specs.Steps.{Fetched, plan_access, plan_amo, plan_sc, plan_fence, plan_instr, plan_load, plan_lr, plan_step, plan_store, plan_unless, retires, update, waits_for_stores, write_waits}
 use Rattle.machine_model.specs.Views.{Node, State, line_of, line_size, node_at, place_of}
 use Rattle.machine_model.specs.Words.{read_from, store_of, word_in, word_of}
 use Rattle.machine_model.specs.declared.act.Act.TheVariants as act
@@ -37,7 +37,7 @@ use Rattle.machine_model.proofs.LinePlaces.{piece}
 use Rattle.machine_model.proofs.LineStands.{is_writer}
 use Rattle.machine_model.proofs.WorldFits.{IsFit}
 use Rattle.memory_model.specs.Rules.{fences}
-use Rattle.memory_model.specs.declared.Model.{Model}
+use Rattle.memory_model.specs.declared.MemoryModel.{MemoryModel}
 use Rattle.memory_model.specs.declared.operation.Kind.TheVariants.{Load, Store}
 use Rattle.reservations.specs.Reservation.{is_valid}
 use Rattle.rv32_decode.specs.Rows.{decoded}
@@ -45,7 +45,7 @@ use Rattle.rv32_decode.specs.declared.instruction.AmoOp.{AmoOp}
 use Rattle.rv32_decode.specs.declared.instruction.Instr.{Instr}
 use Rattle.rv32_decode.specs.declared.instruction.Instr.TheVariants as instr
 use Rattle.rv32_decode.specs.declared.instruction.SystemOp.TheVariants.{Ecall, Ebreak}
-use Rattle.rv32_exec.specs.Meaning.{Access, Private, Loads, Stores, Reserves, Tries, Updates, Fences, Calls, access_of, access_stop, is_outside, stop_of}
+use Rattle.rv32_exec.specs.Meaning.{Access, Private, Loads, Stores, DoesLr, DoesSc, DoesAmo, Fences, Calls, access_of, access_stop, is_outside, stop_of}
 use Rattle.store_buffer.specs.ByteMask.{covers, laid_over, marks_of_access}
 use Rattle.store_buffer.specs.Groups.{drainable, fits, forwarded, has, is_empty}
 use Rattle.tilelink_channels.specs.Queues.{front_of, queue_of, room_of}
@@ -60,8 +60,8 @@ use Rattle.tl_types.specs.declared.permission.Grow.TheVariants.{NtoB, NtoT, BtoT
 
 -- a store conditional's and an AMO's address is a word's
 abbrev pub IsAligned : Access → Type 0
-IsAligned (Tries address value) = address % 4 ≡ 0
-IsAligned (Updates address op operand) = address % 4 ≡ 0
+IsAligned (DoesSc address value) = address % 4 ≡ 0
+IsAligned (DoesAmo address op operand) = address % 4 ≡ 0
 IsAligned _ = Unit {0}
 
 access_aligned : (misaligned outside size address bytes : ℕ) → access_stop misaligned outside size address bytes ≡ None → address % bytes ≡ 0
@@ -128,24 +128,24 @@ module _ (s : State) (last : ℕ → LineData) (i : IsFit s last) (h : ℕ) wher
   store : (f : Fetched) (address bytes value : ℕ) → IsFound (plan_store n f address bytes value)
   store f address bytes value = by_test IsFound (fits (word_of address) n.buffer) (retires n f None None (deed.Store (store_of address bytes value f.place))) (Stays outcome.BufferFull) (λ e. e) (λ e. tt)
 
-  reserve : (f : Fetched) (address : ℕ) → IsFound (plan_reserve n f address)
+  reserve : (f : Fetched) (address : ℕ) → IsFound (plan_lr n f address)
   reserve f address =
-      let go : LineData → Plan = λ held. retires n f (Some (read_from (word_in held address) address 4)) None (deed.Reserve address) in
+      let go : LineData → Plan = λ held. retires n f (Some (read_from (word_in held address) address 4)) None (deed.Lr address) in
       by_test IsFound (waits_for_stores n f.instr address) (Stays outcome.MustDrain) (writing go n.cache (line address)) (λ e. tt) (λ e. by_writing (line address) go (copy_at n.cache (line address)) (λ dirty held is. tt))
 
   -- a valid reservation's line is Trunk
-  conditional : (model : Model) (f : Fetched) (address value : ℕ) → address % 4 ≡ 0 → IsFound (plan_conditional model n f address value)
+  conditional : (model : MemoryModel) (f : Fetched) (address value : ℕ) → address % 4 ≡ 0 → IsFound (plan_sc model n f address value)
   conditional model f address value aligned = go (is_valid address n.reserved) refl
     where
       valid : (reserved : Option ℕ) → n.reserved ≡ reserved → is_valid address reserved ≡ true → IsWritable h address s
       valid None e v = cc v
       valid (Some word) e v = record { aligned = aligned; trunk = is_writer _ (i.reserved h address (e ∙ ap Some (eqb-true word address v))) }
 
-      go : (t : Bool) → is_valid address n.reserved ≡ t → IsFound (if not t then retires n f None (Some false) deed.Fail else if write_waits model n f.instr address then Stays outcome.MustDrain else retires n f None (Some true) (deed.Conditional address value))
+      go : (t : Bool) → is_valid address n.reserved ≡ t → IsFound (if not t then retires n f None (Some false) deed.Fail else if write_waits model n f.instr address then Stays outcome.MustDrain else retires n f None (Some true) (deed.Sc address value))
       go false e = tt
-      go true e = by_test IsFound (write_waits model n f.instr address) (Stays outcome.MustDrain) (retires n f None (Some true) (deed.Conditional address value)) (λ _. tt) (λ _. valid n.reserved refl e)
+      go true e = by_test IsFound (write_waits model n f.instr address) (Stays outcome.MustDrain) (retires n f None (Some true) (deed.Sc address value)) (λ _. tt) (λ _. valid n.reserved refl e)
 
-  amo : (model : Model) (f : Fetched) (address : ℕ) (op : AmoOp) (operand : ℕ) → address % 4 ≡ 0 → IsFound (plan_amo model n f address op operand)
+  amo : (model : MemoryModel) (f : Fetched) (address : ℕ) (op : AmoOp) (operand : ℕ) → address % 4 ≡ 0 → IsFound (plan_amo model n f address op operand)
   amo model f address op operand aligned =
       let go : LineData → Plan = λ held. update n f address op operand (read_from (word_in held address) address 4) in
       by_test IsFound (write_waits model n f.instr address) (Stays outcome.MustDrain) (writing go n.cache (line address)) (λ e. tt) (λ e. by_writing (line address) go (copy_at n.cache (line address)) (λ dirty held is. writable address aligned dirty held is))
@@ -153,35 +153,35 @@ module _ (s : State) (last : ℕ → LineData) (i : IsFit s last) (h : ℕ) wher
   fence : (f : Fetched) → IsFound (plan_fence n f)
   fence f = go (fences (Some f.instr) Store Load && not (is_empty n.buffer)) (fences (Some f.instr) Store Store)
     where
-      go : (t u : Bool) → IsFound (if t then Stays outcome.MustDrain else retires n f None None (if u then deed.Seal else deed.Alone))
+      go : (t u : Bool) → IsFound (if t then Stays outcome.MustDrain else retires n f None None (if u then deed.Seal else deed.Private))
       go true u = tt
       go false true = tt
       go false false = tt
 
-  call : (f : Fetched) (t : Bool) (argument : ℕ) → IsFound (retires n f None None (if t then deed.Alone else deed.Output argument))
+  call : (f : Fetched) (t : Bool) (argument : ℕ) → IsFound (retires n f None None (if t then deed.Private else deed.Output argument))
   call f true argument = tt
   call f false argument = tt
 
-  access : (model : Model) (f : Fetched) (a : Access) → IsAligned a → IsFound (plan_access model n f a)
+  access : (model : MemoryModel) (f : Fetched) (a : Access) → IsAligned a → IsFound (plan_access model n f a)
   access model f Private is = tt
   access model f (Loads address bytes) is = load f address bytes
   access model f (Stores address bytes value) is = store f address bytes value
-  access model f (Reserves address) is = reserve f address
-  access model f (Tries address value) is = conditional model f address value is
-  access model f (Updates address op operand) is = amo model f address op operand is
+  access model f (DoesLr address) is = reserve f address
+  access model f (DoesSc address value) is = conditional model f address value is
+  access model f (DoesAmo address op operand) is = amo model f address op operand is
   access model f Fences is = fence f
   access model f (Calls number argument) is = call f (number == 0) argument
 
-  by_instr : (model : Model) (word place : ℕ) (o : Option Instr) → stop_with (length s.trace.image.bytes) n.hart o ≡ None → IsFound (plan_instr model n word place o)
+  by_instr : (model : MemoryModel) (word place : ℕ) (o : Option Instr) → stop_with (length s.trace.image.bytes) n.hart o ≡ None → IsFound (plan_instr model n word place o)
   by_instr model word place None e = tt
   by_instr model word place (Some j) e = access model (record { word = word; instr = j; place = place }) (access_of j n.hart.regs) (instr_aligned j n.hart.pc n.hart.regs (length s.trace.image.bytes) e)
 
-  by_stop : (fetch : Bool) (o : Option Instr) (stop : Option ℕ) (model : Model) (word place : ℕ) → stop_with (length s.trace.image.bytes) n.hart o ≡ stop → IsFound (plan_unless (if fetch then stop else Some 1) (plan_instr model n word place o))
+  by_stop : (fetch : Bool) (o : Option Instr) (stop : Option ℕ) (model : MemoryModel) (word place : ℕ) → stop_with (length s.trace.image.bytes) n.hart o ≡ stop → IsFound (plan_unless (if fetch then stop else Some 1) (plan_instr model n word place o))
   by_stop false o stop model word place e = tt
   by_stop true o None model word place e = by_instr model word place o e
   by_stop true o (Some code) model word place e = tt
 
-  step : (model : Model) (place : ℕ) → IsFound (plan_step model s.trace.image n place)
+  step : (model : MemoryModel) (place : ℕ) → IsFound (plan_step model s.trace.image n place)
   step model place =
       let word = word_at s.trace.image n.hart.pc in
       by_test IsFound (not (is_running n.hart.status)) (Stays outcome.Halted) (plan_unless (next_stop s.trace.image n.hart) (plan_instr model n word place (decoded word))) (λ e. tt)

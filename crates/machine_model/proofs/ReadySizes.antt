@@ -30,7 +30,7 @@ use Rattle.machine_model.specs.declared.act.Act.TheVariants as act
 use Rattle.machine_model.specs.declared.act.Deed.{Deed}
 use Rattle.machine_model.specs.declared.act.Deed.TheVariants as deed
 use Rattle.machine_model.proofs.LogActs.{same-set}
-use Rattle.memory_model.specs.declared.Model.{Model}
+use Rattle.memory_model.specs.declared.MemoryModel.{MemoryModel}
 use Rattle.store_buffer.specs.ByteMask.{marks_of_access}
 use Rattle.store_buffer.specs.Entry.{entry_of}
 use Rattle.store_buffer.specs.Groups.{oldest}
@@ -257,18 +257,18 @@ module _ (size : LineSize) where
       let stored = writes_word h word e.mask e.bytes done in
       keeps_then s.views done.views _ (performs_keeps h e.ops s) (keeps_then done.views stored.views _ (writes_keeps h word e.mask e.bytes done) (keeps_node h _ stored refl))
 
-  does_keeps : (model : Model) (h : ℕ) (d : Deed) (s : State) → Keeps s.views (does model h d s).views
-  does_keeps model h deed.Alone s = keeps_all s.views
+  does_keeps : (model : MemoryModel) (h : ℕ) (d : Deed) (s : State) → Keeps s.views (does model h d s).views
+  does_keeps model h deed.Private s = keeps_all s.views
   does_keeps model h (deed.Output number) s = keeps_node h _ s refl
   does_keeps model h deed.Load s = keeps_all s.views
   does_keeps model h (deed.Store store) s = keeps_node h _ s refl
   does_keeps model h deed.Seal s = keeps_node h _ s refl
-  does_keeps model h (deed.Reserve word) s = keeps_node h _ (performs_own h s) refl
+  does_keeps model h (deed.Lr word) s = keeps_node h _ (performs_own h s) refl
   does_keeps model h deed.Fail s = keeps_node h _ s refl
-  does_keeps model h (deed.Conditional word value) s =
+  does_keeps model h (deed.Sc word value) s =
       let stored = writes_word h word (marks_of_access 0 4) (bytes_of_word value) (performs_own h s) in
       keeps_then s.views stored.views _ (writes_keeps h word (marks_of_access 0 4) (bytes_of_word value) (performs_own h s)) (keeps_node h _ stored refl)
-  does_keeps model h (deed.Update word value) s = writes_keeps h word (marks_of_access 0 4) (bytes_of_word value) (performs_own h s)
+  does_keeps model h (deed.Amo word value) s = writes_keeps h word (marks_of_access 0 4) (bytes_of_word value) (performs_own h s)
 
   -- ---- an act
 

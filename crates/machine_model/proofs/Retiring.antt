@@ -18,17 +18,17 @@ use Rattle.machine_model.specs.declared.act.Plan.{Plan}
 use Rattle.machine_model.specs.declared.act.Plan.TheVariants.{Stays, Changes}
 use Rattle.machine_model.specs.declared.outcome.Outcome.TheVariants as outcome
 use Rattle.machine_model.specs.Deciding.{miss_by, reading, reading_by, writing, writing_by}
-use Rattle.machine_model.specs.Steps.{Fetched, retires, plan_load, plan_store, plan_reserve, plan_conditional, plan_amo, plan_fence, plan_access, plan_instr, plan_unless, plan_step, waits_for_stores, write_waits, update}
+use Rattle.machine_model.specs.Steps.{Fetched, retires, plan_load, plan_store, plan_lr, plan_sc, plan_amo, plan_fence, plan_access, plan_instr, plan_unless, plan_step, waits_for_stores, write_waits, update}
 use Rattle.machine_model.specs.Views.{Node, line_of}
 use Rattle.machine_model.specs.Words.{word_of, word_in, number_of_bytes, read_from, store_of}
-use Rattle.memory_model.specs.declared.Model.{Model}
+use Rattle.memory_model.specs.declared.MemoryModel.{MemoryModel}
 use Rattle.memory_model.specs.declared.operation.Kind.TheVariants.{Load, Store}
 use Rattle.memory_model.specs.Rules.{fences}
 use Rattle.reservations.specs.Reservation.{is_valid}
 use Rattle.rv32_decode.specs.Rows.{decoded}
 use Rattle.rv32_decode.specs.declared.instruction.AmoOp.{AmoOp}
 use Rattle.rv32_decode.specs.declared.instruction.Instr.{Instr}
-use Rattle.rv32_exec.specs.Meaning.{Access, Private, Loads, Stores, Reserves, Tries, Updates, Fences, Calls, access_of, stop_of}
+use Rattle.rv32_exec.specs.Meaning.{Access, Private, Loads, Stores, DoesLr, DoesSc, DoesAmo, Fences, Calls, access_of, stop_of}
 use Rattle.store_buffer.specs.ByteMask.{covers, laid_over, marks_of_access}
 use Rattle.store_buffer.specs.Groups.{fits, forwarded, is_empty}
 use Rattle.tl_types.specs.declared.line.LineData.{LineData}
@@ -83,37 +83,37 @@ load_answers n f address bytes =
 store_answers : (n : Node) (f : Fetched) (address bytes value : ℕ) → AnswersAccess n f (Stores address bytes value) (plan_store n f address bytes value)
 store_answers n f address bytes value = either (AnswersAccess n f (Stores address bytes value)) (fits (word_of address) n.buffer) (retires n f None None (deed.Store (store_of address bytes value f.place))) (Stays outcome.BufferFull) (refl, refl, refl, refl) tt
 
-reserve_answers : (n : Node) (f : Fetched) (address : ℕ) → AnswersAccess n f (Reserves address) (plan_reserve n f address)
-reserve_answers n f address =
+lr_answers : (n : Node) (f : Fetched) (address : ℕ) → AnswersAccess n f (DoesLr address) (plan_lr n f address)
+lr_answers n f address =
     let line = line_of n.cache.shape.size address in
-    let go : LineData → Plan = λ held. retires n f (Some (read_from (word_in held address) address 4)) None (deed.Reserve address) in
-    either (AnswersAccess n f (Reserves address)) (waits_for_stores n f.instr address) (Stays outcome.MustDrain) (writing go n.cache line) tt
-    (writing_answers n f (Reserves address) go n.cache line (copy_at n.cache line) (λ held. (refl, refl, refl, fits_load (word_in held address) address 4)))
+    let go : LineData → Plan = λ held. retires n f (Some (read_from (word_in held address) address 4)) None (deed.Lr address) in
+    either (AnswersAccess n f (DoesLr address)) (waits_for_stores n f.instr address) (Stays outcome.MustDrain) (writing go n.cache line) tt
+    (writing_answers n f (DoesLr address) go n.cache line (copy_at n.cache line) (λ held. (refl, refl, refl, fits_load (word_in held address) address 4)))
 
-conditional_answers : (model : Model) (n : Node) (f : Fetched) (address value : ℕ) → AnswersAccess n f (Tries address value) (plan_conditional model n f address value)
-conditional_answers model n f address value =
-    let writes = retires n f None (Some true) (deed.Conditional address value) in
+sc_answers : (model : MemoryModel) (n : Node) (f : Fetched) (address value : ℕ) → AnswersAccess n f (DoesSc address value) (plan_sc model n f address value)
+sc_answers model n f address value =
+    let writes = retires n f None (Some true) (deed.Sc address value) in
     let tries = cond (write_waits model n f.instr address) (Stays outcome.MustDrain) writes in
-    either (AnswersAccess n f (Tries address value)) (not (is_valid address n.reserved)) (retires n f None (Some false) deed.Fail) tries (refl, refl, refl, refl)
-    (either (AnswersAccess n f (Tries address value)) (write_waits model n f.instr address) (Stays outcome.MustDrain) writes tt (refl, refl, refl, refl))
+    either (AnswersAccess n f (DoesSc address value)) (not (is_valid address n.reserved)) (retires n f None (Some false) deed.Fail) tries (refl, refl, refl, refl)
+    (either (AnswersAccess n f (DoesSc address value)) (write_waits model n f.instr address) (Stays outcome.MustDrain) writes tt (refl, refl, refl, refl))
 
-amo_answers : (model : Model) (n : Node) (f : Fetched) (address : ℕ) (op : AmoOp) (operand : ℕ) → AnswersAccess n f (Updates address op operand) (plan_amo model n f address op operand)
+amo_answers : (model : MemoryModel) (n : Node) (f : Fetched) (address : ℕ) (op : AmoOp) (operand : ℕ) → AnswersAccess n f (DoesAmo address op operand) (plan_amo model n f address op operand)
 amo_answers model n f address op operand =
     let line = line_of n.cache.shape.size address in
     let go : LineData → Plan = λ held. update n f address op operand (read_from (word_in held address) address 4) in
-    either (AnswersAccess n f (Updates address op operand)) (write_waits model n f.instr address) (Stays outcome.MustDrain) (writing go n.cache line) tt
-    (writing_answers n f (Updates address op operand) go n.cache line (copy_at n.cache line) (λ held. (refl, refl, refl, fits_load (word_in held address) address 4)))
+    either (AnswersAccess n f (DoesAmo address op operand)) (write_waits model n f.instr address) (Stays outcome.MustDrain) (writing go n.cache line) tt
+    (writing_answers n f (DoesAmo address op operand) go n.cache line (copy_at n.cache line) (λ held. (refl, refl, refl, fits_load (word_in held address) address 4)))
 
 fence_answers : (n : Node) (f : Fetched) → AnswersAccess n f Fences (plan_fence n f)
-fence_answers n f = either (AnswersAccess n f Fences) (fences (Some f.instr) Store Load && not (is_empty n.buffer)) (Stays outcome.MustDrain) (retires n f None None (cond (fences (Some f.instr) Store Store) deed.Seal deed.Alone)) tt (refl, refl, refl, refl)
+fence_answers n f = either (AnswersAccess n f Fences) (fences (Some f.instr) Store Load && not (is_empty n.buffer)) (Stays outcome.MustDrain) (retires n f None None (cond (fences (Some f.instr) Store Store) deed.Seal deed.Private)) tt (refl, refl, refl, refl)
 
-access_answers : (model : Model) (n : Node) (f : Fetched) (a : Access) → AnswersAccess n f a (plan_access model n f a)
+access_answers : (model : MemoryModel) (n : Node) (f : Fetched) (a : Access) → AnswersAccess n f a (plan_access model n f a)
 access_answers model n f Private = (refl, refl, refl, refl)
 access_answers model n f (Loads address bytes) = load_answers n f address bytes
 access_answers model n f (Stores address bytes value) = store_answers n f address bytes value
-access_answers model n f (Reserves address) = reserve_answers n f address
-access_answers model n f (Tries address value) = conditional_answers model n f address value
-access_answers model n f (Updates address op operand) = amo_answers model n f address op operand
+access_answers model n f (DoesLr address) = lr_answers n f address
+access_answers model n f (DoesSc address value) = sc_answers model n f address value
+access_answers model n f (DoesAmo address op operand) = amo_answers model n f address op operand
 access_answers model n f Fences = fence_answers n f
 access_answers model n f (Calls number argument) = (refl, refl, refl, refl)
 
@@ -149,19 +149,19 @@ fit_next image n w place i (Changes (act.Local count)) ew d r c s f = absurd f
 no_stop : (size : ℕ) (n : Node) (o : Option Instr) (d : Option Instr) → d ≡ o → stop_with size n.hart d ≡ None → stop_with size n.hart o ≡ None
 no_stop size n o d e s = ap (stop_with size n.hart) (sym e) ∙ s
 
-by_instr : (model : Model) (image : Initial) (n : Node) (w place : ℕ) (o : Option Instr) → w ≡ word_at image n.hart.pc → decoded w ≡ o → is_running n.hart.status ≡ true → can_fetch image n.hart.pc ≡ true → stop_with (length image.bytes) n.hart o ≡ None → IsNext image n (plan_instr model n w place o)
+by_instr : (model : MemoryModel) (image : Initial) (n : Node) (w place : ℕ) (o : Option Instr) → w ≡ word_at image n.hart.pc → decoded w ≡ o → is_running n.hart.status ≡ true → can_fetch image n.hart.pc ≡ true → stop_with (length image.bytes) n.hart o ≡ None → IsNext image n (plan_instr model n w place o)
 by_instr model image n w place None ew d r c s = absurd cc
 by_instr model image n w place (Some i) ew d r c s = fit_next image n w place i _ ew d r c s (access_answers model n (record { word = w; instr = i; place = place }) (access_of i n.hart.regs))
 
-by_stop : (model : Model) (image : Initial) (n : Node) (place : ℕ) (o : Option ℕ) → next_stop image n.hart ≡ o → is_running n.hart.status ≡ true → IsNext image n (plan_unless o (plan_instr model n (word_at image n.hart.pc) place (decoded (word_at image n.hart.pc))))
+by_stop : (model : MemoryModel) (image : Initial) (n : Node) (place : ℕ) (o : Option ℕ) → next_stop image n.hart ≡ o → is_running n.hart.status ≡ true → IsNext image n (plan_unless o (plan_instr model n (word_at image n.hart.pc) place (decoded (word_at image n.hart.pc))))
 by_stop model image n place (Some code) e r = (r, e)
 by_stop model image n place None e r =
     let c = can_be (can_fetch image n.hart.pc) (stop_with (length image.bytes) n.hart (decoded (word_at image n.hart.pc))) e in
     by_instr model image n (word_at image n.hart.pc) place (decoded (word_at image n.hart.pc)) refl refl r c.0 c.1
 
-by_running : (model : Model) (image : Initial) (n : Node) (place : ℕ) (b : Bool) → is_running n.hart.status ≡ b → IsNext image n (cond (not b) (Stays outcome.Halted) (plan_unless (next_stop image n.hart) (plan_instr model n (word_at image n.hart.pc) place (decoded (word_at image n.hart.pc)))))
+by_running : (model : MemoryModel) (image : Initial) (n : Node) (place : ℕ) (b : Bool) → is_running n.hart.status ≡ b → IsNext image n (cond (not b) (Stays outcome.Halted) (plan_unless (next_stop image n.hart) (plan_instr model n (word_at image n.hart.pc) place (decoded (word_at image n.hart.pc)))))
 by_running model image n place true e = by_stop model image n place (next_stop image n.hart) refl e
 by_running model image n place false e = tt
 
-pub step_is_next : (model : Model) (image : Initial) (n : Node) (place : ℕ) → IsNext image n (plan_step model image n place)
+pub step_is_next : (model : MemoryModel) (image : Initial) (n : Node) (place : ℕ) → IsNext image n (plan_step model image n place)
 step_is_next model image n place = by_running model image n place (is_running n.hart.status) refl

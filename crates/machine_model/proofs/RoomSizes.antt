@@ -39,7 +39,7 @@ use Rattle.machine_model.specs.declared.act.Deed.TheVariants as deed
 use Rattle.machine_model.specs.declared.config.Config.{Config}
 use Rattle.machine_model.proofs.Nodes.{node_same}
 use Rattle.machine_model.proofs.WorldFits.{framed_taken}
-use Rattle.memory_model.specs.declared.Model.{Model}
+use Rattle.memory_model.specs.declared.MemoryModel.{MemoryModel}
 use Rattle.store_buffer.specs.ByteMask.{marks_of_access}
 use Rattle.store_buffer.specs.Entry.{entry_of}
 use Rattle.store_buffer.specs.Groups.{Groups, after_seal, after_take, oldest}
@@ -366,16 +366,16 @@ drained_small s h word k =
     let e : Entry = entry_of word (oldest (node_at s h).buffer) in
     buffer_small (writes_word h word e.mask e.bytes (performs h e.ops s)) h (after_take word (node_at s h).buffer) (writes_small (performs h e.ops s) h word e.mask e.bytes (performs_small h e.ops s k))
 
-does_small : (model : Model) (h : ℕ) (d : Deed) (s : State) → IsSmallState s → IsSmallState (does model h d s)
-does_small model h deed.Alone s k = k
+does_small : (model : MemoryModel) (h : ℕ) (d : Deed) (s : State) → IsSmallState s → IsSmallState (does model h d s)
+does_small model h deed.Private s k = k
 does_small model h (deed.Output number) s k = with_small s h (record (node_at s h) { output = (node_at s h).output ++ number ∷ [] }) k (node_small s k h)
 does_small model h deed.Load s k = performs_small h (place_at s h ∷ []) s k
 does_small model h (deed.Store store) s k = buffer_small s h (put_behind model store (node_at s h).buffer) k
 does_small model h deed.Seal s k = buffer_small s h (after_seal (node_at s h).buffer) k
-does_small model h (deed.Reserve word) s k = reservation_small (performs_own h s) h (Some word) (performs_small h (place_at s h ∷ []) s k)
+does_small model h (deed.Lr word) s k = reservation_small (performs_own h s) h (Some word) (performs_small h (place_at s h ∷ []) s k)
 does_small model h deed.Fail s k = reservation_small s h None k
-does_small model h (deed.Conditional word value) s k = reservation_small (writes_word h word (marks_of_access 0 4) (bytes_of_word value) (performs_own h s)) h None (writes_small (performs_own h s) h word (marks_of_access 0 4) (bytes_of_word value) (performs_small h (place_at s h ∷ []) s k))
-does_small model h (deed.Update word value) s k = writes_small (performs_own h s) h word (marks_of_access 0 4) (bytes_of_word value) (performs_small h (place_at s h ∷ []) s k)
+does_small model h (deed.Sc word value) s k = reservation_small (writes_word h word (marks_of_access 0 4) (bytes_of_word value) (performs_own h s)) h None (writes_small (performs_own h s) h word (marks_of_access 0 4) (bytes_of_word value) (performs_small h (place_at s h ∷ []) s k))
+does_small model h (deed.Amo word value) s k = writes_small (performs_own h s) h word (marks_of_access 0 4) (bytes_of_word value) (performs_small h (place_at s h ∷ []) s k)
 
 -- ---- an act
 

@@ -48,7 +48,7 @@ use Rattle.machine_model.proofs.Retiring.{IsNext, step_is_next}
 use Rattle.memory_model.specs.Traces.{are_runs, are_runs_from}
 use Rattle.rv32_decode.specs.Rows.{decoded}
 use Rattle.rv32_decode.specs.declared.instruction.Instr.{Instr}
-use Rattle.rv32_exec.specs.Meaning.{Access, Private, Loads, Stores, Reserves, Tries, Updates, Fences, Calls, access_of}
+use Rattle.rv32_exec.specs.Meaning.{Access, Private, Loads, Stores, DoesLr, DoesSc, DoesAmo, Fences, Calls, access_of}
 use Rattle.store_buffer.specs.Groups.{drainable, has}
 use Rattle.tilelink_channels.specs.Queues.{front_of, queue_of, room_of}
 use Rattle.tl_types.specs.declared.message.Body.{Body}
@@ -106,9 +106,9 @@ retired_stops_not image hart entry i code e = access_stops_not (access_of i hart
     access_stops_not Private code e = cc
     access_stops_not (Loads address bytes) code e = cc
     access_stops_not (Stores address bytes value) code e = cc
-    access_stops_not (Reserves address) code e = cc
-    access_stops_not (Tries address value) code e = cc
-    access_stops_not (Updates address op operand) code e = cc
+    access_stops_not (DoesLr address) code e = cc
+    access_stops_not (DoesSc address value) code e = cc
+    access_stops_not (DoesAmo address op operand) code e = cc
     access_stops_not Fences code e = cc
     access_stops_not (Calls number argument) code e = cond_stops_not (nat_eq number 0) _ code e
 

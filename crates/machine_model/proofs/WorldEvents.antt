@@ -27,7 +27,7 @@ use Rattle.machine_model.specs.Changing.{acted, outcome_of, place_at}
 use Rattle.machine_model.specs.Deciding.{miss_by, plan_miss, reading, reading_by, writing, writing_by}
 use Rattle.machine_model.specs.Deliveries.{is_trunk, plan_body, plan_deliver, plan_front, taken, unless_busy, unless_releasing}
 use Rattle.machine_model.specs.Events.{IsBad, IsLimited, Moves, after_events, evict_by, happens, hart_of, is_limited, is_piece, names_well, plan_drain, plan_evict, plan_local, plan_of, state_by, verdict_by, counted}
-use Rattle.machine_model.specs.Steps.{Fetched, plan_access, plan_amo, plan_call, plan_conditional, plan_fence, plan_instr, plan_load, plan_reserve, plan_store, plan_unless, retires, update, waits_for_stores, write_waits}
+use Rattle.machine_model.specs.Steps.{Fetched, plan_access, plan_amo, plan_call, plan_sc, plan_fence, plan_instr, plan_load, plan_lr, plan_store, plan_unless, retires, update, waits_for_stores, write_waits}
 use Rattle.machine_model.specs.Views.{Node, State, line_of, line_size, node_at, place_of}
 use Rattle.machine_model.specs.Words.{read_from, store_of, word_in, word_of}
 use Rattle.machine_model.specs.declared.act.Act.{Act}
@@ -48,7 +48,7 @@ use Rattle.machine_model.proofs.WorldDeliveries.{acquired_fits, ended_fits, prob
 use Rattle.machine_model.proofs.WorldFits.{Framed, IsFit, framed_taken, kit_at, kit_of}
 use Rattle.machine_model.proofs.WorldKept.{front_line, is_line, side}
 use Rattle.machine_model.proofs.WorldSteps.{Fits, IsAllowed, MayWrite, drains_fits, last_after, retires_fits, stopped_fits, went_alone_fits}
-use Rattle.memory_model.specs.declared.Model.{Model}
+use Rattle.memory_model.specs.declared.MemoryModel.{MemoryModel}
 use Rattle.reservations.specs.Reservation.{is_valid}
 use Rattle.memory_model.specs.Rules.{fences}
 use Rattle.memory_model.specs.declared.operation.Kind.TheVariants.{Load, Store}
@@ -61,7 +61,7 @@ use Rattle.rv32_decode.specs.declared.instruction.LoadOp.{LoadOp}
 use Rattle.rv32_decode.specs.declared.instruction.LoadOp.TheVariants.{Lb, Lh, Lw, Lbu, Lhu}
 use Rattle.rv32_decode.specs.declared.instruction.SystemOp.TheVariants.{Ecall, Ebreak}
 use Rattle.rv32_exec.specs.Arithmetic.{bytes_loaded}
-use Rattle.rv32_exec.specs.Meaning.{Access, Private, Loads, Stores, Reserves, Tries, Updates, Fences, Calls, access_of, access_stop, stop_of}
+use Rattle.rv32_exec.specs.Meaning.{Access, Private, Loads, Stores, DoesLr, DoesSc, DoesAmo, Fences, Calls, access_of, access_stop, stop_of}
 use Rattle.store_buffer.specs.ByteMask.{covers, laid_over, marks_of_access}
 use Rattle.store_buffer.specs.Groups.{drainable, fits, forwarded, has, is_empty}
 use Rattle.tilelink_channels.specs.Queues.{front_of, popped, queue_of, room_of}
@@ -102,8 +102,8 @@ line_inside image Bytes64 address pages low high = go (length image.bytes) pages
 -- an access that doesn't stop lies in memory
 abbrev IsInside : Initial → Access → Type 0
 IsInside image (Loads address bytes) = (base ≤ address) × (address < end_of image)
-IsInside image (Reserves address) = (base ≤ address) × (address < end_of image)
-IsInside image (Updates address op operand) = (base ≤ address) × (address < end_of image)
+IsInside image (DoesLr address) = (base ≤ address) × (address < end_of image)
+IsInside image (DoesAmo address op operand) = (base ≤ address) × (address < end_of image)
 IsInside image _ = Unit {0}
 
 access_inside : (image : Initial) (misaligned outside address bytes : ℕ) → 0 < bytes → access_stop misaligned outside (length image.bytes) address bytes ≡ None → (base ≤ address) × (address < end_of image)
@@ -202,16 +202,16 @@ module _ (s : State) (last : ℕ → LineData) (i : IsFit s last) (h : ℕ) (in_
 
   -- ---- a step
 
-  good_conditional : (model : Model) (f : Fetched) (address value : ℕ) → IsGoodPlan s last h (plan_conditional model n f address value)
-  good_conditional model f address value = go (is_valid address n.reserved) refl
+  good_sc : (model : MemoryModel) (f : Fetched) (address value : ℕ) → IsGoodPlan s last h (plan_sc model n f address value)
+  good_sc model f address value = go (is_valid address n.reserved) refl
     where
       valid : (reserved : Option ℕ) → n.reserved ≡ reserved → is_valid address reserved ≡ true → MayWrite s h address
       valid None e v = cc v
       valid (Some word) e v = let same : word ≡ address = eqb-true word address v in i.reserved h address (e ∙ ap Some same)
 
-      go : (t : Bool) → is_valid address n.reserved ≡ t → IsGoodPlan s last h (if not t then retires n f None (Some false) deed.Fail else if write_waits model n f.instr address then Stays outcome.MustDrain else retires n f None (Some true) (deed.Conditional address value))
+      go : (t : Bool) → is_valid address n.reserved ≡ t → IsGoodPlan s last h (if not t then retires n f None (Some false) deed.Fail else if write_waits model n f.instr address then Stays outcome.MustDrain else retires n f None (Some true) (deed.Sc address value))
       go false e = good_retire f None (Some false) deed.Fail tt
-      go true e = good_if s last h (write_waits model n f.instr address) _ _ (λ _. tt) (λ _. good_retire f None (Some true) (deed.Conditional address value) (valid n.reserved refl e))
+      go true e = good_if s last h (write_waits model n f.instr address) _ _ (λ _. tt) (λ _. good_retire f None (Some true) (deed.Sc address value) (valid n.reserved refl e))
 
   good_load : (f : Fetched) (address bytes : ℕ) → IsLine (line address) → IsGoodPlan s last h (plan_load n f address bytes)
   good_load f address bytes on = go (covers waiting.0 (marks_of_access (address % 4) bytes))
@@ -238,44 +238,44 @@ module _ (s : State) (last : ℕ → LineData) (i : IsFit s last) (h : ℕ) (in_
   good_wait true address go on good = tt
   good_wait false address go on good = good_writing (line address) go on (λ found may. good found (may_write address may))
 
-  good_reserve : (f : Fetched) (address : ℕ) → IsLine (line address) → IsGoodPlan s last h (plan_reserve n f address)
-  good_reserve f address on = good_wait (waits_for_stores n f.instr address) address (λ found. retires n f (Some (read_from (word_in found address) address 4)) None (deed.Reserve address)) on
-      (λ found may. good_retire f (Some (read_from (word_in found address) address 4)) None (deed.Reserve address) may)
+  good_lr : (f : Fetched) (address : ℕ) → IsLine (line address) → IsGoodPlan s last h (plan_lr n f address)
+  good_lr f address on = good_wait (waits_for_stores n f.instr address) address (λ found. retires n f (Some (read_from (word_in found address) address 4)) None (deed.Lr address)) on
+      (λ found may. good_retire f (Some (read_from (word_in found address) address 4)) None (deed.Lr address) may)
 
-  good_amo : (model : Model) (f : Fetched) (address : ℕ) (op : AmoOp) (operand : ℕ) → IsLine (line address) → IsGoodPlan s last h (plan_amo model n f address op operand)
+  good_amo : (model : MemoryModel) (f : Fetched) (address : ℕ) (op : AmoOp) (operand : ℕ) → IsLine (line address) → IsGoodPlan s last h (plan_amo model n f address op operand)
   good_amo model f address op operand on = good_wait (write_waits model n f.instr address) address (λ found. update n f address op operand (read_from (word_in found address) address 4)) on
-      (λ found may. good_retire f (Some (read_from (word_in found address) address 4)) None (deed.Update address (combined op (read_from (word_in found address) address 4) operand)) may)
+      (λ found may. good_retire f (Some (read_from (word_in found address) address 4)) None (deed.Amo address (combined op (read_from (word_in found address) address 4) operand)) may)
 
   good_fence : (f : Fetched) → IsGoodPlan s last h (plan_fence n f)
   good_fence f = go (fences (Some f.instr) Store Load && not (is_empty n.buffer)) (fences (Some f.instr) Store Store)
     where
-      go : (t u : Bool) → IsGoodPlan s last h (if t then Stays outcome.MustDrain else retires n f None None (if u then deed.Seal else deed.Alone))
+      go : (t u : Bool) → IsGoodPlan s last h (if t then Stays outcome.MustDrain else retires n f None None (if u then deed.Seal else deed.Private))
       go true u = tt
       go false true = good_retire f None None deed.Seal tt
-      go false false = good_retire f None None deed.Alone tt
+      go false false = good_retire f None None deed.Private tt
 
   good_call : (f : Fetched) (number argument : ℕ) → IsGoodPlan s last h (plan_call n f number argument)
   good_call f number argument = go (number == 0)
     where
-      go : (t : Bool) → IsGoodPlan s last h (retires n f None None (if t then deed.Alone else deed.Output argument))
-      go true = good_retire f None None deed.Alone tt
+      go : (t : Bool) → IsGoodPlan s last h (retires n f None None (if t then deed.Private else deed.Output argument))
+      go true = good_retire f None None deed.Private tt
       go false = good_retire f None None (deed.Output argument) tt
 
-  good_access : (model : Model) (f : Fetched) (a : Access) → IsInside s.trace.image a → IsGoodPlan s last h (plan_access model n f a)
-  good_access model f Private is = good_retire f None None deed.Alone tt
+  good_access : (model : MemoryModel) (f : Fetched) (a : Access) → IsInside s.trace.image a → IsGoodPlan s last h (plan_access model n f a)
+  good_access model f Private is = good_retire f None None deed.Private tt
   good_access model f (Loads address bytes) is = good_load f address bytes (inside address is.0 is.1)
   good_access model f (Stores address bytes value) is = good_store f address bytes value
-  good_access model f (Reserves address) is = good_reserve f address (inside address is.0 is.1)
-  good_access model f (Tries address value) is = good_conditional model f address value
-  good_access model f (Updates address op operand) is = good_amo model f address op operand (inside address is.0 is.1)
+  good_access model f (DoesLr address) is = good_lr f address (inside address is.0 is.1)
+  good_access model f (DoesSc address value) is = good_sc model f address value
+  good_access model f (DoesAmo address op operand) is = good_amo model f address op operand (inside address is.0 is.1)
   good_access model f Fences is = good_fence f
   good_access model f (Calls number argument) is = good_call f number argument
 
-  good_instr : (model : Model) (word place : ℕ) (o : Option Instr) → stop_with (length s.trace.image.bytes) n.hart o ≡ None → IsGoodPlan s last h (plan_instr model n word place o)
+  good_instr : (model : MemoryModel) (word place : ℕ) (o : Option Instr) → stop_with (length s.trace.image.bytes) n.hart o ≡ None → IsGoodPlan s last h (plan_instr model n word place o)
   good_instr model word place None e = (stopped_fits s last i h in_h 2, tt)
   good_instr model word place (Some instr) e = good_access model (record { word = word; instr = instr; place = place }) (access_of instr n.hart.regs) (instr_inside s.trace.image instr n.hart.pc n.hart.regs e)
 
-  good_step : (model : Model) (place : ℕ) (o : Option Instr) → (fetch : Bool) → IsGoodPlan s last h (plan_unless (if fetch then stop_with (length s.trace.image.bytes) n.hart o else Some 1) (plan_instr model n (word_at s.trace.image n.hart.pc) place o))
+  good_step : (model : MemoryModel) (place : ℕ) (o : Option Instr) → (fetch : Bool) → IsGoodPlan s last h (plan_unless (if fetch then stop_with (length s.trace.image.bytes) n.hart o else Some 1) (plan_instr model n (word_at s.trace.image n.hart.pc) place o))
   good_step model place o false = (stopped_fits s last i h in_h 1, tt)
   good_step model place o true = go (stop_with (length s.trace.image.bytes) n.hart o) refl
     where

@@ -30,7 +30,7 @@ use Rattle.machine_model.proofs.LineStands.{IsLast, newest}
 use Rattle.machine_model.proofs.LineViews.{written_here, written_elsewhere}
 use Rattle.machine_model.proofs.WorldFits.{IsFit, HoldsReserved, fits, fits_alone, framed_node, framed_trace, kit_at, kit_changed, kit_of, same_reserved}
 use Rattle.machine_model.proofs.WorldKept.{is_line, writes}
-use Rattle.memory_model.specs.declared.Model.{Model}
+use Rattle.memory_model.specs.declared.MemoryModel.{MemoryModel}
 use Rattle.rv32_decode.specs.declared.instruction.Instr.{Instr}
 use Rattle.store_buffer.specs.ByteMask.{marks_of_access}
 use Rattle.store_buffer.specs.Entry.{entry_of}
@@ -50,8 +50,8 @@ wrote_word size last word marks bytes q = if q == line_of size word then with_wo
 
 -- behind an instruction's deed
 abbrev pub last_by : LineSize → Deed → (ℕ → LineData) → ℕ → LineData
-last_by size (deed.Conditional word value) last = wrote_word size last word (marks_of_access 0 4) (bytes_of_word value)
-last_by size (deed.Update word value) last = wrote_word size last word (marks_of_access 0 4) (bytes_of_word value)
+last_by size (deed.Sc word value) last = wrote_word size last word (marks_of_access 0 4) (bytes_of_word value)
+last_by size (deed.Amo word value) last = wrote_word size last word (marks_of_access 0 4) (bytes_of_word value)
 last_by size _ last = last
 
 -- behind an act
@@ -171,28 +171,28 @@ performs_count s h places = ap (λ v. length v.nodes) (performs_nodes s h places
 
 -- an instruction's deed, where what it writes and reserves may be written
 abbrev pub IsAllowed : State → ℕ → Deed → Type 0
-IsAllowed s h (deed.Reserve word) = MayWrite s h word
-IsAllowed s h (deed.Conditional word value) = MayWrite s h word
-IsAllowed s h (deed.Update word value) = MayWrite s h word
+IsAllowed s h (deed.Lr word) = MayWrite s h word
+IsAllowed s h (deed.Sc word value) = MayWrite s h word
+IsAllowed s h (deed.Amo word value) = MayWrite s h word
 IsAllowed s h _ = Unit {0}
 
 module _ (s : State) (last : ℕ → LineData) (i : IsFit s last) (h : ℕ) (in_h : h < length s.views.nodes) where
-  pub does_fits : (model : Model) (d : Deed) → IsAllowed s h d → IsFit (does model h d s) (last_by (line_size s) d last) × (length (does model h d s).views.nodes ≡ length s.views.nodes)
-  does_fits model deed.Alone may = (i, refl)
+  pub does_fits : (model : MemoryModel) (d : Deed) → IsAllowed s h d → IsFit (does model h d s) (last_by (line_size s) d last) × (length (does model h d s).views.nodes ≡ length s.views.nodes)
+  does_fits model deed.Private may = (i, refl)
   does_fits model (deed.Output number) may = (output_fits s last i h in_h ((node_at s h).output ++ number ∷ []), length-set s.views.nodes h _)
   does_fits model deed.Load may = (performs_fits s last h (place_at s h ∷ []) i, refl)
   does_fits model (deed.Store store) may = (buffer_fits s last i h in_h (put_behind model store (node_at s h).buffer), length-set s.views.nodes h _)
   does_fits model deed.Seal may = (buffer_fits s last i h in_h (after_seal (node_at s h).buffer), length-set s.views.nodes h _)
-  does_fits model (deed.Reserve word) may = (reserved_fits (performs_own h s) last (performs_fits s last h (place_at s h ∷ []) i) h in_h word may, length-set s.views.nodes h _)
+  does_fits model (deed.Lr word) may = (reserved_fits (performs_own h s) last (performs_fits s last h (place_at s h ∷ []) i) h in_h word may, length-set s.views.nodes h _)
   does_fits model deed.Fail may = (failed_fits s last i h in_h, length-set s.views.nodes h _)
-  does_fits model (deed.Conditional word value) may =
+  does_fits model (deed.Sc word value) may =
       let later : ℕ → LineData = wrote_word (line_size s) last word (marks_of_access 0 4) (bytes_of_word value) in
       let w : IsFit (writes_word h word (marks_of_access 0 4) (bytes_of_word value) (performs_own h s)) later = writes_fits (performs_own h s) last (performs_fits s last h (place_at s h ∷ []) i) h in_h word (marks_of_access 0 4) (bytes_of_word value) may in
       let count : length (writes_word h word (marks_of_access 0 4) (bytes_of_word value) (performs_own h s)).views.nodes ≡ length s.views.nodes = length-set s.views.nodes h _ in
       (failed_fits (writes_word h word (marks_of_access 0 4) (bytes_of_word value) (performs_own h s)) later w h (rw count in_h), length-set _ h _ ∙ count)
-  does_fits model (deed.Update word value) may = (writes_fits (performs_own h s) last (performs_fits s last h (place_at s h ∷ []) i) h in_h word (marks_of_access 0 4) (bytes_of_word value) may, length-set s.views.nodes h _)
+  does_fits model (deed.Amo word value) may = (writes_fits (performs_own h s) last (performs_fits s last h (place_at s h ∷ []) i) h in_h word (marks_of_access 0 4) (bytes_of_word value) may, length-set s.views.nodes h _)
 
-  pub retires_fits : (model : Model) (entry : Retired) (instr : Instr) (d : Deed) → IsAllowed s h d → IsFit (retired h entry instr (does model h d s)) (last_by (line_size s) d last)
+  pub retires_fits : (model : MemoryModel) (entry : Retired) (instr : Instr) (d : Deed) → IsAllowed s h d → IsFit (retired h entry instr (does model h d s)) (last_by (line_size s) d last)
   retires_fits model entry instr d may =
       let w : IsFit (does model h d s) (last_by (line_size s) d last) × (length (does model h d s).views.nodes ≡ length s.views.nodes) = does_fits model d may in
       retired_fits (does model h d s) (last_by (line_size s) d last) w.0 h (rw w.1 in_h) entry instr

@@ -17,8 +17,8 @@ use Rattle.machine_model.specs.declared.outcome.Outcome.TheVariants as outcome
 use Rattle.machine_model.specs.Deliveries.{delivered, with_less}
 use Rattle.machine_model.specs.Views.{State, line_of, node_at, with_node, with_trace, sent}
 use Rattle.machine_model.specs.Words.{bytes_of_word}
-use Rattle.memory_model.specs.declared.Model.{Model}
-use Rattle.memory_model.specs.declared.Model.TheVariants.{Rvwmo, Ztso}
+use Rattle.memory_model.specs.declared.MemoryModel.{MemoryModel}
+use Rattle.memory_model.specs.declared.MemoryModel.TheVariants.{Rvwmo, Ztso}
 use Rattle.rv32_decode.specs.declared.instruction.Instr.{Instr}
 use Rattle.store_buffer.specs.ByteMask.{marks_of_access}
 use Rattle.store_buffer.specs.Entry.{entry_of}
@@ -66,20 +66,20 @@ writes_word h word marks bytes s =
     with_node h (record n { cache = word_written n.cache (line_of n.cache.shape.size word) word marks bytes }) s
 
 -- a store waits; under Ztso a group holds one word
-abbrev pub put_behind : Model → Store → Groups → Groups
+abbrev pub put_behind : MemoryModel → Store → Groups → Groups
 put_behind Rvwmo store b = after_put store b
 put_behind Ztso store b = after_put_single store b
 
-abbrev pub does : Model → ℕ → Deed → State → State
-does model h deed.Alone s = s
+abbrev pub does : MemoryModel → ℕ → Deed → State → State
+does model h deed.Private s = s
 does model h (deed.Output number) s = with_node h (record (node_at s h) { output = (node_at s h).output ++ number ∷ [] }) s
 does model h deed.Load s = performs_own h s
 does model h (deed.Store store) s = with_buffer h (put_behind model store (node_at s h).buffer) s
 does model h deed.Seal s = with_buffer h (after_seal (node_at s h).buffer) s
-does model h (deed.Reserve word) s = with_reservation h (Some word) (performs_own h s)
+does model h (deed.Lr word) s = with_reservation h (Some word) (performs_own h s)
 does model h deed.Fail s = with_reservation h None s
-does model h (deed.Conditional word value) s = with_reservation h None (writes_word h word (marks_of_access 0 4) (bytes_of_word value) (performs_own h s))
-does model h (deed.Update word value) s = writes_word h word (marks_of_access 0 4) (bytes_of_word value) (performs_own h s)
+does model h (deed.Sc word value) s = with_reservation h None (writes_word h word (marks_of_access 0 4) (bytes_of_word value) (performs_own h s))
+does model h (deed.Amo word value) s = writes_word h word (marks_of_access 0 4) (bytes_of_word value) (performs_own h s)
 
 -- the hart moves on, and its list has one more entry
 abbrev pub retired : ℕ → Retired → Instr → State → State

@@ -65,8 +65,8 @@ pub record IsWritable (h word : ℕ) (s : State) : Type 0 where
 
 abbrev pub IsReadyDeed : ℕ → Deed → State → Type 0
 IsReadyDeed h (deed.Store store) s = IsTrue (fits store.word (node_at s h).buffer)
-IsReadyDeed h (deed.Conditional word value) s = IsWritable h word s
-IsReadyDeed h (deed.Update word value) s = IsWritable h word s
+IsReadyDeed h (deed.Sc word value) s = IsWritable h word s
+IsReadyDeed h (deed.Amo word value) s = IsWritable h word s
 IsReadyDeed h _ s = Unit {0}
 
 -- a Probe's answer leaves no Trunk, data are a line's, and a Grant's Acquire is outstanding

@@ -12,8 +12,8 @@ use Rattle.machine_model.specs.declared.outcome.Outcome.TheVariants as outcome
 use Rattle.machine_model.specs.Deciding.{reading, writing}
 use Rattle.machine_model.specs.Views.{Node, line_of}
 use Rattle.machine_model.specs.Words.{word_of, word_in, read_from, store_of}
-use Rattle.memory_model.specs.declared.Model.{Model}
-use Rattle.memory_model.specs.declared.Model.TheVariants.{Rvwmo, Ztso}
+use Rattle.memory_model.specs.declared.MemoryModel.{MemoryModel}
+use Rattle.memory_model.specs.declared.MemoryModel.TheVariants.{Rvwmo, Ztso}
 use Rattle.memory_model.specs.declared.operation.Kind.TheVariants.{Load, Store}
 use Rattle.memory_model.specs.Items.{annotations_of}
 use Rattle.memory_model.specs.Rules.{fences}
@@ -22,7 +22,7 @@ use Rattle.rv32_decode.specs.Amo.{combined}
 use Rattle.rv32_decode.specs.Rows.{decoded}
 use Rattle.rv32_decode.specs.declared.instruction.AmoOp.{AmoOp}
 use Rattle.rv32_decode.specs.declared.instruction.Instr.{Instr}
-use Rattle.rv32_exec.specs.Meaning.{Access, Private, Loads, Stores, Reserves, Tries, Updates, Fences, Calls, access_of}
+use Rattle.rv32_exec.specs.Meaning.{Access, Private, Loads, Stores, DoesLr, DoesSc, DoesAmo, Fences, Calls, access_of}
 use Rattle.store_buffer.specs.ByteMask.{covers, laid_over, marks_of_access}
 use Rattle.store_buffer.specs.Groups.{fits, forwarded, has, has_sealed, is_empty}
 
@@ -60,29 +60,29 @@ abbrev pub waits_for_stores : Node → Instr → ℕ → Bool
 waits_for_stores n i word = ((annotations_of i).release && not (is_empty n.buffer)) || has word n.buffer
 
 -- a write that is performed at once passes no sealed group, and under Ztso no store
-abbrev pub write_waits : Model → Node → Instr → ℕ → Bool
+abbrev pub write_waits : MemoryModel → Node → Instr → ℕ → Bool
 write_waits Rvwmo n i word = waits_for_stores n i word || has_sealed n.buffer
 write_waits Ztso n i word = not (is_empty n.buffer)
 
-abbrev pub plan_reserve : Node → Fetched → (address : ℕ) → Plan
-plan_reserve n f address =
+abbrev pub plan_lr : Node → Fetched → (address : ℕ) → Plan
+plan_lr n f address =
     if waits_for_stores n f.instr address
     then Stays outcome.MustDrain
-    else writing (λ line. retires n f (Some (read_from (word_in line address) address 4)) None (deed.Reserve address)) n.cache (line_of n.cache.shape.size address)
+    else writing (λ line. retires n f (Some (read_from (word_in line address) address 4)) None (deed.Lr address)) n.cache (line_of n.cache.shape.size address)
 
 -- without its reservation a store conditional fails at once
-abbrev pub plan_conditional : Model → Node → Fetched → (address value : ℕ) → Plan
-plan_conditional model n f address value =
+abbrev pub plan_sc : MemoryModel → Node → Fetched → (address value : ℕ) → Plan
+plan_sc model n f address value =
     if not (is_valid address n.reserved)
     then retires n f None (Some false) deed.Fail
     else if write_waits model n f.instr address
     then Stays outcome.MustDrain
-    else retires n f None (Some true) (deed.Conditional address value)
+    else retires n f None (Some true) (deed.Sc address value)
 
 abbrev pub update : Node → Fetched → (address : ℕ) → AmoOp → (operand old : ℕ) → Plan
-update n f address op operand old = retires n f (Some old) None (deed.Update address (combined op old operand))
+update n f address op operand old = retires n f (Some old) None (deed.Amo address (combined op old operand))
 
-abbrev pub plan_amo : Model → Node → Fetched → (address : ℕ) → AmoOp → (operand : ℕ) → Plan
+abbrev pub plan_amo : MemoryModel → Node → Fetched → (address : ℕ) → AmoOp → (operand : ℕ) → Plan
 plan_amo model n f address op operand =
     if write_waits model n f.instr address
     then Stays outcome.MustDrain
@@ -95,27 +95,27 @@ abbrev pub plan_fence : Node → Fetched → Plan
 plan_fence n f =
     if fences (Some f.instr) Store Load && not (is_empty n.buffer)
     then Stays outcome.MustDrain
-    else retires n f None None (if fences (Some f.instr) Store Store then deed.Seal else deed.Alone)
+    else retires n f None None (if fences (Some f.instr) Store Store then deed.Seal else deed.Private)
 
 -- ---- environment calls: 0 ends the hart, 1 puts a number out
 
 abbrev pub plan_call : Node → Fetched → (number argument : ℕ) → Plan
-plan_call n f number argument = retires n f None None (if number == 0 then deed.Alone else deed.Output argument)
+plan_call n f number argument = retires n f None None (if number == 0 then deed.Private else deed.Output argument)
 
 -- ---- a step
 
-abbrev pub plan_access : Model → Node → Fetched → Access → Plan
-plan_access model n f Private = retires n f None None deed.Alone
+abbrev pub plan_access : MemoryModel → Node → Fetched → Access → Plan
+plan_access model n f Private = retires n f None None deed.Private
 plan_access model n f (Loads address bytes) = plan_load n f address bytes
 plan_access model n f (Stores address bytes value) = plan_store n f address bytes value
-plan_access model n f (Reserves address) = plan_reserve n f address
-plan_access model n f (Tries address value) = plan_conditional model n f address value
-plan_access model n f (Updates address op operand) = plan_amo model n f address op operand
+plan_access model n f (DoesLr address) = plan_lr n f address
+plan_access model n f (DoesSc address value) = plan_sc model n f address value
+plan_access model n f (DoesAmo address op operand) = plan_amo model n f address op operand
 plan_access model n f Fences = plan_fence n f
 plan_access model n f (Calls number argument) = plan_call n f number argument
 
 -- next_stop has judged a word that is no instruction already; 2 is its answer
-abbrev pub plan_instr : Model → Node → (word place : ℕ) → Option Instr → Plan
+abbrev pub plan_instr : MemoryModel → Node → (word place : ℕ) → Option Instr → Plan
 plan_instr model n word place None = Changes (act.Stop 2)
 plan_instr model n word place (Some i) = plan_access model n (record { word = word; instr = i; place = place }) (access_of i n.hart.regs)
 
@@ -124,7 +124,7 @@ plan_unless (Some code) go = Changes (act.Stop code)
 plan_unless None go = go
 
 -- the hart has to run; then come the stops
-abbrev pub plan_step : Model → Initial → Node → (place : ℕ) → Plan
+abbrev pub plan_step : MemoryModel → Initial → Node → (place : ℕ) → Plan
 plan_step model image n place =
     if not (is_running n.hart.status)
     then Stays outcome.Halted

@@ -45,7 +45,7 @@ pub enum Act {
 #[derive(Clone, Copy, Debug, PartialEq, Eq)]
 pub enum Deed {
     /// Nothing.
-    Alone,
+    Private,
     /// Its number is put out.
     Output(u32),
     /// Its load is performed.
@@ -55,11 +55,11 @@ pub enum Deed {
     /// It closes the store buffer's open group.
     Seal,
     /// Its load is performed, and this word becomes the reservation.
-    Reserve(u32),
+    Lr(u32),
     /// The store conditional fails: the reservation ends.
     Fail,
     /// The store conditional writes this number to this word and is performed; the reservation ends.
-    Conditional { word: u32, value: u32 },
+    Sc { word: u32, value: u32 },
     /// The AMO writes this number to this word and is performed.
-    Update { word: u32, value: u32 },
+    Amo { word: u32, value: u32 },
 }

@@ -1,6 +1,6 @@
 //! What a machine is made of.
 
-use memory_model::Model;
+use memory_model::MemoryModel;
 
 /// The parts of a machine and the memory model that it keeps. Any numbers may stand here: whether a
 /// machine can be made of them is for the machine to say.
@@ -14,5 +14,5 @@ pub struct Config {
     pub ways: u32,
     /// How many bytes a line has: 16 or 64.
     pub line: u32,
-    pub model: Model,
+    pub model: MemoryModel,
 }

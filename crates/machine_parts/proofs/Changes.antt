@@ -18,7 +18,7 @@ use Rattle.machine_model.specs.declared.act.Deed.TheVariants as deed
 use Rattle.machine_model.specs.Changing.{acted, does, performs, sent_if_evicted}
 use Rattle.machine_model.specs.Deliveries.{handled, sent_if_answered, sent_if_granted, sent_if_handled, sent_probes, taken}
 use Rattle.machine_model.specs.Views.{State, line_size, node_at, place_of}
-use Rattle.memory_model.specs.declared.Model.{Model}
+use Rattle.memory_model.specs.declared.MemoryModel.{MemoryModel}
 use Rattle.store_buffer.specs.Entry.{entry_of}
 use Rattle.store_buffer.specs.Groups.{oldest}
 use Rattle.tl_types.specs.declared.message.Body.{Body}
@@ -29,16 +29,16 @@ performs_keep : (h : ℕ) (places : List ℕ) (s : State) → (performs h places
 performs_keep h [] s = refl
 performs_keep h (place ∷ places) s = performs_keep h places _
 
-does_keeps : (model : Model) (h : ℕ) (d : Deed) (s : State) → (does model h d s).views.changes ≡ s.views.changes
-does_keeps model h deed.Alone s = refl
+does_keeps : (model : MemoryModel) (h : ℕ) (d : Deed) (s : State) → (does model h d s).views.changes ≡ s.views.changes
+does_keeps model h deed.Private s = refl
 does_keeps model h (deed.Output number) s = refl
 does_keeps model h deed.Load s = refl
 does_keeps model h (deed.Store store) s = refl
 does_keeps model h deed.Seal s = refl
-does_keeps model h (deed.Reserve word) s = refl
+does_keeps model h (deed.Lr word) s = refl
 does_keeps model h deed.Fail s = refl
-does_keeps model h (deed.Conditional word value) s = refl
-does_keeps model h (deed.Update word value) s = refl
+does_keeps model h (deed.Sc word value) s = refl
+does_keeps model h (deed.Amo word value) s = refl
 
 evicted_keeps : (h line : ℕ) (e : Evict) (s : State) → (sent_if_evicted h line e s).views.changes ≡ s.views.changes
 evicted_keeps h line (Evicted change bytes) s = refl

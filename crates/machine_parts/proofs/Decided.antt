@@ -20,7 +20,7 @@ use Rattle.machine_parts.specs.Applying.{Answers, answer_to, decided, decided_by
 use Rattle.hart.specs.declared.status.Status.{Status}
 use Rattle.hart.specs.declared.status.Status.TheVariants.{Exited, Running}
 use Rattle.hart.specs.Run.{status_after}
-use Rattle.rv32_exec.specs.Meaning.{Access, Private, Loads, Stores, Reserves, Tries, Updates, Fences, Calls, access_of}
+use Rattle.rv32_exec.specs.Meaning.{Access, Private, Loads, Stores, DoesLr, DoesSc, DoesAmo, Fences, Calls, access_of}
 use Rattle.machine_parts.specs.declared.errors.ApplyError.{ApplyError}
 use Rattle.machine_parts.specs.declared.errors.ApplyError.TheVariants.{BadEvent, Limit, NoMemory}
 
@@ -129,9 +129,9 @@ accesses_stop_none : (a : Access) (code : ℕ) → outcome_by (status_after a) �
 accesses_stop_none Private code is = cc
 accesses_stop_none (Loads address bytes) code is = cc
 accesses_stop_none (Stores address bytes value) code is = cc
-accesses_stop_none (Reserves address) code is = cc
-accesses_stop_none (Tries address value) code is = cc
-accesses_stop_none (Updates address op operand) code is = cc
+accesses_stop_none (DoesLr address) code is = cc
+accesses_stop_none (DoesSc address value) code is = cc
+accesses_stop_none (DoesAmo address op operand) code is = cc
 accesses_stop_none Fences code is = cc
 accesses_stop_none (Calls number argument) code is = calls_stop_none (number == 0) argument code is
 

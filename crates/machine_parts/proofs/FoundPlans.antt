@@ -4,41 +4,41 @@ use Rattle.std.proofs.Common.{sym, ◌∙◌, ap, subst}
 use Rattle.hart.specs.declared.state.Hart.{Hart}
 use Rattle.machine_model.specs.Steps.{Fetched, plan_access, plan_unless}
 use Rattle.machine_model.specs.Views.{Node}
-use Rattle.memory_model.specs.declared.Model.{Model}
+use Rattle.memory_model.specs.declared.MemoryModel.{MemoryModel}
 use Rattle.rv32_decode.specs.declared.instruction.Instr.{Instr}
 use Rattle.rv32_decode.specs.declared.instruction.Instr.TheVariants as instr
 use Rattle.rv32_decode.specs.declared.instruction.LoadOp.TheVariants as load
 use Rattle.rv32_decode.specs.declared.instruction.StoreOp.TheVariants as store
 use Rattle.rv32_decode.specs.declared.instruction.SystemOp.TheVariants.{Ecall, Ebreak}
-use Rattle.rv32_exec.specs.Meaning.{Access, Private, Loads, Stores, Reserves, Tries, Updates, Fences, Calls, access_of, stop_of}
-use Rattle.rv32_exec.specs.Plans.{plan_of_access, planned, stop_or, width_of}
+use Rattle.rv32_exec.specs.Meaning.{Access, Private, Loads, Stores, DoesLr, DoesSc, DoesAmo, Fences, Calls, access_of, stop_of}
+use Rattle.rv32_exec.specs.Actions.{action_of_access, planned, stop_or, width_of}
 use Rattle.rv32_exec.specs.Width.{bytes_of}
-use Rattle.rv32_exec.specs.declared.plans.Plan.{Plan}
-use Rattle.rv32_exec.specs.declared.plans.Plan.TheVariants as plan
+use Rattle.rv32_exec.specs.declared.actions.Action.{Action}
+use Rattle.rv32_exec.specs.declared.actions.Action.TheVariants as action
 
 -- the access of an instruction that doesn't stop is this one
 abbrev Goes : (stop : Option ℕ) (found wanted : Access) → Type 0
 Goes stop found wanted = (stop ≡ None) × (found ≡ wanted)
 
-abbrev pub Found : (stop : Option ℕ) → Access → Plan → Type 0
-Found stop a plan.Local = Goes stop a Private
-Found stop a (plan.Load address width) = Goes stop a (Loads address (bytes_of width))
-Found stop a (plan.Store address width value) = Goes stop a (Stores address (bytes_of width) value)
-Found stop a (plan.Lr address) = Goes stop a (Reserves address)
-Found stop a (plan.Sc address value) = Goes stop a (Tries address value)
-Found stop a (plan.Amo address op operand) = Goes stop a (Updates address op operand)
-Found stop a plan.Fence = Goes stop a Fences
-Found stop a plan.Call = stop ≡ None
-Found stop a (plan.Stop code) = stop ≡ Some code
+abbrev pub Found : (stop : Option ℕ) → Access → Action → Type 0
+Found stop a action.Private = Goes stop a Private
+Found stop a (action.Load address width) = Goes stop a (Loads address (bytes_of width))
+Found stop a (action.Store address width value) = Goes stop a (Stores address (bytes_of width) value)
+Found stop a (action.Lr address) = Goes stop a (DoesLr address)
+Found stop a (action.Sc address value) = Goes stop a (DoesSc address value)
+Found stop a (action.Amo address op operand) = Goes stop a (DoesAmo address op operand)
+Found stop a action.Fence = Goes stop a Fences
+Found stop a action.Call = stop ≡ None
+Found stop a (action.Stop code) = stop ≡ Some code
 
 -- loads and stores are of 1, 2 or 4 bytes
 abbrev IsOfWidth : Access → Type 0
 IsOfWidth (Loads address bytes) = bytes_of (width_of bytes) ≡ bytes
 IsOfWidth (Stores address bytes value) = bytes_of (width_of bytes) ≡ bytes
 IsOfWidth Private = Unit {0}
-IsOfWidth (Reserves address) = Unit {0}
-IsOfWidth (Tries address value) = Unit {0}
-IsOfWidth (Updates address op operand) = Unit {0}
+IsOfWidth (DoesLr address) = Unit {0}
+IsOfWidth (DoesSc address value) = Unit {0}
+IsOfWidth (DoesAmo address op operand) = Unit {0}
 IsOfWidth Fences = Unit {0}
 IsOfWidth (Calls number argument) = Unit {0}
 
@@ -66,23 +66,23 @@ has_width (instr.Lr rd rs1 bits) x = tt
 has_width (instr.Sc rd rs1 rs2 bits) x = tt
 has_width (instr.Amo op rd rs1 rs2 bits) x = tt
 
-found_by : (stop : Option ℕ) (a : Access) → IsOfWidth a → Found stop a (stop_or stop (plan_of_access a))
+found_by : (stop : Option ℕ) (a : Access) → IsOfWidth a → Found stop a (stop_or stop (action_of_access a))
 found_by (Some code) a w = refl
 found_by None Private w = (refl, refl)
 found_by None (Loads address bytes) w = (refl, ap (Loads address) (sym w))
 found_by None (Stores address bytes value) w = (refl, ap (λ n. Stores address n value) (sym w))
-found_by None (Reserves address) w = (refl, refl)
-found_by None (Tries address value) w = (refl, refl)
-found_by None (Updates address op operand) w = (refl, refl)
+found_by None (DoesLr address) w = (refl, refl)
+found_by None (DoesSc address value) w = (refl, refl)
+found_by None (DoesAmo address op operand) w = (refl, refl)
 found_by None Fences w = (refl, refl)
 found_by None (Calls number argument) w = refl
 
-pub found : (i : Instr) (pc : ℕ) (x : List ℕ) (size : ℕ) (p q : Plan) → p ≡ planned i pc x size → p ≡ q → Found (stop_of i pc x size) (access_of i x) q
+pub found : (i : Instr) (pc : ℕ) (x : List ℕ) (size : ℕ) (p q : Action) → p ≡ planned i pc x size → p ≡ q → Found (stop_of i pc x size) (access_of i x) q
 found i pc x size p q e f = subst (Found (stop_of i pc x size) (access_of i x)) (sym e ∙ f) (found_by (stop_of i pc x size) (access_of i x) (has_width i x))
 
 -- the plan of a hart that is this one
-pub seen : (p : Plan) (i : Instr) (size : ℕ) (one other : Hart) → one ≡ other → p ≡ planned i one.pc one.regs size → p ≡ planned i other.pc other.regs size
+pub seen : (p : Action) (i : Instr) (size : ℕ) (one other : Hart) → one ≡ other → p ≡ planned i one.pc one.regs size → p ≡ planned i other.pc other.regs size
 seen p i size one other e is = is ∙ ap (λ (h : Hart). planned i h.pc h.regs size) e
 
-pub goes_on : (model : Model) (n : Node) (f : Fetched) (stop : Option ℕ) (a b : Access) → Goes stop a b → plan_access model n f b ≡ plan_unless stop (plan_access model n f a)
+pub goes_on : (model : MemoryModel) (n : Node) (f : Fetched) (stop : Option ℕ) (a b : Access) → Goes stop a b → plan_access model n f b ≡ plan_unless stop (plan_access model n f a)
 goes_on model n f stop a b g = sym (ap (λ (s : Option ℕ). plan_unless s (plan_access model n f a)) g.0 ∙ ap (plan_access model n f) g.1)

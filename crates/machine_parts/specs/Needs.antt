@@ -22,7 +22,7 @@ needs_of s h (act.Evict line) = record { entries = 0; performed = 0; log = 1 }
 needs_of s h (act.Deliver m) = record { entries = 0; performed = 0; log = 1 + length s.views.nodes }
 needs_of s h (act.Local count) = record { entries = count; performed = 0; log = 0 }
 
-pub record HasRoom (h : ℕ) (needs : Needs) (room : Room) : Type 0 where
+pub record HasNeeded (h : ℕ) (needs : Needs) (room : Room) : Type 0 where
   pub entries : needs.entries ≤ slice_index room.entries h
   pub performed : needs.performed ≤ room.performed
   pub log : needs.log ≤ room.log

@@ -14,7 +14,7 @@ use crate::parts::line_size;
 use crate::words::{line_of, marks_of, read_from, store_of, word_in, word_of};
 use amo_unit::combine;
 use hart::Retired;
-use machine_model::{Act, Config, Deed, Model, Outcome, Plan};
+use machine_model::{Act, Config, Deed, MemoryModel, Outcome, Plan};
 use rv32_decode::{AmoOp, Instr, Register};
 use rv32_exec::Width;
 
@@ -122,19 +122,19 @@ fn waits_for_stores(node: &Node, instr: &Instr, word: u32) -> bool
 }
 
 /// A write that is performed at once passes no sealed group, and under Ztso no store.
-fn write_waits(model: Model, node: &Node, instr: &Instr, word: u32) -> bool
+fn write_waits(model: MemoryModel, node: &Node, instr: &Instr, word: u32) -> bool
     ensures { result ≡ spec.write_waits model node.now instr.now word }
 {
     match model {
-        Model::Rvwmo => waits_for_stores(node, instr, word) || node.buffer.has_sealed(),
-        Model::Ztso => !node.buffer.is_empty(),
+        MemoryModel::Rvwmo => waits_for_stores(node, instr, word) || node.buffer.has_sealed(),
+        MemoryModel::Ztso => !node.buffer.is_empty(),
     }
 }
 
-pub(crate) fn plan_reserve(config: &Config, node: &Node, fetched: &Fetched, address: u32) -> Plan
+pub(crate) fn plan_lr(config: &Config, node: &Node, fetched: &Fetched, address: u32) -> Plan
     requires line { node.now.cache.shape.size ≡ size_of_config config.now }
     requires aligned { address % 4 ≡ 0 }
-    ensures { result ≡ spec.plan_reserve node.now (fetched_of fetched.now) address }
+    ensures { result ≡ spec.plan_lr node.now (fetched_of fetched.now) address }
 {
     if waits_for_stores(node, &fetched.instr, address) {
         return Plan::Stays(Outcome::MustDrain);
@@ -142,21 +142,21 @@ pub(crate) fn plan_reserve(config: &Config, node: &Node, fetched: &Fetched, addr
     match writing(&node.cache, line_of(line_size(config), address)) {
         Ok(line) => {
             let old = read_from(word_in(&line, address), address, Width::Word);
-            retires(node, fetched, Some(old), None, Deed::Reserve(address))
+            retires(node, fetched, Some(old), None, Deed::Lr(address))
         }
         Err(miss) => miss,
     }
 }
 
 /// Without its reservation a store conditional fails at once.
-pub(crate) fn plan_conditional(
-    model: Model,
+pub(crate) fn plan_sc(
+    model: MemoryModel,
     node: &Node,
     fetched: &Fetched,
     address: u32,
     value: u32,
 ) -> Plan
-    ensures { result ≡ spec.plan_conditional model node.now (fetched_of fetched.now) address value }
+    ensures { result ≡ spec.plan_sc model node.now (fetched_of fetched.now) address value }
 {
     if !node.reservation.valid(address) {
         return retires(node, fetched, None, Some(false), Deed::Fail);
@@ -164,7 +164,7 @@ pub(crate) fn plan_conditional(
     if write_waits(model, node, &fetched.instr, address) {
         return Plan::Stays(Outcome::MustDrain);
     }
-    let deed = Deed::Conditional {
+    let deed = Deed::Sc {
         word: address,
         value,
     };
@@ -175,7 +175,7 @@ pub(crate) fn plan_conditional(
 fn update(node: &Node, fetched: &Fetched, address: u32, op: AmoOp, operand: u32, old: u32) -> Plan
     ensures { result ≡ spec.update node.now (fetched_of fetched.now) address op operand old }
 {
-    let deed = Deed::Update {
+    let deed = Deed::Amo {
         word: address,
         value: combine(op, old, operand),
     };
@@ -247,7 +247,7 @@ pub(crate) fn plan_fence(node: &Node, fetched: &Fetched) -> Plan
     let deed = if before_stores {
         Deed::Seal
     } else {
-        Deed::Alone
+        Deed::Private
     };
     retires(node, fetched, None, None, deed)
 }
@@ -259,7 +259,7 @@ pub(crate) fn plan_call(node: &Node, fetched: &Fetched) -> Plan
     let number = node.hart.regs.get(Register::new(17));
     let argument = node.hart.regs.get(Register::new(10));
     let deed = if number == 0 {
-        Deed::Alone
+        Deed::Private
     } else {
         Deed::Output(argument)
     };

@@ -8,7 +8,7 @@ ghost use Rattle.machine_model.specs.Deliveries.{with_less};
 ghost use Rattle.machine_model.specs.Laws.{QueuesFit};
 ghost use Rattle.machine_model.specs.Ready.{IsSound};
 ghost use Rattle.machine_model.specs.Views.{node_at, with_node};
-ghost use Rattle.machine_parts.specs.Needs.{HasRoom, needs_of};
+ghost use Rattle.machine_parts.specs.Needs.{HasNeeded, needs_of};
 ghost use Rattle.machine_parts.specs.Parts.{state_of};
 
 use crate::caches::{evict, want};
@@ -23,7 +23,7 @@ use tl_types::{Body, Change, Grow, LineData, LineSize, Msg};
 pub(crate) fn stop(parts: &mut Parts, hart: u8, code: u8)
     requires sound { IsSound (state_of parts.old) }
     requires hart { hart < length parts.old.nodes.items }
-    requires room { HasRoom hart (needs_of (state_of parts.old) hart (act.Stop code)) parts.old.trace.room }
+    requires room { HasNeeded hart (needs_of (state_of parts.old) hart (act.Stop code)) parts.old.trace.room }
     ensures { state_of parts.new ≡ stopped hart code (state_of parts.old) }
 {
     let status = Status::Stopped(code);
@@ -35,7 +35,7 @@ pub(crate) fn stop(parts: &mut Parts, hart: u8, code: u8)
 pub(crate) fn miss(parts: &mut Parts, hart: u8, line: u32, grow: Grow)
     requires sound { IsSound (state_of parts.old) }
     requires hart { hart < length parts.old.nodes.items }
-    requires room { HasRoom hart (needs_of (state_of parts.old) hart (act.Miss line grow)) parts.old.trace.room }
+    requires room { HasNeeded hart (needs_of (state_of parts.old) hart (act.Miss line grow)) parts.old.trace.room }
     requires room_in_queue { QueuesFit (missed hart line grow (state_of parts.old)) }
     ensures { state_of parts.new ≡ missed hart line grow (state_of parts.old) }
 {
@@ -57,7 +57,7 @@ fn ask(parts: &mut Parts, hart: u8, line: u32, grow: Grow)
 pub(crate) fn give_up(parts: &mut Parts, hart: u8, line: u32)
     requires sound { IsSound (state_of parts.old) }
     requires hart { hart < length parts.old.nodes.items }
-    requires room { HasRoom hart (needs_of (state_of parts.old) hart (act.Evict line)) parts.old.trace.room }
+    requires room { HasNeeded hart (needs_of (state_of parts.old) hart (act.Evict line)) parts.old.trace.room }
     requires room_in_queue { QueuesFit (given_up hart line (state_of parts.old)) }
     ensures { state_of parts.new ≡ given_up hart line (state_of parts.old) }
 {

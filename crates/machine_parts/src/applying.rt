@@ -6,7 +6,7 @@ ghost use Rattle.machine_model.specs.Events as events;
 ghost use Rattle.machine_model.specs.Events.{verdict};
 ghost use Rattle.machine_model.specs.Ready.{AreReady, IsReady, IsReadyAct, IsSound};
 ghost use Rattle.machine_parts.specs.Applying.{Answers, answer_to, decided};
-ghost use Rattle.machine_parts.specs.Needs.{HasRoom, needs_of};
+ghost use Rattle.machine_parts.specs.Needs.{HasNeeded, needs_of};
 ghost use Rattle.machine_parts.specs.Parts.{state_of};
 
 use crate::acts::{give_up, miss, stop};
@@ -26,7 +26,7 @@ fn perform(parts: &mut Parts, hart: u8, act: &Act) -> Result<(), AllocError>
     requires hart { hart < length parts.old.nodes.items }
     requires ready { IsReady hart act.now (state_of parts.old) }
     requires fits { changing.place_at (state_of parts.old) hart + events.entries_by act.now ≤ 1000000 }
-    requires room { HasRoom hart (needs_of (state_of parts.old) hart act.now) parts.old.trace.room }
+    requires room { HasNeeded hart (needs_of (state_of parts.old) hart act.now) parts.old.trace.room }
     ensures ok { OnOk result (state_of parts.new ≡ changing.acted hart act.now (state_of parts.old)) }
     ensures err { OnErr result (state_of parts.new ≡ state_of parts.old) }
     ensures stop { (code : ℕ) → act.now ≡ Act.Stop code → IsOk result }

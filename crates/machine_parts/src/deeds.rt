@@ -15,7 +15,7 @@ use crate::caches::write_word;
 use crate::parts::Parts;
 use crate::words::line_of;
 use machine_model::Deed;
-use memory_model::Model;
+use memory_model::MemoryModel;
 use std::alloc::AllocError;
 use store_buffer::{PutError, Store, StoreBuffer};
 use trace_recorder::OpId;
@@ -33,7 +33,7 @@ pub(crate) fn carry_out(parts: &mut Parts, hart: u8, deed: &Deed) -> Result<(), 
     match deed {
         Deed::Output(number) => put_out(parts, hart, *number),
         Deed::Store(store) => put(parts, hart, store),
-        Deed::Alone => Ok(()),
+        Deed::Private => Ok(()),
         Deed::Load => {
             perform_own(parts, hart);
             Ok(())
@@ -42,7 +42,7 @@ pub(crate) fn carry_out(parts: &mut Parts, hart: u8, deed: &Deed) -> Result<(), 
             seal(parts, hart);
             Ok(())
         }
-        Deed::Reserve(word) => {
+        Deed::Lr(word) => {
             reserve_word(parts, hart, *word);
             Ok(())
         }
@@ -50,11 +50,11 @@ pub(crate) fn carry_out(parts: &mut Parts, hart: u8, deed: &Deed) -> Result<(), 
             end_reservation(parts, hart);
             Ok(())
         }
-        Deed::Conditional { word, value } => {
+        Deed::Sc { word, value } => {
             store_conditional(parts, hart, *word, *value);
             Ok(())
         }
-        Deed::Update { word, value } => {
+        Deed::Amo { word, value } => {
             update(parts, hart, *word, *value);
             Ok(())
         }
@@ -84,7 +84,7 @@ fn put(parts: &mut Parts, hart: u8, store: &Store) -> Result<(), AllocError>
 }
 
 // A store waits; under Ztso a group holds one word.
-fn put_store(buffer: &mut StoreBuffer, model: Model, store: &Store) -> Result<(), AllocError>
+fn put_store(buffer: &mut StoreBuffer, model: MemoryModel, store: &Store) -> Result<(), AllocError>
     requires fits { IsTrue (fits store.now.word buffer.old) }
     ensures ok { OnOk result (buffer.new ≡ put_behind model store.now buffer.old) }
     ensures err { OnErr result (buffer.new ≡ buffer.old) }
@@ -96,8 +96,8 @@ fn put_store(buffer: &mut StoreBuffer, model: Model, store: &Store) -> Result<()
         op,
     } = *store;
     let put = match model {
-        Model::Rvwmo => buffer.put(word, mask, value, op),
-        Model::Ztso => buffer.put_single(word, mask, value, op),
+        MemoryModel::Rvwmo => buffer.put(word, mask, value, op),
+        MemoryModel::Ztso => buffer.put_single(word, mask, value, op),
     };
     match put {
         Ok(()) => Ok(()),

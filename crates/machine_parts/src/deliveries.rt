@@ -7,7 +7,7 @@ ghost use Rattle.machine_model.specs.Ready.{IsReadyBody, IsReadyMessage, IsSound
 ghost use Rattle.machine_model.specs.Views.{line_size, node_at};
 ghost use Rattle.machine_model.specs.declared.act.Act.{Act};
 ghost use Rattle.machine_parts.specs.Handled.{HasLine};
-ghost use Rattle.machine_parts.specs.Needs.{HasRoom, needs_of};
+ghost use Rattle.machine_parts.specs.Needs.{HasNeeded, needs_of};
 ghost use Rattle.machine_parts.specs.Parts.{state_of};
 
 use crate::client::{on_grant, on_probe, on_release_ack};
@@ -69,7 +69,7 @@ pub(crate) fn deliver(parts: &mut Parts, hart: u8, message: &Msg)
     requires hart { hart < length parts.old.nodes.items }
     requires ready { IsReadyMessage hart message.now (state_of parts.old) }
     requires queues { QueuesFit (delivered hart message.now (state_of parts.old)) }
-    requires room { HasRoom hart (needs_of (state_of parts.old) hart (Act.Deliver message.now)) parts.old.trace.room }
+    requires room { HasNeeded hart (needs_of (state_of parts.old) hart (Act.Deliver message.now)) parts.old.trace.room }
     ensures { state_of parts.new ≡ delivered hart message.now (state_of parts.old) }
 {
     take_and_handle::<Brand>(parts, hart, message, Blank::new(1));

@@ -7,7 +7,7 @@ ghost use Rattle.machine_model.specs.Changing.{outcome_by as spec_outcome_by};
 ghost use Rattle.machine_model.specs.Events.{entries_by as spec_entries_by, is_limited as spec_is_limited};
 ghost use Rattle.machine_model.specs.Ready.{IsReadyAct, IsSound};
 ghost use Rattle.machine_model.specs.Views.{node_at};
-ghost use Rattle.machine_parts.specs.Needs.{HasRoom, needs_of};
+ghost use Rattle.machine_parts.specs.Needs.{HasNeeded, needs_of};
 ghost use Rattle.machine_parts.specs.Parts.{state_of};
 ghost use Rattle.store_buffer.specs.Entry.{entry_of};
 ghost use Rattle.store_buffer.specs.Groups.{drainable, oldest};
@@ -119,7 +119,7 @@ pub(crate) fn reserve(parts: &mut Parts, hart: u8, act: &Act) -> Result<(), Allo
     requires hart { hart < length parts.old.nodes.items }
     requires ready { IsReadyAct hart act.now (state_of parts.old) }
     ensures same { state_of parts.new ≡ state_of parts.old }
-    ensures room { OnOk result (HasRoom hart (needs_of (state_of parts.old) hart act.now) parts.new.trace.room) }
+    ensures room { OnOk result (HasNeeded hart (needs_of (state_of parts.old) hart act.now) parts.new.trace.room) }
     ensures stop { (code : ℕ) → act.now ≡ Act.Stop code → IsOk result }
 {
     let growth = growth_by(parts, hart, act);

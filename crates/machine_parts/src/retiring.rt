@@ -4,7 +4,7 @@ ghost use Rattle.std.specs.Prelude.{◌≡◌, ◌<◌, OnErr, OnOk, length, sli
 ghost use Rattle.machine_model.specs.declared.act.Act.TheVariants as act;
 ghost use Rattle.machine_model.specs.Changing.{does, place_at, retired, with_halt};
 ghost use Rattle.machine_model.specs.Ready.{IsReadyDeed, IsSound};
-ghost use Rattle.machine_parts.specs.Needs.{HasRoom, needs_of};
+ghost use Rattle.machine_parts.specs.Needs.{HasNeeded, needs_of};
 ghost use Rattle.machine_parts.specs.Parts.{state_of};
 ghost use Rattle.trace_recorder.specs.History.{entries_of};
 
@@ -27,7 +27,7 @@ pub(crate) fn retire(
     requires sound { IsSound (state_of parts.old) }
     requires hart { hart < length parts.old.nodes.items }
     requires few { place_at (state_of parts.old) hart < 1000000 }
-    requires room { HasRoom hart (needs_of (state_of parts.old) hart (act.Retire entry.now instr.now deed.now)) parts.old.trace.room }
+    requires room { HasNeeded hart (needs_of (state_of parts.old) hart (act.Retire entry.now instr.now deed.now)) parts.old.trace.room }
     requires ready { IsReadyDeed hart deed.now (state_of parts.old) }
     ensures ok { OnOk result (state_of parts.new ≡ retired hart entry.now instr.now (does parts.old.config.model hart deed.now (state_of parts.old))) }
     ensures err { OnErr result (state_of parts.new ≡ state_of parts.old) }

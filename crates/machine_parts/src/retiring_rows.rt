@@ -6,7 +6,7 @@ ghost use Rattle.hart.specs.Run.{reached};
 ghost use Rattle.machine_model.specs.declared.act.Act.TheVariants as act;
 ghost use Rattle.machine_model.specs.Changing.{place_at, went_alone, with_entries};
 ghost use Rattle.machine_model.specs.Ready.{IsSound};
-ghost use Rattle.machine_parts.specs.Needs.{HasRoom, needs_of};
+ghost use Rattle.machine_parts.specs.Needs.{HasNeeded, needs_of};
 ghost use Rattle.machine_parts.specs.Parts.{state_of};
 ghost use Rattle.trace_recorder.specs.History.{entries_of};
 
@@ -19,7 +19,7 @@ pub(crate) fn go_alone(parts: &mut Parts, hart: u8, count: u32)
     requires sound { IsSound (state_of parts.old) }
     requires hart { hart < length parts.old.nodes.items }
     requires few { place_at (state_of parts.old) hart + count ≤ 1000000 }
-    requires room { HasRoom hart (needs_of (state_of parts.old) hart (act.Local count)) parts.old.trace.room }
+    requires room { HasNeeded hart (needs_of (state_of parts.old) hart (act.Local count)) parts.old.trace.room }
     ensures { state_of parts.new ≡ went_alone hart count (state_of parts.old) }
 {
     let first = parts.nodes[hart as usize].hart;

@@ -10,14 +10,13 @@ ghost use Rattle.rv32_decode.specs.Rows.{decoded};
 ghost use Rattle.rv32_exec.specs.Meaning.{access_of, stop_of};
 
 use crate::accesses::{
-    Fetched, plan_amo, plan_call, plan_conditional, plan_fence, plan_load, plan_reserve,
-    plan_store, retires,
+    Fetched, plan_amo, plan_call, plan_fence, plan_load, plan_lr, plan_sc, plan_store, retires,
 };
 use crate::node::Node;
 use elf_loader::Image;
 use machine_model::{Act, Config, Deed, Outcome, Plan};
 use rv32_decode::decode;
-use rv32_exec::{Plan as Access, plan, stop};
+use rv32_exec::{Action, plan, stop};
 
 /// What an instruction of a running hart comes to, where memory has `size` bytes: its stop, or its access.
 fn plan_instr(config: &Config, size: u32, node: &Node, fetched: &Fetched) -> Plan
@@ -26,15 +25,15 @@ fn plan_instr(config: &Config, size: u32, node: &Node, fetched: &Fetched) -> Pla
     ensures { result ≡ spec.plan_unless (stop_of fetched.now.instr node.now.hart.pc node.now.hart.regs size) (spec.plan_access config.now.model node.now (fetched_of fetched.now) (access_of fetched.now.instr node.now.hart.regs)) }
 {
     match plan(&fetched.instr, node.hart.pc, &node.hart.regs, size) {
-        Access::Local => retires(node, fetched, None, None, Deed::Alone),
-        Access::Load { addr, size } => plan_load(config, node, fetched, addr, size),
-        Access::Store { addr, size, value } => plan_store(node, fetched, addr, size, value),
-        Access::Lr { addr } => plan_reserve(config, node, fetched, addr),
-        Access::Sc { addr, value } => plan_conditional(config.model, node, fetched, addr, value),
-        Access::Amo { addr, op, operand } => plan_amo(config, node, fetched, addr, op, operand),
-        Access::Fence => plan_fence(node, fetched),
-        Access::Call => plan_call(node, fetched),
-        Access::Stop(code) => Plan::Changes(Act::Stop(code)),
+        Action::Private => retires(node, fetched, None, None, Deed::Private),
+        Action::Load { addr, size } => plan_load(config, node, fetched, addr, size),
+        Action::Store { addr, size, value } => plan_store(node, fetched, addr, size, value),
+        Action::Lr { addr } => plan_lr(config, node, fetched, addr),
+        Action::Sc { addr, value } => plan_sc(config.model, node, fetched, addr, value),
+        Action::Amo { addr, op, operand } => plan_amo(config, node, fetched, addr, op, operand),
+        Action::Fence => plan_fence(node, fetched),
+        Action::Call => plan_call(node, fetched),
+        Action::Stop(code) => Plan::Changes(Act::Stop(code)),
     }
 }
 

@@ -2,7 +2,7 @@
 use coherent_machine::{AdoptError, ApplyError, Machine};
 use elf_loader::{Image, raw, size_of_kib};
 use hart::{Batch, run_local};
-use machine_model::{Config, Event, Model, Outcome};
+use machine_model::{Config, Event, MemoryModel, Outcome};
 use std::alloc::Global;
 use std::test::Fail;
 
@@ -24,7 +24,7 @@ fn machine_of(alloc: Global, words: &[u32], harts: u32) -> Result<Machine, Fail>
         sets: 4,
         ways: 2,
         line: 16,
-        model: Model::Rvwmo,
+        model: MemoryModel::Rvwmo,
     };
     Ok(Machine::new(alloc, image_of(alloc, words)?, config)?)
 }

@@ -7,7 +7,7 @@ use coherent_machine::{AdoptError, ApplyError, Views};
 use elf_loader::{Image, raw, size_of_kib};
 use hart::{Hart, Retired, Status, run_local};
 use locked_fabric::{Fabric, Port, Share, Turn};
-use machine_model::{Config, Event, Model, Outcome};
+use machine_model::{Config, Event, MemoryModel, Outcome};
 use progress_board::{Board, Seat};
 use std::alloc::{AllocError, Global};
 use std::marker::Brand;
@@ -260,7 +260,7 @@ fn play_on<L: Ledger + Send + Sync, R: Threads + Wait + AllocGlobal + Sync>(
         sets: 4,
         ways: 2,
         line: 16,
-        model: Model::Rvwmo,
+        model: MemoryModel::Rvwmo,
     };
     let image = image_of(rt.alloc(), words)?;
     let (fabric, mut shares) = Fabric::<L>::new(rt.alloc(), blank, image, config)?;

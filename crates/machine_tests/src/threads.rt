@@ -5,7 +5,7 @@ use elf_loader::{Image, raw, size_of_kib};
 use hart::Status;
 use host_threads::{Gate, Report, RunError, run, run_with};
 use locked_fabric::Turn;
-use machine_model::{Config, Event, Model, Outcome};
+use machine_model::{Config, Event, MemoryModel, Outcome};
 use std::alloc::Global;
 use std::process::Abort;
 use std::sync::Wait;
@@ -75,7 +75,7 @@ fn config_of(harts: u32, line: u32) -> Config {
         sets: 4,
         ways: 2,
         line,
-        model: Model::Rvwmo,
+        model: MemoryModel::Rvwmo,
     }
 }
 

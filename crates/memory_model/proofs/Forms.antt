@@ -4,7 +4,7 @@ use Rattle.std.specs.Prelude.{nat_eq, IsTrue}
 use Rattle.std.specs.List.{AllByRecursion as Each, Contains, filter, list_any, last_or}
 use Rattle.std.proofs.lemmas.Bool.{false≢true, true≢false, ltb-true, lt-ltb, le-ltb, and_from, and_parts, eq-eqb, eqb-true, or_left, or_right, not-true}
 use Rattle.std.proofs.lemmas.List.Elements.{filter-append}
-use Rattle.memory_model.specs.declared.Model.{Model}
+use Rattle.memory_model.specs.declared.MemoryModel.{MemoryModel}
 use Rattle.memory_model.specs.declared.operation.Operation.{Operation}
 use Rattle.memory_model.specs.Operations.{same, precedes, stores_to}
 use Rattle.memory_model.specs.Order.{Respects, before, position_in, in_order, none_must_precede, candidates, source, is_visible, last_visible}
@@ -105,7 +105,7 @@ unfolding KeepsMembers
 in_order-from_Respects must xs d k = in_order-from_Ordered must xs (Ordered-from_keeps must xs d (λ a b ma mb t. k a b (Contains-from_Member xs a ma) (Contains-from_Member xs b mb) t))
 
 -- no operation precedes itself
-preserved-self : (model : Model) (harts : List (List Item)) (order : List Operation) (a : Operation) → preserved model harts order a a ≡ false
+preserved-self : (model : MemoryModel) (harts : List (List Item)) (order : List Operation) (a : Operation) → preserved model harts order a a ≡ false
 preserved-self model harts order a = ap (λ (b : Bool). (nat_eq a.hart a.hart && b) && list_any (λ (r : Rule). r.asks model (items_of harts a.hart) order a a) rules) (le-ltb a.place a.place (omega arith)) ∙ go (nat_eq a.hart a.hart)
   where
     go : (b : Bool) → ((b && false) && list_any (λ (r : Rule). r.asks model (items_of harts a.hart) order a a) rules) ≡ false

@@ -29,7 +29,7 @@ same_word = record {
 atomic_source : AtomicSource
 atomic_source = record {
   of_conditional = record { run = refl; whole = refl; illegal = refl; fault = refl };
-  beside_conditional = record { run = refl; whole = refl; legal = refl; no_fault = refl };
+  beside_sc = record { run = refl; whole = refl; legal = refl; no_fault = refl };
   of_amo = record { run = refl; whole = refl; illegal = refl; fault = refl };
   by_lr = record { run = refl; whole = refl; illegal = refl; fault = refl };
   of_some_bytes = record { run = refl; whole = refl; illegal = refl; fault = refl };

@@ -8,7 +8,7 @@ use Rattle.elf_loader.specs.Image.{Initial}
 use Rattle.rv32_decode.specs.declared.instruction.Annotations.{Annotations}
 use Rattle.rv32_decode.specs.declared.instruction.Instr.{Instr}
 use Rattle.rv32_decode.specs.Rows.{decoded}
-use Rattle.rv32_exec.specs.Meaning.{Access, Private, Loads, Stores, Reserves, Tries, Updates, Fences, Calls, access_of}
+use Rattle.rv32_exec.specs.Meaning.{Access, Private, Loads, Stores, DoesLr, DoesSc, DoesAmo, Fences, Calls, access_of}
 use Rattle.hart.specs.declared.retired.Retired.{Retired}
 use Rattle.hart.specs.declared.state.Hart.{Hart}
 use Rattle.hart.specs.Run.{after, after_instr, at_reset}
@@ -43,9 +43,9 @@ tried_bears hart place false r a h p e = absurd (none_is_not a e)
 operation_bears : (hart place : ℕ) (bits : Annotations) (entry : Retired) (access : Access) (a : Operation) → operation_of_access hart place bits entry access ≡ Some a → Bears hart place a
 operation_bears hart place bits entry (Loads address bytes) a e = bears_by hart place _ a refl refl e
 operation_bears hart place bits entry (Stores address bytes value) a e = bears_by hart place _ a refl refl e
-operation_bears hart place bits entry (Reserves address) a e = bears_by hart place _ a refl refl e
-operation_bears hart place bits entry (Tries address value) a e = tried_bears hart place (succeeded entry.sc_ok) _ a refl refl e
-operation_bears hart place bits entry (Updates address op operand) a e = bears_by hart place _ a refl refl e
+operation_bears hart place bits entry (DoesLr address) a e = bears_by hart place _ a refl refl e
+operation_bears hart place bits entry (DoesSc address value) a e = tried_bears hart place (succeeded entry.sc_ok) _ a refl refl e
+operation_bears hart place bits entry (DoesAmo address op operand) a e = bears_by hart place _ a refl refl e
 operation_bears hart place bits entry Private a e = absurd (none_is_not a e)
 operation_bears hart place bits entry Fences a e = absurd (none_is_not a e)
 operation_bears hart place bits entry (Calls number argument) a e = absurd (none_is_not a e)

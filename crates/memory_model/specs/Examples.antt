@@ -8,7 +8,7 @@ use Rattle.hart.specs.declared.status.Status.TheVariants.{Running}
 use Rattle.tl_types.specs.declared.line.LineSize.TheVariants.{Bytes16}
 use Rattle.trace_recorder.specs.History.{History}
 use Rattle.trace_recorder.specs.declared.operation.OpId.{OpId}
-use Rattle.memory_model.specs.declared.Model.{Model}
+use Rattle.memory_model.specs.declared.MemoryModel.{MemoryModel}
 use Rattle.memory_model.specs.Traces.{are_runs, has_each_operation_once, judged_legal}
 use Rattle.memory_model.specs.Verdict.{fault_in}
 
@@ -30,7 +30,7 @@ image_with words = record { bytes = bytes_of_words words ++ replicate (4096 - 4 
 abbrev pub with_word : ℕ → ℕ → Initial → Initial
 with_word address word image = record image { bytes = take (address - base) image.bytes ++ bytes_of_word word ++ drop (address - base + 4) image.bytes }
 
--- ---- entries: instructions that read nothing, loads, and store conditionals
+-- ---- entries: instructions that read nothing, loads, and store scs
 
 abbrev pub did : ℕ → ℕ → Retired
 did pc word = record { pc = pc; word = word; loaded = None; sc_ok = None }
@@ -49,14 +49,14 @@ abbrev pub trace : Initial → List (List Retired) → List OpId → History
 trace image entries performed = record { image = image; line = Bytes16; entries = entries; statuses = map {B = Status} (λ (es : List Retired). Running) entries; performed = performed; log = [] }
 
 -- the order is legal: the lists are runs, it has each operation once, and no code has a fault
-pub record Passes (model : Model) (t : History) (order : List OpId) : Type 0 where
+pub record Passes (model : MemoryModel) (t : History) (order : List OpId) : Type 0 where
   pub run : are_runs t ≡ true
   pub whole : has_each_operation_once t order ≡ true
   pub legal : judged_legal model t order ≡ true
   pub no_fault : fault_in model t order ≡ None
 
 -- it isn't: the fault has this code and this pair
-pub record Fails (model : Model) (t : History) (order : List OpId) (code : ℕ) (a b : OpId) : Type 0 where
+pub record IsIllegal (model : MemoryModel) (t : History) (order : List OpId) (code : ℕ) (a b : OpId) : Type 0 where
   pub run : are_runs t ≡ true
   pub whole : has_each_operation_once t order ≡ true
   pub illegal : judged_legal model t order ≡ false

@@ -5,13 +5,13 @@ use Rattle.rv32_decode.specs.Rows.{decoded}
 use Rattle.rv32_decode.specs.declared.instruction.Annotations.{Annotations}
 use Rattle.rv32_decode.specs.declared.instruction.Instr.{Instr}
 use Rattle.rv32_decode.specs.declared.instruction.Instr.TheVariants as instr
-use Rattle.rv32_exec.specs.Meaning.{Access, Private, Loads, Stores, Reserves, Tries, Updates, Fences, Calls, access_of, value_written}
+use Rattle.rv32_exec.specs.Meaning.{Access, Private, Loads, Stores, DoesLr, DoesSc, DoesAmo, Fences, Calls, access_of, value_written}
 use Rattle.elf_loader.specs.Image.{Initial}
 use Rattle.hart.specs.declared.retired.Retired.{Retired}
 use Rattle.hart.specs.declared.state.Hart.{Hart}
 use Rattle.hart.specs.Run.{number_read, after, at_reset}
 use Rattle.memory_model.specs.declared.operation.Kind.{Kind}
-use Rattle.memory_model.specs.declared.operation.Kind.TheVariants.{Load, Store, Reserve, Conditional, Amo}
+use Rattle.memory_model.specs.declared.operation.Kind.TheVariants.{Load, Store, Lr, Sc, Amo}
 use Rattle.memory_model.specs.declared.operation.Operation.{Operation}
 use Rattle.memory_model.specs.Operations.{reads}
 
@@ -52,12 +52,12 @@ operation_of_access hart place bits entry (Loads address bytes) =
     Some (operation_with hart place bits entry (Loads address bytes) Load address bytes)
 operation_of_access hart place bits entry (Stores address bytes value) =
     Some (operation_with hart place bits entry (Stores address bytes value) Store address bytes)
-operation_of_access hart place bits entry (Reserves address) =
-    Some (operation_with hart place bits entry (Reserves address) Reserve address 4)
-operation_of_access hart place bits entry (Tries address value) =
-    if succeeded entry.sc_ok then Some (operation_with hart place bits entry (Tries address value) Conditional address 4) else None
-operation_of_access hart place bits entry (Updates address op operand) =
-    Some (operation_with hart place bits entry (Updates address op operand) Amo address 4)
+operation_of_access hart place bits entry (DoesLr address) =
+    Some (operation_with hart place bits entry (DoesLr address) Lr address 4)
+operation_of_access hart place bits entry (DoesSc address value) =
+    if succeeded entry.sc_ok then Some (operation_with hart place bits entry (DoesSc address value) Sc address 4) else None
+operation_of_access hart place bits entry (DoesAmo address op operand) =
+    Some (operation_with hart place bits entry (DoesAmo address op operand) Amo address 4)
 operation_of_access hart place bits entry Private = None
 operation_of_access hart place bits entry Fences = None
 operation_of_access hart place bits entry (Calls number argument) = None

@@ -5,8 +5,8 @@ use Rattle.hart.specs.declared.retired.Retired.{Retired}
 use Rattle.hart.specs.declared.state.Hart.{Hart}
 use Rattle.trace_recorder.specs.History.{History}
 use Rattle.trace_recorder.specs.declared.operation.OpId.{OpId}
-use Rattle.memory_model.specs.declared.Model.{Model}
-use Rattle.memory_model.specs.declared.Model.TheVariants.{Rvwmo, Ztso}
+use Rattle.memory_model.specs.declared.MemoryModel.{MemoryModel}
+use Rattle.memory_model.specs.declared.MemoryModel.TheVariants.{Rvwmo, Ztso}
 use Rattle.memory_model.specs.declared.operation.Operation.{Operation}
 use Rattle.memory_model.specs.Operations.{precedes, reads, bytes_of, read_at, stores_to}
 use Rattle.memory_model.specs.Order.{Respects, in_order, last_visible, source}
@@ -16,18 +16,18 @@ use Rattle.memory_model.specs.Legal.{IsLegal, keeps_preserved_order}
 use Rattle.memory_model.specs.Traces.{IsLegalOrder, IsOrder, completed, has_each_operation_once, judged_legal, instructions, is_among, is_distinct, names_in, operation_at, operations_at}
 
 -- the tests that judge examples are the definitions
-pub record JudgesAsDefined (model : Model) (t : History) (order : List OpId) : Type 0 where
+pub record JudgesAsDefined (model : MemoryModel) (t : History) (order : List OpId) : Type 0 where
   pub whole : IsTrue (has_each_operation_once t order) ↔ IsOrder t order
   pub legal : IsTrue (judged_legal model t order) ↔ IsLegalOrder model t order
 
 abbrev pub ExamplesJudgeAsDefined : Type 0
-ExamplesJudgeAsDefined = (model : Model) (t : History) (order : List OpId) → JudgesAsDefined model t order
+ExamplesJudgeAsDefined = (model : MemoryModel) (t : History) (order : List OpId) → JudgesAsDefined model t order
 
 -- in an order of the trace's operations, of no two operations the later one must come first exactly where a stands
 -- before b wherever a must come before b
 abbrev pub OrderFormsAgree : Type 0
 OrderFormsAgree =
-    (model : Model) (t : History) (order : List OpId)
+    (model : MemoryModel) (t : History) (order : List OpId)
     → IsOrder t order
     → IsTrue (keeps_preserved_order model (instructions t) (operations_at (instructions t) order))
     ↔ Respects (preserved model (instructions t) (operations_at (instructions t) order)) (operations_at (instructions t) order)
@@ -60,14 +60,14 @@ CompletedIsOrder =
 -- an order that keeps program order breaks none of the thirteen rules
 abbrev pub ProgramOrderSuffices : Type 0
 ProgramOrderSuffices =
-    (model : Model) (harts : List (List Item)) (order : List Operation)
+    (model : MemoryModel) (harts : List (List Item)) (order : List Operation)
     → IsTrue (in_order precedes order)
     → IsTrue (keeps_preserved_order model harts order)
 
 -- in a legal order, a load returns the image's byte where there is no store to it
 abbrev pub UnwrittenByteIsImages : Type 0
 UnwrittenByteIsImages =
-    (model : Model) (image : ℕ → ℕ) (harts : List (List Item)) (order : List Operation) (load : Operation) (x : ℕ)
+    (model : MemoryModel) (image : ℕ → ℕ) (harts : List (List Item)) (order : List Operation) (load : Operation) (x : ℕ)
     → IsLegal model image harts order
     → Contains order load
     → IsTrue (reads load.kind)

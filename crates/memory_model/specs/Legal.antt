@@ -2,7 +2,7 @@
 -- the atomicity axiom (RISC-V Unprivileged ISA 20191213, chapter 14.1, "Memory Model Axioms").
 use Rattle.std.specs.Prelude.{ℕ, Bool, ◌&&◌, ◌||◌, not, ◌==◌, if◌then◌else◌, List, [], ◌∷◌, Option, Some, None, IsTrue}
 use Rattle.std.specs.List.{list_any, list_all}
-use Rattle.memory_model.specs.declared.Model.{Model}
+use Rattle.memory_model.specs.declared.MemoryModel.{MemoryModel}
 use Rattle.memory_model.specs.declared.operation.Operation.{Operation}
 use Rattle.memory_model.specs.Operations.{reads, same, bytes_of, stores_to, read_at}
 use Rattle.memory_model.specs.Order.{in_order, source, byte_from}
@@ -11,7 +11,7 @@ use Rattle.memory_model.specs.Rules.{items_of, paired, preserved}
 
 -- ---- 1, preserved program order: of no two operations must the later one come first
 
-abbrev pub keeps_preserved_order : Model → List (List Item) → List Operation → Bool
+abbrev pub keeps_preserved_order : MemoryModel → List (List Item) → List Operation → Bool
 keeps_preserved_order model harts order = in_order (preserved model harts order) order
 
 -- ---- 2, load value axiom: each byte that a load returned is the byte of its source
@@ -51,11 +51,11 @@ keeps_atomicity harts order = list_all (λ w. list_all (λ r. not (paired (items
 
 -- ---- all three
 
-pub record IsLegal (model : Model) (image : ℕ → ℕ) (harts : List (List Item)) (order : List Operation) : Type 0 where
+pub record IsLegal (model : MemoryModel) (image : ℕ → ℕ) (harts : List (List Item)) (order : List Operation) : Type 0 where
   pub preserved_order : IsTrue (keeps_preserved_order model harts order)
   pub load_values : IsTrue (keeps_load_values image order)
   pub atomicity : IsTrue (keeps_atomicity harts order)
 
-abbrev pub keeps_all_three : Model → (ℕ → ℕ) → List (List Item) → List Operation → Bool
+abbrev pub keeps_all_three : MemoryModel → (ℕ → ℕ) → List (List Item) → List Operation → Bool
 keeps_all_three model image harts order =
     keeps_preserved_order model harts order && keeps_load_values image order && keeps_atomicity harts order

@@ -140,8 +140,8 @@ load_then_lr =
 
 -- an SC between two loads, of which the second returns what it wrote
 -- hart 0: lui x12, 0x80000; addi x13, x0, 1; addi x8, x12, 256; lw x14, 0x100(x12) (reads 0); lr.w x16, (x8) (reads 0); sc.w x15, x13, (x8) (succeeds); lw x17, 0x100(x12) (reads 1)
-abbrev pub conditional_between : History
-conditional_between =
+abbrev pub sc_between : History
+sc_between =
     trace (image_with (0x80000637 ∷ 0x00100693 ∷ 0x10060413 ∷ 0x10062703 ∷ 0x1004282f ∷ 0x18d427af ∷ 0x10062883 ∷ []))
     ((did 0x80000000 0x80000637 ∷ did 0x80000004 0x00100693 ∷ did 0x80000008 0x10060413 ∷ loaded 0x8000000c 0x10062703 0 ∷ loaded 0x80000010 0x1004282f 0 ∷ tried 0x80000014 0x18d427af true ∷ loaded 0x80000018 0x10062883 1 ∷ [])
     ∷ [])
@@ -160,8 +160,8 @@ amo_between =
 
 -- an SC that succeeds, and a load of what it wrote
 -- hart 0: lui x12, 0x80000; addi x13, x0, 1; addi x8, x12, 256; sc.w x14, x13, (x8) (succeeds); lw x15, 0x100(x12) (reads 1)
-abbrev pub load_of_conditional : History
-load_of_conditional =
+abbrev pub load_of_sc : History
+load_of_sc =
     trace (image_with (0x80000637 ∷ 0x00100693 ∷ 0x10060413 ∷ 0x18d4272f ∷ 0x10062783 ∷ []))
     ((did 0x80000000 0x80000637 ∷ did 0x80000004 0x00100693 ∷ did 0x80000008 0x10060413 ∷ tried 0x8000000c 0x18d4272f true ∷ loaded 0x80000010 0x10062783 1 ∷ [])
     ∷ [])
@@ -169,8 +169,8 @@ load_of_conditional =
 
 -- an SC that succeeds, and a load of another word
 -- hart 0: lui x12, 0x80000; addi x13, x0, 1; addi x8, x12, 256; sc.w x14, x13, (x8) (succeeds); lw x15, 0x200(x12) (reads 0)
-abbrev pub load_beside_conditional : History
-load_beside_conditional =
+abbrev pub load_beside_sc : History
+load_beside_sc =
     trace (image_with (0x80000637 ∷ 0x00100693 ∷ 0x10060413 ∷ 0x18d4272f ∷ 0x20062783 ∷ []))
     ((did 0x80000000 0x80000637 ∷ did 0x80000004 0x00100693 ∷ did 0x80000008 0x10060413 ∷ tried 0x8000000c 0x18d4272f true ∷ loaded 0x80000010 0x20062783 0 ∷ [])
     ∷ [])
@@ -187,8 +187,8 @@ load_of_amo =
 
 -- an LR that returns what an SC wrote
 -- hart 0: lui x12, 0x80000; addi x13, x0, 1; addi x8, x12, 256; lr.w x14, (x8) (reads 0); sc.w x15, x13, (x8) (succeeds); lr.w x16, (x8) (reads 1)
-abbrev pub lr_of_conditional : History
-lr_of_conditional =
+abbrev pub lr_of_sc : History
+lr_of_sc =
     trace (image_with (0x80000637 ∷ 0x00100693 ∷ 0x10060413 ∷ 0x1004272f ∷ 0x18d427af ∷ 0x1004282f ∷ []))
     ((did 0x80000000 0x80000637 ∷ did 0x80000004 0x00100693 ∷ did 0x80000008 0x10060413 ∷ loaded 0x8000000c 0x1004272f 0 ∷ tried 0x80000010 0x18d427af true ∷ loaded 0x80000014 0x1004282f 1 ∷ [])
     ∷ [])
@@ -196,8 +196,8 @@ lr_of_conditional =
 
 -- a load that returns three bytes of what an SC wrote, and one of a store behind it
 -- hart 0: lui x12, 0x80000; addi x13, x0, 1; addi x8, x12, 256; lr.w x14, (x8) (reads 0); sc.w x15, x13, (x8) (succeeds); sb x0, 0x101(x12); lw x16, 0x100(x12) (reads 1)
-abbrev pub load_of_conditional_and_byte : History
-load_of_conditional_and_byte =
+abbrev pub load_of_sc_and_byte : History
+load_of_sc_and_byte =
     trace (image_with (0x80000637 ∷ 0x00100693 ∷ 0x10060413 ∷ 0x1004272f ∷ 0x18d427af ∷ 0x100600a3 ∷ 0x10062803 ∷ []))
     ((did 0x80000000 0x80000637 ∷ did 0x80000004 0x00100693 ∷ did 0x80000008 0x10060413 ∷ loaded 0x8000000c 0x1004272f 0 ∷ tried 0x80000010 0x18d427af true ∷ did 0x80000014 0x100600a3 ∷ loaded 0x80000018 0x10062803 1 ∷ [])
     ∷ [])

@@ -2,35 +2,35 @@
 -- chapter 14.1, "Memory Model Primitives").
 use Rattle.std.specs.Prelude.{ℕ, ◌+◌, ◌-◌, ◌/◌, ◌%◌, ◌^◌, Bool, true, false, ◌&&◌, ◌||◌, ◌==◌, nat_lt, nat_le, List}
 use Rattle.std.specs.List.{range_with_len}
-use Rattle.memory_model.specs.declared.Model.{Model}
-use Rattle.memory_model.specs.declared.Model.TheVariants.{Rvwmo, Ztso}
+use Rattle.memory_model.specs.declared.MemoryModel.{MemoryModel}
+use Rattle.memory_model.specs.declared.MemoryModel.TheVariants.{Rvwmo, Ztso}
 use Rattle.memory_model.specs.declared.operation.Kind.{Kind}
-use Rattle.memory_model.specs.declared.operation.Kind.TheVariants.{Load, Store, Reserve, Conditional, Amo}
+use Rattle.memory_model.specs.declared.operation.Kind.TheVariants.{Load, Store, Lr, Sc, Amo}
 use Rattle.memory_model.specs.declared.operation.Operation.{Operation}
 
 -- loads, LRs and AMOs read memory
 abbrev pub reads : Kind → Bool
 reads Load = true
 reads Store = false
-reads Reserve = true
-reads Conditional = false
+reads Lr = true
+reads Sc = false
 reads Amo = true
 
 -- stores, successful SCs and AMOs write memory
 abbrev pub writes : Kind → Bool
 writes Load = false
 writes Store = true
-writes Reserve = false
-writes Conditional = true
+writes Lr = false
+writes Sc = true
 writes Amo = true
 
-abbrev pub is_reserve : Kind → Bool
-is_reserve Reserve = true
-is_reserve _ = false
+abbrev pub is_lr : Kind → Bool
+is_lr Lr = true
+is_lr _ = false
 
-abbrev pub is_conditional : Kind → Bool
-is_conditional Conditional = true
-is_conditional _ = false
+abbrev pub is_sc : Kind → Bool
+is_sc Sc = true
+is_sc _ = false
 
 abbrev pub is_amo : Kind → Bool
 is_amo Amo = true
@@ -72,17 +72,17 @@ abbrev pub written_at : Operation → ℕ → ℕ
 written_at a x = byte_at a.address a.written x
 
 -- it has an acquire annotation: by its bit aq (chapter 8.1), and under Ztso as a load, an LR or an AMO (chapter 23)
-abbrev pub has_acquire : Model → Operation → Bool
+abbrev pub has_acquire : MemoryModel → Operation → Bool
 has_acquire Rvwmo a = a.aq
 has_acquire Ztso a = a.aq || reads a.kind
 
 -- it has a release annotation: by its bit rl, and under Ztso as a store, an SC or an AMO
-abbrev pub has_release : Model → Operation → Bool
+abbrev pub has_release : MemoryModel → Operation → Bool
 has_release Rvwmo a = a.rl
 has_release Ztso a = a.rl || writes a.kind
 
 -- it has an RCsc annotation: the bits' annotations are RCsc, and so are those that Ztso gives to an AMO; those that it
 -- gives to others are RCpc
-abbrev pub has_rcsc : Model → Operation → Bool
+abbrev pub has_rcsc : MemoryModel → Operation → Bool
 has_rcsc Rvwmo a = a.aq || a.rl
 has_rcsc Ztso a = a.aq || a.rl || is_amo a.kind

@@ -6,10 +6,10 @@ use Rattle.std.specs.List.{list_any}
 use Rattle.rv32_decode.specs.Fields.{bits_of}
 use Rattle.rv32_decode.specs.declared.instruction.Instr.{Instr}
 use Rattle.rv32_decode.specs.declared.instruction.Instr.TheVariants as instr
-use Rattle.memory_model.specs.declared.Model.{Model}
+use Rattle.memory_model.specs.declared.MemoryModel.{MemoryModel}
 use Rattle.memory_model.specs.declared.operation.Kind.{Kind}
 use Rattle.memory_model.specs.declared.operation.Operation.{Operation}
-use Rattle.memory_model.specs.Operations.{reads, writes, is_reserve, is_conditional, is_amo, precedes, bytes_of, touches, stores_to, overlap, has_acquire, has_release, has_rcsc}
+use Rattle.memory_model.specs.Operations.{reads, writes, is_lr, is_sc, is_amo, precedes, bytes_of, touches, stores_to, overlap, has_acquire, has_release, has_rcsc}
 use Rattle.memory_model.specs.Order.{source, same_source}
 use Rattle.memory_model.specs.Items.{Item}
 use Rattle.memory_model.specs.Dependencies.{between, has_address_dependency, has_data_dependency, has_control_dependency, has_dependent_address_between}
@@ -44,7 +44,7 @@ is_lr_or_sc _ = false
 -- an LR and a later SC of its hart with no LR or SC between, whether it succeeded or not
 abbrev pub paired : List Item → Operation → Operation → Bool
 paired items a b =
-    precedes a b && is_reserve a.kind && is_conditional b.kind
+    precedes a b && is_lr a.kind && is_sc b.kind
     && not (list_any (λ (m : Item). is_lr_or_sc m.instr) (between items a b))
 
 -- ---- values
@@ -76,22 +76,22 @@ rule_2 items order a b = reads a.kind && reads b.kind && list_any (are_from_diff
 
 -- 3: a is of an AMO or an SC, and b is a load that returns a value written by a
 abbrev pub rule_3 : List Operation → (a b : Operation) → Bool
-rule_3 order a b = (is_amo a.kind || is_conditional a.kind) && reads b.kind && returns_from order b a
+rule_3 order a b = (is_amo a.kind || is_sc a.kind) && reads b.kind && returns_from order b a
 
 -- 4: a FENCE between them orders a before b
 abbrev pub rule_4 : List Item → (a b : Operation) → Bool
 rule_4 items a b = list_any (λ (m : Item). fences m.instr a.kind b.kind) (between items a b)
 
 -- 5: a has an acquire annotation
-abbrev pub rule_5 : Model → (a : Operation) → Bool
+abbrev pub rule_5 : MemoryModel → (a : Operation) → Bool
 rule_5 model a = has_acquire model a
 
 -- 6: b has a release annotation
-abbrev pub rule_6 : Model → (b : Operation) → Bool
+abbrev pub rule_6 : MemoryModel → (b : Operation) → Bool
 rule_6 model b = has_release model b
 
 -- 7: both have RCsc annotations
-abbrev pub rule_7 : Model → (a b : Operation) → Bool
+abbrev pub rule_7 : MemoryModel → (a b : Operation) → Bool
 rule_7 model a b = has_rcsc model a && has_rcsc model b
 
 -- 8: a is paired with b
@@ -129,7 +129,7 @@ rule_13 items a b = writes b.kind && has_dependent_address_between items a b
 -- a rule with its number
 pub record Rule : Type 0 where
   pub number : ℕ
-  pub asks : Model → List Item → List Operation → (a b : Operation) → Bool
+  pub asks : MemoryModel → List Item → List Operation → (a b : Operation) → Bool
 
 abbrev pub overlapping_store : Rule
 overlapping_store = record { number = 1; asks = λ model items order a b. rule_1 a b }
@@ -180,9 +180,9 @@ abbrev pub items_of : List (List Item) → ℕ → List Item
 items_of harts hart = slice_index_or harts hart []
 
 -- a precedes b in program order, and this rule holds
-abbrev pub asked_by : Model → List (List Item) → List Operation → Rule → Operation → Operation → Bool
+abbrev pub asked_by : MemoryModel → List (List Item) → List Operation → Rule → Operation → Operation → Bool
 asked_by model harts order r a b = precedes a b && r.asks model (items_of harts a.hart) order a b
 
 -- a precedes b in preserved program order: in program order, and one of the rules holds
-abbrev pub preserved : Model → List (List Item) → List Operation → Operation → Operation → Bool
+abbrev pub preserved : MemoryModel → List (List Item) → List Operation → Operation → Operation → Bool
 preserved model harts order a b = precedes a b && list_any (λ (r : Rule). r.asks model (items_of harts a.hart) order a b) rules

@@ -7,7 +7,7 @@ use Rattle.hart.specs.declared.status.Status.{Status}
 use Rattle.hart.specs.Run.{is_run}
 use Rattle.trace_recorder.specs.History.{History}
 use Rattle.trace_recorder.specs.declared.operation.OpId.{OpId}
-use Rattle.memory_model.specs.declared.Model.{Model}
+use Rattle.memory_model.specs.declared.MemoryModel.{MemoryModel}
 use Rattle.memory_model.specs.declared.operation.Operation.{Operation}
 use Rattle.memory_model.specs.Order.{last_write}
 use Rattle.memory_model.specs.Items.{Item, has_operation, items_of_harts}
@@ -87,10 +87,10 @@ abbrev pub image_of : History → ℕ → ℕ
 image_of t = byte_at t.image
 
 -- an order of the trace's operations is legal under a model
-abbrev pub IsLegalOrder : Model → History → List OpId → Type 0
+abbrev pub IsLegalOrder : MemoryModel → History → List OpId → Type 0
 IsLegalOrder model t order = IsLegal model (image_of t) (instructions t) (operations_at (instructions t) order)
 
-abbrev pub judged_legal : Model → History → List OpId → Bool
+abbrev pub judged_legal : MemoryModel → History → List OpId → Bool
 judged_legal model t order = keeps_all_three model (image_of t) (instructions t) (operations_at (instructions t) order)
 
 -- the byte at x that the last performed store to it wrote, the image's where there is none

@@ -3,7 +3,7 @@ use Rattle.std.specs.Prelude.{ℕ, Bool, ◌&&◌, not, ◌==◌, List, [], ◌�
 use Rattle.std.specs.List.{flat_map, list_any}
 use Rattle.trace_recorder.specs.History.{History}
 use Rattle.trace_recorder.specs.declared.operation.OpId.{OpId}
-use Rattle.memory_model.specs.declared.Model.{Model}
+use Rattle.memory_model.specs.declared.MemoryModel.{MemoryModel}
 use Rattle.memory_model.specs.declared.operation.Operation.{Operation}
 use Rattle.memory_model.specs.Operations.{same}
 use Rattle.memory_model.specs.Order.{before}
@@ -18,7 +18,7 @@ pub record Code : Type 0 where
   pub broken : Operation → Operation → Bool
 
 -- 1 to 13: a must come before b by that rule and doesn't
-abbrev pub code_of_rule : Model → List (List Item) → List Operation → Rule → Code
+abbrev pub code_of_rule : MemoryModel → List (List Item) → List Operation → Rule → Code
 code_of_rule model harts order r = record { number = r.number; broken = λ a b. asked_by model harts order r a b && not (before order a b) }
 
 -- 14: the load a = b doesn't return its sources' bytes
@@ -29,7 +29,7 @@ code_of_values image order = record { number = 14; broken = λ a b. same a b && 
 abbrev pub code_of_atomicity : List (List Item) → List Operation → Code
 code_of_atomicity harts order = record { number = 15; broken = λ a b. paired (items_of harts a.hart) a b && not (is_atomic order a b) }
 
-abbrev pub codes : Model → (ℕ → ℕ) → List (List Item) → List Operation → List Code
+abbrev pub codes : MemoryModel → (ℕ → ℕ) → List (List Item) → List Operation → List Code
 codes model image harts order =
     map (code_of_rule model harts order) rules ++ code_of_values image order ∷ code_of_atomicity harts order ∷ []
 
@@ -62,13 +62,13 @@ first_fault [] order = None
 first_fault (code ∷ rest) order = fault_or code.number (first_broken code order) (first_fault rest order)
 
 -- what is wrong with an order of the trace's operations; nothing where it is legal
-abbrev pub fault_in : Model → History → List OpId → Option Fault
+abbrev pub fault_in : MemoryModel → History → List OpId → Option Fault
 fault_in model t order =
     let operations = operations_at (instructions t) order in
     first_fault (codes model (image_of t) (instructions t) operations) operations
 
 -- two operations of an order break the rule of a code
-pub record Breaks (model : Model) (image : ℕ → ℕ) (harts : List (List Item)) (order : List Operation)
+pub record Breaks (model : MemoryModel) (image : ℕ → ℕ) (harts : List (List Item)) (order : List Operation)
     (number : ℕ) (a b : Operation) : Type 0 where
   pub has_a : Contains order a
   pub has_b : Contains order b

@@ -4,9 +4,9 @@ use Rattle.elf_loader.specs.Image.{Initial}
 use Rattle.hart.specs.declared.status.Status.TheVariants.{Running, Stopped, Exited}
 use Rattle.trace_recorder.specs.History.{History}
 use Rattle.trace_recorder.specs.declared.operation.OpId.{OpId}
-use Rattle.memory_model.specs.declared.Model.TheVariants.{Rvwmo, Ztso}
+use Rattle.memory_model.specs.declared.MemoryModel.TheVariants.{Rvwmo, Ztso}
 use Rattle.memory_model.specs.Traces.{are_runs, completed, has_each_operation_once}
-use Rattle.memory_model.specs.Examples.{image_with, with_word, did, loaded, tried, op, trace, Passes, Fails}
+use Rattle.memory_model.specs.Examples.{image_with, with_word, did, loaded, tried, op, trace, Passes, IsIllegal}
 
 -- ---- row 1: a program that exits with 5
 
@@ -60,7 +60,7 @@ message_passing =
 pub record Row5 : Type 0 where
   pub order : completed message_passing ≡ op 0 5 ∷ op 1 3 ∷ op 1 4 ∷ op 0 3 ∷ []
   pub legal : Passes Rvwmo message_passing (completed message_passing)
-  pub fault_ztso : Fails Ztso message_passing (completed message_passing) 6 (op 0 3) (op 0 5)
+  pub fault_ztso : IsIllegal Ztso message_passing (completed message_passing) 6 (op 0 3) (op 0 5)
 
 -- ---- rows 6 and 37: with a FENCE w,w between the stores
 
@@ -74,7 +74,7 @@ fenced performed =
 
 pub record Row6 : Type 0 where
   pub legal : Passes Rvwmo (fenced []) (completed (fenced []))
-  pub second_store_first : Fails Rvwmo (fenced (op 0 5 ∷ [])) (completed (fenced (op 0 5 ∷ []))) 4 (op 0 3) (op 0 5)
+  pub second_store_first : IsIllegal Rvwmo (fenced (op 0 5 ∷ [])) (completed (fenced (op 0 5 ∷ []))) 4 (op 0 3) (op 0 5)
 
 -- ---- rows 7 and 17: two stores to x round a FENCE w,w, and a load of x before both are performed
 
@@ -89,8 +89,8 @@ two_stores value performed = two_stores_at 0x80000000 value performed
 
 pub record Row7 : Type 0 where
   pub legal : Passes Rvwmo (two_stores 2 (op 0 6 ∷ op 0 2 ∷ op 0 5 ∷ [])) (op 0 6 ∷ op 0 2 ∷ op 0 5 ∷ [])
-  pub exchanged : Fails Rvwmo (two_stores 2 (op 0 6 ∷ op 0 5 ∷ op 0 2 ∷ [])) (op 0 6 ∷ op 0 5 ∷ op 0 2 ∷ []) 1 (op 0 2) (op 0 5)
-  pub other_value : Fails Rvwmo (two_stores 1 (op 0 6 ∷ op 0 2 ∷ op 0 5 ∷ [])) (op 0 6 ∷ op 0 2 ∷ op 0 5 ∷ []) 14 (op 0 6) (op 0 6)
+  pub exchanged : IsIllegal Rvwmo (two_stores 2 (op 0 6 ∷ op 0 5 ∷ op 0 2 ∷ [])) (op 0 6 ∷ op 0 5 ∷ op 0 2 ∷ []) 1 (op 0 2) (op 0 5)
+  pub other_value : IsIllegal Rvwmo (two_stores 1 (op 0 6 ∷ op 0 2 ∷ op 0 5 ∷ [])) (op 0 6 ∷ op 0 2 ∷ op 0 5 ∷ []) 14 (op 0 6) (op 0 6)
   pub other_pc : are_runs (two_stores_at 0x80000004 2 (op 0 6 ∷ op 0 2 ∷ op 0 5 ∷ [])) ≡ false
 
 -- ---- row 8: a load of a word of which one byte waits in the buffer
@@ -104,7 +104,7 @@ mixed_bytes value =
 pub record Row8 : Type 0 where
   pub order : completed (mixed_bytes 0x44335511) ≡ op 0 3 ∷ op 0 2 ∷ []
   pub legal : Passes Rvwmo (mixed_bytes 0x44335511) (completed (mixed_bytes 0x44335511))
-  pub second_byte_wrong : Fails Rvwmo (mixed_bytes 0x44332211) (completed (mixed_bytes 0x44332211)) 14 (op 0 3) (op 0 3)
+  pub second_byte_wrong : IsIllegal Rvwmo (mixed_bytes 0x44332211) (completed (mixed_bytes 0x44332211)) 14 (op 0 3) (op 0 3)
 
 -- ---- rows 9 and 37: an AMO of another hart between an LR and its SC
 
@@ -118,7 +118,7 @@ contended ok =
 
 pub record Row9 : Type 0 where
   pub legal : Passes Rvwmo (contended false) (completed (contended false))
-  pub succeeds_in_vain : Fails Rvwmo (contended true) (completed (contended true)) 15 (op 0 3) (op 0 4)
+  pub succeeds_in_vain : IsIllegal Rvwmo (contended true) (completed (contended true)) 15 (op 0 3) (op 0 4)
 
 -- ---- rows 18, 38 and 43: one load, of its own program
 

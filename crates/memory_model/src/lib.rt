@@ -15,7 +15,7 @@ pub use operation::{Kind, Operation};
 
 /// RVWMO (RISC-V Unprivileged ISA 20191213, chapter 14), or the stronger Ztso (chapter 23).
 #[derive(Clone, Copy, Debug, PartialEq, Eq)]
-pub enum Model {
+pub enum MemoryModel {
     Rvwmo,
     Ztso,
 }

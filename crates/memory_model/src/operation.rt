@@ -7,9 +7,9 @@ pub enum Kind {
     Load,
     Store,
     /// LR.
-    Reserve,
+    Lr,
     /// An SC that succeeded.
-    Conditional,
+    Sc,
     Amo,
 }
 

@@ -4,7 +4,7 @@ use anyhow::{Result, ensure};
 use elf_loader::Image;
 use explorer::{compare, explore};
 use flat_model::HartResult;
-use machine_model::{Config, Model};
+use machine_model::{Config, MemoryModel};
 use machine_parts::is_within_limits;
 use state_search::Unwatched;
 use std::alloc::Global;
@@ -18,7 +18,7 @@ const WINDOW: usize = 16;
 const STATES: u32 = 1_000_000;
 
 /// Caches of one line of 16 bytes each.
-pub fn config_of(harts: u32, model: Model) -> Config {
+pub fn config_of(harts: u32, model: MemoryModel) -> Config {
     Config {
         harts,
         sets: 1,

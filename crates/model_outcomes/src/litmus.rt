@@ -5,7 +5,7 @@ use crate::words::image_of_digits;
 use anyhow::{Context, Result, bail, ensure};
 use elf_loader::Image;
 use hart::Status;
-use machine_model::Model;
+use machine_model::MemoryModel;
 use std::alloc::Global;
 use std::fs;
 use std::io::Write;
@@ -54,7 +54,7 @@ fn is_asked_for(witness: &Witness) -> bool {
 }
 
 /// Fails where what is found isn't the answer.
-fn ask(alloc: Global, question: &Question<'_>, model: Model, answer: bool) -> Result<()> {
+fn ask(alloc: Global, question: &Question<'_>, model: MemoryModel, answer: bool) -> Result<()> {
     let name = question.name;
     let config = config_of(question.harts, model);
     let found = allowed(alloc, &question.image, config).with_context(|| format!(in alloc;
@@ -76,8 +76,8 @@ pub fn ask_all<R: Files + AllocGlobal, W: Write>(rt: &R, out: &mut W) -> Result<
     let mut ztso = 0_usize;
     for line in text.as_str().lines() {
         let question = question_of(alloc, line)?;
-        ask(alloc, &question, Model::Rvwmo, question.rvwmo)?;
-        ask(alloc, &question, Model::Ztso, question.ztso)?;
+        ask(alloc, &question, MemoryModel::Rvwmo, question.rvwmo)?;
+        ask(alloc, &question, MemoryModel::Ztso, question.ztso)?;
         programs = programs.saturating_add(1);
         rvwmo = rvwmo.saturating_add(usize::from(question.rvwmo));
         ztso = ztso.saturating_add(usize::from(question.ztso));

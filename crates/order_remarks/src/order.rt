@@ -60,10 +60,10 @@ impl Display for OvertakingRemark<'_> {
         f.write_str(", which precedes it;")?;
         put_instruction(&self.overtaking.fence(), None, f)?;
         f.write_str(" between them would forbid it")?;
-        if matches!(first.kind, Kind::Reserve | Kind::Amo) && !first.aq {
+        if matches!(first.kind, Kind::Lr | Kind::Amo) && !first.aq {
             f.write_str(", and so would aq on the one that precedes")?;
         }
-        if matches!(second.kind, Kind::Conditional | Kind::Amo) && !second.rl {
+        if matches!(second.kind, Kind::Sc | Kind::Amo) && !second.rl {
             f.write_str(", and so would rl on the other")?;
         }
         Ok(())

@@ -35,8 +35,8 @@ fn set_with(kind: Kind) -> FenceSet
     ensures known { result.0 < 16 }
 {
     match kind {
-        Kind::Load | Kind::Reserve | Kind::Amo => FenceSet::R,
-        Kind::Store | Kind::Conditional => FenceSet::W,
+        Kind::Load | Kind::Lr | Kind::Amo => FenceSet::R,
+        Kind::Store | Kind::Sc => FenceSet::W,
     }
 }
 

@@ -5,7 +5,7 @@ ghost use Rattle.elf_loader.specs.Size.{IsMemorySize};
 use elf_loader::Image;
 use hart::{Hart, Retired, Status};
 use rv32_decode::{Instr, LoadOp, decode};
-use rv32_exec::{Plan, plan, stop};
+use rv32_exec::{Action, plan, stop};
 use std::fmt::{self, Display, Formatter};
 use trace_recorder::Trace;
 
@@ -108,7 +108,7 @@ fn stepped(image: &Image, hart: &Hart, entry: &Retired) -> Result<Hart, Cause> {
 fn stops(size: u32, hart: &Hart, instr: &Instr) -> bool
     requires { IsMemorySize size }
 {
-    matches!(plan(instr, hart.pc, &hart.regs, size), Plan::Stop(_))
+    matches!(plan(instr, hart.pc, &hart.regs, size), Action::Stop(_))
 }
 
 fn has_answers(instr: &Instr, entry: &Retired) -> bool {
@@ -147,7 +147,7 @@ fn next_stop(image: &Image, hart: &Hart) -> Option<u8> {
         return Some(stop::ILLEGAL);
     };
     match plan(&instr, hart.pc, &hart.regs, image.size()) {
-        Plan::Stop(code) => Some(code),
+        Action::Stop(code) => Some(code),
         _ => None,
     }
 }

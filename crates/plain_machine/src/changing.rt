@@ -6,7 +6,7 @@ use crate::state::PlainMachine;
 use crate::steps::{after_instr, next_alone};
 use crate::words::{Marks, line_of};
 use hart::{Retired, Status};
-use machine_model::{Model, Outcome};
+use machine_model::{MemoryModel, Outcome};
 use rv32_decode::Instr;
 use std::alloc::AllocError;
 use tl_types::{Body, Grow, Msg};
@@ -58,10 +58,10 @@ impl PlainMachine {
     /// What an instruction does as it retires.
     fn does(&mut self, hart: u8, deed: Deed) -> Result<(), AllocError> {
         match deed {
-            Deed::Alone => Ok(()),
+            Deed::Private => Ok(()),
             Deed::Load => self.performs_own(hart),
             Deed::Output(_) | Deed::Store(_) | Deed::Seal => self.does_aside(hart, deed),
-            Deed::Reserve(word) => {
+            Deed::Lr(word) => {
                 self.performs_own(hart)?;
                 self.with_reservation(hart, Some(word));
                 Ok(())
@@ -70,13 +70,13 @@ impl PlainMachine {
                 self.with_reservation(hart, None);
                 Ok(())
             }
-            Deed::Conditional { word, value } => {
+            Deed::Sc { word, value } => {
                 self.performs_own(hart)?;
                 self.writes_word(hart, word, ALL_BYTES, value.to_le_bytes())?;
                 self.with_reservation(hart, None);
                 Ok(())
             }
-            Deed::Update { word, value } => {
+            Deed::Amo { word, value } => {
                 self.performs_own(hart)?;
                 self.writes_word(hart, word, ALL_BYTES, value.to_le_bytes())
             }
@@ -93,8 +93,8 @@ impl PlainMachine {
         match deed {
             Deed::Output(number) => node.output.push(number)?,
             Deed::Store(store) => match model {
-                Model::Rvwmo => node.buffer.after_put(alloc, &store)?,
-                Model::Ztso => node.buffer.after_put_single(alloc, &store)?,
+                MemoryModel::Rvwmo => node.buffer.after_put(alloc, &store)?,
+                MemoryModel::Ztso => node.buffer.after_put_single(alloc, &store)?,
             },
             Deed::Seal => node.buffer.after_seal(alloc)?,
             _ => {}

@@ -38,15 +38,15 @@ pub(crate) enum Act {
 /// What an instruction that retires does beside its hart's pc and registers.
 #[derive(Clone, Copy, Debug, PartialEq, Eq)]
 pub(crate) enum Deed {
-    Alone,
+    Private,
     Output(u32),
     Load,
     Store(Store),
     Seal,
-    Reserve(u32),
+    Lr(u32),
     Fail,
-    Conditional { word: u32, value: u32 },
-    Update { word: u32, value: u32 },
+    Sc { word: u32, value: u32 },
+    Amo { word: u32, value: u32 },
 }
 
 /// A miss on a line, by the cache's rule.

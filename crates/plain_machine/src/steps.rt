@@ -10,9 +10,9 @@ use amo_unit::combine;
 use bitflags::Flags;
 use elf_loader::Image;
 use hart::{Hart, Retired, Status};
-use machine_model::{Model, Outcome};
+use machine_model::{MemoryModel, Outcome};
 use rv32_decode::{AmoOp, FenceSet, Instr, Register, SystemOp, decode};
-use rv32_exec::{Plan as Access, Regs, Width, finish, plan, stop};
+use rv32_exec::{Action, Regs, Width, finish, plan, stop};
 
 /// An instruction that a hart is about to retire.
 #[derive(Clone, Copy, Debug)]
@@ -91,41 +91,35 @@ pub(crate) fn waits_for_stores(buffer: &Groups, instr: &Instr, word: u32) -> boo
 }
 
 /// A write that is performed at once passes no sealed group, and under Ztso no store.
-pub(crate) fn write_waits(model: Model, buffer: &Groups, instr: &Instr, word: u32) -> bool {
+pub(crate) fn write_waits(model: MemoryModel, buffer: &Groups, instr: &Instr, word: u32) -> bool {
     match model {
-        Model::Rvwmo => waits_for_stores(buffer, instr, word) || buffer.has_sealed(),
-        Model::Ztso => !buffer.is_empty(),
+        MemoryModel::Rvwmo => waits_for_stores(buffer, instr, word) || buffer.has_sealed(),
+        MemoryModel::Ztso => !buffer.is_empty(),
     }
 }
 
-fn plan_reserve(node: &Node, fetched: &Fetched, address: u32) -> Plan {
+fn plan_lr(node: &Node, fetched: &Fetched, address: u32) -> Plan {
     if waits_for_stores(&node.buffer, &fetched.instr, address) {
         return Plan::Stays(Outcome::MustDrain);
     }
     match writing(&node.cache, line_of(node.cache.size, address)) {
         Ok(line) => {
             let old = read_from(word_in(&line, address), address, Width::Word);
-            retires(node, fetched, Some(old), None, Deed::Reserve(address))
+            retires(node, fetched, Some(old), None, Deed::Lr(address))
         }
         Err(miss) => miss,
     }
 }
 
 /// Without its reservation a store conditional fails at once.
-fn plan_conditional(
-    model: Model,
-    node: &Node,
-    fetched: &Fetched,
-    address: u32,
-    value: u32,
-) -> Plan {
+fn plan_sc(model: MemoryModel, node: &Node, fetched: &Fetched, address: u32, value: u32) -> Plan {
     if node.reserved != Some(address) {
         return retires(node, fetched, None, Some(false), Deed::Fail);
     }
     if write_waits(model, &node.buffer, &fetched.instr, address) {
         return Plan::Stays(Outcome::MustDrain);
     }
-    let deed = Deed::Conditional {
+    let deed = Deed::Sc {
         word: address,
         value,
     };
@@ -133,7 +127,7 @@ fn plan_conditional(
 }
 
 fn plan_amo(
-    model: Model,
+    model: MemoryModel,
     node: &Node,
     fetched: &Fetched,
     address: u32,
@@ -146,7 +140,7 @@ fn plan_amo(
     match writing(&node.cache, line_of(node.cache.size, address)) {
         Ok(line) => {
             let old = read_from(word_in(&line, address), address, Width::Word);
-            let deed = Deed::Update {
+            let deed = Deed::Amo {
                 word: address,
                 value: combine(op, old, operand),
             };
@@ -181,7 +175,7 @@ pub(crate) fn fence_deed(buffer: &Groups, instr: &Instr) -> Option<Deed> {
     Some(if before_stores {
         Deed::Seal
     } else {
-        Deed::Alone
+        Deed::Private
     })
 }
 
@@ -201,7 +195,7 @@ fn call_of(regs: &Regs) -> (u32, u32) {
 pub(crate) fn call_deed(regs: &Regs) -> Deed {
     let (number, argument) = call_of(regs);
     if number == 0 {
-        Deed::Alone
+        Deed::Private
     } else {
         Deed::Output(argument)
     }
@@ -221,7 +215,7 @@ pub(crate) fn next_access(image: &Image, hart: &Hart, place: u32) -> Result<(Fet
 }
 
 /// The hart has to run; then come the stops.
-pub(crate) fn plan_step(model: Model, image: &Image, node: &Node) -> Plan {
+pub(crate) fn plan_step(model: MemoryModel, image: &Image, node: &Node) -> Plan {
     if !node.hart.status.is_running() {
         return Plan::Stays(Outcome::Halted);
     }
@@ -231,17 +225,17 @@ pub(crate) fn plan_step(model: Model, image: &Image, node: &Node) -> Plan {
     }
 }
 
-fn plan_access(model: Model, node: &Node, fetched: &Fetched, access: Access) -> Plan {
+fn plan_access(model: MemoryModel, node: &Node, fetched: &Fetched, access: Action) -> Plan {
     match access {
-        Access::Local => retires(node, fetched, None, None, Deed::Alone),
-        Access::Load { addr, size } => plan_load(node, fetched, addr, size),
-        Access::Store { addr, size, value } => plan_store(node, fetched, addr, size, value),
-        Access::Lr { addr } => plan_reserve(node, fetched, addr),
-        Access::Sc { addr, value } => plan_conditional(model, node, fetched, addr, value),
-        Access::Amo { addr, op, operand } => plan_amo(model, node, fetched, addr, op, operand),
-        Access::Fence => plan_fence(node, fetched),
-        Access::Call => retires(node, fetched, None, None, call_deed(&node.hart.regs)),
-        Access::Stop(code) => Plan::Changes(Act::Stop(code)),
+        Action::Private => retires(node, fetched, None, None, Deed::Private),
+        Action::Load { addr, size } => plan_load(node, fetched, addr, size),
+        Action::Store { addr, size, value } => plan_store(node, fetched, addr, size, value),
+        Action::Lr { addr } => plan_lr(node, fetched, addr),
+        Action::Sc { addr, value } => plan_sc(model, node, fetched, addr, value),
+        Action::Amo { addr, op, operand } => plan_amo(model, node, fetched, addr, op, operand),
+        Action::Fence => plan_fence(node, fetched),
+        Action::Call => retires(node, fetched, None, None, call_deed(&node.hart.regs)),
+        Action::Stop(code) => Plan::Changes(Act::Stop(code)),
     }
 }
 
@@ -282,7 +276,7 @@ pub(crate) fn next_alone(image: &Image, hart: &Hart) -> Option<(Retired, Hart)> 
     }
     let word = image.word(hart.pc);
     let instr = decode(word)?;
-    if plan(&instr, hart.pc, &hart.regs, image.size()) != Access::Local {
+    if plan(&instr, hart.pc, &hart.regs, image.size()) != Action::Private {
         return None;
     }
     let entry = Retired {

@@ -3,7 +3,7 @@
 use crate::again::again;
 use anyhow::{Context, Result, bail};
 use elf_loader::{Image, raw, size_of_kib};
-use machine_model::{Config, Event, Model};
+use machine_model::{Config, Event, MemoryModel};
 use std::alloc::Global;
 use std::rt::Files;
 use std::{fs, io};
@@ -59,7 +59,7 @@ impl Case {
             sets: self.script.sets,
             ways: self.script.ways,
             line: self.script.line,
-            model: Model::Rvwmo,
+            model: MemoryModel::Rvwmo,
         }
     }
 

@@ -5,7 +5,7 @@ use Rattle.command_files.specs.Composition.{Leads}
 use Rattle.command_files.specs.Sizes.{config_of}
 use Rattle.elf_loader.specs.Image.{Initial}
 use Rattle.machine_model.specs.Views.{State, opening}
-use Rattle.memory_model.specs.declared.Model.{Model}
+use Rattle.memory_model.specs.declared.MemoryModel.{MemoryModel}
 use Rattle.replay_command.specs.declared.composing.CompositionError.{CompositionError}
 use Rattle.replay_command.specs.declared.composing.CompositionError.TheVariants as errors
 use Rattle.text_fields.specs.Writing.{Begins}
@@ -13,6 +13,6 @@ use Rattle.trace_text.specs.Traces.{text}
 use Rattle.trace_text.specs.declared.script.Script.{Script}
 
 -- why the text isn't there: an event is refused or no machine was made, and nothing went out; or the writer had a fault, and a beginning of the text did
-abbrev pub IsUnfinished : Initial → Script → Model → Option (List ℕ) → Option (List ℕ) → CompositionError → Type 0
-IsUnfinished image script model old new (errors.Replay error) = (new ≡ old) × IsFirstRefusal (opening image (config_of script model)) script.events error
-IsUnfinished image script model old new (errors.Writing fault) = (s : State) × Leads image script model s × Begins old new (text s.trace)
+abbrev pub IsTraceUnfinished : Initial → Script → MemoryModel → Option (List ℕ) → Option (List ℕ) → CompositionError → Type 0
+IsTraceUnfinished image script model old new (errors.Replay error) = (new ≡ old) × IsFirstRefusal (opening image (config_of script model)) script.events error
+IsTraceUnfinished image script model old new (errors.Writing fault) = (s : State) × Leads image script model s × Begins old new (text s.trace)

@@ -5,13 +5,13 @@ ghost use Rattle.coherent_machine.specs.declared.errors.NewError.TheVariants as 
 ghost use Rattle.coherent_machine.specs.declared.errors.ReplayError.TheVariants as refusal;
 ghost use Rattle.machine_model.specs.Config.{is_within_limits};
 ghost use Rattle.command_files.specs.Composition.{IsComposition};
-ghost use Rattle.replay_command.specs.Unfinished.{IsUnfinished};
+ghost use Rattle.replay_command.specs.Unfinished.{IsTraceUnfinished};
 ghost use Rattle.command_files.specs.Sizes.{config_of};
 
 use coherent_machine::{Machine, ReplayError, replay};
 use command_files::config_of;
 use elf_loader::Image;
-use machine_model::Model;
+use machine_model::MemoryModel;
 use std::alloc::Global;
 use std::io::{self, Write};
 use trace_text::{Script, every_trace_has_a_text, write_trace};
@@ -30,12 +30,12 @@ pub fn replay_and_write<W: Write>(
     alloc: Global,
     image: Image,
     script: &Script,
-    model: Model,
+    model: MemoryModel,
     out: &mut W,
 ) -> Result<Machine, CompositionError>
     ensures written { IfOk result (λ machine. IsComposition image script.now model (W.contents out.old) (W.contents out.new) machine) }
     ensures limits { (result ≡ Err (CompositionError.Replay (refusal.New making.Config))) ↔ (is_within_limits (config_of script.now model) ≡ false) }
-    ensures unfinished { IfErr result (λ error. IsUnfinished image script.now model (W.contents out.old) (W.contents out.new) error) }
+    ensures unfinished { IfErr result (λ error. IsTraceUnfinished image script.now model (W.contents out.old) (W.contents out.new) error) }
 {
     every_trace_has_a_text();
     let config = config_of(script, model);

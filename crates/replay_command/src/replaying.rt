@@ -5,7 +5,7 @@ ghost use Rattle.elf_loader.specs.Size.{IsMemoryKib};
 ghost use Rattle.command_files.specs.Files.{HoldsImage, HoldsScript, IsTheScriptIn};
 ghost use Rattle.command_files.specs.Held.{HoldsBytes};
 ghost use Rattle.replay_command.specs.Replaying.{IsCutOff, IsReplayed};
-ghost use Rattle.command_files.specs.Faults.{IsImageFault, IsReadFault, IsScriptFault, Leaves};
+ghost use Rattle.command_files.specs.Faults.{IsImageFault, IsReadFault, IsScriptFault, LeavesAtFault};
 ghost use Rattle.command_files.specs.Faults.{IsReplayFault};
 
 use crate::composing::{CompositionError, replay_and_write};
@@ -25,7 +25,7 @@ pub fn replay_files<'a, F: Files, O: Write, E: Write>(
     err: &mut E,
 ) -> Result<(), Fault<'a>>
     ensures replayed { OnOk result (IsReplayed (F.held files.old) wanted.entry (O.contents out.old) (O.contents out.new)) }
-    ensures unfinished { IfErr result (λ fault. Leaves fault (O.contents out.old) (O.contents out.new)
+    ensures unfinished { IfErr result (λ fault. LeavesAtFault fault (O.contents out.old) (O.contents out.new)
         (IsCutOff (F.held files.old) wanted.entry (O.contents out.old) (O.contents out.new))) }
     ensures told { IfErr result (IsReplayFault (F.held files.old) wanted.entry) }
     ensures spared { F.held files.new ≡ F.held files.old }

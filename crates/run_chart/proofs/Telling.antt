@@ -16,7 +16,7 @@ use Rattle.machine_parts.specs.Applying.{Answers}
 use Rattle.run_chart.specs.declared.before.Before.{Before}
 use Rattle.run_chart.specs.declared.gathering.Gathered.{Gathered}
 use Rattle.run_chart.specs.Rows.{Told, before, is_shown, line_behind, report_between, row, row_between, rows_at, rows_by, rows_of, shown, told}
-use Rattle.run_chart.specs.Stories.{IsTold}
+use Rattle.run_chart.specs.Stories.{IsRowTold}
 
 stays : (v : Verdict) (w : ℕ) (only : Option ℕ) (columns : List ℕ) (line index : ℕ) (s new : State) (e : Event) (o : Outcome) → Answers v s (Ok o) new
     → ((p : Outcome) (moved : State) → v ≡ Moves p moved → moved.views.changes ≡ s.views.changes + 1) → new.views.changes ≡ s.views.changes
@@ -88,14 +88,14 @@ rows_next w only columns line index next s new events d old now total some en el
 
 module _ (w : ℕ) (only : Option ℕ) (columns : List ℕ) (index : ℕ) (s : State) (e : Event) (new : State) where
   -- an event that has no row
-  pub no_row : (g : Gathered) → new ≡ happens s e → rows_at w only columns g.line index s e ≡ [] → IsTold w only columns index s e new g g
+  pub no_row : (g : Gathered) → new ≡ happens s e → rows_at w only columns g.line index s e ≡ [] → IsRowTold w only columns index s e new g g
   no_row g leads none = record {
     rows_are = sym (append-nil (map told g.rows.items)) ∙ ap (λ (ts : List Told). map told g.rows.items ++ ts) (sym none);
     line_is = ap (λ (ts : List Told). line_behind g.line ts) (sym none);
     leads = leads;
   }
 
-  one_row : (g after : Gathered) (r : Row) → new ≡ happens s e → rows_at w only columns g.line index s e ≡ told r ∷ [] → after.rows.items ≡ g.rows.items ++ r ∷ [] → after.line ≡ r.end → IsTold w only columns index s e new g after
+  one_row : (g after : Gathered) (r : Row) → new ≡ happens s e → rows_at w only columns g.line index s e ≡ told r ∷ [] → after.rows.items ≡ g.rows.items ++ r ∷ [] → after.line ≡ r.end → IsRowTold w only columns index s e new g after
   one_row g after r leads one rows line = record {
     rows_are = ap (λ (rs : List Row). map told rs) rows ∙ map-append told g.rows.items (r ∷ []) ∙ ap (λ (ts : List Told). map told g.rows.items ++ ts) (sym one);
     line_is = line ∙ ap (λ (ts : List Told). line_behind g.line ts) (sym one);
@@ -104,7 +104,7 @@ module _ (w : ℕ) (only : Option ℕ) (columns : List ℕ) (index : ℕ) (s : S
 
   -- an event whose row was added, if there was memory
   pub row_added : {T E : Type 0} (result : Result T E) (g after : Gathered) (r : Row) → new ≡ happens s e → rows_at w only columns g.line index s e ≡ told r ∷ [] → OnOk result (after.rows.items ≡ g.rows.items ++ r ∷ []) → OnOk result (after.line ≡ r.end)
-      → OnOk result (IsTold w only columns index s e new g after)
+      → OnOk result (IsRowTold w only columns index s e new g after)
   row_added (Ok x) g after r leads one rows line = one_row g after r leads one rows line
   row_added (Err x) g after r leads one rows line = tt
 

@@ -8,24 +8,11 @@ use Rattle.machine_model.specs.declared.event.Event.{Event}
 use Rattle.machine_model.specs.declared.event.Event.TheVariants.{Step, Drain, Evict, Deliver, Local}
 use Rattle.rv32_decode.specs.Rows.{decoded}
 use Rattle.rv32_decode.specs.declared.instruction.Instr.{Instr}
-use Rattle.rv32_exec.specs.Plans.{planned}
-use Rattle.rv32_exec.specs.declared.plans.Plan.{Plan}
-use Rattle.rv32_exec.specs.declared.plans.Plan.TheVariants as plan
-
-abbrev pub address_of : Plan → Option ℕ
-address_of plan.Local = None
-address_of (plan.Load address size) = Some address
-address_of (plan.Store address size value) = Some address
-address_of (plan.Lr address) = Some address
-address_of (plan.Sc address value) = Some address
-address_of (plan.Amo address op operand) = Some address
-address_of plan.Fence = None
-address_of plan.Call = None
-address_of (plan.Stop code) = None
+use Rattle.rv32_exec.specs.Actions.{addressed, planned}
 
 abbrev pub access_of : Initial → Hart → Option Instr → Option ℕ
 access_of image h None = None
-access_of image h (Some i) = address_of (planned i h.pc h.regs (length image.bytes))
+access_of image h (Some i) = addressed (planned i h.pc h.regs (length image.bytes))
 
 -- what a hart's next instruction reads or writes
 abbrev pub next_access : Initial → Hart → Option ℕ
@@ -42,8 +29,8 @@ address_at s (Deliver channel h) = None
 address_at s (Local h count) = None
 
 -- how many bytes a line of memory has
-abbrev pub IsWidth : ℕ → Type 0
-IsWidth width = 0 < width
+abbrev pub IsLineWidth : ℕ → Type 0
+IsLineWidth width = 0 < width
 
 abbrev pub line_around : ℕ → ℕ → ℕ
 line_around width address = address - address % width

@@ -16,7 +16,7 @@ use Rattle.run_chart.specs.Copies.{lines_of}
 use Rattle.run_chart.specs.Rows.{Told, line_behind, rows_at, rows_of, told}
 
 -- an event of this index is told: by its row, if it has one
-pub record IsTold (width : ℕ) (only : Option ℕ) (columns : List ℕ) (index : ℕ) (s : State) (e : Event) (new : State) (before after : Gathered) : Type 0 where
+pub record IsRowTold (width : ℕ) (only : Option ℕ) (columns : List ℕ) (index : ℕ) (s : State) (e : Event) (new : State) (before after : Gathered) : Type 0 where
   pub rows_are : map told after.rows.items ≡ map told before.rows.items ++ rows_at width only columns before.line index s e
   pub line_is : after.line ≡ line_behind before.line (rows_at width only columns before.line index s e)
   pub leads : new ≡ happens s e

@@ -9,20 +9,7 @@ use elf_loader::Image;
 use hart::Hart;
 use machine_model::Event;
 use rv32_decode::decode;
-use rv32_exec::{Plan, plan};
-
-fn address_of(plan: Plan) -> Option<u32>
-    ensures { result ≡ accesses.address_of plan }
-{
-    match plan {
-        Plan::Load { addr, .. }
-        | Plan::Store { addr, .. }
-        | Plan::Lr { addr }
-        | Plan::Sc { addr, .. }
-        | Plan::Amo { addr, .. } => Some(addr),
-        Plan::Local | Plan::Fence | Plan::Call | Plan::Stop(_) => None,
-    }
-}
+use rv32_exec::plan;
 
 /// Whether a word of memory lies at this address.
 fn can_fetch(image: &Image, pc: u32) -> bool
@@ -40,7 +27,7 @@ fn next_access(image: &Image, hart: &Hart) -> Option<u32>
         return None;
     }
     match decode(image.word(hart.pc)) {
-        Some(instr) => address_of(plan(&instr, hart.pc, &hart.regs, image.size())),
+        Some(instr) => plan(&instr, hart.pc, &hart.regs, image.size()).address(),
         None => None,
     }
 }
@@ -71,7 +58,7 @@ pub(crate) fn address_at(machine: &Machine, event: Event) -> Option<u32>
 
 /// The line of memory around an address.
 pub(crate) fn line_around(width: u32, address: u32) -> u32
-    requires { accesses.IsWidth width }
+    requires { accesses.IsLineWidth width }
     ensures { result ≡ accesses.line_around width address }
 {
     address - address % width
@@ -79,7 +66,7 @@ pub(crate) fn line_around(width: u32, address: u32) -> u32
 
 /// Whether an address lies in this line of memory.
 pub(crate) fn lies_in(width: u32, line: u32, address: Option<u32>) -> bool
-    requires { accesses.IsWidth width }
+    requires { accesses.IsLineWidth width }
     ensures { result ≡ accesses.lies_in width line address }
 {
     match address {

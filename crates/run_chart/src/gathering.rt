@@ -7,7 +7,7 @@ ghost use Rattle.machine_model.specs.Events.{happens};
 ghost use Rattle.machine_model.specs.Views.{opening};
 ghost use Rattle.run_chart.specs.Accesses.{line_around};
 ghost use Rattle.run_chart.specs.Rows as rows;
-ghost use Rattle.run_chart.specs.Stories.{AreTooMany, IsStory, IsTold, IsUntold, only_of};
+ghost use Rattle.run_chart.specs.Stories.{AreTooMany, IsStory, IsRowTold, IsUntold, only_of};
 ghost use Rattle.run_chart.specs.declared.errors.RowError.TheVariants as error;
 
 use crate::accesses::line_around;
@@ -67,7 +67,7 @@ fn tell(
     requires width { 0 < scope.now.width }
     requires few { length gathered.old.rows.items ≤ 400 }
     requires low { gathered.old.line ≤ 65535 }
-    ensures told { OnOk result (IsTold scope.now.width scope.now.only scope.now.columns.now index machine.old event machine.new gathered.old gathered.new) }
+    ensures told { OnOk result (IsRowTold scope.now.width scope.now.only scope.now.columns.now index machine.old event machine.new gathered.old gathered.new) }
     ensures count { OnOk result (length gathered.new.rows.items ≤ 400) }
     ensures low { OnOk result (gathered.new.line ≤ 65535) }
     ensures full { IfErr result (λ why. why ≡ error.TooManyRows → AreTooMany (length gathered.old.rows.items) gathered.old.line (rows.rows_at scope.now.width scope.now.only scope.now.columns.now gathered.old.line index machine.old event)) }

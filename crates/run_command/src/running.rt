@@ -8,7 +8,7 @@ ghost use Rattle.command_files.specs.Held.{HoldsBytes};
 ghost use Rattle.run_command.specs.Running.{IsRun, IsRunCutOff, run_fault};
 ghost use Rattle.command_files.specs.Sizes.{IsOutside, config_named, script_named};
 ghost use Rattle.run_command.specs.Running.{IsRunFault};
-ghost use Rattle.command_files.specs.Faults.{Leaves};
+ghost use Rattle.command_files.specs.Faults.{LeavesAtFault};
 ghost use Rattle.elf_loader.specs.Size.{IsMemoryKib};
 ghost use Rattle.machine_model.specs.Config.{is_within_limits as is_within};
 ghost use Rattle.text_fields.specs.Writing.{Begins};
@@ -82,7 +82,7 @@ pub fn run_files<'a, R: Threads + Wait + Sync, F: Files, O: Write, E: Write, P: 
     ensures ran { OnOk result (IsRun (F.held files.old) (F.held files.new) wanted.entry (O.contents out.old) (O.contents out.new)) }
     ensures outside { IsOutside wanted.entry.machine → result ≡ Err Fault.Configuration }
     ensures told { IfErr result (IsRunFault (F.held files.old) wanted.entry) }
-    ensures unfinished { IfErr result (λ fault. Leaves fault (O.contents out.old) (O.contents out.new)
+    ensures unfinished { IfErr result (λ fault. LeavesAtFault fault (O.contents out.old) (O.contents out.new)
         (IsRunCutOff (F.held files.old) (F.held files.new) wanted.entry (O.contents out.old) (O.contents out.new))) }
     ensures spared { (other : List ℕ) → other ≢ wanted.entry.journal.now → F.held files.new other ≡ F.held files.old other }
 {

@@ -89,12 +89,12 @@ fence_at w = if funct3_of w == 0 then Some (if is_tso w then instr.FenceTso else
 abbrev pub system_at : ℕ → Option Instr
 system_at w = if w == 0x73 then Some (instr.System system.Ecall) else (if w == 0x100073 then Some (instr.System system.Ebreak) else None)
 
-abbrev pub store_conditional_or_amo_at : ℕ → Option Instr
-store_conditional_or_amo_at w =
+abbrev pub store_sc_or_amo_at : ℕ → Option Instr
+store_sc_or_amo_at w =
     if funct5_of w == 3 then Some (instr.Sc (rd_of w) (rs1_of w) (rs2_of w) (annotations_of w))
     else option_map (λ op. instr.Amo op (rd_of w) (rs1_of w) (rs2_of w) (annotations_of w)) (amo_of (funct5_of w))
 
 abbrev pub atomic_at : ℕ → Option Instr
 atomic_at w =
-    if funct3_of w == 2 then (if (funct5_of w == 2) && (rs2_of w == 0) then Some (instr.Lr (rd_of w) (rs1_of w) (annotations_of w)) else store_conditional_or_amo_at w)
+    if funct3_of w == 2 then (if (funct5_of w == 2) && (rs2_of w == 0) then Some (instr.Lr (rd_of w) (rs1_of w) (annotations_of w)) else store_sc_or_amo_at w)
     else None

@@ -1,7 +1,7 @@
 -- Laws of the instruction meaning: which registers an instruction's parts are read from, which it writes, and what a stop leaves.
 use Rattle.std.specs.Prelude.{ℕ, ◌≡◌, List, Option, Some, None, Contains, slice_index}
 use Rattle.rv32_decode.specs.declared.instruction.Instr.{Instr}
-use Rattle.rv32_exec.specs.Meaning.{Access, Private, Loads, Stores, Reserves, Tries, Updates, Fences, Calls, Meaning, Stops, Does, access_of, effect_of, meaning, meaning_of_word, value_written}
+use Rattle.rv32_exec.specs.Meaning.{Access, Private, Loads, Stores, DoesLr, DoesSc, DoesAmo, Fences, Calls, Meaning, Stops, Does, access_of, effect_of, meaning, meaning_of_word, value_written}
 use Rattle.rv32_exec.specs.Registers.{AreRegisters, after_write}
 use Rattle.rv32_exec.specs.Uses.{uses_of, read_by}
 
@@ -13,9 +13,9 @@ abbrev pub address_of : Access → Option ℕ
 address_of Private = None
 address_of (Loads address bytes) = Some address
 address_of (Stores address bytes value) = Some address
-address_of (Reserves address) = Some address
-address_of (Tries address value) = Some address
-address_of (Updates address op operand) = Some address
+address_of (DoesLr address) = Some address
+address_of (DoesSc address value) = Some address
+address_of (DoesAmo address op operand) = Some address
 address_of Fences = None
 address_of (Calls number argument) = None
 

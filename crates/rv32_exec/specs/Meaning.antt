@@ -14,9 +14,9 @@ pub data Access : Type 0 where
   Private : Access
   Loads : (address bytes : ℕ) → Access
   Stores : (address bytes value : ℕ) → Access
-  Reserves : (address : ℕ) → Access
-  Tries : (address value : ℕ) → Access
-  Updates : (address : ℕ) (op : AmoOp) (operand : ℕ) → Access
+  DoesLr : (address : ℕ) → Access
+  DoesSc : (address value : ℕ) → Access
+  DoesAmo : (address : ℕ) (op : AmoOp) (operand : ℕ) → Access
   Fences : Access
   Calls : (number argument : ℕ) → Access
 
@@ -25,9 +25,9 @@ abbrev pub value_written : Access → ℕ → Option ℕ
 value_written Private read = None
 value_written (Loads address bytes) read = None
 value_written (Stores address bytes value) read = Some value
-value_written (Reserves address) read = None
-value_written (Tries address value) read = Some value
-value_written (Updates address op operand) read = Some (combined op read operand)
+value_written (DoesLr address) read = None
+value_written (DoesSc address value) read = Some value
+value_written (DoesAmo address op operand) read = Some (combined op read operand)
 value_written Fences read = None
 value_written (Calls number argument) read = None
 
@@ -87,9 +87,9 @@ access_of (Fence sets) x = Fences
 access_of FenceTso x = Fences
 access_of (System Ecall) x = Calls (slice_index x 17) (slice_index x 10)
 access_of (System Ebreak) x = Private
-access_of (Lr rd rs1 bits) x = Reserves (slice_index x rs1)
-access_of (Sc rd rs1 rs2 bits) x = Tries (slice_index x rs1) (slice_index x rs2)
-access_of (Amo op rd rs1 rs2 bits) x = Updates (slice_index x rs1) op (slice_index x rs2)
+access_of (Lr rd rs1 bits) x = DoesLr (slice_index x rs1)
+access_of (Sc rd rs1 rs2 bits) x = DoesSc (slice_index x rs1) (slice_index x rs2)
+access_of (Amo op rd rs1 rs2 bits) x = DoesAmo (slice_index x rs1) op (slice_index x rs2)
 
 -- memory has `size` bytes from 0x80000000 on
 abbrev pub is_outside : (size address bytes : ℕ) → Bool
@@ -104,9 +104,9 @@ abbrev pub stop_of_access : Access → ℕ → Option ℕ
 stop_of_access Private size = None
 stop_of_access (Loads address bytes) size = access_stop 4 5 size address bytes
 stop_of_access (Stores address bytes value) size = access_stop 6 7 size address bytes
-stop_of_access (Reserves address) size = access_stop 6 7 size address 4
-stop_of_access (Tries address value) size = access_stop 6 7 size address 4
-stop_of_access (Updates address op operand) size = access_stop 6 7 size address 4
+stop_of_access (DoesLr address) size = access_stop 6 7 size address 4
+stop_of_access (DoesSc address value) size = access_stop 6 7 size address 4
+stop_of_access (DoesAmo address op operand) size = access_stop 6 7 size address 4
 stop_of_access Fences size = None
 stop_of_access (Calls number argument) size = if nat_lt number 2 then None else Some 8
 

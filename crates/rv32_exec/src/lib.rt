@@ -2,16 +2,16 @@
 //! that it writes (RISC-V Unprivileged ISA 20191213, chapters 2, 7 and 8).
 #![tactic(auto)]
 
+mod actions;
 mod arithmetic;
 mod finishing;
 mod laws;
 mod planning;
-mod plans;
 mod registers;
 pub mod stop;
 
+pub use actions::{Action, Width};
 pub use finishing::finish;
 pub use laws::{reads_are_as_named, stops_are_decided_first, writes_are_as_named};
 pub use planning::plan;
-pub use plans::{Plan, Width};
 pub use registers::Regs;

@@ -5,11 +5,11 @@ ghost use Rattle.rv32_exec.specs.Arithmetic.{bytes_loaded, bytes_stored};
 ghost use Rattle.rv32_exec.specs.Meaning.{Loads, Stores, access_stop, stop_of_target, meaning};
 ghost use Rattle.rv32_exec.specs.Meaning as spec;
 ghost use Rattle.rv32_exec.specs.Memory.{IsMemorySize};
-ghost use Rattle.rv32_exec.specs.Plans.{width_of, plan_of_access, plan_of, stop_or, planned};
+ghost use Rattle.rv32_exec.specs.Actions.{width_of, action_of_access, action_of, stop_or, planned};
 ghost use Rattle.rv32_exec.specs.Width.{bytes_of};
 
+use crate::actions::{Action, Width};
 use crate::arithmetic::is_taken;
-use crate::plans::{Plan, Width};
 use crate::registers::Regs;
 use crate::stop;
 use rv32_decode::{Instr, LoadOp, Register, StoreOp, SystemOp};
@@ -22,23 +22,23 @@ const CALL_NUMBER: u8 = 17;
 
 /// What an instruction at `pc` will do, where memory has `size` bytes from 0x80000000 on.
 #[rattlefmt::skip]
-pub fn plan(instr: &Instr, pc: u32, regs: &Regs, size: u32) -> Plan
+pub fn plan(instr: &Instr, pc: u32, regs: &Regs, size: u32) -> Action
     requires { IsMemorySize size }
     ensures value { result ≡ planned instr.now pc regs.now size }
-    ensures of_meaning { (read : ℕ) → result ≡ plan_of (meaning instr.now pc regs.now size read) }
+    ensures of_meaning { (read : ℕ) → result ≡ action_of (meaning instr.now pc regs.now size read) }
 {
     match *instr {
         Instr::Upper { .. }
         | Instr::Immediate { .. }
         | Instr::Shift { .. }
-        | Instr::Register { .. } => Plan::Local,
+        | Instr::Register { .. } => Action::Private,
         Instr::Jal { offset, .. } => plan_jump(pc.wrapping_add(offset.value())),
         Instr::Jalr { rs1, offset, .. } => plan_jump(regs.get(rs1).wrapping_add(offset.value()) & !1),
         Instr::Branch { op, rs1, rs2, offset } => {
             if is_taken(op, regs.get(rs1), regs.get(rs2)) {
                 plan_jump(pc.wrapping_add(offset.value()))
             } else {
-                Plan::Local
+                Action::Private
             }
         }
         Instr::Load { op, rs1, offset, .. } => {
@@ -47,64 +47,64 @@ pub fn plan(instr: &Instr, pc: u32, regs: &Regs, size: u32) -> Plan
         Instr::Store { op, rs1, rs2, offset } => {
             plan_store(op, regs.get(rs1).wrapping_add(offset.value()), regs.get(rs2), size)
         }
-        Instr::Fence(_) | Instr::FenceTso => Plan::Fence,
+        Instr::Fence(_) | Instr::FenceTso => Action::Fence,
         Instr::System(SystemOp::Ecall) => plan_call(regs.get(Register::new(CALL_NUMBER))),
-        Instr::System(SystemOp::Ebreak) => Plan::Stop(stop::BREAKPOINT),
+        Instr::System(SystemOp::Ebreak) => Action::Stop(stop::BREAKPOINT),
         Instr::Lr { rs1, .. } => {
             let addr = regs.get(rs1);
-            plan_write(addr, Width::Word, size, Plan::Lr { addr })
+            plan_write(addr, Width::Word, size, Action::Lr { addr })
         }
         Instr::Sc { rs1, rs2, .. } => {
             let (addr, value) = (regs.get(rs1), regs.get(rs2));
-            plan_write(addr, Width::Word, size, Plan::Sc { addr, value })
+            plan_write(addr, Width::Word, size, Action::Sc { addr, value })
         }
         Instr::Amo { op, rs1, rs2, .. } => {
             let (addr, operand) = (regs.get(rs1), regs.get(rs2));
-            plan_write(addr, Width::Word, size, Plan::Amo { addr, op, operand })
+            plan_write(addr, Width::Word, size, Action::Amo { addr, op, operand })
         }
     }
 }
 
-fn plan_jump(target: u32) -> Plan
-    ensures { result ≡ stop_or (stop_of_target (Some target)) Plan.Local }
+fn plan_jump(target: u32) -> Action
+    ensures { result ≡ stop_or (stop_of_target (Some target)) Action.Private }
 {
     if target % 4 == 0 {
-        Plan::Local
+        Action::Private
     } else {
-        Plan::Stop(stop::JUMP_MISALIGNED)
+        Action::Stop(stop::JUMP_MISALIGNED)
     }
 }
 
-fn plan_call(number: u32) -> Plan
-    ensures { result ≡ stop_or (if nat_lt number 2 then None else Some 8) Plan.Call }
+fn plan_call(number: u32) -> Action
+    ensures { result ≡ stop_or (if nat_lt number 2 then None else Some 8) Action.Call }
 {
     if number < 2 {
-        Plan::Call
+        Action::Call
     } else {
-        Plan::Stop(stop::UNKNOWN_CALL)
+        Action::Stop(stop::UNKNOWN_CALL)
     }
 }
 
-fn plan_load(op: LoadOp, addr: u32, memory_size: u32) -> Plan
+fn plan_load(op: LoadOp, addr: u32, memory_size: u32) -> Action
     requires { IsMemorySize memory_size }
     ensures { result
-        ≡ stop_or (access_stop 4 5 memory_size addr (bytes_loaded op)) (plan_of_access (Loads addr (bytes_loaded op))) }
+        ≡ stop_or (access_stop 4 5 memory_size addr (bytes_loaded op)) (action_of_access (Loads addr (bytes_loaded op))) }
 {
     let size = load_width(op);
     if addr % size.bytes() != 0 {
-        Plan::Stop(stop::LOAD_MISALIGNED)
+        Action::Stop(stop::LOAD_MISALIGNED)
     } else if is_outside(addr, memory_size) {
-        Plan::Stop(stop::LOAD_OUTSIDE)
+        Action::Stop(stop::LOAD_OUTSIDE)
     } else {
-        Plan::Load { addr, size }
+        Action::Load { addr, size }
     }
 }
 
-fn plan_store(op: StoreOp, addr: u32, register: u32, memory_size: u32) -> Plan
+fn plan_store(op: StoreOp, addr: u32, register: u32, memory_size: u32) -> Action
     requires { IsMemorySize memory_size }
     ensures { result
         ≡ stop_or (access_stop 6 7 memory_size addr (bytes_stored op))
-        (plan_of_access (Stores addr (bytes_stored op) (register % 2 ^ (8 * bytes_stored op)))) }
+        (action_of_access (Stores addr (bytes_stored op) (register % 2 ^ (8 * bytes_stored op)))) }
 {
     match op {
         StoreOp::Sb => store(addr, Width::Byte, register & 0xff, memory_size),
@@ -113,23 +113,23 @@ fn plan_store(op: StoreOp, addr: u32, register: u32, memory_size: u32) -> Plan
     }
 }
 
-fn store(addr: u32, size: Width, value: u32, memory_size: u32) -> Plan
+fn store(addr: u32, size: Width, value: u32, memory_size: u32) -> Action
     requires { IsMemorySize memory_size }
     ensures { result
-        ≡ stop_or (access_stop 6 7 memory_size addr (bytes_of size)) (Plan.Store addr size value) }
+        ≡ stop_or (access_stop 6 7 memory_size addr (bytes_of size)) (Action.Store addr size value) }
 {
-    plan_write(addr, size, memory_size, Plan::Store { addr, size, value })
+    plan_write(addr, size, memory_size, Action::Store { addr, size, value })
 }
 
 // A write of this size at this address, or why it can't be done in place of its plan.
-fn plan_write(addr: u32, size: Width, memory_size: u32, plan: Plan) -> Plan
+fn plan_write(addr: u32, size: Width, memory_size: u32, plan: Action) -> Action
     requires { IsMemorySize memory_size }
     ensures { result ≡ stop_or (access_stop 6 7 memory_size addr (bytes_of size)) plan }
 {
     if addr % size.bytes() != 0 {
-        Plan::Stop(stop::STORE_MISALIGNED)
+        Action::Stop(stop::STORE_MISALIGNED)
     } else if is_outside(addr, memory_size) {
-        Plan::Stop(stop::STORE_OUTSIDE)
+        Action::Stop(stop::STORE_OUTSIDE)
     } else {
         plan
     }

@@ -2,7 +2,7 @@
 
 use amo_unit::combine;
 use rv32_decode::{AmoOp, Instr, Register, decode, encode};
-use rv32_exec::{Plan, Regs, Width, finish, plan};
+use rv32_exec::{Action, Regs, Width, finish, plan};
 
 /// The tables, by what their lines are about.
 #[derive(Clone, Copy, Debug, PartialEq, Eq)]
@@ -78,7 +78,7 @@ fn agrees_on_instruction(line: &str) -> Option<bool> {
             let after = finish(&instr, pc, &mut regs, read);
             Some(after == next && (!writes(&instr) || Some(regs.get(register(word >> 7))) == rd))
         }
-        None => Some(matches!(planned, Plan::Stop(_))),
+        None => Some(matches!(planned, Action::Stop(_))),
     }
 }
 
@@ -104,41 +104,41 @@ fn number(text: &str) -> Option<u32> {
     }
 }
 
-fn read_plan(text: &str) -> Option<Plan> {
+fn read_plan(text: &str) -> Option<Action> {
     let mut words = text.split(' ');
     match words.next()? {
-        "Local" => Some(Plan::Local),
-        "Fence" => Some(Plan::Fence),
-        "Call" => Some(Plan::Call),
+        "Local" => Some(Action::Private),
+        "Fence" => Some(Action::Fence),
+        "Call" => Some(Action::Call),
         "Stop" => {
             let code = number(words.next()?)?;
-            Some(Plan::Stop(u8::try_from(code).ok()?))
+            Some(Action::Stop(u8::try_from(code).ok()?))
         }
         "Lr" => {
             let addr = number(words.next()?)?;
-            Some(Plan::Lr { addr })
+            Some(Action::Lr { addr })
         }
         "Load" => {
             let addr = number(words.next()?)?;
             let size = width(number(words.next()?)?)?;
-            Some(Plan::Load { addr, size })
+            Some(Action::Load { addr, size })
         }
         "Store" => {
             let addr = number(words.next()?)?;
             let size = width(number(words.next()?)?)?;
             let value = number(words.next()?)?;
-            Some(Plan::Store { addr, size, value })
+            Some(Action::Store { addr, size, value })
         }
         "Sc" => {
             let addr = number(words.next()?)?;
             let value = number(words.next()?)?;
-            Some(Plan::Sc { addr, value })
+            Some(Action::Sc { addr, value })
         }
         "Amo" => {
             let addr = number(words.next()?)?;
             let op = amo_op(words.next()?)?;
             let operand = number(words.next()?)?;
-            Some(Plan::Amo { addr, op, operand })
+            Some(Action::Amo { addr, op, operand })
         }
         _ => None,
     }

@@ -6,16 +6,16 @@ use Rattle.std.specs.Option.{option_map_or}
 use Rattle.std.proofs.lemmas.Bool.{and_from, and_parts, eqb-true, le-leb, lt-ltb, ltb-true, not-true, or_cases, true≢false}
 use Rattle.std.proofs.lemmas.List.Folds.{find_at}
 use Rattle.std.proofs.lemmas.Option.{same_Some}
-use Rattle.memory_model.specs.declared.Model.{Model}
+use Rattle.memory_model.specs.declared.MemoryModel.{MemoryModel}
 use Rattle.memory_model.specs.declared.operation.Operation.{Operation}
 use Rattle.memory_model.specs.Dependencies.{between, has_address_dependency, has_control_dependency, has_data_dependency, has_dependent_address_between, instr_in, uses_in}
 use Rattle.memory_model.specs.Items.{Item}
-use Rattle.memory_model.specs.Operations.{bytes_of, has_rcsc, has_release, is_amo, is_conditional, is_reserve, overlap, precedes, reads, same, stores_to, touches, writes}
+use Rattle.memory_model.specs.Operations.{bytes_of, has_rcsc, has_release, is_amo, is_sc, is_lr, overlap, precedes, reads, same, stores_to, touches, writes}
 use Rattle.memory_model.specs.Order.{candidates, position_in, same_source, source}
 use Rattle.memory_model.specs.Rules.{are_from_different_writes, asked_by, has_store_to, is_lr_or_sc, items_of, passes_on, returns_from}
 use Rattle.memory_model.proofs.Forms.{same-self, same-swap}
 use Rattle.memory_model.proofs.Lists.{Member, Each-at, Each-from, Each-kept}
-use Rattle.rvwmo_order.specs.Bounds.{Bounds, BoundsEach, GivesEach, HasCome, IsGiven, IsRow, IsSource, bound_of, own_weight, unbounded, weight_of}
+use Rattle.rvwmo_order.specs.Bounds.{Bounds, BoundsEach, GivesEach, HasCome, IsGiven, IsBoundsRow, IsSource, bound_of, own_weight, unbounded, weight_of}
 use Rattle.rvwmo_order.specs.Carried.{greatest}
 use Rattle.rvwmo_order.specs.Codes.{rule_of}
 use Rattle.rvwmo_order.specs.Passed.{fenced_before}
@@ -148,14 +148,14 @@ at_place harts (u ∷ rest) b c g e = go (same b u) refl e (at_place harts rest 
 
 -- ---- the operation at hand
 
-record Here (model : Model) (harts : List (List Item)) (order : List Operation) (weights : List ℕ) (rows : List Row) (b : Operation) (w : Walk) (r : Row) : Type 0 where
+record Here (model : MemoryModel) (harts : List (List Item)) (order : List Operation) (weights : List ℕ) (rows : List Row) (b : Operation) (w : Walk) (r : Row) : Type 0 where
   gives : GivesEach harts order
   bound : BoundsEach model harts order weights rows
   placed : IsPlaced 0 (items_of harts b.hart)
   own : GivesOwn b.hart (items_of harts b.hart)
   given : IsGiven (items_of harts b.hart) b
   come : HasCome model (own_weight weights order) order (items_of harts b.hart) b.place w
-  row : IsRow order weights rows b (uses_in given.item.instr) w r
+  row : IsBoundsRow order weights rows b (uses_in given.item.instr) w r
 
 -- an earlier operation, by its item in b's list
 record Earlier (harts : List (List Item)) (order : List Operation) (weights : List ℕ) (a b : Operation) : Type 0 where
@@ -179,7 +179,7 @@ earlier_than harts order weights a b g e = record {
 }
 
 -- a store of b's hart that b returns from is its source
-returned : (model : Model) (harts : List (List Item)) (order : List Operation) (weights : List ℕ) (rows : List Row) (b : Operation) (w : Walk) (r : Row) (s : Operation) (m : Item) → Here model harts order weights rows b w r
+returned : (model : MemoryModel) (harts : List (List Item)) (order : List Operation) (weights : List ℕ) (rows : List Row) (b : Operation) (w : Walk) (r : Row) (s : Operation) (m : Item) → Here model harts order weights rows b w r
     → slice_get (items_of harts b.hart) s.place ≡ Some m → m.operation ≡ Some s → s.hart ≡ b.hart → returns_from order b s ≡ true → (x : ℕ) × IsSource order b x s
 returned model harts order weights rows b w r s m h e o k f =
     let byte = byte_from (λ x. same_source (source order b x) (Some s)) b.address b.size f in
@@ -198,7 +198,7 @@ stands harts order b x s g e =
 
 -- ---- rule by rule
 
-bounded_by : (model : Model) (harts : List (List Item)) (order : List Operation) (weights : List ℕ) (rows : List Row) (a b : Operation) (w : Walk) (r : Row) (rule : Rule) → Here model harts order weights rows b w r → Member a order → Earlier harts order weights a b
+bounded_by : (model : MemoryModel) (harts : List (List Item)) (order : List Operation) (weights : List ℕ) (rows : List Row) (a b : Operation) (w : Walk) (r : Row) (rule : Rule) → Here model harts order weights rows b w r → Member a order → Earlier harts order weights a b
     → (rule_of rule).asks model (items_of harts b.hart) order a b ≡ true → weight_of weights order a ≤ bound_of rule r
 bounded_by model harts order weights rows a b w r OverlappingStore h m e t =
     let p = and_parts (writes b.kind) (overlap a b) t in
@@ -226,7 +226,7 @@ bounded_by model harts order weights rows a b w r SameByteLoads h m e t =
     let weighs = e.weighs in
     omega (arith, kept, row, come, weighs)
 bounded_by model harts order weights rows a b w r AtomicSource h m e t =
-    let p = three (is_amo a.kind || is_conditional a.kind) (reads b.kind) (returns_from order b a) t in
+    let p = three (is_amo a.kind || is_sc a.kind) (reads b.kind) (returns_from order b a) t in
     let s = returned model harts order weights rows b w r a e.item h e.there e.gives e.hart p.2 in
     h.row.atomic_source p.1 s.0 a s.1 p.0
 bounded_by model harts order weights rows a b w r Fence h m e t =
@@ -243,20 +243,20 @@ bounded_by model harts order weights rows a b w r Acquire h m e t =
     omega (arith, kept, row, come, weighs)
 bounded_by model harts order weights rows a b w r Release h m e t =
     let kept = all_passed model (own_weight weights order) (items_of harts b.hart) a b e.item h.placed e.there e.gives e.before in
-    let row = h.row.release (ap (λ (x : Model). has_release x b) h.come.model_is ∙ t) in
+    let row = h.row.release (ap (λ (x : MemoryModel). has_release x b) h.come.model_is ∙ t) in
     let come = ap (λ (s : Passed). s.all) h.come.passed in
     let weighs = e.weighs in
     omega (arith, kept, row, come, weighs)
 bounded_by model harts order weights rows a b w r Annotations h m e t =
     let p = and_parts (has_rcsc model a) (has_rcsc model b) t in
     let kept = annotated_passed model (own_weight weights order) (items_of harts b.hart) a b e.item h.placed e.there e.gives e.before p.0 in
-    let row = h.row.annotations (ap (λ (x : Model). has_rcsc x b) h.come.model_is ∙ p.1) in
+    let row = h.row.annotations (ap (λ (x : MemoryModel). has_rcsc x b) h.come.model_is ∙ p.1) in
     let come = ap (λ (s : Passed). s.annotated) h.come.passed in
     let weighs = e.weighs in
     omega (arith, kept, row, come, weighs)
 bounded_by model harts order weights rows a b w r Pair h m e t =
     let kept = pair_passed model (own_weight weights order) (items_of harts b.hart) a b e.item h.placed e.there e.gives e.before t in
-    let row = h.row.pair (conditional (precedes a b) (is_reserve a.kind) (is_conditional b.kind) (not (list_any (λ (m : Item). is_lr_or_sc m.instr) (between (items_of harts b.hart) a b))) t) in
+    let row = h.row.pair (conditional (precedes a b) (is_lr a.kind) (is_sc b.kind) (not (list_any (λ (m : Item). is_lr_or_sc m.instr) (between (items_of harts b.hart) a b))) t) in
     let come = ap (λ (s : Passed). s.reserved) h.come.passed in
     let weighs = e.weighs in
     omega (arith, kept, row, come, weighs)
@@ -325,8 +325,8 @@ bounded_by model harts order weights rows a b w r DependentAddress h m e t =
     let weighs = e.weighs in
     omega (arith, kept, row, come, weighs)
 
-pub bounded : (model : Model) (harts : List (List Item)) (order : List Operation) (weights : List ℕ) (rows : List Row) (b : Operation) (w : Walk) (r : Row) → GivesEach harts order → BoundsEach model harts order weights rows → IsPlaced 0 (items_of harts b.hart) → GivesOwn b.hart (items_of harts b.hart)
-    → (given : IsGiven (items_of harts b.hart) b) → HasCome model (own_weight weights order) order (items_of harts b.hart) b.place w → IsRow order weights rows b (uses_in given.item.instr) w r → Bounds model harts order weights b r
+pub bounded : (model : MemoryModel) (harts : List (List Item)) (order : List Operation) (weights : List ℕ) (rows : List Row) (b : Operation) (w : Walk) (r : Row) → GivesEach harts order → BoundsEach model harts order weights rows → IsPlaced 0 (items_of harts b.hart) → GivesOwn b.hart (items_of harts b.hart)
+    → (given : IsGiven (items_of harts b.hart) b) → HasCome model (own_weight weights order) order (items_of harts b.hart) b.place w → IsBoundsRow order weights rows b (uses_in given.item.instr) w r → Bounds model harts order weights b r
 bounded model harts order weights rows b w r gives bound placed own given come row rule =
     Each-from (λ (a : Operation). asked_by model harts order (rule_of rule) a b ≡ true → weight_of weights order a ≤ bound_of rule r) order (λ a m t.
     let p = and_parts (precedes a b) ((rule_of rule).asks model (items_of harts a.hart) order a b) t in

@@ -6,7 +6,7 @@ use Rattle.std.proofs.lemmas.Bool.{true≢false}
 use Rattle.std.proofs.Math.Seq.{drop-nil}
 use Rattle.std.proofs.lemmas.List.{at_drop_more, drop-drop}
 use Rattle.std.proofs.lemmas.Option.{slice_get_within}
-use Rattle.memory_model.specs.declared.Model.{Model}
+use Rattle.memory_model.specs.declared.MemoryModel.{MemoryModel}
 use Rattle.memory_model.specs.declared.operation.Operation.{Operation}
 use Rattle.memory_model.specs.Items.{Item}
 use Rattle.memory_model.specs.Operations.{same}
@@ -15,14 +15,14 @@ use Rattle.memory_model.specs.Rules.{asked_by}
 use Rattle.memory_model.proofs.Forms.{same-self, same-swap}
 use Rattle.memory_model.proofs.Lists.{Member, Each-at, Each-from}
 use Rattle.memory_model.proofs.Named.{EachOnce}
-use Rattle.rvwmo_order.specs.Bounds.{BoundsEach, IsDistinct, RanksEach, bound_of, unbounded, weight_of}
+use Rattle.rvwmo_order.specs.Bounds.{BoundsEach, AreDistinctOperations, RanksEach, bound_of, unbounded, weight_of}
 use Rattle.rvwmo_order.specs.Codes.{rule_of}
 use Rattle.rvwmo_order.specs.Scans.{first_out_of_order, found_or}
 use Rattle.rvwmo_order.specs.declared.rows.Row.{Row}
 use Rattle.rvwmo_order.specs.declared.verdict.Rule.{Rule}
 use Rattle.rvwmo_order.proofs.Judged.{place_head, place_tail, same_value}
 
-pub distinct_once : (order : List Operation) → EachOnce order → IsDistinct order
+pub distinct_once : (order : List Operation) → EachOnce order → AreDistinctOperations order
 distinct_once [] h = tt
 distinct_once (a ∷ rest) h = (h.0, distinct_once rest h.1)
 
@@ -43,7 +43,7 @@ behind_member (x ∷ rest) zero b behind a e m = inr (subst (Member a) (sym (tai
 behind_member (x ∷ rest) (suc p) b behind a e m = inr (behind_member rest p b behind a e m)
 
 -- and stands behind it
-lies_behind : (order : List Operation) (p : ℕ) (b : Operation) (behind : List Operation) (a : Operation) → IsDistinct order → drop p order ≡ b ∷ behind → Member a behind → p < position_in order a
+lies_behind : (order : List Operation) (p : ℕ) (b : Operation) (behind : List Operation) (a : Operation) → AreDistinctOperations order → drop p order ≡ b ∷ behind → Member a behind → p < position_in order a
 lies_behind [] zero b behind a d e m = absurd (nothing_is b behind e)
 lies_behind [] (suc p) b behind a d e m = absurd (nothing_is b behind e)
 lies_behind (x ∷ rest) zero b behind a d e m =
@@ -66,7 +66,7 @@ find_nothing : (p : Operation → Bool) (xs : List Operation) → Each (λ (a : 
 find_nothing p [] h = refl
 find_nothing p (x ∷ xs) h = rw h.0 (find_nothing p xs h.1)
 
-pub clear_behind : (model : Model) (harts : List (List Item)) (order : List Operation) (rows : List Row) (rule : Rule) (p : ℕ) (b : Operation) (behind : List Operation) → IsDistinct order → RanksEach model harts order rows → drop p order ≡ b ∷ behind
+pub clear_behind : (model : MemoryModel) (harts : List (List Item)) (order : List Operation) (rows : List Row) (rule : Rule) (p : ℕ) (b : Operation) (behind : List Operation) → AreDistinctOperations order → RanksEach model harts order rows → drop p order ≡ b ∷ behind
     → bound_of rule (slice_index_or rows p unbounded) ≤ p + 1 → find (λ a. asked_by model harts order (rule_of rule) a b) behind ≡ None
 clear_behind model harts order rows rule p b behind d ranks e l =
     find_nothing (λ a. asked_by model harts order (rule_of rule) a b) behind (Each-from (λ (a : Operation). asked_by model harts order (rule_of rule) a b ≡ false) behind (λ a m. go a m (asked_by model harts order (rule_of rule) a b) refl))
@@ -80,7 +80,7 @@ clear_behind model harts order rows rule p b behind d ranks e l =
 
 -- ---- a search along the order
 
-pub clear_there : (model : Model) (harts : List (List Item)) (order : List Operation) (rows : List Row) (rule : Rule) (p : ℕ) → IsDistinct order → RanksEach model harts order rows
+pub clear_there : (model : MemoryModel) (harts : List (List Item)) (order : List Operation) (rows : List Row) (rule : Rule) (p : ℕ) → AreDistinctOperations order → RanksEach model harts order rows
     → bound_of rule (slice_index_or rows p unbounded) ≤ p + 1 → first_out_of_order (asked_by model harts order (rule_of rule)) (drop p order) ≡ first_out_of_order (asked_by model harts order (rule_of rule)) (drop (p + 1) order)
 clear_there model harts order rows rule p distinct ranks l = go (drop p order) refl ∙ ap (first_out_of_order (asked_by model harts order (rule_of rule))) (drop-drop 1 p order)
   where
@@ -119,7 +119,7 @@ member_at [] k a e = absurd (no_some a e)
 member_at (x ∷ xs) zero a e = inl (sym (same_value x a e))
 member_at (x ∷ xs) (suc k) a e = inr (member_at xs k a e)
 
-position_at : (order : List Operation) (k : ℕ) (a : Operation) → IsDistinct order → slice_get order k ≡ Some a → position_in order a ≡ k
+position_at : (order : List Operation) (k : ℕ) (a : Operation) → AreDistinctOperations order → slice_get order k ≡ Some a → position_in order a ≡ k
 position_at [] k a d e = absurd (member_at [] k a e)
 position_at (x ∷ xs) zero a d e = place_head a x xs (ap (same a) (same_value x a e) ∙ same-self a)
 position_at (x ∷ xs) (suc k) a d e =
@@ -129,7 +129,7 @@ position_at (x ∷ xs) (suc k) a d e =
     omega (arith, place, ih)
 
 -- those that the bound leaves have the first that must come before it
-pub first_left : (model : Model) (harts : List (List Item)) (order : List Operation) (weights : List ℕ) (rows : List Row) (rule : Rule) (p count first from : ℕ) (b : Operation) → IsDistinct order → BoundsEach model harts order weights rows → count ≡ length order → slice_get order p ≡ Some b
+pub first_left : (model : MemoryModel) (harts : List (List Item)) (order : List Operation) (weights : List ℕ) (rows : List Row) (rule : Rule) (p count first from : ℕ) (b : Operation) → AreDistinctOperations order → BoundsEach model harts order weights rows → count ≡ length order → slice_get order p ≡ Some b
     → ((k : ℕ) → p < k → k < count → slice_index_or weights k 0 ≡ count - k) → first ≡ count - bound_of rule (slice_index_or rows p unbounded) → from ≡ max first (p + 1)
     → find (λ a. asked_by model harts order (rule_of rule) a b) (drop from order) ≡ find (λ a. asked_by model harts order (rule_of rule) a b) (drop (p + 1) order)
 first_left model harts order weights rows rule p count first from b d bounds counted there weighed bound cut =
@@ -155,7 +155,7 @@ position_within (x ∷ rest) a m = go (same a x) refl m (position_within rest a)
     go false e (inl k) ih = absurd (true≢false (sym (same-self a) ∙ (ap (same a) k ∙ e)))
     go false e (inr k) ih = let place = place_tail a x rest e in let l = ih k in omega (arith, place, l)
 
-pub ranked : (model : Model) (harts : List (List Item)) (order : List Operation) (weights : List ℕ) (rows : List Row) → ((k : ℕ) → k < length order → slice_index_or weights k 0 ≡ k + 1) → BoundsEach model harts order weights rows → RanksEach model harts order rows
+pub ranked : (model : MemoryModel) (harts : List (List Item)) (order : List Operation) (weights : List ℕ) (rows : List Row) → ((k : ℕ) → k < length order → slice_index_or weights k 0 ≡ k + 1) → BoundsEach model harts order weights rows → RanksEach model harts order rows
 ranked model harts order weights rows w bounds = record {
   each = λ p b e rule.
       Each-from (λ (a : Operation). asked_by model harts order (rule_of rule) a b ≡ true → position_in order a < bound_of rule (slice_index_or rows p unbounded)) order (λ a m t.

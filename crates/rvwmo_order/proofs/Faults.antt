@@ -3,7 +3,7 @@ use Rattle.std.proofs.Common.{◌≡◌, ℕ, List, [], ◌∷◌, Bool, true, O
 use Rattle.std.specs.Prelude.{nat_eq}
 use Rattle.std.specs.List.{list_any}
 use Rattle.std.proofs.lemmas.Bool.{and_from, or_left}
-use Rattle.memory_model.specs.declared.Model.{Model}
+use Rattle.memory_model.specs.declared.MemoryModel.{MemoryModel}
 use Rattle.memory_model.specs.declared.operation.Operation.{Operation}
 use Rattle.memory_model.specs.Items.{Item}
 use Rattle.memory_model.specs.Legal.{returns_sources}
@@ -29,10 +29,10 @@ abbrev pub ruled : Rule → Operation → Operation → Rule × Operation × Ope
 ruled r a b = (r, a, b)
 
 -- the pair is one of a code of this number
-abbrev pub is_named_by : Model → (ℕ → ℕ) → List (List Item) → List Operation → ℕ → Operation → Operation → Bool
+abbrev pub is_named_by : MemoryModel → (ℕ → ℕ) → List (List Item) → List Operation → ℕ → Operation → Operation → Bool
 is_named_by model image harts order number a b = list_any (λ (c : Code). nat_eq c.number number && c.broken a b) (codes model image harts order)
 
-module _ (model : Model) (image : ℕ → ℕ) (harts : List (List Item)) (order : List Operation) where
+module _ (model : MemoryModel) (image : ℕ → ℕ) (harts : List (List Item)) (order : List Operation) where
   rule_named : (r : Rule) (a b : Operation) → (asked_by model harts order (rule_of r) a b && not (before order a b)) ≡ true → is_named_by model image harts order (code_number (Order r)) a b ≡ true
   rule_named OverlappingStore a b e = or_left _ _ e
   rule_named SameByteLoads a b e = or_left _ _ e
@@ -96,7 +96,7 @@ module _ (model : Model) (image : ℕ → ℕ) (harts : List (List Item)) (order
           let t = found (λ r. is_broken_pair harts order r w) order r f in
           (subst (λ (y : Operation). is_broken_pair harts order a y ≡ true) same_w (subst (λ (x : Operation). is_broken_pair harts order x w ≡ true) same_r t.0), subst (λ (x : Operation). Member x order) same_r t.1, inl (sym same_w))
 
-pub sound : (model : Model) (t : History) (names : List OpId) → EachOnce (operations_at (instructions t) names)
+pub sound : (model : MemoryModel) (t : History) (names : List OpId) → EachOnce (operations_at (instructions t) names)
     → IsSoundVerdict model t names (judged model (image_of t) (instructions t) (operations_at (instructions t) names))
 sound model t names d =
     go (first_broken_rule model (instructions t) (operations_at (instructions t) names) all_rules) refl (wrong_load (image_of t) (operations_at (instructions t) names)) refl (first_broken_pair (instructions t) (operations_at (instructions t) names) (operations_at (instructions t) names)) refl

@@ -7,7 +7,7 @@ use Rattle.std.proofs.lemmas.Grind.{get_or-set_at}
 use Rattle.std.proofs.lemmas.List.{get_or-replicate, get_or-set_other, get_or_past, length-replicate, length-set}
 use Rattle.std.proofs.lemmas.List.Folds.{find_at}
 use Rattle.std.proofs.lemmas.Option.{same_Some, slice_get-get_or}
-use Rattle.memory_model.specs.declared.Model.{Model}
+use Rattle.memory_model.specs.declared.MemoryModel.{MemoryModel}
 use Rattle.memory_model.specs.declared.operation.Operation.{Operation}
 use Rattle.memory_model.specs.Dependencies.{uses_in}
 use Rattle.memory_model.specs.Items.{Item}
@@ -15,7 +15,7 @@ use Rattle.memory_model.specs.Operations.{same}
 use Rattle.memory_model.specs.Order.{position_in}
 use Rattle.memory_model.specs.Rules.{asked_by, items_of}
 use Rattle.memory_model.proofs.Lists.{Each-from}
-use Rattle.rvwmo_order.specs.Bounds.{Bounds, BoundsEach, GivesEach, HasCome, IsGiven, IsRow, bound_of, most, own_weight, unbounded, weight_of}
+use Rattle.rvwmo_order.specs.Bounds.{Bounds, BoundsEach, GivesEach, HasCome, IsGiven, IsBoundsRow, bound_of, most, own_weight, unbounded, weight_of}
 use Rattle.rvwmo_order.specs.Carried.{carried_after, carried_behind, nothing_carried}
 use Rattle.rvwmo_order.specs.Codes.{rule_of}
 use Rattle.rvwmo_order.specs.declared.verdict.Rule.{Rule}
@@ -34,7 +34,7 @@ use Rattle.rvwmo_order.proofs.Noted.{passed_append}
 use Rattle.rvwmo_order.proofs.Parted.{one_more}
 use Rattle.rvwmo_order.proofs.Touches.{touch_append}
 
-pub come_further : (model : Model) (own : Item → ℕ) (order : List Operation) (items : List Item) (place n : ℕ) (m : Item) (old new : Walk) → HasCome model own order items place old → slice_get items place ≡ Some m → own m ≡ n
+pub come_further : (model : MemoryModel) (own : Item → ℕ) (order : List Operation) (items : List Item) (place n : ℕ) (m : Item) (old new : Walk) → HasCome model own order items place old → slice_get items place ≡ Some m → own m ≡ n
     → new.model ≡ old.model → new.carried ≡ carried_after n m.instr old.carried → new.passed ≡ passed_after old.model n m old.passed → ((x : ℕ) → touch_in new.touches x ≡ touch_after order x n m (touch_in old.touches x))
     → HasCome model own order items (place + 1) new
 come_further model own order items place n m old new h e weighs f g k t =
@@ -42,7 +42,7 @@ come_further model own order items place n m old new h e weighs f g k t =
     record {
       model_is = f ∙ h.model_is;
       carried = g ∙ (ap (λ (c : Carried). carried_after n m.instr c) h.carried ∙ (ap (λ (w : ℕ). carried_after w m.instr (carried_behind own nothing_carried (take place items))) (sym weighs) ∙ sym (ap (carried_behind own nothing_carried) more ∙ carried_append own nothing_carried (take place items) (m ∷ []))));
-      passed = k ∙ (ap (λ (x : Model). passed_after x n m old.passed) h.model_is ∙ (ap (λ (s : Passed). passed_after model n m s) h.passed ∙ (ap (λ (w : ℕ). passed_after model w m (passed_behind model own none_passed (take place items))) (sym weighs) ∙ sym (ap (passed_behind model own none_passed) more ∙ passed_append model own none_passed (take place items) (m ∷ [])))));
+      passed = k ∙ (ap (λ (x : MemoryModel). passed_after x n m old.passed) h.model_is ∙ (ap (λ (s : Passed). passed_after model n m s) h.passed ∙ (ap (λ (w : ℕ). passed_after model w m (passed_behind model own none_passed (take place items))) (sym weighs) ∙ sym (ap (passed_behind model own none_passed) more ∙ passed_append model own none_passed (take place items) (m ∷ [])))));
       touched = λ x. t x ∙ (ap (λ (s : Touch). touch_after order x n m s) (h.touched x) ∙ (ap (λ (w : ℕ). touch_after order x w m (touch_behind order x own untouched (take place items))) (sym weighs) ∙ sym (ap (touch_behind order x own untouched) more ∙ touch_append order x own untouched (take place items) (m ∷ []))));
     }
 
@@ -53,8 +53,8 @@ found_one harts order b c m p g e o k f =
     let it : c ≡ b = one_given harts c b m at.1 e o at.0 in
     (it, subst (λ (y : Operation). IsGiven (items_of harts y.hart) y) it at.1)
 
-filled_at : (model : Model) (harts : List (List Item)) (order : List Operation) (weights : List ℕ) (rows : List Row) (b : Operation) (w : Walk) (r : Row) (m : Item) (position : ℕ) → GivesEach harts order → BoundsEach model harts order weights rows → IsPlaced 0 (items_of harts b.hart) → GivesOwn b.hart (items_of harts b.hart)
-    → slice_get (items_of harts b.hart) b.place ≡ Some m → m.operation ≡ Some b → HasCome model (own_weight weights order) order (items_of harts b.hart) b.place w → IsRow order weights rows b (uses_in m.instr) w r → position ≡ position_in order b → (p : ℕ) (c : Operation) → slice_get order p ≡ Some c → Bounds model harts order weights c (slice_index_or (set rows position r) p unbounded)
+filled_at : (model : MemoryModel) (harts : List (List Item)) (order : List Operation) (weights : List ℕ) (rows : List Row) (b : Operation) (w : Walk) (r : Row) (m : Item) (position : ℕ) → GivesEach harts order → BoundsEach model harts order weights rows → IsPlaced 0 (items_of harts b.hart) → GivesOwn b.hart (items_of harts b.hart)
+    → slice_get (items_of harts b.hart) b.place ≡ Some m → m.operation ≡ Some b → HasCome model (own_weight weights order) order (items_of harts b.hart) b.place w → IsBoundsRow order weights rows b (uses_in m.instr) w r → position ≡ position_in order b → (p : ℕ) (c : Operation) → slice_get order p ≡ Some c → Bounds model harts order weights c (slice_index_or (set rows position r) p unbounded)
 filled_at model harts order weights rows b w r m position gives bound placed own there of_item come row is_at p c e = ⊎_elim here other (cases_eq p position)
   where
     inside : p ≡ position → p < length rows → Bounds model harts order weights c (slice_index_or (set rows position r) p unbounded)
@@ -76,8 +76,8 @@ filled_at model harts order weights rows b w r m position gives bound placed own
     other : (p ≡ position → ⊥) → Bounds model harts order weights c (slice_index_or (set rows position r) p unbounded)
     other k = subst (λ (y : Row). Bounds model harts order weights c y) (sym (get_or-set_other rows position p r unbounded k)) (bound.each p c e)
 
-pub filled : (model : Model) (harts : List (List Item)) (order : List Operation) (weights : List ℕ) (rows : List Row) (b : Operation) (w : Walk) (r : Row) (m : Item) (position : ℕ) → GivesEach harts order → BoundsEach model harts order weights rows → IsPlaced 0 (items_of harts b.hart) → GivesOwn b.hart (items_of harts b.hart)
-    → slice_get (items_of harts b.hart) b.place ≡ Some m → m.operation ≡ Some b → HasCome model (own_weight weights order) order (items_of harts b.hart) b.place w → IsRow order weights rows b (uses_in m.instr) w r → position ≡ position_in order b → BoundsEach model harts order weights (set rows position r)
+pub filled : (model : MemoryModel) (harts : List (List Item)) (order : List Operation) (weights : List ℕ) (rows : List Row) (b : Operation) (w : Walk) (r : Row) (m : Item) (position : ℕ) → GivesEach harts order → BoundsEach model harts order weights rows → IsPlaced 0 (items_of harts b.hart) → GivesOwn b.hart (items_of harts b.hart)
+    → slice_get (items_of harts b.hart) b.place ≡ Some m → m.operation ≡ Some b → HasCome model (own_weight weights order) order (items_of harts b.hart) b.place w → IsBoundsRow order weights rows b (uses_in m.instr) w r → position ≡ position_in order b → BoundsEach model harts order weights (set rows position r)
 filled model harts order weights rows b w r m position gives bound placed own there of_item come row is_at =
     record { each = filled_at model harts order weights rows b w r m position gives bound placed own there of_item come row is_at }
 
@@ -100,7 +100,7 @@ bound_unbounded DependentAddress = refl
 all_unbounded : (count p : ℕ) → slice_index_or (replicate count unbounded) p unbounded ≡ unbounded
 all_unbounded count p = ⊎_elim (λ l. get_or-replicate count p unbounded unbounded l) (λ l. get_or_past (replicate count unbounded) p unbounded (let k = length-replicate count unbounded in omega (arith, k, l))) (cases_lt p count)
 
-pub unknown : (model : Model) (harts : List (List Item)) (order : List Operation) (weights : List ℕ) (count : ℕ) → ((k : ℕ) → slice_index_or weights k 0 ≤ most) → BoundsEach model harts order weights (replicate count unbounded)
+pub unknown : (model : MemoryModel) (harts : List (List Item)) (order : List Operation) (weights : List ℕ) (count : ℕ) → ((k : ℕ) → slice_index_or weights k 0 ≤ most) → BoundsEach model harts order weights (replicate count unbounded)
 unknown model harts order weights count h = record {
   each = λ p c e rule.
       subst (λ (row : Row). Each (λ (a : Operation). asked_by model harts order (rule_of rule) a c ≡ true → weight_of weights order a ≤ bound_of rule row) order) (sym (all_unbounded count p))
@@ -120,8 +120,8 @@ pub placed_there : (items : List Item) (k : ℕ) (m : Item) → IsPlaced 0 items
 placed_there items k m h e = placed_at 0 items k m h e ∙ omega arith
 
 -- by the item and its hart
-pub filled_by : (model : Model) (harts : List (List Item)) (order : List Operation) (weights : List ℕ) (rows : List Row) (hart : ℕ) (b : Operation) (w : Walk) (r : Row) (m : Item) (position : ℕ) → GivesEach harts order → BoundsEach model harts order weights rows → IsPlaced 0 (items_of harts hart) → GivesOwn hart (items_of harts hart)
-    → slice_get (items_of harts hart) m.place ≡ Some m → m.operation ≡ Some b → HasCome model (own_weight weights order) order (items_of harts hart) m.place w → IsRow order weights rows b (uses_in m.instr) w r → position ≡ position_in order b → BoundsEach model harts order weights (set rows position r)
+pub filled_by : (model : MemoryModel) (harts : List (List Item)) (order : List Operation) (weights : List ℕ) (rows : List Row) (hart : ℕ) (b : Operation) (w : Walk) (r : Row) (m : Item) (position : ℕ) → GivesEach harts order → BoundsEach model harts order weights rows → IsPlaced 0 (items_of harts hart) → GivesOwn hart (items_of harts hart)
+    → slice_get (items_of harts hart) m.place ≡ Some m → m.operation ≡ Some b → HasCome model (own_weight weights order) order (items_of harts hart) m.place w → IsBoundsRow order weights rows b (uses_in m.instr) w r → position ≡ position_in order b → BoundsEach model harts order weights (set rows position r)
 filled_by model harts order weights rows hart b w r m position gives bound placed own there of_item come row is_at =
     let is_hart : b.hart ≡ hart = own.of_hart m.place m b there of_item in
     let is_place : b.place ≡ m.place = own.at_place m.place m b there of_item in
@@ -130,8 +130,8 @@ filled_by model harts order weights rows hart b w r m position gives bound place
     (ap (λ (is : List Item). slice_get is b.place) (sym list) ∙ (ap (slice_get (items_of harts hart)) is_place ∙ there)) of_item
     (subst (λ (k : ℕ). HasCome model (own_weight weights order) order (items_of harts b.hart) k w) (sym is_place) (subst (λ (is : List Item). HasCome model (own_weight weights order) order is m.place w) list come)) row is_at
 
-pub filled_put : (model : Model) (harts : List (List Item)) (order : List Operation) (weights : List ℕ) (rows put : List Row) (hart : ℕ) (b : Operation) (w : Walk) (r : Row) (m : Item) (position : ℕ) → GivesEach harts order → BoundsEach model harts order weights rows → IsPlaced 0 (items_of harts hart) → GivesOwn hart (items_of harts hart)
-    → slice_get (items_of harts hart) m.place ≡ Some m → m.operation ≡ Some b → HasCome model (own_weight weights order) order (items_of harts hart) m.place w → IsRow order weights rows b (uses_in m.instr) w r → position ≡ position_in order b → put ≡ set rows position r → BoundsEach model harts order weights put
+pub filled_put : (model : MemoryModel) (harts : List (List Item)) (order : List Operation) (weights : List ℕ) (rows put : List Row) (hart : ℕ) (b : Operation) (w : Walk) (r : Row) (m : Item) (position : ℕ) → GivesEach harts order → BoundsEach model harts order weights rows → IsPlaced 0 (items_of harts hart) → GivesOwn hart (items_of harts hart)
+    → slice_get (items_of harts hart) m.place ≡ Some m → m.operation ≡ Some b → HasCome model (own_weight weights order) order (items_of harts hart) m.place w → IsBoundsRow order weights rows b (uses_in m.instr) w r → position ≡ position_in order b → put ≡ set rows position r → BoundsEach model harts order weights put
 filled_put model harts order weights rows put hart b w r m position gives bound placed own there of_item come row is_at is_put =
     subst (λ (xs : List Row). BoundsEach model harts order weights xs) (sym is_put) (filled_by model harts order weights rows hart b w r m position gives bound placed own there of_item come row is_at)
 
@@ -143,9 +143,9 @@ at_item xs items k m e placed l i = ap (λ (ys : List Item). slice_get ys k) (sy
 pub item_there : (xs items : List Item) (k : ℕ) (m : Item) → xs ≡ items → IsPlaced 0 items → k < length xs → m ≡ get_or xs k m → slice_get items m.place ≡ Some m
 item_there xs items k m e placed l i = let at = at_item xs items k m e placed l i in ap (slice_get items) (placed_there items k m placed at) ∙ at
 
-pub come_there : (model walked : Model) (own : Item → ℕ) (order : List Operation) (items : List Item) (k : ℕ) (m : Item) (w : Walk) → IsPlaced 0 items → slice_get items k ≡ Some m → walked ≡ model → HasCome model own order items k w → HasCome walked own order items m.place w
+pub come_there : (model walked : MemoryModel) (own : Item → ℕ) (order : List Operation) (items : List Item) (k : ℕ) (m : Item) (w : Walk) → IsPlaced 0 items → slice_get items k ≡ Some m → walked ≡ model → HasCome model own order items k w → HasCome walked own order items m.place w
 come_there model walked own order items k m w placed e is_model come =
-    subst (λ (n : ℕ). HasCome walked own order items n w) (sym (placed_there items k m placed e)) (subst (λ (x : Model). HasCome x own order items k w) (sym is_model) come)
+    subst (λ (n : ℕ). HasCome walked own order items n w) (sym (placed_there items k m placed e)) (subst (λ (x : MemoryModel). HasCome x own order items k w) (sym is_model) come)
 
-pub bound_as : (model walked : Model) (harts : List (List Item)) (order : List Operation) (weights : List ℕ) (rows : List Row) → walked ≡ model → BoundsEach model harts order weights rows → BoundsEach walked harts order weights rows
-bound_as model walked harts order weights rows e h = subst (λ (x : Model). BoundsEach x harts order weights rows) (sym e) h
+pub bound_as : (model walked : MemoryModel) (harts : List (List Item)) (order : List Operation) (weights : List ℕ) (rows : List Row) → walked ≡ model → BoundsEach model harts order weights rows → BoundsEach walked harts order weights rows
+bound_as model walked harts order weights rows e h = subst (λ (x : MemoryModel). BoundsEach x harts order weights rows) (sym e) h

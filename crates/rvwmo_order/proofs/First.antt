@@ -6,7 +6,7 @@ use Rattle.std.specs.Option.{option_map, option_or}
 use Rattle.std.proofs.lemmas.Bool.{le-ltb, lt-ltb, and_left}
 use Rattle.std.proofs.lemmas.Bool.Decides.{nat_tests}
 use Rattle.std.proofs.lemmas.List.Folds.{find-append}
-use Rattle.memory_model.specs.declared.Model.{Model}
+use Rattle.memory_model.specs.declared.MemoryModel.{MemoryModel}
 use Rattle.memory_model.specs.declared.operation.Operation.{Operation}
 use Rattle.memory_model.specs.Items.{Item}
 use Rattle.memory_model.specs.Legal.{returns_sources}
@@ -148,7 +148,7 @@ broken_found harts order (w ∷ ws) = ap (λ (o : Option (Operation × Operation
 
 -- ---- all codes
 
-no_rule_of_itself : (model : Model) (harts : List (List Item)) (order : List Operation) (r : Rule) (a : Operation) → asked_by model harts order (rule_of r) a a ≡ false
+no_rule_of_itself : (model : MemoryModel) (harts : List (List Item)) (order : List Operation) (r : Rule) (a : Operation) → asked_by model harts order (rule_of r) a a ≡ false
 no_rule_of_itself model harts order r a = ap (λ (b : Bool). (nat_eq a.hart a.hart && b) && (rule_of r).asks model (items_of harts a.hart) order a a) (le-ltb a.place a.place (omega arith)) ∙ go (nat_eq a.hart a.hart)
   where
     go : (b : Bool) → ((b && false) && (rule_of r).asks model (items_of harts a.hart) order a a) ≡ false
@@ -159,7 +159,7 @@ abbrev pub told_by : Option (Rule × Operation × Operation) → Option Fault �
 told_by None rest = rest
 told_by (Some f) rest = Some (fault_of (rule_of f.0).number (pair f.1 f.2))
 
-module _ (model : Model) (image : ℕ → ℕ) (harts : List (List Item)) (order : List Operation) (d : EachOnce order) where
+module _ (model : MemoryModel) (image : ℕ → ℕ) (harts : List (List Item)) (order : List Operation) (d : EachOnce order) where
   rule_first : (r : Rule) → first_broken (code_of_rule model harts order (rule_of r)) order ≡ first_out_of_order (asked_by model harts order (rule_of r)) order
   rule_first r = pairs_found (is_inverted (asked_by model harts order (rule_of r)) order) order order ∙ inverted (asked_by model harts order (rule_of r)) (no_rule_of_itself model harts order r) order d
 

@@ -13,7 +13,7 @@ use Rattle.rv32_decode.specs.declared.instruction.StoreOp.{StoreOp}
 use Rattle.rv32_decode.specs.declared.instruction.StoreOp.TheVariants.{Sb, Sh, Sw}
 use Rattle.rv32_decode.specs.declared.instruction.SystemOp.TheVariants.{Ecall, Ebreak}
 use Rattle.rv32_exec.specs.Arithmetic.{bytes_loaded, bytes_stored}
-use Rattle.rv32_exec.specs.Meaning.{Access, Private, Loads, Stores, Reserves, Tries, Updates, Fences, Calls, access_of}
+use Rattle.rv32_exec.specs.Meaning.{Access, Private, Loads, Stores, DoesLr, DoesSc, DoesAmo, Fences, Calls, access_of}
 use Rattle.elf_loader.specs.Image.{Initial}
 use Rattle.hart.specs.declared.retired.Retired.{Retired}
 use Rattle.hart.specs.declared.state.Hart.{Hart}
@@ -66,9 +66,9 @@ tried_sized false r a e h = absurd (none_is_not a e)
 access_sized : (hart place : ℕ) (bits : Annotations) (entry : Retired) (access : Access) (a : Operation) → Sized access → operation_of_access hart place bits entry access ≡ Some a → 0 < a.size
 access_sized hart place bits entry (Loads address bytes) a h e = with_size _ a e h
 access_sized hart place bits entry (Stores address bytes value) a h e = with_size _ a e h
-access_sized hart place bits entry (Reserves address) a h e = with_size _ a e (omega arith)
-access_sized hart place bits entry (Tries address value) a h e = tried_sized (succeeded entry.sc_ok) _ a e (omega arith)
-access_sized hart place bits entry (Updates address op operand) a h e = with_size _ a e (omega arith)
+access_sized hart place bits entry (DoesLr address) a h e = with_size _ a e (omega arith)
+access_sized hart place bits entry (DoesSc address value) a h e = tried_sized (succeeded entry.sc_ok) _ a e (omega arith)
+access_sized hart place bits entry (DoesAmo address op operand) a h e = with_size _ a e (omega arith)
 access_sized hart place bits entry Private a h e = absurd (none_is_not a e)
 access_sized hart place bits entry Fences a h e = absurd (none_is_not a e)
 access_sized hart place bits entry (Calls number argument) a h e = absurd (none_is_not a e)

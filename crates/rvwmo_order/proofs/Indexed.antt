@@ -13,12 +13,12 @@ use Rattle.memory_model.specs.Items.{Item}
 use Rattle.memory_model.specs.Dependencies.{between}
 use Rattle.memory_model.specs.Legal.{behind, is_atomic}
 use Rattle.memory_model.specs.Rules.{is_lr_or_sc, items_of}
-use Rattle.memory_model.specs.Operations.{is_conditional, is_reserve, precedes, same, stores_to}
+use Rattle.memory_model.specs.Operations.{is_sc, is_lr, precedes, same, stores_to}
 use Rattle.memory_model.specs.Order.{candidates, position_in, source}
 use Rattle.memory_model.specs.Verdict.{name_of}
 use Rattle.memory_model.proofs.Forms.{same-swap}
 use Rattle.trace_recorder.specs.declared.operation.OpId.{OpId}
-use Rattle.rvwmo_order.specs.Indexed.{is_reserve_of, is_seen, name_cmp, place_from, stored_from}
+use Rattle.rvwmo_order.specs.Indexed.{is_lr_of, is_seen, name_cmp, place_from, stored_from}
 use Rattle.rvwmo_order.specs.Scans.{is_broken_pair}
 use Rattle.rvwmo_order.specs.declared.stored.Stored.{Stored}
 use Rattle.rvwmo_order.proofs.Judged.{place_head, place_tail}
@@ -253,11 +253,11 @@ not_paired true true false c n e = refl
 not_paired true false false c n e = refl
 not_paired false l r c n e = refl
 
-pub pairs_among_reserves : (harts : List (List Item)) (order : List Operation) (w : Operation) → find (λ r. is_broken_pair harts order r w) (filter (is_reserve_of w.hart) order) ≡ find (λ r. is_broken_pair harts order r w) order
-pairs_among_reserves harts order w = find_filtered (λ r. is_broken_pair harts order r w) (is_reserve_of w.hart) (λ a e. ap (λ (c : Bool). c && not (is_atomic order a w)) (not_paired (nat_eq a.hart w.hart) (nat_lt a.place w.place) (is_reserve a.kind) (is_conditional w.kind) (not (list_any (λ (m : Item). is_lr_or_sc m.instr) (between (items_of harts a.hart) a w))) e)) order
+pub pairs_among_lrs : (harts : List (List Item)) (order : List Operation) (w : Operation) → find (λ r. is_broken_pair harts order r w) (filter (is_lr_of w.hart) order) ≡ find (λ r. is_broken_pair harts order r w) order
+pairs_among_lrs harts order w = find_filtered (λ r. is_broken_pair harts order r w) (is_lr_of w.hart) (λ a e. ap (λ (c : Bool). c && not (is_atomic order a w)) (not_paired (nat_eq a.hart w.hart) (nat_lt a.place w.place) (is_lr a.kind) (is_sc w.kind) (not (list_any (λ (m : Item). is_lr_or_sc m.instr) (between (items_of harts a.hart) a w))) e)) order
 
-pub no_pair_without_conditional : (harts : List (List Item)) (order : List Operation) (w : Operation) → is_conditional w.kind ≡ false → None ≡ find (λ r. is_broken_pair harts order r w) order
-no_pair_without_conditional harts order w e = find_none (λ r. is_broken_pair harts order r w) (λ a. go (precedes a w) (is_reserve a.kind) (is_conditional w.kind) (not (list_any (λ (m : Item). is_lr_or_sc m.instr) (between (items_of harts a.hart) a w))) (not (is_atomic order a w)) e) order
+pub no_pair_without_sc : (harts : List (List Item)) (order : List Operation) (w : Operation) → is_sc w.kind ≡ false → None ≡ find (λ r. is_broken_pair harts order r w) order
+no_pair_without_sc harts order w e = find_none (λ r. is_broken_pair harts order r w) (λ a. go (precedes a w) (is_lr a.kind) (is_sc w.kind) (not (list_any (λ (m : Item). is_lr_or_sc m.instr) (between (items_of harts a.hart) a w))) (not (is_atomic order a w)) e) order
   where
     go : (p r c n a : Bool) → c ≡ false → ((p && r && c && n) && a) ≡ false
     go true true true n a e = absurd (true≢false e)

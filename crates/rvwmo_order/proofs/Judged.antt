@@ -2,7 +2,7 @@
 use Rattle.std.proofs.Common.{◌≡◌, ℕ, ◌+◌, List, [], ◌∷◌, Bool, true, false, Option, Some, None, refl, cond, sym, ap, ◌∙◌, subst, not, ◌&&◌, ◌||◌, inl, inr, arith, find}
 use Rattle.std.specs.List.{list_any, list_all}
 use Rattle.std.proofs.lemmas.Bool.{false≢true, and_parts, and_from, ltb-false, le-ltb}
-use Rattle.memory_model.specs.declared.Model.{Model}
+use Rattle.memory_model.specs.declared.MemoryModel.{MemoryModel}
 use Rattle.memory_model.specs.declared.operation.Operation.{Operation}
 use Rattle.memory_model.specs.Items.{Item}
 use Rattle.memory_model.specs.Legal.{IsLegal, is_atomic, returns_sources}
@@ -104,7 +104,7 @@ out_of_order must (x ∷ xs) a b d e = go (find (λ c. must c x) xs) refl e (out
 -- ---- the rules together
 
 -- one of these rules asks that a comes before b
-abbrev pub any_asks : Model → List (List Item) → List Operation → List Rule → Operation → Operation → Bool
+abbrev pub any_asks : MemoryModel → List (List Item) → List Operation → List Rule → Operation → Operation → Bool
 any_asks model harts order rs a b = precedes a b && list_any (λ (r : Rule). (rule_of r).asks model (items_of harts a.hart) order a b) rs
 
 none_precedes : (must : Operation → Operation → Bool) → ((a b : Operation) → must a b ≡ false) → (a : Operation) (xs : List Operation) → none_must_precede must a xs ≡ true
@@ -153,7 +153,7 @@ right_of true true r e = refl
 right_of true false r e = e
 right_of false q r e = absurd (false≢true e)
 
-module _ (model : Model) (harts : List (List Item)) (order : List Operation) where
+module _ (model : MemoryModel) (harts : List (List Item)) (order : List Operation) where
   pub rules_kept : (rs : List Rule) → first_broken_rule model harts order rs ≡ None → in_order (any_asks model harts order rs) order ≡ true
   rules_kept [] e = in_order-free (any_asks model harts order []) (λ a b. and_false (precedes a b)) order
   rules_kept (r ∷ rs) e = go (first_out_of_order (asked_by model harts order (rule_of r)) order) refl e (rules_kept rs)
@@ -219,7 +219,7 @@ nothing-from_legal (Some f) v p e = cc
 legal-from_nothing : (f : Option (Rule × Operation × Operation)) (v : Option Operation) (p : Option (Operation × Operation)) → f ≡ None → v ≡ None → p ≡ None → verdict_by f v p ≡ Legal
 legal-from_nothing f v p a b c = rw (a, b, c) refl
 
-pub legal-from_judged : (model : Model) (image : ℕ → ℕ) (harts : List (List Item)) (order : List Operation) → judged model image harts order ≡ Legal → IsLegal model image harts order
+pub legal-from_judged : (model : MemoryModel) (image : ℕ → ℕ) (harts : List (List Item)) (order : List Operation) → judged model image harts order ≡ Legal → IsLegal model image harts order
 legal-from_judged model image harts order e =
     let n = nothing-from_legal (first_broken_rule model harts order all_rules) (wrong_load image order) (first_broken_pair harts order order) e in
     record {
@@ -228,7 +228,7 @@ legal-from_judged model image harts order e =
       atomicity = pairs_kept harts order order n.no_pair;
     }
 
-pub judged-from_legal : (model : Model) (image : ℕ → ℕ) (harts : List (List Item)) (order : List Operation) → IsLegal model image harts order → judged model image harts order ≡ Legal
+pub judged-from_legal : (model : MemoryModel) (image : ℕ → ℕ) (harts : List (List Item)) (order : List Operation) → IsLegal model image harts order → judged model image harts order ≡ Legal
 judged-from_legal model image harts order l =
     legal-from_nothing (first_broken_rule model harts order all_rules) (wrong_load image order) (first_broken_pair harts order order)
     (no_rule_broken model harts order all_rules l.preserved_order)

@@ -8,7 +8,7 @@ use Rattle.std.proofs.lemmas.List.Folds.{list_any-append}
 use Rattle.std.proofs.Math.Seq.{take-append_seam}
 use Rattle.std.proofs.lemmas.Map.Views.{any-filter_same}
 use Rattle.rv32_exec.specs.Uses.{Uses}
-use Rattle.memory_model.specs.declared.Model.{Model}
+use Rattle.memory_model.specs.declared.MemoryModel.{MemoryModel}
 use Rattle.memory_model.specs.declared.operation.Operation.{Operation}
 use Rattle.memory_model.specs.Dependencies.{between, has_control_dependency, has_dependent_address_between, holds, sources, uses_at, uses_in, with_flags}
 use Rattle.memory_model.specs.Items.{Item}
@@ -184,7 +184,7 @@ asked_passing : (order : List Operation) (b : Operation) (m : Item) → asked_be
 asked_passing order b m = ap (λ (c : Bool). cond c ((uses_in m.instr).address ++ (uses_in m.instr).stored) []) (among_returned order b m.operation)
 
 -- of two operations of one hart the rule asks by what the marks of b's list say
-asked_told : (rule : Rule) (model : Model) (items : List Item) (order : List Operation) (a b : Operation) (low : ℕ) → IsPlaced 0 items → GivesOwn b.hart items → is_swept rule b ≡ true → is_told rule ≡ true → precedes a b ≡ true → low ≤ a.place
+asked_told : (rule : Rule) (model : MemoryModel) (items : List Item) (order : List Operation) (a b : Operation) (low : ℕ) → IsPlaced 0 items → GivesOwn b.hart items → is_swept rule b ≡ true → is_told rule ≡ true → precedes a b ≡ true → low ≤ a.place
     → slice_index_or (flagged rule (sources_of rule order b) (with_flags (replicate 32 false) true (asked_at rule (uses_at items b))) (take (b.place - low) (drop low items))) (a.place - low) false ≡ (rule_of rule).asks model items order a b
 asked_told Address model items order a b low p own s t k h = mark_told Address [] nothing items a b low (λ m. refl) p k h ∙ sym (address_swept items a b)
 asked_told Data model items order a b low p own s t k h = mark_told Data [] nothing items a b low (λ m. refl) p k h ∙ sym (data_swept items a b)
@@ -212,7 +212,7 @@ tells_each rule items order b low marks stretch first stores among p own s below
 }
 
 -- where the rule says nothing of b there is no mark
-unasked : (rule : Rule) (model : Model) (items : List Item) (order : List Operation) (a b : Operation) → is_swept rule b ≡ false → is_told rule ≡ true → false ≡ (rule_of rule).asks model items order a b
+unasked : (rule : Rule) (model : MemoryModel) (items : List Item) (order : List Operation) (a b : Operation) → is_swept rule b ≡ false → is_told rule ≡ true → false ≡ (rule_of rule).asks model items order a b
 unasked Address model items order a b s t = absurd (true≢false s)
 unasked Data model items order a b s t = absurd (true≢false s)
 unasked Control model items order a b s t = ap (λ (w : Bool). w && has_control_dependency items a b) (sym s)

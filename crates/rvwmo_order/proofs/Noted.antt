@@ -6,13 +6,13 @@ use Rattle.std.specs.Option.{option_map_or}
 use Rattle.std.proofs.lemmas.Bool.{and_from, and_parts, or_parts, true≢false}
 use Rattle.rv32_decode.specs.declared.instruction.Instr.{Instr}
 use Rattle.rv32_decode.specs.declared.instruction.Instr.TheVariants as instr
-use Rattle.memory_model.specs.declared.Model.{Model}
+use Rattle.memory_model.specs.declared.MemoryModel.{MemoryModel}
 use Rattle.memory_model.specs.declared.operation.Kind.{Kind}
-use Rattle.memory_model.specs.declared.operation.Kind.TheVariants.{Load, Store, Reserve, Conditional, Amo}
+use Rattle.memory_model.specs.declared.operation.Kind.TheVariants.{Load, Store, Lr, Sc, Amo}
 use Rattle.memory_model.specs.declared.operation.Operation.{Operation}
 use Rattle.memory_model.specs.Dependencies.{between}
 use Rattle.memory_model.specs.Items.{Item}
-use Rattle.memory_model.specs.Operations.{has_acquire, has_rcsc, is_conditional, is_reserve, precedes, reads, writes}
+use Rattle.memory_model.specs.Operations.{has_acquire, has_rcsc, is_sc, is_lr, precedes, reads, writes}
 use Rattle.memory_model.specs.Rules.{fences, has_read, has_write, is_in_set, is_lr_or_sc, paired}
 use Rattle.rvwmo_order.specs.Passed.{fenced_after, fenced_before, fenced_by, none_passed, noted, passed_after, passed_behind, raised}
 use Rattle.rvwmo_order.specs.Placed.{IsPlaced}
@@ -30,14 +30,14 @@ raised_own true own weight e = omega arith
 raised_own false own weight e = absurd (true≢false (sym e))
 
 -- an operation of this weight is among those passed
-record Seen (model : Model) (a : Operation) (n : ℕ) (s : Passed) : Type 0 where
+record Seen (model : MemoryModel) (a : Operation) (n : ℕ) (s : Passed) : Type 0 where
   all : n ≤ s.all
   reading : reads a.kind ≡ true → n ≤ s.reads
   writing : writes a.kind ≡ true → n ≤ s.writes
   acquiring : has_acquire model a ≡ true → n ≤ s.acquires
   annotating : has_rcsc model a ≡ true → n ≤ s.annotated
 
-seen_first : (model : Model) (a : Operation) (n : ℕ) (s : Passed) → Seen model a n (noted model a n s)
+seen_first : (model : MemoryModel) (a : Operation) (n : ℕ) (s : Passed) → Seen model a n (noted model a n s)
 seen_first model a n s = record {
   all = omega arith;
   reading = raised_own (reads a.kind) n s.reads;
@@ -46,7 +46,7 @@ seen_first model a n s = record {
   annotating = raised_own (has_rcsc model a) n s.annotated;
 }
 
-seen_noted : (model : Model) (a b : Operation) (n own : ℕ) (s : Passed) → Seen model a n s → Seen model a n (noted model b own s)
+seen_noted : (model : MemoryModel) (a b : Operation) (n own : ℕ) (s : Passed) → Seen model a n s → Seen model a n (noted model b own s)
 seen_noted model a b n own s h = record {
   all = let l = h.all in omega (arith, l);
   reading = λ e. let l = h.reading e in let k = raised_kept (reads b.kind) own s.reads in omega (arith, l, k);
@@ -55,14 +55,14 @@ seen_noted model a b n own s h = record {
   annotating = λ e. let l = h.annotating e in let k = raised_kept (has_rcsc model b) own s.annotated in omega (arith, l, k);
 }
 
-seen_fenced : (model : Model) (a : Operation) (n : ℕ) (i : Option Instr) (s : Passed) → Seen model a n s → Seen model a n (fenced_after i s)
+seen_fenced : (model : MemoryModel) (a : Operation) (n : ℕ) (i : Option Instr) (s : Passed) → Seen model a n s → Seen model a n (fenced_after i s)
 seen_fenced model a n i s h = record { all = h.all; reading = h.reading; writing = h.writing; acquiring = h.acquiring; annotating = h.annotating }
 
-seen_after : (model : Model) (a : Operation) (n own : ℕ) (place : ℕ) (i : Option Instr) (o : Option Operation) (s : Passed) → Seen model a n s → Seen model a n (passed_after model own (record { place = place; instr = i; operation = o }) s)
+seen_after : (model : MemoryModel) (a : Operation) (n own : ℕ) (place : ℕ) (i : Option Instr) (o : Option Operation) (s : Passed) → Seen model a n s → Seen model a n (passed_after model own (record { place = place; instr = i; operation = o }) s)
 seen_after model a n own place i None s h = seen_fenced model a n i s h
 seen_after model a n own place i (Some b) s h = seen_noted model a b n own (fenced_after i s) (seen_fenced model a n i s h)
 
-seen_behind : (model : Model) (own : Item → ℕ) (a : Operation) (n : ℕ) (s : Passed) (ms : List Item) → Seen model a n s → Seen model a n (passed_behind model own s ms)
+seen_behind : (model : MemoryModel) (own : Item → ℕ) (a : Operation) (n : ℕ) (s : Passed) (ms : List Item) → Seen model a n s → Seen model a n (passed_behind model own s ms)
 seen_behind model own a n s [] h = h
 seen_behind model own a n s (m ∷ rest) h = seen_behind model own a n (passed_after model (own m) m s) rest (seen_after model a n (own m) m.place m.instr m.operation s h)
 
@@ -73,11 +73,11 @@ record Grown (s t : Passed) : Type 0 where
   reads : s.fenced_reads ≤ t.fenced_reads
   writes : s.fenced_writes ≤ t.fenced_writes
 
-grown_after : (model : Model) (own place : ℕ) (i : Option Instr) (o : Option Operation) (s : Passed) → Grown (fenced_after i s) (passed_after model own (record { place = place; instr = i; operation = o }) s)
+grown_after : (model : MemoryModel) (own place : ℕ) (i : Option Instr) (o : Option Operation) (s : Passed) → Grown (fenced_after i s) (passed_after model own (record { place = place; instr = i; operation = o }) s)
 grown_after model own place i None s = record { reads = omega arith; writes = omega arith }
 grown_after model own place i (Some b) s = record { reads = omega arith; writes = omega arith }
 
-grown_behind : (model : Model) (own : Item → ℕ) (s : Passed) (ms : List Item) → Grown s (passed_behind model own s ms)
+grown_behind : (model : MemoryModel) (own : Item → ℕ) (s : Passed) (ms : List Item) → Grown s (passed_behind model own s ms)
 grown_behind model own s [] = record { reads = omega arith; writes = omega arith }
 grown_behind model own s (m ∷ rest) =
     let first = grown_after model (own m) m.place m.instr m.operation s in
@@ -123,8 +123,8 @@ Parts i a b = ((reads b ≡ true) × Before i a Load) ⊎ ((writes b ≡ true) �
 reads_or_writes : (kind : Kind) → (reads kind ≡ true) ⊎ (writes kind ≡ true)
 reads_or_writes Load = inl refl
 reads_or_writes Store = inr refl
-reads_or_writes Reserve = inl refl
-reads_or_writes Conditional = inr refl
+reads_or_writes Lr = inl refl
+reads_or_writes Sc = inr refl
 reads_or_writes Amo = inl refl
 
 set_before : (before after : ℕ) (later a : Kind) (i : Option Instr) → ((k : Kind) → fences i k later ≡ (is_in_set before k && is_in_set after later)) → is_in_set before a ≡ true → is_in_set after later ≡ true → Before i a later
@@ -148,7 +148,7 @@ parts (Some instr.FenceTso) a b e = go (reads a) refl e
     go false h e = let p = and_parts (writes a) (writes b) e in inr (p.1, inr (p.0, refl))
 parts i a b e = absurd (true≢false (sym e))
 
-weighs_before : (model : Model) (a : Operation) (n : ℕ) (s : Passed) (i : Option Instr) (later : Kind) → Seen model a n s → Before i a.kind later → n ≤ fenced_by i later s
+weighs_before : (model : MemoryModel) (a : Operation) (n : ℕ) (s : Passed) (i : Option Instr) (later : Kind) → Seen model a n s → Before i a.kind later → n ≤ fenced_by i later s
 weighs_before model a n s i later h b =
     ⊎_elim
     (λ (p : (reads a.kind ≡ true) × (fences i Load later ≡ true)). let l = h.reading p.0 in left (fences i Load later) (fences i Store later) p.1 l)
@@ -163,7 +163,7 @@ weighs_before model a n s i later h b =
     right x true e l = omega (arith, l)
     right x false e l = absurd (true≢false (sym e))
 
-fenced_now : (model : Model) (a : Operation) (n : ℕ) (s : Passed) (i : Option Instr) (kind : Kind) → Seen model a n s → fences i a.kind kind ≡ true → n ≤ fenced_before kind (fenced_after i s)
+fenced_now : (model : MemoryModel) (a : Operation) (n : ℕ) (s : Passed) (i : Option Instr) (kind : Kind) → Seen model a n s → fences i a.kind kind ≡ true → n ≤ fenced_before kind (fenced_after i s)
 fenced_now model a n s i kind h e =
     ⊎_elim
     (λ (p : (reads kind ≡ true) × Before i a.kind Load). let l = weighs_before model a n s i Load h p.1 in left (reads kind) (writes kind) p.0 l)
@@ -178,7 +178,7 @@ fenced_now model a n s i kind h e =
     right x true e l = omega (arith, l)
     right x false e l = absurd (true≢false (sym e))
 
-fenced_behind : (model : Model) (own : Item → ℕ) (a : Operation) (n : ℕ) (s : Passed) (kind : Kind) (ms : List Item) → Seen model a n s → list_any (λ (m : Item). fences m.instr a.kind kind) ms ≡ true → n ≤ fenced_before kind (passed_behind model own s ms)
+fenced_behind : (model : MemoryModel) (own : Item → ℕ) (a : Operation) (n : ℕ) (s : Passed) (kind : Kind) (ms : List Item) → Seen model a n s → list_any (λ (m : Item). fences m.instr a.kind kind) ms ≡ true → n ≤ fenced_before kind (passed_behind model own s ms)
 fenced_behind model own a n s kind [] h e = absurd (true≢false (sym e))
 fenced_behind model own a n s kind (m ∷ rest) h e = go (fences m.instr a.kind kind) refl e (fenced_behind model own a n next kind rest (seen_after model a n (own m) m.place m.instr m.operation s h))
   where
@@ -191,7 +191,7 @@ fenced_behind model own a n s kind (m ∷ rest) h e = go (fences m.instr a.kind 
 
 -- ---- pairs
 
-reserved_after : (model : Model) (n own place : ℕ) (i : Option Instr) (o : Option Operation) (s : Passed) → is_lr_or_sc i ≡ false → n ≤ s.reserved → n ≤ (passed_after model own (record { place = place; instr = i; operation = o }) s).reserved
+reserved_after : (model : MemoryModel) (n own place : ℕ) (i : Option Instr) (o : Option Operation) (s : Passed) → is_lr_or_sc i ≡ false → n ≤ s.reserved → n ≤ (passed_after model own (record { place = place; instr = i; operation = o }) s).reserved
 reserved_after model n own place i None s e l = go (is_lr_or_sc i) e
   where
     go : (b : Bool) → b ≡ false → n ≤ cond b 0 s.reserved
@@ -199,11 +199,11 @@ reserved_after model n own place i None s e l = go (is_lr_or_sc i) e
     go false e = l
 reserved_after model n own place i (Some b) s e l = go (is_lr_or_sc i) e
   where
-    go : (c : Bool) → c ≡ false → n ≤ raised (is_reserve b.kind) own (cond c 0 s.reserved)
+    go : (c : Bool) → c ≡ false → n ≤ raised (is_lr b.kind) own (cond c 0 s.reserved)
     go true e = absurd (true≢false e)
-    go false e = let k = raised_kept (is_reserve b.kind) own s.reserved in omega (arith, l, k)
+    go false e = let k = raised_kept (is_lr b.kind) own s.reserved in omega (arith, l, k)
 
-reserved_behind : (model : Model) (own : Item → ℕ) (n : ℕ) (s : Passed) (ms : List Item) → list_any (λ (m : Item). is_lr_or_sc m.instr) ms ≡ false → n ≤ s.reserved → n ≤ (passed_behind model own s ms).reserved
+reserved_behind : (model : MemoryModel) (own : Item → ℕ) (n : ℕ) (s : Passed) (ms : List Item) → list_any (λ (m : Item). is_lr_or_sc m.instr) ms ≡ false → n ≤ s.reserved → n ≤ (passed_behind model own s ms).reserved
 reserved_behind model own n s [] e l = l
 reserved_behind model own n s (m ∷ rest) e l =
     let p = or_parts (is_lr_or_sc m.instr) (list_any (λ (m : Item). is_lr_or_sc m.instr) rest) e in
@@ -211,20 +211,20 @@ reserved_behind model own n s (m ∷ rest) e l =
 
 -- ---- two operations of a hart's list
 
-abbrev pub passed_at : Model → (Item → ℕ) → List Item → ℕ → Passed
+abbrev pub passed_at : MemoryModel → (Item → ℕ) → List Item → ℕ → Passed
 passed_at model own items place = passed_behind model own none_passed (take place items)
 
-pub passed_append : (model : Model) (own : Item → ℕ) (s : Passed) (xs ys : List Item) → passed_behind model own s (xs ++ ys) ≡ passed_behind model own (passed_behind model own s xs) ys
+pub passed_append : (model : MemoryModel) (own : Item → ℕ) (s : Passed) (xs ys : List Item) → passed_behind model own s (xs ++ ys) ≡ passed_behind model own (passed_behind model own s xs) ys
 passed_append model own s [] ys = refl
 passed_append model own s (x ∷ rest) ys = passed_append model own (passed_after model (own x) x s) rest ys
 
-abbrev first_passed : Model → ℕ → Operation → Option Instr → Passed → Passed
+abbrev first_passed : MemoryModel → ℕ → Operation → Option Instr → Passed → Passed
 first_passed model own a i s = noted model a own (fenced_after i s)
 
-first_is : (model : Model) (own : ℕ) (a : Operation) (m : Item) (s : Passed) → m.operation ≡ Some a → passed_after model own m s ≡ first_passed model own a m.instr s
+first_is : (model : MemoryModel) (own : ℕ) (a : Operation) (m : Item) (s : Passed) → m.operation ≡ Some a → passed_after model own m s ≡ first_passed model own a m.instr s
 first_is model own a m s e = ap (λ (o : Option Operation). option_map_or (λ (x : Operation). noted model x own (fenced_after m.instr s)) o (fenced_after m.instr s)) e
 
-passed_both : (model : Model) (own : Item → ℕ) (items : List Item) (a b : Operation) (m : Item) → IsPlaced 0 items → slice_get items a.place ≡ Some m → m.operation ≡ Some a → a.place < b.place
+passed_both : (model : MemoryModel) (own : Item → ℕ) (items : List Item) (a b : Operation) (m : Item) → IsPlaced 0 items → slice_get items a.place ≡ Some m → m.operation ≡ Some a → a.place < b.place
     → passed_at model own items b.place ≡ passed_behind model own (first_passed model (own m) a m.instr (passed_at model own items a.place)) (between items a b)
 passed_both model own items a b m p e o l =
     ap (passed_behind model own none_passed) (parted items a b m p e l)
@@ -232,21 +232,21 @@ passed_both model own items a b m p e o l =
     ∙ ap (λ (s : Passed). passed_behind model own s (between items a b)) (first_is model (own m) a m (passed_at model own items a.place) o))
 
 -- the first is among those passed at the second one's place
-seen : (model : Model) (own : Item → ℕ) (items : List Item) (a b : Operation) (m : Item) → IsPlaced 0 items → slice_get items a.place ≡ Some m → m.operation ≡ Some a → a.place < b.place → Seen model a (own m) (passed_at model own items b.place)
+seen : (model : MemoryModel) (own : Item → ℕ) (items : List Item) (a b : Operation) (m : Item) → IsPlaced 0 items → slice_get items a.place ≡ Some m → m.operation ≡ Some a → a.place < b.place → Seen model a (own m) (passed_at model own items b.place)
 seen model own items a b m p e o l =
     subst (Seen model a (own m)) (sym (passed_both model own items a b m p e o l))
     (seen_behind model own a (own m) (first_passed model (own m) a m.instr (passed_at model own items a.place)) (between items a b) (seen_first model a (own m) (fenced_after m.instr (passed_at model own items a.place))))
 
-pub acquire_passed : (model : Model) (own : Item → ℕ) (items : List Item) (a b : Operation) (m : Item) → IsPlaced 0 items → slice_get items a.place ≡ Some m → m.operation ≡ Some a → a.place < b.place → has_acquire model a ≡ true → own m ≤ (passed_at model own items b.place).acquires
+pub acquire_passed : (model : MemoryModel) (own : Item → ℕ) (items : List Item) (a b : Operation) (m : Item) → IsPlaced 0 items → slice_get items a.place ≡ Some m → m.operation ≡ Some a → a.place < b.place → has_acquire model a ≡ true → own m ≤ (passed_at model own items b.place).acquires
 acquire_passed model own items a b m p e o l h = (seen model own items a b m p e o l).acquiring h
 
-pub all_passed : (model : Model) (own : Item → ℕ) (items : List Item) (a b : Operation) (m : Item) → IsPlaced 0 items → slice_get items a.place ≡ Some m → m.operation ≡ Some a → a.place < b.place → own m ≤ (passed_at model own items b.place).all
+pub all_passed : (model : MemoryModel) (own : Item → ℕ) (items : List Item) (a b : Operation) (m : Item) → IsPlaced 0 items → slice_get items a.place ≡ Some m → m.operation ≡ Some a → a.place < b.place → own m ≤ (passed_at model own items b.place).all
 all_passed model own items a b m p e o l = (seen model own items a b m p e o l).all
 
-pub annotated_passed : (model : Model) (own : Item → ℕ) (items : List Item) (a b : Operation) (m : Item) → IsPlaced 0 items → slice_get items a.place ≡ Some m → m.operation ≡ Some a → a.place < b.place → has_rcsc model a ≡ true → own m ≤ (passed_at model own items b.place).annotated
+pub annotated_passed : (model : MemoryModel) (own : Item → ℕ) (items : List Item) (a b : Operation) (m : Item) → IsPlaced 0 items → slice_get items a.place ≡ Some m → m.operation ≡ Some a → a.place < b.place → has_rcsc model a ≡ true → own m ≤ (passed_at model own items b.place).annotated
 annotated_passed model own items a b m p e o l h = (seen model own items a b m p e o l).annotating h
 
-pub fence_passed : (model : Model) (own : Item → ℕ) (items : List Item) (a b : Operation) (m : Item) → IsPlaced 0 items → slice_get items a.place ≡ Some m → m.operation ≡ Some a → a.place < b.place → list_any (λ (m : Item). fences m.instr a.kind b.kind) (between items a b) ≡ true → own m ≤ fenced_before b.kind (passed_at model own items b.place)
+pub fence_passed : (model : MemoryModel) (own : Item → ℕ) (items : List Item) (a b : Operation) (m : Item) → IsPlaced 0 items → slice_get items a.place ≡ Some m → m.operation ≡ Some a → a.place < b.place → list_any (λ (m : Item). fences m.instr a.kind b.kind) (between items a b) ≡ true → own m ≤ fenced_before b.kind (passed_at model own items b.place)
 fence_passed model own items a b m p e o l h =
     let first : Passed = first_passed model (own m) a m.instr (passed_at model own items a.place) in
     let at_most = fenced_behind model own a (own m) first b.kind (between items a b) (seen_first model a (own m) (fenced_after m.instr (passed_at model own items a.place))) h in
@@ -260,10 +260,10 @@ pair_parts true true false n e = absurd (true≢false (sym e))
 pair_parts true false c n e = absurd (true≢false (sym e))
 pair_parts false r c n e = absurd (true≢false (sym e))
 
-pub pair_passed : (model : Model) (own : Item → ℕ) (items : List Item) (a b : Operation) (m : Item) → IsPlaced 0 items → slice_get items a.place ≡ Some m → m.operation ≡ Some a → a.place < b.place → paired items a b ≡ true → own m ≤ (passed_at model own items b.place).reserved
+pub pair_passed : (model : MemoryModel) (own : Item → ℕ) (items : List Item) (a b : Operation) (m : Item) → IsPlaced 0 items → slice_get items a.place ≡ Some m → m.operation ≡ Some a → a.place < b.place → paired items a b ≡ true → own m ≤ (passed_at model own items b.place).reserved
 pair_passed model own items a b m p e o l h =
-    let q = pair_parts (precedes a b) (is_reserve a.kind) (is_conditional b.kind) (list_any (λ (m : Item). is_lr_or_sc m.instr) (between items a b)) h in
+    let q = pair_parts (precedes a b) (is_lr a.kind) (is_sc b.kind) (list_any (λ (m : Item). is_lr_or_sc m.instr) (between items a b)) h in
     let before : Passed = fenced_after m.instr (passed_at model own items a.place) in
-    let at_most = reserved_behind model own (own m) (first_passed model (own m) a m.instr (passed_at model own items a.place)) (between items a b) q.1 (raised_own (is_reserve a.kind) (own m) before.reserved q.0) in
+    let at_most = reserved_behind model own (own m) (first_passed model (own m) a m.instr (passed_at model own items a.place)) (between items a b) q.1 (raised_own (is_lr a.kind) (own m) before.reserved q.0) in
     let there = ap (λ (s : Passed). s.reserved) (passed_both model own items a b m p e o l) in
     omega (arith, at_most, there)

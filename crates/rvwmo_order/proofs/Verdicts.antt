@@ -3,7 +3,7 @@ use Rattle.std.proofs.Common.{◌≡◌, List, true, ◌∙◌, refl, sym, ap, s
 use Rattle.std.specs.List.{list_all}
 use Rattle.std.proofs.lemmas.Bool.{and_parts}
 use Rattle.elf_loader.specs.Image.{Initial, byte_at}
-use Rattle.memory_model.specs.declared.Model.{Model}
+use Rattle.memory_model.specs.declared.MemoryModel.{MemoryModel}
 use Rattle.memory_model.specs.declared.operation.Operation.{Operation}
 use Rattle.memory_model.specs.Items.{Item}
 use Rattle.memory_model.specs.Traces.{IsLegalOrder, image_of, instructions, is_among, is_distinct, has_each_operation_once, names_in, operations_at}
@@ -24,21 +24,21 @@ distinct_in t order e =
     let s = and_parts (list_all (is_among (names_in t)) order && is_distinct order) (list_all (is_among order) (names_in t)) e in
     operations_distinct t order (Pairwise-from_is_distinct order (and_parts (list_all (is_among (names_in t)) order) (is_distinct order) s.0).1)
 
-pub legal_verdict : (model : Model) (t : History) (order : List OpId) (v : Verdict) → v ≡ judged model (image_of t) (instructions t) (operations_at (instructions t) order) → (v ≡ Legal) ↔ IsLegalOrder model t order
+pub legal_verdict : (model : MemoryModel) (t : History) (order : List OpId) (v : Verdict) → v ≡ judged model (image_of t) (instructions t) (operations_at (instructions t) order) → (v ≡ Legal) ↔ IsLegalOrder model t order
 legal_verdict model t order v e = (
   λ l. legal-from_judged model (image_of t) (instructions t) (operations_at (instructions t) order) (sym e ∙ l),
   λ l. e ∙ judged-from_legal model (image_of t) (instructions t) (operations_at (instructions t) order) l,
 )
 
-pub sound_verdict : (model : Model) (t : History) (order : List OpId) (v : Verdict) → has_each_operation_once t order ≡ true → v ≡ judged model (image_of t) (instructions t) (operations_at (instructions t) order) → IsSoundVerdict model t order v
+pub sound_verdict : (model : MemoryModel) (t : History) (order : List OpId) (v : Verdict) → has_each_operation_once t order ≡ true → v ≡ judged model (image_of t) (instructions t) (operations_at (instructions t) order) → IsSoundVerdict model t order v
 sound_verdict model t order v o e = subst (λ (w : Verdict). IsSoundVerdict model t order w) (sym e) (sound model t order (distinct_in t order o))
 
-pub first_verdict : (model : Model) (t : History) (order : List OpId) (v : Verdict) → has_each_operation_once t order ≡ true → v ≡ judged model (image_of t) (instructions t) (operations_at (instructions t) order) → fault_told v ≡ fault_in model t order
+pub first_verdict : (model : MemoryModel) (t : History) (order : List OpId) (v : Verdict) → has_each_operation_once t order ≡ true → v ≡ judged model (image_of t) (instructions t) (operations_at (instructions t) order) → fault_told v ≡ fault_in model t order
 first_verdict model t order v o e = ap fault_told e ∙ first_told model (image_of t) (instructions t) (operations_at (instructions t) order) (distinct_in t order o)
 
 -- ---- by what was computed
 
-pub same_judged : (model : Model) (i j : Initial) (hs gs : List (List Item)) (os ps : List Operation) → i ≡ j → hs ≡ gs → os ≡ ps → judged model (byte_at i) hs os ≡ judged model (byte_at j) gs ps
+pub same_judged : (model : MemoryModel) (i j : Initial) (hs gs : List (List Item)) (os ps : List Operation) → i ≡ j → hs ≡ gs → os ≡ ps → judged model (byte_at i) hs os ≡ judged model (byte_at j) gs ps
 same_judged model i j hs gs os ps a b c = rw (a, b, c) refl
 
 pub tested_order : (t : History) (order names : List OpId) → names ≡ names_in t → (list_all (is_among names) order && is_distinct order && list_all (is_among order) names) ≡ has_each_operation_once t order

@@ -8,7 +8,7 @@ use Rattle.memory_model.specs.declared.operation.Operation.{Operation}
 use Rattle.memory_model.specs.Operations.{precedes, same, stores_to}
 use Rattle.memory_model.specs.Order.{position_in}
 use Rattle.memory_model.specs.Verdict.{name_of}
-use Rattle.rvwmo_order.specs.Indexed.{IsBeyond, IsRising, SeesWithin, is_seen, reach_from, reaches_of, stored_from}
+use Rattle.rvwmo_order.specs.Indexed.{IsBeyond, AreRisingStores, SeesWithin, is_seen, reach_from, reaches_of, stored_from}
 use Rattle.rvwmo_order.specs.declared.stored.Stored.{Stored}
 use Rattle.rvwmo_order.proofs.Judged.{place_head, place_tail, same_value}
 use Rattle.trace_recorder.specs.declared.operation.OpId.{OpId}
@@ -30,7 +30,7 @@ at_least position x (a ∷ rest) k s e = go (stores_to x a) k e (λ j f. at_leas
     go true (suc k) e ih = let later = ih k e in omega (arith, later)
     go false k e ih = let later = ih k e in omega (arith, later)
 
-pub rising : (position x : ℕ) (xs : List Operation) → IsRising (stored_from position x xs)
+pub rising : (position x : ℕ) (xs : List Operation) → AreRisingStores (stored_from position x xs)
 rising position x [] i j s t l e f = absurd (no_value s e)
 rising position x (a ∷ rest) i j s t l e f = go (stores_to x a) i j l e f (λ i j l e f. rising (position + 1) x rest i j s t l e f)
   where
@@ -113,8 +113,8 @@ sees_within order a x position reach load stores e f g h k s there far =
     let unseen : precedes s.store a ≡ false = beyond_reach order a s.store s.position own (omega (arith, f, g, reached, far)) in
     subst (λ (n : OpId). is_seen position n s ≡ false) e (ap (λ (b : Bool). b || precedes s.store a) (le-ltb s.position position (omega (arith, far))) ∙ unseen)
 
-pub rising_stores : (order : List Operation) (x : ℕ) (stores : List Stored) → stores ≡ stored_from 0 x order → IsRising stores
-rising_stores order x stores h = subst IsRising (sym h) (rising 0 x order)
+pub rising_stores : (order : List Operation) (x : ℕ) (stores : List Stored) → stores ≡ stored_from 0 x order → AreRisingStores stores
+rising_stores order x stores h = subst AreRisingStores (sym h) (rising 0 x order)
 
 -- ---- the last that passes stands among the first
 
@@ -129,7 +129,7 @@ last_among position reach count load stores within beyond = ap (last_or None) (s
 
 -- ---- a step of the search
 
-pub beyond_middle : (stores : List Stored) (position reach middle place : ℕ) (d : Stored) → IsRising stores → middle < length stores → place ≡ (slice_index_or stores middle d).position → reach < place - position → IsBeyond position reach middle stores
+pub beyond_middle : (stores : List Stored) (position reach middle place : ℕ) (d : Stored) → AreRisingStores stores → middle < length stores → place ≡ (slice_index_or stores middle d).position → reach < place - position → IsBeyond position reach middle stores
 beyond_middle stores position reach middle place d rises inside e far k s l f =
     let risen = rises middle k (slice_index_or stores middle d) s l (slice_get-get_or stores middle d inside) f in
     omega (arith, risen, e, far)

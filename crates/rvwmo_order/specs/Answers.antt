@@ -1,6 +1,6 @@
 -- What the checker says of a trace and an order.
 use Rattle.std.specs.Prelude.{◌≡◌, nat_lt, if◌then◌else◌, List, length, Option, Some, None, Result, Ok, Err, ⊤}
-use Rattle.memory_model.specs.declared.Model.{Model}
+use Rattle.memory_model.specs.declared.MemoryModel.{MemoryModel}
 use Rattle.memory_model.specs.declared.operation.Operation.{Operation}
 use Rattle.memory_model.specs.Traces.{are_runs, image_of, instructions, has_each_operation_once, names_in, operations_at}
 use Rattle.memory_model.specs.Verdict as verdict
@@ -26,7 +26,7 @@ refusal_of (Ok verdict) = None
 refusal_of (Err error) = Some error
 
 -- the operations of these names break the code's rule under the order
-pub record IsBroken (model : Model) (t : History) (order : List OpId) (code : Code) (a b : OpId) : Type 0 where
+pub record IsBroken (model : MemoryModel) (t : History) (order : List OpId) (code : Code) (a b : OpId) : Type 0 where
   pub first : Operation
   pub second : Operation
   pub first_name : name_of first ≡ a
@@ -34,7 +34,7 @@ pub record IsBroken (model : Model) (t : History) (order : List OpId) (code : Co
   pub breaks : Breaks model (image_of t) (instructions t) (operations_at (instructions t) order) (code_number code) first second
 
 -- a fault's operations do
-abbrev pub IsSoundVerdict : Model → History → List OpId → Verdict → Type 0
+abbrev pub IsSoundVerdict : MemoryModel → History → List OpId → Verdict → Type 0
 IsSoundVerdict model t order Legal = ⊤
 IsSoundVerdict model t order (Fault code a b) = IsBroken model t order code a b
 

@@ -2,11 +2,11 @@
 use Rattle.std.specs.Prelude.{◌≡◌, ◌≤◌, ◌<◌, ◌||◌, ℕ, max, true, false, List, [], ◌∷◌, Some, slice_get, slice_index_or, take}
 use Rattle.std.specs.List.{AllByRecursion}
 use Rattle.std.specs.Option.{option_map_or}
-use Rattle.memory_model.specs.declared.Model.{Model}
+use Rattle.memory_model.specs.declared.MemoryModel.{MemoryModel}
 use Rattle.memory_model.specs.declared.operation.Operation.{Operation}
 use Rattle.rv32_exec.specs.Uses.{Uses}
 use Rattle.memory_model.specs.Items.{Item}
-use Rattle.memory_model.specs.Operations.{has_rcsc, has_release, is_amo, is_conditional, reads, same, touches, writes}
+use Rattle.memory_model.specs.Operations.{has_rcsc, has_release, is_amo, is_sc, reads, same, touches, writes}
 use Rattle.memory_model.specs.Order.{position_in, source}
 use Rattle.memory_model.specs.Rules.{asked_by, items_of}
 use Rattle.rvwmo_order.specs.Carried.{carried_behind, greatest, nothing_carried}
@@ -68,24 +68,24 @@ own_weight weights order m = option_map_or (weight_of weights order) m.operation
 -- ---- what rows say
 
 -- the row bounds the weight of each operation that must come before b
-abbrev pub Bounds : Model → List (List Item) → List Operation → List ℕ → Operation → Row → Type 0
+abbrev pub Bounds : MemoryModel → List (List Item) → List Operation → List ℕ → Operation → Row → Type 0
 Bounds model harts order weights b row =
     (rule : Rule) → AllByRecursion (λ (a : Operation). asked_by model harts order (rule_of rule) a b ≡ true → weight_of weights order a ≤ bound_of rule row) order
 
 -- each row does, of the operation at its place
-pub record BoundsEach (model : Model) (harts : List (List Item)) (order : List Operation) (weights : List ℕ) (rows : List Row) : Type 0 where
+pub record BoundsEach (model : MemoryModel) (harts : List (List Item)) (order : List Operation) (weights : List ℕ) (rows : List Row) : Type 0 where
   pub each : (p : ℕ) (b : Operation) → slice_get order p ≡ Some b → Bounds model harts order weights b (slice_index_or rows p unbounded)
 
 -- each row bounds the places in the order, so that they are less
-pub record RanksEach (model : Model) (harts : List (List Item)) (order : List Operation) (rows : List Row) : Type 0 where
+pub record RanksEach (model : MemoryModel) (harts : List (List Item)) (order : List Operation) (rows : List Row) : Type 0 where
   pub each : (p : ℕ) (b : Operation) → slice_get order p ≡ Some b → (rule : Rule) → AllByRecursion (λ (a : Operation). asked_by model harts order (rule_of rule) a b ≡ true → position_in order a < bound_of rule (slice_index_or rows p unbounded)) order
 
 -- ---- orders of a trace's operations
 
 -- none is there twice
-abbrev pub IsDistinct : List Operation → Type 0
-IsDistinct [] = Unit {0}
-IsDistinct (a ∷ rest) = AllByRecursion (λ (b : Operation). same a b ≡ false) rest × IsDistinct rest
+abbrev pub AreDistinctOperations : List Operation → Type 0
+AreDistinctOperations [] = Unit {0}
+AreDistinctOperations (a ∷ rest) = AllByRecursion (λ (b : Operation). same a b ≡ false) rest × AreDistinctOperations rest
 
 -- an operation with bytes is the one of the instruction at its place
 pub record IsGiven (items : List Item) (a : Operation) : Type 0 where
@@ -100,7 +100,7 @@ GivesEach harts order = AllByRecursion (λ (a : Operation). IsGiven (items_of ha
 -- ---- walks
 
 -- a walk along a hart's list has come to a place
-pub record HasCome (model : Model) (own : Item → ℕ) (order : List Operation) (items : List Item) (place : ℕ) (w : Walk) : Type 0 where
+pub record HasCome (model : MemoryModel) (own : Item → ℕ) (order : List Operation) (items : List Item) (place : ℕ) (w : Walk) : Type 0 where
   pub model_is : w.model ≡ model
   pub carried : w.carried ≡ carried_behind own nothing_carried (take place items)
   pub passed : w.passed ≡ passed_behind model own none_passed (take place items)
@@ -113,15 +113,15 @@ pub record IsSource (order : List Operation) (b : Operation) (x : ℕ) (s : Oper
   pub own : s.hart ≡ b.hart
 
 -- of the operation b with these registers, by what the walk carries and the rows of the stores that its bytes come from
-pub record IsRow (order : List Operation) (weights : List ℕ) (rows : List Row) (b : Operation) (u : Uses) (w : Walk) (r : Row) : Type 0 where
+pub record IsBoundsRow (order : List Operation) (weights : List ℕ) (rows : List Row) (b : Operation) (u : Uses) (w : Walk) (r : Row) : Type 0 where
   pub overlapping_store : writes b.kind ≡ true → (x : ℕ) → touches x b ≡ true → (touch_in w.touches x).all ≤ r.overlapping_store
   pub same_byte_loads : reads b.kind ≡ true → (x : ℕ) → touches x b ≡ true → but (source order b x) (touch_in w.touches x) ≤ r.same_byte_loads
-  pub atomic_source : reads b.kind ≡ true → (x : ℕ) (s : Operation) → IsSource order b x s → (is_amo s.kind || is_conditional s.kind) ≡ true → weight_of weights order s ≤ r.atomic_source
+  pub atomic_source : reads b.kind ≡ true → (x : ℕ) (s : Operation) → IsSource order b x s → (is_amo s.kind || is_sc s.kind) ≡ true → weight_of weights order s ≤ r.atomic_source
   pub fence : fenced_before b.kind w.passed ≤ r.fence
   pub acquire : w.passed.acquires ≤ r.acquire
   pub release : has_release w.model b ≡ true → w.passed.all ≤ r.release
   pub annotations : has_rcsc w.model b ≡ true → w.passed.annotated ≤ r.annotations
-  pub pair : is_conditional b.kind ≡ true → w.passed.reserved ≤ r.pair
+  pub pair : is_sc b.kind ≡ true → w.passed.reserved ≤ r.pair
   pub address : greatest w.carried.registers u.address ≤ r.address
   pub data_stored : greatest w.carried.registers u.stored ≤ r.data_stored
   pub control : writes b.kind ≡ true → w.carried.steered ≤ r.control

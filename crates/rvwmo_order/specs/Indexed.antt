@@ -3,7 +3,7 @@ use Rattle.std.specs.Prelude.{◌≡◌, ◌≤◌, ◌<◌, ◌-◌, ℕ, ◌+�
 use Rattle.std.specs.Ordering.{nat_cmp, ordering_then}
 use Rattle.std.specs.declared.cmp.Ordering.{Ordering}
 use Rattle.memory_model.specs.declared.operation.Operation.{Operation}
-use Rattle.memory_model.specs.Operations.{is_reserve, precedes, same, stores_to}
+use Rattle.memory_model.specs.Operations.{is_lr, precedes, same, stores_to}
 use Rattle.trace_recorder.specs.declared.operation.OpId.{OpId}
 use Rattle.rvwmo_order.specs.declared.stored.Stored.{Stored}
 
@@ -40,12 +40,12 @@ reaches_of [] = []
 reaches_of (b ∷ rest) = reach_from 0 0 b rest ∷ reaches_of rest
 
 -- a is an LR of a hart
-abbrev pub is_reserve_of : ℕ → Operation → Bool
-is_reserve_of hart a = is_reserve a.kind && a.hart == hart
+abbrev pub is_lr_of : ℕ → Operation → Bool
+is_lr_of hart a = is_lr a.kind && a.hart == hart
 
 -- none of these stands before an earlier one of them
-abbrev pub IsRising : List Stored → Type 0
-IsRising stores = (i j : ℕ) (s t : Stored) → i ≤ j → slice_get stores i ≡ Some s → slice_get stores j ≡ Some t → s.position ≤ t.position
+abbrev pub AreRisingStores : List Stored → Type 0
+AreRisingStores stores = (i j : ℕ) (s t : Stored) → i ≤ j → slice_get stores i ≡ Some s → slice_get stores j ≡ Some t → s.position ≤ t.position
 
 -- those from a number on stand further behind a place than so much
 abbrev pub IsBeyond : ℕ → ℕ → ℕ → List Stored → Type 0

@@ -2,7 +2,7 @@
 use Rattle.std.specs.Prelude.{◌≡◌, ℕ, ◌-◌, ◌≤◌, Bool, true, false, ◌&&◌, if◌then◌else◌, List, [], ◌∷◌, ◌++◌, Option, Some, None, map, slice_index_or}
 use Rattle.std.specs.List.{All, list_any}
 use Rattle.rv32_exec.specs.Uses.{Uses}
-use Rattle.memory_model.specs.declared.Model.{Model}
+use Rattle.memory_model.specs.declared.MemoryModel.{MemoryModel}
 use Rattle.memory_model.specs.declared.operation.Operation.{Operation}
 use Rattle.memory_model.specs.Dependencies.{holds, sources, uses_in, with_flags}
 use Rattle.memory_model.specs.Items.{Item}
@@ -71,7 +71,7 @@ flagged rule stores last (m ∷ rest) = holds (flags_from rule stores last rest)
 -- the marks from place `low` on tell whether the rule holds of a and b, where it is one that a sweep tells
 pub record Tells (rule : Rule) (items : List Item) (order : List Operation) (b : Operation) (low : ℕ) (marks : List Bool) (a : Operation) : Type 0 where
   pub within : low ≤ a.place
-  pub told : (model : Model) → is_told rule ≡ true → slice_index_or marks (a.place - low) false ≡ (rule_of rule).asks model items order a b
+  pub told : (model : MemoryModel) → is_told rule ≡ true → slice_index_or marks (a.place - low) false ≡ (rule_of rule).asks model items order a b
 
 -- they do so of each of these operations that precedes b
 abbrev pub TellsEach : Rule → List Item → List Operation → Operation → ℕ → List Bool → List Operation → Type 0

@@ -2,12 +2,12 @@
 use Rattle.std.specs.Prelude.{ℕ, max, Bool, if◌then◌else◌, List, [], ◌∷◌, Option}
 use Rattle.std.specs.Option.{option_map_or}
 use Rattle.rv32_decode.specs.declared.instruction.Instr.{Instr}
-use Rattle.memory_model.specs.declared.Model.{Model}
+use Rattle.memory_model.specs.declared.MemoryModel.{MemoryModel}
 use Rattle.memory_model.specs.declared.operation.Kind.{Kind}
 use Rattle.memory_model.specs.declared.operation.Kind.TheVariants.{Load, Store}
 use Rattle.memory_model.specs.declared.operation.Operation.{Operation}
 use Rattle.memory_model.specs.Items.{Item}
-use Rattle.memory_model.specs.Operations.{has_acquire, has_rcsc, is_reserve, reads, writes}
+use Rattle.memory_model.specs.Operations.{has_acquire, has_rcsc, is_lr, reads, writes}
 use Rattle.memory_model.specs.Rules.{fences, is_lr_or_sc}
 use Rattle.rvwmo_order.specs.declared.passed.Passed.{Passed}
 
@@ -36,7 +36,7 @@ abbrev pub raised : Bool → ℕ → ℕ → ℕ
 raised test own weight = if test then max weight own else weight
 
 -- with an operation of this weight
-abbrev pub noted : Model → Operation → ℕ → Passed → Passed
+abbrev pub noted : MemoryModel → Operation → ℕ → Passed → Passed
 noted model a own s = record {
   all = max s.all own;
   reads = raised (reads a.kind) own s.reads;
@@ -45,15 +45,15 @@ noted model a own s = record {
   annotated = raised (has_rcsc model a) own s.annotated;
   fenced_reads = s.fenced_reads;
   fenced_writes = s.fenced_writes;
-  reserved = raised (is_reserve a.kind) own s.reserved;
+  reserved = raised (is_lr a.kind) own s.reserved;
 }
 
 -- behind an instruction whose operation, where it has one, has this weight
-abbrev pub passed_after : Model → ℕ → Item → Passed → Passed
+abbrev pub passed_after : MemoryModel → ℕ → Item → Passed → Passed
 passed_after model own m s = option_map_or (λ (a : Operation). noted model a own (fenced_after m.instr s)) m.operation (fenced_after m.instr s)
 
 -- behind a list of instructions, for the weight of each
-abbrev pub passed_behind : Model → (Item → ℕ) → Passed → List Item → Passed
+abbrev pub passed_behind : MemoryModel → (Item → ℕ) → Passed → List Item → Passed
 passed_behind model own s [] = s
 passed_behind model own s (m ∷ rest) = passed_behind model own (passed_after model (own m) m s) rest
 

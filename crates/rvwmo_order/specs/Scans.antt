@@ -1,7 +1,7 @@
 -- What the checker's scans find, as functions on lists. What an order is judged by stands in memory_model.
 use Rattle.std.specs.Prelude.{ℕ, Bool, ◌&&◌, not, List, [], ◌∷◌, Option, Some, None, find}
 use Rattle.std.specs.List.{list_any}
-use Rattle.memory_model.specs.declared.Model.{Model}
+use Rattle.memory_model.specs.declared.MemoryModel.{MemoryModel}
 use Rattle.memory_model.specs.declared.operation.Operation.{Operation}
 use Rattle.memory_model.specs.Items.{Item}
 use Rattle.memory_model.specs.Legal.{is_atomic, returns_sources}
@@ -41,7 +41,7 @@ ruled_or r None rest = rest
 ruled_or r (Some p) rest = Some (r, p.0, p.1)
 
 -- the first of the rules that is broken
-abbrev pub first_broken_rule : Model → List (List Item) → List Operation → List Rule → Option (Rule × Operation × Operation)
+abbrev pub first_broken_rule : MemoryModel → List (List Item) → List Operation → List Rule → Option (Rule × Operation × Operation)
 first_broken_rule model harts order [] = None
 first_broken_rule model harts order (r ∷ rest) = ruled_or r (first_out_of_order (asked_by model harts order (rule_of r)) order) (first_broken_rule model harts order rest)
 
@@ -67,5 +67,5 @@ verdict_by None (Some a) _ = Fault LoadValue (name_of a) (name_of a)
 verdict_by None None (Some p) = Fault Atomicity (name_of p.0) (name_of p.1)
 verdict_by None None None = Legal
 
-abbrev pub judged : Model → (ℕ → ℕ) → List (List Item) → List Operation → Verdict
+abbrev pub judged : MemoryModel → (ℕ → ℕ) → List (List Item) → List Operation → Verdict
 judged model image harts order = verdict_by (first_broken_rule model harts order all_rules) (wrong_load image order) (first_broken_pair harts order order)

@@ -5,15 +5,15 @@ ghost use Rattle.memory_model.specs.Verdict as verdict;
 ghost use Rattle.elf_loader.specs.Image as images;
 
 use elf_loader::{BASE, Image};
-use memory_model::{Kind, Model, Operation};
+use memory_model::{Kind, MemoryModel, Operation};
 use trace_recorder::OpId;
 
 pub(crate) fn reads(kind: Kind) -> bool
     ensures { result ≡ spec.reads kind }
 {
     match kind {
-        Kind::Load | Kind::Reserve | Kind::Amo => true,
-        Kind::Store | Kind::Conditional => false,
+        Kind::Load | Kind::Lr | Kind::Amo => true,
+        Kind::Store | Kind::Sc => false,
     }
 }
 
@@ -21,8 +21,8 @@ pub(crate) fn writes(kind: Kind) -> bool
     ensures { result ≡ spec.writes kind }
 {
     match kind {
-        Kind::Store | Kind::Conditional | Kind::Amo => true,
-        Kind::Load | Kind::Reserve => false,
+        Kind::Store | Kind::Sc | Kind::Amo => true,
+        Kind::Load | Kind::Lr => false,
     }
 }
 
@@ -108,30 +108,30 @@ pub(crate) fn image_byte(image: &Image, x: u64) -> u32
     }
 }
 
-pub(crate) fn has_acquire(model: Model, a: &Operation) -> bool
+pub(crate) fn has_acquire(model: MemoryModel, a: &Operation) -> bool
     ensures { result ≡ spec.has_acquire model a.now }
 {
     match model {
-        Model::Rvwmo => a.aq,
-        Model::Ztso => a.aq || reads(a.kind),
+        MemoryModel::Rvwmo => a.aq,
+        MemoryModel::Ztso => a.aq || reads(a.kind),
     }
 }
 
-pub(crate) fn has_release(model: Model, a: &Operation) -> bool
+pub(crate) fn has_release(model: MemoryModel, a: &Operation) -> bool
     ensures { result ≡ spec.has_release model a.now }
 {
     match model {
-        Model::Rvwmo => a.rl,
-        Model::Ztso => a.rl || writes(a.kind),
+        MemoryModel::Rvwmo => a.rl,
+        MemoryModel::Ztso => a.rl || writes(a.kind),
     }
 }
 
-pub(crate) fn has_rcsc(model: Model, a: &Operation) -> bool
+pub(crate) fn has_rcsc(model: MemoryModel, a: &Operation) -> bool
     ensures { result ≡ spec.has_rcsc model a.now }
 {
     match model {
-        Model::Rvwmo => a.aq || a.rl,
-        Model::Ztso => a.aq || a.rl || is_amo(a.kind),
+        MemoryModel::Rvwmo => a.aq || a.rl,
+        MemoryModel::Ztso => a.aq || a.rl || is_amo(a.kind),
     }
 }
 
@@ -140,24 +140,24 @@ pub(crate) fn is_amo(kind: Kind) -> bool
 {
     match kind {
         Kind::Amo => true,
-        Kind::Load | Kind::Store | Kind::Reserve | Kind::Conditional => false,
+        Kind::Load | Kind::Store | Kind::Lr | Kind::Sc => false,
     }
 }
 
-pub(crate) fn is_reserve(kind: Kind) -> bool
-    ensures { result ≡ spec.is_reserve kind }
+pub(crate) fn is_lr(kind: Kind) -> bool
+    ensures { result ≡ spec.is_lr kind }
 {
     match kind {
-        Kind::Reserve => true,
-        Kind::Load | Kind::Store | Kind::Conditional | Kind::Amo => false,
+        Kind::Lr => true,
+        Kind::Load | Kind::Store | Kind::Sc | Kind::Amo => false,
     }
 }
 
-pub(crate) fn is_conditional(kind: Kind) -> bool
-    ensures { result ≡ spec.is_conditional kind }
+pub(crate) fn is_sc(kind: Kind) -> bool
+    ensures { result ≡ spec.is_sc kind }
 {
     match kind {
-        Kind::Conditional => true,
-        Kind::Load | Kind::Store | Kind::Reserve | Kind::Amo => false,
+        Kind::Sc => true,
+        Kind::Load | Kind::Store | Kind::Lr | Kind::Amo => false,
     }
 }

@@ -9,13 +9,13 @@ use crate::index::Index;
 use crate::items::{Harts, Item};
 use crate::rows::{Row, UNBOUNDED};
 use crate::walking::{Walk, weight_of};
-use memory_model::Model;
+use memory_model::MemoryModel;
 use std::alloc::{AllocError, Global};
 
 /// For each operation of an order the bounds on the places of those that must come before it.
 pub(crate) fn ranked_rows(
     alloc: Global,
-    model: Model,
+    model: MemoryModel,
     harts: &Harts,
     index: &Index,
 ) -> Result<Vec<Row>, AllocError>
@@ -40,7 +40,7 @@ fn ranks(alloc: Global, count: usize) -> Result<Vec<usize>, AllocError>
 /// For each operation of an order the bounds on the weights of those that must come before it.
 pub(crate) fn rows_of(
     alloc: Global,
-    model: Model,
+    model: MemoryModel,
     harts: &Harts,
     index: &Index,
     weights: &[usize],
@@ -71,7 +71,7 @@ fn no_rows(alloc: Global, count: usize) -> Result<Vec<Row>, AllocError>
 fn bound_hart(
     alloc: Global,
     rows: &mut [Row],
-    model: Model,
+    model: MemoryModel,
     harts: &Harts,
     hart: u8,
     index: &Index,

@@ -13,7 +13,7 @@ use crate::judging::judge;
 use crate::orders::{has_too_many, is_order, names_in, operations_at};
 use crate::runs::are_runs;
 use crate::verdict::Verdict;
-use memory_model::Model;
+use memory_model::MemoryModel;
 use std::alloc::{AllocError, Global};
 use trace_recorder::{OpId, Trace};
 
@@ -22,11 +22,11 @@ pub fn check(alloc: Global, trace: &Trace, order: &[OpId]) -> Result<Verdict, Ch
     ensures no_run { traces.are_runs trace.now.history ≡ false → result ≡ Err CheckError.NotARun }
     ensures too_long { traces.are_runs trace.now.history ≡ true → 4096 < length (traces.names_in trace.now.history) → result ≡ Err CheckError.TooLong }
     ensures refused { ¬ IsErrOf result CheckError.NoMemory → refusal_of result ≡ refusal trace.now.history order.now }
-    ensures legal { IfOk result (λ v. (v ≡ Verdict.Legal) ↔ IsLegalOrder Model.Rvwmo trace.now.history order.now) }
-    ensures sound { IfOk result (λ v. IsSoundVerdict Model.Rvwmo trace.now.history order.now v) }
-    ensures first { IfOk result (λ v. fault_told v ≡ fault_in Model.Rvwmo trace.now.history order.now) }
+    ensures legal { IfOk result (λ v. (v ≡ Verdict.Legal) ↔ IsLegalOrder MemoryModel.Rvwmo trace.now.history order.now) }
+    ensures sound { IfOk result (λ v. IsSoundVerdict MemoryModel.Rvwmo trace.now.history order.now v) }
+    ensures first { IfOk result (λ v. fault_told v ≡ fault_in MemoryModel.Rvwmo trace.now.history order.now) }
 {
-    check_model(alloc, trace, order, Model::Rvwmo)
+    check_model(alloc, trace, order, MemoryModel::Rvwmo)
 }
 
 /// Whether an order of the operations of a trace is legal under a memory model.
@@ -34,7 +34,7 @@ pub fn check_model(
     alloc: Global,
     trace: &Trace,
     order: &[OpId],
-    model: Model,
+    model: MemoryModel,
 ) -> Result<Verdict, CheckError>
     ensures no_run { traces.are_runs trace.now.history ≡ false → result ≡ Err CheckError.NotARun }
     ensures too_long { traces.are_runs trace.now.history ≡ true → 4096 < length (traces.names_in trace.now.history) → result ≡ Err CheckError.TooLong }
@@ -61,7 +61,7 @@ fn verdict_on(
     alloc: Global,
     trace: &Trace,
     order: &[OpId],
-    model: Model,
+    model: MemoryModel,
 ) -> Result<Verdict, AllocError>
     requires { traces.is_distinct order.now ≡ true }
     ensures { IfOk result (λ v. v ≡ judged model (traces.image_of trace.now.history) (traces.instructions trace.now.history) (traces.operations_at (traces.instructions trace.now.history) order.now)) }

@@ -12,9 +12,9 @@ ghost use Rattle.memory_model.specs.Order as spec;
 ghost use Rattle.memory_model.specs.Traces as traces;
 ghost use Rattle.memory_model.specs.Verdict as verdict;
 ghost use Rattle.rvwmo_order.specs.Indexed as indexed;
-ghost use Rattle.rvwmo_order.specs.Indexed.{IsBeyond, IsRising, SeesWithin, is_reserve_of, name_cmp, place_from, reaches_of, stored_from};
+ghost use Rattle.rvwmo_order.specs.Indexed.{IsBeyond, AreRisingStores, SeesWithin, is_lr_of, name_cmp, place_from, reaches_of, stored_from};
 
-use crate::accesses::{end_of, is_reserve, name_of, writes};
+use crate::accesses::{end_of, is_lr, name_of, writes};
 use crate::items::Harts;
 use crate::orders::operations_at;
 use crate::reaches::reaches_in;
@@ -47,7 +47,7 @@ impl Model for Index {
     ghost use Rattle.std.specs.BTreeMap as tree;
     ghost use Rattle.std.specs.Ordering.{nat_cmp};
     ghost use Rattle.memory_model.specs.declared.operation.Operation.{Operation as OperationValue};
-    ghost use Rattle.rvwmo_order.specs.Indexed.{is_reserve_of, name_cmp, place_from, reaches_of, stored_from};
+    ghost use Rattle.rvwmo_order.specs.Indexed.{is_lr_of, name_cmp, place_from, reaches_of, stored_from};
 
     ghost Value = { List OperationValue };
 
@@ -56,7 +56,7 @@ impl Model for Index {
     ghost invariant = { λ i. ((a : OperationValue) → tree.get name_cmp i.places (a.hart, a.place) ≡ place_from 0 a i.order.items)
         × (i.reaches.items ≡ reaches_of i.order.items)
         × ((x : ℕ) → option_map_or (λ v. v.items) (tree.get nat_cmp i.stores x) [] ≡ stored_from 0 x i.order.items)
-        × ((h : ℕ) → option_map_or (λ v. v.items) (tree.get nat_cmp i.reserves h) [] ≡ filter (is_reserve_of h) i.order.items) };
+        × ((h : ℕ) → option_map_or (λ v. v.items) (tree.get nat_cmp i.reserves h) [] ≡ filter (is_lr_of h) i.order.items) };
 }
 
 impl Index {
@@ -94,7 +94,7 @@ impl Index {
 
     /// The LRs of a hart, in the order's order.
     pub(crate) fn reserves(&self, hart: u8) -> &[Operation]
-        ensures { result.now ≡ filter (is_reserve_of hart) self.now }
+        ensures { result.now ≡ filter (is_lr_of hart) self.now }
     {
         match self.reserves.get(&hart) {
             Some(reserves) => reserves,
@@ -231,11 +231,11 @@ fn reserves_in(
     alloc: Global,
     order: &[Operation],
 ) -> Result<BTreeMap<u8, Vec<Operation>>, AllocError>
-    ensures { IfOk result (λ reserves. (h : ℕ) → option_map_or (λ v. v.items) (tree.get nat_cmp reserves h) [] ≡ filter (is_reserve_of h) order.now) }
+    ensures { IfOk result (λ reserves. (h : ℕ) → option_map_or (λ v. v.items) (tree.get nat_cmp reserves h) [] ≡ filter (is_lr_of h) order.now) }
 {
     let mut reserves: BTreeMap<u8, Vec<Operation>> = BTreeMap::new(alloc);
     for a in order {
-        if is_reserve(a.kind) {
+        if is_lr(a.kind) {
             reserves.entry(a.hart)?.or_default().push(*a)?;
         }
     }
@@ -302,7 +302,7 @@ fn last_within<L: Ledger>(
     requires name { blank.name ≡ L.name }
     requires parts { blank.parts ≡ L.parts }
     requires some { 0 < L.parts }
-    requires rising { IsRising stores.now }
+    requires rising { AreRisingStores stores.now }
     requires unseen { SeesWithin position reach load stores.now }
     ensures { result ≡ option_map (λ s. s.store) (last_or None (filter (indexed.is_seen position load) stores.now)) }
 {
@@ -318,7 +318,7 @@ fn count_within<L: Ledger>(
     reach: usize,
     ticks: &mut Ticks<L>,
 ) -> usize
-    requires { IsRising stores.now }
+    requires { AreRisingStores stores.now }
     ensures inside { result ≤ length stores.now }
     ensures beyond { IsBeyond position reach result stores.now }
 {

@@ -340,14 +340,14 @@ fn store(place: u32, hart: u8, op: StoreOp, address: u32, register: u32) -> Oper
 }
 
 fn reserve(place: u32, hart: &Hart, entry: &Retired, rs1: Register, bits: Annotations) -> Operation
-    ensures { Some result ≡ spec.operation_of_access hart.now.id place bits entry.now (meaning.Reserves (slice_index hart.now.regs rs1)) }
+    ensures { Some result ≡ spec.operation_of_access hart.now.id place bits entry.now (meaning.DoesLr (slice_index hart.now.regs rs1)) }
 {
     let address = hart.regs.get(rs1);
     atomic(
         place,
         hart.id,
         bits,
-        Kind::Reserve,
+        Kind::Lr,
         address,
         entry.number_read(),
         0,
@@ -363,13 +363,13 @@ fn conditional(
     rs2: Register,
     bits: Annotations,
 ) -> Option<Operation>
-    ensures { result ≡ spec.operation_of_access hart.now.id place bits entry.now (meaning.Tries (slice_index hart.now.regs rs1) (slice_index hart.now.regs rs2)) }
+    ensures { result ≡ spec.operation_of_access hart.now.id place bits entry.now (meaning.DoesSc (slice_index hart.now.regs rs1) (slice_index hart.now.regs rs2)) }
 {
     if !entry.sc_ok.unwrap_or(false) {
         return None;
     }
     let (address, written) = (hart.regs.get(rs1), hart.regs.get(rs2));
-    Some(atomic(place, hart.id, bits, Kind::Conditional, address, 0, written))
+    Some(atomic(place, hart.id, bits, Kind::Sc, address, 0, written))
 }
 
 fn update(

@@ -6,11 +6,11 @@ ghost use Rattle.memory_model.specs.Operations as operations;
 ghost use Rattle.memory_model.specs.Order as orders;
 ghost use Rattle.elf_loader.specs.Image.{byte_at};
 ghost use Rattle.memory_model.specs.Legal as legal;
-ghost use Rattle.rvwmo_order.specs.Bounds.{GivesEach, IsDistinct, RanksEach};
+ghost use Rattle.rvwmo_order.specs.Bounds.{GivesEach, AreDistinctOperations, RanksEach};
 ghost use Rattle.rvwmo_order.specs.Scans as scans;
 ghost use Rattle.rvwmo_order.specs.Scans.{all_rules, first_broken_pair, first_broken_rule, judged};
 
-use crate::accesses::{end_of, is_conditional, is_same, name_of, read_at, reads, stores_to};
+use crate::accesses::{end_of, is_same, is_sc, name_of, read_at, reads, stores_to};
 use crate::bounding::ranked_rows;
 use crate::index::Index;
 use crate::items::Harts;
@@ -20,19 +20,19 @@ use crate::searching::first_broken_by;
 use crate::sources::byte_from;
 use crate::verdict::{Code, RULES, Rule, Verdict};
 use elf_loader::Image;
-use memory_model::{Model, Operation};
+use memory_model::{MemoryModel, Operation};
 use std::alloc::{AllocError, Global};
 
 /// The verdict on an order of the operations of these lists, one a hart.
 pub(crate) fn judge(
     alloc: Global,
-    model: Model,
+    model: MemoryModel,
     image: &Image,
     harts: &Harts,
     index: &Index,
 ) -> Result<Verdict, AllocError>
     requires gives { GivesEach harts.now index.now }
-    requires distinct { IsDistinct index.now }
+    requires distinct { AreDistinctOperations index.now }
     ensures { IfOk result (λ verdict. verdict ≡ judged model (byte_at image.now) harts.now index.now) }
 {
     let rows = ranked_rows(alloc, model, harts, index)?;
@@ -51,13 +51,13 @@ pub(crate) fn judge(
 // The first rule by which an operation must come before one that stands before it, with the two.
 fn broken_rule(
     alloc: Global,
-    model: Model,
+    model: MemoryModel,
     harts: &Harts,
     index: &Index,
     rows: &[Row],
 ) -> Result<Option<(Rule, Operation, Operation)>, AllocError>
     requires gives { GivesEach harts.now index.now }
-    requires distinct { IsDistinct index.now }
+    requires distinct { AreDistinctOperations index.now }
     requires ranked { RanksEach model harts.now index.now rows.now }
     ensures { IfOk result (λ broken. broken ≡ first_broken_rule model harts.now index.now all_rules) }
 {
@@ -118,7 +118,7 @@ fn first_broken_with(harts: &Harts, index: &Index, w: &Operation) -> Option<Oper
     ensures { result
         ≡ find (λ r. scans.is_broken_pair harts.now index.now r w.now) index.now }
 {
-    if !is_conditional(w.kind) {
+    if !is_sc(w.kind) {
         return None;
     }
     let mut rest = index.reserves(w.hart);

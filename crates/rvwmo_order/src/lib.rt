@@ -32,6 +32,6 @@ pub use checking::{check, check_model};
 pub use completing::completed;
 pub use error::CheckError;
 pub use index::Index;
-pub use memory_model::Model;
+pub use memory_model::MemoryModel;
 pub use orders::{MAX_OPERATIONS, has_too_many};
 pub use verdict::{Code, Rule, Verdict};

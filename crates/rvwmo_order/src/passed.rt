@@ -3,10 +3,10 @@
 ghost use Rattle.std.specs.Prelude.{◌≡◌};
 ghost use Rattle.rvwmo_order.specs.Passed as spec;
 
-use crate::accesses::{has_acquire, has_rcsc, is_reserve, reads, writes};
+use crate::accesses::{has_acquire, has_rcsc, is_lr, reads, writes};
 use crate::items::Item;
 use crate::rules::{fences, is_lr_or_sc};
-use memory_model::{Kind, Model, Operation};
+use memory_model::{Kind, MemoryModel, Operation};
 
 /// The greatest weights of the operations passed, each of those that it names.
 #[derive(Clone, Copy)]
@@ -76,7 +76,7 @@ impl Passed {
     }
 
     /// Goes past an instruction whose operation, where it has one, has this weight.
-    pub(crate) fn pass(&mut self, model: Model, item: &Item, own: usize)
+    pub(crate) fn pass(&mut self, model: MemoryModel, item: &Item, own: usize)
         ensures { self.new ≡ spec.passed_after model own item.now self.old }
     {
         self.fence(item);
@@ -112,7 +112,7 @@ impl Passed {
         before_reads.max(before_writes)
     }
 
-    fn note(&mut self, model: Model, a: &Operation, own: usize)
+    fn note(&mut self, model: MemoryModel, a: &Operation, own: usize)
         ensures { self.new ≡ spec.noted model a.now own self.old }
     {
         self.all = self.all.max(own);
@@ -128,7 +128,7 @@ impl Passed {
         if has_rcsc(model, a) {
             self.annotated = self.annotated.max(own);
         }
-        if is_reserve(a.kind) {
+        if is_lr(a.kind) {
             self.reserved = self.reserved.max(own);
         }
     }

@@ -11,22 +11,22 @@ ghost use Rattle.rvwmo_order.specs.Codes.{rule_of};
 ghost use Rattle.rvwmo_order.specs.Marks.{Tells};
 
 use crate::accesses::{
-    end_of, has_acquire, has_rcsc, has_release, is_amo, is_conditional, is_reserve, overlap,
-    precedes, reads, stores_to, touches, writes,
+    end_of, has_acquire, has_rcsc, has_release, is_amo, is_lr, is_sc, overlap, precedes, reads,
+    stores_to, touches, writes,
 };
 use crate::index::Index;
 use crate::items::Items;
 use crate::sources::{is_same_source, returns_from};
 use crate::sweeping::Sweep;
 use crate::verdict::Rule;
-use memory_model::{Kind, Model, Operation};
+use memory_model::{Kind, MemoryModel, Operation};
 use rv32_decode::{FenceSet, Instr};
 
 /// Whether the sweep's rule holds of two operations, of which the first precedes the second in program
 /// order; a rule on dependencies where the sweep back from the second marked the first.
 pub(crate) fn asks(
     sweep: &Sweep,
-    model: Model,
+    model: MemoryModel,
     items: &Items,
     index: &Index,
     a: &Operation,
@@ -39,7 +39,7 @@ pub(crate) fn asks(
         Rule::OverlappingStore => writes(b.kind) && overlap(a, b),
         Rule::SameByteLoads => are_same_byte_loads(items, index, a, b),
         Rule::AtomicSource => {
-            (is_amo(a.kind) || is_conditional(a.kind)) && reads(b.kind) && returns_from(index, b, a)
+            (is_amo(a.kind) || is_sc(a.kind)) && reads(b.kind) && returns_from(index, b, a)
         }
         Rule::Fence => is_fenced(items, a, b),
         Rule::Acquire => has_acquire(model, a),
@@ -147,10 +147,7 @@ fn is_fencing(instr: &Instr, a: Kind, b: Kind) -> bool
 pub(crate) fn are_paired(items: &Items, a: &Operation, b: &Operation) -> bool
     ensures { result ≡ spec.paired items.now a.now b.now }
 {
-    precedes(a, b)
-        && is_reserve(a.kind)
-        && is_conditional(b.kind)
-        && !has_lr_or_sc_between(items, a, b)
+    precedes(a, b) && is_lr(a.kind) && is_sc(b.kind) && !has_lr_or_sc_between(items, a, b)
 }
 
 fn has_lr_or_sc_between(items: &Items, a: &Operation, b: &Operation) -> bool

@@ -12,7 +12,7 @@ ghost use Rattle.memory_model.specs.Traces.{are_runs as spec_are_runs};
 use elf_loader::Image;
 use hart::{Hart, Retired, Status};
 use rv32_decode::{Instr, LoadOp, decode};
-use rv32_exec::{Plan, plan, stop};
+use rv32_exec::{Action, plan, stop};
 use trace_recorder::Trace;
 
 /// Whether each hart's list and status are those of a run.
@@ -87,15 +87,15 @@ fn stop_of(size: u32, hart: &Hart, instr: &Instr) -> Option<u8>
     ensures { result ≡ meaning.stop_of instr.now hart.now.pc hart.now.regs size }
 {
     match plan(instr, hart.pc, &hart.regs, size) {
-        Plan::Stop(code) => Some(code),
-        Plan::Local
-        | Plan::Load { .. }
-        | Plan::Store { .. }
-        | Plan::Lr { .. }
-        | Plan::Sc { .. }
-        | Plan::Amo { .. }
-        | Plan::Fence
-        | Plan::Call => None,
+        Action::Stop(code) => Some(code),
+        Action::Private
+        | Action::Load { .. }
+        | Action::Store { .. }
+        | Action::Lr { .. }
+        | Action::Sc { .. }
+        | Action::Amo { .. }
+        | Action::Fence
+        | Action::Call => None,
     }
 }
 

@@ -3,7 +3,7 @@
 ghost use Rattle.std.specs.Prelude.{◌≡◌, ◌<◌, ◌-◌, ◌+◌, ℕ, true, IfOk, Some, drop, find, slice_get, slice_index_or};
 ghost use Rattle.memory_model.specs.Operations as operations;
 ghost use Rattle.memory_model.specs.Rules as rules;
-ghost use Rattle.rvwmo_order.specs.Bounds.{GivesEach, IsDistinct, RanksEach};
+ghost use Rattle.rvwmo_order.specs.Bounds.{GivesEach, AreDistinctOperations, RanksEach};
 ghost use Rattle.rvwmo_order.specs.Codes.{rule_of};
 ghost use Rattle.rvwmo_order.specs.Marks.{Tells, TellsEach};
 ghost use Rattle.rvwmo_order.specs.Scans as scans;
@@ -16,7 +16,7 @@ use crate::rows::{Row, bound_at};
 use crate::rules::asks;
 use crate::sweeping::Sweep;
 use crate::verdict::Rule;
-use memory_model::{Model, Operation};
+use memory_model::{MemoryModel, Operation};
 use std::alloc::{AllocError, Global};
 
 /// Two operations of which the one behind must come first by this rule, where `rows` bound the ranks of
@@ -24,13 +24,13 @@ use std::alloc::{AllocError, Global};
 pub(crate) fn first_broken_by(
     alloc: Global,
     rule: Rule,
-    model: Model,
+    model: MemoryModel,
     harts: &Harts,
     index: &Index,
     rows: &[Row],
 ) -> Result<Option<(Operation, Operation)>, AllocError>
     requires gives { GivesEach harts.now index.now }
-    requires distinct { IsDistinct index.now }
+    requires distinct { AreDistinctOperations index.now }
     requires ranked { RanksEach model harts.now index.now rows.now }
     ensures { IfOk result (λ found. found
         ≡ scans.first_out_of_order (rules.asked_by model harts.now index.now (rule_of rule)) index.now) }
@@ -53,14 +53,14 @@ pub(crate) fn first_broken_by(
 fn first_behind(
     alloc: Global,
     rule: Rule,
-    model: Model,
+    model: MemoryModel,
     harts: &Harts,
     index: &Index,
     place: usize,
     b: &Operation,
 ) -> Result<Option<Operation>, AllocError>
     requires gives { GivesEach harts.now index.now }
-    requires distinct { IsDistinct index.now }
+    requires distinct { AreDistinctOperations index.now }
     requires there { slice_get index.now place ≡ Some b.now }
     ensures { IfOk result (λ found. found
         ≡ find (λ a. rules.asked_by model harts.now index.now (rule_of rule) a b.now) (drop (place + 1) index.now)) }
@@ -101,7 +101,7 @@ fn behind(operations: &[Operation], count: usize) -> &[Operation]
 // dependencies.
 fn first_asked(
     sweep: &Sweep,
-    model: Model,
+    model: MemoryModel,
     harts: &Harts,
     index: &Index,
     among: &[Operation],
@@ -122,7 +122,7 @@ fn first_asked(
 // Whether the rule says that `a` must come before `b`.
 fn is_asked(
     sweep: &Sweep,
-    model: Model,
+    model: MemoryModel,
     harts: &Harts,
     index: &Index,
     a: &Operation,

@@ -9,31 +9,31 @@ ghost use Rattle.memory_model.specs.Order as orders;
 ghost use Rattle.rvwmo_order.specs.Carried.{carried_after, greatest};
 ghost use Rattle.rvwmo_order.specs.Passed.{passed_after};
 ghost use Rattle.rvwmo_order.specs.Bounds as spec;
-ghost use Rattle.rvwmo_order.specs.Bounds.{HasCome, IsRow, IsSource};
+ghost use Rattle.rvwmo_order.specs.Bounds.{HasCome, IsBoundsRow, IsSource};
 ghost use Rattle.rvwmo_order.specs.Touched.{but, touch_after, touch_in};
 
-use crate::accesses::{end_of, has_rcsc, has_release, is_amo, is_conditional, reads, writes};
+use crate::accesses::{end_of, has_rcsc, has_release, is_amo, is_sc, reads, writes};
 use crate::carried::Carried;
 use crate::index::Index;
 use crate::items::Item;
 use crate::passed::Passed;
 use crate::rows::{Row, row_at};
 use crate::touched::{Touch, pass_bytes, touch_of};
-use memory_model::{Model, Operation};
+use memory_model::{MemoryModel, Operation};
 use rv32_decode::Instr;
 use std::alloc::{AllocError, Global};
 use std::collections::BTreeMap;
 
 #[derive(Drop)]
 pub(crate) struct Walk {
-    model: Model,
+    model: MemoryModel,
     carried: Carried,
     passed: Passed,
     touches: BTreeMap<u64, Touch>,
 }
 
 impl Walk {
-    pub(crate) fn new(alloc: Global, model: Model) -> Walk
+    pub(crate) fn new(alloc: Global, model: MemoryModel) -> Walk
         ensures model { result.model ≡ model }
         ensures come { (own : ItemValue → ℕ) (order : List OperationValue) (items : List ItemValue) → HasCome model own order items 0 result }
     {
@@ -71,7 +71,7 @@ impl Walk {
         instr: Option<Instr>,
     ) -> Row
         requires { position ≡ orders.position_in index.now b.now }
-        ensures { IsRow index.now weights.now rows.now b.now (uses_in instr) self.now result }
+        ensures { IsBoundsRow index.now weights.now rows.now b.now (uses_in instr) self.now result }
     {
         let (address, data_stored) = self.in_sources(instr);
         let is_store = writes(b.kind);
@@ -84,7 +84,7 @@ impl Walk {
             acquire: self.passed.acquires(),
             release: only_if(has_release(self.model, b), self.passed.all()),
             annotations: only_if(has_rcsc(self.model, b), self.passed.annotated()),
-            pair: only_if(is_conditional(b.kind), self.passed.reserved()),
+            pair: only_if(is_sc(b.kind), self.passed.reserved()),
             address,
             data_stored,
             control: only_if(is_store, self.carried.steered()),
@@ -132,7 +132,7 @@ impl Walk {
     ) -> Sourced
         requires { position ≡ orders.position_in index.now b.now }
         ensures loads { operations.reads b.now.kind ≡ true → (x : ℕ) → operations.touches x b.now ≡ true → but (orders.source index.now b.now x) (touch_in self.now.touches x) ≤ result.loads }
-        ensures atomics { operations.reads b.now.kind ≡ true → (x : ℕ) (s : OperationValue) → IsSource index.now b.now x s → (operations.is_amo s.kind || operations.is_conditional s.kind) ≡ true → spec.weight_of weights.now index.now s ≤ result.atomics }
+        ensures atomics { operations.reads b.now.kind ≡ true → (x : ℕ) (s : OperationValue) → IsSource index.now b.now x s → (operations.is_amo s.kind || operations.is_sc s.kind) ≡ true → spec.weight_of weights.now index.now s ≤ result.atomics }
         ensures passed_on { operations.reads b.now.kind ≡ true → (x : ℕ) (s : OperationValue) → IsSource index.now b.now x s → max (slice_index_or rows.now (orders.position_in index.now s) spec.unbounded).address (slice_index_or rows.now (orders.position_in index.now s) spec.unbounded).data_stored ≤ result.passed_on }
     {
         let mut most = Sourced {
@@ -180,12 +180,12 @@ fn atomic_source(
     b: &Operation,
     source: Option<Operation>,
 ) -> usize
-    ensures { (s : OperationValue) → source ≡ Some s → s.hart ≡ b.now.hart → (operations.is_amo s.kind || operations.is_conditional s.kind) ≡ true → spec.weight_of weights.now index.now s ≤ result }
+    ensures { (s : OperationValue) → source ≡ Some s → s.hart ≡ b.now.hart → (operations.is_amo s.kind || operations.is_sc s.kind) ≡ true → spec.weight_of weights.now index.now s ≤ result }
 {
     let Some(s) = source else {
         return 0;
     };
-    if s.hart == b.hart && (is_amo(s.kind) || is_conditional(s.kind)) {
+    if s.hart == b.hart && (is_amo(s.kind) || is_sc(s.kind)) {
         weight_of(index, weights, &s)
     } else {
         0

@@ -13,7 +13,7 @@ use Rattle.explore_command.specs.declared.judging.Judgement.{Judgement}
 use Rattle.explore_command.specs.declared.judging.Judgement.TheVariants.{Allowed}
 use Rattle.explorer.specs.Ends.{outcomes_of}
 use Rattle.machine_model.specs.declared.config.Config.{Config}
-use Rattle.sample_command.specs.Sampling.{AreRuns, IsPartlySampled, IsSampled}
+use Rattle.sample_command.specs.Sampling.{AreRuns, IsPartlySampled, IsSampleTold}
 use Rattle.sampler.specs.declared.sampled.Sampled.{Sampled}
 use Rattle.text_fields.specs.Writing.{Begins}
 
@@ -29,7 +29,7 @@ module _ (held first : Held) (wanted : Explore) (runs : ℕ) (config : Config) (
   part begun = record { image = image; found = found; image_file = image_file; runs_made = are_runs; begun = begun }
 
   pub all : (left : Held) (judgement : Judgement) → Appends old new (sampled_text found) → IfSome wanted.scripts (λ folder. AreKeptFrom left wanted.machine folder.now 1 found.ends.items)
-      → IsJudged held wanted.allow (outcomes_of found.ends.items) judgement → (judgement ≡ Allowed → found.runs ≡ runs) → IsSampled held left wanted runs judgement old new
+      → IsJudged held wanted.allow (outcomes_of found.ends.items) judgement → (judgement ≡ Allowed → found.runs ≡ runs) → IsSampleTold held left wanted runs judgement old new
   all left judgement printed kept by whole = record {
     image = image;
     found = found;

@@ -23,7 +23,7 @@ pub record AreRuns (image : Initial) (config : Config) (runs : ℕ) (found : Sam
   pub within : found.runs ≤ runs
 
 -- what runs of the image in the file came to was printed, its scripts are in the folder, if one was named, and it was judged by the file that says what is allowed; it is allowed only where all runs were made
-pub record IsSampled (held left : Held) (wanted : Explore) (runs : ℕ) (judgement : Judgement) (old new : Option (List ℕ)) : Type 0 where
+pub record IsSampleTold (held left : Held) (wanted : Explore) (runs : ℕ) (judgement : Judgement) (old new : Option (List ℕ)) : Type 0 where
   pub image : Initial
   pub found : Sampled
   pub image_file : HoldsImage held wanted.raw wanted.image.now wanted.machine.memory image

@@ -9,7 +9,7 @@ ghost use Rattle.explore_command.specs.Exploring.{IsExploreFault, IsFolderFault,
 ghost use Rattle.explore_command.specs.Keeping.{AreKeptFrom, IsScriptFile, SparesOthers};
 ghost use Rattle.explorer.specs.Ends.{outcomes_of};
 ghost use Rattle.machine_model.specs.Config.{is_within_limits};
-ghost use Rattle.sample_command.specs.Sampling.{IsPartlySampled, IsSampled};
+ghost use Rattle.sample_command.specs.Sampling.{IsPartlySampled, IsSampleTold};
 ghost use Rattle.text_fields.specs.Writing.{Begins};
 
 use command_files::{Fault, Files, image_in, named_config};
@@ -34,7 +34,7 @@ pub fn sample_files<'a, F: Files, O: Write, E: Write>(
     out: &mut O,
     err: &mut E,
 ) -> Result<Judgement, Fault<'a>>
-    ensures sampled { IfOk result (λ judgement. IsSampled (F.held files.old) (F.held files.new) wanted.entry runs judgement (O.contents out.old) (O.contents out.new)) }
+    ensures sampled { IfOk result (λ judgement. IsSampleTold (F.held files.old) (F.held files.new) wanted.entry runs judgement (O.contents out.old) (O.contents out.new)) }
     ensures outside { IsOutside wanted.entry.machine → result ≡ Err Fault.Configuration }
     ensures told { IfErr result (IsExploreFault (F.held files.old) wanted.entry) }
     ensures unfinished { IfErr result (λ fault. LeavesPart fault (O.contents out.old) (O.contents out.new)

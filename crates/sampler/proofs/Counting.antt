@@ -13,7 +13,7 @@ use Rattle.explorer.specs.Ranks.{outcome_cmp}
 use Rattle.flat_model.specs.Shown.{Result, results}
 use Rattle.machine_model.specs.declared.config.Config.{Config}
 use Rattle.machine_model.specs.declared.event.Event.{Event}
-use Rattle.sampler.specs.Sampled.{AreCounted, IsRealEnd, LeadsTo, ends_led, have_ended, is_outcome_of, numbered, times_of}
+use Rattle.sampler.specs.Sampled.{AreCounted, IsRealEnd, LeadsToEnd, ends_led, have_ended, is_outcome_of, numbered, times_of}
 use Rattle.schedules.specs.Schedules.{Replays, led}
 
 -- equal as code finds it
@@ -100,7 +100,7 @@ end_counted image config counted after unended runs n end told are reached alike
         let test = is_eq (outcome_cmp (outcome_of told) (outcome_of found)) in
         ap (λ o. unwrap_or o 0) (updates found) ∙ (times_behind test (n + 1) _ ∙ ap (λ m. cond test (m + 1) (times_of found counted)) times)
 
-    go : (script : Script) → LeadsTo image config (outcome_of told) script → AreCounted image config after unended (runs + 1)
+    go : (script : Script) → LeadsToEnd image config (outcome_of told) script → AreCounted image config after unended (runs + 1)
     go (Events events) leads = one_ended image config events.items leads.replays counted unended runs are told after (ap have_ended leads.same ∙ reached.0) leads.same step
     go NoMemory leads = absurd leads
     go Limit leads = absurd leads

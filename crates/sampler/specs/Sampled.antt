@@ -25,13 +25,13 @@ abbrev pub have_ended : List Result → Bool
 have_ended [] = true
 have_ended (r ∷ rs) = not (is_running r.status) && have_ended rs
 
-abbrev pub LeadsTo : Initial → Config → List Result → Script → Type 0
-LeadsTo image config outcome (Events events) = BringsAbout image config outcome events.items
-LeadsTo image config outcome _ = ⊥
+abbrev pub LeadsToEnd : Initial → Config → List Result → Script → Type 0
+LeadsToEnd image config outcome (Events events) = BringsAbout image config outcome events.items
+LeadsToEnd image config outcome _ = ⊥
 
 -- it is an end, and its script leads there
 abbrev pub IsRealEnd : Initial → Config → Found → Type 0
-IsRealEnd image config found = (have_ended (outcome_of found) ≡ true) × LeadsTo image config (outcome_of found) found.script
+IsRealEnd image config found = (have_ended (outcome_of found) ≡ true) × LeadsToEnd image config (outcome_of found) found.script
 
 -- ---- how often
 

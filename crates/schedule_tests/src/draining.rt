@@ -4,7 +4,7 @@ use elf_loader::{Image, raw, size_of_kib};
 use flat_machine::{DrainingMachine, Ending, Key, Tables};
 use flat_model::FlatEvent;
 use hart::Status;
-use machine_model::{Config, Model};
+use machine_model::{Config, MemoryModel};
 use state_search::{Extent, Findings, Unwatched, search};
 use std::alloc::Global;
 use std::test::Fail;
@@ -80,7 +80,7 @@ fn image_of(alloc: Global, words: &[u32]) -> Result<Image, Fail> {
 }
 
 /// What is found where X and Y are shown.
-fn explored(alloc: Global, words: &[u32], harts: u32, model: Model) -> Result<Found, Fail> {
+fn explored(alloc: Global, words: &[u32], harts: u32, model: MemoryModel) -> Result<Found, Fail> {
     let image = image_of(alloc, words)?;
     let config = Config {
         harts,
@@ -108,7 +108,7 @@ fn ends_with(found: &Found, code: u8, x: u32, y: u32) -> bool {
 #[test]
 fn either_hart_may_store_last_to_each_word(rt: HostRuntime) -> Result<(), Fail> {
     // The stores of a group leave in any order.
-    let found = explored(rt.alloc(), &TWO_WRITES, 2, Model::Rvwmo)?;
+    let found = explored(rt.alloc(), &TWO_WRITES, 2, MemoryModel::Rvwmo)?;
     assert_eq!(rt; found.extent, Extent::Complete);
     assert_eq!(rt; found.outcomes.outcomes.len(), 4);
     assert!(rt; ends_with(&found, 1, 1, 1) && ends_with(&found, 1, 1, 2));
@@ -120,10 +120,10 @@ fn either_hart_may_store_last_to_each_word(rt: HostRuntime) -> Result<(), Fail> 
 #[test]
 fn stores_in_order_are_not_both_overtaken(rt: HostRuntime) -> Result<(), Fail> {
     // Both words 1: each hart's second store came before the other's first, and so before itself.
-    let fenced = explored(rt.alloc(), &TWO_WRITES_FENCED, 2, Model::Rvwmo)?;
+    let fenced = explored(rt.alloc(), &TWO_WRITES_FENCED, 2, MemoryModel::Rvwmo)?;
     assert_eq!(rt; fenced.outcomes.outcomes.len(), 3);
     assert!(rt; !ends_with(&fenced, 1, 1, 1));
-    let total = explored(rt.alloc(), &TWO_WRITES, 2, Model::Ztso)?;
+    let total = explored(rt.alloc(), &TWO_WRITES, 2, MemoryModel::Ztso)?;
     assert_eq!(rt; total.outcomes.outcomes.len(), 3);
     assert!(rt; !ends_with(&total, 1, 1, 1));
     Ok(())
@@ -131,7 +131,7 @@ fn stores_in_order_are_not_both_overtaken(rt: HostRuntime) -> Result<(), Fail> {
 
 #[test]
 fn a_store_behind_a_load_is_later_than_what_the_load_saw(rt: HostRuntime) -> Result<(), Fail> {
-    let found = explored(rt.alloc(), &S, 2, Model::Rvwmo)?;
+    let found = explored(rt.alloc(), &S, 2, MemoryModel::Rvwmo)?;
     assert_eq!(rt; found.extent, Extent::Complete);
     assert_eq!(rt; found.outcomes.outcomes.len(), 3);
     assert!(rt; ends_with(&found, 0, 1, 1) && ends_with(&found, 0, 2, 1));
@@ -141,7 +141,7 @@ fn a_store_behind_a_load_is_later_than_what_the_load_saw(rt: HostRuntime) -> Res
 
 #[test]
 fn the_last_store_to_a_word_stays(rt: HostRuntime) -> Result<(), Fail> {
-    let found = explored(rt.alloc(), &ONE_WORD, 1, Model::Rvwmo)?;
+    let found = explored(rt.alloc(), &ONE_WORD, 1, MemoryModel::Rvwmo)?;
     assert_eq!(rt; found.outcomes.outcomes.len(), 1);
     assert!(rt; ends_with(&found, 0, 2, 0));
     Ok(())

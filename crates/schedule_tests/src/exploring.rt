@@ -4,7 +4,7 @@ use elf_loader::{Image, raw, size_of_kib};
 use flat_machine::{FlatMachine, Key, Results, Tables};
 use flat_model::FlatEvent;
 use hart::Status;
-use machine_model::{Config, Model};
+use machine_model::{Config, MemoryModel};
 use state_search::{Extent, Findings, Unwatched, search};
 use std::alloc::Global;
 use std::test::Fail;
@@ -117,7 +117,7 @@ fn explored(alloc: Global, words: &[u32], harts: u32, ways: u32) -> Result<Found
         sets: 1,
         ways,
         line: 16,
-        model: Model::Rvwmo,
+        model: MemoryModel::Rvwmo,
     };
     if !machine_parts::is_within_limits(&config) {
         return Err("limits".into());

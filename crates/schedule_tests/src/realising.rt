@@ -3,7 +3,7 @@
 use elf_loader::{Image, raw, size_of_kib};
 use flat_model::{FlatEvent, HartResult};
 use hart::Status;
-use machine_model::{Config, Event, Model};
+use machine_model::{Config, Event, MemoryModel};
 use schedules::{RealiseError, Schedule, realise, sample, shorten};
 use std::alloc::Global;
 use std::test::Fail;
@@ -208,7 +208,7 @@ fn config_of(harts: u32, ways: u32) -> Config {
         sets: 1,
         ways,
         line: 16,
-        model: Model::Rvwmo,
+        model: MemoryModel::Rvwmo,
     }
 }
 

@@ -10,7 +10,7 @@ use elf_loader::Image;
 use hart::{Hart, run_local};
 use machine_model::{Event, Outcome};
 use rv32_decode::decode;
-use rv32_exec::{Plan, plan};
+use rv32_exec::{Action, plan};
 use std::alloc::{AllocError, Global};
 
 /// The most quiet steps that a hart takes before the others have their turn, so that a loop ends.
@@ -20,7 +20,7 @@ const MOST_QUIET_STEPS: u32 = 1000;
 const MOST_AT_ONCE: u32 = 256;
 
 /// What the hart's next instruction will do; none where no instruction lies there.
-pub(crate) fn next_plan(image: &Image, hart: &Hart) -> Option<Plan> {
+pub(crate) fn next_plan(image: &Image, hart: &Hart) -> Option<Action> {
     if !image.has_word(hart.pc) {
         return None;
     }
@@ -34,14 +34,14 @@ fn is_quiet(image: &Image, views: &Views<'_>, hart: usize) -> bool
     requires { hart < length views.now.views.nodes }
 {
     match next_plan(image, views.hart(hart)) {
-        None | Some(Plan::Stop(_) | Plan::Local | Plan::Call | Plan::Fence) => true,
-        Some(Plan::Store { addr, .. }) => {
+        None | Some(Action::Stop(_) | Action::Private | Action::Call | Action::Fence) => true,
+        Some(Action::Store { addr, .. }) => {
             let word = addr & !3;
             let mut open = views.buffer(hart).current().iter();
             !open.any(|entry| entry.word == word)
         }
-        Some(Plan::Sc { addr, .. }) => views.reserved(hart) != Some(addr),
-        Some(Plan::Load { .. } | Plan::Lr { .. } | Plan::Amo { .. }) => false,
+        Some(Action::Sc { addr, .. }) => views.reserved(hart) != Some(addr),
+        Some(Action::Load { .. } | Action::Lr { .. } | Action::Amo { .. }) => false,
     }
 }
 

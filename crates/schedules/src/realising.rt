@@ -13,7 +13,7 @@ use crate::schedule::Schedule;
 use elf_loader::Image;
 use flat_model::FlatEvent;
 use machine_model::{Config, Event, Outcome};
-use rv32_exec::Plan;
+use rv32_exec::Action;
 use std::alloc::Global;
 
 /// An event may find its cache's set full, and then miss.
@@ -21,7 +21,7 @@ const MOST_TRIES: u32 = 3;
 
 /// The events that bring a machine from reset through these flat events. Before each of them, and behind
 /// the last one, all harts take their quiet steps, up to 1000 each, in rising order of harts: private
-/// instructions, calls, stops, fences that don't stall, store conditionals that fail, and stores to words
+/// instructions, calls, stops, fences that don't stall, store scs that fail, and stores to words
 /// that their open group hasn't; a list of flat events leaves those out. In between no message waits, so
 /// each flat event takes at most 6 events and 2 a hart.
 pub fn realise(
@@ -83,7 +83,7 @@ impl Player {
         if place >= views.harts() {
             return Ok(false);
         }
-        let Some(Plan::Sc { .. }) = next_plan(self.image(), views.hart(place)) else {
+        let Some(Action::Sc { .. }) = next_plan(self.image(), views.hart(place)) else {
             return Ok(false);
         };
         if let Some(word) = views.reserved(place) {

@@ -8,7 +8,7 @@ use crate::player::{MOST_HARTS, Player};
 use crate::quiet::next_plan;
 use crate::spare::lowest_held;
 use machine_model::Event;
-use rv32_exec::Plan;
+use rv32_exec::Action;
 use tl_types::Channel;
 
 impl Player {
@@ -76,7 +76,9 @@ impl Player {
         match event {
             Event::Drain { word, .. } => Some(word),
             Event::Step { .. } => match next_plan(self.image(), views.hart(place))? {
-                Plan::Load { addr, .. } | Plan::Lr { addr } | Plan::Amo { addr, .. } => Some(addr),
+                Action::Load { addr, .. } | Action::Lr { addr } | Action::Amo { addr, .. } => Some(
+                    addr,
+                ),
                 _ => None,
             },
             _ => None,

@@ -22,10 +22,10 @@ use Rattle.explorer.specs.declared.exploration.Stuck.{Stuck}
 use Rattle.explorer.specs.declared.found.Found.{Found}
 use Rattle.flat_exploration.specs.Drained.{Ending}
 use Rattle.machine_model.specs.declared.config.Config.{Config}
-use Rattle.show_command.specs.Judging.{IsJudged, judgement_on}
+use Rattle.show_command.specs.Judging.{AreWordsJudged, judgement_on}
 use Rattle.show_command.specs.Keeping.{AreWordsKept, bare_of}
 use Rattle.show_command.specs.Showing.{IsFoundIn, IsOfFile, IsShowFault}
-use Rattle.show_command.specs.Targets.{IsPlaced, IsUnplaced, IsUnshown, name_of, place_of}
+use Rattle.show_command.specs.Targets.{AreAddressesOf, IsUnplaced, IsUnshown, name_of, place_of}
 use Rattle.word_explorer.specs.declared.exploration.WordExploration.{WordExploration}
 use Rattle.word_explorer.specs.declared.found.WordFound.{WordFound}
 
@@ -36,7 +36,7 @@ module _ (held first : Held) (show : Show) (config : Config) (image : Initial) (
   pub image_file : HoldsNamedImage held show.explore.raw show.explore.image.now show.explore.machine.memory image symbols
   image_file = subst (λ (h : Held). HoldsNamedImage h show.explore.raw show.explore.image.now show.explore.machine.memory image symbols) same file
 
-  pub of_file : (addresses : List ℕ) (found : WordExploration) → IsPlaced symbols show.words.items addresses → IsFoundIn image config addresses show.explore.states found → IsOfFile held show found
+  pub of_file : (addresses : List ℕ) (found : WordExploration) → AreAddressesOf symbols show.words.items addresses → IsFoundIn image config addresses show.explore.states found → IsOfFile held show found
   of_file addresses found placed is = record {
     image = image;
     symbols = symbols;
@@ -61,13 +61,13 @@ unshown_left image symbols words fault old new part (inl (word, given, unplaced)
 unshown_left image symbols words fault old new part (inr memory) same = subst (λ f. LeavesPart f old new part) (sym memory) (inl same)
 
 -- what one file's bytes say of the outcomes, all files say
-judged : (held : Held) (allow : Option Name) (text : Option (List ℕ)) (names : List WordName) (endings : List Ending) (judgement : Judgement) → IsAllowFile held allow text → judgement ≡ judgement_on text names endings → IsJudged held allow names endings judgement
+judged : (held : Held) (allow : Option Name) (text : Option (List ℕ)) (names : List WordName) (endings : List Ending) (judgement : Judgement) → IsAllowFile held allow text → judgement ≡ judgement_on text names endings → AreWordsJudged held allow names endings judgement
 judged held None None names endings judgement read is = is
 judged held None (Some text) names endings judgement read is = absurd read
 judged held (Some file) None names endings judgement read is = absurd read
 judged held (Some file) (Some text) names endings judgement read is = (text, read, is)
 
-pub judged_of : (held : Held) (allow : Option Name) (text : Option (List ℕ)) (names told : List WordName) (endings : List Ending) (judgement : Judgement) → names ≡ told → IsAllowFile held allow text → judgement ≡ judgement_on text names endings → IsJudged held allow told endings judgement
+pub judged_of : (held : Held) (allow : Option Name) (text : Option (List ℕ)) (names told : List WordName) (endings : List Ending) (judgement : Judgement) → names ≡ told → IsAllowFile held allow text → judgement ≡ judgement_on text names endings → AreWordsJudged held allow told endings judgement
 judged_of held allow text names told endings judgement same read is = judged held allow text told endings judgement read (is ∙ ap (λ (n : List WordName). judgement_on text n endings) same)
 
 -- ---- scripts

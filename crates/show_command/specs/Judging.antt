@@ -22,6 +22,6 @@ judgement_on None names endings = Allowed
 judgement_on (Some text) names endings = judgement_by text names endings
 
 -- the judgement on these outcomes, by the file that was named, if one was
-abbrev pub IsJudged : Held → Option Name → List WordName → List Ending → Judgement → Type 0
-IsJudged held None names endings judgement = judgement ≡ Allowed
-IsJudged held (Some file) names endings judgement = (text : List ℕ) × HoldsBytes held file.now text × (judgement ≡ judgement_by text names endings)
+abbrev pub AreWordsJudged : Held → Option Name → List WordName → List Ending → Judgement → Type 0
+AreWordsJudged held None names endings judgement = judgement ≡ Allowed
+AreWordsJudged held (Some file) names endings judgement = (text : List ℕ) × HoldsBytes held file.now text × (judgement ≡ judgement_by text names endings)

@@ -19,9 +19,9 @@ use Rattle.explore_command.specs.declared.judging.Judgement.{Judgement}
 use Rattle.explore_command.specs.declared.judging.Judgement.TheVariants.{Allowed}
 use Rattle.flat_model.specs.Flat.{Flat}
 use Rattle.machine_model.specs.declared.config.Config.{Config}
-use Rattle.show_command.specs.Judging.{IsJudged}
+use Rattle.show_command.specs.Judging.{AreWordsJudged}
 use Rattle.show_command.specs.Keeping.{AreWordsKept}
-use Rattle.show_command.specs.Targets.{IsPlaced, IsUnplaced, names_of}
+use Rattle.show_command.specs.Targets.{AreAddressesOf, IsUnplaced, names_of}
 use Rattle.state_search.specs.declared.findings.Extent.TheVariants.{Complete, LimitMet}
 use Rattle.state_search.specs.declared.findings.Extent.TheVariants as extent
 use Rattle.text_fields.specs.Writing.{Begins}
@@ -51,16 +51,16 @@ pub record IsOfFile (held : Held) (show : Show) (exploration : WordExploration) 
   pub symbols : List Named
   pub addresses : List ℕ
   pub image_file : HoldsNamedImage held show.explore.raw show.explore.image.now show.explore.machine.memory image symbols
-  pub placed : IsPlaced symbols show.words.items addresses
+  pub placed : AreAddressesOf symbols show.words.items addresses
   pub found : IsFoundIn image (config_named show.explore.machine) addresses show.explore.states exploration
 
 -- what was found was printed, its scripts are in the folder, if one was named, and it was judged by the file that says what is allowed; it is allowed only where memory sufficed for all states, or for as many as were asked for
-pub record IsShown (held left : Held) (show : Show) (judgement : Judgement) (old new : Option (List ℕ)) : Type 0 where
+pub record AreWordsShown (held left : Held) (show : Show) (judgement : Judgement) (old new : Option (List ℕ)) : Type 0 where
   pub exploration : WordExploration
   pub of_file : IsOfFile held show exploration
   pub printed : Appends old new (words_text (names_of show.words.items) exploration)
   pub kept : IfSome show.explore.scripts (λ folder. AreWordsKept left show.explore.machine folder.now exploration)
-  pub judged : IsJudged held show.explore.allow (names_of show.words.items) (endings_of exploration.outcomes.items) judgement
+  pub judged : AreWordsJudged held show.explore.allow (names_of show.words.items) (endings_of exploration.outcomes.items) judgement
   pub whole : judgement ≡ Allowed → exploration.extent ≢ extent.OutOfMemory
 
 -- such a text was printed, all of it or a beginning

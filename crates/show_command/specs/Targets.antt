@@ -29,8 +29,8 @@ place_of symbols (Symbol name) = address_of symbols name.now
 place_of symbols (Address place) = Some place
 
 -- the words lie at these addresses
-abbrev pub IsPlaced : List Named → List Name → List ℕ → Type 0
-IsPlaced symbols words addresses = map (λ word. place_of symbols (name_of word)) words ≡ map Some addresses
+abbrev pub AreAddressesOf : List Named → List Name → List ℕ → Type 0
+AreAddressesOf symbols words addresses = map (λ word. place_of symbols (name_of word)) words ≡ map Some addresses
 
 -- the word lies nowhere, or no aligned word of memory lies there
 abbrev pub IsUnplaced : Initial → List Named → Name → Fault → Type 0

@@ -8,7 +8,7 @@ ghost use Rattle.exploration_text.specs.Words.{words_text};
 ghost use Rattle.explore_command.specs.Exploring.{LeavesPart};
 ghost use Rattle.explore_command.specs.Keeping.{IsScriptFile, SparesOthers};
 ghost use Rattle.show_command.specs.Judging.{judgement_on};
-ghost use Rattle.show_command.specs.Showing.{IsElsewhere, IsPartlyShown, IsShowFault, IsShown};
+ghost use Rattle.show_command.specs.Showing.{IsElsewhere, IsPartlyShown, IsShowFault, AreWordsShown};
 ghost use Rattle.text_fields.specs.Writing.{Begins};
 ghost use Rattle.word_explorer.specs.Ends.{endings_of};
 
@@ -38,7 +38,7 @@ pub fn show_files<'a, F: Files, O: Write, E: Write, P: Progress>(
     progress: &P,
 ) -> Result<Judgement, Fault<'a>>
     requires room { 0 < wanted.now.explore.states }
-    ensures shown { IfOk result (λ judgement. IsShown (F.held files.old) (F.held files.new) wanted.now judgement (O.contents out.old) (O.contents out.new)) }
+    ensures shown { IfOk result (λ judgement. AreWordsShown (F.held files.old) (F.held files.new) wanted.now judgement (O.contents out.old) (O.contents out.new)) }
     ensures elsewhere { IsElsewhere wanted.now.explore → (word : Name) × (result ≡ Err (Fault.CannotShow word Unshown.Elsewhere)) }
     ensures told { IfErr result (IsShowFault (F.held files.old) wanted.now) }
     ensures unfinished { IfErr result (λ fault. LeavesPart fault (O.contents out.old) (O.contents out.new)

@@ -1,7 +1,7 @@
 //! The words of memory that are to be shown: what they are called, and where they lie.
 
 ghost use Rattle.std.specs.Prelude.{◌≡◌, ◌++◌, IfErr, IfOk, OnOk, Some, map};
-ghost use Rattle.show_command.specs.Targets.{IsPlaced, IsUnplaced, IsUnshown, name_of, names_of, place_of};
+ghost use Rattle.show_command.specs.Targets.{AreAddressesOf, IsUnplaced, IsUnshown, name_of, names_of, place_of};
 ghost use Rattle.word_explorer.specs.Words.{CanShow, CanShowEach};
 
 use chart_command::address_in;
@@ -63,7 +63,7 @@ fn places_of<'a>(
     symbols: &Symbols,
     words: &[&'a str],
 ) -> Result<Vec<u32>, Fault<'a>>
-    ensures placed { IfOk result (λ addresses. IsPlaced symbols.now words.now addresses.items) }
+    ensures placed { IfOk result (λ addresses. AreAddressesOf symbols.now words.now addresses.items) }
     ensures inside { IfOk result (λ addresses. CanShowEach image.now addresses.items) }
     ensures told { IfErr result (IsUnshown image.now symbols.now words.now) }
 {
@@ -100,7 +100,7 @@ pub(crate) fn targets_of<'a>(
     words: &[&'a str],
 ) -> Result<Targets<'a>, Fault<'a>>
     ensures names { IfOk result (λ targets. targets.names.items ≡ names_of words.now) }
-    ensures placed { IfOk result (λ targets. IsPlaced symbols.now words.now targets.addresses.items) }
+    ensures placed { IfOk result (λ targets. AreAddressesOf symbols.now words.now targets.addresses.items) }
     ensures inside { IfOk result (λ targets. CanShowEach image.now targets.addresses.items) }
     ensures told { IfErr result (IsUnshown image.now symbols.now words.now) }
 {

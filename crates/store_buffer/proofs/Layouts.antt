@@ -9,9 +9,9 @@ use Rattle.std.proofs.lemmas.List.Sums.{sum_by-cons, sum_by-append, sum_by-take-
 use Rattle.store_buffer.specs.declared.entry.Entry.{Entry}
 use Rattle.store_buffer.specs.declared.entry.Store.{Store}
 use Rattle.store_buffer.specs.Entry.{blank_entry, joined, byte_at, has_word, entry_of, with_store, without}
-use Rattle.store_buffer.specs.Groups.{Groups, groups_of, fits, IsDistinct, IsLawful, is_nil, kept, or_else, total_count, entry_count, any_has_word, buffered_byte, oldest_from, is_empty, after_put, after_put_single, after_seal, after_take}
-use Rattle.store_buffer.specs.Layout.{sealed_in, groups_in, IsLaidOut, byte_in, newest_byte, one_less}
-use Rattle.store_buffer.proofs.Places.{has_word-append, without-append, length-without, entry_of-append, with_store-new, with_store-old, put-adds, IsDistinct-with_store, IsDistinct-without}
+use Rattle.store_buffer.specs.Groups.{Groups, groups_of, fits, HaveDistinctWords, IsLawful, is_nil, kept, or_else, total_count, entry_count, any_has_word, buffered_byte, oldest_from, is_empty, after_put, after_put_single, after_seal, after_take}
+use Rattle.store_buffer.specs.Layout.{sealed_in, groups_in, AreGroupsLaidOut, byte_in, newest_byte, one_less}
+use Rattle.store_buffer.proofs.Places.{has_word-append, without-append, length-without, entry_of-append, with_store-new, with_store-old, put-adds, HaveDistinctWords-with_store, HaveDistinctWords-without}
 
 pub sum-cons : (n : ℕ) (ns : List ℕ) → sum (n ∷ ns) ≡ n + sum ns
 sum-cons n ns = sum_by-cons (λ x. x) n ns
@@ -68,11 +68,11 @@ pub Each-push : {X : Type 0} (P : X → Type 0) (xs : List X) (x : X) → Each P
 Each-push P [] x h p = (p, tt)
 Each-push P (y ∷ xs) x h p = (h.0, Each-push P xs x h.1 p)
 
-pub lawful : (ns : List ℕ) (es : List Entry) → IsLaidOut ns es → IsLawful (groups_in ns es)
+pub lawful : (ns : List ℕ) (es : List Entry) → AreGroupsLaidOut ns es → IsLawful (groups_in ns es)
 lawful ns es h =
     record {
       kept = kept-sealed_in ns es h.some h.within;
-      distinct = Each-push IsDistinct (sealed_in ns es) (drop (sum ns) es) h.distinct h.current_distinct;
+      distinct = Each-push HaveDistinctWords (sealed_in ns es) (drop (sum ns) es) h.distinct h.current_distinct;
       few = let few = h.few in omega (arith, entry_count-groups_in ns es h.within);
     }
 
@@ -122,7 +122,7 @@ or_none None = refl
 or_none (Some x) = refl
 
 -- in a group it is that of the word's entry
-newest_byte-group : (word k : ℕ) (g : List Entry) → IsDistinct g → newest_byte word k g ≡ byte_at k (entry_of word g)
+newest_byte-group : (word k : ℕ) (g : List Entry) → HaveDistinctWords g → newest_byte word k g ≡ byte_at k (entry_of word g)
 newest_byte-group word k [] d = go k
   where
     go : (k : ℕ) → None ≡ byte_at k (blank_entry word)
@@ -138,12 +138,12 @@ newest_byte-group word k (e ∷ g) d = go (e.word == word) refl (newest_byte-gro
     go true t h = rw (newest_byte-none word k g (ap (λ w. has_word w g) (sym (eqb-true e.word word t)) ∙ d.0)) refl
     go false t h = or_none (newest_byte word k g) ∙ h
 
-pub buffered_byte-groups_in : (word k : ℕ) (ns : List ℕ) (es : List Entry) → Each IsDistinct (sealed_in ns es) → IsDistinct (drop (sum ns) es)
+pub buffered_byte-groups_in : (word k : ℕ) (ns : List ℕ) (es : List Entry) → Each HaveDistinctWords (sealed_in ns es) → HaveDistinctWords (drop (sum ns) es)
     → buffered_byte word k (sealed_in ns es ++ drop (sum ns) es ∷ []) ≡ newest_byte word k es
 buffered_byte-groups_in word k [] es d dc = sym (newest_byte-group word k es dc)
 buffered_byte-groups_in word k (n ∷ ns) es d dc =
     ap (λ xs. buffered_byte word k (take n es ∷ (sealed_in ns (drop n es) ++ xs ∷ []))) (drop_of_more n ns es)
-    ∙ ap (λ o. or_else o (byte_at k (entry_of word (take n es)))) (buffered_byte-groups_in word k ns (drop n es) d.1 (subst IsDistinct (drop_of_more n ns es) dc))
+    ∙ ap (λ o. or_else o (byte_at k (entry_of word (take n es)))) (buffered_byte-groups_in word k ns (drop n es) d.1 (subst HaveDistinctWords (drop_of_more n ns es) dc))
     ∙ ap (or_else (newest_byte word k (drop n es))) (sym (newest_byte-group word k (take n es) d.0))
     ∙ sym (newest_byte-append word k (take n es) (drop n es))
     ∙ ap (newest_byte word k) (take-append-drop n es)
@@ -155,14 +155,14 @@ same_groups e f = λ i. record { sealed = e i; current = f i }
 
 -- a list of entries that stands for groups without a word twice
 pub laid_out : (ns : List ℕ) (es : List Entry) (b : Groups) → groups_in ns es ≡ b → Each (λ n. 0 < n) ns → sum ns ≤ length es → length es ≤ 8
-    → Each IsDistinct b.sealed → IsDistinct b.current → IsLaidOut ns es
+    → Each HaveDistinctWords b.sealed → HaveDistinctWords b.current → AreGroupsLaidOut ns es
 laid_out ns es b e some within few d dc =
     record {
       some = some;
       within = within;
       few = few;
-      distinct = subst (Each IsDistinct) (sym (ap (λ (x : Groups). x.sealed) e)) d;
-      current_distinct = subst IsDistinct (sym (ap (λ (x : Groups). x.current) e)) dc;
+      distinct = subst (Each HaveDistinctWords) (sym (ap (λ (x : Groups). x.sealed) e)) d;
+      current_distinct = subst HaveDistinctWords (sym (ap (λ (x : Groups). x.current) e)) dc;
     }
 
 -- a store
@@ -201,12 +201,12 @@ put_length s start es h few room = go (has_word s.word (drop start es)) refl
         let other : length es ≢ 8 = λ all. room (e, all) in
         (omega arith, omega arith)
 
-pub put_keeps : (s : Store) (ns : List ℕ) (es : List Entry) → IsLaidOut ns es → HasRoom s (sum ns) es → IsLaidOut ns (put_list s (sum ns) es)
+pub put_keeps : (s : Store) (ns : List ℕ) (es : List Entry) → AreGroupsLaidOut ns es → HasRoom s (sum ns) es → AreGroupsLaidOut ns (put_list s (sum ns) es)
 put_keeps s ns es h room =
     let w = h.within in
     let l = put_length s (sum ns) es h.within h.few room in
     let l0 = l.0 in
-    laid_out ns (put_list s (sum ns) es) (after_put s (groups_in ns es)) (put_groups s ns es h.within) h.some (omega arith) l.1 h.distinct (IsDistinct-with_store s (drop (sum ns) es) h.current_distinct)
+    laid_out ns (put_list s (sum ns) es) (after_put s (groups_in ns es)) (put_groups s ns es h.within) h.some (omega arith) l.1 h.distinct (HaveDistinctWords-with_store s (drop (sum ns) es) h.current_distinct)
 
 -- the open group is closed
 
@@ -226,12 +226,12 @@ seal_groups ns m es is some =
     (sealed_in-more ns m es ∙ ap (λ g. sealed_in ns es ++ g ∷ []) whole ∙ ap (λ gs. sealed_in ns es ++ gs) (sym (kept_some (drop (sum ns) es) (omega arith))))
     (drop_all (sum (ns ++ m ∷ [])) es all)
 
-pub seal_keeps : (ns : List ℕ) (m : ℕ) (es : List Entry) → m ≡ length es - sum ns → 0 < m → IsLaidOut ns es → IsLaidOut (ns ++ m ∷ []) es
+pub seal_keeps : (ns : List ℕ) (m : ℕ) (es : List Entry) → m ≡ length es - sum ns → 0 < m → AreGroupsLaidOut ns es → AreGroupsLaidOut (ns ++ m ∷ []) es
 seal_keeps ns m es is some h =
     let w = h.within in
     let l = length-drop (sum ns) es in
     laid_out (ns ++ m ∷ []) es (after_seal (groups_in ns es)) (seal_groups ns m es is some) (Each-push (λ n. 0 < n) ns m h.some some) (omega (arith, sum-push ns m)) h.few
-    (subst (λ gs. Each IsDistinct (sealed_in ns es ++ gs)) (sym (kept_some (drop (sum ns) es) (omega arith))) (Each-push IsDistinct (sealed_in ns es) (drop (sum ns) es) h.distinct h.current_distinct))
+    (subst (λ gs. Each HaveDistinctWords (sealed_in ns es ++ gs)) (sym (kept_some (drop (sum ns) es) (omega arith))) (Each-push HaveDistinctWords (sealed_in ns es) (drop (sum ns) es) h.distinct h.current_distinct))
     tt
 
 -- an empty open group stays
@@ -240,7 +240,7 @@ seal_nothing ns es h =
     let none : drop (sum ns) es ≡ [] = drop_all (sum ns) es h in
     same_groups (ap (λ g. sealed_in ns es ++ kept g) none ∙ append-nil (sealed_in ns es)) (sym none)
 
-pub few_groups : (ns : List ℕ) (es : List Entry) → IsLaidOut ns es → sum ns < length es → length ns < 8
+pub few_groups : (ns : List ℕ) (es : List Entry) → AreGroupsLaidOut ns es → sum ns < length es → length ns < 8
 few_groups ns es h more = let few = h.few in omega (arith, length-le-sum ns h.some)
 
 -- ---- a store under total store order
@@ -256,7 +256,7 @@ no_word word [] h = refl
 no_word word (e ∷ g) h = absurd (omega arith)
 
 -- no entry is new
-pub single_old : (s : Store) (ns : List ℕ) (es : List Entry) → IsLaidOut ns es → length (put_list s (sum ns) es) ≤ length es
+pub single_old : (s : Store) (ns : List ℕ) (es : List Entry) → AreGroupsLaidOut ns es → length (put_list s (sum ns) es) ≤ length es
     → groups_in ns (put_list s (sum ns) es) ≡ after_put_single s (groups_in ns es)
 single_old s ns es h same = go (has_word s.word (drop (sum ns) es)) refl
   where
@@ -265,14 +265,14 @@ single_old s ns es h same = go (has_word s.word (drop (sum ns) es)) refl
     go false e = absurd (omega (arith, put_length-new s (sum ns) es h.within e))
 
 -- the first entry of the open group
-pub single_first : (s : Store) (ns : List ℕ) (es : List Entry) → IsLaidOut ns es → length es ≤ sum ns
+pub single_first : (s : Store) (ns : List ℕ) (es : List Entry) → AreGroupsLaidOut ns es → length es ≤ sum ns
     → groups_in ns (put_list s (sum ns) es) ≡ after_put_single s (groups_in ns es)
 single_first s ns es h none =
     put_groups s ns es h.within ∙ ap (after_put s) (sym (seal_nothing ns es none))
     ∙ sym (put_after_seal s (groups_in ns es) (no_word s.word (drop (sum ns) es) (omega (arith, length-drop (sum ns) es))))
 
 -- a new entry behind others of the open group
-pub single_new : (s : Store) (ns : List ℕ) (m : ℕ) (es : List Entry) → IsLaidOut ns es → m ≡ length es - sum ns → 0 < m → length es < length (put_list s (sum ns) es)
+pub single_new : (s : Store) (ns : List ℕ) (m : ℕ) (es : List Entry) → AreGroupsLaidOut ns es → m ≡ length es - sum ns → 0 < m → length es < length (put_list s (sum ns) es)
     → groups_in (ns ++ m ∷ []) (put_list s (sum ns) es) ≡ after_put_single s (groups_in ns es)
 single_new s ns m es h is some more = go (has_word s.word (drop (sum ns) es)) refl
   where
@@ -289,8 +289,8 @@ single_new s ns m es h is some more = go (has_word s.word (drop (sum ns) es)) re
         ∙ put_groups s (ns ++ m ∷ []) es (omega (arith, sums)) ∙ ap (after_put s) (seal_groups ns m es is some)
         ∙ sym (put_after_seal s (groups_in ns es) e)
 
-pub single_keeps : (s : Store) (ns : List ℕ) (m : ℕ) (es : List Entry) → IsLaidOut ns es → HasRoom s (sum ns) es → m ≡ length es - sum ns → 0 < m → length es < length (put_list s (sum ns) es)
-    → IsLaidOut (ns ++ m ∷ []) (put_list s (sum ns) es)
+pub single_keeps : (s : Store) (ns : List ℕ) (m : ℕ) (es : List Entry) → AreGroupsLaidOut ns es → HasRoom s (sum ns) es → m ≡ length es - sum ns → 0 < m → length es < length (put_list s (sum ns) es)
+    → AreGroupsLaidOut (ns ++ m ∷ []) (put_list s (sum ns) es)
 single_keeps s ns m es h room is some more = go (has_word s.word (drop (sum ns) es)) refl
   where
     sums : sum (ns ++ m ∷ []) ≡ length es
@@ -299,10 +299,10 @@ single_keeps s ns m es h room is some more = go (has_word s.word (drop (sum ns) 
     none_behind : has_word s.word (drop (sum (ns ++ m ∷ [])) es) ≡ false
     none_behind = no_word s.word (drop (sum (ns ++ m ∷ [])) es) (omega (arith, sums, length-drop (sum (ns ++ m ∷ [])) es))
 
-    go : (b : Bool) → has_word s.word (drop (sum ns) es) ≡ b → IsLaidOut (ns ++ m ∷ []) (put_list s (sum ns) es)
+    go : (b : Bool) → has_word s.word (drop (sum ns) es) ≡ b → AreGroupsLaidOut (ns ++ m ∷ []) (put_list s (sum ns) es)
     go true e = absurd (omega (arith, put_length-old s (sum ns) es h.within e))
     go false e =
-        subst (IsLaidOut (ns ++ m ∷ [])) (sym (put-adds s (sum (ns ++ m ∷ [])) es none_behind) ∙ put-adds s (sum ns) es e)
+        subst (AreGroupsLaidOut (ns ++ m ∷ [])) (sym (put-adds s (sum (ns ++ m ∷ [])) es none_behind) ∙ put-adds s (sum ns) es e)
         (put_keeps s (ns ++ m ∷ []) es (seal_keeps ns m es is some h) (λ both. room (e, both.1)))
 
 -- ---- an entry leaves
@@ -328,7 +328,7 @@ oldest_entry word (n ∷ ns) es e = ap (entry_of word) (sym (take-append-drop n 
 front_without : (word n : ℕ) (es : List Entry) → has_word word (take n es) ≡ true → without word es ≡ without word (take n es) ++ drop n es
 front_without word n es e = ap (without word) (sym (take-append-drop n es)) ∙ without-append word (take n es) (drop n es) e
 
-pub take_groups : (word : ℕ) (ns : List ℕ) (es : List Entry) → IsLaidOut ns es → has_word word (oldest_in ns es) ≡ true
+pub take_groups : (word : ℕ) (ns : List ℕ) (es : List Entry) → AreGroupsLaidOut ns es → has_word word (oldest_in ns es) ≡ true
     → groups_in (one_less ns) (without word es) ≡ after_take word (groups_in ns es)
 take_groups word [] es h e = refl
 take_groups word (n ∷ ns) es h e = go (without word (take n es)) refl
@@ -356,17 +356,17 @@ pub Each-append : {X : Type 0} (P : X → Type 0) (xs ys : List X) → Each P xs
 Each-append P [] ys h k = k
 Each-append P (x ∷ xs) ys h k = (h.0, Each-append P xs ys h.1 k)
 
-kept_distinct : (g : List Entry) → IsDistinct g → Each IsDistinct (kept g)
+kept_distinct : (g : List Entry) → HaveDistinctWords g → Each HaveDistinctWords (kept g)
 kept_distinct [] d = tt
 kept_distinct (e ∷ g) d = (d, tt)
 
-after_take_sealed : (word : ℕ) (ns : List ℕ) (es : List Entry) → IsLaidOut ns es → Each IsDistinct (after_take word (groups_in ns es)).sealed
+after_take_sealed : (word : ℕ) (ns : List ℕ) (es : List Entry) → AreGroupsLaidOut ns es → Each HaveDistinctWords (after_take word (groups_in ns es)).sealed
 after_take_sealed word [] es h = tt
 after_take_sealed word (n ∷ ns) es h =
-    Each-append IsDistinct (kept (without word (take n es))) (sealed_in ns (drop n es)) (kept_distinct (without word (take n es)) (IsDistinct-without word (take n es) h.distinct.0)) h.distinct.1
+    Each-append HaveDistinctWords (kept (without word (take n es))) (sealed_in ns (drop n es)) (kept_distinct (without word (take n es)) (HaveDistinctWords-without word (take n es) h.distinct.0)) h.distinct.1
 
-after_take_current : (word : ℕ) (ns : List ℕ) (es : List Entry) → IsLaidOut ns es → IsDistinct (after_take word (groups_in ns es)).current
-after_take_current word [] es h = IsDistinct-without word es h.current_distinct
+after_take_current : (word : ℕ) (ns : List ℕ) (es : List Entry) → AreGroupsLaidOut ns es → HaveDistinctWords (after_take word (groups_in ns es)).current
+after_take_current word [] es h = HaveDistinctWords-without word es h.current_distinct
 after_take_current word (n ∷ ns) es h = h.current_distinct
 
 one_less_some : (ns : List ℕ) → Each (λ n. 0 < n) ns → Each (λ n. 0 < n) (one_less ns)
@@ -388,7 +388,7 @@ sum-one_less (n ∷ ns) h = go (ltb 1 n) refl
         let some : 0 < n = h.0 in
         omega (arith, sum-cons n ns)
 
-pub take_keeps : (word : ℕ) (ns : List ℕ) (es : List Entry) → IsLaidOut ns es → has_word word (oldest_in ns es) ≡ true → IsLaidOut (one_less ns) (without word es)
+pub take_keeps : (word : ℕ) (ns : List ℕ) (es : List Entry) → AreGroupsLaidOut ns es → has_word word (oldest_in ns es) ≡ true → AreGroupsLaidOut (one_less ns) (without word es)
 take_keeps word ns es h e =
     let few = h.few in
     let within = h.within in
@@ -397,7 +397,7 @@ take_keeps word ns es h e =
 
 -- ---- full
 
-pub fits-groups_in : (word : ℕ) (ns : List ℕ) (es : List Entry) → IsLaidOut ns es → fits word (groups_in ns es) ≡ (has_word word (drop (sum ns) es) || ltb (length es) 8)
+pub fits-groups_in : (word : ℕ) (ns : List ℕ) (es : List Entry) → AreGroupsLaidOut ns es → fits word (groups_in ns es) ≡ (has_word word (drop (sum ns) es) || ltb (length es) 8)
 fits-groups_in word ns es h = ap (λ n. has_word word (drop (sum ns) es) || ltb n 8) (entry_count-groups_in ns es h.within)
 
 full_from : (a : Bool) (n : ℕ) → n ≤ 8 → (a || ltb n 8) ≡ false → (a ≡ false) × (n ≡ 8)
@@ -408,7 +408,7 @@ full_to : (a : Bool) (n : ℕ) → (a ≡ false) × (n ≡ 8) → (a || ltb n 8)
 full_to a n h = rw (h.0, h.1) refl
 
 -- a store finds no entry exactly where its word is not in the open group and all entries are used
-pub full_is : (word : ℕ) (ns : List ℕ) (es : List Entry) (b : Groups) → groups_in ns es ≡ b → IsLaidOut ns es
+pub full_is : (word : ℕ) (ns : List ℕ) (es : List Entry) (b : Groups) → groups_in ns es ≡ b → AreGroupsLaidOut ns es
     → ((has_word word (drop (sum ns) es) ≡ false) × (length es ≡ 8) → fits word b ≡ false) × (fits word b ≡ false → (has_word word (drop (sum ns) es) ≡ false) × (length es ≡ 8))
 full_is word ns es b view h =
     let same : fits word b ≡ (has_word word (drop (sum ns) es) || ltb (length es) 8) = ap (fits word) (sym view) ∙ fits-groups_in word ns es h in (
@@ -420,7 +420,7 @@ pub no_length : {A : Type 0} (xs : List A) → (length xs == 0) ≡ is_nil xs
 no_length [] = refl
 no_length (x ∷ xs) = ne_eqb (length (x ∷ xs)) 0 (λ none. absurd (omega arith))
 
-pub is_empty-groups_in : (ns : List ℕ) (es : List Entry) → IsLaidOut ns es → (length es == 0) ≡ is_empty (groups_in ns es)
+pub is_empty-groups_in : (ns : List ℕ) (es : List Entry) → AreGroupsLaidOut ns es → (length es == 0) ≡ is_empty (groups_in ns es)
 is_empty-groups_in [] es h = no_length es
 is_empty-groups_in (n ∷ ns) es h =
     let some : 0 < n = h.some.0 in

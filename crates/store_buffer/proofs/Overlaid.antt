@@ -6,8 +6,8 @@ use Rattle.std.proofs.lemmas.Bool.{eq-eqb, ne_eqb}
 use Rattle.store_buffer.specs.declared.entry.Entry.{Entry}
 use Rattle.store_buffer.specs.ByteMask.{each_place, is_marked, united, laid_over}
 use Rattle.store_buffer.specs.Entry.{byte_at}
-use Rattle.store_buffer.specs.Groups.{IsDistinct, or_else, buffered_byte, forwarded}
-use Rattle.store_buffer.specs.Layout.{sealed_in, groups_in, IsLaidOut, byte_in, newest_byte, overlaid}
+use Rattle.store_buffer.specs.Groups.{HaveDistinctWords, or_else, buffered_byte, forwarded}
+use Rattle.store_buffer.specs.Layout.{sealed_in, groups_in, AreGroupsLaidOut, byte_in, newest_byte, overlaid}
 use Rattle.store_buffer.proofs.Layouts.{newest_byte-append, buffered_byte-groups_in}
 
 pub each_same : {A : Type 0} (f g : ℕ → A) → ((k : ℕ) → f k ≡ g k) → each_place f ≡ each_place g
@@ -48,7 +48,7 @@ overlaid-other word xs e other =
       each_same (λ k. unwrap_or (newest_byte word k (xs ++ e ∷ [])) 0) (λ k. unwrap_or (newest_byte word k xs) 0) (λ k. ap (λ o. unwrap_or o 0) (same k)) i,
     )
 
-pub overlaid-groups_in : (word : ℕ) (ns : List ℕ) (es : List Entry) → IsLaidOut ns es → overlaid word es ≡ forwarded word (groups_in ns es)
+pub overlaid-groups_in : (word : ℕ) (ns : List ℕ) (es : List Entry) → AreGroupsLaidOut ns es → overlaid word es ≡ forwarded word (groups_in ns es)
 overlaid-groups_in word ns es h =
     let same : (k : ℕ) → newest_byte word k es ≡ buffered_byte word k (sealed_in ns es ++ (groups_in ns es).current ∷ []) =
     λ k. sym (buffered_byte-groups_in word k ns es h.distinct h.current_distinct) in

@@ -8,7 +8,7 @@ use Rattle.std.proofs.lemmas.Grind.{common_steps}
 use Rattle.store_buffer.specs.declared.entry.Entry.{Entry}
 use Rattle.store_buffer.specs.declared.entry.Store.{Store}
 use Rattle.store_buffer.specs.Entry.{blank_entry, joined, has_word, entry_of, with_store, without}
-use Rattle.store_buffer.specs.Groups.{IsDistinct}
+use Rattle.store_buffer.specs.Groups.{HaveDistinctWords}
 use Rattle.store_buffer.specs.Layout.{place_of}
 
 -- the first entry of a word stands here
@@ -157,11 +157,11 @@ has_word-with_store word s (e ∷ es) = go (e.word == s.word) refl (has_word-wit
         rw same (twice (s.word == word) (has_word word es))
     go false t h = rw h (swapped (e.word == word) (s.word == word) (has_word word es))
 
-pub IsDistinct-with_store : (s : Store) (es : List Entry) → IsDistinct es → IsDistinct (with_store s es)
-IsDistinct-with_store s [] d = (refl, tt)
-IsDistinct-with_store s (e ∷ es) d = go (e.word == s.word) refl (IsDistinct-with_store s es d.1)
+pub HaveDistinctWords-with_store : (s : Store) (es : List Entry) → HaveDistinctWords es → HaveDistinctWords (with_store s es)
+HaveDistinctWords-with_store s [] d = (refl, tt)
+HaveDistinctWords-with_store s (e ∷ es) d = go (e.word == s.word) refl (HaveDistinctWords-with_store s es d.1)
   where
-    go : (b : Bool) → (e.word == s.word) ≡ b → IsDistinct (with_store s es) → IsDistinct (cond b (joined s e ∷ es) (e ∷ with_store s es))
+    go : (b : Bool) → (e.word == s.word) ≡ b → HaveDistinctWords (with_store s es) → HaveDistinctWords (cond b (joined s e ∷ es) (e ∷ with_store s es))
     go true t h = d
     go false t h = (
       has_word-with_store e.word s es ∙ ap (λ b. b || has_word e.word es) (ne_eqb s.word e.word (λ same. false≢true (sym t ∙ eq-eqb e.word s.word (sym same)))) ∙ d.0,
@@ -181,11 +181,11 @@ has_word-without word other (e ∷ es) h = go (e.word == other) (or_parts _ _ h)
     go true parts rest = parts.1
     go false parts rest = rw (parts.0, rest) refl
 
-pub IsDistinct-without : (word : ℕ) (es : List Entry) → IsDistinct es → IsDistinct (without word es)
-IsDistinct-without word [] d = tt
-IsDistinct-without word (e ∷ es) d = go (e.word == word) (IsDistinct-without word es d.1)
+pub HaveDistinctWords-without : (word : ℕ) (es : List Entry) → HaveDistinctWords es → HaveDistinctWords (without word es)
+HaveDistinctWords-without word [] d = tt
+HaveDistinctWords-without word (e ∷ es) d = go (e.word == word) (HaveDistinctWords-without word es d.1)
   where
-    go : (b : Bool) → IsDistinct (without word es) → IsDistinct (cond b es (e ∷ without word es))
+    go : (b : Bool) → HaveDistinctWords (without word es) → HaveDistinctWords (cond b es (e ∷ without word es))
     go true h = d.1
     go false h = (has_word-without e.word word es d.0, h)
 

@@ -7,7 +7,7 @@ use Rattle.store_buffer.specs.declared.entry.Entry.{Entry}
 use Rattle.store_buffer.specs.declared.entry.Store.{Store}
 use Rattle.store_buffer.specs.Entry.{has_word}
 use Rattle.store_buffer.specs.Groups.{Groups, fits}
-use Rattle.store_buffer.specs.Layout.{groups_in, IsLaidOut}
+use Rattle.store_buffer.specs.Layout.{groups_in, AreGroupsLaidOut}
 use Rattle.store_buffer.proofs.Layouts.{put_list, HasRoom, full_is}
 
 clash : (x : Unit {0}) → Path (Result (Unit {0}) PutError) (Ok x) (Err Full) → ⊥
@@ -24,7 +24,7 @@ room s start ns es x at full = subst (λ k. HasRoom s k es) at (λ both. clash x
 pub new_list : (s : Store) (start : ℕ) (ns : List ℕ) (es new : List Entry) → start ≡ sum ns → new ≡ put_list s start es → new ≡ put_list s (sum ns) es
 new_list s start ns es new at is = is ∙ ap (λ k. put_list s k es) at
 
-pub full_answer : (F : Type 0) (word start : ℕ) (ns : List ℕ) (es : List Entry) (b : Groups) → start ≡ sum ns → groups_in ns es ≡ b → IsLaidOut ns es
+pub full_answer : (F : Type 0) (word start : ℕ) (ns : List ℕ) (es : List Entry) (b : Groups) → start ≡ sum ns → groups_in ns es ≡ b → AreGroupsLaidOut ns es
     → (F → IsFull word start es) × (IsFull word start es → F) → (F → fits word b ≡ false) × (fits word b ≡ false → F)
 full_answer F word start ns es b at view h full =
     let is = full_is word ns es b view h in (

@@ -8,9 +8,9 @@ use Rattle.store_buffer.specs.declared.entry.Entry.{Entry}
 use Rattle.store_buffer.specs.declared.entry.Store.{Store}
 use Rattle.store_buffer.specs.ByteMask.{is_marked}
 use Rattle.store_buffer.specs.Entry.{blank_entry, joined, byte_at, has_word, entry_of, with_store, without}
-use Rattle.store_buffer.specs.Groups.{Groups, IsDistinct, is_nil, is_empty, has_sealed, any_has_word, has, drainable, or_else, kept, oldest, after_put_single, buffered_byte, after_put, after_seal, after_take}
+use Rattle.store_buffer.specs.Groups.{Groups, HaveDistinctWords, is_nil, is_empty, has_sealed, any_has_word, has, drainable, or_else, kept, oldest, after_put_single, buffered_byte, after_put, after_seal, after_take}
 use Rattle.store_buffer.specs.Stores.{is_to_word, is_elsewhere, merged, entries_from, entries_of, stored_byte, last_byte, OwnWord, OtherWord, PutAppends, EntryIsFilter, OpsAreFilter, ByteIsLast, HasIsAny, TakeFilters, AlwaysDistinct, Waiting, entries_in, all_stores, kept_stores, oldest_stores_from, drained_from, put_behind, sealed_up, oldest_stores, PutIsBehind, PutSingleIsBehind, SealIsUp, OldestIsFirst, TakeIsDrained, ForwardIsLast, HasIsAnyOfAll, DrainableIsAny, EmptyIsNone, SealedIsSome}
-use Rattle.store_buffer.proofs.Places.{with_store-new, with_store-old, has_word-with_store, IsDistinct-with_store}
+use Rattle.store_buffer.proofs.Places.{with_store-new, with_store-old, has_word-with_store, HaveDistinctWords-with_store}
 use Rattle.store_buffer.proofs.Layouts.{or_else-assoc, or_none, nonempty, kept_some, same_groups, put_joins_own, put_after_seal}
 
 -- ---- one store
@@ -160,9 +160,9 @@ take_from word es (s ∷ ss) = take_from word (with_store s es) ss ∙ go (s.wor
 pub take_filters : TakeFilters
 take_filters word stores = take_from word [] stores
 
-distinct_from : (es : List Entry) (stores : List Store) → IsDistinct es → IsDistinct (entries_from es stores)
+distinct_from : (es : List Entry) (stores : List Store) → HaveDistinctWords es → HaveDistinctWords (entries_from es stores)
 distinct_from es [] d = d
-distinct_from es (s ∷ ss) d = distinct_from (with_store s es) ss (IsDistinct-with_store s es d)
+distinct_from es (s ∷ ss) d = distinct_from (with_store s es) ss (HaveDistinctWords-with_store s es d)
 
 pub always_distinct : AlwaysDistinct
 always_distinct stores = distinct_from [] stores tt

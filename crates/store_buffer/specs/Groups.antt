@@ -108,11 +108,11 @@ after_take word b = taken_from word b.sealed b.current
 -- ---- what holds of every buffer
 
 -- no two entries of one word
-abbrev pub IsDistinct : List Entry → Type 0
-IsDistinct [] = Unit {0}
-IsDistinct (e ∷ es) = (has_word e.word es ≡ false) × IsDistinct es
+abbrev pub HaveDistinctWords : List Entry → Type 0
+HaveDistinctWords [] = Unit {0}
+HaveDistinctWords (e ∷ es) = (has_word e.word es ≡ false) × HaveDistinctWords es
 
 pub record IsLawful (b : Groups) : Type 0 where
   pub kept : Each (λ g. is_nil g ≡ false) b.sealed
-  pub distinct : Each IsDistinct (groups_of b)
+  pub distinct : Each HaveDistinctWords (groups_of b)
   pub few : entry_count b ≤ 8

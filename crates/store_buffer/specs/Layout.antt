@@ -3,7 +3,7 @@ use Rattle.std.specs.Prelude.{ℕ, ◌-◌, ◌<◌, ◌≤◌, ◌==◌, nat_lt
 use Rattle.std.specs.List.{AllByRecursion as Each}
 use Rattle.store_buffer.specs.ByteMask.{each_place}
 use Rattle.store_buffer.specs.Entry.{byte_at}
-use Rattle.store_buffer.specs.Groups.{Groups, IsDistinct, or_else}
+use Rattle.store_buffer.specs.Groups.{Groups, HaveDistinctWords, or_else}
 use Rattle.store_buffer.specs.declared.entry.Entry.{Entry}
 
 abbrev pub sealed_in : List ℕ → List Entry → List (List Entry)
@@ -13,12 +13,12 @@ sealed_in (n ∷ ns) entries = take n entries ∷ sealed_in ns (drop n entries)
 abbrev pub groups_in : List ℕ → List Entry → Groups
 groups_in sizes entries = record { sealed = sealed_in sizes entries; current = drop (sum sizes) entries }
 
-pub record IsLaidOut (sizes : List ℕ) (entries : List Entry) : Type 0 where
+pub record AreGroupsLaidOut (sizes : List ℕ) (entries : List Entry) : Type 0 where
   pub some : Each (λ n. 0 < n) sizes
   pub within : sum sizes ≤ length entries
   pub few : length entries ≤ 8
-  pub distinct : Each IsDistinct (sealed_in sizes entries)
-  pub current_distinct : IsDistinct (drop (sum sizes) entries)
+  pub distinct : Each HaveDistinctWords (sealed_in sizes entries)
+  pub current_distinct : HaveDistinctWords (drop (sum sizes) entries)
 
 -- where the first entry of a word stands
 abbrev pub place_of : ℕ → List Entry → Option ℕ

@@ -3,7 +3,7 @@ use Rattle.std.specs.Prelude.{◌≡◌, ◌≢◌, ℕ, ◌<◌, Bool, ◌&&◌
 use Rattle.std.specs.List.{list_any}
 use Rattle.store_buffer.specs.ByteMask.{is_marked}
 use Rattle.store_buffer.specs.Entry.{blank_entry, joined, byte_at, has_word, entry_of, with_store, without}
-use Rattle.store_buffer.specs.Groups.{Groups, IsDistinct, is_nil, is_empty, has_sealed, has, drainable, or_else, oldest, buffered_byte, groups_of, after_put, after_put_single, after_seal, after_take}
+use Rattle.store_buffer.specs.Groups.{Groups, HaveDistinctWords, is_nil, is_empty, has_sealed, has, drainable, or_else, oldest, buffered_byte, groups_of, after_put, after_put_single, after_seal, after_take}
 use Rattle.store_buffer.specs.declared.entry.Entry.{Entry}
 use Rattle.store_buffer.specs.declared.entry.Store.{Store}
 
@@ -72,7 +72,7 @@ TakeFilters = (word : ℕ) (stores : List Store)
     → without word (entries_of stores) ≡ entries_of (filter (is_elsewhere word) stores)
 
 abbrev pub AlwaysDistinct : Type 0
-AlwaysDistinct = (stores : List Store) → IsDistinct (entries_of stores)
+AlwaysDistinct = (stores : List Store) → HaveDistinctWords (entries_of stores)
 
 -- ---- a whole buffer
 

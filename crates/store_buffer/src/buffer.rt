@@ -49,11 +49,11 @@ impl Model for StoreBuffer {
 
     ghost Value = { Groups };
 
-    ghost use Rattle.store_buffer.specs.Layout.{groups_in, IsLaidOut};
+    ghost use Rattle.store_buffer.specs.Layout.{groups_in, AreGroupsLaidOut};
 
     ghost view = { λ b. groups_in b.sealed.items b.entries.items };
 
-    ghost invariant = { λ b. IsLaidOut b.sealed.items b.entries.items };
+    ghost invariant = { λ b. AreGroupsLaidOut b.sealed.items b.entries.items };
 }
 
 /// Where a word has its oldest entry among these.

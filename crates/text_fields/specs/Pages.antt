@@ -8,8 +8,8 @@ abbrev pub size : ℕ
 size = 4096
 
 -- there is room for a line
-abbrev pub HasRoom : List ℕ → Type 0
-HasRoom page = length page + 256 ≤ size
+abbrev pub HasLineRoom : List ℕ → Type 0
+HasLineRoom page = length page + 256 ≤ size
 
 -- what went out, and then what stands on the page, are what stood there before and then the text
 pub record Paged (old new : Option (List ℕ)) (before after text : List ℕ) : Type 0 where

@@ -3,7 +3,7 @@
 ghost use Rattle.std.specs.Prelude.{◌≡◌, ◌+◌, ◌*◌, ◌≤◌, [], ◌++◌, length, decimal, OnOk};
 ghost use Rattle.text_fields.specs.Fields.{number, word, hex};
 ghost use Rattle.text_fields.specs.Writing.{Writes};
-ghost use Rattle.text_fields.specs.Pages.{size, HasRoom, Spells};
+ghost use Rattle.text_fields.specs.Pages.{size, HasLineRoom, Spells};
 
 use crate::digits::{digit, word_text};
 use crate::writing::put;
@@ -127,7 +127,7 @@ impl Page {
     #[inline(always)]
     pub fn make_room<W: Write>(&mut self, out: &mut W) -> Result<()>
         ensures sent { Spells (W.contents out.old) (W.contents out.new) self.old self.new [] result }
-        ensures room { OnOk result (HasRoom self.new) }
+        ensures room { OnOk result (HasLineRoom self.new) }
     {
         if self.len > SIZE - LONGEST {
             self.hand_on(out)?;

@@ -4,7 +4,7 @@ use coherent_machine::ApplyError;
 use elf_loader::{Image, raw, size_of_kib};
 use elf_symbols::Symbols;
 use event_stream::{StreamError, Strictness, write_stream};
-use machine_model::{Config, Event, Model, Outcome};
+use machine_model::{Config, Event, MemoryModel, Outcome};
 use std::alloc::Global;
 use std::io::{Error, ErrorKind, Result as IoResult, Write};
 use std::test::Fail;
@@ -191,7 +191,7 @@ fn config_of(harts: u32, line: u32) -> Config {
         sets: 4,
         ways: 2,
         line,
-        model: Model::Rvwmo,
+        model: MemoryModel::Rvwmo,
     }
 }
 

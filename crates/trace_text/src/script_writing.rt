@@ -2,7 +2,7 @@
 ghost use Rattle.std.specs.Prelude.{◌≡◌, ◌+◌, ◌≤◌, ◌∷◌, ◌++◌, [], length};
 ghost use Rattle.std.specs.List.{flat_map};
 ghost use Rattle.text_fields.specs.Fields.{number, word};
-ghost use Rattle.text_fields.specs.Pages.{size, HasRoom, Spells};
+ghost use Rattle.text_fields.specs.Pages.{size, HasLineRoom, Spells};
 ghost use Rattle.text_fields.specs.Writing.{Writes};
 ghost use Rattle.trace_text.specs.Scripts.{event as event_text, event_ended, head as head_text, head_of, text};
 
@@ -56,7 +56,7 @@ pub fn spell_event(page: &mut Page, event: Event, end: u8)
 }
 
 fn spell_head(page: &mut Page, script: &Script)
-    requires { HasRoom page.old }
+    requires { HasLineRoom page.old }
     ensures { page.new ≡ page.old ++ head_text (head_of script.now) }
 {
     if is_first_version(script.harts as u64, script.line) {

@@ -4,7 +4,7 @@ ghost use Rattle.elf_loader.specs.Size.{base};
 ghost use Rattle.trace_text.specs.Widths.{IsWidth};
 ghost use Rattle.std.specs.List.{flat_map};
 ghost use Rattle.text_fields.specs.Fields.{numbered, word, hex};
-ghost use Rattle.text_fields.specs.Pages.{size, HasRoom, Spells};
+ghost use Rattle.text_fields.specs.Pages.{size, HasLineRoom, Spells};
 ghost use Rattle.text_fields.specs.Writing.{Writes};
 ghost use Rattle.trace_text.specs.Traces as spelled;
 ghost use Rattle.trace_text.specs.Words as words;
@@ -19,7 +19,7 @@ use text_fields::Page;
 use trace_recorder::{Logged, OpId, Trace};
 
 fn spell_head(page: &mut Page, head: TraceHead)
-    requires { HasRoom page.old }
+    requires { HasLineRoom page.old }
     ensures { page.new ≡ page.old ++ spelled.head head }
 {
     let line = head.line.bytes();
@@ -54,7 +54,7 @@ pub(crate) fn any_set(bytes: &[u8]) -> bool
 
 /// A line of the image that isn't all zero.
 fn spell_set_line(page: &mut Page, address: u32, bytes: &[u8])
-    requires room { HasRoom page.old }
+    requires room { HasLineRoom page.old }
     requires width { length bytes.now ≤ 64 }
     ensures { page.new ≡ page.old ++ (codes "I " ++ (word address ++ (32 ∷ (hex bytes.now ++ 10 ∷ [])))) }
 {
@@ -66,7 +66,7 @@ fn spell_set_line(page: &mut Page, address: u32, bytes: &[u8])
 }
 
 fn spell_image_line(page: &mut Page, address: u32, bytes: &[u8])
-    requires room { HasRoom page.old }
+    requires room { HasLineRoom page.old }
     requires width { length bytes.now ≤ 64 }
     ensures { page.new ≡ page.old ++ spelled.image_line address bytes.now }
 {
@@ -121,7 +121,7 @@ fn spell_answer(page: &mut Page, sc_ok: Option<bool>)
 
 /// Appends an R line, but with this byte at its end.
 pub fn spell_retired(page: &mut Page, hart: u64, entry: &Retired, end: u8)
-    requires { HasRoom page.old }
+    requires { HasLineRoom page.old }
     ensures value { page.new ≡ page.old ++ (spelled.retired_lead hart ++ spelled.retired_ended end entry.now) }
     ensures len { length page.new ≤ length page.old + 61 }
 {
@@ -157,7 +157,7 @@ fn put_entries<W: Write>(page: &mut Page, out: &mut W, trace: &Trace) -> Result<
 }
 
 fn spell_operation(page: &mut Page, operation: OpId)
-    requires { HasRoom page.old }
+    requires { HasLineRoom page.old }
     ensures { page.new ≡ page.old ++ spelled.operation operation }
 {
     page.text(b"P ");
@@ -177,7 +177,7 @@ pub fn put_performed<W: Write>(page: &mut Page, out: &mut W, performed: &[OpId])
 }
 
 fn spell_logged(page: &mut Page, entry: &Logged)
-    requires { HasRoom page.old }
+    requires { HasLineRoom page.old }
     ensures { page.new ≡ page.old ++ spelled.logged entry.now }
 {
     let message = &entry.message;
@@ -205,7 +205,7 @@ pub fn put_log<W: Write>(page: &mut Page, out: &mut W, log: &[Logged]) -> Result
 
 /// Appends a hart's H line, but with this byte at its end.
 pub fn spell_status(page: &mut Page, hart: u64, status: Status, end: u8)
-    requires { HasRoom page.old }
+    requires { HasLineRoom page.old }
     ensures value { page.new ≡ page.old ++ spelled.status_ended end hart status }
     ensures len { length page.new ≤ length page.old + 49 }
 {

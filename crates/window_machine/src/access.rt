@@ -3,9 +3,9 @@
 use amo_unit::combine;
 use elf_loader::Image;
 use hart::{Hart, Retired};
-use memory_model::Model;
+use memory_model::MemoryModel;
 use rv32_decode::{AmoOp, Annotations, Instr, decode};
-use rv32_exec::{Plan, Width, plan, stop};
+use rv32_exec::{Action, Width, plan, stop};
 
 /// What an access does.
 #[derive(Clone, Copy, PartialEq, Eq, Hash)]
@@ -20,11 +20,11 @@ pub(crate) enum Kind {
 
 impl Kind {
     pub(crate) fn reads(self) -> bool {
-        matches!(self, Kind::Load | Kind::Reserve | Kind::Amo)
+        matches!(self, Kind::Load | Kind::Lr | Kind::Amo)
     }
 
     pub(crate) fn writes(self) -> bool {
-        matches!(self, Kind::Store | Kind::Conditional | Kind::Amo)
+        matches!(self, Kind::Store | Kind::Sc | Kind::Amo)
     }
 }
 
@@ -63,30 +63,30 @@ impl Access {
     }
 
     /// The access of a plan, where it has one.
-    pub(crate) fn of(plan: &Plan, instr: &Instr) -> Option<Access> {
+    pub(crate) fn of(plan: &Action, instr: &Instr) -> Option<Access> {
         match *plan {
-            Plan::Load { addr, size } => Some(Access::new(Kind::Load, addr, size, 0, instr)),
-            Plan::Store { addr, size, value } => {
+            Action::Load { addr, size } => Some(Access::new(Kind::Load, addr, size, 0, instr)),
+            Action::Store { addr, size, value } => {
                 Some(Access::new(Kind::Store, addr, size, value, instr))
             }
-            Plan::Lr { addr } => Some(Access::new(Kind::Reserve, addr, Width::Word, 0, instr)),
-            Plan::Sc { addr, value } => {
-                Some(Access::new(Kind::Conditional, addr, Width::Word, value, instr))
+            Action::Lr { addr } => Some(Access::new(Kind::Lr, addr, Width::Word, 0, instr)),
+            Action::Sc { addr, value } => {
+                Some(Access::new(Kind::Sc, addr, Width::Word, value, instr))
             }
-            Plan::Amo { addr, op, operand } => {
+            Action::Amo { addr, op, operand } => {
                 let mut access = Access::new(Kind::Amo, addr, Width::Word, operand, instr);
                 access.op = op;
                 Some(access)
             }
-            Plan::Local | Plan::Fence | Plan::Call | Plan::Stop(_) => None,
+            Action::Private | Action::Fence | Action::Call | Action::Stop(_) => None,
         }
     }
 
     /// What it writes, in its lanes, where it reads this.
     pub(crate) fn written(&self, read: u32) -> u32 {
         match self.kind {
-            Kind::Load | Kind::Reserve => 0,
-            Kind::Store | Kind::Conditional => self.operand << (self.shift % 32) & self.lanes,
+            Kind::Load | Kind::Lr => 0,
+            Kind::Store | Kind::Sc => self.operand << (self.shift % 32) & self.lanes,
             Kind::Amo => combine(self.op, read, self.operand),
         }
     }
@@ -95,28 +95,28 @@ impl Access {
     pub(crate) fn entry(&self, entry: &Retired, read: u32) -> Retired {
         let mut entry = *entry;
         match self.kind {
-            Kind::Load | Kind::Reserve | Kind::Amo => {
+            Kind::Load | Kind::Lr | Kind::Amo => {
                 entry.loaded = Some((read & self.lanes) >> (self.shift % 32));
             }
-            Kind::Conditional => entry.sc_ok = Some(true),
+            Kind::Sc => entry.sc_ok = Some(true),
             Kind::Store => {}
         }
         entry
     }
 
-    pub(crate) fn acquires(&self, model: Model) -> bool {
-        self.bits.acquire || model == Model::Ztso && self.kind.reads()
+    pub(crate) fn acquires(&self, model: MemoryModel) -> bool {
+        self.bits.acquire || model == MemoryModel::Ztso && self.kind.reads()
     }
 
-    pub(crate) fn releases(&self, model: Model) -> bool {
-        self.bits.release || model == Model::Ztso && self.kind.writes()
+    pub(crate) fn releases(&self, model: MemoryModel) -> bool {
+        self.bits.release || model == MemoryModel::Ztso && self.kind.writes()
     }
 
     /// Whether its annotations are RCsc.
-    pub(crate) fn is_rcsc(&self, model: Model) -> bool {
+    pub(crate) fn is_rcsc(&self, model: MemoryModel) -> bool {
         self.bits.acquire
             || self.bits.release
-            || model == Model::Ztso && matches!(self.kind, Kind::Amo)
+            || model == MemoryModel::Ztso && matches!(self.kind, Kind::Amo)
     }
 }
 
@@ -135,7 +135,7 @@ fn annotations(instr: &Instr) -> Annotations {
 #[derive(Clone, Copy)]
 pub(crate) struct Next {
     pub instr: Instr,
-    pub plan: Plan,
+    pub plan: Action,
     /// Its entry, without what it reads.
     pub entry: Retired,
 }
@@ -150,7 +150,7 @@ pub(crate) fn next_of(image: &Image, hart: &Hart) -> Result<Next, u8> {
         return Err(stop::ILLEGAL);
     };
     let plan = plan(&instr, hart.pc, &hart.regs, image.size());
-    if let Plan::Stop(code) = plan {
+    if let Action::Stop(code) = plan {
         return Err(code);
     }
     let entry = Retired {

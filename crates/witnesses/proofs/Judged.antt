@@ -11,11 +11,11 @@ use Rattle.std.specs.Global.{Vec}
 use Rattle.trace_recorder.proofs.Lists.{history_within}
 use Rattle.trace_recorder.specs.History.{History}
 use Rattle.witnesses.specs.Outcomes.{outcome_of, results_from}
-use Rattle.witnesses.specs.Witnesses.{IsAllowed, IsWhole, IsWitness, has_ended, history_of}
+use Rattle.witnesses.specs.Witnesses.{IsAllowed, IsWholeRun, IsWitness, has_ended, history_of}
 use Rattle.witnesses.specs.declared.witness.Run.{Run}
 use Rattle.witnesses.specs.declared.witness.Witness.{Witness}
 
-pub is_witness : (image : Initial) (config : Config) (run : Run) (witness : Witness) → IsWhole config.harts run → IsAllowed config.model witness.trace.history → length (names_in witness.trace.history) ≤ 4096
+pub is_witness : (image : Initial) (config : Config) (run : Run) (witness : Witness) → IsWholeRun config.harts run → IsAllowed config.model witness.trace.history → length (names_in witness.trace.history) ≤ 4096
     → witness.trace.history ≡ history_of image config run → told witness.harts.items ≡ results_from image (length run.entries.items) 0 (map (λ list. list.items) run.entries.items) run.statuses.items
     → IsWitness image config witness
 is_witness image config run witness whole allowed few is results = record {

@@ -7,7 +7,7 @@ use Rattle.hart.specs.declared.status.Status.{Status}
 use Rattle.hart.specs.Run.{is_running}
 use Rattle.machine_model.specs.declared.config.Config.{Config}
 use Rattle.machine_model.specs.Views.{size_of_config}
-use Rattle.memory_model.specs.declared.Model.{Model}
+use Rattle.memory_model.specs.declared.MemoryModel.{MemoryModel}
 use Rattle.memory_model.specs.Traces.{IsLegalOrder, IsOrder, are_runs, names_in}
 use Rattle.trace_recorder.specs.History.{History}
 use Rattle.trace_recorder.specs.Limits.{AreWithinLimits, IsWithinLimits}
@@ -19,7 +19,7 @@ abbrev pub has_ended : Status → Bool
 has_ended status = not (is_running status)
 
 -- each hart's list is a run of the image from reset, and the performed order has each operation once and is legal under the model
-pub record IsAllowed (model : Model) (t : History) : Type 0 where
+pub record IsAllowed (model : MemoryModel) (t : History) : Type 0 where
   pub runs : are_runs t ≡ true
   pub order : IsOrder t t.performed
   pub legal : IsLegalOrder model t t.performed
@@ -36,7 +36,7 @@ history_of image config run = record {
 }
 
 -- a list and a status for each hart, none too long for a trace, and all harts have ended
-pub record IsWhole (harts : ℕ) (run : Run) : Type 0 where
+pub record IsWholeRun (harts : ℕ) (run : Run) : Type 0 where
   pub lists : length run.entries.items ≡ harts
   pub ends : length run.statuses.items ≡ harts
   pub limits : AreWithinLimits run.entries.items
@@ -44,7 +44,7 @@ pub record IsWhole (harts : ℕ) (run : Run) : Type 0 where
 
 -- a run that is told as a witness
 pub record CanBeJudged (image : Initial) (config : Config) (run : Run) : Type 0 where
-  pub whole : IsWhole config.harts run
+  pub whole : IsWholeRun config.harts run
   pub allowed : IsAllowed config.model (history_of image config run)
   pub few : length (names_in (history_of image config run)) ≤ 4096
 

@@ -2,13 +2,13 @@
 ghost use Rattle.std.specs.Prelude.{◌≡◌, ◌↔◌, ◌≤◌, None, IfOk, IfSome, IsTrue, length};
 ghost use Rattle.std.specs.List.{list_all};
 ghost use Rattle.memory_model.specs.Traces.{names_in};
-ghost use Rattle.witnesses.specs.Witnesses.{CanBeJudged, IsAllowed, IsWhole, IsWitness, has_ended, history_of};
+ghost use Rattle.witnesses.specs.Witnesses.{CanBeJudged, IsAllowed, IsWholeRun, IsWitness, has_ended, history_of};
 
 use crate::results::results_of;
 use crate::witness::{Run, Witness};
 use elf_loader::Image;
 use hart::Status;
-use machine_model::{Config, Model};
+use machine_model::{Config, MemoryModel};
 use machine_parts::line_size;
 use rvwmo_order::{CheckError, Verdict, check_model};
 use std::alloc::{AllocError, Global};
@@ -56,7 +56,7 @@ fn have_ended(statuses: &[Status]) -> bool
 
 /// Whether there is a list and a status for each hart, no list is too long for a trace, and all harts have ended.
 fn is_whole(run: &Run, harts: u32) -> bool
-    ensures { IsTrue result ↔ IsWhole harts run.now }
+    ensures { IsTrue result ↔ IsWholeRun harts run.now }
 {
     run.entries.len() == harts as usize
         && run.statuses.len() == harts as usize
@@ -65,7 +65,7 @@ fn is_whole(run: &Run, harts: u32) -> bool
 }
 
 /// Whether the lists of a trace are runs, and its performed order is a legal one of all their operations.
-fn is_legal(alloc: Global, trace: &Trace, model: Model) -> Result<bool, AllocError>
+fn is_legal(alloc: Global, trace: &Trace, model: MemoryModel) -> Result<bool, AllocError>
     ensures { IfOk result (λ legal. IsTrue legal ↔ (IsAllowed model trace.now.history × length (names_in trace.now.history) ≤ 4096)) }
 {
     match check_model(alloc, trace, trace.performed(), model) {

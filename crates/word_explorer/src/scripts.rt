@@ -2,7 +2,7 @@
 ghost use Rattle.std.specs.Prelude.{◌≡◌, IsTrue, Ok, true};
 ghost use Rattle.flat_machine.specs.Onward.{are_aligned};
 ghost use Rattle.flat_model.specs.Shown.{results, told};
-ghost use Rattle.word_explorer.specs.Ends.{IsScriptTo, Shows, ending_with};
+ghost use Rattle.word_explorer.specs.Ends.{IsScriptTo, ShowsWords, ending_with};
 
 use explorer::{Program, Script, compare};
 use final_words::{has_drained, words_of};
@@ -27,7 +27,7 @@ impl WordProgram<'_> {
     ) -> Result<bool, AllocError>
         requires aligned { IsTrue (are_aligned self.now.addresses.now) }
         requires results { told schedule.now.results.items ≡ results schedule.now.machine }
-        ensures { result ≡ Ok true → Shows self.now.addresses.now schedule.now.machine (ending_with harts.now words.now) }
+        ensures { result ≡ Ok true → ShowsWords self.now.addresses.now schedule.now.machine (ending_with harts.now words.now) }
     {
         if !has_drained(&schedule.machine.views()) {
             return Ok(false);

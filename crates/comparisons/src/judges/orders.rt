@@ -3,7 +3,7 @@
 //! A file has one trace behind another.
 
 use anyhow::{Context, Result, bail, ensure};
-use rvwmo_order::{Model, plain};
+use rvwmo_order::{MemoryModel, plain};
 use std::alloc::Global;
 use std::fs;
 use std::io::Write;
@@ -32,7 +32,7 @@ fn judge_file<R: Files + AllocGlobal>(rt: &R, name: &str, traces: usize) -> Resu
         let Ok((trace, length)) = read_trace(rt.alloc(), rest) else {
             bail!("{name}: trace {number} can't be read");
         };
-        for model in [Model::Rvwmo, Model::Ztso] {
+        for model in [MemoryModel::Rvwmo, MemoryModel::Ztso] {
             let judged = judge_trace(rt.alloc(), &trace, model).with_context(
                 || format!(in rt.alloc(); "{name}: trace {number}"),
             )?;
@@ -45,7 +45,7 @@ fn judge_file<R: Files + AllocGlobal>(rt: &R, name: &str, traces: usize) -> Resu
 }
 
 // Compares the verdicts on a trace's completed order, and on that with each two neighbours exchanged.
-fn judge_trace(alloc: Global, trace: &Trace, model: Model) -> Result<usize> {
+fn judge_trace(alloc: Global, trace: &Trace, model: MemoryModel) -> Result<usize> {
     let mut order = rvwmo_order::completed(alloc, trace)?;
     let plain = plain::completed(alloc, trace)?;
     ensure!(order == plain, "completed orders differ");
@@ -60,7 +60,7 @@ fn judge_trace(alloc: Global, trace: &Trace, model: Model) -> Result<usize> {
 }
 
 // Fails where the two bodies answer differently.
-fn compare(alloc: Global, trace: &Trace, order: &[OpId], model: Model) -> Result<()> {
+fn compare(alloc: Global, trace: &Trace, order: &[OpId], model: MemoryModel) -> Result<()> {
     let indexed = rvwmo_order::check_model(alloc, trace, order, model);
     let plain = plain::check_model(alloc, trace, order, model);
     ensure!(indexed == plain, "{indexed:?} and {plain:?}");

@@ -4,7 +4,7 @@ use super::play::config_of;
 use crate::images::{ImageKind, image_of};
 use anyhow::{Result, bail};
 use flat_lockstep::{Counts, Difference, Failures, Lockstep};
-use machine_model::Model;
+use machine_model::MemoryModel;
 use plain_machine::Variant;
 use std::alloc::Global;
 use std::fmt;
@@ -47,7 +47,7 @@ pub struct Kept<'a> {
     pub kind: ImageKind,
     pub image: &'a [u8],
     pub script: &'a [u8],
-    pub model: Model,
+    pub model: MemoryModel,
 }
 
 /// Plays a script until the first difference.

@@ -4,7 +4,7 @@ use super::machines::Playable;
 use crate::images::{ImageKind, image_of};
 use anyhow::{Result, bail};
 use hart::Status;
-use machine_model::{Config, Model, Outcome};
+use machine_model::{Config, MemoryModel, Outcome};
 use std::alloc::Global;
 use std::io::{self, Write};
 use trace_text::{Script, read_script, write_trace};
@@ -19,7 +19,7 @@ pub struct Played {
     pub ends: Vec<u8>,
 }
 
-pub fn config_of(script: &Script, model: Model) -> Config {
+pub fn config_of(script: &Script, model: MemoryModel) -> Config {
     Config {
         harts: script.harts,
         sets: script.sets,
@@ -34,7 +34,7 @@ pub fn play<M: Playable + Drop>(
     kind: ImageKind,
     image: &[u8],
     script: &[u8],
-    model: Model,
+    model: MemoryModel,
 ) -> Result<Played> {
     let Ok(script) = read_script(alloc, script) else {
         bail!("no script");

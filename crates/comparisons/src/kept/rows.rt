@@ -14,7 +14,7 @@ use coherent_machine::Machine;
 use command_files::SystemFiles;
 use command_line::run_line;
 use flat_lockstep::{Counts, Failures};
-use machine_model::Model;
+use machine_model::MemoryModel;
 use plain_machine::{PlainMachine, Variant};
 use progress_line::Silent;
 use std::alloc::Global;
@@ -30,7 +30,7 @@ use std::{fmt, fs};
 struct Case<'a> {
     name: &'a str,
     kind: ImageKind,
-    model: Model,
+    model: MemoryModel,
 }
 
 fn case_of(line: &str) -> Option<Case<'_>> {
@@ -42,8 +42,8 @@ fn case_of(line: &str) -> Option<Case<'_>> {
         _ => return None,
     };
     let model = match words.next()? {
-        "rvwmo" => Model::Rvwmo,
-        "ztso" => Model::Ztso,
+        "rvwmo" => MemoryModel::Rvwmo,
+        "ztso" => MemoryModel::Ztso,
         _ => return None,
     };
     Some(Case { name, kind, model })
@@ -97,10 +97,10 @@ fn difference<M: Playable + Drop, R: Files + AllocGlobal>(
     Ok(None)
 }
 
-fn model_name(model: Model) -> &'static str {
+fn model_name(model: MemoryModel) -> &'static str {
     match model {
-        Model::Rvwmo => "rvwmo",
-        Model::Ztso => "ztso",
+        MemoryModel::Rvwmo => "rvwmo",
+        MemoryModel::Ztso => "ztso",
     }
 }
 
@@ -247,7 +247,7 @@ fn refutation<R: Files + AllocGlobal>(rt: &R, name: &str, variant: Variant) -> R
     let case = Case {
         name,
         kind: ImageKind::Raw,
-        model: Model::Rvwmo,
+        model: MemoryModel::Rvwmo,
     };
     let right = shown_case(rt, &case, Variant::Right, Failures::Decide)?;
     ensure!(matches!(right, Shown::Whole(_)), "{name}: {right}");

@@ -5,7 +5,7 @@ use super::{LINE_BYTES, WORD};
 use crate::numbers::Numbers;
 use anyhow::{Result, bail, ensure};
 use flat_lockstep::{Counts, Failures, Lockstep};
-use machine_model::{Config, Event, Model};
+use machine_model::{Config, Event, MemoryModel};
 use plain_machine::Variant;
 use std::alloc::Global;
 use tl_types::Channel;
@@ -79,7 +79,12 @@ fn event_of(number: u32) -> Event {
 
 /// Plays so many events of the stream, and fails at the first difference, or where no SC succeeds, or none
 /// fails for no reason that a program shows.
-pub fn every_flat_event(alloc: Global, model: Model, ways: u32, events: u32) -> Result<Counts> {
+pub fn every_flat_event(
+    alloc: Global,
+    model: MemoryModel,
+    ways: u32,
+    events: u32,
+) -> Result<Counts> {
     let config = Config {
         harts: 2,
         sets: 1,

@@ -6,7 +6,7 @@ use crate::images::{ImageKind, image_of};
 use anyhow::{Context, Result, bail, ensure};
 use coherent_machine::Machine;
 use elf_loader::Image;
-use machine_model::{Config, Event, Model, Outcome};
+use machine_model::{Config, Event, MemoryModel, Outcome};
 use plain_machine::PlainMachine;
 use std::alloc::Global;
 use trace_text::write_trace;
@@ -21,7 +21,7 @@ const PROGRAM: [u32; 5] = [
 ];
 
 /// Caches of one line of 16 bytes each.
-fn config_of(model: Model) -> Config {
+fn config_of(model: MemoryModel) -> Config {
     Config {
         harts: 2,
         sets: 1,
@@ -47,7 +47,7 @@ pub struct Pair {
 }
 
 impl Pair {
-    pub fn at_reset(alloc: Global, model: Model) -> Result<Pair> {
+    pub fn at_reset(alloc: Global, model: MemoryModel) -> Result<Pair> {
         let config = config_of(model);
         let plain = PlainMachine::new(alloc, image_of_words(alloc, &PROGRAM)?, config)?;
         Ok(Pair {

@@ -10,7 +10,7 @@ use crate::words::{Marks, laid_over};
 use elf_loader::{BASE, Image};
 use flat_model::FlatEvent;
 use hart::{Hart, Retired, Status};
-use machine_model::{Config, Model, Outcome};
+use machine_model::{Config, MemoryModel, Outcome};
 use rv32_decode::Instr;
 use std::alloc::{AllocError, Global};
 use trace_recorder::OpId;
@@ -69,7 +69,7 @@ fn hart_of(event: FlatEvent) -> u8 {
 
 fn kind_of(deed: Deed) -> Kind {
     match deed {
-        Deed::Conditional { .. } | Deed::Update { .. } => Kind::Write,
+        Deed::Sc { .. } | Deed::Amo { .. } => Kind::Write,
         _ => Kind::Read,
     }
 }
@@ -162,20 +162,20 @@ impl FlatMachine {
     /// What an instruction does as it retires.
     fn does(&mut self, hart: u8, deed: Deed) -> Result<(), AllocError> {
         match deed {
-            Deed::Alone => {}
+            Deed::Private => {}
             Deed::Load => self.performs_own(hart)?,
             Deed::Output(_) | Deed::Store(_) | Deed::Seal => self.does_aside(hart, deed)?,
-            Deed::Reserve(word) => {
+            Deed::Lr(word) => {
                 self.performs_own(hart)?;
                 self.with_reservation(hart, Some(word));
             }
             Deed::Fail => self.with_reservation(hart, None),
-            Deed::Conditional { word, value } => {
+            Deed::Sc { word, value } => {
                 self.performs_own(hart)?;
                 self.writes_word(word, ALL_BYTES, value.to_le_bytes());
                 self.with_reservation(hart, None);
             }
-            Deed::Update { word, value } => {
+            Deed::Amo { word, value } => {
                 self.performs_own(hart)?;
                 self.writes_word(word, ALL_BYTES, value.to_le_bytes());
             }
@@ -193,8 +193,8 @@ impl FlatMachine {
         match deed {
             Deed::Output(number) => node.output.push(number)?,
             Deed::Store(store) => match model {
-                Model::Rvwmo => node.buffer.after_put(alloc, &store)?,
-                Model::Ztso => node.buffer.after_put_single(alloc, &store)?,
+                MemoryModel::Rvwmo => node.buffer.after_put(alloc, &store)?,
+                MemoryModel::Ztso => node.buffer.after_put_single(alloc, &store)?,
             },
             Deed::Seal => node.buffer.after_seal(alloc)?,
             _ => {}

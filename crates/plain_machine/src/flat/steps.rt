@@ -11,7 +11,7 @@ use amo_unit::combine;
 use hart::Retired;
 use machine_model::Outcome;
 use rv32_decode::{AmoOp, Instr};
-use rv32_exec::{Plan as Access, Width};
+use rv32_exec::{Action, Width};
 
 /// What an event comes to.
 #[derive(Clone, Copy, Debug, PartialEq, Eq)]
@@ -137,22 +137,16 @@ impl FlatMachine {
         write_waits(self.rules.config.model, &node.buffer, &fetched.instr, word)
     }
 
-    fn plan_reserve(&self, node: &FlatNode, fetched: &Fetched, address: u32) -> FlatPlan {
+    fn plan_lr(&self, node: &FlatNode, fetched: &Fetched, address: u32) -> FlatPlan {
         if waits_for_stores(&node.buffer, &fetched.instr, address) {
             return FlatPlan::Stays(Outcome::MustDrain);
         }
         let reading = Reading::of_load(self.number_in(address), Some(address));
-        retires(node, fetched, reading, Deed::Reserve(address))
+        retires(node, fetched, reading, Deed::Lr(address))
     }
 
     /// Without its reservation a store conditional fails at once.
-    fn plan_conditional(
-        &self,
-        node: &FlatNode,
-        fetched: &Fetched,
-        address: u32,
-        value: u32,
-    ) -> FlatPlan {
+    fn plan_sc(&self, node: &FlatNode, fetched: &Fetched, address: u32, value: u32) -> FlatPlan {
         let waits = self.write_waits(node, fetched, address);
         if node.reserved != Some(address) {
             return if waits && self.rules.variant == Variant::AsksBufferFirst {
@@ -164,7 +158,7 @@ impl FlatMachine {
         if waits {
             return FlatPlan::Stays(Outcome::MustDrain);
         }
-        let deed = Deed::Conditional {
+        let deed = Deed::Sc {
             word: address,
             value,
         };
@@ -183,27 +177,27 @@ impl FlatMachine {
             return FlatPlan::Stays(Outcome::MustDrain);
         }
         let old = self.number_in(address);
-        let deed = Deed::Update {
+        let deed = Deed::Amo {
             word: address,
             value: combine(op, old, operand),
         };
         retires(node, fetched, Reading::of_load(old, Some(address)), deed)
     }
 
-    fn plan_access(&self, node: &FlatNode, fetched: &Fetched, access: Access) -> FlatPlan {
+    fn plan_access(&self, node: &FlatNode, fetched: &Fetched, access: Action) -> FlatPlan {
         match access {
-            Access::Local => retires(node, fetched, Reading::nothing(), Deed::Alone),
-            Access::Load { addr, size } => self.plan_load(node, fetched, addr, size),
-            Access::Store { addr, size, value } => plan_store(node, fetched, addr, size, value),
-            Access::Lr { addr } => self.plan_reserve(node, fetched, addr),
-            Access::Sc { addr, value } => self.plan_conditional(node, fetched, addr, value),
-            Access::Amo { addr, op, operand } => self.plan_amo(node, fetched, addr, op, operand),
-            Access::Fence => plan_fence(node, fetched),
-            Access::Call => {
+            Action::Private => retires(node, fetched, Reading::nothing(), Deed::Private),
+            Action::Load { addr, size } => self.plan_load(node, fetched, addr, size),
+            Action::Store { addr, size, value } => plan_store(node, fetched, addr, size, value),
+            Action::Lr { addr } => self.plan_lr(node, fetched, addr),
+            Action::Sc { addr, value } => self.plan_sc(node, fetched, addr, value),
+            Action::Amo { addr, op, operand } => self.plan_amo(node, fetched, addr, op, operand),
+            Action::Fence => plan_fence(node, fetched),
+            Action::Call => {
                 let deed = call_deed(&node.hart.regs);
                 retires(node, fetched, Reading::nothing(), deed)
             }
-            Access::Stop(code) => FlatPlan::Stops(code),
+            Action::Stop(code) => FlatPlan::Stops(code),
         }
     }
 
@@ -224,7 +218,7 @@ impl FlatMachine {
             return FlatPlan::Stays(Outcome::Halted);
         }
         match next_access(&self.image, &node.hart, node.place()) {
-            Ok((fetched, Access::Sc { .. })) => fails(node, &fetched),
+            Ok((fetched, Action::Sc { .. })) => fails(node, &fetched),
             _ => FlatPlan::Refused,
         }
     }

@@ -13,7 +13,7 @@ use crate::plain::judging::judge;
 use crate::plain::orders::is_order;
 use crate::runs::are_runs;
 use crate::verdict::Verdict;
-use memory_model::Model;
+use memory_model::MemoryModel;
 use std::alloc::{AllocError, Global};
 use trace_recorder::{OpId, Trace};
 
@@ -22,7 +22,7 @@ pub fn check_model(
     alloc: Global,
     trace: &Trace,
     order: &[OpId],
-    model: Model,
+    model: MemoryModel,
 ) -> Result<Verdict, CheckError>
     ensures no_run { traces.are_runs trace.now.history ≡ false → result ≡ Err CheckError.NotARun }
     ensures too_long { traces.are_runs trace.now.history ≡ true → 4096 < length (traces.names_in trace.now.history) → result ≡ Err CheckError.TooLong }
@@ -49,7 +49,7 @@ fn verdict_on(
     alloc: Global,
     trace: &Trace,
     order: &[OpId],
-    model: Model,
+    model: MemoryModel,
 ) -> Result<Verdict, AllocError>
     ensures { IfOk result (λ v. v ≡ judged model (traces.image_of trace.now.history) (traces.instructions trace.now.history) (traces.operations_at (traces.instructions trace.now.history) order.now)) }
 {

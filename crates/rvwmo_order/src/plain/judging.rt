@@ -18,10 +18,15 @@ use crate::rules::are_paired;
 use crate::sources::byte_from;
 use crate::verdict::{Code, RULES, Rule, Verdict};
 use elf_loader::Image;
-use memory_model::{Model, Operation};
+use memory_model::{MemoryModel, Operation};
 
 /// The verdict on an order of the operations of these lists, one a hart.
-pub(crate) fn judge(model: Model, image: &Image, harts: &Harts, order: &[Operation]) -> Verdict
+pub(crate) fn judge(
+    model: MemoryModel,
+    image: &Image,
+    harts: &Harts,
+    order: &[Operation],
+) -> Verdict
     ensures { result ≡ judged model (byte_at image.now) harts.now order.now }
 {
     if let Some((rule, a, b)) = broken_rule(model, harts, order) {
@@ -39,7 +44,7 @@ pub(crate) fn judge(model: Model, image: &Image, harts: &Harts, order: &[Operati
 // Whether the rule says that `a` must come before `b`.
 fn is_asked(
     rule: Rule,
-    model: Model,
+    model: MemoryModel,
     harts: &Harts,
     order: &[Operation],
     a: &Operation,
@@ -53,7 +58,7 @@ fn is_asked(
 
 // The first rule by which an operation must come before one that stands before it, with the two.
 fn broken_rule(
-    model: Model,
+    model: MemoryModel,
     harts: &Harts,
     order: &[Operation],
 ) -> Option<(Rule, Operation, Operation)>
@@ -72,7 +77,7 @@ fn broken_rule(
 // Two operations of which the one behind must come first by this rule.
 fn first_out_of_order(
     rule: Rule,
-    model: Model,
+    model: MemoryModel,
     harts: &Harts,
     order: &[Operation],
 ) -> Option<(Operation, Operation)>
@@ -92,7 +97,7 @@ fn first_out_of_order(
 // The first of the operations behind `b` that must come before it.
 fn first_asked(
     rule: Rule,
-    model: Model,
+    model: MemoryModel,
     harts: &Harts,
     order: &[Operation],
     behind: &[Operation],

@@ -12,8 +12,7 @@ ghost use Rattle.rvwmo_order.specs.Scans as scans;
 ghost use Rattle.rvwmo_order.specs.Codes.{rule_of};
 
 use crate::accesses::{
-    end_of, has_acquire, has_rcsc, has_release, is_amo, is_conditional, overlap, reads, touches,
-    writes,
+    end_of, has_acquire, has_rcsc, has_release, is_amo, is_sc, overlap, reads, touches, writes,
 };
 use crate::items::Items;
 use crate::plain::dependencies::{
@@ -24,12 +23,12 @@ use crate::plain::sources::{returns_from, source};
 use crate::rules::{are_paired, has_store_between, is_fenced};
 use crate::sources::is_same_source;
 use crate::verdict::Rule;
-use memory_model::{Model, Operation};
+use memory_model::{MemoryModel, Operation};
 
 /// Whether the rule holds of two operations, of which the first precedes the second in program order.
 pub(crate) fn asks(
     rule: Rule,
-    model: Model,
+    model: MemoryModel,
     items: &Items,
     order: &[Operation],
     a: &Operation,
@@ -41,7 +40,7 @@ pub(crate) fn asks(
         Rule::OverlappingStore => writes(b.kind) && overlap(a, b),
         Rule::SameByteLoads => are_same_byte_loads(items, order, a, b),
         Rule::AtomicSource => {
-            (is_amo(a.kind) || is_conditional(a.kind)) && reads(b.kind) && returns_from(order, b, a)
+            (is_amo(a.kind) || is_sc(a.kind)) && reads(b.kind) && returns_from(order, b, a)
         }
         Rule::Fence => is_fenced(items, a, b),
         Rule::Acquire => has_acquire(model, a),

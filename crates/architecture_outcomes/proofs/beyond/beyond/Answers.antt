@@ -1,7 +1,7 @@
 use Rattle.std.proofs.Common.{◌≡◌, ◌∙◌, ◌||◌, ◌++◌, ◌∷◌, [], List, Option, All, IfSome, false, subst, sym}
 use Rattle.std.specs.List.{list_any}
 use Rattle.std.proofs.lemmas.List.Elements.{All-nil, All-pop, All-push}
-use Rattle.architecture_outcomes.specs.Outcomes.{IsShown, TellOnce, is_end, of_witness, tells}
+use Rattle.architecture_outcomes.specs.Outcomes.{IsWitnessed, TellOnce, is_end, of_witness, tells}
 use Rattle.architecture_outcomes.specs.declared.outcome.Outcome.{Outcome}
 use Rattle.architecture_outcomes.proofs.NeverEnds.{shown}
 use Rattle.architecture_outcomes.proofs.Once.{found_once, neither, one_more}
@@ -14,14 +14,14 @@ use Rattle.architecture_outcomes.proofs.beyond.beyond.Goals as goal
 pub loop-witness-init : goal.loop-witness-init
 loop-witness-init c = record {
   left = c.requires.witnessed;
-  shown = subst (All (IsShown c.args.image.now c.args.config)) (sym c.new-outcomes.ensures.items) (All-nil (IsShown c.args.image.now c.args.config));
+  shown = subst (All (IsWitnessed c.args.image.now c.args.config)) (sym c.new-outcomes.ensures.items) (All-nil (IsWitnessed c.args.image.now c.args.config));
   once = subst (TellOnce c.args.found.now) (sym c.new-outcomes.ensures.items) (found_once c.args.found.now c.requires.once);
 }
 
 pub loop-witness-preserved-in-Continue-1 : goal.loop-witness-preserved-in-Continue-1
 loop-witness-preserved-in-Continue-1 c =
     let P = IsWitness c.args.image.now c.args.config in
-    let S = IsShown c.args.image.now c.args.config in
+    let S = IsWitnessed c.args.image.now c.args.config in
     let parts = All-pop P c.loop-witness.left.items c.pop.new.self.items c.pop.result c.pop.ensures.items c.loop-witness.invariant.left in
     let here : P c.in-Some.witness = subst (λ (o : Option Witness). IfSome o P) c.in-Some.is parts.1 in
     let outcomes = c.loop-witness.outcomes.items in

@@ -1,12 +1,12 @@
 use Rattle.std.proofs.Common.{All, length}
-use Rattle.architecture_outcomes.specs.Outcomes.{IsShown, TellOnce}
+use Rattle.architecture_outcomes.specs.Outcomes.{IsWitnessed, TellOnce}
 use Rattle.witnesses.specs.Witnesses.{IsWitness}
 use Rattle.architecture_outcomes.proofs.beyond.beyond.Given as goal
 
 abbrev pub invariant-loop-witness : goal.invariant-loop-witness
 invariant-loop-witness l = record {
   left : All (IsWitness l.image l.fn.config) l.left.items;
-  shown : All (IsShown l.image l.fn.config) l.outcomes.items;
+  shown : All (IsWitnessed l.image l.fn.config) l.outcomes.items;
   once : TellOnce l.found l.outcomes.items;
 }
 

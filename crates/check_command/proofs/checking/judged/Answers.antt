@@ -3,7 +3,7 @@ use Rattle.std.specs.Prelude.{IsErrOf}
 use Rattle.check_command.specs.Checking.{IsVerdict}
 use Rattle.memory_model.specs.Traces.{IsLegalOrder, are_runs, completed, names_in}
 use Rattle.memory_model.specs.Verdict.{fault_in}
-use Rattle.memory_model.specs.declared.Model.{Model}
+use Rattle.memory_model.specs.declared.MemoryModel.{MemoryModel}
 use Rattle.rvwmo_order.specs.Answers.{fault_told, refusal, refusal_of}
 use Rattle.rvwmo_order.specs.declared.error.CheckError.{CheckError}
 use Rattle.rvwmo_order.specs.declared.error.CheckError.TheVariants.{NoMemory, NotARun, TooLong}
@@ -18,13 +18,13 @@ some_refusal true many rest is none =
     let told : None ≡ Some TooLong = none ∙ ap (λ (b : Bool). if b then Some TooLong else rest) is in cc
 some_refusal false many rest is none = cc
 
-too_long : (r : Result Verdict CheckError) (model : Model) (t : History) (order : List OpId) → nat_lt 4096 (length (names_in t)) ≡ true
+too_long : (r : Result Verdict CheckError) (model : MemoryModel) (t : History) (order : List OpId) → nat_lt 4096 (length (names_in t)) ≡ true
     → (¬ IsErrOf r NoMemory → refusal_of r ≡ refusal t order) → IfOk r (IsVerdict model t)
 too_long (Ok v) model t order many refused =
     absurd (some_refusal (are_runs t) (nat_lt 4096 (length (names_in t))) _ many (refused (λ h. cc)))
 too_long (Err e) model t order many refused = tt
 
-verdict_on : (r : Result Verdict CheckError) (model : Model) (t : History) (order : List OpId) → order ≡ completed t
+verdict_on : (r : Result Verdict CheckError) (model : MemoryModel) (t : History) (order : List OpId) → order ≡ completed t
     → (¬ IsErrOf r NoMemory → refusal_of r ≡ refusal t order) → IfOk r (λ v. (v ≡ Legal) ↔ IsLegalOrder model t order) → IfOk r (λ v. fault_told v ≡ fault_in model t order) → IfOk r (IsVerdict model t)
 verdict_on (Ok v) model t order is refused legal first = record {
   judged = subst (λ (o : List OpId). refusal t o ≡ None) is (sym (refused (λ h. cc)));

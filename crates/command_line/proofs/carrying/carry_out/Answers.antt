@@ -2,7 +2,7 @@ use Rattle.std.proofs.Common.{subst, sym}
 use Rattle.command_files.proofs.Left.{either, handed_up}
 use Rattle.command_line.proofs.Carried.{all_told_of, broken, broken_off, check_beyond, check_broken, check_came, explain_told, explained, explore_beyond, explore_broken, explore_came, explore_written, show_beyond, show_broken, show_came, show_written, told_of}
 use Rattle.command_line.proofs.Meant.{beyond_run, journal_alone, no_address, unwritten}
-use Rattle.command_line.specs.Running.{IsBeyond, IsDone, IsWritten}
+use Rattle.command_line.specs.Running.{IsOutOfRange, IsDone, IsWritten}
 use Rattle.explain_command.proofs.Told.{explain_never_misused}
 use Rattle.replay_command.proofs.Told.{replay_never_misused}
 use Rattle.command_line.proofs.carrying.carry_out.Goals as goal
@@ -50,7 +50,7 @@ pub returns-in_err-chart_files-in-Chart-clause-unfinished : goal.returns-in_err-
 returns-in_err-chart_files-in-Chart-clause-unfinished g c = handed_up _ c.from_residual-in_err-chart_files-in-Chart.result _ c.from_residual-in_err-chart_files-in-Chart.ensures.1 (broken _ _ _ _ _ _ c.in-Chart.is c.in_err-chart_files-in-Chart.ensures.unfinished)
 
 pub returns-in_err-chart_files-in-Chart-clause-beyond : goal.returns-in_err-chart_files-in-Chart-clause-beyond
-returns-in_err-chart_files-in-Chart-clause-beyond g c = handed_up _ c.from_residual-in_err-chart_files-in-Chart.result _ c.from_residual-in_err-chart_files-in-Chart.ensures.1 (λ two. let it = c.in_err-chart_files-in-Chart.ensures.misused two in (subst IsBeyond (sym c.in-Chart.is) (no_address _ _ it.0), it.1))
+returns-in_err-chart_files-in-Chart-clause-beyond g c = handed_up _ c.from_residual-in_err-chart_files-in-Chart.result _ c.from_residual-in_err-chart_files-in-Chart.ensures.1 (λ two. let it = c.in_err-chart_files-in-Chart.ensures.misused two in (subst IsOutOfRange (sym c.in-Chart.is) (no_address _ _ it.0), it.1))
 
 pub returns-in_ok-run_files-in-Run-clause-came : goal.returns-in_ok-run_files-in-Run-clause-came
 returns-in_ok-run_files-in-Run-clause-came g c = subst (IsDone _ _ _ _) (sym c.in-Run.is) c.in_ok-run_files-in-Run.ensures.ran
@@ -65,7 +65,7 @@ pub returns-in_err-run_files-in-Run-clause-unfinished : goal.returns-in_err-run_
 returns-in_err-run_files-in-Run-clause-unfinished g c = handed_up _ c.from_residual-in_err-run_files-in-Run.result _ c.from_residual-in_err-run_files-in-Run.ensures.1 (broken _ _ _ _ _ _ c.in-Run.is (either _ _ _ _ c.in_err-run_files-in-Run.ensures.unfinished))
 
 pub returns-in_err-run_files-in-Run-clause-beyond : goal.returns-in_err-run_files-in-Run-clause-beyond
-returns-in_err-run_files-in-Run-clause-beyond g c = handed_up _ c.from_residual-in_err-run_files-in-Run.result _ c.from_residual-in_err-run_files-in-Run.ensures.1 (λ two. let it = beyond_run _ _ _ c.in-Run.run' _ _ c.in_err-run_files-in-Run.ensures.told c.in_err-run_files-in-Run.ensures.unfinished two in (subst IsBeyond (sym c.in-Run.is) it.0, it.1))
+returns-in_err-run_files-in-Run-clause-beyond g c = handed_up _ c.from_residual-in_err-run_files-in-Run.result _ c.from_residual-in_err-run_files-in-Run.ensures.1 (λ two. let it = beyond_run _ _ _ c.in-Run.run' _ _ c.in_err-run_files-in-Run.ensures.told c.in_err-run_files-in-Run.ensures.unfinished two in (subst IsOutOfRange (sym c.in-Run.is) it.0, it.1))
 
 pub returns-in-Explore-clause-came : goal.returns-in-Explore-clause-came
 returns-in-Explore-clause-came g c = explore_came _ _ _ _ _ c.in-Explore.explore c.explored.result c.in-Explore.is c.explored.ensures.came

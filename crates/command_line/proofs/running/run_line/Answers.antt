@@ -4,7 +4,7 @@ use Rattle.clap.specs.declared.error.Error.{Error}
 use Rattle.clap.specs.declared.error.kind.ErrorKind.{ErrorKind}
 use Rattle.command_files.specs.Held.{Held}
 use Rattle.command_line.proofs.Meant.{some_states}
-use Rattle.command_line.specs.Running.{Came, IsBroken, IsCarriedOut, IsNotLegal, IsUnprinted}
+use Rattle.command_line.specs.Running.{Came, IsHalfPrinted, IsCarriedOut, IsNotLegal, IsUnprinted}
 use Rattle.command_line.specs.Telling.{IsFaulted}
 use Rattle.command_settings.specs.Refusals.{HasKinds, IsFitting, IsHelp, IsRefused}
 use Rattle.command_settings.specs.Settings.{IsNamed}
@@ -19,7 +19,7 @@ told_of : (words : List Text) (refusal : SettingsError) (usage : Error) (P : Err
 told_of words refusal usage P is refused asks =
     let told : IsRefused words (Usage usage) = subst (IsRefused words) is refused in (told.0, told.1, (kind_of usage, told.2, asks))
 
-stopped : (words : List Text) (held left : Held) (old new : Option (List ℕ)) (wanted : Settings) → IsNamed words wanted → IsFitting words → (new ≡ old) ⊎ IsBroken held left old new wanted
+stopped : (words : List Text) (held left : Held) (old new : Option (List ℕ)) (wanted : Settings) → IsNamed words wanted → IsFitting words → (new ≡ old) ⊎ IsHalfPrinted held left old new wanted
     → IsUnprinted words held left old new
 unfolding IsUnprinted
 stopped words held left old new wanted named fitting so = elim so [

@@ -2,7 +2,7 @@ use Rattle.std.proofs.Common.{◌∙◌, Err, IfErr, IsErrAnd, List, Ok, Result,
 use Rattle.clap.specs.Kinds.{HasKind}
 use Rattle.clap.specs.Words.{App, IsAmong, Text, app_of, fault_of, kind_of}
 use Rattle.clap.specs.declared.error.Error.{Error}
-use Rattle.command_settings.specs.Refusals.{IsRefused, Tells}
+use Rattle.command_settings.specs.Refusals.{IsRefused, TellsError}
 use Rattle.command_settings.specs.declared.wanted.SettingsError.{SettingsError}
 use Rattle.command_settings.specs.declared.wanted.SettingsError.TheVariants.{NoMemory, Usage}
 use Rattle.command_settings.specs.Usage.{IsUsage}
@@ -10,7 +10,7 @@ use Rattle.command_settings.proofs.Fitting.{fitting, free, simple}
 use Rattle.command_settings.proofs.Missing.{same_complete}
 use Rattle.command_settings.proofs.usage.settings_by.Goals as goal
 
-refused : {X : Type 0} (words : List Text) (r : Result X SettingsError) (error : Error) (app : App) → IsUsage app → IsErrAnd r (Tells error) → HasKind (fault_of app words) error
+refused : {X : Type 0} (words : List Text) (r : Result X SettingsError) (error : Error) (app : App) → IsUsage app → IsErrAnd r (TellsError error) → HasKind (fault_of app words) error
     → IfErr r (IsRefused words)
 refused words (Ok x) error app is told kind = tt
 refused words (Err NoMemory) error app is told kind = tt

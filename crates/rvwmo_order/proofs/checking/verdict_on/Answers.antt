@@ -4,7 +4,7 @@ use Rattle.memory_model.specs.declared.operation.Operation.{Operation}
 use Rattle.memory_model.specs.Items.{Item}
 use Rattle.memory_model.specs.Traces.{instructions, operations_at}
 use Rattle.memory_model.proofs.Named.{Pairwise-from_is_distinct, operations_distinct}
-use Rattle.rvwmo_order.specs.Bounds.{GivesEach, IsDistinct}
+use Rattle.rvwmo_order.specs.Bounds.{GivesEach, AreDistinctOperations}
 use Rattle.rvwmo_order.proofs.Clear.{distinct_once}
 use Rattle.rvwmo_order.proofs.Given.{given_each}
 use Rattle.rvwmo_order.proofs.Verdicts.{same_judged}
@@ -20,7 +20,7 @@ pub judge-requires-clause-distinct : goal.judge-requires-clause-distinct
 judge-requires-clause-distinct c =
     let t = c.args.trace.now.history in
     let listed : c.in_ok-index.index ≡ operations_at (instructions t) c.args.order.now = c.in_ok-index.ensures ∙ (c.in_ok-operations_at.ensures ∙ ap (λ hs. operations_at hs c.args.order.now) c.in_ok-harts.ensures) in
-    subst (λ (xs : List Operation). IsDistinct xs) (sym listed) (distinct_once (operations_at (instructions t) c.args.order.now) (operations_distinct t c.args.order.now (Pairwise-from_is_distinct c.args.order.now c.requires)))
+    subst (λ (xs : List Operation). AreDistinctOperations xs) (sym listed) (distinct_once (operations_at (instructions t) c.args.order.now) (operations_distinct t c.args.order.now (Pairwise-from_is_distinct c.args.order.now c.requires)))
 
 pub returns : goal.returns
 returns c =

@@ -7,7 +7,7 @@ use Rattle.exploration_text.specs.Words.{words_text}
 use Rattle.explore_command.proofs.Explored.{all_of, err_more, memory_left, ok_both, ok_more, spared_after}
 use Rattle.explore_command.proofs.Faults.{folder_left, folder_told, output_left}
 use Rattle.show_command.proofs.Shown.{judged_of, of_file}
-use Rattle.show_command.specs.Targets.{IsPlaced, names_of}
+use Rattle.show_command.specs.Targets.{AreAddressesOf, names_of}
 use Rattle.text_fields.specs.Writing.{Begins}
 use Rattle.word_explorer.specs.Ends.{endings_of}
 use Rattle.show_command.proofs.showing.show_files.Goals as goal
@@ -19,7 +19,7 @@ returns-in_err-print-clause-unfinished g c =
     let targets = c.in_ok-targets.targets in
     let named = c.in_ok-named.named in
     let found = c.in-Ok.ensures in
-    let placed = subst (λ (a : List ℕ). IsPlaced named.names show.words.items a) (sym c.deref-2.ensures.value) (subst (λ (w : List Name). IsPlaced named.names w targets.addresses.items) c.deref.ensures.value c.in_ok-targets.ensures.placed) in
+    let placed = subst (λ (a : List ℕ). AreAddressesOf named.names show.words.items a) (sym c.deref-2.ensures.value) (subst (λ (w : List Name). AreAddressesOf named.names w targets.addresses.items) c.deref.ensures.value c.in_ok-targets.ensures.placed) in
     let of = of_file held (g.F.Files.held c.allow_file.new.files) show c.in-Some-named_config.config named.image named.names c.in-Some-named_config.ensures.config.0 c.in_ok-allowed.ensures.stays c.in_ok-named.ensures.image c.deref-2.result.now c.in-Ok.found placed
     (record { real = found.real; complete = found.complete; none_stuck = found.none_stuck; some = found.some; stuck = found.stuck; order = found.order; full = found.full; visited = found.visited }) in
     let names = c.deref-3.ensures.value ∙ (c.in_ok-targets.ensures.names ∙ ap names_of c.deref.ensures.value) in
@@ -36,7 +36,7 @@ returns-in_err-keep-clause-unfinished g c =
     let targets = c.in_ok-targets.targets in
     let named = c.in_ok-named.named in
     let found = c.in-Ok.ensures in
-    let placed = subst (λ (a : List ℕ). IsPlaced named.names show.words.items a) (sym c.deref-2.ensures.value) (subst (λ (w : List Name). IsPlaced named.names w targets.addresses.items) c.deref.ensures.value c.in_ok-targets.ensures.placed) in
+    let placed = subst (λ (a : List ℕ). AreAddressesOf named.names show.words.items a) (sym c.deref-2.ensures.value) (subst (λ (w : List Name). AreAddressesOf named.names w targets.addresses.items) c.deref.ensures.value c.in_ok-targets.ensures.placed) in
     let of = of_file held (g.F.Files.held c.allow_file.new.files) show c.in-Some-named_config.config named.image named.names c.in-Some-named_config.ensures.config.0 c.in_ok-allowed.ensures.stays c.in_ok-named.ensures.image c.deref-2.result.now c.in-Ok.found placed
     (record { real = found.real; complete = found.complete; none_stuck = found.none_stuck; some = found.some; stuck = found.stuck; order = found.order; full = found.full; visited = found.visited }) in
     let names = c.deref-3.ensures.value ∙ (c.in_ok-targets.ensures.names ∙ ap names_of c.deref.ensures.value) in
@@ -53,7 +53,7 @@ returns-clause-shown g c =
     let targets = c.in_ok-targets.targets in
     let named = c.in_ok-named.named in
     let found = c.in-Ok.ensures in
-    let placed = subst (λ (a : List ℕ). IsPlaced named.names show.words.items a) (sym c.deref-2.ensures.value) (subst (λ (w : List Name). IsPlaced named.names w targets.addresses.items) c.deref.ensures.value c.in_ok-targets.ensures.placed) in
+    let placed = subst (λ (a : List ℕ). AreAddressesOf named.names show.words.items a) (sym c.deref-2.ensures.value) (subst (λ (w : List Name). AreAddressesOf named.names w targets.addresses.items) c.deref.ensures.value c.in_ok-targets.ensures.placed) in
     let of = of_file held (g.F.Files.held c.allow_file.new.files) show c.in-Some-named_config.config named.image named.names c.in-Some-named_config.ensures.config.0 c.in_ok-allowed.ensures.stays c.in_ok-named.ensures.image c.deref-2.result.now c.in-Ok.found placed
     (record { real = found.real; complete = found.complete; none_stuck = found.none_stuck; some = found.some; stuck = found.stuck; order = found.order; full = found.full; visited = found.visited }) in
     let names = c.deref-3.ensures.value ∙ (c.in_ok-targets.ensures.names ∙ ap names_of c.deref.ensures.value) in
@@ -76,7 +76,7 @@ returns-clause-unfinished g c =
     let targets = c.in_ok-targets.targets in
     let named = c.in_ok-named.named in
     let found = c.in-Ok.ensures in
-    let placed = subst (λ (a : List ℕ). IsPlaced named.names show.words.items a) (sym c.deref-2.ensures.value) (subst (λ (w : List Name). IsPlaced named.names w targets.addresses.items) c.deref.ensures.value c.in_ok-targets.ensures.placed) in
+    let placed = subst (λ (a : List ℕ). AreAddressesOf named.names show.words.items a) (sym c.deref-2.ensures.value) (subst (λ (w : List Name). AreAddressesOf named.names w targets.addresses.items) c.deref.ensures.value c.in_ok-targets.ensures.placed) in
     let of = of_file held (g.F.Files.held c.allow_file.new.files) show c.in-Some-named_config.config named.image named.names c.in-Some-named_config.ensures.config.0 c.in_ok-allowed.ensures.stays c.in_ok-named.ensures.image c.deref-2.result.now c.in-Ok.found placed
     (record { real = found.real; complete = found.complete; none_stuck = found.none_stuck; some = found.some; stuck = found.stuck; order = found.order; full = found.full; visited = found.visited }) in
     let names = c.deref-3.ensures.value ∙ (c.in_ok-targets.ensures.names ∙ ap names_of c.deref.ensures.value) in

@@ -3,7 +3,7 @@ use Rattle.std.specs.Prelude.{sum}
 use Rattle.std.proofs.lemmas.Result.{err_from_is_err_and}
 use Rattle.store_buffer.specs.declared.entry.Store.{Store}
 use Rattle.store_buffer.specs.Groups.{after_put}
-use Rattle.store_buffer.specs.Layout.{groups_in, IsLaidOut}
+use Rattle.store_buffer.specs.Layout.{groups_in, AreGroupsLaidOut}
 use Rattle.store_buffer.proofs.Layouts.{put_groups, put_keeps}
 use Rattle.store_buffer.proofs.Puts.{room, new_list, full_answer}
 use Rattle.store_buffer.proofs.buffer.StoreBuffer.put.Goals as goal
@@ -22,7 +22,7 @@ invariant_of-self-2 c =
     let at : c.total-start.result ≡ sum b.sealed.items = c.total-start.ensures ∙ ap sum c.deref.ensures.0 in
     let fits = room s c.total-start.result b.sealed.items b.entries.items c.in_ok-put_behind.field-0 at c.in_ok-put_behind.ensures.full.1 in
     let new = new_list s c.total-start.result b.sealed.items b.entries.items c.put_behind.new.entries.items at c.in_ok-put_behind.ensures.ok in
-    subst (IsLaidOut b.sealed.items) (sym new) (put_keeps s b.sealed.items b.entries.items c.self.invariant fits)
+    subst (AreGroupsLaidOut b.sealed.items) (sym new) (put_keeps s b.sealed.items b.entries.items c.self.invariant fits)
 
 pub returns-clause-ok : goal.returns-clause-ok
 returns-clause-ok c =

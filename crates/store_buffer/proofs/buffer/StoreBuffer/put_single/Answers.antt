@@ -3,7 +3,7 @@ use Rattle.std.specs.Prelude.{sum}
 use Rattle.std.proofs.lemmas.Result.{err_from_is_err_and}
 use Rattle.store_buffer.specs.declared.entry.Store.{Store}
 use Rattle.store_buffer.specs.Groups.{after_put_single}
-use Rattle.store_buffer.specs.Layout.{groups_in, IsLaidOut}
+use Rattle.store_buffer.specs.Layout.{groups_in, AreGroupsLaidOut}
 use Rattle.store_buffer.proofs.Layouts.{put_list, put_keeps, few_groups, single_old, single_first, single_new, single_keeps}
 use Rattle.store_buffer.proofs.Puts.{room, new_list, full_answer}
 use Rattle.store_buffer.proofs.buffer.StoreBuffer.put_single.Goals as goal
@@ -34,8 +34,8 @@ invariant_of-self-then-count-start c =
     let count = c.len-count.ensures.value in
     let grown : length b.entries.items < length (put_list s (sum b.sealed.items) b.entries.items) = let is_new = c.if-is_new.true in omega (arith, c.len.ensures.value, ap length new) in
     let some : 0 < c.len-count.result - c.total-start.result = let more = c.if-count-start.true in omega arith in
-    subst (λ ns. IsLaidOut ns c.put_behind.new.entries.items) (sym c.push.ensures.items)
-    (subst (IsLaidOut _) (sym new) (single_keeps s b.sealed.items (c.len-count.result - c.total-start.result) b.entries.items c.self.invariant fits (omega arith) some grown))
+    subst (λ ns. AreGroupsLaidOut ns c.put_behind.new.entries.items) (sym c.push.ensures.items)
+    (subst (AreGroupsLaidOut _) (sym new) (single_keeps s b.sealed.items (c.len-count.result - c.total-start.result) b.entries.items c.self.invariant fits (omega arith) some grown))
 
 pub invariant_of-self-else-count-start : goal.invariant_of-self-else-count-start
 invariant_of-self-else-count-start c =
@@ -44,7 +44,7 @@ invariant_of-self-else-count-start c =
     let at : c.total-start.result ≡ sum b.sealed.items = c.total-start.ensures ∙ ap sum c.deref.ensures.0 in
     let fits = room s c.total-start.result b.sealed.items b.entries.items c.in_ok-put_behind.field-0 at c.in_ok-put_behind.ensures.full.1 in
     let new = new_list s c.total-start.result b.sealed.items b.entries.items c.put_behind.new.entries.items at c.in_ok-put_behind.ensures.ok in
-    subst (IsLaidOut b.sealed.items) (sym new) (put_keeps s b.sealed.items b.entries.items c.self.invariant fits)
+    subst (AreGroupsLaidOut b.sealed.items) (sym new) (put_keeps s b.sealed.items b.entries.items c.self.invariant fits)
 
 pub invariant_of-self-else-is_new : goal.invariant_of-self-else-is_new
 invariant_of-self-else-is_new c =
@@ -53,7 +53,7 @@ invariant_of-self-else-is_new c =
     let at : c.total-start.result ≡ sum b.sealed.items = c.total-start.ensures ∙ ap sum c.deref.ensures.0 in
     let fits = room s c.total-start.result b.sealed.items b.entries.items c.in_ok-put_behind.field-0 at c.in_ok-put_behind.ensures.full.1 in
     let new = new_list s c.total-start.result b.sealed.items b.entries.items c.put_behind.new.entries.items at c.in_ok-put_behind.ensures.ok in
-    subst (IsLaidOut b.sealed.items) (sym new) (put_keeps s b.sealed.items b.entries.items c.self.invariant fits)
+    subst (AreGroupsLaidOut b.sealed.items) (sym new) (put_keeps s b.sealed.items b.entries.items c.self.invariant fits)
 
 pub returns-then-count-start-clause-ok : goal.returns-then-count-start-clause-ok
 returns-then-count-start-clause-ok c =

@@ -1,7 +1,7 @@
 use Rattle.std.proofs.Common.{◌≡◌, ℕ, ◌-◌, ◌<◌, length, ap, ◌∙◌, subst, sym, arith, lit<}
 use Rattle.std.specs.Prelude.{sum}
 use Rattle.store_buffer.specs.Groups.{after_seal}
-use Rattle.store_buffer.specs.Layout.{groups_in, IsLaidOut}
+use Rattle.store_buffer.specs.Layout.{groups_in, AreGroupsLaidOut}
 use Rattle.store_buffer.proofs.Layouts.{few_groups, seal_groups, seal_keeps}
 use Rattle.store_buffer.proofs.buffer.StoreBuffer.seal.Goals as goal
 
@@ -18,7 +18,7 @@ invariant_of-self c =
     let b = c.self.inside in
     let at : c.total-start.result ≡ sum b.sealed.items = c.total-start.ensures ∙ ap sum c.deref.ensures.0 in
     let count = c.len.ensures.value in
-    subst (λ ns. IsLaidOut ns b.entries.items) (sym c.push.ensures.items) (seal_keeps b.sealed.items (c.len.result - c.total-start.result) b.entries.items (omega arith) c.if-count-gt0.true c.self.invariant)
+    subst (λ ns. AreGroupsLaidOut ns b.entries.items) (sym c.push.ensures.items) (seal_keeps b.sealed.items (c.len.result - c.total-start.result) b.entries.items (omega arith) c.if-count-gt0.true c.self.invariant)
 
 pub returns-then-count-gt0 : goal.returns-then-count-gt0
 returns-then-count-gt0 c =

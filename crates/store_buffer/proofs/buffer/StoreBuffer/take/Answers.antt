@@ -2,7 +2,7 @@ use Rattle.std.proofs.Common.{◌≡◌, true, ap, ◌∙◌, subst, sym}
 use Rattle.std.proofs.lemmas.Bool.{false≢true}
 use Rattle.store_buffer.specs.Entry.{has_word, entry_of}
 use Rattle.store_buffer.specs.Groups.{Groups, oldest, drainable, after_take}
-use Rattle.store_buffer.specs.Layout.{groups_in, IsLaidOut, place_of, one_less}
+use Rattle.store_buffer.specs.Layout.{groups_in, AreGroupsLaidOut, place_of, one_less}
 use Rattle.store_buffer.proofs.Places.{is_place, no_place}
 use Rattle.store_buffer.proofs.Layouts.{oldest_in, oldest_has, oldest_entry, take_groups, take_keeps}
 use Rattle.store_buffer.proofs.buffer.StoreBuffer.take.Goals as goal
@@ -21,8 +21,8 @@ invariant_of-self c =
     let word = c.args.word in
     let h : has_word word (oldest_in b.sealed.items b.entries.items) ≡ true = ap (drainable word) c.self.view_is ∙ c.requires in
     let p = is_place word c.in-Some.place b.entries.items (ap (place_of word) (sym c.deref.ensures.0) ∙ sym c.place_of.ensures ∙ c.in-Some.is) in
-    subst (λ ns. IsLaidOut ns c.remove.new.self.items) (sym c.forget_one.ensures)
-    (subst (IsLaidOut (one_less b.sealed.items)) (sym (c.remove.ensures.items ∙ p.removed)) (take_keeps word b.sealed.items b.entries.items c.self.invariant h))
+    subst (λ ns. AreGroupsLaidOut ns c.remove.new.self.items) (sym c.forget_one.ensures)
+    (subst (AreGroupsLaidOut (one_less b.sealed.items)) (sym (c.remove.ensures.items ∙ p.removed)) (take_keeps word b.sealed.items b.entries.items c.self.invariant h))
 
 pub returns-clause-entry : goal.returns-clause-entry
 returns-clause-entry c =

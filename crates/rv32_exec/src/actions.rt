@@ -1,6 +1,7 @@
 //! What instructions will do to memory.
 
 ghost use Rattle.std.specs.Prelude.{◌≡◌};
+ghost use Rattle.rv32_exec.specs.Actions.{addressed};
 ghost use Rattle.rv32_exec.specs.Width.{bytes_of};
 
 use rv32_decode::AmoOp;
@@ -28,9 +29,9 @@ impl Width {
 
 /// What an instruction will do beside its own hart's pc and registers.
 #[derive(Clone, Copy, Debug, PartialEq, Eq)]
-pub enum Plan {
+pub enum Action {
     /// Nothing.
-    Local,
+    Private,
     Load { addr: u32, size: Width },
     /// The value is cut to the size.
     Store { addr: u32, size: Width, value: u32 },
@@ -42,4 +43,20 @@ pub enum Plan {
     Call,
     /// The instruction does nothing, and its hart stops with this code of [`stop`].
     Stop(u8),
+}
+
+impl Action {
+    /// The address that its access begins at, if it has one.
+    pub fn address(self) -> Option<u32>
+        ensures { result ≡ addressed self }
+    {
+        match self {
+            Action::Load { addr, .. }
+            | Action::Store { addr, .. }
+            | Action::Lr { addr }
+            | Action::Sc { addr, .. }
+            | Action::Amo { addr, .. } => Some(addr),
+            Action::Private | Action::Fence | Action::Call | Action::Stop(_) => None,
+        }
+    }
 }
