@@ -22,7 +22,7 @@ fn computed(op: RegisterOp, a: u32, b: u32) -> u32 {
 }
 
 // The plan of a word at 0x80000000 with all registers 0.
-fn planned(word: u32) -> Option<Plan> {
+fn planned(word: u32) -> Option<Action> {
     let instr = decode(word)?;
     Some(plan(&instr, PC, &Regs::new(), 4096))
 }
@@ -41,12 +41,12 @@ fn row_3(rt: HostRuntime) {
 
 #[test]
 fn row_28(rt: HostRuntime) {
-    same(&rt, planned(0x0020_0067), Some(Plan::Stop(0)));
-    same(&rt, planned(0x0020_00ef), Some(Plan::Stop(0)));
-    same(&rt, planned(0x0000_0163), Some(Plan::Stop(0)));
-    same(&rt, planned(0x0000_1163), Some(Plan::Private));
-    same(&rt, planned(0x0010_0073), Some(Plan::Stop(3)));
-    same(&rt, planned(0x0000_0067), Some(Plan::Private));
+    same(&rt, planned(0x0020_0067), Some(Action::Stop(0)));
+    same(&rt, planned(0x0020_00ef), Some(Action::Stop(0)));
+    same(&rt, planned(0x0000_0163), Some(Action::Stop(0)));
+    same(&rt, planned(0x0000_1163), Some(Action::Private));
+    same(&rt, planned(0x0010_0073), Some(Action::Stop(3)));
+    same(&rt, planned(0x0000_0067), Some(Action::Private));
     assert!(rt; decode(0x4000_1013).is_none());
 }
 
@@ -70,7 +70,7 @@ fn a_load_is_planned_and_finished(rt: HostRuntime) -> Result<(), Fail> {
     same(
         &rt,
         plan(&instr, PC, &regs, 4096),
-        Plan::Load {
+        Action::Load {
             addr,
             size: Width::Byte,
         },

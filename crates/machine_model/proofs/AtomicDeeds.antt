@@ -28,7 +28,7 @@ use Rattle.memory_model.specs.Operations.{is_sc, is_lr, stores_to, touches, writ
 use Rattle.memory_model.specs.Rules.{is_lr_or_sc}
 use Rattle.reservations.specs.Reservation.{is_valid}
 use Rattle.rv32_decode.specs.declared.instruction.Annotations.{Annotations}
-use Rattle.rv32_exec.specs.Meaning.{Access, Private, Loads, Stores, Reserves, DoesSc, DoesAmo, Fences, Calls}
+use Rattle.rv32_exec.specs.Meaning.{Access, Private, Loads, Stores, DoesLr, DoesSc, DoesAmo, Fences, Calls}
 use Rattle.store_buffer.specs.Groups.{Groups, has}
 use Rattle.trace_recorder.specs.declared.operation.OpId.{OpId}
 use Rattle.tl_types.specs.declared.line.LineData.{LineData}
@@ -89,7 +89,7 @@ deed_is model h place bits n f entry (Stores address bytes value) (deed.Store s)
 deed_is model h place bits n f entry (DoesAmo address op operand) (deed.Amo word v) m p gave x e = inl (plain_some m n.reserved p _ gave refl refl)
 deed_is model h place bits n f entry Fences deed.Private m p gave x e = inl (plain_none m n.reserved p gave)
 deed_is model h place bits n f entry Fences deed.Seal m p gave x e = inl (plain_none m n.reserved p gave)
-deed_is model h place bits n f entry (Reserves address) (deed.Lr word) m p gave x e = inr (inr (record {
+deed_is model h place bits n f entry (DoesLr address) (deed.Lr word) m p gave x e = inr (inr (record {
   performs = λ z. one_not _ z;
   word = word;
   some = refl;
@@ -138,7 +138,7 @@ deed_writes model h place bits n f entry (DoesAmo address op operand) (deed.Amo 
     subst (Writable n) (sym at) (trunk_writable n address e.6.0 e.6.1 e.6.2)
 deed_writes model h place bits n f entry Fences deed.Private m gave x e r some i g y s = absurd (some refl)
 deed_writes model h place bits n f entry Fences deed.Seal m gave x e r some i g y s = absurd (some refl)
-deed_writes model h place bits n f entry (Reserves address) (deed.Lr word) m gave x e r some i g y s = absurd (false≢true (ap (stores_to y) (some_is _ i (sym gave ∙ g)) ∙ s))
+deed_writes model h place bits n f entry (DoesLr address) (deed.Lr word) m gave x e r some i g y s = absurd (false≢true (ap (stores_to y) (some_is _ i (sym gave ∙ g)) ∙ s))
 deed_writes model h place bits n f entry (DoesSc address value) deed.Fail m gave x e r some i g y s = absurd (some refl)
 deed_writes model h place bits n f entry (DoesSc address value) (deed.Sc word v) m gave x e r some i g y s =
     subst (Writable n) (sym (go entry.sc_ok _ e.2 (sym gave ∙ g) (aligned_in_word address x.1) (word_aligned address x.1))) (r address (valid_word address n.reserved e.3))
