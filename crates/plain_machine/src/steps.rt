@@ -202,7 +202,7 @@ pub(crate) fn call_deed(regs: &Regs) -> Deed {
 }
 
 /// A running hart's next instruction and what it will do; or the code with which the hart stops before it.
-pub(crate) fn next_access(image: &Image, hart: &Hart, place: u32) -> Result<(Fetched, Access), u8> {
+pub(crate) fn next_access(image: &Image, hart: &Hart, place: u32) -> Result<(Fetched, Action), u8> {
     if !image.has_word(hart.pc) {
         return Err(stop::FETCH_OUTSIDE);
     }

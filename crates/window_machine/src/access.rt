@@ -12,9 +12,9 @@ use rv32_exec::{Action, Width, plan, stop};
 pub(crate) enum Kind {
     Load,
     Store,
-    Reserve,
+    Lr,
     /// An SC that succeeds.
-    Conditional,
+    Sc,
     Amo,
 }
 
