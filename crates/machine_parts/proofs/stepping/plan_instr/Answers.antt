@@ -49,9 +49,9 @@ returns-in-Fence c =
     let f = found i hart.pc hart.regs c.args.size c.plan.result action.Fence (seen c.plan.result i c.args.size c.node.inside.hart hart (ap (λ (n : Node). n.hart) c.node.view_is) c.plan.ensures.value) c.in-Fence.is in
     c.plan_fence.ensures ∙ goes_on c.args.config.now.model c.args.node.now (fetched_of c.args.fetched.now) (stop_of i hart.pc hart.regs c.args.size) (access_of i hart.regs) Fences f
 
-pub returns-in-Local : goal.returns-in-Local
-returns-in-Local c =
+pub returns-in-Private : goal.returns-in-Private
+returns-in-Private c =
     let hart = c.args.node.now.hart in
     let i = c.args.fetched.now.instr in
-    let f = found i hart.pc hart.regs c.args.size c.plan.result action.Private (seen c.plan.result i c.args.size c.node.inside.hart hart (ap (λ (n : Node). n.hart) c.node.view_is) c.plan.ensures.value) c.in-Local.is in
+    let f = found i hart.pc hart.regs c.args.size c.plan.result action.Private (seen c.plan.result i c.args.size c.node.inside.hart hart (ap (λ (n : Node). n.hart) c.node.view_is) c.plan.ensures.value) c.in-Private.is in
     c.retires.ensures ∙ goes_on c.args.config.now.model c.args.node.now (fetched_of c.args.fetched.now) (stop_of i hart.pc hart.regs c.args.size) (access_of i hart.regs) Private f
