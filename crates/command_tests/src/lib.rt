@@ -3,4 +3,6 @@
 #![tactic(auto)]
 
 #[cfg(test)]
+mod same;
+#[cfg(test)]
 mod tests;

@@ -11,6 +11,7 @@ mod running;
 mod showing;
 mod texts;
 
+use crate::same::{same, same_of};
 use command_line::run_line;
 use memory::{File, MemoryFiles, Narrow, Stuck};
 use progress_line::Silent;
@@ -68,9 +69,9 @@ fn replays(
 ) -> Result<(), Fail> {
     let image = image_of(rt.alloc(), words)?;
     let ran = replay(rt, image.as_slice(), script.as_bytes());
-    assert_eq!(rt; ran.err.as_slice(), ends.as_bytes());
-    assert_eq!(rt; ran.out.as_slice(), trace.as_bytes());
-    assert_eq!(rt; ran.status, 0);
+    same(rt, ran.err.as_slice(), ends.as_bytes());
+    same(rt, ran.out.as_slice(), trace.as_bytes());
+    same(rt, ran.status, 0);
     Ok(())
 }
 
@@ -84,11 +85,12 @@ fn breaks_off<R: Abort + Threads + Wait + Sync + AllocGlobal, O: Write>(
     let mut err = Vec::new(rt.alloc());
     let mut held = MemoryFiles::new(rt.alloc(), files);
     let status = run_line(rt, rt.alloc(), words, &mut held, out, &mut err, &Silent);
-    assert_eq!(rt; status, 1, "{words:?}");
-    assert_eq!(rt;
+    same_of(rt, status, 1, &words);
+    same_of(
+        rt,
         err.as_slice(),
         b"rvtl: cannot write\n".as_slice(),
-        "{words:?}"
+        &words,
     );
     Ok(())
 }
@@ -106,7 +108,7 @@ fn breaks_anywhere<R: Abort + Threads + Wait + Sync + AllocGlobal>(
             room,
         };
         breaks_off(rt, words, files, &mut out)?;
-        assert_eq!(rt; out.taken.len(), room);
+        same(rt, out.taken.len(), room);
         assert!(rt; text.as_bytes().starts_with(out.taken.as_slice()));
     }
     Ok(())
@@ -178,19 +180,20 @@ fn outputs_stand_behind_the_status(rt: HostRuntime) -> Result<(), Fail> {
     )?;
     let script = "rvtl-script 1 1 4 4 2\nstep 0\nstep 0\nstep 0\nstep 0\n";
     let ran = replay(&rt, image.as_slice(), script.as_bytes());
-    assert_eq!(rt;
+    same(
+        &rt,
         ran.err.as_slice(),
-        b"hart 0: run output 4294967295 4294967295\n".as_slice()
+        b"hart 0: run output 4294967295 4294967295\n".as_slice(),
     );
-    assert_eq!(rt; ran.status, 0);
+    same(&rt, ran.status, 0);
     Ok(())
 }
 
 #[test]
 fn stops_are_told(rt: HostRuntime) {
     let ran = replay(&rt, &[0; 4], b"rvtl-script 1 1 4 4 2\nstep 0\n");
-    assert_eq!(rt; ran.err.as_slice(), b"hart 0: stop 2\n".as_slice());
-    assert_eq!(rt; ran.status, 0);
+    same(&rt, ran.err.as_slice(), b"hart 0: stop 2\n".as_slice());
+    same(&rt, ran.status, 0);
 }
 
 /// An image, a script, and the message and status that they give.
@@ -251,8 +254,8 @@ const FAULTS: [(&[u8], &[u8], &str, u8); 9] = [
 fn row_23_and_the_other_faults(rt: HostRuntime) {
     for (image, script, message, status) in FAULTS {
         let ran = replay(&rt, image, script);
-        assert_eq!(rt; ran.err.as_slice(), message.as_bytes(), "{message}");
-        assert_eq!(rt; ran.status, status, "{message}");
+        same_of(&rt, ran.err.as_slice(), message.as_bytes(), &message);
+        same_of(&rt, ran.status, status, &message);
         assert!(rt; ran.out.is_empty(), "{message}");
     }
 }
@@ -279,8 +282,8 @@ fn files_that_are_not_there(rt: HostRuntime) {
         ),
     ] {
         let ran = line(&rt, words, &script);
-        assert_eq!(rt; ran.err.as_slice(), message.as_bytes(), "{message}");
-        assert_eq!(rt; ran.status, status, "{message}");
+        same_of(&rt, ran.err.as_slice(), message.as_bytes(), &message);
+        same_of(&rt, ran.status, status, &message);
         assert!(rt; ran.out.is_empty(), "{message}");
     }
 }
@@ -292,17 +295,19 @@ fn files_that_break(rt: HostRuntime) {
     let script = File::whole("script", texts::EXIT_SCRIPT.as_bytes());
     let broken = File::broken("script", texts::EXIT_SCRIPT.as_bytes());
     let ran = line(&rt, &words, &[broken, File::whole("image", &[0; 4])]);
-    assert_eq!(rt;
+    same(
+        &rt,
         ran.err.as_slice(),
-        b"rvtl: script: cannot read\n".as_slice()
+        b"rvtl: script: cannot read\n".as_slice(),
     );
-    assert_eq!(rt; ran.status, 1);
+    same(&rt, ran.status, 1);
     let ran = line(&rt, &words, &[script, File::broken("image", &[0; 4])]);
-    assert_eq!(rt;
+    same(
+        &rt,
         ran.err.as_slice(),
-        b"rvtl: image: cannot read\n".as_slice()
+        b"rvtl: image: cannot read\n".as_slice(),
     );
-    assert_eq!(rt; ran.status, 1);
+    same(&rt, ran.status, 1);
 }
 
 /// A file whose first line is longer than any text's is refused by its beginning: this one fails behind it.
@@ -316,11 +321,12 @@ fn no_more_is_read_than_decides(rt: HostRuntime) -> Result<(), Fail> {
         &["rvtl", "check", "--messages", "long"],
     ] {
         let ran = line(&rt, words, &[File::broken("long", long.as_slice())]);
-        assert_eq!(rt;
+        same(
+            &rt,
             ran.err.as_slice(),
-            b"rvtl: long: line 1: text fault 1 Header\n".as_slice()
+            b"rvtl: long: line 1: text fault 1 Header\n".as_slice(),
         );
-        assert_eq!(rt; ran.status, 1);
+        same(&rt, ran.status, 1);
     }
     Ok(())
 }
@@ -367,11 +373,12 @@ fn two_harts_end(rt: HostRuntime) -> Result<(), Fail> {
     let image = image_of(rt.alloc(), &texts::EXIT)?;
     let script = "rvtl-script 1 2 4 4 2\nstep 1\nstep 1\nstep 0\n";
     let ran = replay(&rt, image.as_slice(), script.as_bytes());
-    assert_eq!(rt;
+    same(
+        &rt,
         ran.err.as_slice(),
-        b"hart 0: run\nhart 1: exit 5\n".as_slice()
+        b"hart 0: run\nhart 1: exit 5\n".as_slice(),
     );
-    assert_eq!(rt; ran.status, 0);
+    same(&rt, ran.status, 0);
     Ok(())
 }
 
@@ -389,7 +396,7 @@ fn usage_and_help(rt: HostRuntime) {
         (&["rvtl", "explain", "--help"], 0),
     ] {
         let ran = line(&rt, words, &[]);
-        assert_eq!(rt; ran.status, status, "{words:?}");
+        same_of(&rt, ran.status, status, &words);
         assert!(rt; ran.out.is_empty() == (status == 2), "{words:?}");
         assert!(rt; ran.err.is_empty() == (status == 0), "{words:?}");
     }
@@ -398,11 +405,12 @@ fn usage_and_help(rt: HostRuntime) {
 #[test]
 fn a_name_stays_on_its_line(rt: HostRuntime) {
     let ran = line(&rt, &["rvtl", "replay", "image", "a\nb\x1b[2J"], &[]);
-    assert_eq!(rt;
+    same(
+        &rt,
         ran.err.as_slice(),
-        b"rvtl: a\\nb\\u{1b}[2J: cannot read\n".as_slice()
+        b"rvtl: a\\nb\\u{1b}[2J: cannot read\n".as_slice(),
     );
-    assert_eq!(rt; ran.status, 1);
+    same(&rt, ran.status, 1);
 }
 
 /// Numbers that a run's options don't take.

@@ -9,4 +9,6 @@ mod drawing;
 #[cfg(test)]
 mod fabric;
 #[cfg(test)]
+mod same;
+#[cfg(test)]
 mod threads;

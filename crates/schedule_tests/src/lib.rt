@@ -9,4 +9,6 @@ mod exploring;
 #[cfg(test)]
 mod realising;
 #[cfg(test)]
+mod same;
+#[cfg(test)]
 mod searching;

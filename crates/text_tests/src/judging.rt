@@ -1,6 +1,7 @@
 //! How many operations are judged, and where bytes come from.
 mod plain;
 
+use crate::same::same;
 use elf_loader::{raw, size_of_kib};
 use hart::{Retired, Status};
 use rvwmo_order::{CheckError, Verdict, check, completed};
@@ -53,11 +54,12 @@ fn stores(alloc: Global, count: usize) -> Result<Trace, Fail> {
 fn as_many_operations_as_are_judged(rt: HostRuntime) -> Result<(), Fail> {
     let trace = stores(rt.alloc(), 4096)?;
     let order = completed(rt.alloc(), &trace)?;
-    assert_eq!(rt; order.len(), 4096);
-    assert_eq!(rt; check(rt.alloc(), &trace, &order), Ok(Verdict::Legal));
-    assert_eq!(rt;
+    same(&rt, order.len(), 4096);
+    same(&rt, check(rt.alloc(), &trace, &order), Ok(Verdict::Legal));
+    same(
+        &rt,
         check(rt.alloc(), &trace, &order[1..]),
-        Err(CheckError::NotAnOrder)
+        Err(CheckError::NotAnOrder),
     );
     Ok(())
 }
@@ -66,7 +68,15 @@ fn as_many_operations_as_are_judged(rt: HostRuntime) -> Result<(), Fail> {
 fn one_operation_more(rt: HostRuntime) -> Result<(), Fail> {
     let trace = stores(rt.alloc(), 4097)?;
     let order = completed(rt.alloc(), &trace)?;
-    assert_eq!(rt; check(rt.alloc(), &trace, &order), Err(CheckError::TooLong));
-    assert_eq!(rt; check(rt.alloc(), &trace, &[]), Err(CheckError::TooLong));
+    same(
+        &rt,
+        check(rt.alloc(), &trace, &order),
+        Err(CheckError::TooLong),
+    );
+    same(
+        &rt,
+        check(rt.alloc(), &trace, &[]),
+        Err(CheckError::TooLong),
+    );
     Ok(())
 }

@@ -9,6 +9,8 @@ mod progress;
 #[cfg(test)]
 mod remarks;
 #[cfg(test)]
+mod same;
+#[cfg(test)]
 mod spelling;
 #[cfg(test)]
 mod streams;

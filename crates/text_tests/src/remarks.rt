@@ -1,5 +1,6 @@
 //! The texts of remarks.
 
+use crate::same::same;
 use elf_loader::{LoadError, load, raw};
 use file_remarks::{EventRemark, FileRemark, ImageRemark, ScriptRemark, TraceRemark};
 use machine_model::Event;
@@ -68,7 +69,7 @@ fn scripts(rt: HostRuntime) -> Result<(), Fail> {
             panic!(rt; "{text} is read")
         };
         let told = format!(in rt.alloc(); "{}", ScriptRemark { bytes, error })?;
-        assert_eq!(rt; told.as_str(), remark);
+        same(&rt, told.as_str(), remark);
     }
     Ok(())
 }
@@ -109,7 +110,7 @@ fn traces(rt: HostRuntime) -> Result<(), Fail> {
             panic!(rt; "{text} is read")
         };
         let told = format!(in rt.alloc(); "{}", TraceRemark { bytes, error })?;
-        assert_eq!(rt; told.as_str(), remark);
+        same(&rt, told.as_str(), remark);
     }
     Ok(())
 }
@@ -160,7 +161,7 @@ fn images(rt: HostRuntime) -> Result<(), Fail> {
                 error
             }
         )?;
-        assert_eq!(rt; told.as_str(), remark);
+        same(&rt, told.as_str(), remark);
     }
     Ok(())
 }
@@ -209,7 +210,7 @@ fn events(rt: HostRuntime) -> Result<(), Fail> {
                 script: &script
             }
         )?;
-        assert_eq!(rt; told.as_str(), remark);
+        same(&rt, told.as_str(), remark);
     }
     Ok(())
 }
@@ -218,6 +219,6 @@ fn events(rt: HostRuntime) -> Result<(), Fail> {
 fn files(rt: HostRuntime) -> Result<(), Fail> {
     let error = io::Error::from(ErrorKind::NotFound);
     let told = format!(in rt.alloc(); "{}", FileRemark(error))?;
-    assert_eq!(rt; told.as_str(), "there is no such file or folder");
+    same(&rt, told.as_str(), "there is no such file or folder");
     Ok(())
 }

@@ -1,5 +1,6 @@
 //! Whole streams of small programs, where they end, and writers that fail.
 
+use crate::same::same;
 use coherent_machine::ApplyError;
 use elf_loader::{Image, raw, size_of_kib};
 use elf_symbols::Symbols;
@@ -236,7 +237,7 @@ fn a_stream_has_each_line_below_its_event(rt: HostRuntime) -> Result<(), Fail> {
         &mut out,
     );
     assert!(rt; told.is_ok());
-    assert_eq!(rt; out.as_slice(), LOAD_STREAM.as_bytes());
+    same(&rt, out.as_slice(), LOAD_STREAM.as_bytes());
     Ok(())
 }
 
@@ -255,7 +256,7 @@ fn a_stream_tells_what_a_hart_puts_out(rt: HostRuntime) -> Result<(), Fail> {
         &mut out,
     );
     assert!(rt; told.is_ok());
-    assert_eq!(rt; out.as_slice(), OUTPUT_STREAM.as_bytes());
+    same(&rt, out.as_slice(), OUTPUT_STREAM.as_bytes());
     Ok(())
 }
 
@@ -274,7 +275,7 @@ fn a_lenient_stream_tells_events_that_change_nothing(rt: HostRuntime) -> Result<
         &mut out,
     );
     assert!(rt; told.is_ok());
-    assert_eq!(rt; out.as_slice(), IDLE_STREAM.as_bytes());
+    same(&rt, out.as_slice(), IDLE_STREAM.as_bytes());
     Ok(())
 }
 
@@ -314,7 +315,7 @@ fn a_stream_ends_with_what_its_harts_wait_for(rt: HostRuntime) -> Result<(), Fai
             &mut out,
         );
         assert!(rt; told.is_ok());
-        assert_eq!(rt; out.as_slice(), text.as_bytes());
+        same(&rt, out.as_slice(), text.as_bytes());
     }
     Ok(())
 }
@@ -334,12 +335,12 @@ fn a_strict_stream_ends_before_them(rt: HostRuntime) -> Result<(), Fail> {
         &mut out,
     ) {
         Err(StreamError::Idle(index, outcome)) => {
-            assert_eq!(rt; index, 2);
-            assert_eq!(rt; outcome, Outcome::WaitGrant);
+            same(&rt, index, 2);
+            same(&rt, outcome, Outcome::WaitGrant);
         }
         _ => return Err(Fail::from("an event that changes nothing")),
     }
-    assert_eq!(rt; out.as_slice(), STRICT_STREAM.as_bytes());
+    same(&rt, out.as_slice(), STRICT_STREAM.as_bytes());
     Ok(())
 }
 
@@ -359,12 +360,12 @@ fn a_stream_ends_before_a_refused_event(rt: HostRuntime) -> Result<(), Fail> {
         &mut out,
     ) {
         Err(StreamError::Refused(index, error)) => {
-            assert_eq!(rt; index, 2);
-            assert_eq!(rt; error, ApplyError::BadEvent);
+            same(&rt, index, 2);
+            same(&rt, error, ApplyError::BadEvent);
         }
         _ => return Err(Fail::from("a refused event")),
     }
-    assert_eq!(rt; out.as_slice(), STRICT_STREAM.as_bytes());
+    same(&rt, out.as_slice(), STRICT_STREAM.as_bytes());
     Ok(())
 }
 
@@ -390,7 +391,7 @@ fn a_beginning_goes_out_before_a_fault(rt: HostRuntime) -> Result<(), Fail> {
             _ => return Err(Fail::from("the writer's fault")),
         }
         let (front, _) = LOAD_STREAM.as_bytes().split_at(room);
-        assert_eq!(rt; out.taken.as_slice(), front);
+        same(&rt, out.taken.as_slice(), front);
     }
     Ok(())
 }

@@ -2,6 +2,7 @@
 
 mod texts;
 
+use crate::same::{same, same_of};
 use std::alloc::Global;
 use std::io::{Error, ErrorKind, Result as IoResult, Write};
 use std::test::Fail;
@@ -44,9 +45,9 @@ fn names_of_codes(rt: HostRuntime) -> Result<(), Fail> {
         (TextCode::NoMemory, 6, "NoMemory"),
     ];
     for (code, number, name) in codes {
-        assert_eq!(rt; code.number(), number);
+        same(&rt, code.number(), number);
         let printed = format!(in rt.alloc(); "{code}")?;
-        assert_eq!(rt; printed.as_str(), name);
+        same(&rt, printed.as_str(), name);
     }
     Ok(())
 }
@@ -57,7 +58,7 @@ fn scripts_are_read_and_spelled_back(rt: HostRuntime) -> Result<(), Fail> {
         let script = read_script(rt.alloc(), text)?;
         let mut out = Vec::new(rt.alloc());
         write_script(&script, &mut out)?;
-        assert_eq!(rt; out.as_slice(), text);
+        same(&rt, out.as_slice(), text);
     }
     Ok(())
 }
@@ -66,10 +67,10 @@ fn scripts_are_read_and_spelled_back(rt: HostRuntime) -> Result<(), Fail> {
 fn traces_are_read_and_spelled_back(rt: HostRuntime) -> Result<(), Fail> {
     for text in texts::TRACES {
         let (trace, length) = read_trace(rt.alloc(), text)?;
-        assert_eq!(rt; length, text.len());
+        same(&rt, length, text.len());
         let mut out = Vec::new(rt.alloc());
         write_trace(&trace, &mut out)?;
-        assert_eq!(rt; out.as_slice(), text);
+        same(&rt, out.as_slice(), text);
     }
     Ok(())
 }
@@ -77,10 +78,10 @@ fn traces_are_read_and_spelled_back(rt: HostRuntime) -> Result<(), Fail> {
 #[test]
 fn messages_that_no_machine_sends(rt: HostRuntime) -> Result<(), Fail> {
     let (trace, length) = read_trace(rt.alloc(), texts::UNUSUAL)?;
-    assert_eq!(rt; length, texts::UNUSUAL.len());
+    same(&rt, length, texts::UNUSUAL.len());
     let mut out = Vec::new(rt.alloc());
     write_trace(&trace, &mut out)?;
-    assert_eq!(rt; out.as_slice(), texts::UNUSUAL);
+    same(&rt, out.as_slice(), texts::UNUSUAL);
     Ok(())
 }
 
@@ -89,26 +90,26 @@ fn row_18(rt: HostRuntime) -> Result<(), Fail> {
     let mut more = texts::ROW_18.to_vec(rt.alloc())?;
     more.push(b'H')?;
     let (trace, length) = read_trace(rt.alloc(), &more)?;
-    assert_eq!(rt; length, texts::ROW_18.len());
-    assert_eq!(rt; trace.harts(), 1);
-    assert_eq!(rt; trace.log().len(), 6);
+    same(&rt, length, texts::ROW_18.len());
+    same(&rt, trace.harts(), 1);
+    same(&rt, trace.log().len(), 6);
     let mut out = Vec::new(rt.alloc());
     write_trace(&trace, &mut out)?;
-    assert_eq!(rt; out.as_slice(), texts::ROW_18);
+    same(&rt, out.as_slice(), texts::ROW_18);
     Ok(())
 }
 
 #[test]
 fn rows_23_42_and_52(rt: HostRuntime) {
     for (text, line, code) in texts::SCRIPT_FAULTS {
-        assert_eq!(rt; script_answer(rt.alloc(), text), (line, code), "{text:?}");
+        same_of(&rt, script_answer(rt.alloc(), text), (line, code), &text);
     }
 }
 
 #[test]
 fn rows_41_and_52(rt: HostRuntime) {
     for (text, line, code) in texts::TRACE_FAULTS {
-        assert_eq!(rt; trace_answer(rt.alloc(), text), (line, code), "{text:?}");
+        same_of(&rt, trace_answer(rt.alloc(), text), (line, code), &text);
     }
 }
 
@@ -117,10 +118,11 @@ fn broken_scripts(rt: HostRuntime) -> Result<(), Fail> {
     for broken in texts::BROKEN_SCRIPTS {
         for place in 0..=broken.text.len() {
             let (front, _) = broken.text.split_at(place);
-            assert_eq!(rt;
+            same_of(
+                &rt,
                 script_answer(rt.alloc(), front),
                 expected(broken.cut, place),
-                "cut at {place}"
+                &place,
             );
         }
         for (byte, answers) in [(0, broken.zeros), (0xff, broken.ones)] {
@@ -145,10 +147,11 @@ fn broken_traces(rt: HostRuntime) -> Result<(), Fail> {
     for broken in texts::BROKEN_TRACES {
         for place in 0..=broken.text.len() {
             let (front, _) = broken.text.split_at(place);
-            assert_eq!(rt;
+            same_of(
+                &rt,
                 trace_answer(rt.alloc(), front),
                 expected(broken.cut, place),
-                "cut at {place}"
+                &place,
             );
         }
         for (byte, answers) in [(0, broken.zeros), (0xff, broken.ones)] {
@@ -204,7 +207,7 @@ fn a_beginning_goes_out_before_a_fault(rt: HostRuntime) -> Result<(), Fail> {
             let mut out = Narrow { room, fails, taken };
             assert!(rt; write_trace(&trace, &mut out).is_err());
             let (front, _) = texts::ROW_18.split_at(room);
-            assert_eq!(rt; out.taken.as_slice(), front);
+            same(&rt, out.taken.as_slice(), front);
         }
     }
     Ok(())
@@ -223,7 +226,7 @@ fn a_beginning_of_a_script_goes_out_before_a_fault(rt: HostRuntime) -> Result<()
             };
             assert!(rt; write_script(&script, &mut out).is_err());
             let (front, _) = broken.text.split_at(room);
-            assert_eq!(rt; out.taken.as_slice(), front);
+            same(&rt, out.taken.as_slice(), front);
         }
     }
     Ok(())
@@ -262,7 +265,7 @@ fn an_interrupted_write_is_tried_again(rt: HostRuntime) -> Result<(), Fail> {
     let taken = Vec::new(rt.alloc());
     let mut out = Interrupted { now: false, taken };
     write_trace(&trace, &mut out)?;
-    assert_eq!(rt; out.taken.as_slice(), texts::ROW_18);
+    same(&rt, out.taken.as_slice(), texts::ROW_18);
     Ok(())
 }
 
@@ -283,7 +286,7 @@ fn a_text_of_many_pages_goes_out_whole(rt: HostRuntime) -> Result<(), Fail> {
     let taken = Vec::new(rt.alloc());
     let mut out = Interrupted { now: false, taken };
     write_script(&script, &mut out)?;
-    assert_eq!(rt; out.taken.as_slice(), text.as_slice());
+    same(&rt, out.taken.as_slice(), text.as_slice());
     Ok(())
 }
 
@@ -298,7 +301,7 @@ fn a_beginning_of_many_pages_goes_out_before_a_fault(rt: HostRuntime) -> Result<
             let mut out = Narrow { room, fails, taken };
             assert!(rt; write_script(&script, &mut out).is_err());
             let (front, _) = text.split_at(room);
-            assert_eq!(rt; out.taken.as_slice(), front);
+            same(&rt, out.taken.as_slice(), front);
         }
     }
     Ok(())

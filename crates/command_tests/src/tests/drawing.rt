@@ -2,6 +2,7 @@
 
 use super::memory::Stuck;
 use super::{File, breaks_off, image_of, line, texts};
+use crate::same::same;
 use std::test::Fail;
 
 const TOO_MANY: &str =
@@ -23,7 +24,7 @@ fn a_picture_is_drawn(rt: HostRuntime) -> Result<(), Fail> {
     assert!(rt; ran.err.is_empty());
     assert!(rt; ran.out.as_slice().starts_with(b"<svg "));
     assert!(rt; ran.out.as_slice().ends_with(b"</svg>\n"));
-    assert_eq!(rt; ran.status, 0);
+    same(&rt, ran.status, 0);
     let mut out = Stuck {
         taken: Vec::new(rt.alloc()),
     };
@@ -41,12 +42,12 @@ fn rows_end_at_400(rt: HostRuntime) -> Result<(), Fail> {
     }
     let words = ["rvtl", "chart", "--raw", "image", "script"];
     let drawn = line(&rt, &words, &over(image.as_slice(), script.as_slice()));
-    assert_eq!(rt; drawn.status, 0);
+    same(&rt, drawn.status, 0);
     script.extend_from_slice(b"step 0\n")?;
     let refused = line(&rt, &words, &over(image.as_slice(), script.as_slice()));
     assert!(rt; refused.out.is_empty());
-    assert_eq!(rt; refused.err.as_slice(), TOO_MANY.as_bytes());
-    assert_eq!(rt; refused.status, 1);
+    same(&rt, refused.err.as_slice(), TOO_MANY.as_bytes());
+    same(&rt, refused.status, 1);
     Ok(())
 }
 
@@ -58,7 +59,7 @@ fn what_is_no_address(rt: HostRuntime) -> Result<(), Fail> {
         let ran = line(&rt, &words, &[]);
         assert!(rt; ran.out.is_empty());
         assert!(rt; ran.err.as_slice().ends_with(b": no address\n"), "{word}");
-        assert_eq!(rt; ran.status, 2);
+        same(&rt, ran.status, 2);
     }
     Ok(())
 }

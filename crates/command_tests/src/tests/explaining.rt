@@ -2,6 +2,7 @@
 
 use super::memory::{File, Stuck};
 use super::{Ran, breaks_anywhere, breaks_off, image_of, line, texts};
+use crate::same::same;
 use std::process::Abort;
 use std::sync::Wait;
 use std::test::Fail;
@@ -64,8 +65,8 @@ fn row_18_is_explained(rt: HostRuntime) -> Result<(), Fail> {
     for options in [[].as_slice(), &["--strict"]] {
         let ran = explain(&rt, options, texts::LOAD_SCRIPT)?;
         assert!(rt; ran.err.is_empty());
-        assert_eq!(rt; ran.out.as_slice(), LOAD_STREAM.as_bytes());
-        assert_eq!(rt; ran.status, 0);
+        same(&rt, ran.out.as_slice(), LOAD_STREAM.as_bytes());
+        same(&rt, ran.status, 0);
     }
     Ok(())
 }
@@ -73,12 +74,13 @@ fn row_18_is_explained(rt: HostRuntime) -> Result<(), Fail> {
 #[test]
 fn a_strict_stream_ends_where_nothing_happens(rt: HostRuntime) -> Result<(), Fail> {
     let ran = explain(&rt, &["--strict"], WAITING_SCRIPT)?;
-    assert_eq!(rt;
+    same(
+        &rt,
         ran.err.as_slice(),
-        b"rvtl: script: line 4: nothing happens: WaitGrant\n".as_slice()
+        b"rvtl: script: line 4: nothing happens: WaitGrant\n".as_slice(),
     );
-    assert_eq!(rt; ran.out.as_slice(), WAITING_START.as_bytes());
-    assert_eq!(rt; ran.status, 1);
+    same(&rt, ran.out.as_slice(), WAITING_START.as_bytes());
+    same(&rt, ran.status, 1);
     let ran = explain(&rt, &[], WAITING_SCRIPT)?;
     assert!(rt; ran.err.is_empty());
     assert!(rt; ran.out.as_slice().starts_with(WAITING_START.as_bytes()));
@@ -87,19 +89,20 @@ fn a_strict_stream_ends_where_nothing_happens(rt: HostRuntime) -> Result<(), Fai
             b"E 4 step 0 WaitGrant\nH 0 run ; WaitGrant 0x80000000 ; lw a4, 0(a2)\n"
         )
     );
-    assert_eq!(rt; ran.status, 0);
+    same(&rt, ran.status, 0);
     Ok(())
 }
 
 #[test]
 fn what_came_before_a_refused_event_is_told(rt: HostRuntime) -> Result<(), Fail> {
     let ran = explain(&rt, &[], REFUSED_SCRIPT)?;
-    assert_eq!(rt;
+    same(
+        &rt,
         ran.err.as_slice(),
-        b"rvtl: script: line 4: event fault 1 BadEvent\n".as_slice()
+        b"rvtl: script: line 4: event fault 1 BadEvent\n".as_slice(),
     );
-    assert_eq!(rt; ran.out.as_slice(), WAITING_START.as_bytes());
-    assert_eq!(rt; ran.status, 1);
+    same(&rt, ran.out.as_slice(), WAITING_START.as_bytes());
+    same(&rt, ran.status, 1);
     Ok(())
 }
 

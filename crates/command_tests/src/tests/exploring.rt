@@ -2,6 +2,7 @@
 
 use super::memory::{File, MemoryFiles};
 use super::{Ran, breaks_anywhere, image_of, line, line_over, replay, texts};
+use crate::same::{same, same_of};
 use std::sync::Wait;
 use std::test::Fail;
 use std::thread::Threads;
@@ -89,11 +90,12 @@ fn an_exit_is_one_state(rt: HostRuntime) -> Result<(), Fail> {
     let image = image_of(rt.alloc(), &texts::EXIT)?;
     let files = [File::whole("image", &image)];
     let ran = line(&rt, &["rvtl", "explore", "--raw", "image"], &files);
-    assert_eq!(rt;
+    same(
+        &rt,
         ran.out.as_slice(),
-        b"1  hart 0: exit 5\ncomplete: 1 outcomes, 1 states\n".as_slice()
+        b"1  hart 0: exit 5\ncomplete: 1 outcomes, 1 states\n".as_slice(),
     );
-    assert_eq!(rt; ran.status, 0);
+    same(&rt, ran.status, 0);
     assert!(rt; ran.err.is_empty());
     Ok(())
 }
@@ -102,7 +104,7 @@ fn an_exit_is_one_state(rt: HostRuntime) -> Result<(), Fail> {
 fn each_outcome_has_its_line(rt: HostRuntime) -> Result<(), Fail> {
     let (ran, written) = explore(&rt, &[], b"")?;
     assert!(rt; ran.out.starts_with(OUTCOMES.as_bytes()));
-    assert_eq!(rt; ran.status, 0);
+    same(&rt, ran.status, 0);
     assert!(rt; ran.err.is_empty());
     assert!(rt; written.is_empty());
     Ok(())
@@ -113,14 +115,15 @@ fn each_outcome_has_its_line(rt: HostRuntime) -> Result<(), Fail> {
 fn a_script_leads_to_its_outcome(rt: HostRuntime) -> Result<(), Fail> {
     let (ran, written) = explore(&rt, &["--scripts", "folder"], b"")?;
     assert!(rt; ran.out.starts_with(OUTCOMES.as_bytes()));
-    assert_eq!(rt; ran.status, 0);
+    same(&rt, ran.status, 0);
     let image = image_of(rt.alloc(), &STORE_BUFFERING)?;
     let again = replay(&rt, &image, &written);
-    assert_eq!(rt;
+    same(
+        &rt,
         again.err.as_slice(),
-        b"hart 0: exit 0 output 0\nhart 1: exit 0 output 0\n".as_slice()
+        b"hart 0: exit 0 output 0\nhart 1: exit 0 output 0\n".as_slice(),
     );
-    assert_eq!(rt; again.status, 0);
+    same(&rt, again.status, 0);
     Ok(())
 }
 
@@ -142,11 +145,12 @@ fn a_full_folder_is_told(rt: HostRuntime) -> Result<(), Fail> {
     ];
     let ran = line_over(&rt, &words, &mut files);
     assert!(rt; ran.out.starts_with(OUTCOMES.as_bytes()));
-    assert_eq!(rt;
+    same(
+        &rt,
         ran.err.as_slice(),
-        b"rvtl: folder: cannot write\n".as_slice()
+        b"rvtl: folder: cannot write\n".as_slice(),
     );
-    assert_eq!(rt; ran.status, 1);
+    same(&rt, ran.status, 1);
     Ok(())
 }
 
@@ -154,11 +158,12 @@ fn a_full_folder_is_told(rt: HostRuntime) -> Result<(), Fail> {
 fn an_outcome_that_is_not_allowed(rt: HostRuntime) -> Result<(), Fail> {
     let (ran, _) = explore(&rt, &["--allow", "allowed"], ALLOWED.as_bytes())?;
     assert!(rt; ran.out.starts_with(OUTCOMES.as_bytes()));
-    assert_eq!(rt;
+    same(
+        &rt,
         ran.err.as_slice(),
-        b"outcome 1 is not allowed\n".as_slice()
+        b"outcome 1 is not allowed\n".as_slice(),
     );
-    assert_eq!(rt; ran.status, 3);
+    same(&rt, ran.status, 3);
     Ok(())
 }
 
@@ -166,7 +171,7 @@ fn an_outcome_that_is_not_allowed(rt: HostRuntime) -> Result<(), Fail> {
 #[test]
 fn what_was_printed_is_allowed(rt: HostRuntime) -> Result<(), Fail> {
     let (ran, _) = explore(&rt, &["--allow", "allowed"], OUTCOMES.as_bytes())?;
-    assert_eq!(rt; ran.status, 0);
+    same(&rt, ran.status, 0);
     assert!(rt; ran.err.is_empty());
     Ok(())
 }
@@ -174,11 +179,12 @@ fn what_was_printed_is_allowed(rt: HostRuntime) -> Result<(), Fail> {
 #[test]
 fn a_limit_ends_the_search(rt: HostRuntime) -> Result<(), Fail> {
     let (ran, _) = explore(&rt, &["--states", "1"], b"")?;
-    assert_eq!(rt;
+    same(
+        &rt,
         ran.out.as_slice(),
-        b"incomplete: 1 states met\n".as_slice()
+        b"incomplete: 1 states met\n".as_slice(),
     );
-    assert_eq!(rt; ran.status, 0);
+    same(&rt, ran.status, 0);
     Ok(())
 }
 
@@ -209,8 +215,8 @@ fn faults_of_an_exploration(rt: HostRuntime) -> Result<(), Fail> {
         ),
     ] {
         let ran = line(&rt, words, &files);
-        assert_eq!(rt; ran.err.as_slice(), message.as_bytes(), "{message}");
-        assert_eq!(rt; ran.status, status, "{message}");
+        same_of(&rt, ran.err.as_slice(), message.as_bytes(), &message);
+        same_of(&rt, ran.status, status, &message);
         assert!(rt; ran.out.is_empty(), "{message}");
     }
     Ok(())
@@ -243,8 +249,8 @@ fn random_runs_are_counted(rt: HostRuntime) -> Result<(), Fail> {
     let ran = line(&rt, &words, &files);
     assert!(rt; ran.err.is_empty());
     let text = b"1  3  hart 0: exit 5\nsampled: 3 runs, not complete\n";
-    assert_eq!(rt; ran.out.as_slice(), text.as_slice());
-    assert_eq!(rt; ran.status, 0);
+    same(&rt, ran.out.as_slice(), text.as_slice());
+    same(&rt, ran.status, 0);
     Ok(())
 }
 
@@ -259,7 +265,7 @@ fn what_the_model_allows(rt: HostRuntime) -> Result<(), Fail> {
     let out = ran.out.as_slice();
     assert!(rt; out.starts_with(b"1  hart 0: exit 5   this machine\nsearched: 1 outcomes, "));
     assert!(rt; out.ends_with(b" states, no window over 16 (not proved complete)\n"));
-    assert_eq!(rt; ran.status, 0);
+    same(&rt, ran.status, 0);
     Ok(())
 }
 
@@ -290,8 +296,8 @@ fn what_would_forbid_an_outcome(rt: HostRuntime) -> Result<(), Fail> {
     let forbidding =
         "outcome 3: 1:6 `lw a3, 0(t1)` is performed before 1:5 `lr.w a2, (t0)`, which precedes it; \
         `fence r, r` between them would forbid it, and so would aq on the one that precedes\n";
-    assert_eq!(rt; ran.err.as_slice(), forbidding.as_bytes());
-    assert_eq!(rt; ran.status, 0);
+    same(&rt, ran.err.as_slice(), forbidding.as_bytes());
+    same(&rt, ran.status, 0);
     Ok(())
 }
 
@@ -323,7 +329,7 @@ fn a_line_is_allowed_as_printed(rt: HostRuntime) -> Result<(), Fail> {
             "image",
         ];
         let ran = line(&rt, &words, &files);
-        assert_eq!(rt; ran.status, status, "{allowed}");
+        same_of(&rt, ran.status, status, &allowed);
     }
     Ok(())
 }
@@ -334,5 +340,5 @@ fn the_version_is_told(rt: HostRuntime) {
     let ran = line(&rt, &["rvtl", "--version"], &[]);
     assert!(rt; ran.out.starts_with(b"rvtl "));
     assert!(rt; ran.err.is_empty());
-    assert_eq!(rt; ran.status, 0);
+    same(&rt, ran.status, 0);
 }

@@ -4,6 +4,7 @@ use super::orders::{
     ADDED, BOTH_RUN, FORWARDED, MESSAGE_PASSING, RESERVED, STORE_BUFFERING, STORES,
 };
 use super::{File, Ran, line, texts};
+use crate::same::{same, same_of};
 use std::process::Abort;
 use std::sync::Wait;
 use std::test::Fail;
@@ -32,9 +33,9 @@ fn is_legal(
     pieces: &[&str],
 ) -> Result<(), Fail> {
     let ran = check(rt, model, pieces)?;
-    assert_eq!(rt; ran.err.as_slice(), b"".as_slice());
-    assert_eq!(rt; ran.out.as_slice(), b"legal\n".as_slice());
-    assert_eq!(rt; ran.status, 0);
+    same(rt, ran.err.as_slice(), b"".as_slice());
+    same(rt, ran.out.as_slice(), b"legal\n".as_slice());
+    same(rt, ran.status, 0);
     Ok(())
 }
 
@@ -45,9 +46,9 @@ fn breaks(
     fault: &str,
 ) -> Result<(), Fail> {
     let ran = check(rt, model, pieces)?;
-    assert_eq!(rt; ran.err.as_slice(), b"".as_slice());
-    assert_eq!(rt; ran.out.as_slice(), fault.as_bytes());
-    assert_eq!(rt; ran.status, 3);
+    same(rt, ran.err.as_slice(), b"".as_slice());
+    same(rt, ran.out.as_slice(), fault.as_bytes());
+    same(rt, ran.status, 3);
     Ok(())
 }
 
@@ -57,9 +58,9 @@ fn refuses(
     message: &str,
 ) -> Result<(), Fail> {
     let ran = check(rt, "rvwmo", pieces)?;
-    assert_eq!(rt; ran.err.as_slice(), message.as_bytes());
-    assert_eq!(rt; ran.out.as_slice(), b"".as_slice());
-    assert_eq!(rt; ran.status, 1);
+    same(rt, ran.err.as_slice(), message.as_bytes());
+    same(rt, ran.out.as_slice(), b"".as_slice());
+    same(rt, ran.status, 1);
     Ok(())
 }
 
@@ -174,7 +175,7 @@ fn words_of_check(rt: HostRuntime) {
         (&["rvtl", "check", "--help"], 0),
     ] {
         let ran = line(&rt, words, &files);
-        assert_eq!(rt; ran.status, status, "{words:?}");
+        same_of(&rt, ran.status, status, &words);
         assert!(rt; ran.err.is_empty() == (status == 0), "{words:?}");
     }
 }

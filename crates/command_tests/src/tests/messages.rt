@@ -1,6 +1,7 @@
 //! What `rvtl check --messages` prints, and how it ends.
 
 use super::{File, Ran, breaks_anywhere, line, texts};
+use crate::same::same;
 use std::process::Abort;
 use std::sync::Wait;
 use std::test::Fail;
@@ -49,8 +50,8 @@ fn is_lawful<R: Abort + Threads + Wait + Sync + AllocGlobal>(
 ) -> Result<(), Fail> {
     let ran = check(rt, pieces)?;
     assert!(rt; ran.err.is_empty());
-    assert_eq!(rt; ran.out.as_slice(), b"lawful\n".as_slice());
-    assert_eq!(rt; ran.status, 0);
+    same(rt, ran.out.as_slice(), b"lawful\n".as_slice());
+    same(rt, ran.status, 0);
     Ok(())
 }
 
@@ -61,9 +62,9 @@ fn breaks<R: Abort + Threads + Wait + Sync + AllocGlobal>(
     message: &str,
 ) -> Result<(), Fail> {
     let ran = check(rt, pieces)?;
-    assert_eq!(rt; ran.out.as_slice(), verdict.as_bytes());
-    assert_eq!(rt; ran.err.as_slice(), message.as_bytes());
-    assert_eq!(rt; ran.status, 3);
+    same(rt, ran.out.as_slice(), verdict.as_bytes());
+    same(rt, ran.err.as_slice(), message.as_bytes());
+    same(rt, ran.status, 3);
     Ok(())
 }
 
@@ -104,7 +105,7 @@ fn an_order_wants_a_whole_trace(rt: HostRuntime) -> Result<(), Fail> {
     let files = [File::whole("trace", HEAD.as_bytes())];
     let ran = line(&rt, &["rvtl", "check", "trace"], &files);
     assert!(rt; ran.out.is_empty());
-    assert_eq!(rt; ran.status, 1);
+    same(&rt, ran.status, 1);
     Ok(())
 }
 

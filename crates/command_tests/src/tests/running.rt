@@ -2,6 +2,7 @@
 
 use super::memory::{File, MemoryFiles, Narrow};
 use super::{Ran, image_of, line, line_over, replay, texts};
+use crate::same::same;
 use command_line::run_line;
 use progress_line::Silent;
 use std::process::Abort;
@@ -47,11 +48,11 @@ fn row_16(rt: HostRuntime) -> Result<(), Fail> {
         "image",
     ];
     let (ran, journal) = run(&rt, &words, image.as_slice());
-    assert_eq!(rt; ran.err.as_slice(), b"hart 0: exit 5\n".as_slice());
-    assert_eq!(rt; ran.out.as_slice(), texts::EXIT_TRACE.as_bytes());
-    assert_eq!(rt; ran.status, 0);
+    same(&rt, ran.err.as_slice(), b"hart 0: exit 5\n".as_slice());
+    same(&rt, ran.out.as_slice(), texts::EXIT_TRACE.as_bytes());
+    same(&rt, ran.status, 0);
     let again = replay(&rt, image.as_slice(), journal.as_slice());
-    assert_eq!(rt; again.out.as_slice(), texts::EXIT_TRACE.as_bytes());
+    same(&rt, again.out.as_slice(), texts::EXIT_TRACE.as_bytes());
     Ok(())
 }
 
@@ -88,12 +89,12 @@ fn counts(
 ) -> Result<(), Fail> {
     let image = image_of(rt.alloc(), &COUNT)?;
     let (ran, journal) = run(rt, words, image.as_slice());
-    assert_eq!(rt; ran.status, 0);
+    same(rt, ran.status, 0);
     let Ok(trace) = std::str::from_utf8(ran.out.as_slice()) else {
         panic!(rt; "the trace is no text")
     };
     let performed = trace.lines().filter(|row| row.starts_with("P ")).count();
-    assert_eq!(rt; performed, usize::from(harts) * 100);
+    same(rt, performed, usize::from(harts) * 100);
     assert!(rt; trace.contains(last));
     let Ok(events) = std::str::from_utf8(journal.as_slice()) else {
         panic!(rt; "the journal is no text")
@@ -110,8 +111,8 @@ fn counts(
         File::whole("trace", ran.out.as_slice()),
         File::whole("other", other.as_slice()),
     ];
-    assert_eq!(rt; line(rt, &["rvtl", "check", "trace"], &files).status, 0);
-    assert_eq!(rt; line(rt, &["rvtl", "check", "other"], &files).status, 3);
+    same(rt, line(rt, &["rvtl", "check", "trace"], &files).status, 0);
+    same(rt, line(rt, &["rvtl", "check", "other"], &files).status, 3);
     Ok(())
 }
 
@@ -164,9 +165,13 @@ fn journals_that_break(rt: HostRuntime) -> Result<(), Fail> {
     full.is_full = true;
     let words = ["rvtl", "run", "--raw", "--journal", "j", "image"];
     let ran = line_over(&rt, &words, &mut full);
-    assert_eq!(rt; ran.err.as_slice(), b"rvtl: j: cannot write\n".as_slice());
+    same(
+        &rt,
+        ran.err.as_slice(),
+        b"rvtl: j: cannot write\n".as_slice(),
+    );
     assert!(rt; ran.out.is_empty());
-    assert_eq!(rt; ran.status, 1);
+    same(&rt, ran.status, 1);
     Ok(())
 }
 
@@ -200,15 +205,15 @@ fn runs_whose_stream_breaks(rt: HostRuntime) -> Result<(), Fail> {
         &mut err,
         &Silent,
     );
-    assert_eq!(rt; status, 1);
-    assert_eq!(rt; err.as_slice(), b"rvtl: cannot write\n".as_slice());
+    same(&rt, status, 1);
+    same(&rt, err.as_slice(), b"rvtl: cannot write\n".as_slice());
     assert!(rt;
         texts::EXIT_TRACE
             .as_bytes()
             .starts_with(out.taken.as_slice())
     );
     let again = replay(&rt, image.as_slice(), files.written.as_slice());
-    assert_eq!(rt; again.out.as_slice(), texts::EXIT_TRACE.as_bytes());
+    same(&rt, again.out.as_slice(), texts::EXIT_TRACE.as_bytes());
     Ok(())
 }
 
@@ -226,7 +231,7 @@ fn a_limit_of_one(rt: HostRuntime) -> Result<(), Fail> {
         "image",
     ];
     let (ran, journal) = run(&rt, &words, image.as_slice());
-    assert_eq!(rt; ran.status, 0);
+    same(&rt, ran.status, 0);
     let lines = journal.iter().filter(|byte| **byte == b'\n').count();
     assert!(rt; lines <= 2);
     Ok(())
@@ -249,7 +254,7 @@ fn a_hart_that_spins(rt: HostRuntime) -> Result<(), Fail> {
         "image",
     ];
     let (ran, _) = run(&rt, &words, image.as_slice());
-    assert_eq!(rt; ran.status, 0);
+    same(&rt, ran.status, 0);
     let Ok(ends) = std::str::from_utf8(ran.err.as_slice()) else {
         panic!(rt; "the harts' ends are no text")
     };
@@ -285,15 +290,17 @@ fn machines_that_cannot_be(rt: HostRuntime) {
 fn images_that_cannot_run(rt: HostRuntime) {
     let words = ["rvtl", "run", "--raw", "--journal", "j", "image"];
     let ran = line(&rt, &words, &[]);
-    assert_eq!(rt;
+    same(
+        &rt,
         ran.err.as_slice(),
-        b"rvtl: image: cannot read\n".as_slice()
+        b"rvtl: image: cannot read\n".as_slice(),
     );
-    assert_eq!(rt; ran.status, 1);
+    same(&rt, ran.status, 1);
     let ran = line(&rt, &words, &[File::whole("image", &[0; 3])]);
-    assert_eq!(rt;
+    same(
+        &rt,
         ran.err.as_slice(),
-        b"rvtl: image: image fault 1 Short\n".as_slice()
+        b"rvtl: image: image fault 1 Short\n".as_slice(),
     );
-    assert_eq!(rt; ran.status, 1);
+    same(&rt, ran.status, 1);
 }

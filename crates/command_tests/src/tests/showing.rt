@@ -2,6 +2,7 @@
 
 use super::memory::{File, MemoryFiles};
 use super::{line, line_over};
+use crate::same::{same, same_of};
 use std::test::Fail;
 
 /// Each hart loads a counter, adds 1 and stores it: `examples/lost_update.elf`, with the symbol `counter` at
@@ -37,7 +38,7 @@ fn a_lost_update_shows_in_the_counter(rt: HostRuntime) -> Result<(), Fail> {
     let ran = line(&rt, &words, &files);
     assert!(rt; ran.err.is_empty());
     assert!(rt; ran.out.starts_with(OUTCOMES.as_bytes()));
-    assert_eq!(rt; ran.status, 0);
+    same(&rt, ran.status, 0);
     Ok(())
 }
 
@@ -62,7 +63,7 @@ fn words_stand_in_the_order_of_their_asking(rt: HostRuntime) -> Result<(), Fail>
 complete: 1 outcomes, ";
     assert!(rt; ran.err.is_empty());
     assert!(rt; ran.out.starts_with(told.as_bytes()));
-    assert_eq!(rt; ran.status, 0);
+    same(&rt, ran.status, 0);
     Ok(())
 }
 
@@ -90,8 +91,8 @@ fn an_allowed_line_is_the_whole_line(rt: HostRuntime) -> Result<(), Fail> {
             "rvtl", "explore", "--harts", "2", "--allow", "allowed", "--show", "counter", "image",
         ];
         let ran = line(&rt, &words, &files);
-        assert_eq!(rt; ran.err.as_slice(), told.as_bytes(), "{allowed}");
-        assert_eq!(rt; ran.status, status, "{allowed}");
+        same_of(&rt, ran.err.as_slice(), told.as_bytes(), &allowed);
+        same_of(&rt, ran.status, status, &allowed);
     }
     Ok(())
 }
@@ -114,17 +115,18 @@ fn a_script_leads_to_where_no_store_waits(rt: HostRuntime) -> Result<(), Fail> {
     ];
     let ran = line_over(&rt, &words, &mut files);
     assert!(rt; ran.out.starts_with(OUTCOMES.as_bytes()));
-    assert_eq!(rt; ran.status, 0);
+    same(&rt, ran.status, 0);
     let again = [
         File::whole("image", LOST_UPDATE),
         File::whole("script", &files.written),
     ];
     let ran = line(&rt, &["rvtl", "replay", "image", "script"], &again);
-    assert_eq!(rt;
+    same(
+        &rt,
         ran.err.as_slice(),
-        b"hart 0: exit 0\nhart 1: exit 0\n".as_slice()
+        b"hart 0: exit 0\nhart 1: exit 0\n".as_slice(),
     );
-    assert_eq!(rt; ran.status, 0);
+    same(&rt, ran.status, 0);
     Ok(())
 }
 
@@ -175,8 +177,8 @@ fn words_that_cannot_be_shown(rt: HostRuntime) -> Result<(), Fail> {
         all.extend_from_slice(&["rvtl", "explore"])?;
         all.extend_from_slice(words)?;
         let ran = line(&rt, &all, &files);
-        assert_eq!(rt; ran.err.as_slice(), message.as_bytes(), "{message}");
-        assert_eq!(rt; ran.status, status, "{message}");
+        same_of(&rt, ran.err.as_slice(), message.as_bytes(), &message);
+        same_of(&rt, ran.status, status, &message);
         assert!(rt; ran.out.is_empty(), "{message}");
     }
     Ok(())

@@ -1,6 +1,7 @@
 //! The store that a byte comes from, by the index and by a walk over the whole order as it is defined.
 ghost use Rattle.std.specs.Prelude.{◌≡◌, ◌<◌};
 
+use crate::same::same;
 use elf_loader::{raw, size_of_kib};
 use hart::{Retired, Status};
 use memory_model::Operation;
@@ -86,7 +87,7 @@ fn told<L: Ledger>(index: &Index, load: OpId, byte: u32, blank: Blank) -> Option
 fn exchanged_neighbours_have_the_same_sources(rt: HostRuntime) -> Result<(), Fail> {
     let trace = trace(rt.alloc())?;
     let mut order = completed(rt.alloc(), &trace)?;
-    assert_eq!(rt; order.len(), 14);
+    same(&rt, order.len(), 14);
     for exchanged in 1..order.len() {
         order.swap(exchanged - 1, exchanged);
         let index = Index::new(rt.alloc(), &trace, &order)?;
