@@ -15,7 +15,7 @@ use Rattle.event_stream.specs.declared.strictness.Strictness.{Strictness}
 use Rattle.event_stream.specs.Closing.{closing_line}
 use Rattle.event_stream.specs.Lines.{report_lines}
 use Rattle.event_stream.specs.Reports.{StreamEnding, ending, reports}
-use Rattle.event_stream.specs.Reports.Ending.{Reached, Refused, Idle}
+use Rattle.event_stream.specs.Reports.StreamEnding.{Reached, Refused, Idle}
 
 -- the first two lines, of a machine's harts, its memory in KiB, the address at which the harts begin and how many bytes a line has: as in a trace, but for the first word
 abbrev pub head : ℕ → ℕ → ℕ → ℕ → List ℕ
