@@ -1,9 +1,13 @@
 -- Operations that are performed before one that precedes them in their hart's list.
-use Rattle.std.specs.Prelude.{Bool, true, ◌&&◌, not, if◌then◌else◌, nat_lt, List, [], ◌∷◌, ◌++◌, Option, None, Some}
+use Rattle.std.specs.Prelude.{ℕ, Bool, true, ◌&&◌, not, if◌then◌else◌, nat_lt, List, [], ◌∷◌, ◌++◌, Option, None, Some}
 use Rattle.memory_model.specs.Operations.{overlap, precedes}
 use Rattle.memory_model.specs.Traces.{instructions, operations_at}
+use Rattle.memory_model.specs.declared.operation.Kind.{Kind}
+use Rattle.memory_model.specs.declared.operation.Kind.TheVariants.{Load, Store, Lr, Sc, Amo}
 use Rattle.memory_model.specs.declared.operation.Operation.{Operation}
 use Rattle.order_remarks.specs.declared.overtaking.Overtaking.{Overtaking}
+use Rattle.rv32_decode.specs.declared.instruction.Instr.{Instr}
+use Rattle.rv32_decode.specs.declared.instruction.Instr.TheVariants as instr
 use Rattle.trace_recorder.specs.History.{History}
 
 -- b, which is performed before a, overtakes it: a precedes b, and they have no byte in common
@@ -32,3 +36,15 @@ overtakings_in (b ∷ later) = pair_of (nearest_from None b later) b ++ overtaki
 -- those of a trace's performed order
 abbrev pub overtakings : History → List Overtaking
 overtakings t = overtakings_in (operations_at (instructions t) t.performed)
+
+-- the smallest set of a FENCE that has the operations of a kind: R (2) or W (1) alone; R for an AMO, which is a load too
+abbrev pub set_with : Kind → ℕ
+set_with Load = 2
+set_with Store = 1
+set_with Lr = 2
+set_with Sc = 1
+set_with Amo = 2
+
+-- the FENCE with these sets of two operations
+abbrev pub fence_of : Overtaking → Instr
+fence_of o = instr.Fence (record { before = set_with o.first.kind; after = set_with o.second.kind })

@@ -19,9 +19,10 @@ pub struct Overtaking {
 }
 
 impl Overtaking {
-    /// A FENCE that orders the two, where it stands between them (chapter 2.7).
+    /// The FENCE with the smallest sets that orders the two, where it stands between them (chapter 2.7).
     pub fn fence(&self) -> Instr
-        ensures { fences (Some result) self.now.first.kind self.now.second.kind ≡ true }
+        ensures sets { result ≡ spec.fence_of self.now }
+        ensures orders { fences (Some result) self.now.first.kind self.now.second.kind ≡ true }
     {
         let before = set_with(self.first.kind);
         let after = set_with(self.second.kind);
@@ -29,8 +30,9 @@ impl Overtaking {
     }
 }
 
-/// A set of a FENCE with the operations of a kind: an AMO is a load too.
+/// The smallest set of a FENCE with the operations of a kind: an AMO is a load too.
 fn set_with(kind: Kind) -> FenceSet
+    ensures set { result.0 ≡ spec.set_with kind }
     ensures has { is_in_set result.0 kind ≡ true }
     ensures known { result.0 < 16 }
 {
