@@ -1,5 +1,5 @@
 #!/usr/bin/env python3
-"""Lists the definitions that the theorems rest on: of the headline, then what those on texts and on the flat memory add.
+"""Lists the definitions that the theorems rest on: of the headline, then what those on texts, on the flat memory and on the program add.
 
 usage: tools/definitions.py    from the top of the repository. Reads the `specs/` of all crates, follows the names that
 each definition uses, and prints module by module, each behind those that it uses, its definitions as they stand.
@@ -33,8 +33,21 @@ FLAT = [
     ("explorer", "Visited", "AreVisited"),
     ("sampler", "Sampled", "AreCounted"),
     ("witnesses", "Witnesses", "IsWitness"),
-    ("architecture_outcomes", "Outcomes", "IsShown"),
+    ("architecture_outcomes", "Outcomes", "IsWitnessed"),
     ("architecture_outcomes", "Outcomes", "TellsEachEnd"),
+    ("word_explorer", "Ends", "HasEachEnding"),
+    ("word_explorer", "Ends", "IsRealIn"),
+    ("word_explorer", "Stuck", "IsStuckIn"),
+    ("word_explorer", "Visited", "AreVisited"),
+]
+PROGRAM = [
+    ("command_line", "Running", "IsCarriedOut"),
+    ("command_line", "Running", "IsNotLegal"),
+    ("command_line", "Running", "IsUnprinted"),
+    ("command_line", "Running", "Spares"),
+    ("command_line", "Telling", "IsFaulted"),
+    ("command_settings", "Refusals", "IsUnfit"),
+    ("command_line", "Runs", "IsOfRun"),
 ]
 
 NAME = r"[A-Za-z_][\w']*(?:-[\w'≤≡]+)*"
@@ -107,7 +120,7 @@ def in_order(found, used):
 def main():
     found = modules()
     before = set()
-    lists = [("the headline", HEADLINE), ("the theorems on texts", TEXTS), ("the flat memory and exploring", FLAT)]
+    lists = [("the headline", HEADLINE), ("the theorems on texts", TEXTS), ("the flat memory and exploring", FLAT), ("the program", PROGRAM)]
     for title, starts in lists:
         used = rests_on(found, starts) - before
         print(f"{title}: {len(used)} definitions" + (" more" if before else ""))

@@ -212,7 +212,7 @@ def verdicts():
         heading = re.match(r'pub record (\w+)', line)
         if heading:
             record = heading.group(1)
-        m = re.match(r'  pub (\w+) : (Passes|Fails) (\w+) (\w+) \((.*?)\[\]\)(.*)', line)
+        m = re.match(r'  pub (\w+) : (Passes|IsIllegal) (\w+) (\w+) \((.*?)\[\]\)(.*)', line)
         if m:
             names = [tuple(map(int, p)) for p in re.findall(r'op (\d+) (\d+)', m.group(5))]
             told = re.match(r' (\d+) \(op (\d+) (\d+)\) \(op (\d+) (\d+)\)', m.group(6))
