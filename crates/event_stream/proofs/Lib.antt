@@ -4,6 +4,7 @@ pub mod EventLines
 pub mod Fetching
 pub mod ClosingLines
 pub mod Counting
+pub mod StateSizes
 pub mod Telling
 pub mod Wholes
 pub mod OtherHarts

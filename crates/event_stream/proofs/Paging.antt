@@ -1,5 +1,6 @@
 -- What several calls spell onto one page, one after another.
 use Rattle.std.proofs.Common.{◌≡◌, ℕ, List, [], ◌++◌, Option, Result, Ok, Err, sym, ap, subst, ◌∙◌, append_assoc}
+use Rattle.std.proofs.lemmas.Bool.{false≢true}
 use Rattle.std.proofs.lemmas.List.{append-nil}
 use Rattle.std.specs.Io.KnownBytes.{Appends}
 use Rattle.text_fields.specs.Pages.{Paged, Spells}
@@ -67,3 +68,13 @@ spells_then a b c p q after x y (Err _) h now = paged_fails a b c p q x y h now
 
 pub spells_fails : {T E : Type 0} (a b : Option (List ℕ)) (p after x y : List ℕ) (r : Result T E) → IsErr r → Begins a b (p ++ x) → Spells a b p after (x ++ y) r
 spells_fails a b p after x y r failed now = page_stops a b p after (x ++ y) r failed (subst (Begins a b) (append_assoc p x y) (begins_first a b (p ++ x) y now))
+
+-- ---- a page of one's own
+
+pub stops_writing : {T E : Type 0} (a b : Option (List ℕ)) (p after x : List ℕ) (r : Result T E) → IsErr r → Spells a b p after x r → Writes a b (p ++ x) r
+stops_writing a b p after x (Ok _) failed h = absurd (false≢true failed)
+stops_writing a b p after x (Err _) failed h = h
+
+-- that was empty
+pub blank_written : {T E : Type 0} (a b : Option (List ℕ)) (p x : List ℕ) (r : Result T E) → p ≡ [] → Writes a b (p ++ x) r → Writes a b x r
+blank_written a b p x r none h = subst (λ (t : List ℕ). Writes a b (t ++ x) r) none h

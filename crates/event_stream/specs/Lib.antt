@@ -4,6 +4,8 @@ pub mod Naming
 pub mod Lines
 pub mod Closing
 pub mod Holding
+pub mod Noted
+pub mod States
 pub mod Streams
 pub mod Writing
 pub mod Telling

@@ -373,7 +373,7 @@ fn put_hart<W: Write>(page: &mut Page, out: &mut W, machine: &Machine, hart: u8)
 }
 
 /// What the harts of a machine hold. What has no room on the page is handed on.
-pub fn put_held<W: Write>(page: &mut Page, out: &mut W, machine: &Machine) -> Result<()>
+pub(crate) fn put_held<W: Write>(page: &mut Page, out: &mut W, machine: &Machine) -> Result<()>
     requires { length machine.now.views.nodes ≤ 8 }
     ensures { Spells (W.contents out.old) (W.contents out.new) page.old page.new (holding.held_lines machine.now) result }
 {

@@ -137,6 +137,7 @@ pub fn write_stream<W: Write>(
     out: &mut W,
 ) -> Result<Machine, StreamError>
     ensures whole { IfOk result (λ machine. IsWholeStream names.now strictness image config events.now (W.contents out.old) (W.contents out.new) machine) }
+    ensures reached { IfOk result (λ machine. IsReached machine) }
     ensures limits { (result ≡ Err (StreamError.New making.Config)) ↔ (is_within_limits config ≡ false) }
     ensures unfinished { IfErr result (λ error. IsStreamUnfinished names.now strictness image config events.now (W.contents out.old) (W.contents out.new) error) }
 {

@@ -13,6 +13,8 @@ mod same;
 #[cfg(test)]
 mod spelling;
 #[cfg(test)]
+mod states;
+#[cfg(test)]
 mod streams;
 #[cfg(test)]
 mod traces;

@@ -177,7 +177,7 @@ E 2 step 0 Stopped 3
 H 0 stop 3 ; EBREAK ; ebreak
 ";
 
-fn image_of(alloc: Global, words: &[u32]) -> Result<Image, Fail> {
+pub(crate) fn image_of(alloc: Global, words: &[u32]) -> Result<Image, Fail> {
     let size = size_of_kib(4).ok_or("a size")?;
     let mut bytes = Vec::new(alloc);
     for word in words {
@@ -186,7 +186,7 @@ fn image_of(alloc: Global, words: &[u32]) -> Result<Image, Fail> {
     Ok(raw(alloc, &bytes, size)?)
 }
 
-fn config_of(harts: u32, line: u32) -> Config {
+pub(crate) fn config_of(harts: u32, line: u32) -> Config {
     Config {
         harts,
         sets: 4,
@@ -198,9 +198,9 @@ fn config_of(harts: u32, line: u32) -> Config {
 
 /// Takes no more than there is room for, and fails behind it.
 #[derive(Drop)]
-struct Narrow {
-    room: usize,
-    taken: Vec<u8>,
+pub(crate) struct Narrow {
+    pub(crate) room: usize,
+    pub(crate) taken: Vec<u8>,
 }
 
 impl Write for Narrow {
