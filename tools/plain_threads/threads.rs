@@ -7,9 +7,9 @@ use elf_loader::{BASE, Image, load};
 use hart::{Batch, Hart, run_local};
 use kit::alloc::Global;
 use kit::ledger::{Blank, Brand};
-use machine_model::{Config, Event, Model, Outcome};
+use machine_model::{Config, Event, MemoryModel, Outcome};
 use rv32_decode::decode;
-use rv32_exec::{Plan, plan};
+use rv32_exec::{Action, plan};
 use std::sync::Mutex;
 use std::sync::atomic::{AtomicBool, AtomicU64, Ordering};
 use tl_types::{Channel, Ticks};
@@ -110,7 +110,7 @@ fn accessed(image: &Image, hart: &Hart) -> Option<u32> {
     }
     let instr = decode(image.word(hart.pc))?;
     match plan(&instr, hart.pc, &hart.regs, image.size()) {
-        Plan::Load { addr, .. } | Plan::Lr { addr } | Plan::Amo { addr, .. } => Some(addr),
+        Action::Load { addr, .. } | Action::Lr { addr } | Action::Amo { addr, .. } => Some(addr),
         _ => None,
     }
 }
@@ -322,7 +322,7 @@ fn main() {
         panic!("plain_threads HARTS MODEL LIMIT ELF");
     };
     let harts: u32 = harts.parse().unwrap();
-    let model = if model == "ztso" { Model::Ztso } else { Model::Rvwmo };
+    let model = if model == "ztso" { MemoryModel::Ztso } else { MemoryModel::Rvwmo };
     let limit: u64 = limit.parse().unwrap();
     let image = load(Global, &std::fs::read(file).unwrap(), 64 * 1024).unwrap();
     let config = Config { harts, sets: 4, ways: 2, line: 16, model };
