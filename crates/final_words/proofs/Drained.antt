@@ -1,11 +1,11 @@
 -- A machine's harts, looked at one after the other.
 use Rattle.std.proofs.Common.{◌≡◌, ℕ, zero, suc, ◌<◌, ◌≤◌, List, [], ◌∷◌, true, false, refl, sym, ap, ◌∙◌, not, arith, length, take, slice_index_or}
-use Rattle.std.proofs.lemmas.Bool.{and_from, and_parts}
+use Rattle.std.proofs.lemmas.Bool.{and_from, and_parts, false≢true, not-true}
 use Rattle.std.proofs.lemmas.List.{take_all}
 use Rattle.flat_exploration.specs.Drained.{HasDrained, none_waits_in}
 use Rattle.flat_exploration.specs.Laws.{none_runs}
 use Rattle.hart.specs.Run.{is_running}
-use Rattle.machine_model.specs.Views.{Node, State}
+use Rattle.machine_model.specs.Views.{Node, State, no_node, node_at}
 use Rattle.store_buffer.specs.Groups.{is_empty}
 
 -- of the first of them none runs, and none has a store that waits
@@ -32,3 +32,21 @@ pub idle_all : (s : State) (n : ℕ) → length s.views.nodes ≤ n → IsIdleBe
 idle_all s n l x =
     let all = take_all n s.views.nodes l in
     record { ended = sym (ap none_runs all) ∙ x.ended; empty = sym (ap none_waits_in all) ∙ x.empty }
+
+-- ---- and one that runs, or whose store waits, refutes that the machine has drained
+
+idle_at : (ns : List Node) (d : Node) (h : ℕ) → h < length ns → none_runs ns ≡ true → is_running (slice_index_or ns h d).hart.status ≡ false
+idle_at [] d h l e = absurd (omega (arith, l))
+idle_at (n ∷ ns) d zero l e = not-true (is_running n.hart.status) (and_parts (not (is_running n.hart.status)) (none_runs ns) e).0
+idle_at (n ∷ ns) d (suc h) l e = idle_at ns d h (omega (arith, l)) (and_parts (not (is_running n.hart.status)) (none_runs ns) e).1
+
+empty_at : (ns : List Node) (d : Node) (h : ℕ) → h < length ns → none_waits_in ns ≡ true → is_empty (slice_index_or ns h d).buffer ≡ true
+empty_at [] d h l e = absurd (omega (arith, l))
+empty_at (n ∷ ns) d zero l e = (and_parts (is_empty n.buffer) (none_waits_in ns) e).0
+empty_at (n ∷ ns) d (suc h) l e = empty_at ns d h (omega (arith, l)) (and_parts (is_empty n.buffer) (none_waits_in ns) e).1
+
+pub one_runs : (s : State) (h : ℕ) → h < length s.views.nodes → is_running (node_at s h).hart.status ≡ true → HasDrained s → ⊥
+one_runs s h l runs x = false≢true (sym (idle_at s.views.nodes (no_node s) h l x.ended) ∙ runs)
+
+pub one_waits : (s : State) (h : ℕ) → h < length s.views.nodes → is_empty (node_at s h).buffer ≡ false → HasDrained s → ⊥
+one_waits s h l waits x = false≢true (sym waits ∙ empty_at s.views.nodes (no_node s) h l x.empty)

@@ -15,6 +15,6 @@ returns c e =
     let outcome = sym c.requires.results ∙ (sym (ap told c.deref.ensures.value) ∙ same_if_equal (told c.deref.result.now) (told c.args.harts.now) c.compare.result c.compare.ensures (sym c.is_eq.ensures ∙ equal)) in
     let words = sym (ap (λ t. map (performed_word t) addresses) c.trace.ensures) ∙ (sym c.in_ok-shown.ensures ∙ (sym c.as_slice.ensures.value ∙ (pointwise_decides Decides-eqb c.as_slice.result.now c.args.words.now).0 (sym c.eq.ensures ∙ passes))) in
     record {
-      drained = subst HasDrained c.views.ensures (c.has_drained.ensures drained);
+      drained = subst HasDrained c.views.ensures (c.has_drained.ensures.0 drained);
       same = λ i. record { results = outcome i; words = words i };
     }
