@@ -95,7 +95,8 @@ fn explain_command<'a>(alloc: Global, models: &'a [&'a str]) -> Result<Command<'
 {
     let about = "Applies a script of events to a machine and prints what each event did";
     let command = described(alloc, "explain", about, EXPLAIN_HELP);
-    with_replay(alloc, models, add_arg(Ok(command), strict(alloc)))
+    let command = add_arg(Ok(command), strict(alloc));
+    with_replay(alloc, models, add_arg(command, state(alloc)))
 }
 
 fn chart_command<'a>(alloc: Global, models: &'a [&'a str]) -> Result<Command<'a>, AllocError>
@@ -386,6 +387,17 @@ fn strict<'a>(alloc: Global) -> Arg<'a>
         alloc,
         "strict",
         "end before the first event that changes nothing",
+    )
+}
+
+fn state<'a>(alloc: Global) -> Arg<'a>
+    ensures rule { rule_of result ≡ flag_rule (codes "state") }
+    ensures local { result.global ≡ false }
+{
+    flag(
+        alloc,
+        "state",
+        "print behind the stream what the machine holds at its end",
     )
 }
 

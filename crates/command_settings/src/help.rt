@@ -68,6 +68,20 @@ Exited CODE change the machine. The other outcomes tell why nothing happened:
   ReleaseFull     4 Releases are unanswered
   NotLocal        one of the next instructions touches memory, or stops
 
+With --state there follows what the machine holds at the end. Of each hart
+  X HART NAME VALUE         its pc, and each register that isn't zero
+  B HART GROUP WORD BYTES   a store that waits: group 0 drains first, -- is a byte that it leaves
+  L HART WORD               its reservation
+  C HART LINE STATE         its cache's copy: Branch, Trunk or dirty Trunk
+  A HART LINE               its cache's Acquire of the line is unanswered
+  U HART LINE               its cache's Release of the line is unanswered
+  Q CHANNEL HART MESSAGE    a message that waits, as in an M line but without data, the next one first
+and then of memory's lines
+  N HART LINE PERMISSION    what the manager has noted of the hart, and whether its ProbeAck is awaited
+  G HART LINE Probing GROW  ProbeAcks are awaited before the hart's Grant
+  G HART LINE Granted       the hart's GrantAck is awaited
+  D LINE BYTES              main memory has these bytes, and had others at reset
+
 Example: rvtl explain --raw examples/load.bin examples/load.script";
 
 pub(crate) const CHART_HELP: &str =

@@ -122,6 +122,7 @@ fn explain_of<'a>(matches: &ArgMatches<'a>) -> Option<Explain<'a>>
     Some(Explain {
         replay,
         strict: matches.get_flag("strict"),
+        state: matches.get_flag("state"),
     })
 }
 

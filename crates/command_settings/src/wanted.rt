@@ -51,6 +51,8 @@ pub struct Explain<'a> {
     pub replay: Replay<'a>,
     /// End before the first event that changes nothing.
     pub strict: bool,
+    /// Tell behind the stream what the machine holds at its end.
+    pub state: bool,
 }
 
 /// Replay, and draw what happened as a picture.

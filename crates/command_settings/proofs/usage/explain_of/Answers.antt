@@ -6,11 +6,14 @@ use Rattle.command_settings.proofs.usage.explain_of.Goals as goal
 
 pub returns-clause-meant : goal.returns-clause-meant
 returns-clause-meant c = λ whole.
-    let flag = one_text-rows (found_of c.args.matches.now) (codes "strict") in
+    let f = found_of c.args.matches.now in
+    let strict = one_text-rows f (codes "strict") in
+    let state = one_text-rows f (codes "state") in
     record {
-      replay = c.in_ok-replay.ensures.meant whole.1;
-      strict = flag_read _ whole.0.0 _ whole.0.1 (λ h. c.get_flag.ensures.value (flag ∙ h)) (λ h. c.get_flag.ensures.other (flag ∙ h));
+      replay = c.in_ok-replay.ensures.meant whole.1.1;
+      strict = flag_read _ whole.0.0 _ whole.0.1 (λ h. c.get_flag.ensures.value (strict ∙ h)) (λ h. c.get_flag.ensures.other (strict ∙ h));
+      state = flag_read _ whole.1.0.0 _ whole.1.0.1 (λ h. c.get_flag-2.ensures.value (state ∙ h)) (λ h. c.get_flag-2.ensures.other (state ∙ h));
     }
 
 pub returns-in_err-replay-clause-missing : goal.returns-in_err-replay-clause-missing
-returns-in_err-replay-clause-missing c = λ none whole. c.in_err-replay.ensures.missing refl whole.1
+returns-in_err-replay-clause-missing c = λ none whole. c.in_err-replay.ensures.missing refl whole.1.1
