@@ -27,13 +27,13 @@ pub broken : (held left : Held) (old new : Option (List ℕ)) (wanted meant : Se
 broken held left old new wanted meant is so = subst (λ w. (new ≡ old) ⊎ IsHalfPrinted held left old new w) (sym is) so
 
 pub explained : (held left : Held) (old new : Option (List ℕ)) (wanted : Settings) (explain : Telling) (strictness : Strictness) → wanted ≡ Explain explain → strictness ≡ strictness_of explain.strict
-    → IsExplained held explain.replay strictness old new → IsDone held left old new wanted
+    → IsExplained held explain.replay strictness explain.state old new → IsDone held left old new wanted
 explained held left old new wanted explain strictness is is_strict told =
-    subst (IsDone held left old new) (sym is) (subst (λ s. IsExplained held explain.replay s old new) is_strict told)
+    subst (IsDone held left old new) (sym is) (subst (λ s. IsExplained held explain.replay s explain.state old new) is_strict told)
 
 pub broken_off : (held : Held) (old new : Option (List ℕ)) (explain : Telling) (strictness : Strictness) → strictness ≡ strictness_of explain.strict
-    → (new ≡ old) ⊎ IsStreamCutOff held explain.replay strictness old new → (new ≡ old) ⊎ IsStreamCutOff held explain.replay (strictness_of explain.strict) old new
-broken_off held old new explain strictness is_strict so = subst (λ s. (new ≡ old) ⊎ IsStreamCutOff held explain.replay s old new) is_strict so
+    → (new ≡ old) ⊎ IsStreamCutOff held explain.replay strictness explain.state old new → (new ≡ old) ⊎ IsStreamCutOff held explain.replay (strictness_of explain.strict) explain.state old new
+broken_off held old new explain strictness is_strict so = subst (λ s. (new ≡ old) ⊎ IsStreamCutOff held explain.replay s explain.state old new) is_strict so
 
 module _ (held left : Held) (old new : Option (List ℕ)) (wanted : Settings) where
   pub explore_came : (explore : Sought) (r : Result Judgement Fault) → wanted ≡ Explore explore

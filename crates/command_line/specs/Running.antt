@@ -78,10 +78,10 @@ abbrev pub IsExploreFile : (architecture : Bool) → Seeking → Text → Type 0
 IsExploreFile true explore = IsFileOf explore.scripts
 IsExploreFile false explore = IsScriptFile explore.scripts
 
--- the script was replayed and its trace printed, or what each of its events did, or a picture of it; the program ran and its journal was kept and its trace printed; it was explored and each outcome is allowed; or the trace's order is legal, or its messages
+-- the script was replayed and its trace printed, or what each of its events did and, where that is wanted, what the machine holds at the end, or a picture of it; the program ran and its journal was kept and its trace printed; it was explored and each outcome is allowed; or the trace's order is legal, or its messages
 abbrev pub IsDone : Held → Held → Option (List ℕ) → Option (List ℕ) → Settings → Type 0
 IsDone held left old new (Replay replay) = IsReplayed held replay old new
-IsDone held left old new (Explain explain) = IsExplained held explain.replay (strictness_of explain.strict) old new
+IsDone held left old new (Explain explain) = IsExplained held explain.replay (strictness_of explain.strict) explain.state old new
 IsDone held left old new (Run run) = IsRun held left run old new
 IsDone held left old new (Explore explore) = ExploreCame explore.architecture (nat_lt 0 explore.sample) Allowed held left explore old new
 IsDone held left old new (Show show) = AreWordsShown held left show Allowed old new
@@ -113,7 +113,7 @@ IsNotLegal words held left old new = HasNamed words (IsFaulty held left old new)
 -- no more than a beginning of what was to be printed went out: of a stream, all that stands before the event at which it ends
 abbrev pub IsHalfPrinted : Held → Held → Option (List ℕ) → Option (List ℕ) → Settings → Type 0
 IsHalfPrinted held left old new (Replay replay) = IsCutOff held replay old new
-IsHalfPrinted held left old new (Explain explain) = IsStreamCutOff held explain.replay (strictness_of explain.strict) old new
+IsHalfPrinted held left old new (Explain explain) = IsStreamCutOff held explain.replay (strictness_of explain.strict) explain.state old new
 IsHalfPrinted held left old new (Run run) = IsRunCutOff held left run old new
 IsHalfPrinted held left old new (Explore explore) = IsExploreBroken explore.architecture (nat_lt 0 explore.sample) held explore old new
 IsHalfPrinted held left old new (Show show) = IsPartlyShown held show old new

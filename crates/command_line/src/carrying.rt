@@ -61,7 +61,7 @@ pub(crate) fn carry_out<
         }
         Settings::Explain(explain) => {
             let strictness = strictness_of(explain.strict);
-            explain_files(alloc, files, explain.replay, strictness, out)?;
+            explain_files(alloc, files, explain.replay, strictness, explain.state, out)?;
             Ok(Judgement::Allowed)
         }
         Settings::Chart(chart) => {

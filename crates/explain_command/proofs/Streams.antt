@@ -1,10 +1,11 @@
 -- What of a stream went out before a last flush, and how its end is told.
-use Rattle.std.proofs.Common.{◌≡◌, ◌⊎◌, ◌-◌, ℕ, Err, IfErr, IfOk, List, Ok, Option, Result, inl, inr, refl, subst, sym}
-use Rattle.std.specs.Io.KnownBytes.{Keeps}
+use Rattle.std.proofs.Common.{◌≡◌, ◌⊎◌, ℕ, Bool, Err, IfErr, IsErrAnd, List, [], Ok, OnOk, Option, Result, ap, inl, inr, refl, subst, sym}
+use Rattle.std.specs.Io.KnownBytes.{Appends, Keeps}
 use Rattle.coherent_machine.specs.Machine.{Refuses}
 use Rattle.coherent_machine.specs.declared.errors.NewError.TheVariants as making
 use Rattle.elf_loader.specs.Image.{Initial}
-use Rattle.event_stream.specs.Streams.{stream_of, stream_up_to}
+use Rattle.event_stream.specs.Reports.{StreamEnding, ending}
+use Rattle.event_stream.specs.Streams.{stream_up_to}
 use Rattle.event_stream.specs.Writing.{IsCut, IsStreamUnfinished, IsWholeStream}
 use Rattle.event_stream.specs.declared.errors.StreamError.{StreamError}
 use Rattle.event_stream.specs.declared.errors.StreamError.TheVariants as stream
@@ -16,14 +17,14 @@ use Rattle.machine_model.specs.Events.Verdict.{Keeps as Stays}
 use Rattle.machine_model.specs.Views.{State, opening}
 use Rattle.machine_parts.specs.declared.errors.ApplyError.TheVariants as applying
 use Rattle.text_fields.specs.Writing.{Begins}
-use Rattle.text_fields.proofs.Written.{appends_kept}
+use Rattle.text_fields.proofs.Written.{appends_none, appends_then, begins_first, begins_then}
 use Rattle.trace_text.specs.declared.script.Script.{Script}
 use Rattle.command_files.specs.Sizes.{config_of}
 use Rattle.command_files.specs.Files.{HoldsScript}
 use Rattle.elf_symbols.specs.Named.{Named}
 use Rattle.explain_command.specs.Named.{HoldsNamedImage}
 use Rattle.command_files.specs.Held.{Held}
-use Rattle.explain_command.specs.Explaining.{IsPartOfStream, IsExplainFault}
+use Rattle.explain_command.specs.Explaining.{IsExplainFault, IsPartOfStream, IsWholeExplanation, explanation, state_behind, state_if}
 use Rattle.command_files.specs.Status.{IsStreamFault}
 use Rattle.command_files.specs.declared.fault.Fault.{Fault}
 use Rattle.command_files.specs.declared.fault.Fault.TheVariants.{CannotWrite, OutOfMemory}
@@ -38,10 +39,34 @@ begun_on old mid new text begun kept = record {
   sent = kept_on old mid new begun.front begun.sent kept;
 }
 
-module _ (names : List Named) (strictness : Strictness) (image : Initial) (config : Config) (events : List Event) (old mid new : Option (List ℕ)) where
-  cut_on : (index : ℕ) (IsSuch : Verdict → Type 0) → Keeps mid new → IsCut strictness (opening image config) events index IsSuch (stream_up_to names strictness image config) old mid
+module _ (names : List Named) (strictness : Strictness) (with_state : Bool) (image : Initial) (config : Config) (events : List Event) where
+  -- ---- the stream, and what the machine holds behind it
+
+  -- a beginning of the stream is one of all
+  pub part_of_stream : (old new : Option (List ℕ)) (error : StreamError) → IsStreamUnfinished names strictness image config events old new error → IsPartOfStream names strictness with_state image config events old new error
+  part_of_stream old new (stream.New error) so = subst (λ (o : Option (List ℕ)). Appends old o []) (sym so) (appends_none old)
+  part_of_stream old new (stream.Refused index error) so = so
+  part_of_stream old new (stream.Idle index outcome) so = so
+  part_of_stream old new (stream.Writing error) so = begins_first old new _ _ so
+
+  held_at_end : (s : State) → ending strictness 0 (opening image config) events ≡ StreamEnding.Reached s → state_if with_state s ≡ state_behind with_state (ending strictness 0 (opening image config) events)
+  held_at_end s leads = sym (ap (state_behind with_state) leads)
+
+  pub with_its_state : (old mid new : Option (List ℕ)) (s : State) → IsWholeStream names strictness image config events old mid s → Appends mid new (state_if with_state s) → IsWholeExplanation names strictness with_state image config events old new
+  with_its_state old mid new s whole now = record {
+    reached = s;
+    leads = whole.leads;
+    sent = appends_then old mid new _ _ whole.sent (subst (Appends mid new) (held_at_end s whole.leads) now);
+  }
+
+  pub part_of_state : (old mid new : Option (List ℕ)) (s : State) → IsWholeStream names strictness image config events old mid s → Begins mid new (state_if with_state s) → Begins old new (explanation names strictness with_state image config events)
+  part_of_state old mid new s whole now = begins_then old mid new _ _ whole.sent (subst (Begins mid new) (held_at_end s whole.leads) now)
+
+  -- ---- behind a last flush
+
+  cut_on : (old mid new : Option (List ℕ)) (index : ℕ) (IsSuch : Verdict → Type 0) → Keeps mid new → IsCut strictness (opening image config) events index IsSuch (stream_up_to names strictness image config) old mid
       → IsCut strictness (opening image config) events index IsSuch (stream_up_to names strictness image config) old new
-  cut_on index IsSuch kept cut = record {
+  cut_on old mid new index IsSuch kept cut = record {
     before = cut.before;
     event = cut.event;
     later = cut.later;
@@ -53,48 +78,55 @@ module _ (names : List Named) (strictness : Strictness) (image : Initial) (confi
     sent = kept_on old mid new _ cut.sent kept;
   }
 
-  pub part_on : (error : StreamError) → Keeps mid new → IsStreamUnfinished names strictness image config events old mid error → IsPartOfStream names strictness image config events old new error
-  part_on (stream.New error) kept so = appends_kept old new (subst (λ (o : Option (List ℕ)). Keeps o new) so kept)
-  part_on (stream.Refused index error) kept so = cut_on index (Refuses error) kept so
-  part_on (stream.Idle index outcome) kept so = (so.0, cut_on index (λ v. v ≡ Stays outcome) kept so.1)
-  part_on (stream.Writing error) kept so = begun_on old mid new _ so kept
+  pub part_on : (old mid new : Option (List ℕ)) (error : StreamError) → Keeps mid new → IsPartOfStream names strictness with_state image config events old mid error → IsPartOfStream names strictness with_state image config events old new error
+  part_on old mid new (stream.New error) kept so = kept_on old mid new [] so kept
+  part_on old mid new (stream.Refused index error) kept so = cut_on old mid new index (Refuses error) kept so
+  part_on old mid new (stream.Idle index outcome) kept so = (so.0, cut_on old mid new index (λ v. v ≡ Stays outcome) kept so.1)
+  part_on old mid new (stream.Writing error) kept so = begun_on old mid new _ so kept
 
-  -- whatever became of the stream, where what went out last was not passed on
-  pub part_of : (told : Result State StreamError) (lost : StreamError) → (Begins old new (stream_of names strictness image config events) → IsPartOfStream names strictness image config events old new lost) → Keeps mid new → IfOk told (IsWholeStream names strictness image config events old mid) → IfErr told (IsStreamUnfinished names strictness image config events old mid)
-      → (error : StreamError) × IsPartOfStream names strictness image config events old new error
-  part_of (Ok s) lost begun kept whole so = (lost, begun (all_begun old mid new _ whole.sent kept))
-  part_of (Err error) lost begun kept whole so = (error, part_on error kept so)
+  -- whatever became of it, where what went out last was not passed on
+  pub part_of : (old mid new : Option (List ℕ)) (told : Result (Unit {0}) StreamError) (lost : StreamError) → (Begins old new (explanation names strictness with_state image config events) → IsPartOfStream names strictness with_state image config events old new lost) → Keeps mid new
+      → OnOk told (IsWholeExplanation names strictness with_state image config events old mid) → IfErr told (IsPartOfStream names strictness with_state image config events old mid) → (error : StreamError) × IsPartOfStream names strictness with_state image config events old new error
+  part_of old mid new (Ok _) lost begun kept whole so = (lost, begun (all_begun old mid new _ whole.sent kept))
+  part_of old mid new (Err error) lost begun kept whole so = (error, part_on old mid new error kept so)
+
+-- an error that is passed on
+pub passed_on : {T : Type 0} (P : StreamError → Type 0) (r : Result T StreamError) (error : StreamError) → IsErrAnd r (λ told. told ≡ error) → P error → IfErr r P
+passed_on P (Ok x) error is so = absurd is
+passed_on P (Err told) error is so = subst P (sym is) so
 
 -- of the configuration and events that the script names
-pub part_at : (names : List Named) (strictness : Strictness) (image : Initial) (config wanted : Config) (events given : List Event) (old new : Option (List ℕ)) (error : StreamError) → config ≡ wanted → events ≡ given
-    → IsPartOfStream names strictness image config events old new error → IsPartOfStream names strictness image wanted given old new error
-part_at names strictness image config wanted events given old new error same_config same_events part =
-    subst (λ (c : Config). IsPartOfStream names strictness image c given old new error) same_config (subst (λ (e : List Event). IsPartOfStream names strictness image config e old new error) same_events part)
+pub part_at : (names : List Named) (strictness : Strictness) (with_state : Bool) (image : Initial) (config wanted : Config) (events given : List Event) (old new : Option (List ℕ)) (error : StreamError) → config ≡ wanted → events ≡ given
+    → IsPartOfStream names strictness with_state image config events old new error → IsPartOfStream names strictness with_state image wanted given old new error
+part_at names strictness with_state image config wanted events given old new error same_config same_events part =
+    subst (λ (c : Config). IsPartOfStream names strictness with_state image c given old new error) same_config
+    (subst (λ (e : List Event). IsPartOfStream names strictness with_state image config e old new error) same_events part)
 
-pub whole_at : (names : List Named) (strictness : Strictness) (image : Initial) (config wanted : Config) (events given : List Event) (old mid new : Option (List ℕ)) (s : State) → config ≡ wanted → events ≡ given → Keeps mid new
-    → IsWholeStream names strictness image config events old mid s → IsWholeStream names strictness image wanted given old new s
-whole_at names strictness image config wanted events given old mid new s same_config same_events kept whole =
-    let here : IsWholeStream names strictness image config events old new s = record { leads = whole.leads; sent = kept_on old mid new _ whole.sent kept } in
-    subst (λ (c : Config). IsWholeStream names strictness image c given old new s) same_config (subst (λ (e : List Event). IsWholeStream names strictness image config e old new s) same_events here)
+pub whole_at : (names : List Named) (strictness : Strictness) (with_state : Bool) (image : Initial) (config wanted : Config) (events given : List Event) (old mid new : Option (List ℕ)) → config ≡ wanted → events ≡ given → Keeps mid new
+    → IsWholeExplanation names strictness with_state image config events old mid → IsWholeExplanation names strictness with_state image wanted given old new
+whole_at names strictness with_state image config wanted events given old mid new same_config same_events kept whole =
+    let here : IsWholeExplanation names strictness with_state image config events old new = record { reached = whole.reached; leads = whole.leads; sent = kept_on old mid new _ whole.sent kept } in
+    subst (λ (c : Config). IsWholeExplanation names strictness with_state image c given old new) same_config
+    (subst (λ (e : List Event). IsWholeExplanation names strictness with_state image config e old new) same_events here)
 
 -- what a stream's end is told as
-pub told_as : (names : List Named) (held : Held) (replay : Replay) (strictness : Strictness) (script : Script) (image : Initial) (old new : Option (List ℕ)) (error : StreamError) (fault : Fault)
+pub told_as : (names : List Named) (held : Held) (replay : Replay) (strictness : Strictness) (with_state : Bool) (script : Script) (image : Initial) (old new : Option (List ℕ)) (error : StreamError) (fault : Fault)
     → HoldsScript held replay.script.now script → HoldsNamedImage held replay.raw replay.image.now script.kib image names
-    → (error ≡ stream.New making.Config → ⊥) → IsPartOfStream names strictness image (config_of script replay.model) script.events old new error
+    → (error ≡ stream.New making.Config → ⊥) → IsPartOfStream names strictness with_state image (config_of script replay.model) script.events old new error
     → IsStreamFault replay.script error fault → IsExplainFault held replay strictness old new fault
-told_as names held replay strictness script image old new (stream.New making.Config) fault script_file image_file within part told = absurd (within refl)
-told_as names held replay strictness script image old new (stream.New making.NoMemory) fault script_file image_file within part told = subst (IsExplainFault held replay strictness old new) (sym told) tt
-told_as names held replay strictness script image old new (stream.Refused index applying.NoMemory) fault script_file image_file within part told = subst (IsExplainFault held replay strictness old new) (sym told) tt
-told_as names held replay strictness script image old new (stream.Refused index applying.BadEvent) fault script_file image_file within part told =
+told_as names held replay strictness with_state script image old new (stream.New making.Config) fault script_file image_file within part told = absurd (within refl)
+told_as names held replay strictness with_state script image old new (stream.New making.NoMemory) fault script_file image_file within part told = subst (IsExplainFault held replay strictness old new) (sym told) tt
+told_as names held replay strictness with_state script image old new (stream.Refused index applying.NoMemory) fault script_file image_file within part told = subst (IsExplainFault held replay strictness old new) (sym told) tt
+told_as names held replay strictness with_state script image old new (stream.Refused index applying.BadEvent) fault script_file image_file within part told =
     subst (IsExplainFault held replay strictness old new) (sym told)
     (refl, record { script = script; image = image; names = names; script_file = script_file; image_file = image_file; index = index; place = refl; cut = part })
-told_as names held replay strictness script image old new (stream.Refused index applying.Limit) fault script_file image_file within part told =
+told_as names held replay strictness with_state script image old new (stream.Refused index applying.Limit) fault script_file image_file within part told =
     subst (IsExplainFault held replay strictness old new) (sym told)
     (refl, record { script = script; image = image; names = names; script_file = script_file; image_file = image_file; index = index; place = refl; cut = part })
-told_as names held replay strictness script image old new (stream.Idle index outcome) fault script_file image_file within part told =
+told_as names held replay strictness with_state script image old new (stream.Idle index outcome) fault script_file image_file within part told =
     subst (IsExplainFault held replay strictness old new) (sym told)
     (refl, (part.0, record { script = script; image = image; names = names; script_file = script_file; image_file = image_file; index = index; place = refl; cut = part.1 }))
-told_as names held replay strictness script image old new (stream.Writing error) fault script_file image_file within part told = elim told [
+told_as names held replay strictness with_state script image old new (stream.Writing error) fault script_file image_file within part told = elim told [
   | inl at ↦ subst (IsExplainFault held replay strictness old new) (sym at) tt
   | inr at ↦ subst (IsExplainFault held replay strictness old new) (sym at) tt
 ]

@@ -1,6 +1,7 @@
 //! What `rvtl explain` prints, and how it ends.
 
 use super::memory::{File, Stuck};
+use super::showing::LOST_UPDATE;
 use super::{Ran, breaks_anywhere, breaks_off, image_of, line, texts};
 use crate::same::same;
 use std::process::Abort;
@@ -40,6 +41,32 @@ E 2 step 0 Retired
 R 0 0x80000000 0x80000637 - - ; lui a2, 0x80000
 E 3 step 0 Missed 0x80000000
 M s A 0 AcquireBlock 0x80000000 NtoB
+";
+
+/// What the machine then holds: the request stands in its queue, so the manager has noted nothing.
+const WAITING_END: &str = "E 4 step 0 WaitGrant
+H 0 run ; WaitGrant 0x80000000 ; lw a4, 0(a2)
+X 0 pc 0x80000004
+X 0 a1 0x00000001
+X 0 a2 0x80000000
+A 0 0x80000000
+Q A 0 AcquireBlock 0x80000000 NtoB
+";
+
+/// Of the symbols at 0x80000000 the table has `_start` last.
+const NAMED_STREAM: &str = "rvtl-stream 1
+T 1 4 0x80000000
+I 0x80000000 970200009382020403a3020013031300
+I 0x80000010 23a06200130500009308000073000000
+I 0x80000020 13000000130000001300000013000000
+I 0x80000030 13000000130000001300000013000000
+E 2 step 0 Retired
+R 0 0x80000000 0x00000297 - - ; <_start> auipc t0, 0x00000
+E 3 step 0 Retired
+R 0 0x80000004 0x04028293 - - ; <_start+0x4> addi t0, t0, 64
+E 4 step 0 Missed 0x80000040
+M s A 0 AcquireBlock 0x80000040 NtoB
+H 0 run ; WaitGrant 0x80000040 ; <_start+0x8> lw t1, 0(t0)
 ";
 
 const REFUSED_SCRIPT: &str = "rvtl-script 1 1 4 4 2\nstep 0\nstep 0\nstep 1\n";
@@ -90,6 +117,33 @@ fn a_strict_stream_ends_where_nothing_happens(rt: HostRuntime) -> Result<(), Fai
         )
     );
     same(&rt, ran.status, 0);
+    Ok(())
+}
+
+#[test]
+fn a_state_stands_behind_a_whole_stream_alone(rt: HostRuntime) -> Result<(), Fail> {
+    let ran = explain(&rt, &["--state"], WAITING_SCRIPT)?;
+    assert!(rt; ran.err.is_empty());
+    assert!(rt; ran.out.as_slice().starts_with(WAITING_START.as_bytes()));
+    assert!(rt; ran.out.as_slice().ends_with(WAITING_END.as_bytes()));
+    assert_eq!(rt; ran.out.len(), WAITING_START.len() + WAITING_END.len());
+    assert_eq!(rt; ran.status, 0);
+    let ran = explain(&rt, &["--state", "--strict"], WAITING_SCRIPT)?;
+    assert_eq!(rt; ran.out.as_slice(), WAITING_START.as_bytes());
+    assert_eq!(rt; ran.status, 1);
+    Ok(())
+}
+
+#[test]
+fn a_file_with_symbols_names_addresses(rt: HostRuntime) -> Result<(), Fail> {
+    let files = [
+        File::whole("image", LOST_UPDATE),
+        File::whole("script", WAITING_SCRIPT.as_bytes()),
+    ];
+    let ran = line(&rt, &["rvtl", "explain", "image", "script"], &files);
+    assert!(rt; ran.err.is_empty());
+    assert_eq!(rt; ran.out.as_slice(), NAMED_STREAM.as_bytes());
+    assert_eq!(rt; ran.status, 0);
     Ok(())
 }
 

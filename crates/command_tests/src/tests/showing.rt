@@ -7,7 +7,7 @@ use std::test::Fail;
 
 /// Each hart loads a counter, adds 1 and stores it: `examples/lost_update.elf`, with the symbol `counter` at
 /// 0x80000040.
-const LOST_UPDATE: &[u8] =
+pub(super) const LOST_UPDATE: &[u8] =
     b"\x7fELF\x01\x01\x01\0\0\0\0\0\0\0\0\0\x02\0\xf3\0\x01\0\0\0\0\0\0\x804\0\0\0h\x01\0\0\0\
         \0\0\04\0 \0\x02\0(\0\x06\0\x04\0\x01\0\0\0\x80\0\0\0\0\0\0\x80\0\0\0\x80D\0\0\0D\0\0\0\
         \x05\0\0\0@\0\0\0Q\xe5td\0\0\0\0\0\0\0\0\0\0\0\0\0\0\0\0\0\0\0\0\x06\0\0\0\0\0\0\0\0\0\0\

@@ -1,4 +1,4 @@
-use Rattle.std.proofs.Common.{◌∙◌, Err, ap, false, inr, subst, sym}
+use Rattle.std.proofs.Common.{◌∙◌, ap, inr, subst, sym}
 use Rattle.std.proofs.lemmas.Bool.{false≢true}
 use Rattle.event_stream.specs.declared.errors.StreamError.TheVariants as stream
 use Rattle.machine_model.specs.Config.{is_within_limits}
@@ -28,7 +28,6 @@ returns-in-Ok-clause-explained g c = record {
   script = c.in_ok-script.script;
   image = c.in_ok-named.named.image;
   names = c.in_ok-named.named.names;
-  reached = c.in-Ok.field-0;
   script_file = c.in_ok-script.ensures.script;
   image_file =
       subst (λ (held : Held). HoldsNamedImage held c.args.wanted.raw c.args.wanted.image.now c.in_ok-script.script.kib c.in_ok-named.named.image c.in_ok-named.named.names)
@@ -40,8 +39,8 @@ returns-in-Ok-clause-explained g c = record {
 pub returns-in-Err-clause-unfinished : goal.returns-in-Err-clause-unfinished
 returns-in-Err-clause-unfinished g c =
     let part =
-    part_of c.in_ok-named.named.names c.args.strictness c.in_ok-named.named.image c.config_of-config.result c.as_slice-events.result.now (g.O.Write.contents c.args.out.now) (g.O.Write.contents c.write_stream-told.new.out)
-    (g.O.Write.contents c.flush.new.self) c.write_stream-told.result (stream.Writing c.in-Err.error) (λ begun. begun) c.flush.ensures.bytes c.write_stream-told.ensures.whole c.write_stream-told.ensures.unfinished in
+    part_of c.in_ok-named.named.names c.args.strictness c.args.with_state c.in_ok-named.named.image c.config_of-config.result c.as_slice-events.result.now (g.O.Write.contents c.args.out.now) (g.O.Write.contents c.tell-told.new.out)
+    (g.O.Write.contents c.flush.new.self) c.tell-told.result (stream.Writing c.in-Err.error) (λ begun. begun) c.flush.ensures.bytes c.tell-told.ensures.whole c.tell-told.ensures.unfinished in
     inr (record {
       script = c.in_ok-script.script;
       image = c.in_ok-named.named.image;
@@ -51,7 +50,7 @@ returns-in-Err-clause-unfinished g c =
       image_file =
           subst (λ (held : Held). HoldsNamedImage held c.args.wanted.raw c.args.wanted.image.now c.in_ok-script.script.kib c.in_ok-named.named.image c.in_ok-named.named.names)
           c.in_ok-script.ensures.stays c.in_ok-named.ensures.image;
-      part = part_at c.in_ok-named.named.names _ _ _ _ _ _ _ _ _ c.config_of-config.ensures c.as_slice-events.ensures part.1;
+      part = part_at c.in_ok-named.named.names _ _ _ _ _ _ _ _ _ _ c.config_of-config.ensures c.as_slice-events.ensures part.1;
     })
 
 pub returns-in-Err-clause-told : goal.returns-in-Err-clause-told
@@ -67,17 +66,17 @@ returns-clause-unfinished g c = inr (record {
   image_file =
       subst (λ (held : Held). HoldsNamedImage held c.args.wanted.raw c.args.wanted.image.now c.in_ok-script.script.kib c.in_ok-named.named.image c.in_ok-named.named.names)
       c.in_ok-script.ensures.stays c.in_ok-named.ensures.image;
-  part = part_at c.in_ok-named.named.names _ _ _ _ _ _ _ _ _ c.config_of-config.ensures c.as_slice-events.ensures
-      (part_on c.in_ok-named.named.names c.args.strictness c.in_ok-named.named.image c.config_of-config.result c.as_slice-events.result.now (g.O.Write.contents c.args.out.now) (g.O.Write.contents c.write_stream-told.new.out)
+  part = part_at c.in_ok-named.named.names _ _ _ _ _ _ _ _ _ _ c.config_of-config.ensures c.as_slice-events.ensures
+      (part_on c.in_ok-named.named.names c.args.strictness c.args.with_state c.in_ok-named.named.image c.config_of-config.result c.as_slice-events.result.now (g.O.Write.contents c.args.out.now) (g.O.Write.contents c.tell-told.new.out)
       (g.O.Write.contents c.flush.new.self) c.in-Err-told.error c.flush.ensures.bytes c.in-Err-told.ensures.unfinished);
 })
 
 pub returns-clause-told : goal.returns-clause-told
 returns-clause-told g c =
-    told_as c.in_ok-named.named.names _ c.args.wanted c.args.strictness c.in_ok-script.script c.in_ok-named.named.image _ _ c.in-Err-told.error _ c.in_ok-script.ensures.script
+    told_as c.in_ok-named.named.names _ c.args.wanted c.args.strictness c.args.with_state c.in_ok-script.script c.in_ok-named.named.image _ _ c.in-Err-told.error _ c.in_ok-script.ensures.script
     (subst (λ (held : Held). HoldsNamedImage held c.args.wanted.raw c.args.wanted.image.now c.in_ok-script.script.kib c.in_ok-named.named.image c.in_ok-named.named.names) c.in_ok-script.ensures.stays c.in_ok-named.ensures.image)
-    (λ at. false≢true (sym (c.write_stream-told.ensures.limits.0 (c.in-Err-told.is ∙ ap Err at)) ∙ (ap is_within_limits c.config_of-config.ensures ∙ machine_within c.in_ok-script.script c.args.wanted.model c.in_ok-script.ensures.script.is_script)))
-    (part_at c.in_ok-named.named.names _ _ _ _ _ _ _ _ _ c.config_of-config.ensures c.as_slice-events.ensures
-    (part_on c.in_ok-named.named.names c.args.strictness c.in_ok-named.named.image c.config_of-config.result c.as_slice-events.result.now (g.O.Write.contents c.args.out.now) (g.O.Write.contents c.write_stream-told.new.out)
+    (λ at. false≢true (sym (c.in-Err-told.ensures.limits at) ∙ (ap is_within_limits c.config_of-config.ensures ∙ machine_within c.in_ok-script.script c.args.wanted.model c.in_ok-script.ensures.script.is_script)))
+    (part_at c.in_ok-named.named.names _ _ _ _ _ _ _ _ _ _ c.config_of-config.ensures c.as_slice-events.ensures
+    (part_on c.in_ok-named.named.names c.args.strictness c.args.with_state c.in_ok-named.named.image c.config_of-config.result c.as_slice-events.result.now (g.O.Write.contents c.args.out.now) (g.O.Write.contents c.tell-told.new.out)
     (g.O.Write.contents c.flush.new.self) c.in-Err-told.error c.flush.ensures.bytes c.in-Err-told.ensures.unfinished))
     c.explaining.ensures
