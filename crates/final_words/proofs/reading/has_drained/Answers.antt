@@ -21,8 +21,7 @@ pub returns-then-is_running : goal.returns-then-is_running
 returns-then-is_running c =
     let s = c.args.views.now in
     let h = c.loop-hart.hart in
-    let inside : h < length s.views.nodes = omega (arith, c.loop-hart-test.true, c.harts-hart-end.ensures) in
-    (
+    let inside : h < length s.views.nodes = omega (arith, c.loop-hart-test.true, c.harts-hart-end.ensures) in (
       λ is. absurd (false≢true is),
       λ drained. elim c.then-is_running.branch [
         | then-is_running-via-then-is_running w ↦ absurd (one_runs s h inside (ap (λ (k : Hart). is_running k.status) (sym c.hart.ensures) ∙ sym w.if-is_running.ensures) drained)
