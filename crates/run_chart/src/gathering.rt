@@ -1,5 +1,5 @@
 //! What happens in a run, row by row.
-ghost use Rattle.std.specs.Prelude.{◌≡◌, ◌<◌, ◌≤◌, ◌++◌, ◌∷◌, [], Err, IfErr, IfOk, OnOk, false, length, map};
+ghost use Rattle.std.specs.Prelude.{◌≡◌, ◌↔◌, ◌<◌, ◌≤◌, ◌++◌, ◌∷◌, [], Err, IfErr, IfOk, OnOk, false, length, map};
 ghost use Rattle.coherent_machine.specs.declared.errors.NewError.TheVariants as making;
 ghost use Rattle.coherent_machine.specs.declared.errors.ReplayError.TheVariants as replaying;
 ghost use Rattle.machine_model.specs.Config.{is_within_limits};
@@ -142,14 +142,15 @@ pub fn gather(
     address: Option<u32>,
 ) -> Result<Story, ChartError>
     ensures told { IfOk result (IsStory image config events.now address) }
-    ensures limits { result ≡ Err (ChartError.Replay (replaying.New making.Config)) → is_within_limits config ≡ false }
+    ensures limits { (result ≡ Err (ChartError.Replay (replaying.New making.Config))) ↔ (is_within_limits config ≡ false) }
     ensures untold { IfErr result (IsUntold image config events.now address) }
 {
-    let machine = replay(alloc, image.try_copy(alloc)?, config, events)?;
+    let machine = replay(alloc, image, config, events)?;
     let width = machine.trace().line_size().bytes();
     let only = only_of(width, address);
     let columns = lines_of(alloc, only, machine.trace().log())?;
     let harts = machine.trace().harts() as u8;
+    let image = machine.trace().image().try_copy(alloc)?;
     let scope = Scope {
         width,
         only,
