@@ -1,8 +1,9 @@
 #!/usr/bin/env python3
-"""Writes the programs of whose memory models `model_outcomes` asks what they allow.
+"""Writes the programs of whose memory models `model_outcomes` asks what they allow, and those that `exhaustive_walk` walks through.
 
 usage: tools/model_programs.py litmus > crates/model_outcomes/data/litmus
        tools/model_programs.py straight > crates/model_outcomes/data/straight
+       tools/model_programs.py walked > crates/exhaustive_walk/data/programs
 
 A line of `litmus` has a name, the number of harts, whether RVWMO and Ztso allow the outcome that is asked for, and the
 program's words from 0x80000000 on. The outcome asked for is that all harts exit with 0: each exits with 1 where a number
@@ -16,13 +17,16 @@ of the litmus tests for RISC-V of Flur, Maranget and others; a few with LR, SC o
 
 A line of `straight` has a name and the words of a program of 2 harts without loops, drawn by a fixed seed, whose stores
 don't depend on what it loads. It puts out each number that it loads, and each SC's result.
+
+A line of `walked` has a name, a memory model, a number of ways and the words of a program of 2 harts. Each exits with the
+numbers that it loads, two bits each.
 """
 import random
 import sys
 from itertools import count, product
 from math import factorial, prod
 
-ZERO, HARTS_ID, CALL = 0, 10, 17
+ZERO, HARTS_ID, HARTS, CALL = 0, 10, 11, 17
 BASE, WRONG, TEMPORARY, ADDRESS = 12, 13, 30, 29
 STRAIGHT, MOST_JUDGEMENTS = 60, 25_000
 PLACES = {'x': 0x600, 'y': 0x680, 'z': 0x700, 'w': 0x780}
@@ -281,7 +285,7 @@ CYCLES = {
     '3.LB': [['R x 1', 'W y 1'], ['R y 1', 'W z 1'], ['R z 1', 'W x 1']],
     'IRIW': [['W x 1'], ['R x 1', 'R y 0'], ['W y 1'], ['R y 1', 'R x 0']],
 }
-PLAIN = {'R': 'lw', 'W': 'sw'}
+PLAIN = {'R': 'lw', 'W': 'sw', 'A': 'amo'}
 STRONG = 'fence.rw.rw'
 FENCES = ['fence.' + f for f in ('r.r', 'r.w', 'w.r', 'w.w', 'r.rw', 'w.rw', 'rw.r', 'rw.w', 'rw.rw', 'iorw.iorw', 'io.io', 'fm1.w.w', 'tso')]
 
@@ -438,17 +442,18 @@ W.w+R.b-W.w-R.w forbidden forbidden | W x 16843009 | R x 1 lbu ; W x 2 ; R x 168
 '''
 
 
+def items_of(text):
+    """The items of a hart."""
+    for item in text.split(' ; '):
+        words = item.split()
+        yield item if len(words) == 1 else operation(' '.join(words[:3]), ''.join(words[3:]))
+
+
 def singles():
     for text in SINGLE.strip().splitlines():
         head, *harts = text.split(' | ')
         name, rvwmo, ztso = head.split()
-        programs = []
-        for hart in harts:
-            items = []
-            for item in hart.split(' ; '):
-                words = item.split()
-                items.append(item if len(words) == 1 else operation(' '.join(words[:3]), ''.join(words[3:])))
-            programs.append(items)
+        programs = [list(items_of(hart)) for hart in harts]
         yield name, programs, rvwmo == 'allowed', ztso == 'allowed'
 
 
@@ -541,11 +546,78 @@ def straight():
             return
 
 
+# ---- programs to walk through
+
+# `A` is an AMOSWAP, `out` puts out the number that was loaded first, and `again` goes back to the LR if the SC failed.
+# Most numbers that are stored are 2, which x11 has from reset on, so that there are few instructions.
+WALKED = '''
+store_buffering rvwmo 1 | W x 2 ; R x4 0 | W x4 2 ; R x 0
+store_buffering_fenced rvwmo 1 | W x 2 ; fence.w.r ; R x4 0 | W x4 2 ; fence.w.r ; R x 0
+message_passing rvwmo 1 | W x 2 ; W x4 2 | R x4 0 ; R x 0
+message_passing ztso 1 | W x 2 ; W x4 2 | R x4 0 ; R x 0
+message_passing_fenced rvwmo 1 | W x 2 ; fence.w.w ; W x4 2 | R x4 0 ; R x 0
+reserved rvwmo 1 | R x 0 lr ; out ; W x 2 lone_sc | W x 1
+reserved_across rvwmo 1 | R x 0 lr ; R y 0 ; W x 2 lone_sc ; again | W x 1
+swapped rvwmo 1 | W x4 2 ; A x 2 | A x 1 ; R x4 0
+'''
+
+
+class Walked(Hart):
+    """A hart's code, that exits with what it loads."""
+
+    def __init__(self):
+        super().__init__()
+        self.free, self.checks = HARTS_ID, []
+
+    def value(self, number):
+        return HARTS if number == 2 else super().value(number)
+
+    def operation(self, kind, place, number, flavour):
+        if flavour.startswith('lr'):
+            self.start = len(self.words)
+        if kind == 'A':
+            self.checks.append((self.free, 0))
+            self.emit(atomic('amoswap', '', self.free, self.value(number), self.pointer(place)))
+        else:
+            super().operation(kind, place, number, flavour)
+        if self.checks:
+            self.free = 18 + len(self.checks)
+
+    def link(self, name):
+        if name == 'out':
+            self.emit(addi(CALL, ZERO, 1), ECALL, addi(CALL, ZERO, 0))
+        elif name == 'again':
+            self.emit(branch(1, self.read, ZERO, 4 * (self.start - len(self.words))))
+        else:
+            super().link(name)
+
+    def walked(self, items):
+        for item in items:
+            if isinstance(item, str):
+                self.link(item)
+            else:
+                self.operation(*item)
+        for reg, _ in self.checks[1:]:
+            self.emit(immediate(1, HARTS_ID, HARTS_ID, 2), register(6, HARTS_ID, HARTS_ID, reg))
+        self.emit(ECALL)
+        return self.words
+
+
+def walked():
+    for text in WALKED.strip().splitlines():
+        head, *harts = text.split(' | ')
+        first, second = [Walked().walked(list(items_of(hart))) for hart in harts]
+        words = [branch(1, HARTS_ID, ZERO, 4 + 4 * len(first)), *first, *second]
+        print(f'{head} {" ".join(f"{w:08x}" for w in words)}')
+
+
 def main():
     if sys.argv[1:] == ['litmus']:
         litmus()
     elif sys.argv[1:] == ['straight']:
         straight()
+    elif sys.argv[1:] == ['walked']:
+        walked()
     else:
         sys.exit(__doc__)
 
