@@ -1,19 +1,19 @@
 -- Files that were written stay where further ones are written.
-use Rattle.std.proofs.Common.{◌≡◌, ◌≢◌, All, ◌∙◌, ◌⊎◌, ◌+◌, ◌^◌, ◌<◌, ◌≤◌, ◌-◌, ℕ, Bool, List, [], ◌∷◌, ◌++◌, IfSome, Option, drop, get_or, take, true, false, ap, arith, codes, decimal, fold, inl, inr, length, refl, subst, sym}
-use Rattle.std.specs.Str.{bytes_eq}
+use Rattle.std.proofs.Common.{◌≡◌, ◌≢◌, All, ◌∙◌, ◌⊎◌, ◌+◌, ◌^◌, ◌<◌, ◌≤◌, ◌-◌, ℕ, List, [], ◌∷◌, ◌++◌, IfSome, None, Option, Some, drop, get_or, take, ap, arith, codes, decimal, fold, inl, inr, length, refl, subst, sym}
+use Rattle.std.specs.Borrow.{Bor}
 use Rattle.std.proofs.lemmas.Fmt.{decimal_injective}
 use Rattle.std.proofs.lemmas.List.{append_cancel_left, append_cancel_right, append_assoc, append-nil, drop_more, length-append, length-drop, take-append-drop}
 use Rattle.std.proofs.lemmas.List.Elements.{All-head, All-tail}
 use Rattle.std.proofs.lemmas.List.Sums.{fold-append}
-use Rattle.std.proofs.lemmas.Slice.Eq.{bytes_eq-Decides}
-use Rattle.architecture_command.specs.Keeping.{AreWaysKept, IsFileIn, IsWayKeptAt, file_path, trace_path}
+use Rattle.architecture_command.specs.Keeping.{AreWaysKept, IsFileIn, IsFileOf, IsWayFile, IsWayKeptAt, file_path, trace_path}
 use Rattle.architecture_outcomes.specs.declared.outcome.Outcome.{Outcome}
 use Rattle.architecture_outcomes.specs.declared.outcome.Way.{Way}
 use Rattle.architecture_outcomes.specs.declared.outcome.Way.TheVariants.{Machine, Model, ModelAlone}
 use Rattle.command_files.specs.Files.{HoldsScript, HoldsTrace}
 use Rattle.command_files.specs.Held.{Held, HoldsBytes}
 use Rattle.command_settings.specs.declared.wanted.MachineOptions.{MachineOptions}
-use Rattle.explore_command.specs.Keeping.{Name, SparesOthers, outcome_path}
+use Rattle.explore_command.proofs.Kept.{spares_more}
+use Rattle.explore_command.specs.Keeping.{IsInNamed, Name, SparesOthers, outcome_path}
 use Rattle.explorer.specs.declared.found.Script.TheVariants.{Events, Limit, NoMemory, Unrealised}
 use Rattle.trace_recorder.specs.History.{History}
 use Rattle.trace_text.specs.Scripts.{text}
@@ -83,24 +83,34 @@ module _ (before after : Held) (machine : MachineOptions) (folder path : Name) (
     kept_from (number + 1) os (λ n w from below. differs n w (omega (arith, from)) (omega (arith, below))) kept.1,
   )
 
-  spares_more : (held : Held) → IsFileIn folder path → SparesOthers (IsFileIn folder) held before → SparesOthers (IsFileIn folder) held after
-  spares_more held is spared other = go (bytes_eq other path) refl
-    where
-      never : {b : Bool} → b ≡ false → b ≡ true → ⊥
-      never is also =
-          let bad : false ≡ true = sym is ∙ also in cc
+-- the file that shows the last that is left is one of all
+way_at : (number : ℕ) (front done : List Outcome) (last : Outcome) (folder path : Name) → path ≡ file_path folder (number + length front) last.way → IsWayFile number (front ++ last ∷ done) folder path
+way_at number [] done last folder path is =
+    let here : number + 0 ≡ number = omega arith in inl (is ∙ ap (λ (n : ℕ). file_path folder n last.way) here)
+way_at number (o ∷ os) done last folder path is =
+    let next : number + length (o ∷ os) ≡ number + 1 + length os = omega arith in inr (way_at (number + 1) os done last folder path (is ∙ ap (λ (n : ℕ). file_path folder n last.way) next))
 
-      go : (b : Bool) → bytes_eq other path ≡ b → (after other ≡ held other) ⊎ IsFileIn folder other
-      go true same = inr (subst (IsFileIn folder) (sym ((bytes_eq-Decides other path).0 same)) is)
-      go false differs = elim (spared other) [
-        | inl still ↦ inl (others other (λ same. never differs ((bytes_eq-Decides other path).1 same)) ∙ still)
-        | inr written ↦ inr written
-      ]
+way_of_left : (left front done all : List Outcome) (last : Outcome) (folder path : Name) → left ≡ front ++ last ∷ [] → left ++ done ≡ all → path ≡ file_path folder (length left) last.way → IsWayFile 1 all folder path
+way_of_left left front done all last folder path left_is whole path_is =
+    let count : length left ≡ 1 + length front = omega (arith, ap (λ (xs : List Outcome). length xs) left_is, length-append front (last ∷ [])) in
+    let parts : all ≡ front ++ (last ∷ [] ++ done) = sym whole ∙ (ap (λ (xs : List Outcome). xs ++ done) left_is ∙ append_assoc front (last ∷ []) done) in
+    subst (λ (os : List Outcome). IsWayFile 1 os folder path) (sym parts) (way_at 1 front done last folder path (path_is ∙ ap (λ (n : ℕ). file_path folder n last.way) count))
 
--- a file of the folder spares all others
-pub spares_one : (held before after : Held) (machine : MachineOptions) (folder path : Name) (number : ℕ) (way : Way) → path ≡ file_path folder number way → ((other : Name) → other ≢ path → after other ≡ before other)
-    → SparesOthers (IsFileIn folder) held before → SparesOthers (IsFileIn folder) held after
-spares_one held before after machine folder path number way path_is others = spares_more before after machine folder path others held (is_file folder path number way path_is)
+-- its writing spares all others
+pub spares_one : (held before after : Held) (machine : MachineOptions) (folder path : Name) (left front done all : List Outcome) (last : Outcome) → left ≡ front ++ last ∷ [] → left ++ done ≡ all → path ≡ file_path folder (length left) last.way
+    → ((other : Name) → other ≢ path → after other ≡ before other) → SparesOthers (IsWayFile 1 all folder) held before → SparesOthers (IsWayFile 1 all folder) held after
+spares_one held before after machine folder path left front done all last left_is whole path_is others =
+    spares_more before after machine folder path others (IsWayFile 1 all folder) held (way_of_left left front done all last folder path left_is whole path_is)
+
+-- each is one that may be written
+way_in : (number : ℕ) (outcomes : List Outcome) (folder name : Name) → IsWayFile number outcomes folder name → IsFileIn folder name
+way_in number [] folder name is = absurd is
+way_in number (o ∷ os) folder name (inl is) = is_file folder name number o.way is
+way_in number (o ∷ os) folder name (inr later) = way_in (number + 1) os folder name later
+
+pub way_file : (outcomes : List Outcome) (folder : Option (Bor Name)) (name : Name) → IsInNamed folder (IsWayFile 1 outcomes) name → IsFileOf folder name
+way_file outcomes None name is = absurd is
+way_file outcomes (Some folder) name is = way_in 1 outcomes folder.now name is
 
 -- ---- from the last outcome to the first
 
@@ -109,7 +119,7 @@ pub record HasKept (held now : Held) (machine : MachineOptions) (folder : Name) 
   pub done : List Outcome
   pub whole : left ++ done ≡ all
   pub kept : AreWaysKept now machine folder (length left + 1) done
-  pub spared : SparesOthers (IsFileIn folder) held now
+  pub spared : SparesOthers (IsWayFile 1 all folder) held now
 
 pub none_kept : (held : Held) (machine : MachineOptions) (folder : Name) (all : List Outcome) → HasKept held held machine folder all all
 none_kept held machine folder all = record {
@@ -134,7 +144,7 @@ one_more held before after machine folder path left front all last small left_is
         subst (λ (p : Name). IsWayKeptAt after machine p last.way) (path_is ∙ ap (λ n. file_path folder n last.way) count) written,
         subst (λ (n : ℕ). AreWaysKept after machine folder (n + 1) has.done) count (kept_from before after machine folder path others (length left + 1) has.done differs has.kept),
       );
-      spared = spares_one held before after machine folder path (length left) last.way path_is others has.spared;
+      spared = spares_one held before after machine folder path left front has.done all last left_is has.whole path_is others has.spared;
     }
 
 -- what is known of all is known of the last that is left

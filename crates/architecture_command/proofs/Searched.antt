@@ -1,7 +1,7 @@
 -- What is known of a search, and what it leaves.
 use Rattle.std.proofs.Common.{◌≡◌, ◌≢◌, ℕ, IfSome, List, Option, subst}
 use Rattle.std.specs.Io.KnownBytes.{Appends}
-use Rattle.architecture_command.specs.Keeping.{AreWaysKept}
+use Rattle.architecture_command.specs.Keeping.{AreWaysKept, IsWayFile}
 use Rattle.architecture_command.specs.Searching.{IsFoundUnder, IsPartlySearched, IsSearched}
 use Rattle.architecture_outcomes.specs.declared.architecture.Architecture.{Architecture}
 use Rattle.architecture_outcomes.specs.Outcomes.{outcomes_of}
@@ -12,6 +12,7 @@ use Rattle.command_files.specs.Sizes.{config_named}
 use Rattle.command_settings.specs.declared.wanted.Explore.{Explore}
 use Rattle.elf_loader.specs.Image.{Initial}
 use Rattle.explore_command.specs.Allowing.{IsJudged}
+use Rattle.explore_command.specs.Keeping.{IsInNamed, SparesOthers}
 use Rattle.explore_command.specs.declared.judging.Judgement.{Judgement}
 use Rattle.explore_command.specs.declared.judging.Judgement.TheVariants.{Allowed}
 use Rattle.machine_model.specs.declared.config.Config.{Config}
@@ -31,15 +32,17 @@ module _ (held first : Held) (wanted : Explore) (window : ℕ) (config : Config)
   part begun = record { image = image; architecture = found; image_file = image_file; found = is_found; begun = begun }
 
   pub whole : (left : Held) (judgement : Judgement) → Appends old new (architecture_text found) → IfSome wanted.scripts (λ folder. AreWaysKept left wanted.machine folder.now 1 found.outcomes.items)
+      → SparesOthers (IsInNamed wanted.scripts (IsWayFile 1 found.outcomes.items)) held left
       → IsJudged held wanted.allow (outcomes_of found.outcomes.items) judgement
       → (judgement ≡ Allowed → (found.machine ≢ extent.OutOfMemory) × (found.reach ≢ reach.OutOfMemory)) → IsSearched held left wanted window judgement old new
-  whole left judgement printed kept by memory = record {
+  whole left judgement printed kept spares by memory = record {
     image = image;
     architecture = found;
     image_file = image_file;
     found = is_found;
     printed = printed;
     kept = kept;
+    spared = spares;
     judged = by;
     whole = memory;
   }

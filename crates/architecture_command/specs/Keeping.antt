@@ -43,6 +43,11 @@ AreWaysKept left machine folder number [] = Unit {0}
 AreWaysKept left machine folder number (o ∷ rest) = IsWayKeptAt left machine (file_path folder number o.way) o.way × AreWaysKept left machine folder (number + 1) rest
 
 -- the file is one of those
+abbrev pub IsWayFile : ℕ → List Outcome → (folder name : Name) → Type 0
+IsWayFile number [] folder name = ⊥
+IsWayFile number (o ∷ rest) folder name = (name ≡ file_path folder number o.way) ⊎ IsWayFile (number + 1) rest folder name
+
+-- the file is one that shows an outcome of some number
 abbrev pub IsFileIn : Name → Name → Type 0
 IsFileIn folder name = ((number : ℕ) × (name ≡ outcome_path folder number)) ⊎ ((number : ℕ) × (name ≡ trace_path folder number))
 

@@ -3,7 +3,7 @@ use Rattle.std.specs.Prelude.{◌≡◌, ◌≢◌, ℕ, All, IfSome, List, Opti
 use Rattle.std.specs.Io.KnownBytes.{Appends}
 use Rattle.std.specs.List.Sorted.{IsStrictlySortedBy}
 use Rattle.std.specs.Ordering.{on}
-use Rattle.architecture_command.specs.Keeping.{AreWaysKept}
+use Rattle.architecture_command.specs.Keeping.{AreWaysKept, IsWayFile}
 use Rattle.architecture_outcomes.specs.declared.architecture.Architecture.{Architecture}
 use Rattle.architecture_outcomes.specs.Outcomes.{IsWitnessed, TellsEachEnd, outcome_of, outcomes_of}
 use Rattle.architecture_outcomes.specs.Text.{architecture_text}
@@ -13,6 +13,7 @@ use Rattle.command_files.specs.Sizes.{config_named}
 use Rattle.command_settings.specs.declared.wanted.Explore.{Explore}
 use Rattle.elf_loader.specs.Image.{Initial}
 use Rattle.explore_command.specs.Allowing.{IsJudged}
+use Rattle.explore_command.specs.Keeping.{IsInNamed, SparesOthers}
 use Rattle.explore_command.specs.declared.judging.Judgement.{Judgement}
 use Rattle.explore_command.specs.declared.judging.Judgement.TheVariants.{Allowed}
 use Rattle.explorer.specs.Ranks.{outcome_cmp}
@@ -31,7 +32,7 @@ pub record IsFoundUnder (image : Initial) (config : Config) (window limit : ℕ)
   pub model : found.model ≡ config.model
   pub window_is : found.window ≡ window
 
--- what was found of the image in the file was printed, what shows it is in the folder, if one was named, and it was judged by the file that says what is allowed; it is allowed only where memory sufficed for both searches
+-- what was found of the image in the file was printed, what shows it is in the folder, if one was named, and each other file is as before, and it was judged by the file that says what is allowed; it is allowed only where memory sufficed for both searches
 pub record IsSearched (held left : Held) (wanted : Explore) (window : ℕ) (judgement : Judgement) (old new : Option (List ℕ)) : Type 0 where
   pub image : Initial
   pub architecture : Architecture
@@ -39,6 +40,7 @@ pub record IsSearched (held left : Held) (wanted : Explore) (window : ℕ) (judg
   pub found : IsFoundUnder image (config_named wanted.machine) window wanted.states architecture
   pub printed : Appends old new (architecture_text architecture)
   pub kept : IfSome wanted.scripts (λ folder. AreWaysKept left wanted.machine folder.now 1 architecture.outcomes.items)
+  pub spared : SparesOthers (IsInNamed wanted.scripts (IsWayFile 1 architecture.outcomes.items)) held left
   pub judged : IsJudged held wanted.allow (outcomes_of architecture.outcomes.items) judgement
   pub whole : judgement ≡ Allowed → (architecture.machine ≢ extent.OutOfMemory) × (architecture.reach ≢ reach.OutOfMemory)
 

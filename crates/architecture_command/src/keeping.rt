@@ -2,7 +2,7 @@
 
 ghost use Rattle.std.specs.Prelude.{◌≡◌, ◌≢◌, All, IfErr, IfOk, List, OnOk, true, ℕ};
 ghost use Rattle.std.specs.String.{string_bytes};
-ghost use Rattle.architecture_command.specs.Keeping.{AreWaysKept, HasText, IsFileIn, IsWayKeptAt, file_path};
+ghost use Rattle.architecture_command.specs.Keeping.{AreWaysKept, HasText, IsWayFile, IsWayKeptAt, file_path};
 ghost use Rattle.command_files.specs.Files.{HoldsTrace};
 ghost use Rattle.command_files.specs.Sizes.{config_named};
 ghost use Rattle.elf_loader.specs.Size.{IsMemoryKib};
@@ -30,7 +30,7 @@ pub(crate) fn keep_outcomes<'a, F: Files>(
     requires readable { All (λ o. HasText o.way) outcomes.now }
     ensures kept { OnOk result (AreWaysKept (F.held files.new) folder.entry.machine folder.entry.name.now 1 outcomes.now) }
     ensures told { IfErr result (IsFolderFault folder.entry.name) }
-    ensures spared { SparesOthers (IsFileIn folder.entry.name.now) (F.held files.old) (F.held files.new) }
+    ensures spared { SparesOthers (IsWayFile 1 outcomes.now folder.entry.name.now) (F.held files.old) (F.held files.new) }
 {
     let mut rest = outcomes;
     while let [front @ .., last] = rest {

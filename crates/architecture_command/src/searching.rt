@@ -2,14 +2,14 @@
 
 ghost use Rattle.std.specs.Prelude.{◌≡◌, ◌≢◌, ◌<◌, ◌⊎◌, All, Err, IfErr, IfOk, IfSome, OnErr, OnOk, false, option_map, true};
 ghost use Rattle.std.specs.Io.KnownBytes.{Appends};
-ghost use Rattle.architecture_command.specs.Keeping.{AreWaysKept, HasText, IsFileOf};
+ghost use Rattle.architecture_command.specs.Keeping.{AreWaysKept, HasText, IsFileOf, IsWayFile};
 ghost use Rattle.architecture_command.specs.Searching.{IsPartlySearched, IsSearched};
 ghost use Rattle.architecture_outcomes.specs.Outcomes.{outcomes_of};
 ghost use Rattle.architecture_outcomes.specs.Text.{architecture_text};
 ghost use Rattle.command_files.specs.Sizes.{IsOutside, config_named};
 ghost use Rattle.elf_loader.specs.Size.{IsMemoryKib};
 ghost use Rattle.explore_command.specs.Exploring.{IsExploreFault, IsFolderFault, IsNamedBy, LeavesPart, judgement_on};
-ghost use Rattle.explore_command.specs.Keeping.{SparesOthers};
+ghost use Rattle.explore_command.specs.Keeping.{IsInNamed, SparesOthers};
 ghost use Rattle.machine_model.specs.Config.{is_within_limits};
 ghost use Rattle.text_fields.specs.Writing.{Begins};
 
@@ -97,7 +97,7 @@ fn keep<'a, F: Files, E: Write>(
     requires readable { All (λ o. HasText o.way) found.now.outcomes.items }
     ensures kept { OnOk result (IfSome wanted.entry.scripts (λ folder. AreWaysKept (F.held files.new) wanted.entry.machine folder.now 1 found.now.outcomes.items)) }
     ensures told { IfErr result (IsNamedBy wanted.entry.scripts IsFolderFault) }
-    ensures spared { SparesOthers (IsFileOf wanted.entry.scripts) (F.held files.old) (F.held files.new) }
+    ensures spared { SparesOthers (IsInNamed wanted.entry.scripts (IsWayFile 1 found.now.outcomes.items)) (F.held files.old) (F.held files.new) }
 {
     let Some(name) = wanted.scripts else {
         return Ok(());

@@ -1,5 +1,5 @@
 -- What is known of an exploration, and what it leaves.
-use Rattle.std.proofs.Common.{◌≡◌, ◌≢◌, ◌∙◌, ℕ, Err, IfErr, IfOk, IfSome, List, None, Ok, Option, Result, Some, [], ap, inl, inr, subst, sym}
+use Rattle.std.proofs.Common.{◌≡◌, ◌≢◌, ◌∙◌, ℕ, Err, IfErr, IfOk, IfSome, List, None, Ok, Option, Result, Some, [], ap, inl, inr, length, subst, sym}
 use Rattle.std.proofs.lemmas.List.{append-nil}
 use Rattle.std.specs.Io.KnownBytes.{Appends}
 use Rattle.command_files.specs.Faults.{Name}
@@ -13,7 +13,7 @@ use Rattle.elf_loader.specs.Image.{Initial}
 use Rattle.exploration_text.specs.Text.{exploration_text}
 use Rattle.explore_command.specs.Allowing.{IsJudged}
 use Rattle.explore_command.specs.Exploring.{IsAllowFile, IsExploreFault, IsExplorationTold, IsFoundIn, IsPartlyExplored, IsPrinted, LeavesPart, judgement_on}
-use Rattle.explore_command.specs.Keeping.{AreKept, SparesOthers}
+use Rattle.explore_command.specs.Keeping.{AreKept, IsInNamed, IsScriptOf, SparesOthers}
 use Rattle.explore_command.specs.declared.judging.Judgement.{Judgement}
 use Rattle.explore_command.specs.declared.judging.Judgement.TheVariants.{Allowed}
 use Rattle.explorer.specs.Ends.{outcomes_of}
@@ -72,14 +72,16 @@ module _ (held first : Held) (wanted : Explore) (config : Config) (image : Initi
   printed whole = record { image = image; exploration = found; image_file = image_file; found = is_found; whole = whole }
 
   pub whole : (left : Held) (judgement : Judgement) → Appends old new (exploration_text found) → IfSome wanted.scripts (λ folder. AreKept left wanted.machine folder.now found)
+      → SparesOthers (IsInNamed wanted.scripts (IsScriptOf (length found.outcomes.items) found.stuck)) held left
       → IsJudged held wanted.allow (outcomes_of found.outcomes.items) judgement → (judgement ≡ Allowed → found.extent ≢ extent.OutOfMemory) → IsExplorationTold held left wanted judgement old new
-  whole left judgement told kept by memory = record {
+  whole left judgement told kept spares by memory = record {
     image = image;
     exploration = found;
     image_file = image_file;
     found = is_found;
     printed = told;
     kept = kept;
+    spared = spares;
     judged = by;
     whole = memory;
   }

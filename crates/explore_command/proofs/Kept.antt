@@ -1,5 +1,6 @@
 -- Scripts that were written stay where further ones are written.
-use Rattle.std.proofs.Common.{◌≡◌, ◌≢◌, ◌∙◌, ◌⊎◌, ◌+◌, ◌^◌, ◌<◌, ◌≤◌, ℕ, Bool, List, [], ◌∷◌, ◌++◌, ◌-◌, IfSome, OnOk, Ok, Err, Option, Result, Some, drop, get_or, take, true, false, ap, arith, codes, decimal, inl, inr, length, refl, slice_index, subst, sym}
+use Rattle.std.proofs.Common.{◌≡◌, ◌≢◌, ◌∙◌, ◌⊎◌, ◌+◌, ◌^◌, ◌<◌, ◌≤◌, ℕ, Bool, List, [], ◌∷◌, ◌++◌, ◌-◌, IfSome, OnOk, Ok, Err, None, Option, Result, Some, drop, get_or, take, true, false, ap, arith, codes, decimal, inl, inr, length, refl, slice_index, subst, sym}
+use Rattle.std.specs.Borrow.{Bor}
 use Rattle.std.specs.Str.{bytes_eq}
 use Rattle.std.proofs.lemmas.Fmt.{decimal_injective}
 use Rattle.std.proofs.lemmas.List.{append_cancel_left, append_cancel_right, append_assoc, append-nil, drop_more, length-append, length-drop, take-append-drop}
@@ -13,7 +14,7 @@ use Rattle.machine_model.specs.Config.{is_within_limits}
 use Rattle.machine_model.specs.declared.event.Event.{Event}
 use Rattle.std.specs.List.{AllByRecursion}
 use Rattle.command_settings.specs.declared.wanted.MachineOptions.{MachineOptions}
-use Rattle.explore_command.specs.Keeping.{AreKept, AreKeptFrom, IsKeptAt, IsScriptIn, Name, SparesOthers, outcome_path, stuck_path}
+use Rattle.explore_command.specs.Keeping.{AreKept, AreKeptFrom, IsInNamed, IsKeptAt, IsOutcomeScript, IsScriptFile, IsScriptOf, Name, SparesOthers, outcome_path, stuck_path}
 use Rattle.explorer.specs.declared.exploration.Exploration.{Exploration}
 use Rattle.explorer.specs.declared.exploration.Stuck.{Stuck}
 use Rattle.explorer.specs.declared.found.Found.{Found}
@@ -76,11 +77,11 @@ module _ (before after : Held) (machine : MachineOptions) (folder path : Name) (
     kept_from (number + 1) xs (λ n from below. differs n (omega (arith, from)) (omega (arith, below))) kept.1,
   )
 
-  pub spares_more : (held : Held) → IsScriptIn folder path → SparesOthers (IsScriptIn folder) held before → SparesOthers (IsScriptIn folder) held after
-  spares_more held is spared other = go (bytes_eq other path) refl
+  pub spares_more : (IsWritten : Name → Type 0) (held : Held) → IsWritten path → SparesOthers IsWritten held before → SparesOthers IsWritten held after
+  spares_more IsWritten held is spared other = go (bytes_eq other path) refl
     where
-      go : (b : Bool) → bytes_eq other path ≡ b → (after other ≡ held other) ⊎ IsScriptIn folder other
-      go true same = inr (subst (IsScriptIn folder) (sym ((bytes_eq-Decides other path).0 same)) is)
+      go : (b : Bool) → bytes_eq other path ≡ b → (after other ≡ held other) ⊎ IsWritten other
+      go true same = inr (subst IsWritten (sym ((bytes_eq-Decides other path).0 same)) is)
       go false differs = elim (spared other) [
         | inl still ↦ inl (others other (λ same. never differs ((bytes_eq-Decides other path).1 same)) ∙ still)
         | inr written ↦ inr written
@@ -97,7 +98,7 @@ pub record HasKept (held now : Held) (machine : MachineOptions) (folder : Name) 
   pub done : List Found
   pub whole : left ++ done ≡ all
   pub kept : AreKeptFrom now machine folder (length left + 1) done
-  pub spared : SparesOthers (IsScriptIn folder) held now
+  pub spared : SparesOthers (IsOutcomeScript (length all) folder) held now
 
 pub none_kept : (held : Held) (machine : MachineOptions) (folder : Name) (all : List Found) → HasKept held held machine folder all all
 none_kept held machine folder all = record {
@@ -106,6 +107,13 @@ none_kept held machine folder all = record {
   kept = tt;
   spared = λ other. inl refl;
 }
+
+-- the last that is left is one of all
+pub one_of : (left front all done : List Found) (path folder : Name) (last : Found) → left ≡ front ++ last ∷ [] → left ++ done ≡ all → path ≡ outcome_path folder (length left) → IsOutcomeScript (length all) folder path
+one_of left front all done path folder last left_is whole path_is =
+    let count : length left ≡ length front + 1 = ap (λ (xs : List Found). length xs) left_is ∙ length-append front (last ∷ []) in
+    let total : length left + length done ≡ length all = sym (length-append left done) ∙ ap (λ (xs : List Found). length xs) whole in
+    (length front, omega (arith, count, total), path_is ∙ ap (outcome_path folder) count)
 
 pub one_more : (held before after : Held) (machine : MachineOptions) (folder path : Name) (left front all : List Found) (last : Found) → length all < 2 ^ 64 → left ≡ front ++ last ∷ [] → path ≡ outcome_path folder (length left)
     → ((other : Name) → other ≢ path → after other ≡ before other) → IsKeptAt after machine path last.script → HasKept held before machine folder left all → HasKept held after machine folder front all
@@ -122,7 +130,7 @@ one_more held before after machine folder path left front all last small left_is
         subst (λ (p : Name). IsKeptAt after machine p last.script) (path_is ∙ ap (outcome_path folder) count) written,
         subst (λ (n : ℕ). AreKeptFrom after machine folder (n + 1) has.done) count (kept_from before after machine folder path others (length left + 1) has.done differs has.kept),
       );
-      spared = spares_more before after machine folder path others held (inl (length left, path_is)) has.spared;
+      spared = spares_more before after machine folder path others (IsOutcomeScript (length all) folder) held (one_of left front all has.done path folder last left_is has.whole path_is) has.spared;
     }
 
 -- ---- the last of a list
@@ -147,3 +155,27 @@ all_kept before after machine folder path e outcomes stuck others path_is outcom
       (kept_from before after machine folder path others 1 outcomes (λ n from below same. never_stuck folder n (sym path_is ∙ same)) kept),
   subst (λ (o : Option Stuck). IfSome o (λ s. IsKeptAt after machine (stuck_path folder) s.script)) (sym stuck_is) (subst (λ (p : Name). IsKeptAt after machine p stuck.script) path_is here),
 )
+
+-- ---- which files those are
+
+-- more files may be written
+pub spares_wider : (IsWritten MayBe : Name → Type 0) (held left : Held) → ((name : Name) → IsWritten name → MayBe name) → SparesOthers IsWritten held left → SparesOthers MayBe held left
+spares_wider IsWritten MayBe held left wider spares name = elim (spares name) [
+  | inl still ↦ inl still
+  | inr is ↦ inr (wider name is)
+]
+
+pub outcome_spared : (outcomes : List Found) (e : Exploration) (folder : Name) (held left : Held) → outcomes ≡ e.outcomes.items → SparesOthers (IsOutcomeScript (length outcomes) folder) held left
+    → SparesOthers (IsScriptOf (length e.outcomes.items) e.stuck folder) held left
+outcome_spared outcomes e folder held left same = spares_wider _ _ held left
+    (λ name is. inl (subst (λ (xs : List Found). IsOutcomeScript (length xs) folder name) same is))
+
+-- one of these scripts is one that may be written
+pub script_file : (count : ℕ) (stuck : Option Stuck) (folder : Option (Bor Name)) (name : Name) → IsInNamed folder (IsScriptOf count stuck) name → IsScriptFile folder name
+script_file count stuck None name is = absurd is
+script_file count stuck (Some folder) name (inl (i, inside, path)) = inl (i + 1, path)
+script_file count stuck (Some folder) name (inr (some, path)) = inr path
+
+pub outcome_file : (count : ℕ) (folder : Option (Bor Name)) (name : Name) → IsInNamed folder (IsOutcomeScript count) name → IsScriptFile folder name
+outcome_file count None name is = absurd is
+outcome_file count (Some folder) name (i, inside, path) = inl (i + 1, path)

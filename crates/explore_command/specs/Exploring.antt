@@ -1,5 +1,5 @@
 -- What an exploration has told, written and judged, and which faults it tells.
-use Rattle.std.specs.Prelude.{◌≡◌, ◌≢◌, ◌⊎◌, ℕ, [], All, IfSome, List, None, Option, Some}
+use Rattle.std.specs.Prelude.{◌≡◌, ◌≢◌, ◌⊎◌, ℕ, [], All, IfSome, List, length, None, Option, Some}
 use Rattle.std.specs.Io.KnownBytes.{Appends}
 use Rattle.std.specs.List.Sorted.{IsSortedByKey}
 use Rattle.command_files.specs.Faults.{IsNoImage, Name}
@@ -12,7 +12,7 @@ use Rattle.command_settings.specs.declared.wanted.Explore.{Explore}
 use Rattle.elf_loader.specs.Image.{Initial}
 use Rattle.exploration_text.specs.Text.{exploration_text}
 use Rattle.explore_command.specs.Allowing.{IsJudged, judgement_by}
-use Rattle.explore_command.specs.Keeping.{AreKept}
+use Rattle.explore_command.specs.Keeping.{AreKept, IsInNamed, IsScriptOf, SparesOthers}
 use Rattle.explore_command.specs.declared.judging.Judgement.{Judgement}
 use Rattle.explore_command.specs.declared.judging.Judgement.TheVariants.{Allowed}
 use Rattle.explorer.specs.Ends.{IsRealIn, outcome_of, outcomes_of}
@@ -42,7 +42,7 @@ pub record IsFoundIn (image : Initial) (config : Config) (limit : ℕ) (found : 
   pub full : found.extent ≡ LimitMet → found.states ≡ limit
   pub visited : (states : List Flat) × AreVisited image config found states
 
--- what was found of the image in the file was printed, its scripts are in the folder, if one was named, and it was judged by the file that says what is allowed; it is allowed only where memory sufficed for all states, or for as many as were asked for
+-- what was found of the image in the file was printed, its scripts are in the folder, if one was named, and each other file is as before, and it was judged by the file that says what is allowed; it is allowed only where memory sufficed for all states, or for as many as were asked for
 pub record IsExplorationTold (held left : Held) (wanted : Explore) (judgement : Judgement) (old new : Option (List ℕ)) : Type 0 where
   pub image : Initial
   pub exploration : Exploration
@@ -50,6 +50,7 @@ pub record IsExplorationTold (held left : Held) (wanted : Explore) (judgement : 
   pub found : IsFoundIn image (config_named wanted.machine) wanted.states exploration
   pub printed : Appends old new (exploration_text exploration)
   pub kept : IfSome wanted.scripts (λ folder. AreKept left wanted.machine folder.now exploration)
+  pub spared : SparesOthers (IsInNamed wanted.scripts (IsScriptOf (length exploration.outcomes.items) exploration.stuck)) held left
   pub judged : IsJudged held wanted.allow (outcomes_of exploration.outcomes.items) judgement
   pub whole : judgement ≡ Allowed → exploration.extent ≢ extent.OutOfMemory
 

@@ -1,11 +1,12 @@
 -- The scripts that an exploration leaves in a folder.
-use Rattle.std.specs.Prelude.{ℕ, ◌≡◌, ◌⊎◌, ◌+◌, ◌∷◌, ◌++◌, [], IfSome, List, None, Option, Some, codes, decimal}
+use Rattle.std.specs.Prelude.{ℕ, ◌≡◌, ◌⊎◌, ◌+◌, ◌<◌, ◌∷◌, ◌++◌, [], IfSome, IsSome, List, None, Option, Some, codes, decimal}
 use Rattle.std.specs.Borrow.{Bor}
 use Rattle.command_files.specs.Files.{HoldsScript}
 use Rattle.command_files.specs.Held.{Held}
 use Rattle.command_files.specs.Sizes.{script_named}
 use Rattle.command_settings.specs.declared.wanted.MachineOptions.{MachineOptions}
 use Rattle.explorer.specs.declared.exploration.Exploration.{Exploration}
+use Rattle.explorer.specs.declared.exploration.Stuck.{Stuck}
 use Rattle.explorer.specs.declared.found.Found.{Found}
 use Rattle.explorer.specs.declared.found.Script.{Script}
 use Rattle.explorer.specs.declared.found.Script.TheVariants.{Events}
@@ -42,6 +43,19 @@ IsScriptIn folder name = ((number : ℕ) × (name ≡ outcome_path folder number
 abbrev pub IsScriptFile : Option (Bor Name) → Name → Type 0
 IsScriptFile None name = ⊥
 IsScriptFile (Some folder) name = IsScriptIn folder.now name
+
+-- the file is the script of one of so many outcomes
+abbrev pub IsOutcomeScript : (count : ℕ) (folder name : Name) → Type 0
+IsOutcomeScript count folder name = (i : ℕ) × (i < count) × (name ≡ outcome_path folder (i + 1))
+
+-- or that of what gets stuck, if anything does
+abbrev pub IsScriptOf : (count : ℕ) (stuck : Option Stuck) (folder name : Name) → Type 0
+IsScriptOf count stuck folder name = IsOutcomeScript count folder name ⊎ (IsSome stuck × (name ≡ stuck_path folder))
+
+-- a folder was named, and the file is one of these in it
+abbrev pub IsInNamed : Option (Bor Name) → (Name → Name → Type 0) → Name → Type 0
+IsInNamed None IsIn name = ⊥
+IsInNamed (Some folder) IsIn name = IsIn folder.now name
 
 -- no other file is another than before
 abbrev pub SparesOthers : (Name → Type 0) → Held → Held → Type 0

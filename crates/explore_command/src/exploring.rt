@@ -1,12 +1,12 @@
 //! `rvtl explore`: every end that the machine can bring a program to is found, told, kept and judged.
 
-ghost use Rattle.std.specs.Prelude.{◌≡◌, ◌≢◌, ◌<◌, ◌⊎◌, Err, IfErr, IfOk, IfSome, OnErr, OnOk, option_map, true};
+ghost use Rattle.std.specs.Prelude.{◌≡◌, ◌≢◌, ◌<◌, ◌⊎◌, Err, IfErr, IfOk, IfSome, OnErr, OnOk, length, option_map, true};
 ghost use Rattle.std.specs.Io.KnownBytes.{Appends};
 ghost use Rattle.command_files.specs.Faults.{IsReadFault};
 ghost use Rattle.command_files.specs.Sizes.{IsOutside, config_named};
 ghost use Rattle.elf_loader.specs.Size.{IsMemoryKib};
 ghost use Rattle.explore_command.specs.Exploring.{ComesAfter, IsAllowFile, IsExploreFault, IsExplorationTold, IsFolderFault, IsNamedBy, IsPartlyExplored, IsPrinted, LeavesPart, judgement_on};
-ghost use Rattle.explore_command.specs.Keeping.{AreKept, IsScriptFile, SparesOthers};
+ghost use Rattle.explore_command.specs.Keeping.{AreKept, IsInNamed, IsScriptFile, IsScriptOf, SparesOthers};
 ghost use Rattle.exploration_text.specs.Text.{exploration_text};
 ghost use Rattle.explorer.specs.Ends.{outcomes_of};
 ghost use Rattle.machine_model.specs.Config.{is_within_limits};
@@ -124,7 +124,7 @@ fn keep<'a, F: Files>(
     requires memory { IsMemoryKib wanted.machine.memory }
     ensures kept { OnOk result (IfSome wanted.entry.scripts (λ folder. AreKept (F.held files.new) wanted.entry.machine folder.now found.now)) }
     ensures told { IfErr result (IsNamedBy wanted.entry.scripts IsFolderFault) }
-    ensures spared { SparesOthers (IsScriptFile wanted.entry.scripts) (F.held files.old) (F.held files.new) }
+    ensures spared { SparesOthers (IsInNamed wanted.entry.scripts (IsScriptOf (length found.now.outcomes.items) found.now.stuck)) (F.held files.old) (F.held files.new) }
 {
     let Some(name) = wanted.scripts else {
         return Ok(());

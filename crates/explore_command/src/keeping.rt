@@ -1,6 +1,6 @@
 //! The scripts of what was found, as files of a folder.
 
-ghost use Rattle.std.specs.Prelude.{◌≡◌, ◌≢◌, IfErr, IfOk, List, OnOk, true, ℕ};
+ghost use Rattle.std.specs.Prelude.{◌≡◌, ◌≢◌, IfErr, IfOk, List, OnOk, length, true, ℕ};
 ghost use Rattle.std.specs.List.{AllByRecursion};
 ghost use Rattle.std.specs.String.{string_bytes};
 ghost use Rattle.command_files.specs.Files.{HoldsScript};
@@ -8,7 +8,7 @@ ghost use Rattle.command_files.specs.Held.{HoldsBytes};
 ghost use Rattle.command_files.specs.Sizes.{config_named, script_named};
 ghost use Rattle.elf_loader.specs.Size.{IsMemoryKib};
 ghost use Rattle.explore_command.specs.Exploring.{IsFolderFault};
-ghost use Rattle.explore_command.specs.Keeping.{AreKept, AreKeptFrom, IsKeptAt, IsScriptIn, SparesOthers, outcome_path, stuck_path};
+ghost use Rattle.explore_command.specs.Keeping.{AreKept, AreKeptFrom, IsKeptAt, IsOutcomeScript, IsScriptOf, SparesOthers, outcome_path, stuck_path};
 ghost use Rattle.machine_model.specs.Config.{is_within_limits};
 ghost use Rattle.trace_text.specs.Scripts.{IsEvent, text};
 
@@ -29,12 +29,13 @@ pub struct Folder<'a> {
 
 impl<'a> Folder<'a> {
     /// Writes a script for each outcome, and one that gets stuck. One that has none can't be written.
+    #[tactic(auto, using(crate::proofs::Kept::outcome_spared))]
     pub fn keep<F: Files>(&self, files: &mut F, found: &Exploration) -> Result<(), Fault<'a>>
         requires within { is_within_limits (config_named self.now.machine) ≡ true }
         requires memory { IsMemoryKib self.now.machine.memory }
         ensures kept { OnOk result (AreKept (F.held files.new) self.now.machine self.now.name.now found.now) }
         ensures told { IfErr result (IsFolderFault self.now.name) }
-        ensures spared { SparesOthers (IsScriptIn self.now.name.now) (F.held files.old) (F.held files.new) }
+        ensures spared { SparesOthers (IsScriptOf (length found.now.outcomes.items) found.now.stuck self.now.name.now) (F.held files.old) (F.held files.new) }
     {
         self.keep_outcomes(files, &found.outcomes)?;
         let Some(stuck) = &found.stuck else {
@@ -56,7 +57,7 @@ impl<'a> Folder<'a> {
         requires memory { IsMemoryKib self.now.machine.memory }
         ensures kept { OnOk result (AreKeptFrom (F.held files.new) self.now.machine self.now.name.now 1 outcomes.now) }
         ensures told { IfErr result (IsFolderFault self.now.name) }
-        ensures spared { SparesOthers (IsScriptIn self.now.name.now) (F.held files.old) (F.held files.new) }
+        ensures spared { SparesOthers (IsOutcomeScript (length outcomes.now) self.now.name.now) (F.held files.old) (F.held files.new) }
     {
         let mut rest = outcomes;
         while let [front @ .., last] = rest {

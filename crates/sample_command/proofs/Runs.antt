@@ -1,5 +1,5 @@
 -- What is known of random runs, and what they leave.
-use Rattle.std.proofs.Common.{◌≡◌, ℕ, IfSome, List, Option, subst}
+use Rattle.std.proofs.Common.{◌≡◌, ℕ, IfSome, List, Option, length, subst}
 use Rattle.std.specs.Io.KnownBytes.{Appends}
 use Rattle.command_files.specs.Files.{HoldsImage}
 use Rattle.command_files.specs.Held.{Held}
@@ -8,7 +8,7 @@ use Rattle.command_settings.specs.declared.wanted.Explore.{Explore}
 use Rattle.elf_loader.specs.Image.{Initial}
 use Rattle.exploration_text.specs.Sampling.{sampled_text}
 use Rattle.explore_command.specs.Allowing.{IsJudged}
-use Rattle.explore_command.specs.Keeping.{AreKeptFrom}
+use Rattle.explore_command.specs.Keeping.{AreKeptFrom, IsInNamed, IsOutcomeScript, SparesOthers}
 use Rattle.explore_command.specs.declared.judging.Judgement.{Judgement}
 use Rattle.explore_command.specs.declared.judging.Judgement.TheVariants.{Allowed}
 use Rattle.explorer.specs.Ends.{outcomes_of}
@@ -29,14 +29,16 @@ module _ (held first : Held) (wanted : Explore) (runs : ℕ) (config : Config) (
   part begun = record { image = image; found = found; image_file = image_file; runs_made = are_runs; begun = begun }
 
   pub all : (left : Held) (judgement : Judgement) → Appends old new (sampled_text found) → IfSome wanted.scripts (λ folder. AreKeptFrom left wanted.machine folder.now 1 found.ends.items)
+      → SparesOthers (IsInNamed wanted.scripts (IsOutcomeScript (length found.ends.items))) held left
       → IsJudged held wanted.allow (outcomes_of found.ends.items) judgement → (judgement ≡ Allowed → found.runs ≡ runs) → IsSampleTold held left wanted runs judgement old new
-  all left judgement printed kept by whole = record {
+  all left judgement printed kept spares by whole = record {
     image = image;
     found = found;
     image_file = image_file;
     runs_made = are_runs;
     printed = printed;
     kept = kept;
+    spared = spares;
     judged = by;
     whole = whole;
   }

@@ -1,5 +1,5 @@
 -- What random runs have told, written and judged.
-use Rattle.std.specs.Prelude.{◌≡◌, ℕ, ◌≤◌, IfSome, List, Option}
+use Rattle.std.specs.Prelude.{◌≡◌, ℕ, ◌≤◌, IfSome, List, Option, length}
 use Rattle.std.specs.Io.KnownBytes.{Appends}
 use Rattle.command_files.specs.Files.{HoldsImage}
 use Rattle.command_files.specs.Held.{Held}
@@ -8,7 +8,7 @@ use Rattle.command_settings.specs.declared.wanted.Explore.{Explore}
 use Rattle.elf_loader.specs.Image.{Initial}
 use Rattle.exploration_text.specs.Sampling.{sampled_text}
 use Rattle.explore_command.specs.Allowing.{IsJudged}
-use Rattle.explore_command.specs.Keeping.{AreKeptFrom}
+use Rattle.explore_command.specs.Keeping.{AreKeptFrom, IsInNamed, IsOutcomeScript, SparesOthers}
 use Rattle.explore_command.specs.declared.judging.Judgement.{Judgement}
 use Rattle.explore_command.specs.declared.judging.Judgement.TheVariants.{Allowed}
 use Rattle.explorer.specs.Ends.{outcomes_of}
@@ -22,7 +22,7 @@ pub record AreRuns (image : Initial) (config : Config) (runs : ℕ) (found : Sam
   pub sampled : ends.IsSampled image config found
   pub within : found.runs ≤ runs
 
--- what runs of the image in the file came to was printed, its scripts are in the folder, if one was named, and it was judged by the file that says what is allowed; it is allowed only where all runs were made
+-- what runs of the image in the file came to was printed, its scripts are in the folder, if one was named, and each other file is as before, and it was judged by the file that says what is allowed; it is allowed only where all runs were made
 pub record IsSampleTold (held left : Held) (wanted : Explore) (runs : ℕ) (judgement : Judgement) (old new : Option (List ℕ)) : Type 0 where
   pub image : Initial
   pub found : Sampled
@@ -30,6 +30,7 @@ pub record IsSampleTold (held left : Held) (wanted : Explore) (runs : ℕ) (judg
   pub runs_made : AreRuns image (config_named wanted.machine) runs found
   pub printed : Appends old new (sampled_text found)
   pub kept : IfSome wanted.scripts (λ folder. AreKeptFrom left wanted.machine folder.now 1 found.ends.items)
+  pub spared : SparesOthers (IsInNamed wanted.scripts (IsOutcomeScript (length found.ends.items))) held left
   pub judged : IsJudged held wanted.allow (outcomes_of found.ends.items) judgement
   pub whole : judgement ≡ Allowed → found.runs ≡ runs
 

@@ -1,12 +1,12 @@
 //! `rvtl explore --sample`: random runs are made, and the ends they come to are told, kept and judged.
 
-ghost use Rattle.std.specs.Prelude.{◌≡◌, ◌≤◌, ◌⊎◌, Err, IfErr, IfOk, IfSome, OnErr, OnOk, option_map, true};
+ghost use Rattle.std.specs.Prelude.{◌≡◌, ◌≤◌, ◌⊎◌, Err, IfErr, IfOk, IfSome, OnErr, OnOk, length, option_map, true};
 ghost use Rattle.std.specs.Io.KnownBytes.{Appends};
 ghost use Rattle.command_files.specs.Sizes.{IsOutside, config_named};
 ghost use Rattle.elf_loader.specs.Size.{IsMemoryKib};
 ghost use Rattle.exploration_text.specs.Sampling.{sampled_text};
 ghost use Rattle.explore_command.specs.Exploring.{IsExploreFault, IsFolderFault, IsNamedBy, LeavesPart, judgement_on};
-ghost use Rattle.explore_command.specs.Keeping.{AreKeptFrom, IsScriptFile, SparesOthers};
+ghost use Rattle.explore_command.specs.Keeping.{AreKeptFrom, IsInNamed, IsOutcomeScript, IsScriptFile, SparesOthers};
 ghost use Rattle.explorer.specs.Ends.{outcomes_of};
 ghost use Rattle.machine_model.specs.Config.{is_within_limits};
 ghost use Rattle.sample_command.specs.Sampling.{IsPartlySampled, IsSampleTold};
@@ -93,7 +93,7 @@ fn keep<'a, F: Files>(
     requires memory { IsMemoryKib wanted.machine.memory }
     ensures kept { OnOk result (IfSome wanted.entry.scripts (λ folder. AreKeptFrom (F.held files.new) wanted.entry.machine folder.now 1 found.now.ends.items)) }
     ensures told { IfErr result (IsNamedBy wanted.entry.scripts IsFolderFault) }
-    ensures spared { SparesOthers (IsScriptFile wanted.entry.scripts) (F.held files.old) (F.held files.new) }
+    ensures spared { SparesOthers (IsInNamed wanted.entry.scripts (IsOutcomeScript (length found.now.ends.items))) (F.held files.old) (F.held files.new) }
 {
     let Some(name) = wanted.scripts else {
         return Ok(());

@@ -1,6 +1,6 @@
 -- What is known of an exploration that shows words, and what its faults say and leave.
 use Rattle.std.proofs.Common.{◌≡◌, ◌∙◌, ◌⊎◌, ◌≤◌, ◌-◌, ℕ, suc, [], ◌∷◌, ◌++◌, arith, Contains, IfSome, List, None, Option, Some, ap, drop, get_or, inl, inr, length, map, reverse, subst, sym, take}
-use Rattle.std.proofs.lemmas.List.{append_assoc, length-drop, map-append, reverse-append, take_all}
+use Rattle.std.proofs.lemmas.List.{append_assoc, length-drop, length-map, map-append, reverse-append, take_all}
 use Rattle.command_files.specs.Faults.{Name}
 use Rattle.command_files.specs.Held.{Held}
 use Rattle.command_files.specs.Sizes.{config_named}
@@ -15,7 +15,7 @@ use Rattle.explain_command.specs.Named.{HoldsNamedImage}
 use Rattle.exploration_text.specs.declared.wording.WordName.{WordName}
 use Rattle.explore_command.proofs.Explored.{memory_told}
 use Rattle.explore_command.specs.Exploring.{IsAllowFile, LeavesPart}
-use Rattle.explore_command.specs.Keeping.{AreKept, AreKeptFrom, IsKeptAt, stuck_path}
+use Rattle.explore_command.specs.Keeping.{AreKept, AreKeptFrom, IsKeptAt, IsScriptOf, SparesOthers, stuck_path}
 use Rattle.explore_command.specs.declared.judging.Judgement.{Judgement}
 use Rattle.explorer.specs.declared.exploration.Exploration.{Exploration}
 use Rattle.explorer.specs.declared.exploration.Stuck.{Stuck}
@@ -87,6 +87,14 @@ kept_bare left machine folder e found items stuck kept = (
   subst (AreKeptFrom left machine folder 1) items kept.0,
   subst (λ (o : Option Stuck). IfSome o (λ s. IsKeptAt left machine (stuck_path folder) s.script)) stuck kept.1,
 )
+
+-- and spare the same other files
+pub spared_bare : (held left : Held) (folder : List ℕ) (e : Exploration) (found : WordExploration) → e.outcomes.items ≡ map bare_of found.outcomes.items → e.stuck ≡ found.stuck
+    → SparesOthers (IsScriptOf (length e.outcomes.items) e.stuck folder) held left → SparesOthers (IsScriptOf (length found.outcomes.items) found.stuck folder) held left
+spared_bare held left folder e found items stuck spares =
+    let count : length e.outcomes.items ≡ length found.outcomes.items = ap (λ (xs : List Found). length xs) items ∙ length-map found.outcomes.items bare_of in
+    subst (λ (n : ℕ). SparesOthers (IsScriptOf n found.stuck folder) held left) count
+    (subst (λ (o : Option Stuck). SparesOthers (IsScriptOf (length e.outcomes.items) o folder) held left) stuck spares)
 
 -- ---- words, one after the other
 

@@ -1,5 +1,5 @@
 -- What an exploration that shows words of memory has told, written and judged, and which faults it tells.
-use Rattle.std.specs.Prelude.{◌≡◌, ◌≢◌, ◌<◌, ◌⊎◌, ℕ, [], All, Contains, IfSome, List, None, Option, true}
+use Rattle.std.specs.Prelude.{◌≡◌, ◌≢◌, ◌<◌, ◌⊎◌, ℕ, [], All, Contains, IfSome, List, None, Option, length, true}
 use Rattle.std.specs.Io.KnownBytes.{Appends}
 use Rattle.std.specs.List.Sorted.{IsSortedByKey}
 use Rattle.command_files.specs.Faults.{Name}
@@ -15,6 +15,7 @@ use Rattle.elf_symbols.specs.Named.{Named}
 use Rattle.explain_command.specs.Named.{HoldsNamedImage}
 use Rattle.exploration_text.specs.Words.{words_text}
 use Rattle.explore_command.specs.Exploring.{IsExploreFault}
+use Rattle.explore_command.specs.Keeping.{IsInNamed, IsScriptOf, SparesOthers}
 use Rattle.explore_command.specs.declared.judging.Judgement.{Judgement}
 use Rattle.explore_command.specs.declared.judging.Judgement.TheVariants.{Allowed}
 use Rattle.flat_model.specs.Flat.{Flat}
@@ -54,12 +55,13 @@ pub record IsOfFile (held : Held) (show : Show) (exploration : WordExploration) 
   pub placed : AreAddressesOf symbols show.words.items addresses
   pub found : IsFoundIn image (config_named show.explore.machine) addresses show.explore.states exploration
 
--- what was found was printed, its scripts are in the folder, if one was named, and it was judged by the file that says what is allowed; it is allowed only where memory sufficed for all states, or for as many as were asked for
+-- what was found was printed, its scripts are in the folder, if one was named, and each other file is as before, and it was judged by the file that says what is allowed; it is allowed only where memory sufficed for all states, or for as many as were asked for
 pub record AreWordsShown (held left : Held) (show : Show) (judgement : Judgement) (old new : Option (List ℕ)) : Type 0 where
   pub exploration : WordExploration
   pub of_file : IsOfFile held show exploration
   pub printed : Appends old new (words_text (names_of show.words.items) exploration)
   pub kept : IfSome show.explore.scripts (λ folder. AreWordsKept left show.explore.machine folder.now exploration)
+  pub spared : SparesOthers (IsInNamed show.explore.scripts (IsScriptOf (length exploration.outcomes.items) exploration.stuck)) held left
   pub judged : AreWordsJudged held show.explore.allow (names_of show.words.items) (endings_of exploration.outcomes.items) judgement
   pub whole : judgement ≡ Allowed → exploration.extent ≢ extent.OutOfMemory
 

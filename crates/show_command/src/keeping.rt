@@ -1,10 +1,10 @@
 //! The scripts of what was found, without its words.
 
-ghost use Rattle.std.specs.Prelude.{◌≡◌, IfErr, IfOk, IfSome, OnOk, map, true};
+ghost use Rattle.std.specs.Prelude.{◌≡◌, IfErr, IfOk, IfSome, OnOk, length, map, true};
 ghost use Rattle.command_files.specs.Sizes.{config_named};
 ghost use Rattle.elf_loader.specs.Size.{IsMemoryKib};
 ghost use Rattle.explore_command.specs.Exploring.{IsFolderFault, IsNamedBy};
-ghost use Rattle.explore_command.specs.Keeping.{IsScriptFile, SparesOthers};
+ghost use Rattle.explore_command.specs.Keeping.{IsInNamed, IsScriptOf, SparesOthers};
 ghost use Rattle.machine_model.specs.Config.{is_within_limits};
 ghost use Rattle.show_command.specs.Keeping.{AreWordsKept, bare_of};
 
@@ -59,6 +59,7 @@ fn without_words(alloc: Global, found: WordExploration) -> Result<Exploration, A
 }
 
 /// Writes the scripts into the folder that was named, if one was.
+#[tactic(auto, using(crate::proofs::Shown::spared_bare))]
 pub(crate) fn keep<'a, F: Files>(
     alloc: Global,
     files: &mut F,
@@ -69,7 +70,7 @@ pub(crate) fn keep<'a, F: Files>(
     requires memory { IsMemoryKib wanted.machine.memory }
     ensures kept { OnOk result (IfSome wanted.entry.scripts (λ folder. AreWordsKept (F.held files.new) wanted.entry.machine folder.now found)) }
     ensures told { IfErr result (IsNamedBy wanted.entry.scripts IsFolderFault) }
-    ensures spared { SparesOthers (IsScriptFile wanted.entry.scripts) (F.held files.old) (F.held files.new) }
+    ensures spared { SparesOthers (IsInNamed wanted.entry.scripts (IsScriptOf (length found.outcomes.items) found.stuck)) (F.held files.old) (F.held files.new) }
 {
     let Some(name) = wanted.scripts else {
         return Ok(());

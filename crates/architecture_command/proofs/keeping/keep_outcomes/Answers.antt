@@ -8,7 +8,8 @@ loop-rest-init g c = none_kept _ _ _ _
 
 pub returns-in_err-keep_at-clause-spared : goal.returns-in_err-keep_at-clause-spared
 returns-in_err-keep_at-clause-spared g c =
-    spares_one (g.F.Files.held c.args.files.now) (g.F.Files.held c.loop-rest.files) (g.F.Files.held c.keep_at.new.files) c.args.folder.machine c.args.folder.name.now c.deref.result.now (length c.loop-rest.rest.now) c.last-item.result.way
+    spares_one (g.F.Files.held c.args.files.now) (g.F.Files.held c.loop-rest.files) (g.F.Files.held c.keep_at.new.files) c.args.folder.machine c.args.folder.name.now c.deref.result.now c.loop-rest.rest.now _ c.loop-rest.invariant.done c.args.outcomes.now c.last-item.result
+    (last_is c.loop-rest.rest.now c.last-item.result _ c.in-len1-up.len_at_least c.last-item.is) c.loop-rest.invariant.whole
     (c.deref.ensures ∙ c.in-Ok.ensures) c.keep_at.ensures.others c.loop-rest.invariant.spared
 
 pub loop-rest-preserved : goal.loop-rest-preserved

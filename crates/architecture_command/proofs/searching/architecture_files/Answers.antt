@@ -1,9 +1,11 @@
 use Rattle.std.proofs.Common.{◌≡◌, ◌∙◌, inl, inr, refl, subst, true}
 use Rattle.command_files.proofs.Left.{handed_up, image_as_before}
+use Rattle.architecture_command.proofs.Kept.{way_file}
 use Rattle.architecture_command.proofs.Readable.{each_has_text}
 use Rattle.architecture_command.proofs.Searched.{part, whole}
 use Rattle.explore_command.proofs.Explored.{all_of, err_more, judged, memory_left, memory_told, ok_both, ok_more, spared, spared_after}
 use Rattle.explore_command.proofs.Faults.{first_left, first_told, folder_left, folder_told, output_left, output_told}
+use Rattle.explore_command.proofs.Kept.{spares_wider}
 use Rattle.machine_model.specs.Config.{is_within_limits}
 use Rattle.machine_model.specs.declared.config.Config.{Config}
 use Rattle.architecture_command.proofs.searching.architecture_files.Goals as goal
@@ -60,7 +62,7 @@ returns-in_err-keep-clause-unfinished g c =
     (all_of _ _ _ c.in_ok-print.ensures.printed)))
 
 pub returns-in_err-keep-clause-spared : goal.returns-in_err-keep-clause-spared
-returns-in_err-keep-clause-spared g c = spared_after _ _ _ _ (c.image_in.ensures.stays ∙ c.in_ok-allowed.ensures.stays) c.keep.ensures.spared
+returns-in_err-keep-clause-spared g c = spared_after _ _ _ _ (c.image_in.ensures.stays ∙ c.in_ok-allowed.ensures.stays) (spares_wider _ _ _ _ (way_file _ c.args.wanted.scripts) c.keep.ensures.spared)
 
 pub returns-clause-searched : goal.returns-clause-searched
 returns-clause-searched g c =
@@ -69,7 +71,7 @@ returns-clause-searched g c =
     (λ judgement is.
     whole (g.F.Files.held c.args.files.now) (g.F.Files.held c.allow_file.new.files) c.args.wanted c.args.window c.in-Some.config c.in_ok-image.image c.in-Ok.found _ _ c.in-Some.ensures.config.0 c.in_ok-allowed.ensures.stays c.in_ok-image.ensures.image
     (record { shown = found.shown; machine = found.machine; order = found.order; full = found.full; model = found.model; window_is = found.window })
-    (g.F.Files.held c.keep.new.files) judgement c.in_ok-print.ensures.printed c.in_ok-keep.ensures.kept (judged _ c.args.wanted.allow _ _ judgement c.in_ok-allowed.ensures.read is.0) is.1)
+    (g.F.Files.held c.keep.new.files) judgement c.in_ok-print.ensures.printed c.in_ok-keep.ensures.kept (spared_after _ _ _ _ (c.image_in.ensures.stays ∙ c.in_ok-allowed.ensures.stays) c.keep.ensures.spared) (judged _ c.args.wanted.allow _ _ judgement c.in_ok-allowed.ensures.read is.0) is.1)
     (ok_both _ _ c.judge.result c.judge.ensures.judged c.judge.ensures.whole)
 
 pub returns-clause-told : goal.returns-clause-told
@@ -87,4 +89,4 @@ returns-clause-unfinished g c =
     c.judge.ensures.told
 
 pub returns-clause-spared : goal.returns-clause-spared
-returns-clause-spared g c = spared_after _ _ _ _ (c.image_in.ensures.stays ∙ c.in_ok-allowed.ensures.stays) c.keep.ensures.spared
+returns-clause-spared g c = spared_after _ _ _ _ (c.image_in.ensures.stays ∙ c.in_ok-allowed.ensures.stays) (spares_wider _ _ _ _ (way_file _ c.args.wanted.scripts) c.keep.ensures.spared)

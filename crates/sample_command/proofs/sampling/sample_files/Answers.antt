@@ -2,6 +2,7 @@ use Rattle.std.proofs.Common.{◌≡◌, ◌∙◌, ◌≤◌, ℕ, inl, inr, re
 use Rattle.command_files.proofs.Left.{handed_up, image_as_before}
 use Rattle.explore_command.proofs.Explored.{all_of, err_more, judged, memory_left, memory_told, ok_both, ok_more, spared, spared_after}
 use Rattle.explore_command.proofs.Faults.{first_left, first_told, folder_left, folder_told, output_left, output_told}
+use Rattle.explore_command.proofs.Kept.{outcome_file, spares_wider}
 use Rattle.machine_model.specs.Config.{is_within_limits}
 use Rattle.machine_model.specs.declared.config.Config.{Config}
 use Rattle.sample_command.proofs.Runs.{all, part}
@@ -56,7 +57,7 @@ returns-in_err-keep-clause-unfinished g c =
     (all_of _ _ _ c.in_ok-print.ensures.printed)))
 
 pub returns-in_err-keep-clause-spared : goal.returns-in_err-keep-clause-spared
-returns-in_err-keep-clause-spared g c = spared_after _ _ _ _ (c.image_in.ensures.stays ∙ c.in_ok-allowed.ensures.stays) c.keep.ensures.spared
+returns-in_err-keep-clause-spared g c = spared_after _ _ _ _ (c.image_in.ensures.stays ∙ c.in_ok-allowed.ensures.stays) (spares_wider _ _ _ _ (outcome_file _ c.args.wanted.scripts) c.keep.ensures.spared)
 
 pub returns-clause-sampled : goal.returns-clause-sampled
 returns-clause-sampled g c =
@@ -65,7 +66,7 @@ returns-clause-sampled g c =
     (λ judgement so.
     all (g.F.Files.held c.args.files.now) (g.F.Files.held c.allow_file.new.files) c.args.wanted c.args.runs c.in-Some.config c.in_ok-image.image c.in-Ok.found _ _ c.in-Some.ensures.config.0 c.in_ok-allowed.ensures.stays c.in_ok-image.ensures.image
     (record { sampled = found.sampled; within = subst (λ (n : ℕ). c.in-Ok.found.runs ≤ n) c.from.ensures found.within })
-    (g.F.Files.held c.keep.new.files) judgement c.in_ok-print.ensures.printed c.in_ok-keep.ensures.kept (judged _ c.args.wanted.allow _ _ judgement c.in_ok-allowed.ensures.read so.0) so.1)
+    (g.F.Files.held c.keep.new.files) judgement c.in_ok-print.ensures.printed c.in_ok-keep.ensures.kept (spared_after _ _ _ _ (c.image_in.ensures.stays ∙ c.in_ok-allowed.ensures.stays) c.keep.ensures.spared) (judged _ c.args.wanted.allow _ _ judgement c.in_ok-allowed.ensures.read so.0) so.1)
     (ok_both _ _ c.judge.result c.judge.ensures.judged c.judge.ensures.whole)
 
 pub returns-clause-told : goal.returns-clause-told
@@ -83,4 +84,4 @@ returns-clause-unfinished g c =
     c.judge.ensures.told
 
 pub returns-clause-spared : goal.returns-clause-spared
-returns-clause-spared g c = spared_after _ _ _ _ (c.image_in.ensures.stays ∙ c.in_ok-allowed.ensures.stays) c.keep.ensures.spared
+returns-clause-spared g c = spared_after _ _ _ _ (c.image_in.ensures.stays ∙ c.in_ok-allowed.ensures.stays) (spares_wider _ _ _ _ (outcome_file _ c.args.wanted.scripts) c.keep.ensures.spared)

@@ -6,6 +6,7 @@ use Rattle.exploration_text.specs.declared.wording.WordName.{WordName}
 use Rattle.exploration_text.specs.Words.{words_text}
 use Rattle.explore_command.proofs.Explored.{all_of, err_more, memory_left, ok_both, ok_more, spared_after}
 use Rattle.explore_command.proofs.Faults.{folder_left, folder_told, output_left}
+use Rattle.explore_command.proofs.Kept.{script_file, spares_wider}
 use Rattle.show_command.proofs.Shown.{judged_of, of_file}
 use Rattle.show_command.specs.Targets.{AreAddressesOf, names_of}
 use Rattle.text_fields.specs.Writing.{Begins}
@@ -44,7 +45,7 @@ returns-in_err-keep-clause-unfinished g c =
     (folder_left show.explore _ _ _ _ c.in_err-keep.ensures.told (record { exploration = c.in-Ok.found; of_file = of; begun = all_of _ _ _ (subst (λ (n : List WordName). Appends (g.O.Write.contents c.args.out.now) (g.O.Write.contents c.print.new.out) (words_text n c.in-Ok.found)) names c.in_ok-print.ensures.printed) }))
 
 pub returns-in_err-keep-clause-spared : goal.returns-in_err-keep-clause-spared
-returns-in_err-keep-clause-spared g c = spared_after _ _ _ _ (c.named_image_in.ensures.stays ∙ c.in_ok-allowed.ensures.stays) c.keep.ensures.spared
+returns-in_err-keep-clause-spared g c = spared_after _ _ _ _ (c.named_image_in.ensures.stays ∙ c.in_ok-allowed.ensures.stays) (spares_wider _ _ _ _ (script_file _ _ c.args.wanted.now.explore.scripts) c.keep.ensures.spared)
 
 pub returns-clause-shown : goal.returns-clause-shown
 returns-clause-shown g c =
@@ -64,6 +65,7 @@ returns-clause-shown g c =
       of_file = of;
       printed = subst (λ (n : List WordName). Appends (g.O.Write.contents c.args.out.now) (g.O.Write.contents c.print.new.out) (words_text n c.in-Ok.found)) names c.in_ok-print.ensures.printed;
       kept = c.in_ok-keep.ensures.kept;
+      spared = spared_after _ _ _ _ (c.named_image_in.ensures.stays ∙ c.in_ok-allowed.ensures.stays) c.keep.ensures.spared;
       judged = judged_of held show.explore.allow _ _ (names_of show.words.items) (endings_of c.in-Ok.found.outcomes.items) judgement judged_names c.in_ok-allowed.ensures.read so.0;
       whole = so.1;
     })
@@ -85,4 +87,4 @@ returns-clause-unfinished g c =
     c.judge-judgement.ensures.told
 
 pub returns-clause-spared : goal.returns-clause-spared
-returns-clause-spared g c = spared_after _ _ _ _ (c.named_image_in.ensures.stays ∙ c.in_ok-allowed.ensures.stays) c.keep.ensures.spared
+returns-clause-spared g c = spared_after _ _ _ _ (c.named_image_in.ensures.stays ∙ c.in_ok-allowed.ensures.stays) (spares_wider _ _ _ _ (script_file _ _ c.args.wanted.now.explore.scripts) c.keep.ensures.spared)

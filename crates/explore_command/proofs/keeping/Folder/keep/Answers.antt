@@ -1,5 +1,6 @@
-use Rattle.std.proofs.Common.{◌∙◌, inr}
-use Rattle.explore_command.proofs.Kept.{all_kept, on_ok, spares_more}
+use Rattle.std.proofs.Common.{◌∙◌, ap, inr}
+use Rattle.std.specs.Prelude.{is_some}
+use Rattle.explore_command.proofs.Kept.{all_kept, on_ok, outcome_spared, spares_more}
 use Rattle.explore_command.proofs.keeping.Folder.keep.Goals as goal
 
 pub returns-clause-kept : goal.returns-clause-kept
@@ -12,4 +13,5 @@ returns-clause-kept g c =
 pub returns-clause-spared : goal.returns-clause-spared
 returns-clause-spared g c =
     spares_more (g.F.Files.held c.keep_outcomes.new.files) (g.F.Files.held c.keep_at.new.files) c.args.self.now.machine c.args.self.now.name.now c.deref-2.result.now c.keep_at.ensures.others
-    (g.F.Files.held c.args.files.now) (inr (c.deref-2.ensures ∙ c.in-Ok.ensures)) c.keep_outcomes.ensures.spared
+    _ (g.F.Files.held c.args.files.now) (inr (ap is_some c.in-Some.is, c.deref-2.ensures ∙ c.in-Ok.ensures))
+    (outcome_spared _ c.args.found.now c.args.self.now.name.now _ _ c.deref.ensures.value c.keep_outcomes.ensures.spared)

@@ -1,5 +1,5 @@
-use Rattle.std.proofs.Common.{◌∙◌, ◌<◌, ◌^◌, inl, length, rules}
-use Rattle.explore_command.proofs.Kept.{last_is, none_kept, one_more, spares_more}
+use Rattle.std.proofs.Common.{◌∙◌, ◌<◌, ◌^◌, length, rules}
+use Rattle.explore_command.proofs.Kept.{last_is, none_kept, one_more, one_of, spares_more}
 use Rattle.explore_command.proofs.keeping.Folder.keep_outcomes.Goals as goal
 
 pub loop-rest-init : goal.loop-rest-init
@@ -8,7 +8,10 @@ loop-rest-init g c = none_kept _ _ _ _
 pub returns-in_err-keep_at-clause-spared : goal.returns-in_err-keep_at-clause-spared
 returns-in_err-keep_at-clause-spared g c =
     spares_more (g.F.Files.held c.loop-rest.files) (g.F.Files.held c.keep_at.new.files) c.args.self.now.machine c.args.self.now.name.now c.deref.result.now c.keep_at.ensures.others
-    (g.F.Files.held c.args.files.now) (inl (length c.loop-rest.rest.now, c.deref.ensures ∙ c.in-Ok.ensures)) c.loop-rest.invariant.spared
+    _ (g.F.Files.held c.args.files.now)
+    (one_of c.loop-rest.rest.now _ c.args.outcomes.now c.loop-rest.invariant.done c.deref.result.now c.args.self.now.name.now c.last-item.result
+    (last_is c.loop-rest.rest.now c.last-item.result _ c.in-len1-up.len_at_least c.last-item.is) c.loop-rest.invariant.whole (c.deref.ensures ∙ c.in-Ok.ensures))
+    c.loop-rest.invariant.spared
 
 pub loop-rest-preserved : goal.loop-rest-preserved
 loop-rest-preserved g c =
