@@ -59,7 +59,6 @@ fn without_words(alloc: Global, found: WordExploration) -> Result<Exploration, A
 }
 
 /// Writes the scripts into the folder that was named, if one was.
-#[tactic(auto, using(crate::proofs::Shown::spared_bare))]
 pub(crate) fn keep<'a, F: Files>(
     alloc: Global,
     files: &mut F,
