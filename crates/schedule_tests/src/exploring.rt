@@ -168,7 +168,7 @@ fn a_store_conditional_may_fail(rt: HostRuntime) -> Result<(), Fail> {
 #[test]
 fn an_own_access_ends_a_reservation_in_one_way(rt: HostRuntime) -> Result<(), Fail> {
     let one = explored(rt.alloc(), &RIVAL, 1, 1)?;
-    same(&rt, one.outcomes.outcomes.len(), 1);
+    assert_eq!(rt; one.outcomes.outcomes.len(), 1);
     let harts = one.outcomes.outcomes.as_slice()[0].harts();
     let first = harts.first().ok_or("a hart")?;
     same(&rt, first.status, Status::Exited(1));

@@ -54,7 +54,7 @@ fn stores(alloc: Global, count: usize) -> Result<Trace, Fail> {
 fn as_many_operations_as_are_judged(rt: HostRuntime) -> Result<(), Fail> {
     let trace = stores(rt.alloc(), 4096)?;
     let order = completed(rt.alloc(), &trace)?;
-    same(&rt, order.len(), 4096);
+    assert_eq!(rt; order.len(), 4096);
     same(&rt, check(rt.alloc(), &trace, &order), Ok(Verdict::Legal));
     same(
         &rt,
