@@ -1,3 +1,5 @@
+pub mod Joining
 pub mod Leading
+pub mod Pace
 pub mod Round
 pub mod Sets

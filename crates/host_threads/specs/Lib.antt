@@ -1,4 +1,6 @@
 pub mod Due
 pub mod Errors
+pub mod Pace
 pub mod Replays
 pub mod Route
+pub mod Workers

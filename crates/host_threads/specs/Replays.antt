@@ -1,5 +1,6 @@
 -- What a report says of a run.
-use Rattle.std.specs.Prelude.{◌≡◌, length, map, sum}
+use Rattle.std.specs.Prelude.{◌≡◌, ℕ, ◌≤◌, length, map, sum}
+use Rattle.std.specs.List.{All}
 use Rattle.coherent_machine.specs.Machine.{Replayed, replayed_from}
 use Rattle.elf_loader.specs.Image.{Initial}
 use Rattle.host_threads.specs.declared.report.Report.{Report}
@@ -17,6 +18,10 @@ pub record IsOf (image : Initial) (config : Config) (report : Report) : Type 0 w
   pub outputs : map (λ output. output.items) report.outputs.items ≡ map (λ node. node.output) (end_of_journal image config report).views.nodes
   pub receipts : sum report.receipts.items ≡ length report.journal.items
   pub harts : length report.receipts.items ≡ config.harts
+
+-- no hart's thread applied more events than the limit says
+abbrev pub IsWithinLimit : ℕ → Report → Type 0
+IsWithinLimit limit report = All (λ receipt. receipt ≤ limit) report.receipts.items
 
 -- no event of the journal is refused on the way there
 abbrev pub JournalReplays : Initial → Config → Report → Type 0

@@ -2,6 +2,7 @@
 
 ghost use Rattle.std.specs.Prelude.{◌≡◌, ◌≢◌, ◌≤◌, Err, IfOk, vec_len};
 ghost use Rattle.std.specs.List.{All};
+ghost use Rattle.host_threads.specs.Workers.{limit_of};
 ghost use Rattle.progress_board.specs.Seat.{IsSeatOf};
 
 use crate::gate::Gate;
@@ -14,7 +15,7 @@ use std::sync::atomic::Ordering;
 use std::sync::ledger::Ledger;
 use std::sync::{Mutex, Wait};
 use std::thread;
-use std::thread::{JoinHandle, Threads};
+use std::thread::{Promise, PromisedHandle, Threads};
 
 /// A worker for each hart, the last hart's first.
 pub(crate) fn workers<'a, L: Ledger, T: Turn + Drop>(
@@ -25,10 +26,12 @@ pub(crate) fn workers<'a, L: Ledger, T: Turn + Drop>(
     mut turns: Vec<T>,
 ) -> Result<Vec<Worker<'a, L, T>>, AllocError>
     requires board { All (λ seat. IsSeatOf common.now.board seat) seats.items }
+    requires opening { All (λ share. share ≡ 0) shares.items }
     requires few { vec_len shares ≤ 8 }
     requires seats { vec_len seats ≡ vec_len shares }
     requires turns { vec_len turns ≡ vec_len shares }
-    ensures { IfOk result (λ made. vec_len made ≡ vec_len shares) }
+    ensures made { IfOk result (λ made. vec_len made ≡ vec_len shares) }
+    ensures limit { IfOk result (λ made. All (λ worker. limit_of worker ≡ common.now.limit) made.items) }
 {
     let harts = shares.len() as u8;
     let mut made = Vec::with_capacity(common.alloc, shares.len())?;
@@ -48,6 +51,16 @@ pub(crate) fn workers<'a, L: Ledger, T: Turn + Drop>(
     Ok(made)
 }
 
+/// A worker's thread hands back a share that counts at most so many events.
+#[derive(Drop)]
+struct AtMost(u64);
+
+impl<L: Ledger> Promise<Done<L>> for AtMost {
+    ghost use Rattle.std.specs.Prelude.{◌≤◌};
+
+    ghost kept_by = { λ most done. done.share ≤ most.0 };
+}
+
 /// Runs each worker in a thread of its own, and joins them all, the last worker's first.
 pub(crate) fn run_all<
     'a,
@@ -61,7 +74,9 @@ pub(crate) fn run_all<
     mut workers: Vec<Worker<'a, L, T>>,
     gate: &G,
 ) -> Result<Vec<Done<L>>, RunError>
+    requires { All (λ worker. limit_of worker ≡ common.now.limit) workers.items }
     ensures done { IfOk result (λ done. vec_len done ≡ vec_len workers.entry) }
+    ensures limit { IfOk result (λ done. All (λ one. one.share ≤ common.now.limit) done.items) }
     ensures config { result ≢ Err RunError.Config }
 {
     let count = workers.len();
@@ -69,18 +84,28 @@ pub(crate) fn run_all<
         thread::scope_env(),
         rt,
         |scope| -> Result<Vec<Done<L>>, RunError>
-            requires { vec_len workers ≡ count }
+            requires count { vec_len workers ≡ count }
+            requires limit { All (λ worker. limit_of worker ≡ common.now.limit) workers.items }
             ensures done { IfOk result (λ done. vec_len done ≡ count) }
+            ensures limit { IfOk result (λ done. All (λ one. one.share ≤ common.entry.now.limit) done.items) }
             ensures config { result ≢ Err RunError.Config }
         {
-            let mut running: Vec<JoinHandle<Done<L>>> = Vec::with_capacity(common.alloc, count)?;
+            let mut running: Vec<PromisedHandle<Done<L>, AtMost>> = Vec::with_capacity(
+                common.alloc,
+                count,
+            )?;
             let mut done = Vec::with_capacity(common.alloc, count)?;
             let mut is_refused = false;
             for _worker in 0..count {
                 let Some(worker) = workers.pop() else {
                     unreachable!()
                 };
-                match scope.spawn(move || worker.run(rt, gate)) {
+                match scope.spawn_with(
+                    AtMost(common.limit),
+                    move || -> Done<L>
+                        ensures { result.share ≤ limit_of worker.entry }
+                    { worker.run(rt, gate) },
+                ) {
                     Ok(thread) => running.push_reserved(thread),
                     Err(_) => {
                         common.stop.store(true, Ordering::SeqCst);

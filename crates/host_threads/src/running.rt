@@ -1,9 +1,9 @@
 //! A whole run.
 
-ghost use Rattle.std.specs.Prelude.{◌≡◌, ◌≢◌, ◌↔◌, ◌⊎◌, Err, IfOk, IsTrue, false, vec_len};
+ghost use Rattle.std.specs.Prelude.{◌≡◌, ◌≢◌, ◌↔◌, ◌⊎◌, Err, IfOk, IsTrue, false, map, vec_len};
 ghost use Rattle.std.specs.List.{All};
 ghost use Rattle.coherent_machine.specs.Machine.{IsReached};
-ghost use Rattle.host_threads.specs.Replays.{IsOf, JournalReplays, end_of_journal};
+ghost use Rattle.host_threads.specs.Replays.{IsOf, IsWithinLimit, JournalReplays, end_of_journal};
 ghost use Rattle.machine_model.specs.Config as limits;
 ghost use Rattle.machine_model.specs.LawfulLog.{IsLawfulLog};
 ghost use Rattle.machine_model.specs.Laws.{IsHeadline};
@@ -42,6 +42,7 @@ pub fn run<G: Gate + Sync, R: Threads + Wait + Sync>(
     ensures reached { IfOk result (λ report. IsReached (end_of_journal image config report)) }
     ensures headline { IfOk result (λ report. IsHeadline image config (end_of_journal image config report)) }
     ensures log { IfOk result (λ report. IsLawfulLog report.trace.history.log) }
+    ensures limit { IfOk result (λ report. IsWithinLimit limit report) }
     ensures config { (result ≡ Err RunError.Config) ↔ (limits.is_within_limits config ≡ false) }
 {
     if !is_within_limits(&config) {
@@ -79,6 +80,7 @@ pub fn run_with<G: Gate + Sync, T: Turn + Drop + Send, R: Threads + Wait + Sync>
     ensures reached { IfOk result (λ report. IsReached (end_of_journal image config report)) }
     ensures headline { IfOk result (λ report. IsHeadline image config (end_of_journal image config report)) }
     ensures log { IfOk result (λ report. IsLawfulLog report.trace.history.log) }
+    ensures limit { IfOk result (λ report. IsWithinLimit limit report) }
     ensures config { (result ≡ Err RunError.Config) ↔ ((limits.is_within_limits config ≡ false) ⊎ (vec_len turns ≢ config.harts)) }
 {
     if !is_within_limits(&config) || turns.len() != config.harts as usize {
@@ -126,6 +128,7 @@ fn run_counted<
     ensures reached { IfOk result (λ report. IsReached (end_of_journal image common.now.config report)) }
     ensures headline { IfOk result (λ report. IsHeadline image common.now.config (end_of_journal image common.now.config report)) }
     ensures log { IfOk result (λ report. IsLawfulLog report.trace.history.log) }
+    ensures limit { IfOk result (λ report. IsWithinLimit common.now.limit report) }
     ensures config { result ≢ Err RunError.Config }
 {
     changes_are_counted();
@@ -152,6 +155,7 @@ fn run_counted<
 // The shares in their order, or the first fault.
 fn shares_of<L: Ledger>(alloc: Global, done: Vec<Done<L>>) -> Result<Vec<Share<L>>, RunError>
     ensures shares { IfOk result (λ shares. vec_len shares ≡ vec_len done) }
+    ensures each { IfOk result (λ shares. shares.items ≡ map (λ one. one.share) done.items) }
     ensures config { result ≢ Err RunError.Config }
 {
     let mut shares = Vec::with_capacity(alloc, done.len())?;

@@ -1,8 +1,10 @@
 //! What one thread does.
 
-ghost use Rattle.std.specs.Prelude.{◌≡◌, ◌≤◌, IfOk};
+ghost use Rattle.std.specs.Prelude.{◌≡◌, ◌+◌, ◌≤◌, IfOk, IsTrue, OnErr};
 ghost use Rattle.hart.specs.Local.{row_of};
-ghost use Rattle.progress_board.specs.Seat.{IsSeatOf};
+ghost use Rattle.host_threads.specs.Pace.{IsPaced};
+ghost use Rattle.locked_fabric.specs.Port.{seat_of, share_of};
+ghost use Rattle.progress_board.specs.Seat.{IsSeatOf, view};
 
 use crate::gate::Gate;
 use crate::report::Fault;
@@ -49,6 +51,7 @@ pub(crate) struct Worker<'a, L: Ledger, T: Turn + Drop> {
     // How long it waits where it finds nothing that changes the machine.
     backoff: Backoff,
     ghost seated: { IsSeatOf common.now.board port.seat },
+    ghost paced: { IsPaced common.now.limit (view (seat_of port)) (share_of port) },
 }
 
 /// What a thread hands back.
@@ -60,7 +63,9 @@ pub(crate) struct Done<L: Ledger> {
 
 impl<'a, L: Ledger, T: Turn + Drop> Worker<'a, L, T> {
     pub(crate) fn new(common: &'a Common, port: Port<'a, L>, hart: u8, turn: T) -> Worker<'a, L, T>
-        requires { IsSeatOf common.now.board port.seat }
+        requires seat { IsSeatOf common.now.board port.seat }
+        requires share { share_of port ≡ 0 }
+        ensures { result.common.now.limit ≡ common.now.limit }
     {
         let turn = Watched {
             turn,
@@ -81,7 +86,9 @@ impl<'a, L: Ledger, T: Turn + Drop> Worker<'a, L, T> {
     }
 
     /// Takes turns until the run is over for this hart.
-    pub(crate) fn run<R: Wait, G: Gate>(mut self, rt: &R, gate: &G) -> Done<L> {
+    pub(crate) fn run<R: Wait, G: Gate>(mut self, rt: &R, gate: &G) -> Done<L>
+        ensures { result.share ≤ self.entry.common.now.limit }
+    {
         let mut fault = None;
         let mut turn = 0u64;
         for _ in rt.forever() {
@@ -106,7 +113,9 @@ impl<'a, L: Ledger, T: Turn + Drop> Worker<'a, L, T> {
     }
 
     // Lets the gate see the published lengths.
-    fn pass<G: Gate>(&mut self, gate: &G, turn: u64) {
+    fn pass<G: Gate>(&mut self, gate: &G, turn: u64)
+        ensures { self.new.common ≡ self.old.common }
+    {
         let harts = self.common.board.harts();
         let mut lengths = [0; MOST_HARTS];
         for hart in 0..harts {
@@ -116,7 +125,9 @@ impl<'a, L: Ledger, T: Turn + Drop> Worker<'a, L, T> {
     }
 
     // One turn. Whether another one follows.
-    fn take_turn<R: Wait, G: Gate>(&mut self, rt: &R, gate: &G) -> Result<bool, Fault> {
+    fn take_turn<R: Wait, G: Gate>(&mut self, rt: &R, gate: &G) -> Result<bool, Fault>
+        ensures { self.new.common ≡ self.old.common }
+    {
         let board = &self.common.board;
         if board.halted(self.port.seat()) == (1 << board.harts()) - 1 {
             return Ok(false);
@@ -129,9 +140,8 @@ impl<'a, L: Ledger, T: Turn + Drop> Worker<'a, L, T> {
             self.backoff.snooze();
             return Ok(true);
         };
-        match self.common.board.draw(self.port.seat()) {
-            Ok(number) if number < self.common.limit => gate.draw(self.hart, number),
-            _ => return Ok(false),
+        if !self.draw(gate) {
+            return Ok(false);
         }
         let Some(outcome) = self.carry_out(rt, event)? else {
             return Ok(false);
@@ -146,8 +156,25 @@ impl<'a, L: Ledger, T: Turn + Drop> Worker<'a, L, T> {
         Ok(true)
     }
 
+    // Draws a number. Whether it allows one more event.
+    fn draw<G: Gate>(&mut self, gate: &G) -> bool
+        ensures common { self.new.common ≡ self.old.common }
+        ensures allowed { IsTrue result → IsPaced self.new.common.now.limit (view (seat_of self.new.port)) (share_of self.new.port + 1) }
+    {
+        match self.common.board.draw(self.port.seat()) {
+            Ok(number) if number < self.common.limit => {
+                gate.draw(self.hart, number);
+                true
+            }
+            _ => false,
+        }
+    }
+
     // What comes of the event, or `None` where the machine is at a limit.
-    fn carry_out<R: Wait>(&mut self, rt: &R, event: Event) -> Result<Option<Outcome>, Fault> {
+    fn carry_out<R: Wait>(&mut self, rt: &R, event: Event) -> Result<Option<Outcome>, Fault>
+        requires { IsPaced self.old.common.now.limit (view (seat_of self.old.port)) (share_of self.old.port + 1) }
+        ensures { self.new.common ≡ self.old.common }
+    {
         match self.commit(rt) {
             Ok(outcome) => return Ok(Some(outcome)),
             Err(AdoptError::Limit) => return Ok(None),
@@ -168,7 +195,11 @@ impl<'a, L: Ledger, T: Turn + Drop> Worker<'a, L, T> {
 
     // Where the hart's step was picked, runs what it does next alone, from where it stood, and commits it.
     // Behind a batch that isn't full stands an instruction that isn't private, so the next step is no batch.
-    fn commit<R: Wait>(&mut self, rt: &R) -> Result<Outcome, AdoptError> {
+    fn commit<R: Wait>(&mut self, rt: &R) -> Result<Outcome, AdoptError>
+        requires { IsPaced self.old.common.now.limit (view (seat_of self.old.port)) (share_of self.old.port + 1) }
+        ensures common { self.new.common ≡ self.old.common }
+        ensures err { OnErr result (IsPaced self.new.common.now.limit (view (seat_of self.new.port)) (share_of self.new.port + 1)) }
+    {
         let Some(hart) = &self.turn.stepping else {
             return Err(AdoptError::Empty);
         };
@@ -186,7 +217,9 @@ impl<'a, L: Ledger, T: Turn + Drop> Worker<'a, L, T> {
     }
 
     // Publishes the length of the hart's list.
-    fn publish<R: Wait>(&mut self, rt: &R) {
+    fn publish<R: Wait>(&mut self, rt: &R)
+        ensures { self.new.common ≡ self.old.common }
+    {
         if let Some((length, status)) = self.port.seen(rt, self.hart) {
             self.common.board.publish(self.port.seat(), length);
             if !status.is_running() {
@@ -201,7 +234,9 @@ impl<'a, L: Ledger, T: Turn + Drop> Worker<'a, L, T> {
     }
 
     // Sets the hart's halted bit, once.
-    fn halt(&mut self) {
+    fn halt(&mut self)
+        ensures { self.new.common ≡ self.old.common }
+    {
         if !self.has_halted {
             self.common.board.halt(self.port.seat());
             self.has_halted = true;

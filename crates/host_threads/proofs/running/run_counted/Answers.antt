@@ -1,5 +1,6 @@
-use Rattle.std.proofs.Common.{◌≡◌, ◌∙◌, ℕ, ◌+◌, List, length, map, refl, ap, sym, subst, arith}
+use Rattle.std.proofs.Common.{◌≡◌, ◌∙◌, ℕ, ◌+◌, ◌≤◌, All, List, length, map, refl, ap, sym, subst, arith}
 use Rattle.std.proofs.lemmas.List.{length-replicate}
+use Rattle.std.proofs.lemmas.List.Elements.{All-map, All-replicate}
 use Rattle.elf_loader.specs.Image.{Initial, IsImage}
 use Rattle.host_threads.proofs.Leading.{headline_at, leads_to, none_refused, reached_at}
 use Rattle.machine_model.specs.declared.config.Config.{Config}
@@ -16,6 +17,10 @@ into_parts-machine-requires-clause-harts g c =
     let made : length c.in_ok-fabric.shares.items ≡ c.args.common.now.config.harts = ap (λ (counts : List ℕ). length counts) c.in_ok-fabric.ensures.shares ∙ length-replicate {A = ℕ} c.args.common.now.config.harts 0 in
     let all : length c.in_ok-shares.shares.items ≡ c.args.common.now.config.harts = omega (arith, made, c.in_ok-shares.ensures.shares, c.in_ok-done.ensures.done, c.in_ok-crew.ensures, c.in_ok-shares.shares.ok, c.in_ok-fabric.shares.ok) in
     all ∙ sym (ap (λ (s : State). s.views.config.harts) (sym c.machine.ensures.machine) ∙ ap (λ (k : Config). k.harts) same.1)
+
+pub workers-requires-clause-opening : goal.workers-requires-clause-opening
+workers-requires-clause-opening g c =
+    subst (λ (counts : List ℕ). All (λ (count : ℕ). count ≡ 0) counts) (sym c.in_ok-fabric.ensures.shares) (All-replicate (λ (count : ℕ). count ≡ 0) c.args.common.now.config.harts 0 refl)
 
 pub returns : goal.returns
 returns g c =
@@ -45,5 +50,7 @@ returns g c =
           c.requires.limits;
       headline = headline_at c.args.image c.args.common.now.config c.into_inner-fabric.result.machine _ of_image of_config (sym (leads ∙ parts.machine)) parts.headline;
       log = subst (λ (t : History). IsLawfulLog t.log) (sym (c.into_parts-trace.ensures.trace ∙ ap (λ (s : State). s.trace) parts.machine)) parts.log;
+      limit = subst (λ (counts : List ℕ). All (λ (receipt : ℕ). receipt ≤ c.args.common.now.limit) counts) (sym (parts.counts ∙ c.in_ok-shares.ensures.each))
+          (All-map (λ (receipt : ℕ). receipt ≤ c.args.common.now.limit) (λ one. one.share) c.in_ok-done.done.items c.in_ok-done.ensures.limit);
       config = λ e. absurd (cc e);
     }

@@ -3,4 +3,4 @@ use Rattle.progress_board.specs.Seat.{harts_of}
 use Rattle.host_threads.proofs.worker.Worker.pass.Given as goal
 
 abbrev pub invariant-loop-hart : goal.invariant-loop-hart
-invariant-loop-hart g l = l.harts ≡ harts_of l.self.common.now.board
+invariant-loop-hart g l = (l.self.common ≡ l.fn.self.common) × (l.harts ≡ harts_of l.self.common.now.board)

@@ -1,0 +1,6 @@
+use Rattle.host_threads.proofs.Pace.{paced_applied}
+use Rattle.host_threads.proofs.worker.Worker.carry_out.Goals as goal
+
+pub invariant_of-self-clause-paced : goal.invariant_of-self-clause-paced
+invariant_of-self-clause-paced g c =
+    paced_applied c.commit.new.self.common.now.limit c.args.event c.apply.result c.commit.new.self.port c.apply.new.self c.apply.ensures.seat c.apply.ensures.answers c.in-Err-Stale.ensures.err
