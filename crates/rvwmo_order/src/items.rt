@@ -12,7 +12,7 @@ ghost use Rattle.memory_model.specs.Items as spec;
 ghost use Rattle.memory_model.specs.Traces as traces;
 ghost use Rattle.rvwmo_order.specs.Placed.{GivesOwn, IsPlaced};
 
-use crate::runs::after;
+use crate::runs::retire;
 use amo_unit::combine;
 use hart::{Hart, Retired};
 use memory_model::{Kind, Operation};
@@ -57,17 +57,17 @@ impl Item {
     }
 
     /// The item of a retired instruction, its hart standing before it.
-    fn new(place: u32, hart: &Hart, entry: &Retired) -> Item
+    fn new(place: u32, hart: &Hart, entry: &Retired, instr: &Option<Instr>) -> Item
+        requires { instr.now ≡ decoded entry.now.word }
         ensures { result ≡ spec.item_of place hart.now entry.now }
     {
-        let instr = decode(entry.word);
-        let operation = match &instr {
+        let operation = match instr {
             Some(instr) => operation_of(place, hart, entry, instr),
             None => None,
         };
         Item {
             place,
-            instr,
+            instr: *instr,
             operation,
         }
     }
@@ -177,8 +177,9 @@ fn items_of(alloc: Global, reset: &Hart, entries: &[Retired]) -> Result<Vec<Item
     let mut hart = *reset;
     let mut items = Vec::new(alloc);
     for (place, entry) in entries.iter().enumerate() {
-        items.push(Item::new(place as u32, &hart, entry))?;
-        hart = after(&hart, entry);
+        let instr = decode(entry.word);
+        items.push(Item::new(place as u32, &hart, entry, &instr))?;
+        retire(&mut hart, entry, &instr);
     }
     Ok(items)
 }

@@ -43,24 +43,26 @@ fn is_run(image: &Image, reset: &Hart, entries: &[Retired], status: Status) -> b
     let mut hart = *reset;
     let mut rest = entries;
     while let [entry, tail @ ..] = rest {
-        if !is_step(image, &hart, entry) {
+        let instr = decode(entry.word);
+        if !is_step(image, &hart, entry, &instr) {
             return false;
         }
-        hart = after(&hart, entry);
+        retire(&mut hart, entry, &instr);
         rest = tail;
     }
     status_fits(image, &hart, status)
 }
 
-// Whether a hart can retire this entry.
-fn is_step(image: &Image, hart: &Hart, entry: &Retired) -> bool
+// Whether a hart can retire this entry, of this instruction.
+fn is_step(image: &Image, hart: &Hart, entry: &Retired, instr: &Option<Instr>) -> bool
+    requires { instr.now ≡ decoded entry.now.word }
     ensures { result ≡ spec.is_step image.now hart.now entry.now }
 {
     hart.status.is_running()
         && entry.pc == hart.pc
         && can_fetch(image, hart.pc)
         && entry.word == image.word(hart.pc)
-        && does(image.size(), hart, entry)
+        && does(image.size(), hart, entry, instr)
 }
 
 fn can_fetch(image: &Image, pc: u32) -> bool
@@ -71,12 +73,12 @@ fn can_fetch(image: &Image, pc: u32) -> bool
 }
 
 // Whether the entry's instruction doesn't stop, and has the answers that its kind has.
-fn does(size: u32, hart: &Hart, entry: &Retired) -> bool
+fn does(size: u32, hart: &Hart, entry: &Retired, instr: &Option<Instr>) -> bool
     requires { IsMemorySize size }
-    ensures { result ≡ spec.does size hart.now entry.now (decoded entry.now.word) }
+    ensures { result ≡ spec.does size hart.now entry.now instr.now }
 {
-    match decode(entry.word) {
-        Some(instr) => stop_of(size, hart, &instr).is_none() && has_answers(&instr, entry),
+    match instr {
+        Some(instr) => stop_of(size, hart, instr).is_none() && has_answers(instr, entry),
         None => false,
     }
 }
@@ -138,15 +140,14 @@ fn fits(op: LoadOp, loaded: Option<u32>) -> bool
     }
 }
 
-/// The hart after it retired an entry.
-pub(crate) fn after(hart: &Hart, entry: &Retired) -> Hart
-    ensures { result ≡ spec.after hart.now entry.now }
+/// The hart retires an entry of this instruction.
+pub(crate) fn retire(hart: &mut Hart, entry: &Retired, instr: &Option<Instr>)
+    requires { instr.now ≡ decoded entry.now.word }
+    ensures { hart.new ≡ spec.after hart.old entry.now }
 {
-    let mut next = *hart;
-    if let Some(instr) = decode(entry.word) {
-        next.retire(entry, &instr);
+    if let Some(instr) = instr {
+        hart.retire(entry, instr);
     }
-    next
 }
 
 // Whether a hart whose entries lead here may have this status.
