@@ -1,30 +1,28 @@
 -- Names gathered one by one: which are in, and that none comes twice.
-use Rattle.std.proofs.Common.{◌≡◌, ◌<◌, ◌+◌, ℕ, List, [], ◌∷◌, Bool, true, false, refl, cond, sym, ap, ◌∙◌, not, ◌&&◌, ◌||◌, ◌++◌, arith, drop, get_or, length}
+use Rattle.std.proofs.Common.{◌≡◌, ◌<◌, ◌≤◌, ◌+◌, ℕ, List, [], ◌∷◌, Bool, true, false, refl, cond, sym, ap, ◌∙◌, not, ◌&&◌, ◌||◌, ◌++◌, arith, drop, get_or, length}
 use Rattle.std.specs.Prelude.{nat_eq, filter}
-use Rattle.std.specs.BTreeMap.{is_at}
-use Rattle.std.specs.BTreeSet.{BTreeSet, contains}
+use Rattle.std.specs.HashSet.{HashSet, contains}
 use Rattle.std.specs.List.{list_all, list_any}
-use Rattle.std.specs.Ordering.{is_eq, nat_cmp, ordering_then}
 use Rattle.std.proofs.lemmas.Bool.{true≢false}
 use Rattle.std.proofs.lemmas.Grind.{common_steps}
-use Rattle.std.proofs.lemmas.List.{append_assoc, at_drop_more}
+use Rattle.std.proofs.lemmas.List.{append-nil, append_assoc, at_drop_all, at_drop_more}
 use Rattle.memory_model.specs.Traces.{is_among, is_distinct, is_named}
 use Rattle.trace_recorder.specs.declared.operation.OpId.{OpId}
-use Rattle.rvwmo_order.specs.Indexed.{name_cmp}
+use Rattle.rvwmo_order.specs.Indexed.{name_eq}
 
 -- the name is in the set
-abbrev pub has_name : BTreeSet (ℕ × ℕ) → OpId → Bool
-has_name names n = contains name_cmp names (n.hart, n.place)
+abbrev pub has_name : {S : Type 0} → HashSet (ℕ × ℕ) S → OpId → Bool
+has_name names n = contains name_eq names (n.hart, n.place)
 
 -- the second set has the names of the first, and this one
-abbrev pub HasOneMore : BTreeSet (ℕ × ℕ) → BTreeSet (ℕ × ℕ) → OpId → Type 0
-HasOneMore old new x = (q : ℕ × ℕ) → contains name_cmp new q ≡ cond (is_at (name_cmp (x.hart, x.place)) q) true (contains name_cmp old q)
+abbrev pub HasOneMore : {S : Type 0} → HashSet (ℕ × ℕ) S → HashSet (ℕ × ℕ) S → OpId → Type 0
+HasOneMore old new x = (q : ℕ × ℕ) → contains name_eq new q ≡ cond (name_eq (x.hart, x.place) q) true (contains name_eq old q)
 
-is_eq-named : (m n p q : ℕ) → is_eq (ordering_then (nat_cmp m n) (nat_cmp p q)) ≡ (nat_eq n m && nat_eq q p)
-is_eq-named m n p q = grind (arith, common_steps)
+eq_turned : (m n p q : ℕ) → (nat_eq m n && nat_eq p q) ≡ (nat_eq n m && nat_eq q p)
+eq_turned m n p q = grind (arith, common_steps)
 
-one_more : (old new : BTreeSet (ℕ × ℕ)) (x : OpId) → HasOneMore old new x → (n : OpId) → has_name new n ≡ (is_named n x || has_name old n)
-one_more old new x all n = all (n.hart, n.place) ∙ (ap (λ (c : Bool). cond c true (has_name old n)) (is_eq-named x.hart n.hart x.place n.place) ∙ go (is_named n x) (has_name old n))
+one_more : {S : Type 0} (old new : HashSet (ℕ × ℕ) S) (x : OpId) → HasOneMore old new x → (n : OpId) → has_name new n ≡ (is_named n x || has_name old n)
+one_more old new x all n = all (n.hart, n.place) ∙ (ap (λ (c : Bool). cond c true (has_name old n)) (eq_turned x.hart n.hart x.place n.place) ∙ go (is_named n x) (has_name old n))
   where
     go : (a b : Bool) → cond a true b ≡ (a || b)
     go true b = refl
@@ -32,7 +30,7 @@ one_more old new x all n = all (n.hart, n.place) ∙ (ap (λ (c : Bool). cond c 
 
 -- ---- which names are in
 
-pub named_step : (old new : BTreeSet (ℕ × ℕ)) (list : List OpId) (i : ℕ) (d : OpId) → i < length list → ((n : OpId) → (has_name old n || is_among (drop i list) n) ≡ is_among list n) → HasOneMore old new (get_or list i d)
+pub named_step : {S : Type 0} (old new : HashSet (ℕ × ℕ) S) (list : List OpId) (i : ℕ) (d : OpId) → i < length list → ((n : OpId) → (has_name old n || is_among (drop i list) n) ≡ is_among list n) → HasOneMore old new (get_or list i d)
     → (n : OpId) → (has_name new n || is_among (drop (i + 1) list) n) ≡ is_among list n
 named_step old new list i d h inv all n =
     ap (λ (b : Bool). b || is_among (drop (i + 1) list) n) (one_more old new (get_or list i d) all n)
@@ -68,15 +66,15 @@ are_new-none : (seen : OpId → Bool) → ((n : OpId) → seen n ≡ false) → 
 are_new-none seen f [] = refl
 are_new-none seen f (n ∷ rest) = rw (f n) (are_new-none seen f rest)
 
-pub distinct_at_first : (names : BTreeSet (ℕ × ℕ)) (list : List OpId) → names.keys ≡ [] → is_distinct list ≡ (is_distinct list && are_new (has_name names) list)
-distinct_at_first names list e = go (is_distinct list) (are_new (has_name names) list) (are_new-none (has_name names) (λ n. ap (λ (ks : List (ℕ × ℕ)). list_any (is_at (name_cmp (n.hart, n.place))) ks) e) list)
+pub distinct_at_first : {S : Type 0} (names : HashSet (ℕ × ℕ) S) (list : List OpId) → names.keys ≡ [] → is_distinct list ≡ (is_distinct list && are_new (has_name names) list)
+distinct_at_first names list e = go (is_distinct list) (are_new (has_name names) list) (are_new-none (has_name names) (λ n. ap (λ (ks : List (ℕ × ℕ)). list_any (name_eq (n.hart, n.place)) ks) e) list)
   where
     go : (a b : Bool) → b ≡ true → a ≡ (a && b)
     go true true f = refl
     go true false f = absurd (true≢false (sym f))
     go false b f = refl
 
-pub distinct_step : (old new : BTreeSet (ℕ × ℕ)) (list : List OpId) (i : ℕ) (d : OpId) (added : Bool) → i < length list → is_distinct list ≡ (is_distinct (drop i list) && are_new (has_name old) (drop i list)) → HasOneMore old new (get_or list i d)
+pub distinct_step : {S : Type 0} (old new : HashSet (ℕ × ℕ) S) (list : List OpId) (i : ℕ) (d : OpId) (added : Bool) → i < length list → is_distinct list ≡ (is_distinct (drop i list) && are_new (has_name old) (drop i list)) → HasOneMore old new (get_or list i d)
     → added ≡ not (has_name old (get_or list i d)) → added ≡ true → is_distinct list ≡ (is_distinct (drop (i + 1) list) && are_new (has_name new) (drop (i + 1) list))
 distinct_step old new list i d added h inv all e f =
     inv
@@ -91,7 +89,7 @@ distinct_step old new list i d added h inv all e f =
     go false true true c e = refl
     go false false true c e = refl
 
-pub distinct_stop : (old : BTreeSet (ℕ × ℕ)) (list : List OpId) (i : ℕ) (d : OpId) (added : Bool) → i < length list → is_distinct list ≡ (is_distinct (drop i list) && are_new (has_name old) (drop i list))
+pub distinct_stop : {S : Type 0} (old : HashSet (ℕ × ℕ) S) (list : List OpId) (i : ℕ) (d : OpId) (added : Bool) → i < length list → is_distinct list ≡ (is_distinct (drop i list) && are_new (has_name old) (drop i list))
     → added ≡ not (has_name old (get_or list i d)) → added ≡ false → false ≡ is_distinct list
 distinct_stop old list i d added h inv e f =
     sym (inv
@@ -105,14 +103,14 @@ distinct_stop old list i d added h inv e f =
 
 -- ---- that all are in
 
-pub all_step : (known : BTreeSet (ℕ × ℕ)) (names list : List OpId) (i : ℕ) (d : OpId) (found : Bool) → i < length list → ((n : OpId) → has_name known n ≡ is_among names n) → found ≡ has_name known (get_or list i d) → found ≡ true
+pub all_step : {S : Type 0} (known : HashSet (ℕ × ℕ) S) (names list : List OpId) (i : ℕ) (d : OpId) (found : Bool) → i < length list → ((n : OpId) → has_name known n ≡ is_among names n) → found ≡ has_name known (get_or list i d) → found ≡ true
     → list_all (is_among names) list ≡ list_all (is_among names) (drop i list) → list_all (is_among names) list ≡ list_all (is_among names) (drop (i + 1) list)
 all_step known names list i d found h all e f inv =
     inv
     ∙ (at_drop_more (list_all (is_among names)) list i d h
     ∙ ap (λ (b : Bool). b && list_all (is_among names) (drop (i + 1) list)) (sym (all (get_or list i d)) ∙ (sym e ∙ f)))
 
-pub all_stop : (known : BTreeSet (ℕ × ℕ)) (names list : List OpId) (i : ℕ) (d : OpId) (found : Bool) → i < length list → ((n : OpId) → has_name known n ≡ is_among names n) → found ≡ has_name known (get_or list i d) → found ≡ false
+pub all_stop : {S : Type 0} (known : HashSet (ℕ × ℕ) S) (names list : List OpId) (i : ℕ) (d : OpId) (found : Bool) → i < length list → ((n : OpId) → has_name known n ≡ is_among names n) → found ≡ has_name known (get_or list i d) → found ≡ false
     → list_all (is_among names) list ≡ list_all (is_among names) (drop i list) → false ≡ list_all (is_among names) list
 all_stop known names list i d found h all e f inv =
     sym (inv
@@ -121,19 +119,23 @@ all_stop known names list i d found h all e f inv =
 
 -- ---- the names that are not in
 
-pub kept_same : (known : BTreeSet (ℕ × ℕ)) (names list : List OpId) → ((n : OpId) → has_name known n ≡ is_among names n) → filter (λ n. not (has_name known n)) list ≡ filter (λ n. not (is_among names n)) list
+pub kept_same : {S : Type 0} (known : HashSet (ℕ × ℕ) S) (names list : List OpId) → ((n : OpId) → has_name known n ≡ is_among names n) → filter (λ n. not (has_name known n)) list ≡ filter (λ n. not (is_among names n)) list
 kept_same known names [] all = refl
 kept_same known names (x ∷ rest) all = rw (all x, kept_same known names rest all) refl
 
 -- what is left of a list, where the name that comes next isn't in, and where it is
-pub kept_next : (known : BTreeSet (ℕ × ℕ)) (list front pushed kept : List OpId) (i : ℕ) (d : OpId) (found : Bool) → i < length list → found ≡ has_name known (get_or list i d) → found ≡ false → pushed ≡ front ++ get_or list i d ∷ []
+pub kept_next : {S : Type 0} (known : HashSet (ℕ × ℕ) S) (list front pushed kept : List OpId) (i : ℕ) (d : OpId) (found : Bool) → i < length list → found ≡ has_name known (get_or list i d) → found ≡ false → pushed ≡ front ++ get_or list i d ∷ []
     → kept ≡ front ++ filter (λ n. not (has_name known n)) (drop i list) → kept ≡ pushed ++ filter (λ n. not (has_name known n)) (drop (i + 1) list)
 kept_next known list front pushed kept i d found h e f p inv =
     inv
     ∙ (ap (λ (ns : List OpId). front ++ ns) (at_drop_more (filter (λ n. not (has_name known n))) list i d h ∙ ap (λ (b : Bool). cond (not b) (get_or list i d ∷ filter (λ n. not (has_name known n)) (drop (i + 1) list)) (filter (λ n. not (has_name known n)) (drop (i + 1) list))) (sym e ∙ f))
     ∙ (sym (append_assoc front (get_or list i d ∷ []) (filter (λ n. not (has_name known n)) (drop (i + 1) list))) ∙ ap (λ (ns : List OpId). ns ++ filter (λ n. not (has_name known n)) (drop (i + 1) list)) (sym p)))
 
-pub passed_next : (known : BTreeSet (ℕ × ℕ)) (list front kept : List OpId) (i : ℕ) (d : OpId) (found : Bool) → i < length list → found ≡ has_name known (get_or list i d) → found ≡ true
+pub passed_next : {S : Type 0} (known : HashSet (ℕ × ℕ) S) (list front kept : List OpId) (i : ℕ) (d : OpId) (found : Bool) → i < length list → found ≡ has_name known (get_or list i d) → found ≡ true
     → kept ≡ front ++ filter (λ n. not (has_name known n)) (drop i list) → kept ≡ front ++ filter (λ n. not (has_name known n)) (drop (i + 1) list)
 passed_next known list front kept i d found h e f inv =
     inv ∙ ap (λ (ns : List OpId). front ++ ns) (at_drop_more (filter (λ n. not (has_name known n))) list i d h ∙ ap (λ (b : Bool). cond (not b) (get_or list i d ∷ filter (λ n. not (has_name known n)) (drop (i + 1) list)) (filter (λ n. not (has_name known n)) (drop (i + 1) list))) (sym e ∙ f))
+
+-- nothing is left past the end
+pub kept_last : {S : Type 0} (known : HashSet (ℕ × ℕ) S) (list front kept : List OpId) (i : ℕ) → length list ≤ i → kept ≡ front ++ filter (λ n. not (has_name known n)) (drop i list) → kept ≡ front
+kept_last known list front kept i h inv = inv ∙ (ap (λ (ns : List OpId). front ++ ns) (at_drop_all (filter (λ n. not (has_name known n))) list i h) ∙ append-nil front)

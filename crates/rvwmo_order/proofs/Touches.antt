@@ -1,11 +1,10 @@
 -- What a walk keeps of a byte weighs at least as much as each access to it that a rule asks for.
 use Rattle.std.proofs.Common.{◌≡◌, ℕ, ◌<◌, ◌≤◌, max, List, [], ◌∷◌, ◌++◌, Bool, true, false, Option, Some, None, refl, cond, sym, ap, ◌∙◌, ◌+◌, ◌&&◌, arith, take, ◌⊎◌, inl, inr, subst}
 use Rattle.std.specs.Prelude.{nat_eq, nat_le, nat_lt, slice_get, unwrap_or}
-use Rattle.std.specs.BTreeMap as tree
-use Rattle.std.specs.BTreeMap.{BTreeMap, is_at}
+use Rattle.std.specs.HashMap as hash
+use Rattle.std.specs.HashMap.{HashMap}
 use Rattle.std.specs.List.{list_any}
 use Rattle.std.specs.Option.{option_map_or}
-use Rattle.std.specs.Ordering.{nat_cmp}
 use Rattle.std.proofs.lemmas.Bool.{and_from, and_parts, cases_eq, eq-eqb, eqb-true, ltb-false, ltb-true, or_parts, true≢false}
 use Rattle.memory_model.specs.declared.operation.Operation.{Operation}
 use Rattle.memory_model.specs.Dependencies.{between}
@@ -185,11 +184,11 @@ load_touched order x own items a b m k p e o l h r s d =
 
 -- ---- an operation's bytes, one by one
 
-is_at-same : (x : ℕ) → is_at (nat_cmp x) x ≡ true
-is_at-same x = grind arith
+eq_same : (x : ℕ) → nat_eq x x ≡ true
+eq_same x = grind arith
 
-is_at-other : (x q : ℕ) → (x ≡ q → ⊥) → is_at (nat_cmp x) q ≡ false
-is_at-other x q g = grind arith
+eq_other : (x q : ℕ) → (x ≡ q → ⊥) → nat_eq x q ≡ false
+eq_other x q g = grind arith
 
 not_below : (a x : ℕ) → (nat_le a x && nat_lt x x) ≡ false
 not_below a x = grind arith
@@ -200,8 +199,8 @@ within a x l = grind arith
 below_same : (x q : ℕ) → (x ≡ q → ⊥) → nat_lt q x ≡ nat_lt q (x + 1)
 below_same x q g = grind arith
 
-pub next_touched : (old before new : BTreeMap ℕ Touch) (order : List Operation) (a : Operation) (own x : ℕ) (touch passed : Touch) → a.address ≤ x
-    → ((q : ℕ) → tree.get nat_cmp new q ≡ cond (is_at (nat_cmp x) q) (Some passed) (tree.get nat_cmp before q)) → touch ≡ touch_in before x → passed ≡ touched order x own a touch
+pub next_touched : {S : Type 0} (old before new : HashMap ℕ Touch S) (order : List Operation) (a : Operation) (own x : ℕ) (touch passed : Touch) → a.address ≤ x
+    → ((q : ℕ) → hash.get nat_eq new q ≡ cond (nat_eq x q) (Some passed) (hash.get nat_eq before q)) → touch ≡ touch_in before x → passed ≡ touched order x own a touch
     → ((q : ℕ) → touch_in before q ≡ cond (nat_le a.address q && nat_lt q x) (touched order q own a (touch_in old q)) (touch_in old q))
     → (q : ℕ) → touch_in new q ≡ cond (nat_le a.address q && nat_lt q (x + 1)) (touched order q own a (touch_in old q)) (touch_in old q)
 next_touched old before new order a own x touch passed l all e f inv q = go (cases_eq x q)
@@ -211,11 +210,11 @@ next_touched old before new order a own x touch passed l all e f inv q = go (cas
 
     there : touch_in new x ≡ after x (nat_le a.address x && nat_lt x (x + 1))
     there =
-        ap (λ (o : Option Touch). unwrap_or o untouched) (all x ∙ ap (λ (b : Bool). cond b (Some passed) (tree.get nat_cmp before x)) (is_at-same x))
+        ap (λ (o : Option Touch). unwrap_or o untouched) (all x ∙ ap (λ (b : Bool). cond b (Some passed) (hash.get nat_eq before x)) (eq_same x))
         ∙ (f ∙ (ap (touched order x own a) (e ∙ (inv x ∙ ap (after x) (not_below a.address x))) ∙ sym (ap (after x) (within a.address x l))))
 
     go : (x ≡ q) ⊎ (x ≡ q → ⊥) → touch_in new q ≡ after q (nat_le a.address q && nat_lt q (x + 1))
     go (inl g) = subst (λ (n : ℕ). touch_in new n ≡ after n (nat_le a.address n && nat_lt n (x + 1))) g there
     go (inr g) =
-        ap (λ (o : Option Touch). unwrap_or o untouched) (all q ∙ ap (λ (b : Bool). cond b (Some passed) (tree.get nat_cmp before q)) (is_at-other x q g))
+        ap (λ (o : Option Touch). unwrap_or o untouched) (all q ∙ ap (λ (b : Bool). cond b (Some passed) (hash.get nat_eq before q)) (eq_other x q g))
         ∙ (inv q ∙ ap (λ (b : Bool). after q (nat_le a.address q && b)) (below_same x q g))

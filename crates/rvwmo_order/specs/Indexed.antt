@@ -1,15 +1,13 @@
 -- What an index keeps of an order: where each operation stands, and the stores to each byte.
-use Rattle.std.specs.Prelude.{◌≡◌, ◌≤◌, ◌<◌, ◌-◌, ℕ, ◌+◌, Bool, false, slice_get, ◌&&◌, ◌||◌, ◌==◌, nat_lt, if◌then◌else◌, List, [], ◌∷◌, Option, Some, None, filter}
-use Rattle.std.specs.Ordering.{nat_cmp, ordering_then}
-use Rattle.std.specs.declared.cmp.Ordering.{Ordering}
+use Rattle.std.specs.Prelude.{◌≡◌, ◌≤◌, ◌<◌, ◌-◌, ℕ, ◌+◌, Bool, false, slice_get, ◌&&◌, ◌||◌, ◌==◌, nat_eq, nat_lt, if◌then◌else◌, List, [], ◌∷◌, Option, Some, None, filter}
 use Rattle.memory_model.specs.declared.operation.Operation.{Operation}
 use Rattle.memory_model.specs.Operations.{is_lr, precedes, same, stores_to}
 use Rattle.trace_recorder.specs.declared.operation.OpId.{OpId}
 use Rattle.rvwmo_order.specs.declared.stored.Stored.{Stored}
 
--- names by hart and then by place
-abbrev pub name_cmp : ℕ × ℕ → ℕ × ℕ → Ordering
-name_cmp a b = ordering_then (nat_cmp a.0 b.0) (nat_cmp a.1 b.1)
+-- the same hart and the same place
+abbrev pub name_eq : ℕ × ℕ → ℕ × ℕ → Bool
+name_eq a b = nat_eq a.0 b.0 && nat_eq a.1 b.1
 
 -- the place of the first of these operations that is a, counted from a number
 abbrev pub place_from : ℕ → Operation → List Operation → Option ℕ

@@ -1,9 +1,8 @@
 -- What a walk along a hart's list keeps of a byte: the greatest weight of its accesses, and of its loads since the last store by where they return it from.
-use Rattle.std.specs.Prelude.{ℕ, max, if◌then◌else◌, List, [], ◌∷◌, Option, None, nat_lt, unwrap_or}
-use Rattle.std.specs.BTreeMap as tree
-use Rattle.std.specs.BTreeMap.{BTreeMap}
+use Rattle.std.specs.Prelude.{ℕ, max, if◌then◌else◌, List, [], ◌∷◌, Option, None, nat_eq, nat_lt, unwrap_or}
+use Rattle.std.specs.HashMap as hash
+use Rattle.std.specs.HashMap.{HashMap}
 use Rattle.std.specs.Option.{option_map_or}
-use Rattle.std.specs.Ordering.{nat_cmp}
 use Rattle.memory_model.specs.declared.operation.Kind.{Kind}
 use Rattle.memory_model.specs.declared.operation.Operation.{Operation}
 use Rattle.memory_model.specs.Items.{Item}
@@ -15,8 +14,8 @@ abbrev pub untouched : Touch
 untouched = record { all = 0; loads = 0; source = None; others = 0 }
 
 -- that of a byte in a map
-abbrev pub touch_in : BTreeMap ℕ Touch → ℕ → Touch
-touch_in touches x = unwrap_or (tree.get nat_cmp touches x) untouched
+abbrev pub touch_in : {S : Type 0} → HashMap ℕ Touch S → ℕ → Touch
+touch_in touches x = unwrap_or (hash.get nat_eq touches x) untouched
 
 -- the greatest weight of the loads that return it from elsewhere
 abbrev pub but : Option Operation → Touch → ℕ

@@ -1,9 +1,10 @@
 //! An order of a trace's operations, with the stores to each byte and the place of each operation found
 //! without a walk over the order.
-ghost use Rattle.std.specs.Prelude.{◌≡◌, ◌≤◌, ◌<◌, ◌+◌, ◌++◌, ℕ, None, [], ◌∷◌, IfOk, OnOk, Some, filter, if◌then◌else◌, length, slice_index_or};
+ghost use Rattle.std.specs.Prelude.{◌≡◌, ◌≤◌, ◌<◌, ◌+◌, ◌++◌, ℕ, None, [], ◌∷◌, IfOk, OnOk, Some, filter, if◌then◌else◌, length, nat_eq, slice_index_or};
 ghost use Rattle.std.specs.List.{last_or};
 ghost use Rattle.std.specs.Option.{option_map, option_map_or, option_or};
 ghost use Rattle.std.specs.BTreeMap as tree;
+ghost use Rattle.std.specs.HashMap as hash;
 ghost use Rattle.std.specs.Ordering.{nat_cmp};
 ghost use Rattle.memory_model.specs.declared.operation.Operation.{Operation as OperationValue};
 ghost use Rattle.memory_model.specs.Legal as legal;
@@ -12,7 +13,7 @@ ghost use Rattle.memory_model.specs.Order as spec;
 ghost use Rattle.memory_model.specs.Traces as traces;
 ghost use Rattle.memory_model.specs.Verdict as verdict;
 ghost use Rattle.rvwmo_order.specs.Indexed as indexed;
-ghost use Rattle.rvwmo_order.specs.Indexed.{IsBeyond, AreRisingStores, SeesWithin, is_lr_of, name_cmp, place_from, reaches_of, stored_from};
+ghost use Rattle.rvwmo_order.specs.Indexed.{IsBeyond, AreRisingStores, SeesWithin, is_lr_of, name_eq, place_from, reaches_of, stored_from};
 
 use crate::accesses::{end_of, is_lr, name_of, writes};
 use crate::items::Harts;
@@ -21,7 +22,7 @@ use crate::reaches::reaches_in;
 use crate::stored::Stored;
 use memory_model::Operation;
 use std::alloc::{AllocError, Global};
-use std::collections::BTreeMap;
+use std::collections::{BTreeMap, HashMap};
 use std::marker::{Brand, Model};
 use std::sync::ledger::{Blank, Ledger};
 use tl_types::Ticks;
@@ -32,30 +33,31 @@ use trace_recorder::{OpId, Trace};
 pub struct Index {
     order: Vec<Operation>,
     /// The place of each operation in the order, by its hart and its place in the hart's list.
-    places: BTreeMap<(u8, u32), usize>,
+    places: HashMap<(u8, u32), usize>,
     /// For each operation how far behind it the last one stands that precedes it in program order.
     reaches: Vec<usize>,
     /// The stores to each byte, in the order's order.
-    stores: BTreeMap<u64, Vec<Stored>>,
+    stores: HashMap<u64, Vec<Stored>>,
     /// The LRs of each hart, in the order's order.
     reserves: BTreeMap<u8, Vec<Operation>>,
 }
 
 impl Model for Index {
-    ghost use Rattle.std.specs.Prelude.{◌≡◌, ℕ, List, [], filter};
+    ghost use Rattle.std.specs.Prelude.{◌≡◌, ℕ, List, [], filter, nat_eq};
     ghost use Rattle.std.specs.Option.{option_map_or};
     ghost use Rattle.std.specs.BTreeMap as tree;
+    ghost use Rattle.std.specs.HashMap as hash;
     ghost use Rattle.std.specs.Ordering.{nat_cmp};
     ghost use Rattle.memory_model.specs.declared.operation.Operation.{Operation as OperationValue};
-    ghost use Rattle.rvwmo_order.specs.Indexed.{is_lr_of, name_cmp, place_from, reaches_of, stored_from};
+    ghost use Rattle.rvwmo_order.specs.Indexed.{is_lr_of, name_eq, place_from, reaches_of, stored_from};
 
     ghost Value = { List OperationValue };
 
     ghost view = { λ i. i.order.items };
 
-    ghost invariant = { λ i. ((a : OperationValue) → tree.get name_cmp i.places (a.hart, a.place) ≡ place_from 0 a i.order.items)
+    ghost invariant = { λ i. ((a : OperationValue) → hash.get name_eq i.places (a.hart, a.place) ≡ place_from 0 a i.order.items)
         × (i.reaches.items ≡ reaches_of i.order.items)
-        × ((x : ℕ) → option_map_or (λ v. v.items) (tree.get nat_cmp i.stores x) [] ≡ stored_from 0 x i.order.items)
+        × ((x : ℕ) → option_map_or (λ v. v.items) (hash.get nat_eq i.stores x) [] ≡ stored_from 0 x i.order.items)
         × ((h : ℕ) → option_map_or (λ v. v.items) (tree.get nat_cmp i.reserves h) [] ≡ filter (is_lr_of h) i.order.items) };
 }
 
@@ -187,10 +189,10 @@ impl Index {
 }
 
 // The place of each operation in an order, the first where there are two of one name.
-fn places_in(alloc: Global, order: &[Operation]) -> Result<BTreeMap<(u8, u32), usize>, AllocError>
-    ensures { IfOk result (λ places. (a : OperationValue) → tree.get name_cmp places (a.hart, a.place) ≡ place_from 0 a order.now) }
+fn places_in(alloc: Global, order: &[Operation]) -> Result<HashMap<(u8, u32), usize>, AllocError>
+    ensures { IfOk result (λ places. (a : OperationValue) → hash.get name_eq places (a.hart, a.place) ≡ place_from 0 a order.now) }
 {
-    let mut places = BTreeMap::new(alloc);
+    let mut places = HashMap::new(alloc);
     for (position, a) in order.iter().enumerate() {
         put_first(&mut places, position, a)?;
     }
@@ -199,12 +201,12 @@ fn places_in(alloc: Global, order: &[Operation]) -> Result<BTreeMap<(u8, u32), u
 
 // Puts the place of an operation where there is none of its name yet.
 fn put_first(
-    places: &mut BTreeMap<(u8, u32), usize>,
+    places: &mut HashMap<(u8, u32), usize>,
     position: usize,
     a: &Operation,
 ) -> Result<(), AllocError>
-    ensures { OnOk result ((b : OperationValue) → tree.get name_cmp places.new (b.hart, b.place)
-        ≡ option_or (tree.get name_cmp places.old (b.hart, b.place)) (if operations.same b a.now then Some position else None)) }
+    ensures { OnOk result ((b : OperationValue) → hash.get name_eq places.new (b.hart, b.place)
+        ≡ option_or (hash.get name_eq places.old (b.hart, b.place)) (if operations.same b a.now then Some position else None)) }
 {
     if places.contains_key(&(a.hart, a.place)) {
         return Ok(());
@@ -214,10 +216,10 @@ fn put_first(
 }
 
 // The stores of an order to each byte.
-fn stores_in(alloc: Global, order: &[Operation]) -> Result<BTreeMap<u64, Vec<Stored>>, AllocError>
-    ensures { IfOk result (λ stores. (x : ℕ) → option_map_or (λ v. v.items) (tree.get nat_cmp stores x) [] ≡ stored_from 0 x order.now) }
+fn stores_in(alloc: Global, order: &[Operation]) -> Result<HashMap<u64, Vec<Stored>>, AllocError>
+    ensures { IfOk result (λ stores. (x : ℕ) → option_map_or (λ v. v.items) (hash.get nat_eq stores x) [] ≡ stored_from 0 x order.now) }
 {
-    let mut stores = BTreeMap::new(alloc);
+    let mut stores = HashMap::new(alloc);
     for (position, a) in order.iter().enumerate() {
         if writes(a.kind) {
             push_bytes(&mut stores, position, a)?;
@@ -244,12 +246,12 @@ fn reserves_in(
 
 // Puts a store behind the others to each of its bytes.
 fn push_bytes(
-    stores: &mut BTreeMap<u64, Vec<Stored>>,
+    stores: &mut HashMap<u64, Vec<Stored>>,
     position: usize,
     a: &Operation,
 ) -> Result<(), AllocError>
-    ensures { OnOk result ((x : ℕ) → option_map_or (λ v. v.items) (tree.get nat_cmp stores.new x) []
-        ≡ option_map_or (λ v. v.items) (tree.get nat_cmp stores.old x) [] ++ (if operations.touches x a.now then record { position = position; store = a.now } ∷ [] else [])) }
+    ensures { OnOk result ((x : ℕ) → option_map_or (λ v. v.items) (hash.get nat_eq stores.new x) []
+        ≡ option_map_or (λ v. v.items) (hash.get nat_eq stores.old x) [] ++ (if operations.touches x a.now then record { position = position; store = a.now } ∷ [] else [])) }
 {
     for x in u64::from(a.address)..end_of(a) {
         stores

@@ -1,28 +1,28 @@
 //! Whether names are in a list, found without a walk over it.
 ghost use Rattle.std.specs.Prelude.{◌≡◌, ◌&&◌, not, IfOk, OnOk};
 ghost use Rattle.std.specs.List.{list_all};
-ghost use Rattle.std.specs.BTreeSet as sets;
+ghost use Rattle.std.specs.HashSet as sets;
 ghost use Rattle.memory_model.specs.Traces as spec;
-ghost use Rattle.rvwmo_order.specs.Indexed.{name_cmp};
+ghost use Rattle.rvwmo_order.specs.Indexed.{name_eq};
 ghost use Rattle.trace_recorder.specs.declared.operation.OpId.{OpId as Name};
 
 use std::alloc::{AllocError, Global};
-use std::collections::BTreeSet;
+use std::collections::HashSet;
 use trace_recorder::OpId;
 
-/// The names of a list, by hart and then by place.
-pub(crate) fn names_of(alloc: Global, list: &[OpId]) -> Result<BTreeSet<(u8, u32)>, AllocError>
-    ensures { IfOk result (λ names. (n : Name) → sets.contains name_cmp names (n.hart, n.place) ≡ spec.is_among list.now n) }
+/// The names of a list.
+pub(crate) fn names_of(alloc: Global, list: &[OpId]) -> Result<HashSet<(u8, u32)>, AllocError>
+    ensures { IfOk result (λ names. (n : Name) → sets.contains name_eq names (n.hart, n.place) ≡ spec.is_among list.now n) }
 {
-    let mut names = BTreeSet::new(alloc);
+    let mut names = HashSet::new(alloc);
     for name in list {
         names.insert((name.hart, name.place))?;
     }
     Ok(names)
 }
 
-pub(crate) fn has(names: &BTreeSet<(u8, u32)>, name: OpId) -> bool
-    ensures { result ≡ sets.contains name_cmp names.now (name.hart, name.place) }
+pub(crate) fn has(names: &HashSet<(u8, u32)>, name: OpId) -> bool
+    ensures { result ≡ sets.contains name_eq names.now (name.hart, name.place) }
 {
     names.contains(&(name.hart, name.place))
 }
@@ -31,7 +31,7 @@ pub(crate) fn has(names: &BTreeSet<(u8, u32)>, name: OpId) -> bool
 pub(crate) fn is_distinct(alloc: Global, list: &[OpId]) -> Result<bool, AllocError>
     ensures { IfOk result (λ distinct. distinct ≡ spec.is_distinct list.now) }
 {
-    let mut names = BTreeSet::new(alloc);
+    let mut names = HashSet::new(alloc);
     for name in list {
         if !names.insert((name.hart, name.place))? {
             return Ok(false);

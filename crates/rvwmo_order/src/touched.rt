@@ -11,7 +11,7 @@ use crate::index::Index;
 use crate::sources::is_same_source;
 use memory_model::Operation;
 use std::alloc::{AllocError, Global};
-use std::collections::BTreeMap;
+use std::collections::HashMap;
 
 /// The greatest weights of the operations that touched a byte.
 #[derive(Clone, Copy)]
@@ -86,7 +86,7 @@ impl Touch {
 }
 
 /// What was kept of a byte.
-pub(crate) fn touch_of(touches: &BTreeMap<u64, Touch>, x: u64) -> Touch
+pub(crate) fn touch_of(touches: &HashMap<u64, Touch>, x: u64) -> Touch
     ensures { result ≡ touch_in touches.now x }
 {
     match touches.get(&x) {
@@ -97,7 +97,7 @@ pub(crate) fn touch_of(touches: &BTreeMap<u64, Touch>, x: u64) -> Touch
 
 /// Goes past an operation.
 pub(crate) fn pass_bytes(
-    touches: &mut BTreeMap<u64, Touch>,
+    touches: &mut HashMap<u64, Touch>,
     index: &Index,
     a: &Operation,
     own: usize,

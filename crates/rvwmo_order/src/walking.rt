@@ -22,14 +22,14 @@ use crate::touched::{Touch, pass_bytes, touch_of};
 use memory_model::{MemoryModel, Operation};
 use rv32_decode::Instr;
 use std::alloc::{AllocError, Global};
-use std::collections::BTreeMap;
+use std::collections::HashMap;
 
 #[derive(Drop)]
 pub(crate) struct Walk {
     model: MemoryModel,
     carried: Carried,
     passed: Passed,
-    touches: BTreeMap<u64, Touch>,
+    touches: HashMap<u64, Touch>,
 }
 
 impl Walk {
@@ -41,7 +41,7 @@ impl Walk {
             model,
             carried: Carried::new(),
             passed: Passed::new(),
-            touches: BTreeMap::new(alloc),
+            touches: HashMap::new(alloc),
         }
     }
 

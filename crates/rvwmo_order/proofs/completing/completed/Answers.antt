@@ -1,7 +1,7 @@
 use Rattle.std.proofs.Common.{◌+◌, ◌++◌, ◌∙◌, ap, arith, drop, not, sym}
 use Rattle.std.specs.List.{filter}
-use Rattle.std.proofs.lemmas.Grind.{common_steps}
-use Rattle.rvwmo_order.proofs.Gathered.{has_name, kept_next, kept_same, passed_next}
+use Rattle.memory_model.specs.Traces.{is_among}
+use Rattle.rvwmo_order.proofs.Gathered.{has_name, kept_last, kept_next, kept_same, passed_next}
 use Rattle.rvwmo_order.proofs.completing.completed.Goals as goal
 use Rattle.rvwmo_order.proofs.completing.completed.Goals.{then-not-has+in_ok-push, else-not-has}
 
@@ -17,5 +17,10 @@ loop-name-preserved c =
 
 pub returns : goal.returns
 returns c =
-    let same = kept_same c.in_ok-performed.performed c.performed.result.now c.deref-name-items.result.now c.in_ok-performed.ensures in
-    grind (arith, common_steps, same, c.loop-name.invariant, c.performed.ensures, c.deref-name-items.ensures.value, c.in_ok-names.ensures)
+    let known = c.in_ok-performed.performed in
+    let names = c.deref-name-items.result.now in
+    let performed = c.args.trace.now.history.performed in
+    sym (kept_last known names c.loop-name.order.items (performed ++ filter (λ n. not (has_name known n)) names) c.loop-name.name-index c.loop-name-test.false c.loop-name.invariant)
+    ∙ (ap (λ ns. performed ++ ns) (kept_same known c.performed.result.now names c.in_ok-performed.ensures)
+    ∙ (ap (λ ps. performed ++ filter (λ n. not (is_among ps n)) names) c.performed.ensures
+    ∙ ap (λ ns. performed ++ filter (λ n. not (is_among performed n)) ns) (c.deref-name-items.ensures.value ∙ c.in_ok-names.ensures)))
