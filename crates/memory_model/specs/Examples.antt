@@ -30,7 +30,7 @@ image_with words = record { bytes = bytes_of_words words ++ replicate (4096 - 4 
 abbrev pub with_word : ℕ → ℕ → Initial → Initial
 with_word address word image = record image { bytes = take (address - base) image.bytes ++ bytes_of_word word ++ drop (address - base + 4) image.bytes }
 
--- ---- entries: instructions that read nothing, loads, and store scs
+-- ---- entries: instructions that read nothing, loads, and store conditionals
 
 abbrev pub did : ℕ → ℕ → Retired
 did pc word = record { pc = pc; word = word; loaded = None; sc_ok = None }

@@ -21,7 +21,7 @@ const MOST_TRIES: u32 = 3;
 
 /// The events that bring a machine from reset through these flat events. Before each of them, and behind
 /// the last one, all harts take their quiet steps, up to 1000 each, in rising order of harts: private
-/// instructions, calls, stops, fences that don't stall, store scs that fail, and stores to words
+/// instructions, calls, stops, fences that don't stall, store conditionals that fail, and stores to words
 /// that their open group hasn't; a list of flat events leaves those out. In between no message waits, so
 /// each flat event takes at most 6 events and 2 a hart.
 pub fn realise(
