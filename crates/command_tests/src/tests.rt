@@ -254,8 +254,8 @@ const FAULTS: [(&[u8], &[u8], &str, u8); 9] = [
 fn row_23_and_the_other_faults(rt: HostRuntime) {
     for (image, script, message, status) in FAULTS {
         let ran = replay(&rt, image, script);
-        same_of(&rt, ran.err.as_slice(), message.as_bytes(), &message);
-        same_of(&rt, ran.status, status, &message);
+        assert_eq!(rt; ran.err.as_slice(), message.as_bytes(), "{message}");
+        assert_eq!(rt; ran.status, status, "{message}");
         assert!(rt; ran.out.is_empty(), "{message}");
     }
 }

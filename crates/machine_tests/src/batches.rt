@@ -1,5 +1,4 @@
 //! Batches that a machine adopts, and the limit on a hart's list, worked by hand.
-use crate::same::same;
 use coherent_machine::{AdoptError, ApplyError, Machine};
 use elf_loader::{Image, raw, size_of_kib};
 use hart::{Batch, run_local};
@@ -44,13 +43,13 @@ fn row_39(rt: HostRuntime) -> Result<(), Fail> {
     let mut machine = machine_of(rt.alloc(), &TWO_AND_A_STORE, 1)?;
     let batch = batch_of(rt.alloc(), &machine)?;
     let too_many = Event::Local { hart: 0, count: 3 };
-    same(&rt, machine.apply(too_many)?, Outcome::NotLocal);
-    same(&rt, machine.adopt(0, &batch)?, Outcome::Retired);
-    same(&rt, machine.views().changes(), 1);
-    same(&rt, machine.adopt(0, &batch).err(), Some(AdoptError::Stale));
+    assert_eq!(rt; machine.apply(too_many)?, Outcome::NotLocal);
+    assert_eq!(rt; machine.adopt(0, &batch)?, Outcome::Retired);
+    assert_eq!(rt; machine.views().changes(), 1);
+    assert_eq!(rt; machine.adopt(0, &batch).err(), Some(AdoptError::Stale));
     let none = batch_of(rt.alloc(), &machine)?;
-    same(&rt, machine.adopt(0, &none).err(), Some(AdoptError::Empty));
-    same(&rt, machine.views().changes(), 1);
+    assert_eq!(rt; machine.adopt(0, &none).err(), Some(AdoptError::Empty));
+    assert_eq!(rt; machine.views().changes(), 1);
     Ok(())
 }
 
@@ -59,8 +58,8 @@ fn row_39_of_another_program(rt: HostRuntime) -> Result<(), Fail> {
     let other = machine_of(rt.alloc(), &[0x00500513, 0x00000073], 1)?;
     let batch = batch_of(rt.alloc(), &other)?;
     let mut machine = machine_of(rt.alloc(), &TWO_AND_A_STORE, 1)?;
-    same(&rt, machine.adopt(0, &batch).err(), Some(AdoptError::Stale));
-    same(&rt, machine.adopt(1, &batch).err(), Some(AdoptError::Stale));
+    assert_eq!(rt; machine.adopt(0, &batch).err(), Some(AdoptError::Stale));
+    assert_eq!(rt; machine.adopt(1, &batch).err(), Some(AdoptError::Stale));
     Ok(())
 }
 
@@ -68,26 +67,18 @@ fn row_39_of_another_program(rt: HostRuntime) -> Result<(), Fail> {
 fn row_39_beside_another_hart(rt: HostRuntime) -> Result<(), Fail> {
     let mut machine = machine_of(rt.alloc(), &TWO_AND_A_STORE, 2)?;
     let batch = batch_of(rt.alloc(), &machine)?;
-    same(
-        &rt,
-        machine.apply(Event::Step { hart: 1 })?,
-        Outcome::Retired,
-    );
-    same(&rt, machine.adopt(1, &batch).err(), Some(AdoptError::Stale));
-    same(&rt, machine.adopt(0, &batch)?, Outcome::Retired);
+    assert_eq!(rt; machine.apply(Event::Step { hart: 1 })?, Outcome::Retired);
+    assert_eq!(rt; machine.adopt(1, &batch).err(), Some(AdoptError::Stale));
+    assert_eq!(rt; machine.adopt(0, &batch)?, Outcome::Retired);
     Ok(())
 }
 
 #[test]
 fn row_39_of_an_ended_hart(rt: HostRuntime) -> Result<(), Fail> {
     let mut machine = machine_of(rt.alloc(), &[0x00000073, 0x00000013], 1)?;
-    same(
-        &rt,
-        machine.apply(Event::Step { hart: 0 })?,
-        Outcome::Exited(0),
-    );
+    assert_eq!(rt; machine.apply(Event::Step { hart: 0 })?, Outcome::Exited(0));
     let none = batch_of(rt.alloc(), &machine)?;
-    same(&rt, machine.adopt(0, &none).err(), Some(AdoptError::Empty));
+    assert_eq!(rt; machine.adopt(0, &none).err(), Some(AdoptError::Empty));
     Ok(())
 }
 
@@ -99,23 +90,22 @@ fn row_47(rt: HostRuntime) -> Result<(), Fail> {
             hart: 0,
             count: 256,
         };
-        same(&rt, machine.apply(row)?, Outcome::Retired);
+        assert_eq!(rt; machine.apply(row)?, Outcome::Retired);
     }
     let too_many = Event::Local { hart: 0, count: 65 };
-    same(&rt, machine.apply(too_many).err(), Some(ApplyError::Limit));
+    assert_eq!(rt; machine.apply(too_many).err(), Some(ApplyError::Limit));
     let last = Event::Local { hart: 0, count: 64 };
-    same(&rt, machine.apply(last)?, Outcome::Retired);
-    same(
-        &rt,
+    assert_eq!(rt; machine.apply(last)?, Outcome::Retired);
+    assert_eq!(rt;
         machine.apply(Event::Step { hart: 0 }).err(),
-        Some(ApplyError::Limit),
+        Some(ApplyError::Limit)
     );
     let batch = batch_of(rt.alloc(), &machine)?;
-    same(&rt, machine.adopt(0, &batch).err(), Some(AdoptError::Limit));
+    assert_eq!(rt; machine.adopt(0, &batch).err(), Some(AdoptError::Limit));
     let drain = Event::Drain {
         hart: 0,
         word: 0x8000_0000,
     };
-    same(&rt, machine.apply(drain)?, Outcome::NoEntry);
+    assert_eq!(rt; machine.apply(drain)?, Outcome::NoEntry);
     Ok(())
 }

@@ -3,7 +3,6 @@
 
 ghost use Rattle.std.specs.Prelude.{◌≡◌, ◌<◌};
 
-use crate::same::same;
 use coherent_machine::{AdoptError, ApplyError, Views};
 use elf_loader::{Image, raw, size_of_kib};
 use hart::{Hart, Retired, Status, run_local};
@@ -310,7 +309,7 @@ fn row_1_locked(rt: HostRuntime) -> Result<(), Fail> {
     ];
     let ended = played(&rt, &ROW_1, 1, &calls)?;
     assert!(rt; ends_so(&ended, &[STEP, STEP], &[2]));
-    same(&rt, ended.seen, Some((2, Status::Exited(5))));
+    assert_eq!(rt; ended.seen, Some((2, Status::Exited(5))));
     Ok(())
 }
 
@@ -342,7 +341,7 @@ fn row_39(rt: HostRuntime) -> Result<(), Fail> {
     ];
     let ended = played(&rt, &ROW_7, 1, &calls)?;
     assert!(rt; ends_so(&ended, &[local(2)], &[1]));
-    same(&rt, ended.seen, Some((2, Status::Running)));
+    assert_eq!(rt; ended.seen, Some((2, Status::Running)));
     Ok(())
 }
 
@@ -367,7 +366,7 @@ fn row_39_of_an_ended_hart(rt: HostRuntime) -> Result<(), Fail> {
     ];
     let ended = played(&rt, &ROW_39_EXITS, 1, &calls)?;
     assert!(rt; ends_so(&ended, &[STEP], &[1]));
-    same(&rt, ended.seen, Some((1, Status::Exited(0))));
+    assert_eq!(rt; ended.seen, Some((1, Status::Exited(0))));
     Ok(())
 }
 

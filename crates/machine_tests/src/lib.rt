@@ -9,6 +9,4 @@ mod drawing;
 #[cfg(test)]
 mod fabric;
 #[cfg(test)]
-mod same;
-#[cfg(test)]
 mod threads;

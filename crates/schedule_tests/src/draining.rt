@@ -1,6 +1,5 @@
 //! Small programs whose ends, with their final words of memory, were worked out by hand.
 
-use crate::same::same;
 use elf_loader::{Image, raw, size_of_kib};
 use flat_machine::{DrainingMachine, Ending, Key, Tables};
 use flat_model::FlatEvent;
@@ -110,8 +109,8 @@ fn ends_with(found: &Found, code: u8, x: u32, y: u32) -> bool {
 fn either_hart_may_store_last_to_each_word(rt: HostRuntime) -> Result<(), Fail> {
     // The stores of a group leave in any order.
     let found = explored(rt.alloc(), &TWO_WRITES, 2, MemoryModel::Rvwmo)?;
-    same(&rt, found.extent, Extent::Complete);
-    same(&rt, found.outcomes.outcomes.len(), 4);
+    assert_eq!(rt; found.extent, Extent::Complete);
+    assert_eq!(rt; found.outcomes.outcomes.len(), 4);
     assert!(rt; ends_with(&found, 1, 1, 1) && ends_with(&found, 1, 1, 2));
     assert!(rt; ends_with(&found, 1, 2, 1) && ends_with(&found, 1, 2, 2));
     assert!(rt; found.stuck.is_empty());
@@ -122,10 +121,10 @@ fn either_hart_may_store_last_to_each_word(rt: HostRuntime) -> Result<(), Fail> 
 fn stores_in_order_are_not_both_overtaken(rt: HostRuntime) -> Result<(), Fail> {
     // Both words 1: each hart's second store came before the other's first, and so before itself.
     let fenced = explored(rt.alloc(), &TWO_WRITES_FENCED, 2, MemoryModel::Rvwmo)?;
-    same(&rt, fenced.outcomes.outcomes.len(), 3);
+    assert_eq!(rt; fenced.outcomes.outcomes.len(), 3);
     assert!(rt; !ends_with(&fenced, 1, 1, 1));
     let total = explored(rt.alloc(), &TWO_WRITES, 2, MemoryModel::Ztso)?;
-    same(&rt, total.outcomes.outcomes.len(), 3);
+    assert_eq!(rt; total.outcomes.outcomes.len(), 3);
     assert!(rt; !ends_with(&total, 1, 1, 1));
     Ok(())
 }
@@ -133,8 +132,8 @@ fn stores_in_order_are_not_both_overtaken(rt: HostRuntime) -> Result<(), Fail> {
 #[test]
 fn a_store_behind_a_load_is_later_than_what_the_load_saw(rt: HostRuntime) -> Result<(), Fail> {
     let found = explored(rt.alloc(), &S, 2, MemoryModel::Rvwmo)?;
-    same(&rt, found.extent, Extent::Complete);
-    same(&rt, found.outcomes.outcomes.len(), 3);
+    assert_eq!(rt; found.extent, Extent::Complete);
+    assert_eq!(rt; found.outcomes.outcomes.len(), 3);
     assert!(rt; ends_with(&found, 0, 1, 1) && ends_with(&found, 0, 2, 1));
     assert!(rt; ends_with(&found, 1, 1, 1));
     Ok(())
@@ -143,7 +142,7 @@ fn a_store_behind_a_load_is_later_than_what_the_load_saw(rt: HostRuntime) -> Res
 #[test]
 fn the_last_store_to_a_word_stays(rt: HostRuntime) -> Result<(), Fail> {
     let found = explored(rt.alloc(), &ONE_WORD, 1, MemoryModel::Rvwmo)?;
-    same(&rt, found.outcomes.outcomes.len(), 1);
+    assert_eq!(rt; found.outcomes.outcomes.len(), 1);
     assert!(rt; ends_with(&found, 0, 2, 0));
     Ok(())
 }

@@ -1,6 +1,5 @@
 //! Small programs whose outcomes were worked out by hand.
 
-use crate::same::same;
 use elf_loader::{Image, raw, size_of_kib};
 use flat_machine::{FlatMachine, Key, Results, Tables};
 use flat_model::FlatEvent;
@@ -140,8 +139,8 @@ fn ends_with(found: &Found, first: u8, second: u8) -> bool {
 #[test]
 fn store_buffering(rt: HostRuntime) -> Result<(), Fail> {
     let found = explored(rt.alloc(), &STORE_BUFFERING, 2, 2)?;
-    same(&rt, found.extent, Extent::Complete);
-    same(&rt, found.outcomes.outcomes.len(), 4);
+    assert_eq!(rt; found.extent, Extent::Complete);
+    assert_eq!(rt; found.outcomes.outcomes.len(), 4);
     assert!(rt; ends_with(&found, 0, 0) && ends_with(&found, 0, 1));
     assert!(rt; ends_with(&found, 1, 0) && ends_with(&found, 1, 1));
     assert!(rt; found.stuck.is_empty());
@@ -151,8 +150,8 @@ fn store_buffering(rt: HostRuntime) -> Result<(), Fail> {
 #[test]
 fn store_buffering_with_fences(rt: HostRuntime) -> Result<(), Fail> {
     let found = explored(rt.alloc(), &STORE_BUFFERING_FENCED, 2, 2)?;
-    same(&rt, found.extent, Extent::Complete);
-    same(&rt, found.outcomes.outcomes.len(), 3);
+    assert_eq!(rt; found.extent, Extent::Complete);
+    assert_eq!(rt; found.outcomes.outcomes.len(), 3);
     assert!(rt; !ends_with(&found, 0, 0));
     Ok(())
 }
@@ -161,7 +160,7 @@ fn store_buffering_with_fences(rt: HostRuntime) -> Result<(), Fail> {
 fn a_store_conditional_may_fail(rt: HostRuntime) -> Result<(), Fail> {
     // At most one of two harts fails by the other's access; each may fail by itself.
     let found = explored(rt.alloc(), &RESERVED, 2, 2)?;
-    same(&rt, found.outcomes.outcomes.len(), 4);
+    assert_eq!(rt; found.outcomes.outcomes.len(), 4);
     Ok(())
 }
 
@@ -171,16 +170,16 @@ fn an_own_access_ends_a_reservation_in_one_way(rt: HostRuntime) -> Result<(), Fa
     assert_eq!(rt; one.outcomes.outcomes.len(), 1);
     let harts = one.outcomes.outcomes.as_slice()[0].harts();
     let first = harts.first().ok_or("a hart")?;
-    same(&rt, first.status, Status::Exited(1));
+    assert_eq!(rt; first.status, Status::Exited(1));
     let two = explored(rt.alloc(), &RIVAL, 1, 2)?;
-    same(&rt, two.outcomes.outcomes.len(), 2);
+    assert_eq!(rt; two.outcomes.outcomes.len(), 2);
     Ok(())
 }
 
 #[test]
 fn what_is_put_out_is_told(rt: HostRuntime) -> Result<(), Fail> {
     let found = explored(rt.alloc(), &COUNT, 2, 2)?;
-    same(&rt, found.outcomes.outcomes.len(), 2);
+    assert_eq!(rt; found.outcomes.outcomes.len(), 2);
     assert!(rt; ends_with(&found, 0, 1) && ends_with(&found, 1, 0));
     for results in found.outcomes.outcomes.as_slice() {
         let harts = results.harts();
@@ -200,35 +199,35 @@ fn what_is_put_out_is_told(rt: HostRuntime) -> Result<(), Fail> {
 #[test]
 fn a_register_that_is_set_again_tells_no_states_apart(rt: HostRuntime) -> Result<(), Fail> {
     let found = explored(rt.alloc(), &UNREAD, 2, 2)?;
-    same(&rt, found.extent, Extent::Complete);
-    same(&rt, found.outcomes.outcomes.len(), 1);
-    same(&rt, found.table.keys.len(), 5);
+    assert_eq!(rt; found.extent, Extent::Complete);
+    assert_eq!(rt; found.outcomes.outcomes.len(), 1);
+    assert_eq!(rt; found.table.keys.len(), 5);
     Ok(())
 }
 
 #[test]
 fn a_reservation_that_no_sc_asks_for_tells_no_states_apart(rt: HostRuntime) -> Result<(), Fail> {
     let found = explored(rt.alloc(), &UNASKED, 2, 2)?;
-    same(&rt, found.extent, Extent::Complete);
-    same(&rt, found.outcomes.outcomes.len(), 1);
-    same(&rt, found.table.keys.len(), 5);
+    assert_eq!(rt; found.extent, Extent::Complete);
+    assert_eq!(rt; found.outcomes.outcomes.len(), 1);
+    assert_eq!(rt; found.table.keys.len(), 5);
     Ok(())
 }
 
 #[test]
 fn what_may_be_read_tells_states_apart(rt: HostRuntime) -> Result<(), Fail> {
     let loaded = explored(rt.alloc(), &STORE_BUFFERING, 2, 2)?;
-    same(&rt, loaded.table.keys.len(), 20);
+    assert_eq!(rt; loaded.table.keys.len(), 20);
     let reserved = explored(rt.alloc(), &RESERVED, 2, 2)?;
-    same(&rt, reserved.table.keys.len(), 15);
+    assert_eq!(rt; reserved.table.keys.len(), 15);
     Ok(())
 }
 
 #[test]
 fn a_circle_never_ends(rt: HostRuntime) -> Result<(), Fail> {
     let found = explored(rt.alloc(), &CIRCLE, 2, 2)?;
-    same(&rt, found.extent, Extent::Complete);
+    assert_eq!(rt; found.extent, Extent::Complete);
     assert!(rt; found.outcomes.outcomes.is_empty());
-    same(&rt, found.stuck.len(), found.table.keys.len());
+    assert_eq!(rt; found.stuck.len(), found.table.keys.len());
     Ok(())
 }

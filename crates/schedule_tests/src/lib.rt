@@ -9,6 +9,4 @@ mod exploring;
 #[cfg(test)]
 mod realising;
 #[cfg(test)]
-mod same;
-#[cfg(test)]
 mod searching;

@@ -177,8 +177,8 @@ fn words_that_cannot_be_shown(rt: HostRuntime) -> Result<(), Fail> {
         all.extend_from_slice(&["rvtl", "explore"])?;
         all.extend_from_slice(words)?;
         let ran = line(&rt, &all, &files);
-        same_of(&rt, ran.err.as_slice(), message.as_bytes(), &message);
-        same_of(&rt, ran.status, status, &message);
+        assert_eq!(rt; ran.err.as_slice(), message.as_bytes(), "{message}");
+        assert_eq!(rt; ran.status, status, "{message}");
         assert!(rt; ran.out.is_empty(), "{message}");
     }
     Ok(())
