@@ -18,7 +18,7 @@ use Rattle.hart.specs.Run.{is_run}
 use Rattle.machine_model.specs.Config.{is_within_limits}
 use Rattle.machine_model.specs.declared.config.Config.{Config}
 use Rattle.machine_model.specs.Ranges.{HasCode, HasWords, NamesPlace}
-use Rattle.machine_model.proofs.RangeRuns.{named_in_range, runs_in_range}
+use Rattle.machine_model.proofs.ranges.Runs.{named_in_range, runs_in_range}
 use Rattle.memory_model.specs.Traces.{are_runs_from}
 use Rattle.trace_recorder.specs.History.{History, entries_of}
 use Rattle.trace_recorder.specs.declared.operation.OpId.{OpId}

@@ -52,17 +52,17 @@ use Rattle.machine_model.specs.Laws.{ReservedIsTrunk}
 use Rattle.machine_model.specs.Ready.{shape_of}
 use Rattle.machine_model.specs.Steps.{Fetched}
 use Rattle.machine_model.specs.Views.{Node, State, line_size, node_at, place_of}
-use Rattle.machine_model.proofs.JointAlways.{Joint}
-use Rattle.machine_model.proofs.LinePlaces.{piece}
-use Rattle.machine_model.proofs.OrderActs.{alone_grown, retired_known, retired_trace}
-use Rattle.machine_model.proofs.OrderBuffers as buffers
-use Rattle.machine_model.proofs.OrderBuffers.{KeepsBuffers}
-use Rattle.machine_model.proofs.OrderDeeds.{Facts, FitsDeed}
-use Rattle.machine_model.proofs.OrderEvents.{IsFitPlan, plan_fit}
-use Rattle.machine_model.proofs.OrderLast.{drained_elsewhere, drained_last, retired_last}
-use Rattle.machine_model.proofs.OrderMoves.{OrderKept, done_same, drained_moves}
-use Rattle.machine_model.proofs.OrderTraces.{done, operations_on}
-use Rattle.machine_model.proofs.Runs.{AllStand}
+use Rattle.machine_model.proofs.bytes.Always.{Joint}
+use Rattle.machine_model.proofs.coherence.LinePlaces.{piece}
+use Rattle.machine_model.proofs.order.Acts.{alone_grown, retired_known, retired_trace}
+use Rattle.machine_model.proofs.order.Buffers as buffers
+use Rattle.machine_model.proofs.order.Buffers.{KeepsBuffers}
+use Rattle.machine_model.proofs.order.Deeds.{Facts, FitsDeed}
+use Rattle.machine_model.proofs.order.Events.{IsFitPlan, plan_fit}
+use Rattle.machine_model.proofs.order.Last.{drained_elsewhere, drained_last, retired_last}
+use Rattle.machine_model.proofs.order.Moves.{OrderKept, done_same, drained_moves}
+use Rattle.machine_model.proofs.order.Traces.{done, operations_on}
+use Rattle.machine_model.proofs.runs.Runs.{AllStand}
 use Rattle.memory_model.specs.declared.MemoryModel.{MemoryModel}
 use Rattle.memory_model.specs.Order.{last_write}
 use Rattle.memory_model.specs.Traces.{instructions, last_performed, operations_at}

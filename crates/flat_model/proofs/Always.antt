@@ -24,12 +24,12 @@ use Rattle.machine_model.specs.Events.{IsBad, IsLimited, Moves, after_events, co
 use Rattle.machine_model.specs.Laws.{AreRunsOf, IsCompletedLegally}
 use Rattle.machine_model.specs.Ready.{AreReady}
 use Rattle.machine_model.specs.Views.{Node, State, node_at, no_node, opening, opening_node}
-use Rattle.machine_model.proofs.AtomicAlways.{legal_always}
-use Rattle.machine_model.proofs.JointAlways.{coherent_always, joint_always}
-use Rattle.machine_model.proofs.OrderEvents.{fresh, order_kept}
-use Rattle.machine_model.proofs.ReadyAlways.{after_one_more, ready_always, sound_always}
-use Rattle.machine_model.proofs.Runs.{runs_always}
-use Rattle.machine_model.proofs.WorldSlots.{reserved_is_trunk_always}
+use Rattle.machine_model.proofs.atomicity.Always.{legal_always}
+use Rattle.machine_model.proofs.bytes.Always.{coherent_always, joint_always}
+use Rattle.machine_model.proofs.order.Events.{fresh, order_kept}
+use Rattle.machine_model.proofs.ready.Always.{after_one_more, ready_always, sound_always}
+use Rattle.machine_model.proofs.runs.Runs.{runs_always}
+use Rattle.machine_model.proofs.coherence.WorldSlots.{reserved_is_trunk_always}
 use Rattle.trace_recorder.specs.History.{History}
 
 -- ---- one event

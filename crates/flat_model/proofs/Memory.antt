@@ -18,13 +18,13 @@ use Rattle.machine_model.specs.Views.{State, line_of, line_size, node_at}
 use Rattle.machine_model.specs.Words.{bytes_of_word, word_in, word_of}
 use Rattle.machine_model.specs.declared.act.Deed.{Deed}
 use Rattle.machine_model.specs.declared.act.Deed.TheVariants as deed
-use Rattle.machine_model.proofs.JointAlways.{Joint}
-use Rattle.machine_model.proofs.LinePlaces.{IsPiece, piece}
-use Rattle.machine_model.proofs.LineStands.{IsLast, Side, newest}
-use Rattle.machine_model.proofs.OrderBytes.{place_at}
-use Rattle.machine_model.proofs.OrderJoint.{coherent_holds}
-use Rattle.machine_model.proofs.OrderLast.{bytes_by}
-use Rattle.machine_model.proofs.OrderReturns.{AllHold}
+use Rattle.machine_model.proofs.bytes.Always.{Joint}
+use Rattle.machine_model.proofs.coherence.LinePlaces.{IsPiece, piece}
+use Rattle.machine_model.proofs.coherence.LineStands.{IsLast, Side, newest}
+use Rattle.machine_model.proofs.order.Bytes.{place_at}
+use Rattle.machine_model.proofs.order.Joint.{coherent_holds}
+use Rattle.machine_model.proofs.order.Last.{bytes_by}
+use Rattle.machine_model.proofs.order.Returns.{AllHold}
 use Rattle.memory_model.specs.Operations.{byte_at as number_byte}
 use Rattle.memory_model.specs.Traces.{last_performed}
 use Rattle.store_buffer.specs.ByteMask.{each_place, is_marked, marks_of_access}

@@ -25,7 +25,7 @@ use Rattle.machine_model.specs.Events.{plan_drain}
 use Rattle.machine_model.specs.Steps.{Fetched, plan_access, plan_amo, plan_sc, plan_fence, plan_instr, plan_load, plan_lr, plan_step, plan_store, plan_unless, retires, update, waits_for_stores, write_waits}
 use Rattle.machine_model.specs.Views.{Node, line_of}
 use Rattle.machine_model.specs.Words.{word_of, word_in, read_from, store_of}
-use Rattle.machine_model.proofs.OrderDeeds.{Facts, facts}
+use Rattle.machine_model.proofs.order.Deeds.{Facts, facts}
 use Rattle.memory_model.specs.declared.MemoryModel.{MemoryModel}
 use Rattle.memory_model.specs.declared.MemoryModel.TheVariants.{Rvwmo, Ztso}
 use Rattle.memory_model.specs.declared.operation.Kind.TheVariants as kind

@@ -4,7 +4,7 @@ use Rattle.std.specs.Prelude.{◌&&◌, not, if◌then◌else◌, filter}
 use Rattle.std.specs.List.{cons_option}
 use Rattle.std.proofs.lemmas.List.{length-append}
 use Rattle.std.proofs.lemmas.List.Elements.{filter-append, filter_map-append}
-use Rattle.machine_model.proofs.LogCounts.{bit}
+use Rattle.machine_model.proofs.log.Counts.{bit}
 use Rattle.machine_model.specs.LawfulLog.{concerns, grow_in, grows_taken, is_acquire, is_grant, is_grant_ack, is_probe, is_probe_ack, is_release, is_release_ack, is_sent, lost_after, lost_since_asking, sent_count, taken_count}
 use Rattle.lawful_log.specs.Facts.{CanCount, HaveRoom, counted, counted_as, goes_up, tallies_of, tally_of}
 use Rattle.lawful_log.specs.Followed.{grows_given}

@@ -5,8 +5,8 @@ use Rattle.std.proofs.lemmas.Bool.{eq-eqb}
 use Rattle.std.proofs.lemmas.Bool.Decides.{eqb_tells}
 use Rattle.std.proofs.lemmas.List.{append-nil, append_assoc}
 use mathlib.Core.Logic.{◌⊎◌, inl, inr}
-use Rattle.machine_model.proofs.LogCounts.{no_last, one_sent, one_taken}
-use Rattle.machine_model.proofs.LogLists.{comes_out, goes_in, is_in, one_more, part, sent_on_sent, sent_on_taken, taken_on_sent, taken_on_taken}
+use Rattle.machine_model.proofs.log.Counts.{no_last, one_sent, one_taken}
+use Rattle.machine_model.proofs.log.Lists.{comes_out, goes_in, is_in, one_more, part, sent_on_sent, sent_on_taken, taken_on_sent, taken_on_taken}
 use Rattle.machine_model.specs.LawfulLog.{IsBeginningOf, IsLawfulLog, is_on, may_send, sent_on, taken_on}
 use Rattle.lawful_log.proofs.Sends.{goes, goes_by}
 use Rattle.lawful_log.specs.Laws.{EntriesDecide}

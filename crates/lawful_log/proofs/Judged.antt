@@ -3,7 +3,7 @@ use Rattle.std.proofs.Common.{ℕ, Bool, true, false, List, ◌≡◌, ◌∙◌
 use Rattle.std.specs.Prelude.{◌↔◌, ◌&&◌, IsTrue, Option, not, unwrap_or}
 use Rattle.machine_model.specs.LawfulLog.{IsLawfulLog, asked_by_next, is_grant, is_grant_ack, is_of_line, is_probe, is_probe_ack, is_settled, lost_since_asking, no_grant_open, no_hart_probed}
 use Rattle.machine_model.specs.LogLaws.{AgreeInSum}
-use Rattle.machine_model.proofs.LogSums.{sums_agree}
+use Rattle.machine_model.proofs.log.Sums.{sums_agree}
 use Rattle.lawful_log.specs.Facts as by_facts
 use Rattle.lawful_log.specs.Facts.{GoesBy, KeepsBy, front_for, known_of, without_data}
 use Rattle.lawful_log.specs.Rules.{Obeys, KeepsGoing, fits_data, is_asked, may_go_by}

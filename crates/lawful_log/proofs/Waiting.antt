@@ -3,7 +3,7 @@ use Rattle.std.proofs.Common.{ℕ, Bool, true, false, List, [], ◌∷◌, ◌++
 use Rattle.std.specs.Prelude.{◌==◌, ◌&&◌, if◌then◌else◌, slice_get}
 use Rattle.std.proofs.lemmas.List.{append-nil}
 use mathlib.Core.Logic.{◌⊎◌, inl, inr}
-use Rattle.machine_model.proofs.LogLists.{comes_first, comes_out, goes_behind, goes_in, is_in, part, sent_on_sent, sent_on_taken, taken_on_sent, taken_on_taken}
+use Rattle.machine_model.proofs.log.Lists.{comes_first, comes_out, goes_behind, goes_in, is_in, part, sent_on_sent, sent_on_taken, taken_on_sent, taken_on_taken}
 use Rattle.machine_model.specs.LawfulLog.{is_on, sent_on, taken_on}
 use Rattle.lawful_log.proofs.Entries.{is_own_or_other}
 use Rattle.lawful_log.specs.Followed.{moved, waiting_after}

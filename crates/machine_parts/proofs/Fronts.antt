@@ -5,7 +5,7 @@ use Rattle.elf_loader.specs.Image.{Initial}
 use Rattle.elf_loader.specs.Size.{base}
 use Rattle.machine_model.specs.Events.{is_piece}
 use Rattle.machine_model.specs.Views.{place_of}
-use Rattle.machine_model.proofs.LinePlaces.{piece, place_inside}
+use Rattle.machine_model.proofs.coherence.LinePlaces.{piece, place_inside}
 use Rattle.tilelink_channels.specs.Queues.{front_of}
 use Rattle.tl_types.specs.Line.{length_of}
 use Rattle.tl_types.specs.declared.line.LineSize.{LineSize}

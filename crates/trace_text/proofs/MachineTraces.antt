@@ -12,9 +12,9 @@ use Rattle.machine_model.specs.Events.{after_events}
 use Rattle.machine_model.specs.Ranges.{CarriesWhole, HasCode, HasWords, IsInRange, IsOfMachine, NamesPlace, IsWhole}
 use Rattle.machine_model.specs.Ready.{IsSound}
 use Rattle.machine_model.specs.Views.{State, line_size, opening}
-use Rattle.machine_model.proofs.LinePlaces.{IsPiece, piece}
-use Rattle.machine_model.proofs.RangeLog.{in_range_always}
-use Rattle.machine_model.proofs.ReadyAlways.{sound_always}
+use Rattle.machine_model.proofs.coherence.LinePlaces.{IsPiece, piece}
+use Rattle.machine_model.proofs.ranges.Log.{in_range_always}
+use Rattle.machine_model.proofs.ready.Always.{sound_always}
 use Rattle.tl_types.specs.Line.{length_of}
 use Rattle.tl_types.specs.declared.line.LineData.{LineData}
 use Rattle.tl_types.specs.declared.line.LineData.TheVariants as lines

@@ -1,4 +1,4 @@
-use Rattle.machine_model.proofs.JointAlways.{coherent_always}
+use Rattle.machine_model.proofs.bytes.Always.{coherent_always}
 use Rattle.machine_model.proofs.joint_laws.coherent_always.Goals as goal
 
 pub returns : goal.returns

@@ -1,4 +1,4 @@
-use Rattle.machine_model.proofs.Batches.{local_is_steps}
+use Rattle.machine_model.proofs.runs.Batches.{local_is_steps}
 use Rattle.machine_model.proofs.laws.local_is_steps.Goals as goal
 
 pub returns : goal.returns

@@ -1,4 +1,4 @@
-use Rattle.machine_model.proofs.Runs.{runs_always}
+use Rattle.machine_model.proofs.runs.Runs.{runs_always}
 use Rattle.machine_model.proofs.laws.runs_always.Goals as goal
 
 pub returns : goal.returns

@@ -1,4 +1,4 @@
-use Rattle.machine_model.proofs.LogSums.{sums_agree}
+use Rattle.machine_model.proofs.log.Sums.{sums_agree}
 use Rattle.machine_model.proofs.log_laws.sums_agree.Goals as goal
 
 pub returns : goal.returns

@@ -1,4 +1,4 @@
-use Rattle.machine_model.proofs.OrderWhole.{order_always}
+use Rattle.machine_model.proofs.order.Whole.{order_always}
 use Rattle.machine_model.proofs.order_laws.order_always.Goals as goal
 
 pub returns : goal.returns

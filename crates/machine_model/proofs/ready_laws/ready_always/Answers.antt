@@ -1,4 +1,4 @@
-use Rattle.machine_model.proofs.ReadyAlways.{ready_always}
+use Rattle.machine_model.proofs.ready.Always.{ready_always}
 use Rattle.machine_model.proofs.ready_laws.ready_always.Goals as goal
 
 pub returns : goal.returns

@@ -1,4 +1,4 @@
-use Rattle.machine_model.proofs.ReadyAlways.{sound_always}
+use Rattle.machine_model.proofs.ready.Always.{sound_always}
 use Rattle.machine_model.proofs.ready_laws.sound_always.Goals as goal
 
 pub returns : goal.returns

@@ -1,6 +1,6 @@
-use Rattle.machine_model.proofs.OrderWhole.{performed_once_always}
-use Rattle.machine_model.proofs.RoomQueues.{queues_fit_always}
-use Rattle.machine_model.proofs.WorldSlots.{grants_have_slots_always, reserved_is_trunk_always}
+use Rattle.machine_model.proofs.order.Whole.{performed_once_always}
+use Rattle.machine_model.proofs.room.Queues.{queues_fit_always}
+use Rattle.machine_model.proofs.coherence.WorldSlots.{grants_have_slots_always, reserved_is_trunk_always}
 use Rattle.machine_model.proofs.room_laws.room_always.Goals as goal
 
 pub returns : goal.returns

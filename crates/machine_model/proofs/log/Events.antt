@@ -1,0 +1,70 @@
+-- Every act keeps the order of the queues, and so every list of events does.
+use Rattle.std.proofs.Common.{ℕ, ◌<◌, [], ◌≡◌, refl, ap, sym, ◌∙◌, subst, length, slice_index_or}
+use native.Mathlib.Omega.{arith}
+use Rattle.std.proofs.lemmas.List.FromFn.{get_or-map-range_with_len, length-map-range_with_len}
+use Rattle.elf_loader.specs.Image.{Initial}
+use Rattle.machine_model.specs.Changing.{acted}
+use Rattle.machine_model.specs.Deliveries.{taken}
+use Rattle.machine_model.specs.Events.{counted, happens, hart_of, plan_of}
+use Rattle.machine_model.specs.Laws.{Always}
+use Rattle.machine_model.proofs.log.Parts.{LogInOrderAlways}
+use Rattle.machine_model.specs.Views.{Node, State, node_at, opening, opening_node}
+use Rattle.machine_model.specs.declared.act.Act.{Act}
+use Rattle.machine_model.specs.declared.act.Act.TheVariants as act
+use Rattle.machine_model.specs.declared.act.Plan.TheVariants.{Changes}
+use Rattle.machine_model.specs.declared.config.Config.{Config}
+use Rattle.machine_model.specs.declared.event.Event.{Event}
+use Rattle.machine_model.proofs.log.Acts.{Delivers, acted_keeps, handled_keeps, same_nodes}
+use Rattle.machine_model.proofs.log.Always.{Anything, events_keep, happens_keeps}
+use Rattle.machine_model.proofs.log.Lists.{no_first}
+use Rattle.machine_model.proofs.log.Plans.{IsFrontPlan, plan_front_of}
+use Rattle.machine_model.proofs.log.Queues.{IsInOrder, IsQueueOrder, quiet_order, sent_order, taken_order}
+use Rattle.tilelink_channels.specs.Queues.{queue_of}
+use Rattle.tl_types.specs.declared.message.Channel.{Channel}
+use Rattle.tl_types.specs.declared.message.Channel.TheVariants.{A, B, C, D, E}
+
+delivers : (s : State) (h : ℕ) (a : Act) → IsInOrder s → h < length s.views.nodes → IsFrontPlan (node_at s h) (Changes a) → Delivers IsInOrder s h a
+delivers s h (act.Deliver m) i in_h front =
+    handled_keeps IsInOrder quiet_order (λ h m s is i. sent_order h m s i) (λ h m s. IsInOrder s) (λ h m s t. quiet_order s t) (λ h m s i. i)
+    (λ h line cap change bytes s i. sent_order h _ s i) (λ h line body s is i. sent_order h _ s i) (λ h line body s is i. sent_order h _ s i)
+    h m.line m.body (taken h m s) (taken_order h m s i front.0 in_h front.1)
+delivers s h (act.Stop code) i in_h front = tt
+delivers s h (act.Retire entry instr d) i in_h front = tt
+delivers s h (act.Miss line grow) i in_h front = tt
+delivers s h (act.Drain word) i in_h front = tt
+delivers s h (act.Evict line) i in_h front = tt
+delivers s h (act.Local count) i in_h front = tt
+
+acts : (s : State) (e : Event) (a : Act) → plan_of s e ≡ Changes a → hart_of e < length s.views.nodes → IsInOrder s → IsInOrder (acted (hart_of e) a s)
+acts s e a is in_h i = acted_keeps IsInOrder quiet_order (λ h m s is i. sent_order h m s i) (hart_of e) a s (delivers s (hart_of e) a i in_h (subst (IsFrontPlan (node_at s (hart_of e))) is (plan_front_of s i e in_h))) i
+
+counted_order : (s : State) → IsInOrder s → IsInOrder (counted s)
+counted_order s i = quiet_order s (counted s) (same_nodes s (counted s) refl refl).quiet i
+
+pub happens_order : (s : State) (e : Event) → IsInOrder s → IsInOrder (happens s e)
+happens_order s e i = happens_keeps Anything IsInOrder (λ s e g. tt) counted_order (λ s e a is in_h g i. acts s e a is in_h i) s e tt i
+
+-- nothing waits at reset
+pub opening_order : (image : Initial) (config : Config) → IsInOrder (opening image config)
+opening_order image config = record {
+  waiting = λ c k d l. empty c k d l;
+  moments = λ before rest e. subst IsQueueOrder (sym (no_first before rest e)) (λ c h. ([], refl));
+}
+  where
+    nothing : (image : Initial) (config : Config) (k : ℕ) (c : Channel) → queue_of (opening_node image config k).queues c ≡ []
+    nothing image config k A = refl
+    nothing image config k B = refl
+    nothing image config k C = refl
+    nothing image config k D = refl
+    nothing image config k E = refl
+
+    empty : (c : Channel) (k : ℕ) (d : Node) → k < length (opening image config).views.nodes → queue_of (slice_index_or (opening image config).views.nodes k d).queues c ≡ []
+    empty c k d l =
+        let within : k < config.harts = subst (λ n. k < n) (length-map-range_with_len (opening_node image config) 0 config.harts) l in
+        ap (λ (n : Node). queue_of n.queues c) (get_or-map-range_with_len (opening_node image config) 0 config.harts k k d within (omega arith)) ∙ nothing image config k c
+
+pub in_order_always : Always (λ image config s. IsInOrder s)
+in_order_always image config events is within = events_keep Anything IsInOrder (λ s e g. tt) counted_order (λ s e a is in_h g i. acts s e a is in_h i) events (opening image config) tt (opening_order image config)
+
+pub log_in_order_always : LogInOrderAlways
+log_in_order_always image config events is within c h before rest e = (in_order_always image config events is within).moments before rest e c h

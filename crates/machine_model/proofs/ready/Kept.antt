@@ -1,0 +1,261 @@
+-- How large everything is, in each state that a list of events leads to.
+use Rattle.std.proofs.Common.{ℕ, zero, suc, ◌+◌, ◌<◌, ◌≤◌, ◌%◌, Bool, true, false, List, [], ◌∷◌, ◌≡◌, refl, ap, sym, ◌∙◌, subst, length, map, slice_index_or}
+use Rattle.std.specs.Prelude.{◌==◌, ◌||◌, if◌then◌else◌, nat_le, nat_lt}
+use Rattle.std.proofs.lemmas.Bool.{and_parts, cases_lt, leb-false, ltb-false, ltb-true}
+use Rattle.std.proofs.lemmas.Bool.Decides.{eqb_tells}
+use Rattle.std.proofs.lemmas.List.{get_or-replicate, get_or_past, length-replicate}
+use Rattle.std.proofs.lemmas.List.FromFn.{length-map-range_with_len}
+use mathlib.Core.Logic.{◌⊎◌, inl, inr}
+use native.Mathlib.Omega.{arith}
+use Rattle.backing_memory.specs.Memory.{lines_of, pieces_of}
+use Rattle.client_cache.specs.Word.{with_word}
+use Rattle.elf_loader.specs.Image.{Initial}
+use Rattle.hart.specs.declared.retired.Retired.{Retired}
+use Rattle.machine_model.specs.Changing.{acted, place_at}
+use Rattle.machine_model.specs.Events.{after_events, counted, entries_by, happens, hart_of, is_good, is_limited, is_piece, most_changes, most_entries, names_well, plan_of}
+use Rattle.machine_model.specs.Laws.{KeepsImageAndConfig}
+use Rattle.machine_model.specs.Ready.{IsReadyAct, IsReadyBody, shape_of}
+use Rattle.machine_model.specs.Views.{Node, State, line_of, line_size, no_node, node_at, opening, opening_node, place_of, size_of_config}
+use Rattle.machine_model.specs.declared.act.Act.{Act}
+use Rattle.machine_model.specs.declared.act.Act.TheVariants as act
+use Rattle.machine_model.specs.declared.act.Deed.{Deed}
+use Rattle.machine_model.specs.declared.act.Deed.TheVariants as deed
+use Rattle.machine_model.specs.declared.act.Plan.{Plan}
+use Rattle.machine_model.specs.declared.act.Plan.TheVariants.{Stays, Changes}
+use Rattle.machine_model.specs.declared.config.Config.{Config}
+use Rattle.machine_model.specs.declared.event.Event.{Event}
+use Rattle.machine_model.proofs.Growth.{happens_follows}
+use Rattle.machine_model.proofs.coherence.LinePlaces.{place_inside}
+use Rattle.machine_model.proofs.log.Events.{happens_order, opening_order}
+use Rattle.machine_model.proofs.log.Plans.{IsFrontPlan, plan_front_of}
+use Rattle.machine_model.proofs.log.Queues.{IsInOrder}
+use Rattle.machine_model.proofs.order.Events.{fresh, opening_stand}
+use Rattle.machine_model.proofs.ready.Lists.{IsLonger, acted_longer}
+use Rattle.machine_model.proofs.ready.Messages.{IsLine, ready_message}
+use Rattle.machine_model.proofs.ready.Plans.{IsFound, plan_found}
+use Rattle.machine_model.proofs.ready.Sizes.{AllSized, IsSizedAct, Keeps, acted_keeps, word_size}
+use Rattle.machine_model.proofs.runs.Runs.{AllStand, happens_stand}
+use Rattle.machine_model.proofs.coherence.WorldEvents.{IsGoodPlan, counted_fits, good_event}
+use Rattle.machine_model.proofs.coherence.WorldFits.{IsFit}
+use Rattle.machine_model.proofs.coherence.WorldOpening.{opening_is_fit, opening_last}
+use Rattle.machine_model.proofs.coherence.WorldSteps.{last_after, last_by, wrote_word}
+use Rattle.store_buffer.specs.Entry.{entry_of}
+use Rattle.store_buffer.specs.Groups.{oldest}
+use Rattle.tl_types.specs.Line.{length_of, size_of}
+use Rattle.tl_types.specs.declared.line.LineData.{LineData}
+use Rattle.tl_types.specs.declared.line.LineData.TheVariants as data_of
+use Rattle.tl_types.specs.declared.line.LineSize.{LineSize}
+use Rattle.tl_types.specs.declared.line.LineSize.TheVariants.{Bytes16, Bytes64}
+use Rattle.tl_types.specs.declared.message.Body.{Body}
+use Rattle.tl_types.specs.declared.message.Body.TheVariants.{ProbeAckData, ReleaseData}
+use Rattle.trace_recorder.specs.History.{entries_of}
+
+pub record IsSized (s : State) : Type 0 where
+  pub stand : AllStand s
+  pub order : IsInOrder s
+  pub last : ℕ → LineData
+  pub fit : IsFit s last
+  pub lines : (l : ℕ) → IsLine s l → size_of (last l) ≡ line_size s
+  pub cells : AllSized (line_size s) s.views.memory
+  pub shapes : (h : ℕ) → (node_at s h).cache.shape ≡ shape_of s
+  pub harts : s.views.notes.harts ≡ s.views.config.harts
+  pub changes : s.views.changes ≤ most_changes
+  pub places : (h : ℕ) → length (entries_of s.trace h) ≤ most_entries
+
+-- ---- lines' last writes
+
+wrote_size : (size : LineSize) (last : ℕ → LineData) (word : ℕ) (marks : List Bool) (bytes : List ℕ) (q : ℕ) → size_of (wrote_word size last word marks bytes q) ≡ size_of (last q)
+wrote_size size last word marks bytes q = go (q == line_of size word)
+  where
+    go : (t : Bool) → size_of (if t then with_word (last q) word marks bytes else last q) ≡ size_of (last q)
+    go true = word_size (last q) word marks bytes
+    go false = refl
+
+by_deed : (size : LineSize) (d : Deed) (last : ℕ → LineData) (q : ℕ) → size_of (last_by size d last q) ≡ size_of (last q)
+by_deed size (deed.Sc word value) last q = wrote_size size last word _ _ q
+by_deed size (deed.Amo word value) last q = wrote_size size last word _ _ q
+by_deed size _ last q = refl
+
+last_size : (s : State) (h : ℕ) (a : Act) (last : ℕ → LineData) (q : ℕ) → size_of (last_after s h a last q) ≡ size_of (last q)
+last_size s h (act.Retire entry i d) last q = by_deed (line_size s) d last q
+last_size s h (act.Drain word) last q = let e = entry_of word (oldest (node_at s h).buffer) in wrote_size (line_size s) last word e.mask e.bytes q
+last_size s h _ last q = refl
+
+-- ---- an act
+
+-- the limits were tested
+record IsUnlimited (s : State) (h : ℕ) (a : Act) : Type 0 where
+  few_changes : s.views.changes < most_changes
+  few_entries : place_at s h + entries_by a ≤ most_entries
+
+unlimited : (s : State) (h : ℕ) (a : Act) → is_limited s h a ≡ false → IsUnlimited s h a
+unlimited s h a e = go (nat_le most_changes s.views.changes) refl (nat_lt most_entries (place_at s h + entries_by a)) refl e
+  where
+    go : (t : Bool) → nat_le most_changes s.views.changes ≡ t → (u : Bool) → nat_lt most_entries (place_at s h + entries_by a) ≡ u → t || u ≡ false → IsUnlimited s h a
+    go true f u g e = cc e
+    go false f true g e = cc e
+    go false f false g e = record { few_changes = leb-false most_changes s.views.changes f; few_entries = ltb-false most_entries (place_at s h + entries_by a) g }
+
+-- an event that changes the machine
+module _ (s : State) (k : IsSized s) (e : Event) (a : Act) (good : is_good s e ≡ true) (planned : plan_of s e ≡ Changes a) where
+  abbrev hart : ℕ
+  hart = hart_of e
+
+  in_h : hart < length s.views.nodes
+  in_h = ltb-true _ _ (and_parts (nat_lt (hart_of e) (length s.views.nodes)) (names_well s e) good).0
+
+  well : names_well s e ≡ true
+  well = (and_parts (nat_lt (hart_of e) (length s.views.nodes)) (names_well s e) good).1
+
+  pub act_ready : IsReadyAct hart a s
+  act_ready = go a (subst (IsFrontPlan (node_at s hart)) planned (plan_front_of s k.order e in_h)) (subst (IsFound s k.last k.fit hart) planned (plan_found s k.last k.fit e well))
+    where
+      go : (b : Act) → IsFrontPlan (node_at s hart) (Changes b) → IsFound s k.last k.fit hart (Changes b) → IsReadyAct hart b s
+      go (act.Stop code) front found = tt
+      go (act.Retire entry i d) front found = found
+      go (act.Miss line grow) front found = tt
+      go (act.Drain word) front found = found
+      go (act.Evict line) front found = tt
+      go (act.Deliver m) front found = ready_message s k.last k.fit k.lines hart m front
+      go (act.Local count) front found = tt
+
+  sized : IsSizedAct (line_size s) a
+  sized = go a act_ready
+    where
+      carried : (line : ℕ) (body : Body) → IsReadyBody hart line body s → IsSizedAct (line_size s) (act.Deliver (record { line = line; body = body }))
+      carried line (ProbeAckData change bytes) is = is.1
+      carried line (ReleaseData change bytes) is = is
+      carried line _ is = tt
+
+      go : (b : Act) → IsReadyAct hart b s → IsSizedAct (line_size s) b
+      go (act.Deliver m) is = carried m.line m.body is.body
+      go _ is = tt
+
+  module _ (free : is_limited s hart a ≡ false) where
+    pub moves : happens s e ≡ counted (acted hart a s)
+    moves = rw (good, planned, free) refl
+
+    stays : KeepsImageAndConfig s (counted (acted hart a s))
+    stays = subst (KeepsImageAndConfig s) moves (happens_follows s e).stays
+
+    kept : Keeps (line_size s) s.views (acted hart a s).views
+    kept = acted_keeps (line_size s) hart a s sized
+
+    longer : IsLonger hart (entries_by a) s.trace.entries (acted hart a s).trace.entries
+    longer = acted_longer hart a s
+
+    few : IsUnlimited s hart a
+    few = unlimited s hart a free
+
+    pub moved_sized : IsSized (counted (acted hart a s))
+    moved_sized = record {
+      stand = subst AllStand moves (happens_stand s e k.stand);
+      order = subst IsInOrder moves (happens_order s e k.order);
+      last = last_after s hart a k.last;
+      fit = counted_fits (acted hart a s) (last_after s hart a k.last) (subst (IsGoodPlan s k.last hart) planned (good_event s k.last k.fit e in_h well)).0;
+      lines = λ l on. last_size s hart a k.last l ∙ (k.lines l (there l on) ∙ same_size);
+      cells = subst (λ size. AllSized size (acted hart a s).views.memory) same_size (kept.cells k.cells);
+      shapes = shapes;
+      harts = kept.harts ∙ (k.harts ∙ ap (λ (c : Config). c.harts) (sym stays.config));
+      changes = omega (arith, kept.changes, few.few_changes);
+      places = λ j. places j (eqb_tells j hart);
+    }
+      where
+        same_size : line_size s ≡ line_size (counted (acted hart a s))
+        same_size = ap size_of_config (sym stays.config)
+
+        there : (l : ℕ) → IsLine (counted (acted hart a s)) l → IsLine s l
+        there l on = subst (λ (image : Initial). is_piece image l (length_of (line_size s)) ≡ true) stays.image (subst (λ size. is_piece (acted hart a s).trace.image l (length_of size) ≡ true) (sym same_size) on)
+
+        blank : no_node (counted (acted hart a s)) ≡ no_node s
+        blank = rw (stays.image, stays.config) refl
+
+        shapes : (j : ℕ) → (node_at (counted (acted hart a s)) j).cache.shape ≡ shape_of (counted (acted hart a s))
+        shapes j =
+            kept.shapes j (no_node (counted (acted hart a s)))
+            ∙ (ap (λ (d : Node). (slice_index_or s.views.nodes j d).cache.shape) blank
+            ∙ (k.shapes j ∙ ap (λ (c : Config). record { sets = c.sets; ways = c.ways; size = size_of_config c }) (sym stays.config)))
+
+        places : (j : ℕ) → (((j == hart) ≡ true) × (j ≡ hart)) ⊎ (((j == hart) ≡ false) × (j ≡ hart → ⊥)) → length (entries_of (counted (acted hart a s)).trace j) ≤ most_entries
+        places j (inl is) = subst (λ i. length (entries_of (counted (acted hart a s)).trace i) ≤ most_entries) (sym is.1) (omega (arith, longer.here, few.few_entries))
+        places j (inr is) = subst (λ (row : List Retired). length row ≤ most_entries) (sym (longer.there j is.1)) (k.places j)
+
+-- ---- any event
+
+happens_sized : (s : State) (e : Event) → IsSized s → IsSized (happens s e)
+happens_sized s e k = good (is_good s e) refl
+  where
+    moves_on : (a : Act) → is_good s e ≡ true → plan_of s e ≡ Changes a → (t : Bool) → is_limited s (hart_of e) a ≡ t → IsSized (happens s e)
+    moves_on a is planned true limited = subst IsSized (sym stays_here) k
+      where
+        stays_here : happens s e ≡ s
+        stays_here = rw (is, planned, limited) refl
+    moves_on a is planned false free = subst IsSized (sym (moves s k e a is planned free)) (moved_sized s k e a is planned free)
+
+    by_plan : is_good s e ≡ true → (p : Plan) → plan_of s e ≡ p → IsSized (happens s e)
+    by_plan is (Stays o) planned = subst IsSized (sym stays_here) k
+      where
+        stays_here : happens s e ≡ s
+        stays_here = rw (is, planned) refl
+    by_plan is (Changes a) planned = moves_on a is planned (is_limited s (hart_of e) a) refl
+
+    good : (t : Bool) → is_good s e ≡ t → IsSized (happens s e)
+    good true is = by_plan is (plan_of s e) refl
+    good false is = subst IsSized (sym stays_here) k
+      where
+        stays_here : happens s e ≡ s
+        stays_here = rw is refl
+
+pub events_sized : (events : List Event) (s : State) → IsSized s → IsSized (after_events s events)
+events_sized [] s k = k
+events_sized (e ∷ events) s k = events_sized events (happens s e) (happens_sized s e k)
+
+-- ---- from reset
+
+lines_sized : (size : LineSize) (bytes : List ℕ) → AllSized size (lines_of size bytes)
+lines_sized Bytes16 bytes = go (pieces_of 16 bytes)
+  where
+    go : (pieces : List (List ℕ)) → AllSized Bytes16 (map data_of.Bytes16 pieces)
+    go [] k lt = absurd (omega arith)
+    go (piece ∷ pieces) zero lt = refl
+    go (piece ∷ pieces) (suc k) lt = go pieces k (omega arith)
+lines_sized Bytes64 bytes = go (pieces_of 64 bytes)
+  where
+    go : (pieces : List (List ℕ)) → AllSized Bytes64 (map data_of.Bytes64 pieces)
+    go [] k lt = absurd (omega arith)
+    go (piece ∷ pieces) zero lt = refl
+    go (piece ∷ pieces) (suc k) lt = go pieces k (omega arith)
+
+pub opening_sized : (image : Initial) (config : Config) → length image.bytes % 4096 ≡ 0 → IsSized (opening image config)
+opening_sized image config pages = record {
+  stand = opening_stand image config;
+  order = opening_order image config;
+  last = opening_last image config;
+  fit = fit;
+  lines = λ l on. cells (place_of size l) (rw fit.well.memory_room (place_inside image size l on));
+  cells = cells;
+  shapes = λ h. shapes h (cases_lt h config.harts);
+  harts = refl;
+  changes = omega arith;
+  places = λ h. places h (cases_lt h config.harts);
+}
+  where
+    size : LineSize
+    size = size_of_config config
+
+    fit : IsFit (opening image config) (opening_last image config)
+    fit = opening_is_fit image config pages
+
+    cells : AllSized (size_of_config config) (lines_of (size_of_config config) image.bytes)
+    cells = lines_sized (size_of_config config) image.bytes
+
+    shapes : (h : ℕ) → (h < config.harts) ⊎ (config.harts ≤ h) → (node_at (opening image config) h).cache.shape ≡ shape_of (opening image config)
+    shapes h (inl lt) = ap (λ (n : Node). n.cache.shape) (fresh image config h lt)
+    shapes h (inr past) = ap (λ (n : Node). n.cache.shape) (get_or_past (opening image config).views.nodes h (no_node (opening image config)) (rw (length-map-range_with_len (opening_node image config) 0 config.harts) past))
+
+    none : (row : List Retired) → row ≡ [] → length row ≤ most_entries
+    none row e = rw e (omega arith)
+
+    places : (h : ℕ) → (h < config.harts) ⊎ (config.harts ≤ h) → length (entries_of (opening image config).trace h) ≤ most_entries
+    places h (inl lt) = none (entries_of (opening image config).trace h) (get_or-replicate config.harts h [] [] lt)
+    places h (inr past) = none (entries_of (opening image config).trace h) (get_or_past (opening image config).trace.entries h [] (rw (length-replicate {A = List Retired} config.harts []) past))
