@@ -2,29 +2,14 @@
 //! the change.
 #![tactic(auto)]
 
-mod accesses;
-mod acts;
 mod applying;
-mod arriving;
 mod caches;
-mod client;
-mod committing;
-mod deciding;
-mod deeds;
-mod deliveries;
-mod draining;
 mod errors;
 mod limits;
-mod manager;
-mod messages;
 mod node;
 mod parts;
-mod performing;
-mod planning;
-mod planning_rows;
-mod retiring;
-mod retiring_rows;
-mod stepping;
+mod perform;
+mod plan;
 mod words;
 
 pub use errors::ApplyError;

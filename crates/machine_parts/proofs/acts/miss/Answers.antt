@@ -1,7 +1,0 @@
-use Rattle.machine_parts.specs.Parts.{state_of}
-use Rattle.tl_types.specs.declared.message.Body.TheVariants.{AcquireBlock}
-use Rattle.machine_parts.proofs.Rooms.{had_room_after}
-use Rattle.machine_parts.proofs.acts.miss.Goals as goal
-
-pub send-requires-clause-queue : goal.send-requires-clause-queue
-send-requires-clause-queue c = had_room_after c.args.hart (record { line = c.args.line; body = AcquireBlock c.args.grow }) _ (state_of c.args.parts.now) (state_of c.ask.new.parts) c.ask.ensures.state c.requires.hart c.requires.room_in_queue

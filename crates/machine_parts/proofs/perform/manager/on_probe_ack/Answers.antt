@@ -1,0 +1,18 @@
+use Rattle.std.proofs.Common.{ℕ, ap, sym, ◌∙◌, Option}
+use Rattle.directory.specs.Directory.{Notes, probe_acked}
+use Rattle.directory.specs.declared.answer.Grant.{Grant}
+use Rattle.machine_parts.specs.Handled.{written_back}
+use Rattle.machine_parts.specs.Parts.{state_of}
+use Rattle.machine_parts.proofs.Answered.{fit_granted}
+use Rattle.machine_parts.proofs.perform.manager.on_probe_ack.Goals as goal
+
+abbrev pair : Notes → Option Grant → Option Grant × Notes
+pair notes answer = (answer, notes)
+
+pub send_grant-requires-clause-queues : goal.send_grant-requires-clause-queues
+send_grant-requires-clause-queues g c =
+    let s = state_of c.args.parts.now in
+    fit_granted c.args.hart c.args.line c.args.change c.args.bytes s c.in-Some.grant c.on_probe_ack.new.self c.write_back.new.memory
+    (ap (pair c.on_probe_ack.new.self) (sym c.in-Some.is) ∙ c.on_probe_ack.ensures.meaning ∙ ap (λ (place : ℕ). probe_acked s.views.notes place c.args.hart c.args.change) c.place_of-place.ensures)
+    (c.write_back.ensures ∙ ap (λ (place : ℕ). written_back place c.args.bytes s.views.memory) c.place_of-place.ensures)
+    c.requires.queues

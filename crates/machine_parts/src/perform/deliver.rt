@@ -1,0 +1,76 @@
+//! What the delivery of a message changes.
+
+ghost use Rattle.std.specs.Prelude.{◌≡◌, ◌+◌, ◌<◌, ◌≤◌, length};
+ghost use Rattle.machine_model.specs.Deliveries.{delivered, handled};
+ghost use Rattle.machine_model.specs.Laws.{QueuesFit};
+ghost use Rattle.machine_model.specs.Ready.{IsReadyBody, IsReadyMessage, IsSound};
+ghost use Rattle.machine_model.specs.Views.{line_size, node_at};
+ghost use Rattle.machine_model.specs.declared.act.Act.{Act};
+ghost use Rattle.machine_parts.specs.Handled.{HasLine};
+ghost use Rattle.machine_parts.specs.Needs.{HasNeeded, needs_of};
+ghost use Rattle.machine_parts.specs.Parts.{state_of};
+
+use super::client::{on_grant, on_probe, on_release_ack};
+use super::manager::{on_acquire, on_grant_ack, on_probe_ack, on_release};
+use super::messages::take;
+use crate::parts::Parts;
+use std::marker::Brand;
+use std::sync::ledger::{Blank, Ledger};
+use tl_types::{Body, Msg, Ticks};
+
+/// What the manager or the cache does with a message that it has taken.
+fn handle<L: Ledger>(parts: &mut Parts, hart: u8, message: &Msg, ticks: &mut Ticks<L>)
+    requires hart { hart < length parts.old.nodes.items }
+    requires harts { parts.old.directory.harts ≡ length parts.old.nodes.items }
+    requires line { HasLine message.now.line (state_of parts.old) }
+    requires size { (node_at (state_of parts.old) hart).cache.shape.size ≡ line_size (state_of parts.old) }
+    requires body { IsReadyBody hart message.now.line message.now.body (state_of parts.old) }
+    requires queues { QueuesFit (handled hart message.now.line message.now.body (state_of parts.old)) }
+    requires log { length parts.old.nodes.items ≤ parts.old.trace.room.log }
+    ensures { state_of parts.new ≡ handled hart message.now.line message.now.body (state_of parts.old) }
+{
+    let line = message.line;
+    match message.body {
+        Body::AcquireBlock(grow) => on_acquire(parts, hart, line, grow, ticks),
+        Body::ProbeBlock(cap) => on_probe(parts, hart, line, cap, ticks),
+        Body::ProbeAck(change) => on_probe_ack(parts, hart, line, change, None, ticks),
+        Body::ProbeAckData { change, bytes } => {
+            on_probe_ack(parts, hart, line, change, Some(bytes), ticks)
+        }
+        Body::Release(_) => on_release(parts, hart, line, None, ticks),
+        Body::ReleaseData { bytes, .. } => on_release(parts, hart, line, Some(bytes), ticks),
+        Body::Grant(cap) => on_grant(parts, hart, line, cap, None, ticks),
+        Body::GrantData { cap, bytes } => on_grant(parts, hart, line, cap, Some(bytes), ticks),
+        Body::ReleaseAck => on_release_ack(parts, hart, line),
+        Body::GrantAck => on_grant_ack(parts, line, ticks),
+    }
+}
+
+fn take_and_handle<L: Ledger>(parts: &mut Parts, hart: u8, message: &Msg, blank: Blank)
+    requires name { blank.name ≡ L.name }
+    requires parts { blank.parts ≡ L.parts }
+    requires some { 0 < L.parts }
+    requires sound { IsSound (state_of parts.old) }
+    requires hart { hart < length parts.old.nodes.items }
+    requires ready { IsReadyMessage hart message.now (state_of parts.old) }
+    requires queues { QueuesFit (delivered hart message.now (state_of parts.old)) }
+    requires log { 1 + length parts.old.nodes.items ≤ parts.old.trace.room.log }
+    ensures { state_of parts.new ≡ delivered hart message.now (state_of parts.old) }
+{
+    take(parts, hart, message);
+    let mut ticks: Ticks<L> = Ticks::new(blank);
+    handle(parts, hart, message, &mut ticks);
+}
+
+/// The message leaves the front of its queue and is handled: the log has it first, and then what is
+/// sent.
+pub(crate) fn deliver(parts: &mut Parts, hart: u8, message: &Msg)
+    requires sound { IsSound (state_of parts.old) }
+    requires hart { hart < length parts.old.nodes.items }
+    requires ready { IsReadyMessage hart message.now (state_of parts.old) }
+    requires queues { QueuesFit (delivered hart message.now (state_of parts.old)) }
+    requires room { HasNeeded hart (needs_of (state_of parts.old) hart (Act.Deliver message.now)) parts.old.trace.room }
+    ensures { state_of parts.new ≡ delivered hart message.now (state_of parts.old) }
+{
+    take_and_handle::<Brand>(parts, hart, message, Blank::new(1));
+}

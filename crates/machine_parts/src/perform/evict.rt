@@ -1,0 +1,67 @@
+//! What an eviction changes: a Release goes out.
+
+ghost use Rattle.std.specs.Prelude.{◌≡◌, ◌<◌, length};
+ghost use Rattle.client_cache.specs.Cache.{evicted};
+ghost use Rattle.machine_model.specs.declared.act.Act.TheVariants as act;
+ghost use Rattle.machine_model.specs.Changing.{given_up, release_body as spec_release_body};
+ghost use Rattle.machine_model.specs.Deliveries.{with_less};
+ghost use Rattle.machine_model.specs.Laws.{QueuesFit};
+ghost use Rattle.machine_model.specs.Ready.{IsSound};
+ghost use Rattle.machine_model.specs.Views.{node_at, with_node};
+ghost use Rattle.machine_parts.specs.Needs.{HasNeeded, needs_of};
+ghost use Rattle.machine_parts.specs.Parts.{state_of};
+
+use super::messages::send;
+use crate::caches::evict;
+use crate::node::Node;
+use crate::parts::Parts;
+use client_cache::Evict;
+use tl_types::{Body, Change, LineData, LineSize, Msg};
+
+/// The cache gives a line up, and a Release goes out.
+pub(crate) fn give_up(parts: &mut Parts, hart: u8, line: u32)
+    requires sound { IsSound (state_of parts.old) }
+    requires hart { hart < length parts.old.nodes.items }
+    requires room { HasNeeded hart (needs_of (state_of parts.old) hart (act.Evict line)) parts.old.trace.room }
+    requires room_in_queue { QueuesFit (given_up hart line (state_of parts.old)) }
+    ensures { state_of parts.new ≡ given_up hart line (state_of parts.old) }
+{
+    match lose(parts, hart, line) {
+        Evict::Evicted { change, bytes } => {
+            let body = release_body(change, bytes);
+            send(parts, hart, &Msg { line, body });
+        }
+        Evict::NotHeld | Evict::AcquirePending | Evict::ReleaseFull => {}
+    }
+}
+
+fn release_body(change: Change, bytes: Option<LineData>) -> Body
+    ensures { result ≡ spec_release_body change bytes }
+{
+    match bytes {
+        None => Body::Release(change),
+        Some(bytes) => Body::ReleaseData { change, bytes },
+    }
+}
+
+// The copy leaves, and a reservation of one of the line's words with it.
+fn lose(parts: &mut Parts, hart: u8, line: u32) -> Evict
+    requires sound { IsSound (state_of parts.old) }
+    requires hart { hart < length parts.old.nodes.items }
+    ensures answer { result ≡ (evicted (node_at (state_of parts.old) hart).cache line).0 }
+    ensures state { state_of parts.new ≡ with_node hart (with_less (evicted (node_at (state_of parts.old) hart).cache line).1 line (node_at (state_of parts.old) hart)) (state_of parts.old) }
+    ensures trace { parts.new.trace ≡ parts.old.trace }
+{
+    let size = parts.trace.line_size();
+    lose_copy(&mut parts.nodes[hart as usize], size, line)
+}
+
+fn lose_copy(node: &mut Node, size: LineSize, line: u32) -> Evict
+    requires size { size ≡ node.old.cache.shape.size }
+    ensures answer { result ≡ (evicted node.old.cache line).0 }
+    ensures node { node.new ≡ with_less (evicted node.old.cache line).1 line node.old }
+{
+    let answer = evict(&mut node.cache, line);
+    node.keep_reservation(size, line);
+    answer
+}

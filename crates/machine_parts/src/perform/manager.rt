@@ -1,0 +1,183 @@
+//! What the manager does with a message that it has taken.
+
+ghost use Rattle.std.specs.Prelude.{◌≡◌, ◌≢◌, ◌<◌, ◌≤◌, All, length};
+ghost use Rattle.backing_memory.specs.Memory.{line_at};
+ghost use Rattle.directory.specs.Directory.{SendsToHarts};
+ghost use Rattle.elf_loader.specs.Size.{base};
+ghost use Rattle.machine_model.specs.Deliveries.{grant_body, line_in_memory, on_acquire, on_grant_ack, on_probe_ack, on_release, sent_any, sent_grant, sent_probes};
+ghost use Rattle.machine_model.specs.Laws.{QueuesFit};
+ghost use Rattle.machine_model.specs.Views.{line_size, place_of};
+ghost use Rattle.machine_parts.specs.Handled.{HasLine, HasSize, count_of, written_back};
+ghost use Rattle.machine_parts.specs.Parts.{state_of};
+ghost use Rattle.tl_types.specs.Line.{size_of};
+ghost use Rattle.tl_types.specs.Permission.{left_by};
+
+use super::messages::send;
+use crate::parts::{Parts, line_size};
+use backing_memory::Memory;
+use directory::{Acquired, Grant, HartSet, Sent};
+use elf_loader::BASE;
+use std::sync::ledger::Ledger;
+use tl_types::{Body, Cap, Change, Grow, LineData, Msg, Perm, Ticks};
+
+/// The place in memory of the line that begins at this address.
+fn place_of(parts: &Parts, line: u32) -> u32
+    requires { base ≤ line }
+    ensures { result ≡ place_of (line_size (state_of parts.now)) line }
+{
+    (line - BASE) / line_size(&parts.config).bytes()
+}
+
+/// Data that came with a message go to memory.
+fn write_back(memory: &mut Memory, place: u32, bytes: Option<LineData>)
+    requires place { place < length memory.old }
+    requires bytes { HasSize (size_of (line_at memory.old place)) bytes }
+    ensures { memory.new ≡ written_back place bytes memory.old }
+{
+    if let Some(bytes) = bytes {
+        memory.set_line(place, bytes);
+    }
+}
+
+/// The body of a Grant; its data are memory's.
+fn grant_body(parts: &Parts, line: u32, grant: Grant) -> Body
+    requires low { base ≤ line }
+    requires kept { place_of (line_size (state_of parts.now)) line < length parts.now.memory }
+    ensures { result ≡ grant_body grant (line_in_memory (state_of parts.now) line) }
+{
+    if !grant.with_data {
+        return Body::Grant(grant.cap);
+    }
+    Body::GrantData {
+        cap: grant.cap,
+        bytes: parts.memory.line(place_of(parts, line)),
+    }
+}
+
+/// Sends a Grant, of which the manager has taken note.
+fn send_grant(parts: &mut Parts, line: u32, grant: Grant)
+    requires low { base ≤ line }
+    requires kept { place_of (line_size (state_of parts.old)) line < length parts.old.memory }
+    requires hart { grant.hart < length parts.old.nodes.items }
+    requires queues { QueuesFit (sent_grant line grant (state_of parts.old)) }
+    requires log { 0 < parts.old.trace.room.log }
+    ensures { state_of parts.new ≡ sent_grant line grant (state_of parts.old) }
+{
+    let body = grant_body(parts, line, grant);
+    send(parts, grant.hart, &Msg { line, body });
+}
+
+/// Sends a Probe to each of these harts.
+fn send_probes(parts: &mut Parts, harts: HartSet, line: u32, cap: Cap)
+    requires harts { All (λ hart. hart < length parts.old.nodes.items) harts }
+    requires queues { QueuesFit (sent_probes harts line cap (state_of parts.old)) }
+    requires log { length harts ≤ parts.old.trace.room.log }
+    ensures { state_of parts.new ≡ sent_probes harts line cap (state_of parts.old) }
+{
+    let message = Msg {
+        line,
+        body: Body::ProbeBlock(cap),
+    };
+    for hart in harts.iter() {
+        send(parts, hart, &message);
+    }
+}
+
+/// Sends what an Acquire has the manager send.
+fn send_any(parts: &mut Parts, line: u32, sent: Sent)
+    requires low { base ≤ line }
+    requires kept { place_of (line_size (state_of parts.old)) line < length parts.old.memory }
+    requires harts { SendsToHarts (length parts.old.nodes.items) sent }
+    requires queues { QueuesFit (sent_any line sent (state_of parts.old)) }
+    requires log { count_of sent ≤ parts.old.trace.room.log }
+    ensures { state_of parts.new ≡ sent_any line sent (state_of parts.old) }
+{
+    match sent {
+        Sent::Probes(cap, harts) => send_probes(parts, harts, line, cap),
+        Sent::Granting(grant) => send_grant(parts, line, grant),
+    }
+}
+
+/// An Acquire: Probes to those who stand in its way, or the Grant.
+pub(crate) fn on_acquire<L: Ledger>(
+    parts: &mut Parts,
+    hart: u8,
+    line: u32,
+    grow: Grow,
+    ticks: &mut Ticks<L>,
+)
+    requires hart { hart < parts.old.directory.harts }
+    requires harts { parts.old.directory.harts ≡ length parts.old.nodes.items }
+    requires line { HasLine line (state_of parts.old) }
+    requires queues { QueuesFit (on_acquire hart line grow (state_of parts.old)) }
+    requires log { length parts.old.nodes.items ≤ parts.old.trace.room.log }
+    ensures { state_of parts.new ≡ on_acquire hart line grow (state_of parts.old) }
+{
+    let place = place_of(parts, line);
+    if let Acquired::Handled(sent) = parts.directory.on_acquire(place, hart, grow, ticks) {
+        send_any(parts, line, sent);
+    }
+}
+
+/// A Release: its data go to memory, and it is answered at once.
+pub(crate) fn on_release<L: Ledger>(
+    parts: &mut Parts,
+    hart: u8,
+    line: u32,
+    bytes: Option<LineData>,
+    ticks: &mut Ticks<L>,
+)
+    requires hart { hart < length parts.old.nodes.items }
+    requires noted { hart < parts.old.directory.harts }
+    requires line { HasLine line (state_of parts.old) }
+    requires bytes { HasSize (line_size (state_of parts.old)) bytes }
+    requires queues { QueuesFit (on_release hart line bytes (state_of parts.old)) }
+    requires log { 0 < parts.old.trace.room.log }
+    ensures { state_of parts.new ≡ on_release hart line bytes (state_of parts.old) }
+{
+    let place = place_of(parts, line);
+    write_back(&mut parts.memory, place, bytes);
+    parts.directory.on_release(place, hart, ticks);
+    send(
+        parts,
+        hart,
+        &Msg {
+            line,
+            body: Body::ReleaseAck,
+        },
+    );
+}
+
+/// A ProbeAck: its data go to memory, and the last one that was awaited sends the Grant.
+pub(crate) fn on_probe_ack<L: Ledger>(
+    parts: &mut Parts,
+    hart: u8,
+    line: u32,
+    change: Change,
+    bytes: Option<LineData>,
+    ticks: &mut Ticks<L>,
+)
+    requires hart { hart < parts.old.directory.harts }
+    requires harts { parts.old.directory.harts ≡ length parts.old.nodes.items }
+    requires line { HasLine line (state_of parts.old) }
+    requires shrinks { left_by change ≢ Perm.Trunk }
+    requires bytes { HasSize (line_size (state_of parts.old)) bytes }
+    requires queues { QueuesFit (on_probe_ack hart line change bytes (state_of parts.old)) }
+    requires log { 0 < parts.old.trace.room.log }
+    ensures { state_of parts.new ≡ on_probe_ack hart line change bytes (state_of parts.old) }
+{
+    let place = place_of(parts, line);
+    write_back(&mut parts.memory, place, bytes);
+    if let Some(grant) = parts.directory.on_probe_ack(place, hart, change, ticks) {
+        send_grant(parts, line, grant);
+    }
+}
+
+/// A GrantAck ends the line's transaction.
+pub(crate) fn on_grant_ack<L: Ledger>(parts: &mut Parts, line: u32, ticks: &mut Ticks<L>)
+    requires { HasLine line (state_of parts.old) }
+    ensures { state_of parts.new ≡ on_grant_ack line (state_of parts.old) }
+{
+    let place = place_of(parts, line);
+    parts.directory.on_grant_ack(place, ticks);
+}

@@ -1,0 +1,77 @@
+//! What an instruction that retires changes.
+
+ghost use Rattle.std.specs.Prelude.{◌≡◌, ◌<◌, OnErr, OnOk, length, slice_index};
+ghost use Rattle.machine_model.specs.declared.act.Act.TheVariants as act;
+ghost use Rattle.machine_model.specs.Changing.{does, place_at, retired, stopped, with_halt};
+ghost use Rattle.machine_model.specs.Ready.{IsReadyDeed, IsSound};
+ghost use Rattle.machine_parts.specs.Needs.{HasNeeded, needs_of};
+ghost use Rattle.machine_parts.specs.Parts.{state_of};
+ghost use Rattle.trace_recorder.specs.History.{entries_of};
+
+use super::deed::carry_out;
+use crate::parts::Parts;
+use hart::{Retired, Status};
+use machine_model::Deed;
+use rv32_decode::Instr;
+use std::alloc::AllocError;
+use trace_recorder::Trace;
+
+/// The instruction retires with its entry, and does its deed. An error leaves everything as it was.
+pub(crate) fn retire(
+    parts: &mut Parts,
+    hart: u8,
+    entry: &Retired,
+    instr: &Instr,
+    deed: &Deed,
+) -> Result<(), AllocError>
+    requires sound { IsSound (state_of parts.old) }
+    requires hart { hart < length parts.old.nodes.items }
+    requires few { place_at (state_of parts.old) hart < 1000000 }
+    requires room { HasNeeded hart (needs_of (state_of parts.old) hart (act.Retire entry.now instr.now deed.now)) parts.old.trace.room }
+    requires ready { IsReadyDeed hart deed.now (state_of parts.old) }
+    ensures ok { OnOk result (state_of parts.new ≡ retired hart entry.now instr.now (does parts.old.config.model hart deed.now (state_of parts.old))) }
+    ensures err { OnErr result (state_of parts.new ≡ state_of parts.old) }
+{
+    carry_out(parts, hart, deed)?;
+    move_on(parts, hart, entry, instr);
+    Ok(())
+}
+
+// The hart moves on, and its list has one more entry.
+fn move_on(parts: &mut Parts, hart: u8, entry: &Retired, instr: &Instr)
+    requires hart { hart < length parts.old.nodes.items }
+    requires entries { hart < length parts.old.trace.history.entries }
+    requires statuses { hart < length parts.old.trace.history.statuses }
+    requires few { length (entries_of parts.old.trace.history hart) < 1000000 }
+    requires room { 0 < slice_index parts.old.trace.room.entries hart }
+    ensures { state_of parts.new ≡ retired hart entry.now instr.now (state_of parts.old) }
+{
+    let moved = &mut parts.nodes[hart as usize].hart;
+    moved.retire(entry, instr);
+    let status = moved.status;
+    parts.trace.retire(hart as usize, *entry);
+    halt(&mut parts.trace, hart, status);
+}
+
+// A hart that doesn't run on says so in the trace.
+fn halt(trace: &mut Trace, hart: u8, status: Status)
+    requires { hart < length trace.old.history.statuses }
+    ensures { trace.new.history ≡ with_halt hart status trace.old.history }
+{
+    match status {
+        Status::Running => {}
+        Status::Stopped(_) | Status::Exited(_) => trace.halt(hart as usize, status),
+    }
+}
+
+/// The hart halts with a code.
+pub(crate) fn stop(parts: &mut Parts, hart: u8, code: u8)
+    requires sound { IsSound (state_of parts.old) }
+    requires hart { hart < length parts.old.nodes.items }
+    requires room { HasNeeded hart (needs_of (state_of parts.old) hart (act.Stop code)) parts.old.trace.room }
+    ensures { state_of parts.new ≡ stopped hart code (state_of parts.old) }
+{
+    let status = Status::Stopped(code);
+    parts.nodes[hart as usize].hart.status = status;
+    parts.trace.halt(hart as usize, status);
+}
