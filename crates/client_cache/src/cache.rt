@@ -70,29 +70,29 @@ impl ClientCache {
     }
 
     /// The permission that the cache has for a line.
-    pub fn perm<L: Ledger>(&self, line: u32, ticks: &mut Ticks<L>) -> Perm
+    pub fn perm_counted<L: Ledger>(&self, line: u32, ticks: &mut Ticks<L>) -> Perm
         ensures meaning { result ≡ perm_of (copy_at self.now line) }
         ensures looks { ticks.new ≤ ticks.old + self.now.shape.ways }
     {
-        match self.copy(line, ticks) {
+        match self.copy_counted(line, ticks) {
             Some(held) => held.perm(),
             None => Perm::Nothing,
         }
     }
 
     /// A line's bytes, where the cache has them.
-    pub fn read<L: Ledger>(&self, line: u32, ticks: &mut Ticks<L>) -> Option<LineData>
+    pub fn read_counted<L: Ledger>(&self, line: u32, ticks: &mut Ticks<L>) -> Option<LineData>
         ensures meaning { result ≡ bytes_of_copy (copy_at self.now line) }
         ensures looks { ticks.new ≤ ticks.old + self.now.shape.ways }
     {
-        match self.copy(line, ticks) {
+        match self.copy_counted(line, ticks) {
             Some(held) => Some(held.bytes()),
             None => None,
         }
     }
 
     /// A line's copy, with its dirty mark.
-    pub fn copy<L: Ledger>(&self, line: u32, ticks: &mut Ticks<L>) -> Option<Held>
+    pub fn copy_counted<L: Ledger>(&self, line: u32, ticks: &mut Ticks<L>) -> Option<Held>
         ensures meaning { result ≡ copy_at self.now line }
         ensures looks { ticks.new ≤ ticks.old + self.now.shape.ways }
     {
@@ -114,7 +114,7 @@ impl ClientCache {
     }
 
     /// Replaces the bytes of a Trunk copy, which is dirty from then on.
-    pub fn write<L: Ledger>(&mut self, line: u32, bytes: LineData, ticks: &mut Ticks<L>)
+    pub fn write_counted<L: Ledger>(&mut self, line: u32, bytes: LineData, ticks: &mut Ticks<L>)
         requires { perm_of (copy_at self.old line) ≡ perms.Trunk }
         ensures meaning { self.new ≡ written self.old line bytes }
         ensures looks { ticks.new ≤ ticks.old + self.old.shape.ways }
@@ -134,7 +134,7 @@ impl ClientCache {
 
     /// Writes the marked bytes of an aligned word of a Trunk copy, which is dirty from then on, also
     /// where none is marked. The word lies in the line.
-    pub fn write_word<L: Ledger>(
+    pub fn write_word_counted<L: Ledger>(
         &mut self,
         line: u32,
         word: u32,
@@ -147,10 +147,10 @@ impl ClientCache {
         ensures meaning { self.new ≡ word_written self.old line word marks bytes }
         ensures looks { ticks.new ≤ ticks.old + 2 * self.old.shape.ways }
     {
-        let Some(old) = self.read(line, ticks) else {
+        let Some(old) = self.read_counted(line, ticks) else {
             unreachable!()
         };
-        self.write(line, with_word(old, word, marks, bytes), ticks);
+        self.write_counted(line, with_word(old, word, marks, bytes), ticks);
     }
 
     /// What a miss on a line waits for, before its set is looked at.
@@ -173,7 +173,7 @@ impl ClientCache {
     }
 
     /// What `want` would answer; nothing changes.
-    pub fn peek_want<L: Ledger>(&self, line: u32, grow: Grow, ticks: &mut Ticks<L>) -> Want
+    pub fn peek_want_counted<L: Ledger>(&self, line: u32, grow: Grow, ticks: &mut Ticks<L>) -> Want
         ensures meaning { result ≡ (wanted self.now line grow).0 }
         ensures looks { ticks.new ≤ ticks.old + 2 * self.now.shape.ways }
     {
@@ -188,7 +188,7 @@ impl ClientCache {
 
     /// A miss on a line, for which an Acquire would ask `grow`. `Missed` takes a tracker, and a slot
     /// that stays the line's until the Grant, also where a Probe takes the copy meanwhile.
-    pub fn want<L: Ledger>(&mut self, line: u32, grow: Grow, ticks: &mut Ticks<L>) -> Want
+    pub fn want_counted<L: Ledger>(&mut self, line: u32, grow: Grow, ticks: &mut Ticks<L>) -> Want
         ensures meaning { (result, self.new) ≡ wanted self.old line grow }
         ensures looks { ticks.new ≤ ticks.old + 2 * self.old.shape.ways }
     {
@@ -211,7 +211,12 @@ impl ClientCache {
     }
 
     /// A Probe of a line.
-    pub fn on_probe<L: Ledger>(&mut self, line: u32, cap: Cap, ticks: &mut Ticks<L>) -> Probed
+    pub fn on_probe_counted<L: Ledger>(
+        &mut self,
+        line: u32,
+        cap: Cap,
+        ticks: &mut Ticks<L>,
+    ) -> Probed
         ensures meaning { (result, self.new) ≡ probed self.old line cap }
         ensures looks { ticks.new ≤ ticks.old + self.old.shape.ways }
     {
@@ -237,7 +242,7 @@ impl ClientCache {
 
     /// The Grant that answers the line's Acquire, which frees its tracker. Without bytes the copy keeps
     /// its own.
-    pub fn on_grant<L: Ledger>(
+    pub fn on_grant_counted<L: Ledger>(
         &mut self,
         line: u32,
         cap: Cap,
@@ -270,11 +275,11 @@ impl ClientCache {
     }
 
     /// What `evict` would answer; nothing changes.
-    pub fn peek_evict<L: Ledger>(&self, line: u32, ticks: &mut Ticks<L>) -> Evict
+    pub fn peek_evict_counted<L: Ledger>(&self, line: u32, ticks: &mut Ticks<L>) -> Evict
         ensures meaning { result ≡ (evicted self.now line).0 }
         ensures looks { ticks.new ≤ ticks.old + self.now.shape.ways }
     {
-        let Some(held) = self.copy(line, ticks) else {
+        let Some(held) = self.copy_counted(line, ticks) else {
             return Evict::NotHeld;
         };
         if self.is_acquiring(line) {
@@ -287,7 +292,7 @@ impl ClientCache {
     }
 
     /// Gives a copy up.
-    pub fn evict<L: Ledger>(&mut self, line: u32, ticks: &mut Ticks<L>) -> Evict
+    pub fn evict_counted<L: Ledger>(&mut self, line: u32, ticks: &mut Ticks<L>) -> Evict
         ensures meaning { (result, self.new) ≡ evicted self.old line }
         ensures looks { ticks.new ≤ ticks.old + self.old.shape.ways }
     {

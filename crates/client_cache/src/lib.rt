@@ -13,6 +13,7 @@ mod laws;
 mod shape;
 mod slot;
 mod trackers;
+mod uncounted;
 mod word;
 
 pub use answers::{Evict, Probed, Want};

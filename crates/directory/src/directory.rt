@@ -55,7 +55,7 @@ impl Directory {
     }
 
     /// What is noted of one hart for a line: its record, and whether its ProbeAck is awaited.
-    pub fn known<L: Ledger>(&self, line: u32, hart: u8, ticks: &mut Ticks<L>) -> Known
+    pub fn known_counted<L: Ledger>(&self, line: u32, hart: u8, ticks: &mut Ticks<L>) -> Known
         requires line { line < length self.now.lines }
         requires hart { hart < self.now.harts }
         ensures known { result ≡ known_at (line_at self.now line) hart }
@@ -65,7 +65,7 @@ impl Directory {
     }
 
     /// Where the line's transaction stands.
-    pub fn transaction<L: Ledger>(&self, line: u32, ticks: &mut Ticks<L>) -> Transaction
+    pub fn transaction_counted<L: Ledger>(&self, line: u32, ticks: &mut Ticks<L>) -> Transaction
         requires { line < length self.now.lines }
         ensures transaction { result ≡ (line_at self.now line).transaction }
         ensures cost { ticks.new ≤ ticks.old + 1 }
@@ -74,7 +74,7 @@ impl Directory {
     }
 
     /// Takes an Acquire: has its Probes or its Grant sent, or leaves it while the line has a transaction.
-    pub fn on_acquire<L: Ledger>(
+    pub fn on_acquire_counted<L: Ledger>(
         &mut self,
         line: u32,
         hart: u8,
@@ -94,7 +94,7 @@ impl Directory {
 
     /// Takes a ProbeAck, with or without data: the last that is awaited has the Grant sent. Probes toT are
     /// never sent, so no change leaves a Trunk.
-    pub fn on_probe_ack<L: Ledger>(
+    pub fn on_probe_ack_counted<L: Ledger>(
         &mut self,
         line: u32,
         hart: u8,
@@ -116,7 +116,7 @@ impl Directory {
     }
 
     /// Takes a Release, with or without data, in every state of the line's transaction. A ReleaseAck is to be sent.
-    pub fn on_release<L: Ledger>(&mut self, line: u32, hart: u8, ticks: &mut Ticks<L>)
+    pub fn on_release_counted<L: Ledger>(&mut self, line: u32, hart: u8, ticks: &mut Ticks<L>)
         requires line { line < length self.old.lines }
         requires hart { hart < self.old.harts }
         ensures meaning { self.new ≡ released self.old line hart }
@@ -127,7 +127,7 @@ impl Directory {
     }
 
     /// Takes a GrantAck, which ends the line's transaction.
-    pub fn on_grant_ack<L: Ledger>(&mut self, line: u32, ticks: &mut Ticks<L>)
+    pub fn on_grant_ack_counted<L: Ledger>(&mut self, line: u32, ticks: &mut Ticks<L>)
         requires { line < length self.old.lines }
         ensures meaning { self.new ≡ grant_acked self.old line }
         ensures cost { ticks.new ≤ ticks.old + 1 }

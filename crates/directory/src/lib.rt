@@ -5,6 +5,7 @@ mod answer;
 mod directory;
 mod entry;
 mod harts;
+mod uncounted;
 
 pub use answer::{Acquired, Grant, Known, Sent, Transaction};
 pub use directory::Directory;

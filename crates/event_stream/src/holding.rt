@@ -6,7 +6,7 @@ ghost use Rattle.machine_model.specs.Views.{node_at};
 ghost use Rattle.text_fields.specs.Pages.{HasLineRoom, Spells, size};
 ghost use Rattle.tilelink_channels.specs.Queues.{queue_of};
 
-use crate::waits::{copy_in, line_address, size_of};
+use crate::waits::{line_address, size_of};
 use assembly::register;
 use client_cache::{ClientCache, Held};
 use coherent_machine::Machine;
@@ -200,7 +200,7 @@ fn spell_line(page: &mut Page, hart: u8, cache: &ClientCache, line: u32)
     requires { HasLineRoom page.old }
     ensures { page.new ≡ page.old ++ holding.cache_line hart cache.now line }
 {
-    spell_copy(page, hart, line, copy_in(cache, line));
+    spell_copy(page, hart, line, cache.copy(line));
     spell_if(page, cache.is_acquiring(line), b"A ", hart, line);
     spell_if(page, cache.is_releasing(line), b"U ", hart, line);
 }

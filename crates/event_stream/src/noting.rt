@@ -10,50 +10,8 @@ use crate::waits::{line_address, size_of};
 use coherent_machine::Machine;
 use directory::{Directory, Known, Transaction};
 use std::io::{Result, Write};
-use std::marker::Brand;
-use std::sync::ledger::{Blank, Ledger};
 use text_fields::Page;
-use tl_types::{Grow, Perm, Ticks};
-
-fn known_on<L: Ledger>(notes: &Directory, number: u32, hart: u8, blank: Blank) -> Known
-    requires name { blank.name ≡ L.name }
-    requires parts { blank.parts ≡ L.parts }
-    requires some { 0 < L.parts }
-    requires line { number < length notes.now.lines }
-    requires hart { hart < notes.now.harts }
-    ensures { result ≡ known_at (line_at notes.now number) hart }
-{
-    let mut ticks: Ticks<L> = Ticks::new(blank);
-    notes.known(number, hart, &mut ticks)
-}
-
-/// What is noted of a hart for memory's line of this number.
-fn known_of(notes: &Directory, number: u32, hart: u8) -> Known
-    requires line { number < length notes.now.lines }
-    requires hart { hart < notes.now.harts }
-    ensures { result ≡ known_at (line_at notes.now number) hart }
-{
-    known_on::<Brand>(notes, number, hart, Blank::new(1))
-}
-
-fn transaction_on<L: Ledger>(notes: &Directory, number: u32, blank: Blank) -> Transaction
-    requires name { blank.name ≡ L.name }
-    requires parts { blank.parts ≡ L.parts }
-    requires some { 0 < L.parts }
-    requires line { number < length notes.now.lines }
-    ensures { result ≡ (line_at notes.now number).transaction }
-{
-    let mut ticks: Ticks<L> = Ticks::new(blank);
-    notes.transaction(number, &mut ticks)
-}
-
-/// The transaction of memory's line of this number.
-fn transaction_of(notes: &Directory, number: u32) -> Transaction
-    requires { number < length notes.now.lines }
-    ensures { result ≡ (line_at notes.now number).transaction }
-{
-    transaction_on::<Brand>(notes, number, Blank::new(1))
-}
+use tl_types::{Grow, Perm};
 
 fn perm_name(perm: Perm) -> &'static [u8]
     ensures value { result.now ≡ noted.perm_name perm }
@@ -111,7 +69,7 @@ fn spell_record_at(page: &mut Page, machine: &Machine, number: u32, hart: u8)
     requires hart { hart < machine.now.views.notes.harts }
     ensures { page.new ≡ page.old ++ noted.record_at machine.now number hart }
 {
-    let known = known_of(machine.views().directory(), number, hart);
+    let known = machine.views().directory().known(number, hart);
     spell_record(page, hart, line_address(size_of(machine), number), known);
 }
 
@@ -181,7 +139,7 @@ fn spell_transaction_at(page: &mut Page, machine: &Machine, number: u32)
     requires line { number < length machine.now.views.notes.lines }
     ensures { page.new ≡ page.old ++ noted.transaction_at machine.now number }
 {
-    let transaction = transaction_of(machine.views().directory(), number);
+    let transaction = machine.views().directory().transaction(number);
     spell_transaction(page, line_address(size_of(machine), number), transaction);
 }
 

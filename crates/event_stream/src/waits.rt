@@ -21,11 +21,9 @@ use machine_parts::line_size;
 use rv32_decode::{Instr, decode};
 use rv32_exec::plan;
 use std::io::{Result, Write};
-use std::marker::Brand;
-use std::sync::ledger::{Blank, Ledger};
 use store_buffer::{Entry, StoreBuffer};
 use text_fields::Page;
-use tl_types::{LineSize, Ticks};
+use tl_types::LineSize;
 
 /// Whether a word of memory lies at this address.
 fn can_fetch(image: &Image, pc: u32) -> bool
@@ -104,28 +102,11 @@ fn put_words<W: Write>(page: &mut Page, out: &mut W, buffer: &StoreBuffer) -> Re
     Ok(())
 }
 
-fn copy_on<L: Ledger>(cache: &ClientCache, line: u32, blank: Blank) -> Option<Held>
-    requires name { blank.name ≡ L.name }
-    requires parts { blank.parts ≡ L.parts }
-    requires some { 0 < L.parts }
-    ensures { result ≡ copy_at cache.now line }
-{
-    let mut ticks: Ticks<L> = Ticks::new(blank);
-    cache.copy(line, &mut ticks)
-}
-
-/// The cache's copy of a line.
-pub(crate) fn copy_in(cache: &ClientCache, line: u32) -> Option<Held>
-    ensures { result ≡ copy_at cache.now line }
-{
-    copy_on::<Brand>(cache, line, Blank::new(1))
-}
-
 /// Whether the line takes a way of its set.
 fn takes_way(cache: &ClientCache, line: u32) -> bool
     ensures { result ≡ closing.takes_way cache.now line }
 {
-    copy_in(cache, line).is_some() || cache.is_acquiring(line)
+    cache.copy(line).is_some() || cache.is_acquiring(line)
 }
 
 /// How many bytes a line of the machine has.

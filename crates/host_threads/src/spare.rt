@@ -1,6 +1,6 @@
 //! Lines that a cache may give up.
 
-ghost use Rattle.std.specs.Prelude.{◌≡◌, ◌<◌, ◌↔◌, IfSome, IsTrue};
+ghost use Rattle.std.specs.Prelude.{◌≡◌, ◌↔◌, IfSome, IsTrue};
 ghost use Rattle.elf_loader.specs.Size.{IsMemorySize};
 ghost use Rattle.host_threads.specs.Due.{IsLowestSpare, IsSpare, set_at};
 ghost use Rattle.machine_model.specs.Config as limits;
@@ -8,25 +8,12 @@ ghost use Rattle.machine_model.specs.Config as limits;
 use client_cache::ClientCache;
 use elf_loader::BASE;
 use machine_model::Config;
-use std::marker::Brand;
-use std::sync::ledger::{Blank, Ledger};
-use tl_types::{Perm, Ticks};
 
 /// Whether the line is held, and no Acquire of it is outstanding.
 fn is_spare(cache: &ClientCache, line: u32) -> bool
     ensures { IsTrue result ↔ IsSpare cache.now line }
 {
-    is_spare_on::<Brand>(cache, line, Blank::new(1))
-}
-
-fn is_spare_on<L: Ledger>(cache: &ClientCache, line: u32, blank: Blank) -> bool
-    requires name { blank.name ≡ L.name }
-    requires parts { blank.parts ≡ L.parts }
-    requires some { 0 < L.parts }
-    ensures { IsTrue result ↔ IsSpare cache.now line }
-{
-    let mut ticks: Ticks<L> = Ticks::new(blank);
-    cache.copy(line, &mut ticks).is_some() && !cache.is_acquiring(line)
+    cache.copy(line).is_some() && !cache.is_acquiring(line)
 }
 
 /// The lowest line of memory that the cache may give up, of those in the set of an address. Memory has

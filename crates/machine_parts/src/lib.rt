@@ -3,7 +3,6 @@
 #![tactic(auto)]
 
 mod applying;
-mod caches;
 mod errors;
 mod limits;
 mod node;

@@ -6,7 +6,6 @@ ghost use Rattle.machine_model.specs.Config.{is_within_limits};
 ghost use Rattle.machine_model.specs.Deliveries.{is_trunk, kept_reservation};
 ghost use Rattle.machine_model.specs.Views.{opening_node, size_of_config};
 
-use crate::caches::perm;
 use client_cache::ClientCache;
 use elf_loader::Image;
 use hart::Hart;
@@ -77,7 +76,7 @@ impl Node {
         requires { size ≡ self.old.cache.shape.size }
         ensures { self.new ≡ record self.old { reserved = kept_reservation self.old.cache line self.old.reserved } }
     {
-        if perm(&self.cache, line) != Perm::Trunk {
+        if self.cache.perm(line) != Perm::Trunk {
             self.reservation.lose_line(line, size);
         }
     }

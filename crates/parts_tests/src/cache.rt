@@ -109,11 +109,11 @@ fn ask_counted<R: Abort, L: Ledger>(
     match call {
         Call::Want(line, grow) => Answer::Want(want(rt, cache, line, grow, &mut ticks)),
         Call::Evict(line) => Answer::Evict(evict(rt, cache, line, &mut ticks)),
-        Call::Probe(line, cap) => Answer::Probe(cache.on_probe(line, cap, &mut ticks)),
+        Call::Probe(line, cap) => Answer::Probe(cache.on_probe_counted(line, cap, &mut ticks)),
         Call::Copy(line) => Answer::Copy(copy(rt, cache, line, &mut ticks)),
         Call::Grant(line, cap, bytes) => {
             assert!(rt; cache.is_acquiring(line));
-            cache.on_grant(line, cap, bytes, &mut ticks);
+            cache.on_grant_counted(line, cap, bytes, &mut ticks);
             assert!(rt; !cache.is_acquiring(line));
             Answer::Done
         }
@@ -153,8 +153,8 @@ fn want<L: Ledger>(
     grow: Grow,
     ticks: &mut Ticks<L>,
 ) -> Want {
-    let foreseen = cache.peek_want(line, grow, ticks);
-    let answer = cache.want(line, grow, ticks);
+    let foreseen = cache.peek_want_counted(line, grow, ticks);
+    let answer = cache.want_counted(line, grow, ticks);
     same(rt, foreseen, answer);
     answer
 }
@@ -166,8 +166,8 @@ fn evict<L: Ledger>(
     line: u32,
     ticks: &mut Ticks<L>,
 ) -> Evict {
-    let foreseen = cache.peek_evict(line, ticks);
-    let answer = cache.evict(line, ticks);
+    let foreseen = cache.peek_evict_counted(line, ticks);
+    let answer = cache.evict_counted(line, ticks);
     same(rt, foreseen, answer);
     answer
 }
@@ -179,8 +179,8 @@ fn copy<L: Ledger>(
     line: u32,
     ticks: &mut Ticks<L>,
 ) -> Option<Held> {
-    let copy = cache.copy(line, ticks);
-    let bytes = cache.read(line, ticks);
+    let copy = cache.copy_counted(line, ticks);
+    let bytes = cache.read_counted(line, ticks);
     same(rt, bytes, copy.map(|held| held.bytes()));
     copy
 }
@@ -195,11 +195,11 @@ fn store<L: Ledger>(
     bytes: [u8; 4],
     ticks: &mut Ticks<L>,
 ) {
-    let Perm::Trunk = cache.perm(line, ticks) else {
+    let Perm::Trunk = cache.perm_counted(line, ticks) else {
         panic!(rt; "not Trunk")
     };
     assert!(rt; word % 4 == 0);
-    cache.write_word(line, word, marks, bytes, ticks);
+    cache.write_word_counted(line, word, marks, bytes, ticks);
 }
 
 /// Replaces a line whose copy has to be Trunk.
@@ -210,8 +210,8 @@ fn write<L: Ledger>(
     bytes: LineData,
     ticks: &mut Ticks<L>,
 ) {
-    let Perm::Trunk = cache.perm(line, ticks) else {
+    let Perm::Trunk = cache.perm_counted(line, ticks) else {
         panic!(rt; "not Trunk")
     };
-    cache.write(line, bytes, ticks);
+    cache.write_counted(line, bytes, ticks);
 }

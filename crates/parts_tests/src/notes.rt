@@ -98,7 +98,7 @@ fn acquire<L: Ledger>(
     ticks: &mut Ticks<L>,
 ) -> Acquired {
     is_there(rt, directory, line, hart);
-    directory.on_acquire(line, hart, grow, ticks)
+    directory.on_acquire_counted(line, hart, grow, ticks)
 }
 
 fn take<L: Ledger>(rt: &impl Abort, directory: &mut Directory, step: Step, ticks: &mut Ticks<L>) {
@@ -118,25 +118,25 @@ fn take<L: Ledger>(rt: &impl Abort, directory: &mut Directory, step: Step, ticks
         Step::ProbeAck(line, hart, change, due) => {
             is_there(rt, directory, line, hart);
             is_pruned(rt, change);
-            let sent = directory.on_probe_ack(line, hart, change, ticks);
+            let sent = directory.on_probe_ack_counted(line, hart, change, ticks);
             same_of(rt, sent, due, &step);
         }
         Step::Release(line, hart) => {
             is_there(rt, directory, line, hart);
-            directory.on_release(line, hart, ticks);
+            directory.on_release_counted(line, hart, ticks);
         }
         Step::GrantAck(line) => {
             is_there(rt, directory, line, 0);
-            directory.on_grant_ack(line, ticks);
+            directory.on_grant_ack_counted(line, ticks);
         }
         Step::Known(line, hart, perm, awaited) => {
             is_there(rt, directory, line, hart);
-            let known = directory.known(line, hart, ticks);
+            let known = directory.known_counted(line, hart, ticks);
             same_of(rt, known, Known { perm, awaited }, &step);
         }
         Step::Stands(line, stands) => {
             is_there(rt, directory, line, 0);
-            let transaction = directory.transaction(line, ticks);
+            let transaction = directory.transaction_counted(line, ticks);
             same_of(rt, transaction, stands, &step);
         }
     }

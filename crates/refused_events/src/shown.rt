@@ -8,11 +8,9 @@ use directory::Directory;
 use elf_loader::BASE;
 use std::alloc::Global;
 use std::io::{self, Write};
-use std::marker::Brand;
-use std::sync::ledger::{Blank, Ledger};
 use store_buffer::StoreBuffer;
 use tilelink_channels::Queues;
-use tl_types::{Channel, Ticks};
+use tl_types::Channel;
 use trace_text::write_trace;
 
 /// The trace, and what the views lend.
@@ -25,7 +23,7 @@ pub fn shown(alloc: Global, machine: &Machine) -> io::Result<Vec<u8>> {
         show_hart(&mut out, &views, hart)?;
     }
     show_memory(&mut out, views.memory())?;
-    show_directory::<Brand>(&mut out, views.directory(), Blank::new(1))?;
+    show_directory(&mut out, views.directory())?;
     Ok(out)
 }
 
@@ -38,7 +36,7 @@ fn show_hart(out: &mut Vec<u8>, views: &Views<'_>, hart: usize) -> io::Result<()
     }
     show_buffer(out, views.buffer(hart))?;
     show_queues(out, views.queues(hart))?;
-    show_cache::<Brand>(out, views, hart, Blank::new(1))
+    show_cache(out, views, hart)
 }
 
 /// The stores that wait, by group.
@@ -63,22 +61,13 @@ fn show_queues(out: &mut Vec<u8>, queues: &Queues) -> io::Result<()> {
 }
 
 /// The copy of each line of memory, and whether it is asked for or given up.
-fn show_cache<L: Ledger>(
-    out: &mut Vec<u8>,
-    views: &Views<'_>,
-    hart: usize,
-    blank: Blank,
-) -> io::Result<()>
+fn show_cache(out: &mut Vec<u8>, views: &Views<'_>, hart: usize) -> io::Result<()>
     requires hart { hart < length views.now.views.nodes }
-    requires name { blank.name ≡ L.name }
-    requires parts { blank.parts ≡ L.parts }
-    requires some { 0 < L.parts }
 {
     let cache = views.cache(hart);
-    let mut ticks: Ticks<L> = Ticks::new(blank);
     for place in 0..views.memory().line_count() {
         let line = BASE.wrapping_add(place.wrapping_mul(views.config().line));
-        let copy = cache.copy(line, &mut ticks);
+        let copy = cache.copy(line);
         let is_acquiring = cache.is_acquiring(line);
         let is_releasing = cache.is_releasing(line);
         writeln!(out, "{line:08x} {copy:?} {is_acquiring} {is_releasing}")?;
@@ -94,23 +83,14 @@ fn show_memory(out: &mut Vec<u8>, memory: &Memory) -> io::Result<()> {
 }
 
 /// What the manager notes of each line: its transaction, and each hart's record.
-fn show_directory<L: Ledger>(
-    out: &mut Vec<u8>,
-    directory: &Directory,
-    blank: Blank,
-) -> io::Result<()>
-    requires name { blank.name ≡ L.name }
-    requires parts { blank.parts ≡ L.parts }
-    requires some { 0 < L.parts }
-{
-    let mut ticks: Ticks<L> = Ticks::new(blank);
+fn show_directory(out: &mut Vec<u8>, directory: &Directory) -> io::Result<()> {
     for line in 0..directory.lines() {
         let Ok(place) = u32::try_from(line) else {
             break;
         };
-        writeln!(out, "{:?}", directory.transaction(place, &mut ticks))?;
+        writeln!(out, "{:?}", directory.transaction(place))?;
         for hart in 0..directory.harts() {
-            writeln!(out, "{:?}", directory.known(place, hart, &mut ticks))?;
+            writeln!(out, "{:?}", directory.known(place, hart))?;
         }
     }
     Ok(())

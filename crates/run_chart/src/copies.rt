@@ -8,9 +8,6 @@ use chart_rows::Copied;
 use client_cache::{ClientCache, Held};
 use coherent_machine::Machine;
 use std::alloc::{AllocError, Global};
-use std::marker::Brand;
-use std::sync::ledger::{Blank, Ledger};
-use tl_types::Ticks;
 use trace_recorder::Logged;
 
 fn hold_of(copy: Option<Held>) -> Hold
@@ -24,30 +21,13 @@ fn hold_of(copy: Option<Held>) -> Hold
     }
 }
 
-fn copy_on<L: Ledger>(cache: &ClientCache, line: u32, blank: Blank) -> Option<Held>
-    requires name { blank.name ≡ L.name }
-    requires parts { blank.parts ≡ L.parts }
-    requires some { 0 < L.parts }
-    ensures { result ≡ copy_at cache.now line }
-{
-    let mut ticks: Ticks<L> = Ticks::new(blank);
-    cache.copy(line, &mut ticks)
-}
-
-/// The cache's copy of a line.
-fn copy_in(cache: &ClientCache, line: u32) -> Option<Held>
-    ensures { result ≡ copy_at cache.now line }
-{
-    copy_on::<Brand>(cache, line, Blank::new(1))
-}
-
 /// What a hart's cache holds of a line; of a hart that isn't there, nothing.
 fn hold_at(machine: &Machine, hart: usize, line: u32) -> Hold
     ensures { result ≡ copies.hold_at machine.now hart line }
 {
     let views = machine.views();
     if hart < views.harts() {
-        hold_of(copy_in(views.cache(hart), line))
+        hold_of(views.cache(hart).copy(line))
     } else {
         Hold::Nothing
     }

@@ -8,10 +8,8 @@ use coherent_machine::{Machine, Views};
 use elf_loader::BASE;
 use hart::Hart;
 use plain_machine::{NodeView, PlainMachine, Transaction};
-use std::marker::Brand;
-use std::sync::ledger::{Blank, Ledger};
 use tilelink_channels::Queues;
-use tl_types::{Channel, LineData, Msg, Perm, Ticks};
+use tl_types::{Channel, LineData, Msg, Perm};
 
 /// A hart and its store buffer.
 #[derive(Clone, Copy, Debug, PartialEq, Eq)]
@@ -107,13 +105,8 @@ fn coherent_queue(queues: &Queues, channel: Channel) -> QueueView {
     }
 }
 
-fn coherent_cache<L: Ledger>(cache: &ClientCache, line: u32, blank: Blank) -> CacheView
-    requires name { blank.name ≡ L.name }
-    requires parts { blank.parts ≡ L.parts }
-    requires some { 0 < L.parts }
-{
-    let mut ticks: Ticks<L> = Ticks::new(blank);
-    let copy = cache.copy(line, &mut ticks);
+fn coherent_cache(cache: &ClientCache, line: u32) -> CacheView {
+    let copy = cache.copy(line);
     CacheView {
         perm: copy.map_or(Perm::Nothing, |held| held.perm()),
         bytes: copy.map(|held| held.bytes()),
@@ -135,16 +128,7 @@ fn plainly(transaction: directory::Transaction) -> Transaction {
     }
 }
 
-fn coherent_line<L: Ledger>(
-    views: &Views<'_>,
-    hart: u8,
-    line: u32,
-    blank: Blank,
-) -> Option<LineView>
-    requires name { blank.name ≡ L.name }
-    requires parts { blank.parts ≡ L.parts }
-    requires some { 0 < L.parts }
-{
+fn coherent_line(views: &Views<'_>, hart: u8, line: u32) -> Option<LineView> {
     let place = line.checked_sub(BASE)? / LINE_BYTES;
     let directory = views.directory();
     let memory = views.memory();
@@ -154,12 +138,11 @@ fn coherent_line<L: Ledger>(
     if place >= memory.line_count() {
         return None;
     }
-    let mut ticks: Ticks<L> = Ticks::new(blank);
-    let known = directory.known(place, hart, &mut ticks);
+    let known = directory.known(place, hart);
     Some(LineView {
         record: known.perm,
         is_awaited: known.awaited,
-        transaction: plainly(directory.transaction(place, &mut ticks)),
+        transaction: plainly(directory.transaction(place)),
         memory: memory.line(place),
     })
 }
@@ -189,7 +172,7 @@ pub fn coherent_view(machine: &Machine, hart: u8, word: u32) -> Option<View> {
             coherent_queue(queues, Channel::D),
             coherent_queue(queues, Channel::E),
         ],
-        cache: coherent_cache::<Brand>(views.cache(place), word, Blank::new(1)),
-        line: coherent_line::<Brand>(&views, hart, word, Blank::new(1))?,
+        cache: coherent_cache(views.cache(place), word),
+        line: coherent_line(&views, hart, word)?,
     })
 }

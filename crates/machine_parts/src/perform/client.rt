@@ -12,8 +12,7 @@ ghost use Rattle.machine_parts.specs.Parts.{state_of};
 use super::messages::send;
 use crate::parts::{Parts, line_size};
 use client_cache::Probed;
-use std::sync::ledger::Ledger;
-use tl_types::{Body, Cap, Change, LineData, Msg, Ticks};
+use tl_types::{Body, Cap, Change, LineData, Msg};
 
 /// A ReleaseAck answers the line's Release.
 pub(crate) fn on_release_ack(parts: &mut Parts, hart: u8, line: u32)
@@ -24,40 +23,24 @@ pub(crate) fn on_release_ack(parts: &mut Parts, hart: u8, line: u32)
 }
 
 /// The copy is installed clean.
-fn install<L: Ledger>(
-    parts: &mut Parts,
-    hart: u8,
-    line: u32,
-    cap: Cap,
-    bytes: Option<LineData>,
-    ticks: &mut Ticks<L>,
-)
+fn install(parts: &mut Parts, hart: u8, line: u32, cap: Cap, bytes: Option<LineData>)
     requires hart { hart < length parts.old.nodes.items }
     requires tracked { IsTrue (set.contains (node_at (state_of parts.old) hart).cache.acquiring line) }
     ensures state { state_of parts.new ≡ installed hart line cap bytes (state_of parts.old) }
     ensures room { parts.new.trace.room ≡ parts.old.trace.room }
 {
-    parts.nodes[hart as usize]
-        .cache
-        .on_grant(line, cap, bytes, ticks);
+    parts.nodes[hart as usize].cache.on_grant(line, cap, bytes);
 }
 
 /// A Grant: the copy is installed clean, and the manager hears of it.
-pub(crate) fn on_grant<L: Ledger>(
-    parts: &mut Parts,
-    hart: u8,
-    line: u32,
-    cap: Cap,
-    bytes: Option<LineData>,
-    ticks: &mut Ticks<L>,
-)
+pub(crate) fn on_grant(parts: &mut Parts, hart: u8, line: u32, cap: Cap, bytes: Option<LineData>)
     requires hart { hart < length parts.old.nodes.items }
     requires tracked { IsTrue (set.contains (node_at (state_of parts.old) hart).cache.acquiring line) }
     requires queues { QueuesFit (on_grant hart line cap bytes (state_of parts.old)) }
     requires log { 0 < parts.old.trace.room.log }
     ensures { state_of parts.new ≡ on_grant hart line cap bytes (state_of parts.old) }
 {
-    install(parts, hart, line, cap, bytes, ticks);
+    install(parts, hart, line, cap, bytes);
     send(
         parts,
         hart,
@@ -69,13 +52,7 @@ pub(crate) fn on_grant<L: Ledger>(
 }
 
 /// The copy shrinks to what the Probe allows.
-fn shrink<L: Ledger>(
-    parts: &mut Parts,
-    hart: u8,
-    line: u32,
-    cap: Cap,
-    ticks: &mut Ticks<L>,
-) -> Probed
+fn shrink(parts: &mut Parts, hart: u8, line: u32, cap: Cap) -> Probed
     requires hart { hart < length parts.old.nodes.items }
     requires size { (node_at (state_of parts.old) hart).cache.shape.size ≡ line_size (state_of parts.old) }
     ensures answer { result ≡ (probed (node_at (state_of parts.old) hart).cache line cap).0 }
@@ -84,7 +61,7 @@ fn shrink<L: Ledger>(
 {
     let size = line_size(&parts.config);
     let node = &mut parts.nodes[hart as usize];
-    let answer = node.cache.on_probe(line, cap, ticks);
+    let answer = node.cache.on_probe(line, cap);
     node.keep_reservation(size, line);
     answer
 }
@@ -99,20 +76,14 @@ fn probe_ack_body(change: Change, bytes: Option<LineData>) -> Body
 }
 
 /// A Probe: the copy shrinks, and its answer says to what.
-pub(crate) fn on_probe<L: Ledger>(
-    parts: &mut Parts,
-    hart: u8,
-    line: u32,
-    cap: Cap,
-    ticks: &mut Ticks<L>,
-)
+pub(crate) fn on_probe(parts: &mut Parts, hart: u8, line: u32, cap: Cap)
     requires hart { hart < length parts.old.nodes.items }
     requires size { (node_at (state_of parts.old) hart).cache.shape.size ≡ line_size (state_of parts.old) }
     requires queues { QueuesFit (on_probe hart line cap (state_of parts.old)) }
     requires log { 0 < parts.old.trace.room.log }
     ensures { state_of parts.new ≡ on_probe hart line cap (state_of parts.old) }
 {
-    let answer = shrink(parts, hart, line, cap, ticks);
+    let answer = shrink(parts, hart, line, cap);
     let Probed::Answered { change, bytes } = answer else {
         return;
     };

@@ -11,7 +11,6 @@ ghost use Rattle.machine_parts.specs.Parts.{state_of};
 ghost use Rattle.store_buffer.specs.ByteMask.{marks_of_access};
 ghost use Rattle.store_buffer.specs.Groups.{after_seal, fits};
 
-use crate::caches::write_word;
 use crate::parts::Parts;
 use crate::words::line_of;
 use machine_model::Deed;
@@ -155,13 +154,9 @@ fn write(parts: &mut Parts, hart: u8, word: u32, value: u32)
 {
     let line = line_of(parts.trace.line_size(), word);
     let bytes = bytes_of(value);
-    write_word(
-        &mut parts.nodes[hart as usize].cache,
-        line,
-        word,
-        [true; 4],
-        bytes,
-    );
+    parts.nodes[hart as usize]
+        .cache
+        .write_word(line, word, [true; 4], bytes);
 }
 
 fn bytes_of(value: u32) -> [u8; 4]

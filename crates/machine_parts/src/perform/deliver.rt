@@ -14,12 +14,10 @@ use super::client::{on_grant, on_probe, on_release_ack};
 use super::manager::{on_acquire, on_grant_ack, on_probe_ack, on_release};
 use super::messages::take;
 use crate::parts::Parts;
-use std::marker::Brand;
-use std::sync::ledger::{Blank, Ledger};
-use tl_types::{Body, Msg, Ticks};
+use tl_types::{Body, Msg};
 
 /// What the manager or the cache does with a message that it has taken.
-fn handle<L: Ledger>(parts: &mut Parts, hart: u8, message: &Msg, ticks: &mut Ticks<L>)
+fn handle(parts: &mut Parts, hart: u8, message: &Msg)
     requires hart { hart < length parts.old.nodes.items }
     requires harts { parts.old.directory.harts ≡ length parts.old.nodes.items }
     requires line { HasLine message.now.line (state_of parts.old) }
@@ -31,25 +29,23 @@ fn handle<L: Ledger>(parts: &mut Parts, hart: u8, message: &Msg, ticks: &mut Tic
 {
     let line = message.line;
     match message.body {
-        Body::AcquireBlock(grow) => on_acquire(parts, hart, line, grow, ticks),
-        Body::ProbeBlock(cap) => on_probe(parts, hart, line, cap, ticks),
-        Body::ProbeAck(change) => on_probe_ack(parts, hart, line, change, None, ticks),
+        Body::AcquireBlock(grow) => on_acquire(parts, hart, line, grow),
+        Body::ProbeBlock(cap) => on_probe(parts, hart, line, cap),
+        Body::ProbeAck(change) => on_probe_ack(parts, hart, line, change, None),
         Body::ProbeAckData { change, bytes } => {
-            on_probe_ack(parts, hart, line, change, Some(bytes), ticks)
+            on_probe_ack(parts, hart, line, change, Some(bytes))
         }
-        Body::Release(_) => on_release(parts, hart, line, None, ticks),
-        Body::ReleaseData { bytes, .. } => on_release(parts, hart, line, Some(bytes), ticks),
-        Body::Grant(cap) => on_grant(parts, hart, line, cap, None, ticks),
-        Body::GrantData { cap, bytes } => on_grant(parts, hart, line, cap, Some(bytes), ticks),
+        Body::Release(_) => on_release(parts, hart, line, None),
+        Body::ReleaseData { bytes, .. } => on_release(parts, hart, line, Some(bytes)),
+        Body::Grant(cap) => on_grant(parts, hart, line, cap, None),
+        Body::GrantData { cap, bytes } => on_grant(parts, hart, line, cap, Some(bytes)),
         Body::ReleaseAck => on_release_ack(parts, hart, line),
-        Body::GrantAck => on_grant_ack(parts, line, ticks),
+        Body::GrantAck => on_grant_ack(parts, line),
     }
 }
 
-fn take_and_handle<L: Ledger>(parts: &mut Parts, hart: u8, message: &Msg, blank: Blank)
-    requires name { blank.name ≡ L.name }
-    requires parts { blank.parts ≡ L.parts }
-    requires some { 0 < L.parts }
+// The log has first that the message was taken, and then what is sent.
+fn take_and_handle(parts: &mut Parts, hart: u8, message: &Msg)
     requires sound { IsSound (state_of parts.old) }
     requires hart { hart < length parts.old.nodes.items }
     requires ready { IsReadyMessage hart message.now (state_of parts.old) }
@@ -58,8 +54,7 @@ fn take_and_handle<L: Ledger>(parts: &mut Parts, hart: u8, message: &Msg, blank:
     ensures { state_of parts.new ≡ delivered hart message.now (state_of parts.old) }
 {
     take(parts, hart, message);
-    let mut ticks: Ticks<L> = Ticks::new(blank);
-    handle(parts, hart, message, &mut ticks);
+    handle(parts, hart, message);
 }
 
 /// The message leaves the front of its queue and is handled: the log has it first, and then what is
@@ -72,5 +67,5 @@ pub(crate) fn deliver(parts: &mut Parts, hart: u8, message: &Msg)
     requires room { HasNeeded hart (needs_of (state_of parts.old) hart (Act.Deliver message.now)) parts.old.trace.room }
     ensures { state_of parts.new ≡ delivered hart message.now (state_of parts.old) }
 {
-    take_and_handle::<Brand>(parts, hart, message, Blank::new(1));
+    take_and_handle(parts, hart, message);
 }

@@ -12,7 +12,6 @@ ghost use Rattle.machine_parts.specs.Needs.{HasNeeded, needs_of};
 ghost use Rattle.machine_parts.specs.Parts.{state_of};
 
 use super::messages::send;
-use crate::caches::evict;
 use crate::node::Node;
 use crate::parts::Parts;
 use client_cache::Evict;
@@ -61,7 +60,7 @@ fn lose_copy(node: &mut Node, size: LineSize, line: u32) -> Evict
     ensures answer { result ≡ (evicted node.old.cache line).0 }
     ensures node { node.new ≡ with_less (evicted node.old.cache line).1 line node.old }
 {
-    let answer = evict(&mut node.cache, line);
+    let answer = node.cache.evict(line);
     node.keep_reservation(size, line);
     answer
 }

@@ -17,8 +17,7 @@ use crate::parts::{Parts, line_size};
 use backing_memory::Memory;
 use directory::{Acquired, Grant, HartSet, Sent};
 use elf_loader::BASE;
-use std::sync::ledger::Ledger;
-use tl_types::{Body, Cap, Change, Grow, LineData, Msg, Perm, Ticks};
+use tl_types::{Body, Cap, Change, Grow, LineData, Msg, Perm};
 
 /// The place in memory of the line that begins at this address.
 fn place_of(parts: &Parts, line: u32) -> u32
@@ -99,13 +98,7 @@ fn send_any(parts: &mut Parts, line: u32, sent: Sent)
 }
 
 /// An Acquire: Probes to those who stand in its way, or the Grant.
-pub(crate) fn on_acquire<L: Ledger>(
-    parts: &mut Parts,
-    hart: u8,
-    line: u32,
-    grow: Grow,
-    ticks: &mut Ticks<L>,
-)
+pub(crate) fn on_acquire(parts: &mut Parts, hart: u8, line: u32, grow: Grow)
     requires hart { hart < parts.old.directory.harts }
     requires harts { parts.old.directory.harts ≡ length parts.old.nodes.items }
     requires line { HasLine line (state_of parts.old) }
@@ -114,19 +107,13 @@ pub(crate) fn on_acquire<L: Ledger>(
     ensures { state_of parts.new ≡ on_acquire hart line grow (state_of parts.old) }
 {
     let place = place_of(parts, line);
-    if let Acquired::Handled(sent) = parts.directory.on_acquire(place, hart, grow, ticks) {
+    if let Acquired::Handled(sent) = parts.directory.on_acquire(place, hart, grow) {
         send_any(parts, line, sent);
     }
 }
 
 /// A Release: its data go to memory, and it is answered at once.
-pub(crate) fn on_release<L: Ledger>(
-    parts: &mut Parts,
-    hart: u8,
-    line: u32,
-    bytes: Option<LineData>,
-    ticks: &mut Ticks<L>,
-)
+pub(crate) fn on_release(parts: &mut Parts, hart: u8, line: u32, bytes: Option<LineData>)
     requires hart { hart < length parts.old.nodes.items }
     requires noted { hart < parts.old.directory.harts }
     requires line { HasLine line (state_of parts.old) }
@@ -137,7 +124,7 @@ pub(crate) fn on_release<L: Ledger>(
 {
     let place = place_of(parts, line);
     write_back(&mut parts.memory, place, bytes);
-    parts.directory.on_release(place, hart, ticks);
+    parts.directory.on_release(place, hart);
     send(
         parts,
         hart,
@@ -149,13 +136,12 @@ pub(crate) fn on_release<L: Ledger>(
 }
 
 /// A ProbeAck: its data go to memory, and the last one that was awaited sends the Grant.
-pub(crate) fn on_probe_ack<L: Ledger>(
+pub(crate) fn on_probe_ack(
     parts: &mut Parts,
     hart: u8,
     line: u32,
     change: Change,
     bytes: Option<LineData>,
-    ticks: &mut Ticks<L>,
 )
     requires hart { hart < parts.old.directory.harts }
     requires harts { parts.old.directory.harts ≡ length parts.old.nodes.items }
@@ -168,16 +154,16 @@ pub(crate) fn on_probe_ack<L: Ledger>(
 {
     let place = place_of(parts, line);
     write_back(&mut parts.memory, place, bytes);
-    if let Some(grant) = parts.directory.on_probe_ack(place, hart, change, ticks) {
+    if let Some(grant) = parts.directory.on_probe_ack(place, hart, change) {
         send_grant(parts, line, grant);
     }
 }
 
 /// A GrantAck ends the line's transaction.
-pub(crate) fn on_grant_ack<L: Ledger>(parts: &mut Parts, line: u32, ticks: &mut Ticks<L>)
+pub(crate) fn on_grant_ack(parts: &mut Parts, line: u32)
     requires { HasLine line (state_of parts.old) }
     ensures { state_of parts.new ≡ on_grant_ack line (state_of parts.old) }
 {
     let place = place_of(parts, line);
-    parts.directory.on_grant_ack(place, ticks);
+    parts.directory.on_grant_ack(place);
 }

@@ -11,7 +11,6 @@ ghost use Rattle.machine_parts.specs.Needs.{HasNeeded, needs_of};
 ghost use Rattle.machine_parts.specs.Parts.{state_of};
 
 use super::messages::send;
-use crate::caches::want;
 use crate::parts::Parts;
 use tl_types::{Body, Grow, Msg};
 
@@ -34,5 +33,5 @@ fn ask(parts: &mut Parts, hart: u8, line: u32, grow: Grow)
     ensures state { state_of parts.new ≡ with_node hart (record (node_at (state_of parts.old) hart) { cache = (wanted (node_at (state_of parts.old) hart).cache line grow).1 }) (state_of parts.old) }
     ensures trace { parts.new.trace ≡ parts.old.trace }
 {
-    want(&mut parts.nodes[hart as usize].cache, line, grow);
+    parts.nodes[hart as usize].cache.want(line, grow);
 }

@@ -19,9 +19,7 @@ use client_cache::ClientCache;
 use directory::{Directory, Transaction};
 use elf_loader::BASE;
 use machine_model::{Act, Outcome, Plan};
-use std::marker::Brand;
-use std::sync::ledger::{Blank, Ledger};
-use tl_types::{Body, Channel, LineSize, Msg, Ticks};
+use tl_types::{Body, Channel, LineSize, Msg};
 
 /// The place in memory of the line that begins at an address.
 pub(crate) fn place_of(size: LineSize, line: u32) -> u32
@@ -31,23 +29,12 @@ pub(crate) fn place_of(size: LineSize, line: u32) -> u32
     (line - BASE) / size.bytes()
 }
 
-fn transaction_on<L: Ledger>(directory: &Directory, place: u32, blank: Blank) -> Transaction
-    requires line { place < length directory.now.lines }
-    requires name { blank.name ≡ L.name }
-    requires parts { blank.parts ≡ L.parts }
-    requires some { 0 < L.parts }
-    ensures { result ≡ (line_at directory.now place).transaction }
-{
-    let mut ticks: Ticks<L> = Ticks::new(blank);
-    directory.transaction(place, &mut ticks)
-}
-
 /// An Acquire waits while its line has a transaction.
 fn stalled_acquire(directory: &Directory, place: u32) -> Option<Outcome>
     requires { place < length directory.now.lines }
     ensures { (hart : ℕ) (grow : AnyGrow) (go : AnyPlan) → unless_busy (acquired directory.now place hart grow).0 go ≡ unless_stalled result go }
 {
-    match transaction_on::<Brand>(directory, place, Blank::new(1)) {
+    match directory.transaction(place) {
         Transaction::Idle => None,
         Transaction::Probing(..) | Transaction::Granted(_) => Some(Outcome::Busy),
     }

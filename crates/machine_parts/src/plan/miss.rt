@@ -8,42 +8,13 @@ ghost use Rattle.tl_types.specs.declared.line.LineData.{LineData as AnyLine};
 
 use client_cache::{ClientCache, Held, Want};
 use machine_model::{Act, Outcome, Plan};
-use std::marker::Brand;
-use std::sync::ledger::{Blank, Ledger};
-use tl_types::{Grow, LineData, Ticks};
-
-fn copy_on<L: Ledger>(cache: &ClientCache, line: u32, blank: Blank) -> Option<Held>
-    requires name { blank.name ≡ L.name }
-    requires parts { blank.parts ≡ L.parts }
-    requires some { 0 < L.parts }
-    ensures { result ≡ copy_at cache.now line }
-{
-    let mut ticks: Ticks<L> = Ticks::new(blank);
-    cache.copy(line, &mut ticks)
-}
-
-/// A line's copy.
-fn copy(cache: &ClientCache, line: u32) -> Option<Held>
-    ensures { result ≡ copy_at cache.now line }
-{
-    copy_on::<Brand>(cache, line, Blank::new(1))
-}
-
-fn miss_on<L: Ledger>(cache: &ClientCache, line: u32, grow: Grow, blank: Blank) -> Want
-    requires name { blank.name ≡ L.name }
-    requires parts { blank.parts ≡ L.parts }
-    requires some { 0 < L.parts }
-    ensures { result ≡ (wanted cache.now line grow).0 }
-{
-    let mut ticks: Ticks<L> = Ticks::new(blank);
-    cache.peek_want(line, grow, &mut ticks)
-}
+use tl_types::{Grow, LineData};
 
 /// A miss on a line, by the cache's rule.
 pub(crate) fn plan_miss(cache: &ClientCache, line: u32, grow: Grow) -> Plan
     ensures { result ≡ plan_miss cache.now line grow }
 {
-    match miss_on::<Brand>(cache, line, grow, Blank::new(1)) {
+    match cache.peek_want(line, grow) {
         Want::WaitRelease => Plan::Stays(Outcome::WaitRelease),
         Want::WaitGrant => Plan::Stays(Outcome::WaitGrant),
         Want::NoTracker => Plan::Stays(Outcome::NoTracker),
@@ -56,7 +27,7 @@ pub(crate) fn plan_miss(cache: &ClientCache, line: u32, grow: Grow) -> Plan
 pub(crate) fn reading(cache: &ClientCache, line: u32) -> Result<LineData, Plan>
     ensures { (go : AnyLine → AnyPlan) → reading go cache.now line ≡ with_line go result }
 {
-    match copy(cache, line) {
+    match cache.copy(line) {
         None => Err(plan_miss(cache, line, Grow::NtoB)),
         Some(held) => Ok(held.bytes()),
     }
@@ -66,7 +37,7 @@ pub(crate) fn reading(cache: &ClientCache, line: u32) -> Result<LineData, Plan>
 pub(crate) fn writing(cache: &ClientCache, line: u32) -> Result<LineData, Plan>
     ensures { (go : AnyLine → AnyPlan) → writing go cache.now line ≡ with_line go result }
 {
-    match copy(cache, line) {
+    match cache.copy(line) {
         None => Err(plan_miss(cache, line, Grow::NtoT)),
         Some(Held::Branch(_)) => Err(plan_miss(cache, line, Grow::BtoT)),
         Some(Held::Trunk { bytes, .. }) => Ok(bytes),

@@ -1,0 +1,25 @@
+use Rattle.directory.specs.Lines.{probe_acked}
+use Rattle.directory.specs.Entries.{line_of}
+use Rattle.std.proofs.Common.{ℕ, ◌<◌, ap, subst}
+use Rattle.std.specs.Prelude.{IfSome}
+use Rattle.directory.specs.Directory.{Notes}
+use Rattle.directory.proofs.Slots.{line_at-notes, sound-at, notes-answered, harts-notes}
+use Rattle.directory.proofs.directory.Directory.on_probe_ack_counted.Goals as goal
+
+pub returns-clause-meaning : goal.returns-clause-meaning
+returns-clause-meaning g c =
+    let n = c.self.inside.harts in
+    let xs = c.self.inside.slots.items in
+    let d = c.args.self.now in
+    let at = line_at-notes n xs d c.args.line c.index.result.now c.look.result c.self.view_is c.requires.line c.index.ensures c.look.ensures.entry in
+    let sound = sound-at n xs d c.args.line c.index.result.now c.look.result c.self.view_is c.self.invariant c.requires.line c.index.ensures c.look.ensures.entry in
+    notes-answered n xs d c.args.line c.new.result c.probe_ack-grant.result.1 c.probe_ack-grant.result.0 (λ l. probe_acked l c.args.hart c.args.change) (line_of n c.look.result) c.self.view_is c.new.ensures at
+    (c.probe_ack-grant.ensures.meaning n (harts-notes n xs d c.args.hart c.self.view_is c.requires.hart) c.self.invariant.few sound)
+
+pub returns-clause-harts : goal.returns-clause-harts
+returns-clause-harts g c =
+    let xs = c.self.inside.slots.items in
+    let d = c.args.self.now in
+    let sound = sound-at c.self.inside.harts xs d c.args.line c.index.result.now c.look.result c.self.view_is c.self.invariant c.requires.line c.index.ensures c.look.ensures.entry in
+    subst (λ (n : ℕ). IfSome c.probe_ack-grant.result.0 (λ grant. grant.hart < n)) (ap (λ (d : Notes). d.harts) c.self.view_is)
+    (c.probe_ack-grant.ensures.harts c.self.inside.harts (harts-notes c.self.inside.harts xs d c.args.hart c.self.view_is c.requires.hart) c.self.invariant.few sound)

@@ -1,0 +1,13 @@
+use Rattle.std.proofs.Common.{◌∙◌, ap, sym}
+use Rattle.directory.specs.Directory.{with_line}
+use Rattle.directory.specs.Lines.{released}
+use Rattle.directory.proofs.Slots.{line_at-notes, notes-set, harts-notes}
+use Rattle.directory.proofs.directory.Directory.on_release_counted.Goals as goal
+
+pub returns-clause-meaning : goal.returns-clause-meaning
+returns-clause-meaning g c =
+    let xs = c.self.inside.slots.items in
+    notes-set c.self.inside.harts xs c.args.self.now c.args.line c.new.result c.release-entry.result c.self.view_is c.new.ensures
+    ∙ ap (λ l. with_line c.args.self.now c.args.line l)
+    (c.release-entry.ensures.line c.self.inside.harts (harts-notes c.self.inside.harts xs c.args.self.now c.args.hart c.self.view_is c.requires.hart) c.self.invariant.few
+    ∙ ap (λ l. released l c.args.hart) (sym (line_at-notes c.self.inside.harts xs c.args.self.now c.args.line c.index.result.now c.look.result c.self.view_is c.requires.line c.index.ensures c.look.ensures.entry)))

@@ -1,4 +1,0 @@
-use Rattle.machine_parts.proofs.caches.want.Given as goal
-
-abbrev pub ghosts-want_on : goal.ghosts-want_on
-ghosts-want_on a = record { name = a.blank.name; parts = a.blank.parts }
