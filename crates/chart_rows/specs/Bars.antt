@@ -8,11 +8,11 @@ use Rattle.chart_rows.specs.declared.bars.Place.{Place}
 use Rattle.chart_rows.specs.declared.rows.Copied.{Copied}
 use Rattle.chart_rows.specs.declared.rows.Row.{Row}
 
-abbrev pub number_of : Hold → ℕ
-number_of Nothing = 0
-number_of Branch = 1
-number_of Trunk = 2
-number_of Dirty = 3
+abbrev pub rank_of : Hold → ℕ
+rank_of Nothing = 0
+rank_of Branch = 1
+rank_of Trunk = 2
+rank_of Dirty = 3
 
 -- the first copy that tells it, or else what was before
 abbrev pub held : ℕ → List Copied → Hold → Hold
@@ -32,5 +32,5 @@ bottom line (r ∷ rs) = bottom r.end rs
 abbrev pub bars : Plan → Place → ℕ → ℕ → Hold → List Row → List ℕ
 bars plan p end from hold [] = shape.bar plan p.hart p.column (from, end) hold
 bars plan p end from hold (r ∷ rs) =
-    if number_of (held_behind r p.hart p.line hold) == number_of hold then bars plan p end from hold rs
+    if rank_of (held_behind r p.hart p.line hold) == rank_of hold then bars plan p end from hold rs
     else shape.bar plan p.hart p.column (from, r.line) hold ++ bars plan p end r.line (held_behind r p.hart p.line hold) rs

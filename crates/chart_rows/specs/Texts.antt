@@ -31,11 +31,11 @@ answer (Some false) = codes " fails"
 answer None = []
 
 -- the instruction, what it loaded, and whether an SC succeeded
-abbrev pub retired : Retired → List ℕ
-retired r = instruction r ++ (loaded r.loaded ++ answer r.sc_ok)
+abbrev pub retirement : Retired → List ℕ
+retirement r = instruction r ++ (loaded r.loaded ++ answer r.sc_ok)
 
 abbrev pub note : Note → List ℕ
-note (note_of.Retired r) = retired r
+note (note_of.Retired r) = retirement r
 note (note_of.Performed r) = codes "performs " ++ instruction r
 note (note_of.PutOut n) = codes "puts out " ++ decimal n
 note (note_of.Reserved w) = codes "reserves " ++ word w

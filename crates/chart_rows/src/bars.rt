@@ -6,8 +6,8 @@ use crate::rows::{Copied, Row};
 use chart_drawing::{Hold, Markup, Plan, put_bar};
 use std::alloc::AllocError;
 
-fn number_of(hold: Hold) -> u8
-    ensures { result ≡ bars.number_of hold }
+fn rank_of(hold: Hold) -> u8
+    ensures { result ≡ bars.rank_of hold }
 {
     match hold {
         Hold::Nothing => 0,
@@ -79,7 +79,7 @@ pub(crate) fn put_bars(
     let mut rest = rows;
     while let [row, tail @ ..] = rest {
         let now = held_behind(row, place.hart, place.line, hold);
-        if number_of(now) != number_of(hold) {
+        if rank_of(now) != rank_of(hold) {
             let lines = (from as u64, row.line as u64);
             put_bar(svg, plan, place.hart, place.column, lines, hold)?;
             from = row.line;

@@ -48,7 +48,7 @@ fn spell_answer(page: &mut Page, answer: Option<bool>)
 
 fn spell_retired(page: &mut Page, entry: &Retired)
     requires { HasLineRoom page.old }
-    ensures { page.new ≡ page.old ++ texts.retired entry.now }
+    ensures { page.new ≡ page.old ++ texts.retirement entry.now }
 {
     spell_instruction(page, entry);
     spell_loaded(page, entry.loaded);

@@ -1,7 +1,6 @@
 pub mod Unended
 pub mod Paging
 pub mod EventLines
-pub mod Fetching
 pub mod ClosingLines
 pub mod Counting
 pub mod StateSizes

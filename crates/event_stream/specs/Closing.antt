@@ -45,12 +45,12 @@ abbrev pub next_text : List Named → State → ℕ → List ℕ
 next_text names s h = disassembled names (node_at s h).hart.pc (next_instr s h)
 
 -- the address that an instruction reads or writes, by its hart's registers
-abbrev pub named_by : Initial → Hart → Option Instr → Option ℕ
-named_by image h None = None
-named_by image h (Some i) = addressed (planned i h.pc h.regs (length image.bytes))
+abbrev pub accessed_by : Initial → Hart → Option Instr → Option ℕ
+accessed_by image h None = None
+accessed_by image h (Some i) = addressed (planned i h.pc h.regs (length image.bytes))
 
 abbrev pub next_address : State → ℕ → Option ℕ
-next_address s h = named_by s.trace.image (node_at s h).hart (next_instr s h)
+next_address s h = accessed_by s.trace.image (node_at s h).hart (next_instr s h)
 
 -- ---- what a step waits for, each address behind a space
 
@@ -78,11 +78,11 @@ abbrev pub takes_way : Cache → ℕ → Bool
 takes_way c line = is_some (copy_at c line) || set.contains c.acquiring line
 
 -- it takes one of the set of the line that is wanted
-abbrev pub is_in_set : State → Cache → ℕ → ℕ → Bool
-is_in_set s c wanted line = set_of (shape_of s) line == set_of (shape_of s) wanted && takes_way c line
+abbrev pub takes_way_beside : State → Cache → ℕ → ℕ → Bool
+takes_way_beside s c wanted line = set_of (shape_of s) line == set_of (shape_of s) wanted && takes_way c line
 
 abbrev pub way_of_set : State → Cache → (wanted number : ℕ) → List ℕ
-way_of_set s c wanted number = if is_in_set s c wanted (line_address s number) then address (line_address s number) else []
+way_of_set s c wanted number = if takes_way_beside s c wanted (line_address s number) then address (line_address s number) else []
 
 -- the lines that take the ways of this line's set, the lowest first
 abbrev pub ways_of_set : State → Cache → ℕ → List ℕ

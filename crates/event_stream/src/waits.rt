@@ -1,11 +1,9 @@
 //! Writing what a hart's next step waits for.
-ghost use Rattle.std.specs.Prelude.{◌≡◌, ◌+◌, ◌<◌, ◌≤◌, ◌*◌, ◌++◌, IsTrue, length};
+ghost use Rattle.std.specs.Prelude.{◌≡◌, ◌+◌, ◌<◌, ◌≤◌, ◌*◌, ◌++◌, length};
 ghost use Rattle.std.specs.List.{flat_map};
 ghost use Rattle.client_cache.specs.Cache.{copy_at};
-ghost use Rattle.elf_loader.specs.Image.{HasWord};
 ghost use Rattle.elf_loader.specs.Size.{base};
 ghost use Rattle.event_stream.specs.Closing as closing;
-ghost use Rattle.hart.specs.Run.{can_fetch};
 ghost use Rattle.machine_model.specs.Ready.{shape_of};
 ghost use Rattle.machine_model.specs.Views.{line_of, line_size, node_at, size_of_config};
 ghost use Rattle.client_cache.specs.Shape.{set_of};
@@ -15,7 +13,7 @@ ghost use Rattle.tl_types.specs.Line.{length_of};
 use client_cache::{ClientCache, Held};
 use coherent_machine::Machine;
 use elf_loader::{BASE, Image};
-use hart::Hart;
+use hart::{Hart, can_fetch};
 use machine_model::Outcome;
 use machine_parts::line_size;
 use rv32_decode::{Instr, decode};
@@ -24,14 +22,6 @@ use std::io::{Result, Write};
 use store_buffer::{Entry, StoreBuffer};
 use text_fields::Page;
 use tl_types::LineSize;
-
-/// Whether a word of memory lies at this address.
-fn can_fetch(image: &Image, pc: u32) -> bool
-    ensures exact { result ≡ can_fetch image.now pc }
-    ensures word { IsTrue result → HasWord image.now pc }
-{
-    image.has_word(pc)
-}
 
 /// The instruction that lies at an address, if one does.
 pub(crate) fn instr_at(image: &Image, pc: u32) -> Option<Instr>
@@ -44,8 +34,8 @@ pub(crate) fn instr_at(image: &Image, pc: u32) -> Option<Instr>
     }
 }
 
-fn named_by(image: &Image, hart: &Hart, instr: Option<Instr>) -> Option<u32>
-    ensures { result ≡ closing.named_by image.now hart.now instr }
+fn accessed_by(image: &Image, hart: &Hart, instr: Option<Instr>) -> Option<u32>
+    ensures { result ≡ closing.accessed_by image.now hart.now instr }
 {
     match instr {
         Some(instr) => plan(&instr, hart.pc, &hart.regs, image.size()).address(),
@@ -61,7 +51,7 @@ fn next_address(machine: &Machine, hart: usize) -> Option<u32>
     let image = machine.trace().image();
     let views = machine.views();
     let state = views.hart(hart);
-    named_by(image, state, instr_at(image, state.pc))
+    accessed_by(image, state, instr_at(image, state.pc))
 }
 
 fn spell_address(page: &mut Page, address: u32)
@@ -146,9 +136,9 @@ fn set_of(machine: &Machine, line: u32) -> u32
 }
 
 /// Whether a line takes a way of the set of the line that is wanted.
-fn is_in_set(machine: &Machine, cache: &ClientCache, wanted: u32, line: u32) -> bool
+fn takes_way_beside(machine: &Machine, cache: &ClientCache, wanted: u32, line: u32) -> bool
     requires { 0 < machine.now.views.config.sets }
-    ensures { result ≡ closing.is_in_set machine.now cache.now wanted line }
+    ensures { result ≡ closing.takes_way_beside machine.now cache.now wanted line }
 {
     set_of(machine, line) == set_of(machine, wanted) && takes_way(cache, line)
 }
@@ -161,7 +151,7 @@ fn spell_way(page: &mut Page, machine: &Machine, cache: &ClientCache, wanted: u3
     ensures { page.new ≡ page.old ++ closing.way_of_set machine.now cache.now wanted number }
 {
     let line = line_address(size_of(machine), number);
-    if is_in_set(machine, cache, wanted, line) {
+    if takes_way_beside(machine, cache, wanted, line) {
         spell_address(page, line);
     }
 }

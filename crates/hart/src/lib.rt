@@ -2,12 +2,14 @@
 #![tactic(auto)]
 
 mod batch;
+mod fetching;
 mod laws;
 mod retired;
 mod state;
 mod status;
 
 pub use batch::{Batch, next_alone, run_local};
+pub use fetching::can_fetch;
 pub use laws::runs_end_as_their_lists;
 pub use retired::Retired;
 pub use state::Hart;

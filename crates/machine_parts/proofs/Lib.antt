@@ -10,6 +10,5 @@ mod Numbers
 mod Fronts
 mod PrivateRows
 mod FoundPlans
-mod Fetching
 mod Taken
 pub mod Committed

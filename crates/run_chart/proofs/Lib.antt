@@ -1,3 +1,2 @@
-pub mod Fetching
 pub mod Telling
 pub mod Limits

@@ -1,8 +1,8 @@
 //! What a hart's next instruction comes to.
-ghost use Rattle.std.specs.Prelude.{◌≡◌, IsTrue};
-ghost use Rattle.elf_loader.specs.Image.{HasWord, word_at};
+ghost use Rattle.std.specs.Prelude.{◌≡◌};
+ghost use Rattle.elf_loader.specs.Image.{word_at};
 ghost use Rattle.elf_loader.specs.Size.{IsMemorySize};
-ghost use Rattle.hart.specs.Run.{can_fetch, next_stop};
+ghost use Rattle.hart.specs.Run.{next_stop};
 ghost use Rattle.machine_model.specs.Steps as spec;
 ghost use Rattle.machine_model.specs.Views.{size_of_config};
 ghost use Rattle.machine_parts.specs.Accesses.{fetched_of};
@@ -14,6 +14,7 @@ use super::access::{
 };
 use crate::node::Node;
 use elf_loader::Image;
+use hart::can_fetch;
 use machine_model::{Act, Config, Deed, Outcome, Plan};
 use rv32_decode::decode;
 use rv32_exec::{Action, plan, stop};
@@ -35,14 +36,6 @@ fn plan_instr(config: &Config, size: u32, node: &Node, fetched: &Fetched) -> Pla
         Action::Call => plan_call(node, fetched),
         Action::Stop(code) => Plan::Changes(Act::Stop(code)),
     }
-}
-
-/// Whether a word of memory lies at this address.
-fn can_fetch(image: &Image, pc: u32) -> bool
-    ensures exact { result ≡ can_fetch image.now pc }
-    ensures word { IsTrue result → HasWord image.now pc }
-{
-    image.has_word(pc)
 }
 
 /// What the next instruction of a running hart comes to.

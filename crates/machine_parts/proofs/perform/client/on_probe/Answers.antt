@@ -10,7 +10,7 @@ use Rattle.machine_parts.proofs.Rooms.{had_room_after}
 use Rattle.machine_parts.proofs.perform.client.on_probe.Goals as goal
 
 pub send-requires-clause-queue : goal.send-requires-clause-queue
-send-requires-clause-queue g c =
+send-requires-clause-queue c =
     let h = c.args.hart in
     let line = c.args.line in
     let s = state_of c.args.parts.now in

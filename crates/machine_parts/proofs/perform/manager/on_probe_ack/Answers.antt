@@ -10,7 +10,7 @@ abbrev pair : Notes → Option Grant → Option Grant × Notes
 pair notes answer = (answer, notes)
 
 pub send_grant-requires-clause-queues : goal.send_grant-requires-clause-queues
-send_grant-requires-clause-queues g c =
+send_grant-requires-clause-queues c =
     let s = state_of c.args.parts.now in
     fit_granted c.args.hart c.args.line c.args.change c.args.bytes s c.in-Some.grant c.on_probe_ack.new.self c.write_back.new.memory
     (ap (pair c.on_probe_ack.new.self) (sym c.in-Some.is) ∙ c.on_probe_ack.ensures.meaning ∙ ap (λ (place : ℕ). probe_acked s.views.notes place c.args.hart c.args.change) c.place_of-place.ensures)

@@ -1,5 +1,5 @@
-use Rattle.event_stream.proofs.Fetching.{fetches}
-use Rattle.event_stream.proofs.waits.can_fetch.Goals as goal
+use Rattle.hart.proofs.Fetching.{fetches}
+use Rattle.hart.proofs.fetching.can_fetch.Goals as goal
 
 pub returns-clause-exact : goal.returns-clause-exact
 returns-clause-exact c = fetches c.args.image.now c.args.pc c.has_word.result c.has_word.ensures
