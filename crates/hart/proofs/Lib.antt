@@ -1,4 +1,4 @@
 pub mod Endings
 pub mod Rows
 pub mod Alone
-pub mod Fetching
+pub mod Fetches

@@ -1,4 +1,4 @@
-use Rattle.hart.proofs.Fetching.{fetches}
+use Rattle.hart.proofs.Fetches.{fetches}
 use Rattle.hart.proofs.fetching.can_fetch.Goals as goal
 
 pub returns-clause-exact : goal.returns-clause-exact
