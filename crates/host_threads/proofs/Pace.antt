@@ -5,7 +5,12 @@ use Rattle.std.specs.List.{All}
 use Rattle.std.specs.declared.option.Option.TheVariants.{Some}
 use Rattle.std.specs.declared.result.Result.{Result}
 use Rattle.host_threads.specs.Pace.{IsPaced}
-use Rattle.locked_fabric.specs.Held.{Does, Held}
+use Rattle.std.specs.declared.option.Option.{Option}
+use Rattle.locked_fabric.specs.Held.{Answered, Does, Held}
+use Rattle.locked_fabric.specs.Turns.{DrewNumber, Takes}
+use Rattle.locked_fabric.specs.declared.taken.Taken.{Taken}
+use Rattle.locked_fabric.specs.declared.taken.Taken.TheVariants.{Nothing, Over, HeldBack, Tried}
+use Rattle.machine_model.specs.Views.{State}
 use Rattle.locked_fabric.specs.Port.{Applied, Left, seat_of, share_of}
 use Rattle.locked_fabric.specs.declared.port.Port.{Port}
 use Rattle.machine_model.specs.declared.event.Event.{Event}
@@ -61,18 +66,46 @@ book_grows (Keeps o) event old result new does = omega (arith, ap (λ (held : He
 book_grows IsLimited event old result new does = omega (arith, ap (λ (held : Held). held.book) does.1)
 book_grows (Moves o moved) event old result new does = omega (arith, ap (λ (held : Held). held.book) does.1)
 
-pub counts_once : (event : Event) (result : Result Outcome ApplyError) (before after : ℕ) (new : Held) → Applied event result before after new → after ≤ before + 1
-counts_once event result before after new applied =
-    let grows : new.book ≤ applied.old.book + 1 = ⊎_elim
+answer_counts : (event : Event) (result : Result Outcome ApplyError) (old new : Held) → Answered old event result new → new.book ≤ old.book + 1
+answer_counts event result old new answered =
+    ⊎_elim
     (λ kept. omega (arith, ap (λ (held : Held). held.book) kept.1))
-    (book_grows (verdict applied.old.machine event) event applied.old result new)
-    applied.answered in
-    omega (arith, applied.counted, grows)
+    (book_grows (verdict old.machine event) event old result new)
+    answered
+
+pub counts_once : (event : Event) (result : Result Outcome ApplyError) (before after : ℕ) (new : Held) → Applied event result before after new → after ≤ before + 1
+counts_once event result before after new applied = omega (arith, applied.counted, answer_counts event result applied.old new applied.answered)
+
+-- ---- a turn under one lock
+
+paced_is : (limit : ℕ) (before after : View) (count counted : ℕ) → after ≡ before → counted ≡ count → IsPaced limit before count → IsPaced limit after counted
+paced_is limit before after count counted same kept paced = subst (λ (v : View). IsPaced limit v counted) (sym same) (subst (λ (n : ℕ). IsPaced limit before n) (sym kept) paced)
+
+-- a number below the limit allows one event more than were counted
+paced_number : (limit number : ℕ) (before after : View) (count : ℕ) → DrewNumber limit number before after → IsPaced limit before count → IsPaced limit after (count + 1)
+paced_number limit number before after count drew paced =
+    paced_more limit before after count number (ap (λ (v : View). v.drawn) drew.drawn) paced drew.rising drew.low
+
+pub paced_took : {Picks : State → Option Event → Type 0} (limit : ℕ) (taken : Taken) (found left : Held) (before after : View) (count counted : ℕ) → Takes Picks limit taken found left before after count counted
+    → IsPaced limit before count → IsPaced limit after counted
+paced_took limit Nothing found left before after count counted takes paced = paced_is limit before after count counted takes.2 takes.3 paced
+paced_took limit Over found left before after count counted takes paced =
+    ⊎_elim
+    (λ drew. paced_fewer limit after count counted (omega (arith, takes.3)) (paced_drawn limit before after count drew.0 (ap (λ (v : View). v.drawn) drew.2) paced))
+    (λ spent. paced_is limit before after count counted spent.1 takes.3 paced)
+    takes.2
+paced_took limit (HeldBack number event) found left before after count counted takes paced =
+    paced_fewer limit after (count + 1) counted (omega (arith, takes.3)) (paced_number limit number before after count takes.2 paced)
+paced_took limit (Tried number event came) found left before after count counted takes paced =
+    paced_fewer limit after (count + 1) counted (omega (arith, takes.3, answer_counts event came found left takes.1)) (paced_number limit number before after count takes.2 paced)
+
+-- an event that is held back may still be counted
+pub paced_back : {Picks : State → Option Event → Type 0} (limit number : ℕ) (event : Event) (found left : Held) (before after : View) (count counted : ℕ)
+    → Takes Picks limit (HeldBack number event) found left before after count counted → IsPaced limit before count → IsPaced limit after (counted + 1)
+paced_back limit number event found left before after count counted takes paced =
+    subst (λ (n : ℕ). IsPaced limit after (n + 1)) (sym takes.3) (paced_number limit number before after count takes.2 paced)
 
 -- ---- a worker's port
-
-pub paced_port : {L : Type 0} (limit : ℕ) (old new : Port L) → new ≡ old → IsPaced limit (view (seat_of old)) (share_of old) → IsPaced limit (view (seat_of new)) (share_of new)
-paced_port {L} limit old new same = subst (λ (port : Port L). IsPaced limit (view (seat_of port)) (share_of port)) (sym same)
 
 -- its seat was lent to a call that draws nothing
 pub paced_lent : {L : Type 0} (limit : ℕ) (port : Port L) (lent left : Seat) → lent ≡ seat_of port → (view left).drawn ≡ (view lent).drawn → IsPaced limit (view (seat_of port)) (share_of port)

@@ -6,6 +6,6 @@ pub trait Gate {
     /// published these lengths of their lists, by hart.
     fn pass(&self, hart: u8, turn: u64, lengths: &[u64]);
 
-    /// The hart's worker has drawn this number, from 0, for the event that it tries next.
+    /// The hart's worker has drawn this number, from 0, for the event of its turn. It holds no lock.
     fn draw(&self, _hart: u8, _number: u64) {}
 }

@@ -1,48 +1,107 @@
-//! What a worker sees of its hart when it asks its turn.
+//! What a worker sees of its hart while it holds the lock.
 
-ghost use Rattle.std.specs.Prelude.{◌≡◌, ◌<◌, ◌↔◌, IfSome, IsSome, IsTrue, Some, false, length};
-ghost use Rattle.hart.specs.Run.{is_running};
+ghost use Rattle.std.specs.Prelude.{◌≡◌, ◌<◌, ◌↔◌, IfSome, IsSome, IsTrue, Some, length, true};
+ghost use Rattle.elf_loader.specs.Size.{IsMemorySize};
+ghost use Rattle.hart.specs.Local.{can_go_alone, is_done_alone};
+ghost use Rattle.locked_fabric.specs.Port.{seen_in};
 ghost use Rattle.machine_model.specs.declared.event.Event.TheVariants as event;
 ghost use Rattle.machine_model.specs.Views.{node_at};
 
-use coherent_machine::Views;
-use hart::Hart;
-use locked_fabric::Turn;
+use coherent_machine::{Machine, Views};
+use elf_loader::Image;
+use hart::{Hart, Status};
+use locked_fabric::{Turn, Visit};
 use machine_model::{Event, Outcome};
+use rv32_decode::{Instr, decode};
+use rv32_exec::{Action, plan};
 
 /// A hart's turn, with what is seen of the hart under the same lock.
 #[derive(Drop)]
-pub(crate) struct Watched<T: Turn + Drop> {
+pub(crate) struct Watched<'a, T: Turn + Drop> {
     pub(crate) turn: T,
     pub(crate) hart: u8,
-    /// Whether the hart is copied where its step is picked.
-    pub(crate) may_go_alone: bool,
-    /// Whether the hart was not running when the turn was asked last.
-    pub(crate) has_ended: bool,
-    /// The hart as it stood then, where its step was picked and it is copied.
+    pub(crate) image: &'a Image,
+    /// The hart as it stood when the turn was asked last, where its step was picked and is private.
     pub(crate) stepping: Option<Hart>,
+    /// The length of the hart's list and its status, as they were when the lock was held last.
+    pub(crate) seen: Option<(u64, Status)>,
 }
 
-impl<T: Turn + Drop> Turn for Watched<T> {
+impl<'a, T: Turn + Drop> Watched<'a, T> {
+    /// Whether the hart was not running.
+    pub(crate) fn has_ended(&self) -> bool {
+        self.seen
+            .is_some_and(|(_length, status)| !status.is_running())
+    }
+}
+
+impl<'a, T: Turn + Drop> Turn for Watched<'a, T> {
     fn pick(&mut self, views: &Views<'_>, last: Option<Outcome>) -> Option<Event>
         ensures hart { self.new.hart ≡ self.old.hart }
-        ensures ended { IsTrue self.new.has_ended
-            ↔ ((self.old.hart < length views.now.views.nodes) × (is_running (node_at views.now self.old.hart).hart.status ≡ false)) }
+        ensures image { self.new.image ≡ self.old.image }
         ensures steps { IsSome self.new.stepping
-            ↔ ((self.old.hart < length views.now.views.nodes) × IsTrue self.old.may_go_alone × (result ≡ Some (event.Step self.old.hart))) }
+            ↔ ((self.old.hart < length views.now.views.nodes) × (result ≡ Some (event.Step self.old.hart))
+            × (can_go_alone self.old.image.now (node_at views.now self.old.hart).hart ≡ true)) }
         ensures stood { IfSome self.new.stepping (λ hart. hart ≡ (node_at views.now self.old.hart).hart) }
     {
         let picked = self.turn.pick(views, last);
         let hart = self.hart;
-        self.has_ended = false;
         self.stepping = None;
-        if usize::from(hart) < views.harts() {
+        if usize::from(hart) < views.harts() && picked == Some(Event::Step { hart }) {
             let own = views.hart(usize::from(hart));
-            self.has_ended = !own.status.is_running();
-            if self.may_go_alone && picked == Some(Event::Step { hart }) {
+            if goes_alone(self.image, own) {
                 self.stepping = Some(*own);
             }
         }
         picked
+    }
+}
+
+impl<'a, T: Turn + Drop> Visit for Watched<'a, T> {
+    /// A private step is held back: the hart goes on alone.
+    fn holds_back(&self) -> bool
+        ensures { IsTrue result ↔ IsSome self.now.stepping }
+    {
+        self.stepping.is_some()
+    }
+
+    fn see(&mut self, machine: &Machine)
+        ensures seen { self.new.seen ≡ seen_in machine.now.trace self.old.hart }
+        ensures hart { self.new.hart ≡ self.old.hart }
+        ensures image { self.new.image ≡ self.old.image }
+        ensures stepping { self.new.stepping ≡ self.old.stepping }
+    {
+        let trace = machine.trace();
+        let hart = usize::from(self.hart);
+        self.seen = None;
+        if hart < trace.harts() {
+            self.seen = Some((trace.entries(hart).len() as u64, trace.statuses()[hart]));
+        }
+    }
+}
+
+// Whether the hart runs, and its next instruction is private and doesn't stop.
+fn goes_alone(image: &Image, hart: &Hart) -> bool
+    ensures { result ≡ can_go_alone image.now hart.now }
+{
+    if !hart.status.is_running() {
+        return false;
+    }
+    if !image.has_word(hart.pc) {
+        return false;
+    }
+    let Some(instr) = decode(image.word(hart.pc)) else {
+        return false;
+    };
+    is_alone(&instr, hart, image.size())
+}
+
+fn is_alone(instr: &Instr, hart: &Hart, size: u32) -> bool
+    requires { IsMemorySize size }
+    ensures { result ≡ is_done_alone hart.now (Some instr.now) }
+{
+    match plan(instr, hart.pc, &hart.regs, size) {
+        Action::Private => true,
+        _ => false,
     }
 }

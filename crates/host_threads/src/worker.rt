@@ -1,6 +1,6 @@
 //! What one thread does.
 
-ghost use Rattle.std.specs.Prelude.{◌≡◌, ◌+◌, ◌≤◌, IfOk, IsTrue, OnErr};
+ghost use Rattle.std.specs.Prelude.{◌≡◌, ◌+◌, ◌≤◌, IfOk, OnErr};
 ghost use Rattle.hart.specs.Local.{row_of};
 ghost use Rattle.host_threads.specs.Pace.{IsPaced};
 ghost use Rattle.locked_fabric.specs.Port.{seat_of, share_of};
@@ -13,7 +13,7 @@ use coherent_machine::{AdoptError, ApplyError};
 use crossbeam_utils::Backoff;
 use elf_loader::Image;
 use hart::{Batch, Hart, run_local};
-use locked_fabric::{Port, Share, Turn};
+use locked_fabric::{Numbers, Port, Share, Taken, Turn};
 use machine_model::{Config, Event, Outcome};
 use progress_board::Board;
 use std::alloc::{AllocError, Global};
@@ -44,7 +44,7 @@ pub(crate) struct Common {
 pub(crate) struct Worker<'a, L: Ledger, T: Turn + Drop> {
     common: &'a Common,
     port: Port<'a, L>,
-    turn: Watched<T>,
+    turn: Watched<'a, T>,
     hart: u8,
     last: Option<Outcome>,
     has_halted: bool,
@@ -70,9 +70,9 @@ impl<'a, L: Ledger, T: Turn + Drop> Worker<'a, L, T> {
         let turn = Watched {
             turn,
             hart,
-            may_go_alone: true,
-            has_ended: false,
+            image: &common.image,
             stepping: None,
+            seen: None,
         };
         Worker {
             common,
@@ -132,69 +132,48 @@ impl<'a, L: Ledger, T: Turn + Drop> Worker<'a, L, T> {
         if board.halted(self.port.seat()) == (1 << board.harts()) - 1 {
             return Ok(false);
         }
-        let picked = self.port.pick(rt, &mut self.turn, self.last);
-        if self.turn.has_ended {
-            self.halt();
-        }
-        let Some(event) = picked else {
-            self.backoff.snooze();
-            return Ok(true);
+        let numbers = Numbers {
+            board,
+            limit: self.common.limit,
         };
-        if !self.draw(gate) {
-            return Ok(false);
-        }
-        let Some(outcome) = self.carry_out(rt, event)? else {
-            return Ok(false);
-        };
-        self.last = Some(outcome);
-        if is_change(outcome) {
-            self.backoff.reset();
-            self.publish(rt);
-        } else {
-            self.backoff.snooze();
-        }
-        Ok(true)
-    }
-
-    // Draws a number. Whether it allows one more event.
-    fn draw<G: Gate>(&mut self, gate: &G) -> bool
-        ensures common { self.new.common ≡ self.old.common }
-        ensures allowed { IsTrue result → IsPaced self.new.common.now.limit (view (seat_of self.new.port)) (share_of self.new.port + 1) }
-    {
-        match self.common.board.draw(self.port.seat()) {
-            Ok(number) if number < self.common.limit => {
-                gate.draw(self.hart, number);
-                true
+        match self.port.take(rt, &numbers, &mut self.turn, self.last) {
+            Taken::Nothing => {
+                self.rest();
+                Ok(true)
             }
-            _ => false,
+            Taken::Over => Ok(false),
+            Taken::HeldBack { number, event } => {
+                gate.draw(self.hart, number);
+                let came = self.go_alone(rt, event);
+                self.go_on(came)
+            }
+            Taken::Tried {
+                number,
+                event: _,
+                came,
+            } => {
+                gate.draw(self.hart, number);
+                self.go_on(came)
+            }
         }
     }
 
-    // What comes of the event, or `None` where the machine is at a limit.
-    fn carry_out<R: Wait>(&mut self, rt: &R, event: Event) -> Result<Option<Outcome>, Fault>
+    // Runs what the hart does next alone, from where it stood, and commits it; where the hart stands there no
+    // more, applies its step.
+    fn go_alone<R: Wait>(&mut self, rt: &R, event: Event) -> Result<Outcome, ApplyError>
         requires { IsPaced self.old.common.now.limit (view (seat_of self.old.port)) (share_of self.old.port + 1) }
         ensures { self.new.common ≡ self.old.common }
     {
         match self.commit(rt) {
-            Ok(outcome) => return Ok(Some(outcome)),
-            Err(AdoptError::Limit) => return Ok(None),
-            Err(AdoptError::NoMemory) => return Err(Fault::NoMemory),
-            Err(AdoptError::Stale | AdoptError::Empty) => {}
-        }
-        match self.port.apply(rt, event) {
-            Ok(outcome) => {
-                // Behind the instruction may stand private ones.
-                self.turn.may_go_alone |= outcome == Outcome::Retired;
-                Ok(Some(outcome))
+            Ok(outcome) => Ok(outcome),
+            Err(AdoptError::Limit) => Err(ApplyError::Limit),
+            Err(AdoptError::NoMemory) => Err(ApplyError::NoMemory),
+            Err(AdoptError::Stale | AdoptError::Empty) => {
+                self.port.apply(rt, event, &mut self.turn)
             }
-            Err(ApplyError::Limit) => Ok(None),
-            Err(ApplyError::NoMemory) => Err(Fault::NoMemory),
-            Err(ApplyError::BadEvent) => Err(Fault::BadEvent),
         }
     }
 
-    // Where the hart's step was picked, runs what it does next alone, from where it stood, and commits it.
-    // Behind a batch that isn't full stands an instruction that isn't private, so the next step is no batch.
     fn commit<R: Wait>(&mut self, rt: &R) -> Result<Outcome, AdoptError>
         requires { IsPaced self.old.common.now.limit (view (seat_of self.old.port)) (share_of self.old.port + 1) }
         ensures common { self.new.common ≡ self.old.common }
@@ -204,27 +183,55 @@ impl<'a, L: Ledger, T: Turn + Drop> Worker<'a, L, T> {
             return Err(AdoptError::Empty);
         };
         match &row_from(self.common.alloc, &self.common.image, hart) {
-            Ok(batch) => {
-                let length = batch.entries().len();
-                self.turn.may_go_alone = length == MOST_ALONE as usize;
-                if length == 0 {
-                    return Err(AdoptError::Empty);
-                }
-                self.port.commit(rt, batch)
-            }
+            Ok(batch) => self.port.commit(rt, batch, &mut self.turn),
             Err(_) => Err(AdoptError::NoMemory),
         }
     }
 
-    // Publishes the length of the hart's list.
-    fn publish<R: Wait>(&mut self, rt: &R)
+    // Whether another turn follows one with this outcome.
+    fn go_on(&mut self, came: Result<Outcome, ApplyError>) -> Result<bool, Fault>
         ensures { self.new.common ≡ self.old.common }
     {
-        if let Some((length, status)) = self.port.seen(rt, self.hart) {
+        let outcome = match came {
+            Ok(outcome) => outcome,
+            Err(ApplyError::Limit) => return Ok(false),
+            Err(ApplyError::NoMemory) => return Err(Fault::NoMemory),
+            Err(ApplyError::BadEvent) => return Err(Fault::BadEvent),
+        };
+        self.last = Some(outcome);
+        if is_change(outcome) {
+            self.backoff.reset();
+            self.publish();
+            self.halt_at_end();
+        } else {
+            self.rest();
+        }
+        Ok(true)
+    }
+
+    // Publishes the length of the hart's list.
+    fn publish(&mut self)
+        ensures { self.new.common ≡ self.old.common }
+    {
+        if let Some((length, _status)) = self.turn.seen {
             self.common.board.publish(self.port.seat(), length);
-            if !status.is_running() {
-                self.halt();
-            }
+        }
+    }
+
+    // Waits a little.
+    fn rest(&mut self)
+        ensures { self.new.common ≡ self.old.common }
+    {
+        self.halt_at_end();
+        self.backoff.snooze();
+    }
+
+    // Sets the hart's halted bit where the hart isn't running.
+    fn halt_at_end(&mut self)
+        ensures { self.new.common ≡ self.old.common }
+    {
+        if self.turn.has_ended() {
+            self.halt();
         }
     }
 

@@ -3,17 +3,23 @@
 ghost use Rattle.std.specs.Prelude.{◌≡◌, ◌≢◌, ◌+◌, ◌↔◌, [], length, replicate, sum, false, IsTrue, Err, IfOk, OnOk, OnErr};
 ghost use Rattle.coherent_machine.specs.Adopting.{IsCurrent, local_of};
 ghost use Rattle.coherent_machine.specs.Machine.{KeepsHeadline};
-ghost use Rattle.locked_fabric.specs.Held.{Answered, IsReplay, journalled, opened};
+ghost use Rattle.locked_fabric.specs.Held.{Answered, IsKept, IsReplay, journalled, opened};
+ghost use Rattle.locked_fabric.specs.Turns.{Takes};
 ghost use Rattle.machine_model.specs.Config.{is_within_limits};
 ghost use Rattle.machine_model.specs.Events.{Verdict, happens, verdict};
 ghost use Rattle.machine_model.specs.LawfulLog.{IsLawfulLog};
 ghost use Rattle.machine_model.specs.Laws.{IsHeadline, KeepsImageAndConfig};
+ghost use Rattle.progress_board.specs.Seat.{IsSeatOf, view};
 
+use crate::numbers::Numbers;
 use crate::share::Share;
+use crate::taken::Taken;
+use crate::turn::Visit;
 use coherent_machine::{AdoptError, ApplyError, Machine, NewError};
 use elf_loader::Image;
 use hart::Batch;
 use machine_model::{Config, Event, Outcome, changes_are_counted};
+use progress_board::Seat;
 use std::alloc::Global;
 use std::marker::Model;
 use std::sync::ledger;
@@ -111,6 +117,38 @@ impl<L: Ledger> Fabric<L> {
             share.add(&mut self.book);
         }
         Ok(outcome)
+    }
+
+    /// Takes a turn: what is picked draws a number, and is applied as `apply` does unless it is held back.
+    pub fn take<T: Visit>(
+        &mut self,
+        numbers: &Numbers<'_>,
+        seat: &mut Seat,
+        share: &mut Share<L>,
+        turn: &mut T,
+        last: Option<Outcome>,
+    ) -> Taken
+        requires { IsSeatOf numbers.now.board.now seat.old }
+        ensures seat { IsSeatOf numbers.now.board.now seat.new }
+        ensures takes { Takes (λ machine picked. (after : T) × T.picks turn.old machine last picked after) numbers.now.limit result
+            self.old self.new (view seat.old) (view seat.new) share.old share.new }
+        ensures found { IsKept self.old }
+    {
+        let Some(event) = turn.pick(&self.machine().views(), last) else {
+            return Taken::Nothing;
+        };
+        let Some(number) = numbers.draw(seat) else {
+            return Taken::Over;
+        };
+        if turn.holds_back() {
+            return Taken::HeldBack { number, event };
+        }
+        let came = self.apply(event, share);
+        Taken::Tried {
+            number,
+            event,
+            came,
+        }
     }
 
     /// Adopts a batch as `Machine::adopt` does, for the hart that the batch begins with, and journals it as

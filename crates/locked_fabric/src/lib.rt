@@ -3,11 +3,15 @@
 #![tactic(auto)]
 
 mod fabric;
+mod numbers;
 mod port;
 mod share;
+mod taken;
 mod turn;
 
 pub use fabric::Fabric;
+pub use numbers::Numbers;
 pub use port::Port;
 pub use share::Share;
-pub use turn::Turn;
+pub use taken::Taken;
+pub use turn::{Turn, Visit};

@@ -5,8 +5,10 @@ ghost use Rattle.std.specs.Borrow.{sem};
 ghost use Rattle.coherent_machine.specs.Adopting.{local_of};
 
 use crate::fabric::Fabric;
+use crate::numbers::Numbers;
 use crate::share::Share;
-use crate::turn::Turn;
+use crate::taken::Taken;
+use crate::turn::{Turn, Visit};
 use coherent_machine::{AdoptError, ApplyError};
 use hart::{Batch, Hart, Status};
 use machine_model::{Event, Outcome};
@@ -25,6 +27,10 @@ pub struct Port<'a, L: Ledger> {
 }
 
 impl<'a, L: Ledger> Port<'a, L> {
+    ghost use Rattle.std.specs.Prelude.{ℕ};
+    ghost use Rattle.locked_fabric.specs.Held.{Held, IsKept};
+    ghost use Rattle.locked_fabric.specs.Turns.{Takes};
+    ghost use Rattle.progress_board.specs.Seat.{IsSeatOf, view};
     ghost use Rattle.locked_fabric.specs.Port.{Applied, Committed, IsLast, Left, LendsSeat, hart_at, seat_of, seen_in, share_of};
 
     pub fn new(lock: &'a Mutex<Fabric<L>>, seat: Seat, share: Share<L>) -> Port<'a, L>
@@ -48,17 +54,54 @@ impl<'a, L: Ledger> Port<'a, L> {
         turn.pick(&fabric.machine().views(), last)
     }
 
-    /// Applies an event, as `Fabric::apply` does. It waits for the lock.
-    pub fn apply<R: Wait>(&mut self, rt: &R, event: Event) -> Result<Outcome, ApplyError>
+    /// Takes a turn under one lock: what is picked draws a number, and is applied as `Fabric::apply` does
+    /// unless it is held back. It waits for the lock.
+    pub fn take<R: Wait, T: Visit>(
+        &mut self,
+        rt: &R,
+        numbers: &Numbers<'_>,
+        turn: &mut T,
+        last: Option<Outcome>,
+    ) -> Taken
+        requires { IsSeatOf numbers.now.board.now (seat_of self.old) }
+        ensures seat { IsSeatOf numbers.now.board.now (seat_of self.new) }
+        ensures takes { Left (λ left. (found : Held) × IsKept found
+            × Takes (λ machine picked. (after : T) × T.picks turn.old machine last picked after) numbers.now.limit result
+            found left (view (seat_of self.old)) (view (seat_of self.new)) (share_of self.old) (share_of self.new)) }
+    {
+        let Port { lock, seat, share } = self;
+        let mut fabric = lock.lock(rt);
+        let taken = fabric.take(numbers, seat, share, turn, last);
+        turn.see(fabric.machine());
+        taken
+    }
+
+    /// Applies an event, as `Fabric::apply` does, and lets the turn see what it leaves. It waits for the
+    /// lock.
+    pub fn apply<R: Wait, T: Visit>(
+        &mut self,
+        rt: &R,
+        event: Event,
+        turn: &mut T,
+    ) -> Result<Outcome, ApplyError>
         ensures seat { seat_of self.new ≡ seat_of self.old }
         ensures answers { Left (Applied event result (share_of self.old) (share_of self.new)) }
         ensures err { OnErr result (share_of self.new ≡ share_of self.old) }
     {
-        self.lock.lock(rt).apply(event, &mut self.share)
+        let mut fabric = self.lock.lock(rt);
+        let applied = fabric.apply(event, &mut self.share);
+        turn.see(fabric.machine());
+        applied
     }
 
-    /// Commits a batch, as `Fabric::commit` does. It waits for the lock.
-    pub fn commit<R: Wait>(&mut self, rt: &R, batch: &Batch) -> Result<Outcome, AdoptError>
+    /// Commits a batch, as `Fabric::commit` does, and lets the turn see what it leaves. It waits for the
+    /// lock.
+    pub fn commit<R: Wait, T: Visit>(
+        &mut self,
+        rt: &R,
+        batch: &Batch,
+        turn: &mut T,
+    ) -> Result<Outcome, AdoptError>
         ensures seat { seat_of self.new ≡ seat_of self.old }
         ensures answers { Left (Committed batch.now result (share_of self.old) (share_of self.new)) }
         ensures retired { IfOk result (λ outcome. outcome ≡ Outcome.Retired) }
@@ -66,7 +109,10 @@ impl<'a, L: Ledger> Port<'a, L> {
         ensures ok { OnOk result (share_of self.new ≡ share_of self.old + 1) }
         ensures err { OnErr result (share_of self.new ≡ share_of self.old) }
     {
-        self.lock.lock(rt).commit(batch, &mut self.share)
+        let mut fabric = self.lock.lock(rt);
+        let committed = fabric.commit(batch, &mut self.share);
+        turn.see(fabric.machine());
+        committed
     }
 
     /// How many instructions the hart has retired, and its status; none where there is no such hart. It waits

@@ -5,7 +5,7 @@ ghost use Rattle.machine_model.specs.declared.event.Event.{Event};
 ghost use Rattle.machine_model.specs.declared.outcome.Outcome.{Outcome};
 ghost use Rattle.machine_model.specs.Views.{State};
 
-use coherent_machine::Views;
+use coherent_machine::{Machine, Views};
 use machine_model::{Event, Outcome};
 
 /// Picks events for a worker. Whatever it picks, a fabric stays what its journal leads to.
@@ -18,4 +18,13 @@ pub trait Turn {
     /// leave this turn out.
     fn pick(&mut self, views: &Views<'_>, last: Option<Outcome>) -> Option<Event>
         ensures { picks self.old views.now last result self.new };
+}
+
+/// A turn that is taken while the worker holds the lock.
+pub trait Visit: Turn {
+    /// Whether the event picked last is held back: a number is drawn for it, and it isn't applied.
+    fn holds_back(&self) -> bool;
+
+    /// Sees the machine that the worker leaves, before the lock is free again.
+    fn see(&mut self, machine: &Machine);
 }

@@ -3,10 +3,10 @@
 
 ghost use Rattle.std.specs.Prelude.{◌≡◌, ◌<◌};
 
-use coherent_machine::{AdoptError, ApplyError, Views};
+use coherent_machine::{AdoptError, ApplyError, Machine, Views};
 use elf_loader::{Image, raw, size_of_kib};
 use hart::{Hart, Retired, Status, run_local};
-use locked_fabric::{Fabric, Port, Share, Turn};
+use locked_fabric::{Fabric, Port, Share, Turn, Visit};
 use machine_model::{Config, Event, MemoryModel, Outcome};
 use progress_board::{Board, Seat};
 use std::alloc::{AllocError, Global};
@@ -114,6 +114,14 @@ impl Turn for Listed {
     }
 }
 
+impl Visit for Listed {
+    fn holds_back(&self) -> bool {
+        false
+    }
+
+    fn see(&mut self, _machine: &Machine) {}
+}
+
 /// The program of a row with as many harts, and row 1's.
 #[derive(Drop)]
 struct Programs {
@@ -129,7 +137,7 @@ fn commit_run<L: Ledger, R: Wait + AllocGlobal>(
     hart: &Hart,
 ) -> Answer {
     match run_local(rt.alloc(), image, hart, 256) {
-        Ok(batch) => committed(port.commit(rt, &batch)),
+        Ok(batch) => committed(port.commit(rt, &batch, &mut Listed)),
         Err(_) => Answer::NotAdopted(AdoptError::NoMemory),
     }
 }
@@ -145,9 +153,9 @@ fn ask<L: Ledger, R: Wait + AllocGlobal>(
         return Answer::Nothing;
     };
     match call {
-        Call::Apply(event) => applied(port.apply(rt, event)),
+        Call::Apply(event) => applied(port.apply(rt, event, &mut Listed)),
         Call::Picked => match port.pick(rt, &mut Listed, last) {
-            Some(event) => applied(port.apply(rt, event)),
+            Some(event) => applied(port.apply(rt, event, &mut Listed)),
             None => Answer::Nothing,
         },
         Call::CommitFirst => {

@@ -1,13 +1,8 @@
 use Rattle.std.proofs.Common.{ap}
-use Rattle.host_threads.proofs.Pace.{paced_lent, paced_port}
+use Rattle.host_threads.proofs.Pace.{paced_lent, paced_took}
 use Rattle.progress_board.specs.declared.view.View.{View}
 use Rattle.host_threads.proofs.worker.Worker.take_turn.Goals as goal
 
 pub invariant_of-self-clause-paced : goal.invariant_of-self-clause-paced
 invariant_of-self-clause-paced g c =
     paced_lent c.args.self.now.common.now.limit c.args.self.now.port c.seat.result.now c.halted.new.seat c.seat.ensures.now (ap (λ (v : View). v.drawn) c.halted.ensures.seen) c.args.self.now.paced
-
-pub invariant_of-self-2-clause-paced : goal.invariant_of-self-2-clause-paced
-invariant_of-self-2-clause-paced g c =
-    paced_port c.args.self.now.common.now.limit _ c.pick-picked.new.self c.pick-picked.ensures.same
-    (paced_lent c.args.self.now.common.now.limit c.args.self.now.port c.seat.result.now c.halted.new.seat c.seat.ensures.now (ap (λ (v : View). v.drawn) c.halted.ensures.seen) c.args.self.now.paced)

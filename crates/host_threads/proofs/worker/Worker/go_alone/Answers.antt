@@ -1,5 +1,5 @@
 use Rattle.host_threads.proofs.Pace.{paced_applied}
-use Rattle.host_threads.proofs.worker.Worker.carry_out.Goals as goal
+use Rattle.host_threads.proofs.worker.Worker.go_alone.Goals as goal
 
 pub invariant_of-self-clause-paced : goal.invariant_of-self-clause-paced
 invariant_of-self-clause-paced g c =
