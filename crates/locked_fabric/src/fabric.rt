@@ -133,6 +133,7 @@ impl<L: Ledger> Fabric<L> {
         ensures takes { Takes (λ machine picked. (after : T) × T.picks turn.old machine last picked after) numbers.now.limit result
             self.old self.new (view seat.old) (view seat.new) share.old share.new }
         ensures found { IsKept self.old }
+        ensures left { IsKept self.new }
     {
         let Some(event) = turn.pick(&self.machine().views(), last) else {
             return Taken::Nothing;

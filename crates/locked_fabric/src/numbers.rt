@@ -7,6 +7,7 @@ ghost use Rattle.progress_board.specs.Seat.{IsSeatOf, view};
 use progress_board::{Board, Seat};
 
 /// The numbers of a board that are below a limit: each event is tried by one of them.
+#[derive(Clone, Copy)]
 pub struct Numbers<'a> {
     pub board: &'a Board,
     pub limit: u64,
