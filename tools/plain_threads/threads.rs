@@ -4,7 +4,7 @@
 
 use coherent_machine::{AdoptError, ApplyError, Machine, Views};
 use elf_loader::{BASE, Image, load};
-use hart::{Batch, Hart, run_local};
+use hart::{Batch, Hart, Status, run_local};
 use kit::alloc::Global;
 use kit::ledger::{Blank, Brand};
 use machine_model::{Config, Event, MemoryModel, Outcome};
@@ -115,6 +115,13 @@ fn accessed(image: &Image, hart: &Hart) -> Option<u32> {
     }
 }
 
+fn goes_alone(image: &Image, hart: &Hart) -> bool {
+    hart.status.is_running()
+        && image.has_word(hart.pc)
+        && decode(image.word(hart.pc))
+            .is_some_and(|instr| matches!(plan(&instr, hart.pc, &hart.regs, image.size()), Action::Private))
+}
+
 impl Rounds<'_> {
     fn wanted(&self, hart: &Hart) -> Option<u32> {
         match self.picked {
@@ -200,6 +207,14 @@ impl Idle {
     }
 }
 
+/// What a turn came to while the lock was held.
+enum Taken {
+    Nothing,
+    Over,
+    HeldBack(Event),
+    Tried(Result<Outcome, Fault>),
+}
+
 struct Worker<'a> {
     hart: u8,
     harts: usize,
@@ -208,9 +223,8 @@ struct Worker<'a> {
     board: &'a Board,
     lock: &'a Mutex<Fabric>,
     rounds: Rounds<'a>,
-    may_go_alone: bool,
-    is_stepping: bool,
     state: Hart,
+    seen: (u64, Status),
     last: Option<Outcome>,
     has_halted: bool,
     receipts: u64,
@@ -246,64 +260,76 @@ impl Worker<'_> {
         if self.board.halted.load(Ordering::SeqCst) == (1 << self.harts) - 1 {
             return Ok(false);
         }
-        let (picked, has_ended) = {
-            let fabric = self.lock.lock().unwrap();
-            let views = fabric.machine.views();
-            let picked = self.rounds.pick(&views, self.last);
-            let own = views.hart(usize::from(self.hart));
-            self.is_stepping = self.may_go_alone && picked == Some(Event::Step { hart: self.hart });
-            if self.is_stepping {
-                self.state = *own;
+        let outcome = match self.take() {
+            Taken::Nothing => {
+                self.rest();
+                return Ok(true);
             }
-            (picked, !own.status.is_running())
+            Taken::Over => return Ok(false),
+            Taken::HeldBack(event) => self.go_alone(event)?,
+            Taken::Tried(came) => came?,
         };
-        if has_ended {
-            self.halt();
-        }
-        let Some(event) = picked else {
-            self.idle.snooze();
-            return Ok(true);
-        };
-        if self.board.counter.fetch_add(1, Ordering::SeqCst) >= self.limit {
-            return Ok(false);
-        }
-        let outcome = self.carry_out(event)?;
         self.last = Some(outcome);
         if is_change(outcome) {
             self.receipts += 1;
             self.idle = Idle(0);
-            self.publish();
+            self.board.lengths[usize::from(self.hart)].fetch_max(self.seen.0, Ordering::SeqCst);
+            self.halt_at_end();
         } else {
-            self.idle.snooze();
+            self.rest();
         }
         Ok(true)
     }
 
-    fn carry_out(&mut self, event: Event) -> Result<Outcome, Fault> {
-        if self.is_stepping {
-            let batch = run_local(Global, self.image, &self.state, MOST_ALONE).map_err(|_| Fault::NoMemory)?;
-            self.may_go_alone = batch.entries().len() == MOST_ALONE as usize;
-            if !batch.entries().is_empty() {
-                match self.lock.lock().unwrap().commit(&batch) {
-                    Err(Fault::Stale) => {}
-                    answer => return answer,
-                }
-            }
-        }
-        let outcome = self.lock.lock().unwrap().apply(event)?;
-        self.may_go_alone |= outcome == Outcome::Retired;
-        Ok(outcome)
+    fn take(&mut self) -> Taken {
+        let lock = self.lock;
+        let mut fabric = lock.lock().unwrap();
+        let taken = self.take_on(&mut fabric);
+        self.see(&fabric);
+        taken
     }
 
-    fn publish(&mut self) {
-        let (length, status) = {
-            let fabric = self.lock.lock().unwrap();
-            let trace = fabric.machine.trace();
-            let hart = usize::from(self.hart);
-            (trace.entries(hart).len() as u64, trace.statuses()[hart])
+    fn take_on(&mut self, fabric: &mut Fabric) -> Taken {
+        let views = fabric.machine.views();
+        let Some(event) = self.rounds.pick(&views, self.last) else {
+            return Taken::Nothing;
         };
-        self.board.lengths[usize::from(self.hart)].fetch_max(length, Ordering::SeqCst);
-        if !status.is_running() {
+        if self.board.counter.fetch_add(1, Ordering::SeqCst) >= self.limit {
+            return Taken::Over;
+        }
+        let own = views.hart(usize::from(self.hart));
+        if event == (Event::Step { hart: self.hart }) && goes_alone(self.image, own) {
+            self.state = *own;
+            return Taken::HeldBack(event);
+        }
+        Taken::Tried(fabric.apply(event))
+    }
+
+    fn go_alone(&mut self, event: Event) -> Result<Outcome, Fault> {
+        let batch = run_local(Global, self.image, &self.state, MOST_ALONE).map_err(|_| Fault::NoMemory)?;
+        let lock = self.lock;
+        let mut fabric = lock.lock().unwrap();
+        let came = match fabric.commit(&batch) {
+            Err(Fault::Stale) => fabric.apply(event),
+            answer => answer,
+        };
+        self.see(&fabric);
+        came
+    }
+
+    fn see(&mut self, fabric: &Fabric) {
+        let trace = fabric.machine.trace();
+        let hart = usize::from(self.hart);
+        self.seen = (trace.entries(hart).len() as u64, trace.statuses()[hart]);
+    }
+
+    fn rest(&mut self) {
+        self.halt_at_end();
+        self.idle.snooze();
+    }
+
+    fn halt_at_end(&mut self) {
+        if !self.seen.1.is_running() {
             self.halt();
         }
     }
@@ -347,9 +373,8 @@ fn main() {
                     board: &board,
                     lock: &lock,
                     rounds,
-                    may_go_alone: true,
-                    is_stepping: false,
                     state: Hart::at_reset(hart, own.entry(), harts),
+                    seen: (0, Status::Running),
                     last: None,
                     has_halted: false,
                     receipts: 0,

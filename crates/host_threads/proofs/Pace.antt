@@ -100,10 +100,8 @@ paced_took limit (Tried number event came) found left before after count counted
     paced_fewer limit after (count + 1) counted (omega (arith, takes.3, answer_counts event came found left takes.1)) (paced_number limit number before after count takes.2 paced)
 
 -- an event that is held back may still be counted
-pub paced_back : {Picks : State → Option Event → Type 0} (limit number : ℕ) (event : Event) (found left : Held) (before after : View) (count counted : ℕ)
-    → Takes Picks limit (HeldBack number event) found left before after count counted → IsPaced limit before count → IsPaced limit after (counted + 1)
-paced_back limit number event found left before after count counted takes paced =
-    subst (λ (n : ℕ). IsPaced limit after (n + 1)) (sym takes.3) (paced_number limit number before after count takes.2 paced)
+pub paced_back : (limit number : ℕ) (before after : View) (count counted : ℕ) → DrewNumber limit number before after → counted ≡ count → IsPaced limit before count → IsPaced limit after (counted + 1)
+paced_back limit number before after count counted drew kept paced = subst (λ (n : ℕ). IsPaced limit after (n + 1)) (sym kept) (paced_number limit number before after count drew paced)
 
 -- ---- a worker's port
 

@@ -19,9 +19,10 @@ pub record IsOf (image : Initial) (config : Config) (report : Report) : Type 0 w
   pub receipts : sum report.receipts.items ≡ length report.journal.items
   pub harts : length report.receipts.items ≡ config.harts
 
--- no hart's thread applied more events than the limit says
-abbrev pub IsWithinLimit : ℕ → Report → Type 0
-IsWithinLimit limit report = All (λ receipt. receipt ≤ limit) report.receipts.items
+-- there are no more events than the limit says, and so no hart's thread applied more
+pub record IsWithinLimit (limit : ℕ) (report : Report) : Type 0 where
+  pub events : length report.journal.items ≤ limit
+  pub harts : All (λ receipt. receipt ≤ limit) report.receipts.items
 
 -- no event of the journal is refused on the way there
 abbrev pub JournalReplays : Initial → Config → Report → Type 0

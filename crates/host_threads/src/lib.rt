@@ -1,5 +1,5 @@
-//! Runs a program with one thread a hart. Each thread takes turns: it asks for an event under the lock of
-//! the fabric, draws a number from the board, and applies the event. A hart's private instructions it runs
+//! Runs a program with one thread a hart. Each thread takes turns: under the lock of the fabric it asks for
+//! an event, draws a number from the board for it, and applies it. A hart's private instructions it runs
 //! outside the lock, and commits them as one event.
 //!
 //! What a run leaves is what its journal leads to from reset, whatever the threads did.

@@ -1,6 +1,6 @@
 //! A whole run.
 
-ghost use Rattle.std.specs.Prelude.{◌≡◌, ◌≢◌, ◌↔◌, ◌⊎◌, Err, IfOk, IsTrue, false, map, vec_len};
+ghost use Rattle.std.specs.Prelude.{◌≡◌, ◌≢◌, ◌≤◌, ◌↔◌, ◌⊎◌, Err, IfOk, IsTrue, false, length, map, vec_len};
 ghost use Rattle.std.specs.List.{All};
 ghost use Rattle.coherent_machine.specs.Machine.{IsReached};
 ghost use Rattle.host_threads.specs.Replays.{IsOf, IsWithinLimit, JournalReplays, end_of_journal};
@@ -17,7 +17,7 @@ use crate::same::is_of;
 use crate::worker::{Common, Done};
 use elf_loader::Image;
 use locked_fabric::{Fabric, Share, Turn};
-use machine_model::{Config, changes_are_counted};
+use machine_model::{Config, Event, changes_are_counted};
 use machine_parts::is_within_limits;
 use progress_board::{Board, Seat};
 use std::alloc::{AllocError, Global};
@@ -142,6 +142,11 @@ fn run_counted<
     if !is_of(fabric.machine(), &common.image, &common.config) {
         return Err(RunError::Mismatch);
     }
+    // Each thread draws a number below the limit for each of its events. That no two draw one is the
+    // board's rule, which a single seat can't tell.
+    if !is_within(fabric.journal(), common.limit) {
+        return Err(RunError::Mismatch);
+    }
     let (machine, journal, receipts) = fabric.into_parts(shares);
     let (trace, outputs) = machine.into_parts();
     Ok(Report {
@@ -150,6 +155,13 @@ fn run_counted<
         journal,
         receipts,
     })
+}
+
+// Whether there are no more events than the limit says.
+fn is_within(journal: &[Event], limit: u64) -> bool
+    ensures { IsTrue result ↔ (length journal.now ≤ limit) }
+{
+    journal.len() as u64 <= limit
 }
 
 // The shares in their order, or the first fault.

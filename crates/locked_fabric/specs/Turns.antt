@@ -22,10 +22,28 @@ pub record DrewNumber (limit number : ℕ) (old new : View) : Type 0 where
 abbrev pub DrewInVain : ℕ → View → View → Type 0
 DrewInVain limit old new = ((number : ℕ) × (limit ≤ number) × (new ≡ with_number old number)) ⊎ ((length old.drawn ≡ 2 ^ 32) × (new ≡ old))
 
--- on the fabric's machine this was picked, a number below the limit was drawn for an event and no other, and exactly an event that isn't held back was applied
-abbrev pub Takes : (State → Option Event → Type 0) → (limit : ℕ) → Taken → (old new : Held) → (before after : View) → (count counted : ℕ) → Type 0
-Takes Picks limit Nothing old new before after count counted = Picks old.machine None × (new ≡ old) × (after ≡ before) × (counted ≡ count)
-Takes Picks limit Over old new before after count counted = ((event : Event) × Picks old.machine (Some event)) × (new ≡ old) × DrewInVain limit before after × (counted ≡ count)
-Takes Picks limit (HeldBack number event) old new before after count counted = Picks old.machine (Some event) × (new ≡ old) × DrewNumber limit number before after × (counted ≡ count)
-Takes Picks limit (Tried number event came) old new before after count counted =
-    Picks old.machine (Some event) × Answered old event came new × DrewNumber limit number before after × (counted + old.book ≡ count + new.book)
+-- on this machine it was picked
+abbrev pub IsPick : (State → Option Event → Type 0) → Taken → State → Type 0
+IsPick Picks Nothing found = Picks found None
+IsPick Picks Over found = (event : Event) × Picks found (Some event)
+IsPick Picks (HeldBack number event) found = Picks found (Some event)
+IsPick Picks (Tried number event came) found = Picks found (Some event)
+
+-- an event that is tried is applied, and nothing else is
+abbrev pub Leaves : Taken → (old new : Held) → Type 0
+Leaves (Tried number event came) old new = Answered old event came new
+Leaves _ old new = new ≡ old
+
+-- a number below the limit is drawn for an event, held back or tried
+abbrev pub Draws : ℕ → Taken → (old new : View) → Type 0
+Draws limit Nothing old new = new ≡ old
+Draws limit Over old new = DrewInVain limit old new
+Draws limit (HeldBack number event) old new = DrewNumber limit number old new
+Draws limit (Tried number event came) old new = DrewNumber limit number old new
+
+-- a turn came to this: it found a fabric and left one, drew from a seat, and a share that counted so many events counts so many
+pub record Takes (Picks : State → Option Event → Type 0) (limit : ℕ) (taken : Taken) (old new : Held) (before after : View) (count counted : ℕ) : Type 0 where
+  pub pick : IsPick Picks taken old.machine
+  pub leaves : Leaves taken old new
+  pub draws : Draws limit taken before after
+  pub counts : counted + old.book ≡ count + new.book

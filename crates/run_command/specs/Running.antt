@@ -11,17 +11,18 @@ use Rattle.elf_loader.specs.Image.{Initial}
 use Rattle.host_threads.specs.declared.report.RunError.{RunError}
 use Rattle.host_threads.specs.declared.report.RunError.TheVariants as threads
 use Rattle.machine_model.specs.Views.{State}
-use Rattle.std.specs.Prelude.{◌≡◌, ℕ, List, Option}
+use Rattle.std.specs.Prelude.{◌≡◌, ◌≤◌, ℕ, List, Option, length}
 use Rattle.text_fields.specs.Writing.{Begins}
 use Rattle.trace_text.specs.Traces.{text}
 use Rattle.trace_text.specs.declared.script.Script.{Script}
 
--- the run of the image in the one file has left this script in the other: it is for the machine that was named
+-- the run of the image in the one file has left this script in the other: it is for the machine that was named, and has no more events than were asked for
 pub record IsJournalled (held left : Held) (run : Run) (image : Initial) (script : Script) : Type 0 where
   pub image_file : HoldsImage held run.raw run.image.now run.machine.memory image
   pub config : config_of script run.machine.model ≡ config_named run.machine
   pub memory : script.kib ≡ run.machine.memory
   pub journal_file : HoldsScript left run.journal.now script
+  pub limit : length script.events ≤ run.limit
 
 -- and what was appended is the text of the trace that this script means for that image
 pub record IsRun (held left : Held) (run : Run) (old new : Option (List ℕ)) : Type 0 where

@@ -1,4 +1,4 @@
-use Rattle.std.proofs.Common.{◌≡◌, ℕ, rules, subst, sym}
+use Rattle.std.proofs.Common.{◌≡◌, ◌∙◌, ℕ, IfSome, rules, subst, sym}
 use Rattle.std.proofs.lemmas.List.Elements.{All-pop, All-push}
 use Rattle.std.specs.List.{All}
 use Rattle.progress_board.specs.declared.seat.Seat.{Seat}
@@ -18,3 +18,15 @@ loop-hart-preserved g c = record {
   made = search rules;
   room = search rules;
 }
+
+pub new-requires-clause-seat : goal.new-requires-clause-seat
+new-requires-clause-seat g c =
+    let board = c.args.common.now.board in
+    let popped = (All-pop (λ (seat : Seat). IsSeatOf board seat) _ _ _ c.pop.ensures.items c.loop-hart.invariant.board).1 in
+    let own = subst (λ one. IfSome one (λ (seat : Seat). IsSeatOf board seat)) c.in-Some.is popped in
+    subst (λ (seat : Seat). IsSeatOf board seat) (sym c.new-port.ensures.seat) own
+
+pub new-requires-clause-share : goal.new-requires-clause-share
+new-requires-clause-share g c =
+    let popped = (All-pop (λ (share : ℕ). share ≡ 0) _ _ _ c.pop-in-loop-hart.ensures.items c.loop-hart.invariant.opening).1 in
+    c.new-port.ensures.share ∙ subst (λ one. IfSome one (λ (share : ℕ). share ≡ 0)) c.in-Some-pop.is popped

@@ -50,7 +50,14 @@ returns g c =
           c.requires.limits;
       headline = headline_at c.args.image c.args.common.now.config c.into_inner-fabric.result.machine _ of_image of_config (sym (leads ∙ parts.machine)) parts.headline;
       log = subst (λ (t : History). IsLawfulLog t.log) (sym (c.into_parts-trace.ensures.trace ∙ ap (λ (s : State). s.trace) parts.machine)) parts.log;
-      limit = subst (λ (counts : List ℕ). All (λ (receipt : ℕ). receipt ≤ c.args.common.now.limit) counts) (sym (parts.counts ∙ c.in_ok-shares.ensures.each))
-          (All-map (λ (receipt : ℕ). receipt ≤ c.args.common.now.limit) (λ one. one.share) c.in_ok-done.done.items c.in_ok-done.ensures.limit);
+      limit = record {
+        events =
+            let within = c.is_within.ensures.0 c.if-not-is_within.false in
+            let lent = ap (λ (l : List Event). length l) c.journal.ensures.journal in
+            let left = ap (λ (l : List Event). length l) parts.journal in
+            omega (arith, within, lent, left);
+        harts = subst (λ (counts : List ℕ). All (λ (receipt : ℕ). receipt ≤ c.args.common.now.limit) counts) (sym (parts.counts ∙ c.in_ok-shares.ensures.each))
+            (All-map (λ (receipt : ℕ). receipt ≤ c.args.common.now.limit) (λ one. one.share) c.in_ok-done.done.items c.in_ok-done.ensures.limit);
+      };
       config = λ e. absurd (cc e);
     }

@@ -1,4 +1,4 @@
-use Rattle.std.proofs.Common.{◌≡◌, ◌∙◌, ◌⊎◌, ℕ, List, Option, ap, inl, inr, subst, sym, true}
+use Rattle.std.proofs.Common.{◌≡◌, ◌∙◌, ◌⊎◌, ◌≤◌, ℕ, List, Option, ap, arith, inl, inr, length, subst, sym, true}
 use Rattle.command_files.specs.Sizes.{config_of, config_named, script_named}
 use Rattle.command_files.specs.Files.{HoldsImage}
 use Rattle.command_files.specs.Held.{Held, HoldsBytes}
@@ -29,8 +29,8 @@ use Rattle.run_command.proofs.running.run_files.Goals as goal
 
 kept : (held left : Held) (run : Run) (config : Config) (image : Initial) (script : Script) (events : List Event) → script ≡ script_named run.machine events → config ≡ config_named run.machine
     → is_within_limits config ≡ true → IsMemoryKib run.machine.memory → HoldsImage held run.raw run.image.now run.machine.memory image → AllByRecursion IsEvent script.events
-    → HoldsBytes left run.journal.now (script_text script) → IsJournalled held left run image script
-kept held left run config image script events script_is config_is within sized image_file spelt bytes =
+    → HoldsBytes left run.journal.now (script_text script) → length events ≤ run.limit → IsJournalled held left run image script
+kept held left run config image script events script_is config_is within sized image_file spelt bytes few =
     let config_same : config_of script run.machine.model ≡ config_named run.machine = ap (λ (s : Script). config_of s run.machine.model) script_is in
     let memory_same = ap (λ (s : Script). s.kib) script_is in
     record {
@@ -44,6 +44,7 @@ kept held left run config image script events script_is config_is within sized i
         };
         bytes = bytes;
       };
+      limit = subst (λ (s : Script). length s.events ≤ run.limit) (sym script_is) few;
     }
 
 printed_same : (old new : Option (List ℕ)) (t u : History) → t ≡ u → Appends old new (text t) → Appends old new (text u)
@@ -82,7 +83,7 @@ returns-in_err-print-clause-unfinished g c =
       script = script;
       image = image;
       reached = s;
-      kept = kept _ _ run c.in-Some.config image script c.in-Ok.report.journal.items same named.0 named.1 named.2 c.in_ok-image.ensures.image c.script_of-script.ensures.events c.in_ok-keep.ensures.kept;
+      kept = kept _ _ run c.in-Some.config image script c.in-Ok.report.journal.items same named.0 named.1 named.2 c.in_ok-image.ensures.image c.script_of-script.ensures.events c.in_ok-keep.ensures.kept (omega (arith, c.in-Ok.ensures.limit.events, c.from-limit.ensures));
       replayed = leads_there image script run.machine.model c.in-Some.config c.in-Ok.report.journal.items s config_same (sym (ap (λ (t : Script). t.events) same)) c.in-Ok.ensures.replays;
       begun = begun_same _ _ _ _ c.in-Ok.ensures.report.trace c.in_err-print.ensures.begun;
     }))
@@ -104,7 +105,7 @@ returns-clause-ran g c =
       script = script;
       image = image;
       reached = s;
-      kept = kept _ _ run c.in-Some.config image script c.in-Ok.report.journal.items same named.0 named.1 named.2 c.in_ok-image.ensures.image c.script_of-script.ensures.events c.in_ok-keep.ensures.kept;
+      kept = kept _ _ run c.in-Some.config image script c.in-Ok.report.journal.items same named.0 named.1 named.2 c.in_ok-image.ensures.image c.script_of-script.ensures.events c.in_ok-keep.ensures.kept (omega (arith, c.in-Ok.ensures.limit.events, c.from-limit.ensures));
       composed = record {
         replayed = leads_there image script run.machine.model c.in-Some.config c.in-Ok.report.journal.items s config_same (sym (ap (λ (t : Script). t.events) same)) c.in-Ok.ensures.replays;
         printed = printed_same _ _ _ _ trace_same c.in_ok-print.ensures.printed;
