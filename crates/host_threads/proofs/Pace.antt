@@ -5,12 +5,10 @@ use Rattle.std.specs.List.{All}
 use Rattle.std.specs.declared.option.Option.TheVariants.{Some}
 use Rattle.std.specs.declared.result.Result.{Result}
 use Rattle.host_threads.specs.Pace.{IsPaced}
-use Rattle.std.specs.declared.option.Option.{Option}
 use Rattle.locked_fabric.specs.Held.{Answered, Does, Held}
-use Rattle.locked_fabric.specs.Turns.{DrewNumber, Takes}
+use Rattle.locked_fabric.specs.Turns.{Draws, DrewNumber, Leaves}
 use Rattle.locked_fabric.specs.declared.taken.Taken.{Taken}
 use Rattle.locked_fabric.specs.declared.taken.Taken.TheVariants.{Nothing, Over, HeldBack, Tried}
-use Rattle.machine_model.specs.Views.{State}
 use Rattle.locked_fabric.specs.Port.{Applied, Left, seat_of, share_of}
 use Rattle.locked_fabric.specs.declared.port.Port.{Port}
 use Rattle.machine_model.specs.declared.event.Event.{Event}
@@ -86,22 +84,27 @@ paced_number : (limit number : ℕ) (before after : View) (count : ℕ) → Drew
 paced_number limit number before after count drew paced =
     paced_more limit before after count number (ap (λ (v : View). v.drawn) drew.drawn) paced drew.rising drew.low
 
-pub paced_took : {Picks : State → Option Event → Type 0} (limit : ℕ) (taken : Taken) (found left : Held) (before after : View) (count counted : ℕ) → Takes Picks limit taken found left before after count counted
+pub paced_took : (limit : ℕ) (taken : Taken) (found left : Held) (before after : View) (count counted : ℕ) → Leaves taken found left → Draws limit taken before after → counted + found.book ≡ count + left.book
     → IsPaced limit before count → IsPaced limit after counted
-paced_took limit Nothing found left before after count counted takes paced = paced_is limit before after count counted takes.2 takes.3 paced
-paced_took limit Over found left before after count counted takes paced =
+paced_took limit Nothing found left before after count counted leaves draws counts paced =
+    paced_is limit before after count counted draws (omega (arith, counts, ap (λ (held : Held). held.book) leaves)) paced
+paced_took limit Over found left before after count counted leaves draws counts paced =
+    let kept : counted ≡ count = omega (arith, counts, ap (λ (held : Held). held.book) leaves) in
     ⊎_elim
-    (λ drew. paced_fewer limit after count counted (omega (arith, takes.3)) (paced_drawn limit before after count drew.0 (ap (λ (v : View). v.drawn) drew.2) paced))
-    (λ spent. paced_is limit before after count counted spent.1 takes.3 paced)
-    takes.2
-paced_took limit (HeldBack number event) found left before after count counted takes paced =
-    paced_fewer limit after (count + 1) counted (omega (arith, takes.3)) (paced_number limit number before after count takes.2 paced)
-paced_took limit (Tried number event came) found left before after count counted takes paced =
-    paced_fewer limit after (count + 1) counted (omega (arith, takes.3, answer_counts event came found left takes.1)) (paced_number limit number before after count takes.2 paced)
+    (λ drew. paced_fewer limit after count counted (omega (arith, kept)) (paced_drawn limit before after count drew.0 (ap (λ (v : View). v.drawn) drew.2) paced))
+    (λ spent. paced_is limit before after count counted spent.1 kept paced)
+    draws
+paced_took limit (HeldBack number event) found left before after count counted leaves draws counts paced =
+    paced_fewer limit after (count + 1) counted (omega (arith, counts, ap (λ (held : Held). held.book) leaves)) (paced_number limit number before after count draws paced)
+paced_took limit (Tried number event came) found left before after count counted leaves draws counts paced =
+    paced_fewer limit after (count + 1) counted (omega (arith, counts, answer_counts event came found left leaves)) (paced_number limit number before after count draws paced)
 
 -- an event that is held back may still be counted
-pub paced_back : (limit number : ℕ) (before after : View) (count counted : ℕ) → DrewNumber limit number before after → counted ≡ count → IsPaced limit before count → IsPaced limit after (counted + 1)
-paced_back limit number before after count counted drew kept paced = subst (λ (n : ℕ). IsPaced limit after (n + 1)) (sym kept) (paced_number limit number before after count drew paced)
+pub paced_back : (limit number : ℕ) (found left : Held) (before after : View) (count counted : ℕ) → DrewNumber limit number before after → left ≡ found → counted + found.book ≡ count + left.book
+    → IsPaced limit before count → IsPaced limit after (counted + 1)
+paced_back limit number found left before after count counted drew same counts paced =
+    let kept : counted ≡ count = omega (arith, counts, ap (λ (held : Held). held.book) same) in
+    subst (λ (n : ℕ). IsPaced limit after (n + 1)) (sym kept) (paced_number limit number before after count drew paced)
 
 -- ---- a worker's port
 

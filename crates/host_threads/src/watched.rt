@@ -4,7 +4,7 @@ ghost use Rattle.std.specs.Prelude.{◌≡◌, ◌<◌, ◌↔◌, IfSome, IsSom
 ghost use Rattle.elf_loader.specs.Size.{IsMemorySize};
 ghost use Rattle.hart.specs.Local.{can_go_alone, is_done_alone};
 ghost use Rattle.locked_fabric.specs.Port.{seen_in};
-ghost use Rattle.machine_model.specs.declared.event.Event.TheVariants as event;
+ghost use Rattle.machine_model.specs.declared.event.Event.TheVariants as TheEvents;
 ghost use Rattle.machine_model.specs.Views.{node_at};
 
 use coherent_machine::{Machine, Views};
@@ -40,14 +40,14 @@ impl<'a, T: Turn + Drop> Turn for Watched<'a, T> {
         ensures hart { self.new.hart ≡ self.old.hart }
         ensures image { self.new.image ≡ self.old.image }
         ensures steps { IsSome self.new.stepping
-            ↔ ((self.old.hart < length views.now.views.nodes) × (result ≡ Some (event.Step self.old.hart))
+            ↔ ((self.old.hart < length views.now.views.nodes) × (result ≡ Some (TheEvents.Step self.old.hart))
             × (can_go_alone self.old.image.now (node_at views.now self.old.hart).hart ≡ true)) }
         ensures stood { IfSome self.new.stepping (λ hart. hart ≡ (node_at views.now self.old.hart).hart) }
     {
         let picked = self.turn.pick(views, last);
         let hart = self.hart;
         self.stepping = None;
-        if usize::from(hart) < views.harts() && picked == Some(Event::Step { hart }) {
+        if usize::from(hart) < views.harts() && is_step_of(picked, hart) {
             let own = views.hart(usize::from(hart));
             if goes_alone(self.image, own) {
                 self.stepping = Some(*own);
@@ -78,6 +78,12 @@ impl<'a, T: Turn + Drop> Visit for Watched<'a, T> {
             self.seen = Some((trace.entries(hart).len() as u64, trace.statuses()[hart]));
         }
     }
+}
+
+fn is_step_of(event: Option<Event>, hart: u8) -> bool
+    ensures { IsTrue result ↔ (event ≡ Some (TheEvents.Step hart)) }
+{
+    event == Some(Event::Step { hart })
 }
 
 // Whether the hart runs, and its next instruction is private and doesn't stop.
