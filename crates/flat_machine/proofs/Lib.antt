@@ -21,3 +21,10 @@ mod Followings
 mod Opened
 mod OnwardKeeping
 mod OnwardFollowing
+mod SettledNodes
+mod AloneMoves
+mod Addresses
+mod Remembering
+mod ByNumbers
+mod ByView
+mod WorkedOut

@@ -17,3 +17,6 @@ pub mod OneKey
 pub mod Onward
 pub mod OnwardKey
 pub mod SameEndings
+pub mod Alone
+pub mod Happenings
+pub mod Remembered

@@ -1,6 +1,7 @@
 //! What an event comes to.
 ghost use Rattle.std.specs.Prelude.{◌≡◌};
-ghost use Rattle.flat_machine.specs.Plans.{does_change, meant};
+ghost use Rattle.flat_exploration.proofs.Effects.{address_of};
+ghost use Rattle.flat_machine.specs.Plans.{meant};
 
 use hart::Retired;
 use machine_model::{Deed, Outcome};
@@ -28,13 +29,14 @@ pub enum Plan {
 }
 
 impl Plan {
-    /// Whether anything changes.
-    pub(crate) fn changes(&self) -> bool
-        ensures { result ≡ does_change (meant self.now) }
+    /// The address that is accessed.
+    pub(crate) fn accessed(&self) -> Option<u32>
+        ensures { result ≡ address_of (meant self.now) }
     {
-        match self {
-            Plan::Refused | Plan::Stays(_) => false,
-            Plan::Stops(_) | Plan::Retires { .. } | Plan::Drains(_) => true,
+        match *self {
+            Plan::Refused | Plan::Stays(_) | Plan::Stops(_) => None,
+            Plan::Retires { accessed, .. } => accessed,
+            Plan::Drains(word) => Some(word),
         }
     }
 }
