@@ -12,6 +12,7 @@ pub mod Given
 pub mod Harts
 pub mod Indexed
 pub mod Judged
+pub mod Kept
 pub mod Lowest
 pub mod Marks
 pub mod Noted

@@ -1,6 +1,6 @@
 -- A load sees no store that stands further behind its place in the order than the last operation which precedes it.
-use Rattle.std.proofs.Common.{◌≡◌, ℕ, zero, suc, ◌+◌, ◌-◌, ◌≤◌, ◌<◌, List, [], ◌∷◌, Bool, true, false, Option, Some, None, refl, cond, sym, subst, ap, ◌∙◌, ◌&&◌, ◌||◌, arith, length, take}
-use Rattle.std.specs.Prelude.{filter, nat_eq, nat_lt, slice_get, slice_index_or}
+use Rattle.std.proofs.Common.{◌≡◌, ℕ, zero, suc, ◌+◌, ◌-◌, ◌≤◌, ◌<◌, List, [], ◌∷◌, Bool, true, false, Some, None, refl, cond, sym, subst, ap, ◌∙◌, ◌||◌, arith, length, take}
+use Rattle.std.specs.Prelude.{filter, nat_eq, slice_get, slice_index_or}
 use Rattle.std.specs.List.{last_or}
 use Rattle.std.proofs.lemmas.Bool.{and_parts, eqb-true, le-ltb}
 use Rattle.std.proofs.lemmas.Option.{slice_get-get_or, slice_get_within}

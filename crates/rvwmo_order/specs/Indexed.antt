@@ -1,7 +1,8 @@
 -- What an index keeps of an order: where each operation stands, and the stores to each byte.
-use Rattle.std.specs.Prelude.{◌≡◌, ◌≤◌, ◌<◌, ◌-◌, ℕ, ◌+◌, Bool, false, slice_get, ◌&&◌, ◌||◌, ◌==◌, nat_eq, nat_lt, if◌then◌else◌, List, [], ◌∷◌, Option, Some, None, filter}
+use Rattle.std.specs.Prelude.{◌≡◌, ◌≤◌, ◌<◌, ◌-◌, ℕ, ◌+◌, Bool, true, false, slice_get, slice_index_or, ◌&&◌, ◌||◌, ◌==◌, nat_eq, nat_lt, if◌then◌else◌, List, [], ◌∷◌, Option, Some, None, filter}
 use Rattle.memory_model.specs.declared.operation.Operation.{Operation}
-use Rattle.memory_model.specs.Operations.{is_lr, precedes, same, stores_to}
+use Rattle.memory_model.specs.Operations.{is_lr, precedes, reads, same, stores_to}
+use Rattle.memory_model.specs.Order.{source}
 use Rattle.trace_recorder.specs.declared.operation.OpId.{OpId}
 use Rattle.rvwmo_order.specs.declared.stored.Stored.{Stored}
 
@@ -52,3 +53,7 @@ IsBeyond position reach count stores = (k : ℕ) (s : Stored) → count ≤ k �
 -- a load sees none of these that stands further behind its place than so much
 abbrev pub SeesWithin : ℕ → ℕ → OpId → List Stored → Type 0
 SeesWithin position reach load stores = (k : ℕ) (s : Stored) → slice_get stores k ≡ Some s → reach < s.position - position → is_seen position load s ≡ false
+
+-- what is kept of each load is the store that each of its first bytes comes from
+abbrev pub GivesSources : List Operation → List (List (Option Operation)) → Type 0
+GivesSources order kept = (p i : ℕ) (a : Operation) (first : List (Option Operation)) → slice_get kept p ≡ Some first → slice_get order p ≡ Some a → reads a.kind ≡ true → i < 4 → i < a.size → slice_index_or first i None ≡ source order a (a.address + i)

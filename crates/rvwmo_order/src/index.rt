@@ -1,6 +1,6 @@
 //! An order of a trace's operations, with the stores to each byte and the place of each operation found
 //! without a walk over the order.
-ghost use Rattle.std.specs.Prelude.{◌≡◌, ◌≤◌, ◌<◌, ◌+◌, ◌++◌, ℕ, None, [], ◌∷◌, IfOk, OnOk, Some, filter, if◌then◌else◌, length, nat_eq, slice_index_or};
+ghost use Rattle.std.specs.Prelude.{◌≡◌, ◌≤◌, ◌<◌, ◌+◌, ◌++◌, ℕ, Option, None, [], ◌∷◌, IfOk, OnOk, Some, filter, if◌then◌else◌, length, nat_eq, slice_index_or, true};
 ghost use Rattle.std.specs.List.{last_or};
 ghost use Rattle.std.specs.Option.{option_map, option_map_or, option_or};
 ghost use Rattle.std.specs.BTreeMap as tree;
@@ -13,9 +13,9 @@ ghost use Rattle.memory_model.specs.Order as spec;
 ghost use Rattle.memory_model.specs.Traces as traces;
 ghost use Rattle.memory_model.specs.Verdict as verdict;
 ghost use Rattle.rvwmo_order.specs.Indexed as indexed;
-ghost use Rattle.rvwmo_order.specs.Indexed.{IsBeyond, AreRisingStores, SeesWithin, is_lr_of, name_eq, place_from, reaches_of, stored_from};
+ghost use Rattle.rvwmo_order.specs.Indexed.{GivesSources, IsBeyond, AreRisingStores, SeesWithin, is_lr_of, name_eq, place_from, reaches_of, stored_from};
 
-use crate::accesses::{end_of, is_lr, name_of, writes};
+use crate::accesses::{end_of, is_lr, is_same, name_of, reads, writes};
 use crate::items::Harts;
 use crate::orders::operations_at;
 use crate::reaches::reaches_in;
@@ -40,6 +40,9 @@ pub struct Index {
     stores: HashMap<u64, Vec<Stored>>,
     /// The LRs of each hart, in the order's order.
     reserves: BTreeMap<u8, Vec<Operation>>,
+    /// The stores that the first bytes of each load come from, at the load's place; they are found once, since
+    /// a judge asks for them many times.
+    sources: Vec<[Option<Operation>; 4]>,
 }
 
 impl Model for Index {
@@ -49,7 +52,7 @@ impl Model for Index {
     ghost use Rattle.std.specs.HashMap as hash;
     ghost use Rattle.std.specs.Ordering.{nat_cmp};
     ghost use Rattle.memory_model.specs.declared.operation.Operation.{Operation as OperationValue};
-    ghost use Rattle.rvwmo_order.specs.Indexed.{is_lr_of, name_eq, place_from, reaches_of, stored_from};
+    ghost use Rattle.rvwmo_order.specs.Indexed.{GivesSources, is_lr_of, name_eq, place_from, reaches_of, stored_from};
 
     ghost Value = { List OperationValue };
 
@@ -58,7 +61,8 @@ impl Model for Index {
     ghost invariant = { λ i. ((a : OperationValue) → hash.get name_eq i.places (a.hart, a.place) ≡ place_from 0 a i.order.items)
         × (i.reaches.items ≡ reaches_of i.order.items)
         × ((x : ℕ) → option_map_or (λ v. v.items) (hash.get nat_eq i.stores x) [] ≡ stored_from 0 x i.order.items)
-        × ((h : ℕ) → option_map_or (λ v. v.items) (tree.get nat_cmp i.reserves h) [] ≡ filter (is_lr_of h) i.order.items) };
+        × ((h : ℕ) → option_map_or (λ v. v.items) (tree.get nat_cmp i.reserves h) [] ≡ filter (is_lr_of h) i.order.items)
+        × GivesSources i.order.items i.sources.items };
 }
 
 impl Index {
@@ -78,13 +82,16 @@ impl Index {
         let reaches = reaches_in(alloc, &order)?;
         let stores = stores_in(alloc, &order)?;
         let reserves = reserves_in(alloc, &order)?;
-        Ok(Index {
+        let mut index = Index {
             order,
             places,
             reaches,
             stores,
             reserves,
-        })
+            sources: Vec::new(alloc),
+        };
+        index.sources = sources_in(alloc, &index)?;
+        Ok(index)
     }
 
     /// The operations, in their order.
@@ -139,6 +146,52 @@ impl Index {
         requires { position ≡ spec.position_in self.now load.now }
         ensures { result ≡ spec.source self.now load.now x }
     {
+        match self.kept_source(position, load, x) {
+            Some(source) => source,
+            None => self.find_source(position, load, x),
+        }
+    }
+
+    // The source of a load's byte, where it is kept at this place of the order.
+    fn kept_source(&self, position: usize, load: &Operation, x: u64) -> Option<Option<Operation>>
+        ensures { (source : Option OperationValue) → result ≡ Some source → source ≡ spec.source self.now load.now x }
+    {
+        let a = self.order.get(position)?;
+        let kept = self.sources.get(position)?;
+        let first = u64::from(a.address);
+        if !is_same(a, load) || !reads(a.kind) || x < first {
+            return None;
+        }
+        let offset = x - first;
+        if offset < 4 && offset < u64::from(a.size) {
+            Some(kept[offset as usize])
+        } else {
+            None
+        }
+    }
+
+    // The sources of the first bytes of an operation, where it is a load.
+    fn first_sources(&self, a: &Operation) -> [Option<Operation>; 4]
+        ensures { operations.reads a.now.kind ≡ true → (i : ℕ) → i < 4 → i < a.now.size → slice_index_or result i None ≡ spec.source self.now a.now (a.now.address + i) }
+    {
+        let mut sources = [None; 4];
+        if !reads(a.kind) {
+            return sources;
+        }
+        let position = self.position_of(a);
+        for offset in 0..4 {
+            if (offset as u32) < a.size {
+                let x = u64::from(a.address) + offset as u64;
+                sources[offset] = self.find_source(position, a, x);
+            }
+        }
+        sources
+    }
+
+    fn find_source(&self, position: usize, load: &Operation, x: u64) -> Option<Operation>
+        requires { position ≡ spec.position_in self.now load.now }
+        ensures { result ≡ spec.source self.now load.now x }
+    {
         match self.stores.get(&x) {
             Some(stores) => {
                 let reach = self.reach_at(position);
@@ -186,6 +239,17 @@ impl Index {
             None => self.order().len(),
         }
     }
+}
+
+// The sources of the first bytes of each load.
+fn sources_in(alloc: Global, index: &Index) -> Result<Vec<[Option<Operation>; 4]>, AllocError>
+    ensures { IfOk result (λ sources. GivesSources index.now sources.items) }
+{
+    let mut sources = Vec::new(alloc);
+    for a in index.order() {
+        sources.push(index.first_sources(a))?;
+    }
+    Ok(sources)
 }
 
 // The place of each operation in an order, the first where there are two of one name.

@@ -1,4 +1,4 @@
-use Rattle.std.proofs.Common.{◌≡◌, ◌+◌, ◌-◌, ◌∙◌, List, ℕ, ap, drop, find, get_or, length}
+use Rattle.std.proofs.Common.{◌-◌, ◌∙◌, List, ℕ, ap, drop, find, get_or, length}
 use Rattle.std.specs.Prelude.{slice_index_or}
 use Rattle.memory_model.specs.declared.operation.Operation.{Operation}
 use Rattle.memory_model.specs.Rules.{asked_by}

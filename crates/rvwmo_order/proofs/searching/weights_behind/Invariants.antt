@@ -1,4 +1,4 @@
-use Rattle.std.proofs.Common.{◌≡◌, ℕ, ◌+◌, ◌-◌, ◌<◌, get_or, vec_len}
+use Rattle.std.proofs.Common.{◌≡◌, ℕ, ◌-◌, ◌<◌, get_or, vec_len}
 use Rattle.rvwmo_order.proofs.searching.weights_behind.Given as goal
 
 abbrev pub invariant-loop-other : goal.invariant-loop-other

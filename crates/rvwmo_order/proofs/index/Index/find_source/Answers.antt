@@ -4,7 +4,7 @@ use Rattle.memory_model.specs.Order.{position_in, source}
 use Rattle.rvwmo_order.specs.Indexed.{stored_from}
 use Rattle.rvwmo_order.proofs.Indexed.{bucket_missing, bucket_there, source_seen}
 use Rattle.rvwmo_order.proofs.Within.{rising_stores, sees_within}
-use Rattle.rvwmo_order.proofs.index.Index.source_at.Goals as goal
+use Rattle.rvwmo_order.proofs.index.Index.find_source.Goals as goal
 
 pub last_within-requires-clause-rising : goal.last_within-requires-clause-rising
 last_within-requires-clause-rising c =
