@@ -4,7 +4,7 @@ use Rattle.std.specs.Prelude.{slice_get, slice_index_or}
 use Rattle.std.specs.List.{AllByRecursion as Each}
 use Rattle.std.proofs.lemmas.Bool.{true≢false}
 use Rattle.std.proofs.Math.Seq.{drop-nil}
-use Rattle.std.proofs.lemmas.List.{at_drop_more, drop-drop}
+use Rattle.std.proofs.lemmas.List.{at_drop_more, drop-drop, drop_all}
 use Rattle.std.proofs.lemmas.Option.{slice_get_within}
 use Rattle.memory_model.specs.declared.MemoryModel.{MemoryModel}
 use Rattle.memory_model.specs.declared.operation.Operation.{Operation}
@@ -15,11 +15,12 @@ use Rattle.memory_model.specs.Rules.{asked_by}
 use Rattle.memory_model.proofs.Forms.{same-self, same-swap}
 use Rattle.memory_model.proofs.Lists.{Member, Each-at, Each-from}
 use Rattle.memory_model.proofs.Named.{EachOnce}
-use Rattle.rvwmo_order.specs.Bounds.{BoundsEach, AreDistinctOperations, RanksEach, bound_of, unbounded, weight_of}
+use Rattle.rvwmo_order.specs.Bounds.{BoundsEach, AreDistinctOperations, RanksEach, bound_of, greatest_of, unbounded, weight_of}
 use Rattle.rvwmo_order.specs.Codes.{rule_of}
-use Rattle.rvwmo_order.specs.Scans.{first_out_of_order, found_or}
+use Rattle.rvwmo_order.specs.Scans.{first_broken_rule, first_out_of_order, found_or, ruled_or}
 use Rattle.rvwmo_order.specs.declared.rows.Row.{Row}
 use Rattle.rvwmo_order.specs.declared.verdict.Rule.{Rule}
+use Rattle.rvwmo_order.specs.declared.verdict.Rule.TheVariants.{OverlappingStore, SameByteLoads, AtomicSource, Fence, Acquire, Release, Annotations, Pair, Address, Data, Control, DependentStore, DependentAddress}
 use Rattle.rvwmo_order.proofs.Judged.{place_head, place_tail, same_value}
 
 pub distinct_once : (order : List Operation) → EachOnce order → AreDistinctOperations order
@@ -163,3 +164,37 @@ ranked model harts order weights rows w bounds = record {
       let rank = w (position_in order a) (position_within order a m) in
       omega (arith, bound, rank));
 }
+
+-- ---- where no bound leaves room
+
+within_greatest : (rule : Rule) (r : Row) → bound_of rule r ≤ greatest_of r
+within_greatest OverlappingStore r = omega arith
+within_greatest SameByteLoads r = omega arith
+within_greatest AtomicSource r = omega arith
+within_greatest Fence r = omega arith
+within_greatest Acquire r = omega arith
+within_greatest Release r = omega arith
+within_greatest Annotations r = omega arith
+within_greatest Pair r = omega arith
+within_greatest Address r = omega arith
+within_greatest Data r = omega arith
+within_greatest Control r = omega arith
+within_greatest DependentStore r = omega arith
+within_greatest DependentAddress r = omega arith
+
+module _ (model : MemoryModel) (harts : List (List Item)) (order : List Operation) (rows : List Row) (distinct : AreDistinctOperations order) (ranks : RanksEach model harts order rows) (clear : (p : ℕ) → p < length order → greatest_of (slice_index_or rows p unbounded) ≤ p + 1) where
+  passed_over : (rule : Rule) (p : ℕ) → p ≤ length order → first_out_of_order (asked_by model harts order (rule_of rule)) order ≡ first_out_of_order (asked_by model harts order (rule_of rule)) (drop p order)
+  passed_over rule zero l = refl
+  passed_over rule (suc p) l =
+      let within = within_greatest rule (slice_index_or rows p unbounded) in
+      let most = clear p (omega (arith, l)) in
+      let more : p + 1 ≡ suc p = omega arith in
+      passed_over rule p (omega (arith, l))
+      ∙ (clear_there model harts order rows rule p distinct ranks (omega (arith, within, most))
+      ∙ ap (λ (n : ℕ). first_out_of_order (asked_by model harts order (rule_of rule)) (drop n order)) more)
+
+  pub none_broken : (rules : List Rule) → first_broken_rule model harts order rules ≡ None
+  none_broken [] = refl
+  none_broken (rule ∷ rest) =
+      ap (λ (o : Option (Operation × Operation)). ruled_or rule o (first_broken_rule model harts order rest)) (passed_over rule (length order) (omega arith) ∙ ap (first_out_of_order (asked_by model harts order (rule_of rule))) (drop_all (length order) order (omega arith)))
+      ∙ none_broken rest

@@ -42,6 +42,9 @@ named_step old new list i d h inv all n =
     go true false c = refl
     go false b c = refl
 
+pub none_named : {S : Type 0} (names : HashSet (ℕ × ℕ) S) (list : List OpId) → names.keys ≡ [] → (n : OpId) → (has_name names n || is_among list n) ≡ is_among list n
+none_named names list e n = ap (λ (b : Bool). b || is_among list n) (ap (λ (ks : List (ℕ × ℕ)). list_any (name_eq (n.hart, n.place)) ks) e)
+
 -- ---- that none comes twice
 
 -- none of these names was seen
@@ -103,19 +106,9 @@ distinct_stop old list i d added h inv e f =
 
 -- ---- that all are in
 
-pub all_step : {S : Type 0} (known : HashSet (ℕ × ℕ) S) (names list : List OpId) (i : ℕ) (d : OpId) (found : Bool) → i < length list → ((n : OpId) → has_name known n ≡ is_among names n) → found ≡ has_name known (get_or list i d) → found ≡ true
-    → list_all (is_among names) list ≡ list_all (is_among names) (drop i list) → list_all (is_among names) list ≡ list_all (is_among names) (drop (i + 1) list)
-all_step known names list i d found h all e f inv =
-    inv
-    ∙ (at_drop_more (list_all (is_among names)) list i d h
-    ∙ ap (λ (b : Bool). b && list_all (is_among names) (drop (i + 1) list)) (sym (all (get_or list i d)) ∙ (sym e ∙ f)))
-
-pub all_stop : {S : Type 0} (known : HashSet (ℕ × ℕ) S) (names list : List OpId) (i : ℕ) (d : OpId) (found : Bool) → i < length list → ((n : OpId) → has_name known n ≡ is_among names n) → found ≡ has_name known (get_or list i d) → found ≡ false
-    → list_all (is_among names) list ≡ list_all (is_among names) (drop i list) → false ≡ list_all (is_among names) list
-all_stop known names list i d found h all e f inv =
-    sym (inv
-    ∙ (at_drop_more (list_all (is_among names)) list i d h
-    ∙ ap (λ (b : Bool). b && list_all (is_among names) (drop (i + 1) list)) (sym (all (get_or list i d)) ∙ (sym e ∙ f))))
+pub all_alike : {X : Type 0} (p q : X → Bool) (xs : List X) → ((x : X) → p x ≡ q x) → list_all p xs ≡ list_all q xs
+all_alike p q [] e = refl
+all_alike p q (x ∷ rest) e = rw (e x, all_alike p q rest e) refl
 
 -- ---- the names that are not in
 

@@ -16,6 +16,7 @@ pub mod Kept
 pub mod Lowest
 pub mod Marks
 pub mod Noted
+pub mod Opcodes
 pub mod Parted
 pub mod Passing
 pub mod Placed
@@ -25,3 +26,4 @@ pub mod Sweeps
 pub mod Touches
 pub mod Verdicts
 pub mod Within
+pub mod Words

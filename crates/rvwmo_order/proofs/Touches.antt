@@ -1,11 +1,9 @@
 -- What a walk keeps of a byte weighs at least as much as each access to it that a rule asks for.
-use Rattle.std.proofs.Common.{◌≡◌, ℕ, ◌<◌, ◌≤◌, max, List, [], ◌∷◌, ◌++◌, Bool, true, false, Option, Some, None, refl, cond, sym, ap, ◌∙◌, ◌+◌, ◌&&◌, arith, take, ◌⊎◌, inl, inr, subst}
-use Rattle.std.specs.Prelude.{nat_eq, nat_le, nat_lt, slice_get, unwrap_or}
-use Rattle.std.specs.HashMap as hash
-use Rattle.std.specs.HashMap.{HashMap}
+use Rattle.std.proofs.Common.{◌≡◌, ℕ, ◌<◌, ◌≤◌, max, List, [], ◌∷◌, ◌++◌, Bool, true, false, Option, Some, None, refl, cond, sym, ap, ◌∙◌, ◌&&◌, arith, take}
+use Rattle.std.specs.Prelude.{nat_eq, nat_lt, slice_get}
 use Rattle.std.specs.List.{list_any}
 use Rattle.std.specs.Option.{option_map_or}
-use Rattle.std.proofs.lemmas.Bool.{and_from, and_parts, cases_eq, eq-eqb, eqb-true, ltb-false, ltb-true, or_parts, true≢false}
+use Rattle.std.proofs.lemmas.Bool.{and_from, and_parts, eq-eqb, eqb-true, ltb-false, ltb-true, or_parts, true≢false}
 use Rattle.memory_model.specs.declared.operation.Operation.{Operation}
 use Rattle.memory_model.specs.Dependencies.{between}
 use Rattle.memory_model.specs.Items.{Item}
@@ -13,7 +11,7 @@ use Rattle.memory_model.specs.Operations.{reads, same, touches, writes}
 use Rattle.memory_model.specs.Order.{same_source, source}
 use Rattle.memory_model.specs.Rules.{has_store_to}
 use Rattle.rvwmo_order.specs.Placed.{IsPlaced}
-use Rattle.rvwmo_order.specs.Touched.{but, loaded, read, stored, touch_after, touch_in, touch_behind, touched, untouched, with_all}
+use Rattle.rvwmo_order.specs.Touched.{but, loaded, read, stored, touch_after, touch_behind, touched, untouched, with_all}
 use Rattle.rvwmo_order.specs.declared.touched.Touch.{Touch}
 use Rattle.rvwmo_order.proofs.Parted.{parted}
 
@@ -181,40 +179,3 @@ load_touched order x own items a b m k p e o l h r s d =
     let at_most = led.apart k d in
     let there = ap (but k) (touched_both order x own items a b m p e o l h) in
     omega (arith, at_most, there)
-
--- ---- an operation's bytes, one by one
-
-eq_same : (x : ℕ) → nat_eq x x ≡ true
-eq_same x = grind arith
-
-eq_other : (x q : ℕ) → (x ≡ q → ⊥) → nat_eq x q ≡ false
-eq_other x q g = grind arith
-
-not_below : (a x : ℕ) → (nat_le a x && nat_lt x x) ≡ false
-not_below a x = grind arith
-
-within : (a x : ℕ) → a ≤ x → (nat_le a x && nat_lt x (x + 1)) ≡ true
-within a x l = grind arith
-
-below_same : (x q : ℕ) → (x ≡ q → ⊥) → nat_lt q x ≡ nat_lt q (x + 1)
-below_same x q g = grind arith
-
-pub next_touched : {S : Type 0} (old before new : HashMap ℕ Touch S) (order : List Operation) (a : Operation) (own x : ℕ) (touch passed : Touch) → a.address ≤ x
-    → ((q : ℕ) → hash.get nat_eq new q ≡ cond (nat_eq x q) (Some passed) (hash.get nat_eq before q)) → touch ≡ touch_in before x → passed ≡ touched order x own a touch
-    → ((q : ℕ) → touch_in before q ≡ cond (nat_le a.address q && nat_lt q x) (touched order q own a (touch_in old q)) (touch_in old q))
-    → (q : ℕ) → touch_in new q ≡ cond (nat_le a.address q && nat_lt q (x + 1)) (touched order q own a (touch_in old q)) (touch_in old q)
-next_touched old before new order a own x touch passed l all e f inv q = go (cases_eq x q)
-  where
-    after : ℕ → Bool → Touch
-    after q b = cond b (touched order q own a (touch_in old q)) (touch_in old q)
-
-    there : touch_in new x ≡ after x (nat_le a.address x && nat_lt x (x + 1))
-    there =
-        ap (λ (o : Option Touch). unwrap_or o untouched) (all x ∙ ap (λ (b : Bool). cond b (Some passed) (hash.get nat_eq before x)) (eq_same x))
-        ∙ (f ∙ (ap (touched order x own a) (e ∙ (inv x ∙ ap (after x) (not_below a.address x))) ∙ sym (ap (after x) (within a.address x l))))
-
-    go : (x ≡ q) ⊎ (x ≡ q → ⊥) → touch_in new q ≡ after q (nat_le a.address q && nat_lt q (x + 1))
-    go (inl g) = subst (λ (n : ℕ). touch_in new n ≡ after n (nat_le a.address n && nat_lt n (x + 1))) g there
-    go (inr g) =
-        ap (λ (o : Option Touch). unwrap_or o untouched) (all q ∙ ap (λ (b : Bool). cond b (Some passed) (hash.get nat_eq before q)) (eq_other x q g))
-        ∙ (inv q ∙ ap (λ (b : Bool). after q (nat_le a.address q && b)) (below_same x q g))

@@ -35,6 +35,12 @@ bound_of Control r = r.control
 bound_of DependentStore r = r.dependent_store
 bound_of DependentAddress r = r.dependent_address
 
+-- the greatest bound of any rule
+abbrev pub greatest_of : Row → ℕ
+greatest_of r =
+    max (max (max (max (max (max r.overlapping_store r.same_byte_loads) (max r.atomic_source r.dependent_store)) (max (max r.fence r.acquire) r.release)) (max r.annotations r.pair)) (max r.address r.data_stored))
+    (max r.control r.dependent_address)
+
 -- no bound: the greatest of 64 bits
 abbrev pub most : ℕ
 most = 18446744073709551615

@@ -1,5 +1,5 @@
 -- What a walk along a hart's list keeps of a byte: the greatest weight of its accesses, and of its loads since the last store by where they return it from.
-use Rattle.std.specs.Prelude.{ℕ, max, if◌then◌else◌, List, [], ◌∷◌, Option, None, nat_eq, nat_lt, unwrap_or}
+use Rattle.std.specs.Prelude.{ℕ, ◌/◌, ◌%◌, max, if◌then◌else◌, List, [], ◌∷◌, Option, None, nat_eq, nat_lt, slice_index_or, unwrap_or}
 use Rattle.std.specs.HashMap as hash
 use Rattle.std.specs.HashMap.{HashMap}
 use Rattle.std.specs.Option.{option_map_or}
@@ -13,9 +13,9 @@ use Rattle.rvwmo_order.specs.declared.touched.Touch.{Touch}
 abbrev pub untouched : Touch
 untouched = record { all = 0; loads = 0; source = None; others = 0 }
 
--- that of a byte in a map
-abbrev pub touch_in : {S : Type 0} → HashMap ℕ Touch S → ℕ → Touch
-touch_in touches x = unwrap_or (hash.get nat_eq touches x) untouched
+-- that of a byte in a map of words
+abbrev pub touch_in : {S : Type 0} → HashMap ℕ (List Touch) S → ℕ → Touch
+touch_in touches x = slice_index_or (unwrap_or (hash.get nat_eq touches (x / 4)) []) (x % 4) untouched
 
 -- the greatest weight of the loads that return it from elsewhere
 abbrev pub but : Option Operation → Touch → ℕ

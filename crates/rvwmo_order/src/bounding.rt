@@ -1,5 +1,7 @@
 //! The rows of an order's operations, one at each place, filled in by a walk along each hart's list.
 ghost use Rattle.std.specs.Prelude.{◌≡◌, ◌+◌, ◌<◌, ℕ, IfOk, OnOk, Some, replicate, slice_get, slice_index_or, slice_set};
+ghost use Rattle.memory_model.specs.declared.operation.Operation.{Operation as OperationValue};
+ghost use Rattle.memory_model.specs.Order as orders;
 ghost use Rattle.memory_model.specs.Rules as rules;
 ghost use Rattle.rvwmo_order.specs.Bounds as spec;
 ghost use Rattle.rvwmo_order.specs.Bounds.{BoundsEach, GivesEach, HasCome, RanksEach};
@@ -8,7 +10,7 @@ ghost use Rattle.rvwmo_order.specs.Placed.{GivesOwn, IsPlaced};
 use crate::index::Index;
 use crate::items::{Harts, Item};
 use crate::rows::{Row, UNBOUNDED};
-use crate::walking::{Walk, weight_of};
+use crate::walking::{Walk, weight_at};
 use memory_model::MemoryModel;
 use std::alloc::{AllocError, Global};
 
@@ -85,12 +87,20 @@ fn bound_hart(
     let mut walk = Walk::new(alloc, model);
     for item in items.list() {
         let own = bound_item(rows, &walk, harts, hart, index, weights, item);
-        walk.pass(index, item, own)?;
+        walk.pass(index, item, own.position, own.weight)?;
     }
     Ok(())
 }
 
-// Fills in the row of an instruction's operation, where it has one, to which the walk has come; its weight.
+// The place of an instruction's operation in the order, and its weight; both 0 where it has none.
+#[derive(Clone, Copy)]
+struct Standing {
+    position: usize,
+    weight: usize,
+}
+
+// Fills in the row of an instruction's operation, where it has one, to which the walk has come; where that
+// stands.
 fn bound_item(
     rows: &mut [Row],
     walk: &Walk,
@@ -99,23 +109,30 @@ fn bound_item(
     index: &Index,
     weights: &[usize],
     item: &Item,
-) -> usize
+) -> Standing
     requires gives { GivesEach harts.now index.now }
     requires bound { BoundsEach walk.now.model harts.now index.now weights.now rows.old }
     requires placed { IsPlaced 0 (rules.items_of harts.now hart) }
     requires own { GivesOwn hart (rules.items_of harts.now hart) }
     requires there { slice_get (rules.items_of harts.now hart) item.now.place ≡ Some item.now }
     requires come { HasCome walk.now.model (spec.own_weight weights.now index.now) index.now (rules.items_of harts.now hart) item.now.place walk.now }
-    ensures weight { result ≡ spec.own_weight weights.now index.now item.now }
+    ensures position { (a : OperationValue) → item.now.operation ≡ Some a → result.position ≡ orders.position_in index.now a }
+    ensures weight { result.weight ≡ spec.own_weight weights.now index.now item.now }
     ensures bound { BoundsEach walk.now.model harts.now index.now weights.now rows.new }
 {
     let Some(b) = item.operation() else {
-        return 0;
+        return Standing {
+            position: 0,
+            weight: 0,
+        };
     };
     let position = index.position_of(&b);
     let row = walk.row(index, weights, rows, position, &b, item.instr());
     put_row(rows, position, row);
-    weight_of(index, weights, &b)
+    Standing {
+        position,
+        weight: weight_at(weights, position),
+    }
 }
 
 // Puts a row at a place, where there is such a place.

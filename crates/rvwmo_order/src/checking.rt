@@ -50,23 +50,25 @@ pub fn check_model(
         return Err(CheckError::TooLong);
     }
     let names = names_in(alloc, trace)?;
-    if !is_order(alloc, &names, order)? {
+    let harts = Harts::of(alloc, trace)?;
+    if !is_order(alloc, &harts, &names, order)? {
         return Err(CheckError::NotAnOrder);
     }
-    Ok(verdict_on(alloc, trace, order, model)?)
+    Ok(verdict_on(alloc, trace, &harts, order, model)?)
 }
 
 // The verdict on an order of the operations.
 fn verdict_on(
     alloc: Global,
     trace: &Trace,
+    harts: &Harts,
     order: &[OpId],
     model: MemoryModel,
 ) -> Result<Verdict, AllocError>
-    requires { traces.is_distinct order.now ≡ true }
+    requires all { harts.now ≡ traces.instructions trace.now.history }
+    requires distinct { traces.is_distinct order.now ≡ true }
     ensures { IfOk result (λ v. v ≡ judged model (traces.image_of trace.now.history) (traces.instructions trace.now.history) (traces.operations_at (traces.instructions trace.now.history) order.now)) }
 {
-    let harts = Harts::of(alloc, trace)?;
-    let index = Index::of(alloc, operations_at(alloc, &harts, order)?)?;
-    judge(alloc, model, trace.image(), &harts, &index)
+    let index = Index::of(alloc, operations_at(alloc, harts, order)?)?;
+    judge(alloc, model, trace.image(), harts, &index)
 }

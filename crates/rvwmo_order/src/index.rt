@@ -245,7 +245,7 @@ impl Index {
 fn sources_in(alloc: Global, index: &Index) -> Result<Vec<[Option<Operation>; 4]>, AllocError>
     ensures { IfOk result (λ sources. GivesSources index.now sources.items) }
 {
-    let mut sources = Vec::new(alloc);
+    let mut sources = Vec::with_capacity(alloc, index.order().len())?;
     for a in index.order() {
         sources.push(index.first_sources(a))?;
     }
@@ -256,7 +256,7 @@ fn sources_in(alloc: Global, index: &Index) -> Result<Vec<[Option<Operation>; 4]
 fn places_in(alloc: Global, order: &[Operation]) -> Result<HashMap<(u8, u32), usize>, AllocError>
     ensures { IfOk result (λ places. (a : OperationValue) → hash.get name_eq places (a.hart, a.place) ≡ place_from 0 a order.now) }
 {
-    let mut places = HashMap::new(alloc);
+    let mut places = HashMap::with_capacity(alloc, order.len())?;
     for (position, a) in order.iter().enumerate() {
         put_first(&mut places, position, a)?;
     }

@@ -1,7 +1,7 @@
 //! A hart's retired instructions with their memory operations (chapter 14.1, "Memory Model
 //! Primitives").
-ghost use Rattle.std.specs.Prelude.{◌≡◌, ◌≤◌, ◌-◌, ◌*◌, ◌%◌, ◌^◌, IfOk, Some, false, drop, length, slice_get, slice_index, take, []};
-ghost use Rattle.std.specs.Option.{option_copied};
+ghost use Rattle.std.specs.Prelude.{◌≡◌, ◌≤◌, ◌-◌, ◌*◌, ◌%◌, ◌^◌, Bool, IfOk, Option, Some, false, drop, length, slice_get, slice_index, take, []};
+ghost use Rattle.std.specs.Option.{option_copied, option_map_or};
 ghost use Rattle.memory_model.specs.Dependencies.{between};
 ghost use Rattle.memory_model.specs.Rules as rules;
 ghost use Rattle.hart.specs.Run as run;
@@ -175,7 +175,7 @@ fn items_of(alloc: Global, reset: &Hart, entries: &[Retired]) -> Result<Vec<Item
     ensures { IfOk result (λ items. items.items ≡ spec.items_from 0 reset.now entries.now) }
 {
     let mut hart = *reset;
-    let mut items = Vec::new(alloc);
+    let mut items = Vec::with_capacity(alloc, entries.len())?;
     for (place, entry) in entries.iter().enumerate() {
         let instr = decode(entry.word);
         items.push(Item::new(place as u32, &hart, entry, &instr))?;
@@ -249,6 +249,9 @@ fn instructions(alloc: Global, trace: &Trace) -> Result<Vec<Items>, AllocError>
 pub(crate) fn has_operation(entry: &Retired) -> bool
     ensures { result ≡ spec.has_operation entry.now }
 {
+    if !has_access_opcode(entry.word) {
+        return false;
+    }
     match decode(entry.word) {
         Some(instr) => match instr {
             Instr::Load { .. } | Instr::Store { .. } | Instr::Lr { .. } | Instr::Amo { .. } => true,
@@ -266,6 +269,13 @@ pub(crate) fn has_operation(entry: &Retired) -> bool
         },
         None => false,
     }
+}
+
+// Whether a word has the opcode of loads, of stores or of atomics. Most have another, and needn't be decoded.
+fn has_access_opcode(word: u32) -> bool
+    ensures { result ≡ false → (answer : Option Bool) → option_map_or (spec.accesses_memory answer) (decoded word) false ≡ false }
+{
+    matches!(word % 0x80, 0x03 | 0x23 | 0x2f)
 }
 
 // The operation of an instruction at this place of its hart's list.

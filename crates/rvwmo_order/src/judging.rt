@@ -14,7 +14,7 @@ use crate::accesses::{end_of, is_same, is_sc, name_of, read_at, reads, stores_to
 use crate::bounding::ranked_rows;
 use crate::index::Index;
 use crate::items::Harts;
-use crate::rows::Row;
+use crate::rows::{Row, are_clear};
 use crate::rules::are_paired;
 use crate::searching::first_broken_by;
 use crate::sources::byte_from;
@@ -61,6 +61,9 @@ fn broken_rule(
     requires ranked { RanksEach model harts.now index.now rows.now }
     ensures { IfOk result (λ broken. broken ≡ first_broken_rule model harts.now index.now all_rules) }
 {
+    if are_clear(rows, index.order().len()) {
+        return Ok(None);
+    }
     let mut left = RULES.as_slice();
     while let [rule, rest @ ..] = left {
         if let Some((a, b)) = first_broken_by(alloc, *rule, model, harts, index, rows)? {

@@ -1,11 +1,12 @@
 //! The names of a trace's operations, and lists of them.
-ghost use Rattle.std.specs.Prelude.{◌≡◌, ◌≤◌, ◌^◌, ◌&&◌, ◌++◌, IfOk, OnOk, filter, length, nat_lt};
+ghost use Rattle.std.specs.Prelude.{◌≡◌, ◌≤◌, ◌^◌, ◌&&◌, ◌++◌, IfOk, OnOk, filter, is_some, length, nat_lt};
 ghost use Rattle.std.specs.List.{list_all};
 ghost use Rattle.memory_model.specs.Items as items;
 ghost use Rattle.memory_model.specs.Traces as spec;
+ghost use Rattle.trace_recorder.specs.declared.operation.OpId.{OpId as Name};
 
 use crate::items::{Harts, has_operation};
-use crate::names::{has, is_distinct, names_of};
+use crate::names::{distinct_names, has_all};
 use hart::Retired;
 use memory_model::Operation;
 use std::alloc::{AllocError, Global};
@@ -68,30 +69,33 @@ fn count_of(entries: &[Retired]) -> usize
     count
 }
 
-/// Whether a list has each of these names exactly once, and no other.
-pub(crate) fn is_order(alloc: Global, names: &[OpId], order: &[OpId]) -> Result<bool, AllocError>
+/// Whether a list has each of these names exactly once, and no other, where they are those of all operations.
+pub(crate) fn is_order(
+    alloc: Global,
+    harts: &Harts,
+    names: &[OpId],
+    order: &[OpId],
+) -> Result<bool, AllocError>
+    requires { (n : Name) → spec.is_among names.now n ≡ is_some (spec.operation_at harts.now n) }
     ensures { IfOk result (λ answer. answer
         ≡ (list_all (spec.is_among names.now) order.now
         && spec.is_distinct order.now
         && list_all (spec.is_among order.now) names.now)) }
 {
-    Ok(
-        are_all_among(alloc, names, order)?
-            && is_distinct(alloc, order)?
-            && are_all_among(alloc, order, names)?,
-    )
+    if !have_operations(harts, order) {
+        return Ok(false);
+    }
+    match distinct_names(alloc, order)? {
+        Some(known) => Ok(has_all(&known, names)),
+        None => Ok(false),
+    }
 }
 
-fn are_all_among(alloc: Global, names: &[OpId], list: &[OpId]) -> Result<bool, AllocError>
-    ensures { IfOk result (λ answer. answer ≡ list_all (spec.is_among names.now) list.now) }
+// Whether each of these names is one of an operation.
+fn have_operations(harts: &Harts, list: &[OpId]) -> bool
+    ensures { result ≡ list_all (λ n. is_some (spec.operation_at harts.now n)) list.now }
 {
-    let known = names_of(alloc, names)?;
-    for name in list {
-        if !has(&known, *name) {
-            return Ok(false);
-        }
-    }
-    Ok(true)
+    list.iter().all(|name| operation_at(harts, *name).is_some())
 }
 
 /// The operations of an order's names, in its order.

@@ -1,5 +1,5 @@
 //! Bounds, one for each rule: the greatest weight of the operations that must come before another, or more.
-ghost use Rattle.std.specs.Prelude.{◌≡◌, slice_index_or};
+ghost use Rattle.std.specs.Prelude.{◌≡◌, ◌≤◌, ◌<◌, ◌+◌, ℕ, slice_index_or, true};
 ghost use Rattle.rvwmo_order.specs.Bounds as spec;
 
 use crate::verdict::Rule;
@@ -40,6 +40,24 @@ pub(crate) const UNBOUNDED: Row = Row {
 };
 
 impl Row {
+    // The greatest bound of any rule.
+    fn greatest(&self) -> usize
+        ensures { result ≡ spec.greatest_of self.now }
+    {
+        let by_access = self.overlapping_store.max(self.same_byte_loads);
+        let by_source = self.atomic_source.max(self.dependent_store);
+        let by_fence = self.fence.max(self.acquire).max(self.release);
+        let by_pair = self.annotations.max(self.pair);
+        let by_register = self.address.max(self.data_stored);
+        let by_branch = self.control.max(self.dependent_address);
+        by_access
+            .max(by_source)
+            .max(by_fence)
+            .max(by_pair)
+            .max(by_register)
+            .max(by_branch)
+    }
+
     pub(crate) fn bound(&self, rule: Rule) -> usize
         ensures { result ≡ spec.bound_of rule self.now }
     {
@@ -79,4 +97,16 @@ pub(crate) fn bound_at(rows: &[Row], position: usize, rule: Rule) -> usize
         Some(row) => row.bound(rule),
         None => usize::MAX,
     }
+}
+
+/// Whether the bounds of so many operations leave no room for one behind another that must come before it.
+pub(crate) fn are_clear(rows: &[Row], count: usize) -> bool
+    ensures { result ≡ true → (place : ℕ) → place < count → spec.greatest_of (slice_index_or rows.now place spec.unbounded) ≤ place + 1 }
+{
+    for place in 0..count {
+        if row_at(rows, place).greatest() > place + 1 {
+            return false;
+        }
+    }
+    true
 }

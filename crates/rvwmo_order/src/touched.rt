@@ -1,6 +1,7 @@
 //! The bytes that a walk along a hart's list has touched: for each the greatest weight of its accesses, and
 //! of its loads since the last store to it, by where they return it from.
-ghost use Rattle.std.specs.Prelude.{◌≡◌, ◌≤◌, ℕ, true, OnOk, if◌then◌else◌};
+ghost use Rattle.std.specs.Prelude.{◌≡◌, ◌≤◌, ◌+◌, ◌*◌, ◌/◌, ◌%◌, ◌<◌, ◌&&◌, ℕ, [], OnOk, if◌then◌else◌, nat_eq, nat_le, nat_lt, replicate, slice_index_or, unwrap_or};
+ghost use Rattle.std.specs.HashMap as hash;
 ghost use Rattle.memory_model.specs.Operations as operations;
 ghost use Rattle.memory_model.specs.Order as orders;
 ghost use Rattle.rvwmo_order.specs.Touched as spec;
@@ -85,31 +86,104 @@ impl Touch {
     }
 }
 
-/// What was kept of a byte.
-pub(crate) fn touch_of(touches: &HashMap<u64, Touch>, x: u64) -> Touch
+/// What was kept of the bytes of a word, of which the first is four times this number.
+pub(crate) fn word_of(touches: &HashMap<u64, [Touch; 4]>, number: u64) -> &[Touch]
+    ensures { result.now ≡ unwrap_or (hash.get nat_eq touches.now number) [] }
+{
+    match touches.get(&number) {
+        Some(word) => word,
+        None => &[],
+    }
+}
+
+/// What was kept of a byte, where this was kept of the word of this number.
+pub(crate) fn touch_near(
+    touches: &HashMap<u64, [Touch; 4]>,
+    number: u64,
+    word: &[Touch],
+    x: u64,
+) -> Touch
+    requires { word.now ≡ unwrap_or (hash.get nat_eq touches.now number) [] }
     ensures { result ≡ touch_in touches.now x }
 {
-    match touches.get(&x) {
+    if x / 4 == number {
+        touch_at(word, x)
+    } else {
+        touch_at(word_of(touches, x / 4), x)
+    }
+}
+
+// What was kept of a byte of a word.
+fn touch_at(word: &[Touch], x: u64) -> Touch
+    ensures { result ≡ slice_index_or word.now (x % 4) spec.untouched }
+{
+    match word.get((x % 4) as usize) {
         Some(touch) => *touch,
         None => Touch::none(),
     }
 }
 
-/// Goes past an operation.
+/// Goes past an operation that stands at this place of the order.
 pub(crate) fn pass_bytes(
-    touches: &mut HashMap<u64, Touch>,
+    touches: &mut HashMap<u64, [Touch; 4]>,
     index: &Index,
+    position: usize,
     a: &Operation,
     own: usize,
 ) -> Result<(), AllocError>
+    requires { position ≡ orders.position_in index.now a.now }
     ensures { OnOk result ((x : ℕ) → touch_in touches.new x
         ≡ (if operations.touches x a.now then spec.touched index.now x own a.now (touch_in touches.old x) else touch_in touches.old x)) }
 {
-    let position = index.position_of(a);
-    for x in u64::from(a.address)..end_of(a) {
-        let mut touch = touch_of(touches, x);
-        touch.pass(index, position, x, a, own);
-        touches.insert(x, touch)?;
+    let end = end_of(a);
+    let mut x = u64::from(a.address);
+    while x < end {
+        let behind = behind_in_word(x, end);
+        let mut word = kept_word(touches, x / 4);
+        pass_word(&mut word, index, position, x, behind, a, own);
+        touches.insert(x / 4, word)?;
+        x = behind;
     }
     Ok(())
+}
+
+// The byte behind those from one on, and before another, that are in its word.
+fn behind_in_word(x: u64, end: u64) -> u64
+    requires { x < end }
+    ensures further { x < result }
+    ensures up_to { result ≤ end }
+    ensures within { result ≤ x / 4 * 4 + 4 }
+{
+    end.min((x / 4 * 4).saturating_add(4))
+}
+
+// What was kept of the bytes of a word, for each of the four.
+fn kept_word(touches: &HashMap<u64, [Touch; 4]>, number: u64) -> [Touch; 4]
+    ensures { result ≡ unwrap_or (hash.get nat_eq touches.now number) (replicate 4 spec.untouched) }
+{
+    match touches.get(&number) {
+        Some(word) => *word,
+        None => [Touch::none(); 4],
+    }
+}
+
+// Goes past it at the bytes of a word from one on, up to another.
+fn pass_word(
+    word: &mut [Touch; 4],
+    index: &Index,
+    position: usize,
+    first: u64,
+    end: u64,
+    a: &Operation,
+    own: usize,
+)
+    requires position { position ≡ orders.position_in index.now a.now }
+    requires ordered { first ≤ end }
+    requires within { end ≤ first / 4 * 4 + 4 }
+    ensures { (x : ℕ) → x / 4 ≡ first / 4 → slice_index_or word.new (x % 4) spec.untouched
+        ≡ (if nat_le first x && nat_lt x end then spec.touched index.now x own a.now (slice_index_or word.old (x % 4) spec.untouched) else slice_index_or word.old (x % 4) spec.untouched) }
+{
+    for x in first..end {
+        word[(x % 4) as usize].pass(index, position, x, a, own);
+    }
 }

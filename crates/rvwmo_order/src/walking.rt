@@ -18,7 +18,7 @@ use crate::index::Index;
 use crate::items::Item;
 use crate::passed::Passed;
 use crate::rows::{Row, row_at};
-use crate::touched::{Touch, pass_bytes, touch_of};
+use crate::touched::{Touch, pass_bytes, touch_near, word_of};
 use memory_model::{MemoryModel, Operation};
 use rv32_decode::Instr;
 use std::alloc::{AllocError, Global};
@@ -29,7 +29,8 @@ pub(crate) struct Walk {
     model: MemoryModel,
     carried: Carried,
     passed: Passed,
-    touches: HashMap<u64, Touch>,
+    /// By four bytes in a row, the first of which is a multiple of four.
+    touches: HashMap<u64, [Touch; 4]>,
 }
 
 impl Walk {
@@ -45,8 +46,16 @@ impl Walk {
         }
     }
 
-    /// Goes past an instruction whose operation, where it has one, has this weight.
-    pub(crate) fn pass(&mut self, index: &Index, item: &Item, own: usize) -> Result<(), AllocError>
+    /// Goes past an instruction whose operation, where it has one, stands at this place of the order and has
+    /// this weight.
+    pub(crate) fn pass(
+        &mut self,
+        index: &Index,
+        item: &Item,
+        position: usize,
+        own: usize,
+    ) -> Result<(), AllocError>
+        requires placed { (a : OperationValue) → item.now.operation ≡ Some a → position ≡ orders.position_in index.now a }
         ensures model { OnOk result (self.new.model ≡ self.old.model) }
         ensures carried { OnOk result (self.new.carried ≡ carried_after own item.now.instr self.old.carried) }
         ensures passed { OnOk result (self.new.passed ≡ passed_after self.old.model own item.now self.old.passed) }
@@ -55,7 +64,7 @@ impl Walk {
         self.carried.pass(item.instr(), own);
         self.passed.pass(self.model, item, own);
         if let Some(a) = item.operation() {
-            pass_bytes(&mut self.touches, index, &a, own)?;
+            pass_bytes(&mut self.touches, index, position, &a, own)?;
         }
         Ok(())
     }
@@ -114,9 +123,11 @@ impl Walk {
         if !writes(b.kind) {
             return 0;
         }
+        let number = u64::from(b.address) / 4;
+        let word = word_of(&self.touches, number);
         let mut most = 0;
         for x in u64::from(b.address)..end_of(b) {
-            most = most.max(touch_of(&self.touches, x).all());
+            most = most.max(touch_near(&self.touches, number, word, x).all());
         }
         most
     }
@@ -143,10 +154,13 @@ impl Walk {
         if !reads(b.kind) {
             return most;
         }
+        let number = u64::from(b.address) / 4;
+        let word = word_of(&self.touches, number);
         for x in u64::from(b.address)..end_of(b) {
             let source = index.source_at(position, b, x);
+            let touch = touch_near(&self.touches, number, word, x);
             most = Sourced {
-                loads: most.loads.max(touch_of(&self.touches, x).but(source)),
+                loads: most.loads.max(touch.but(source)),
                 atomics: most.atomics.max(atomic_source(index, weights, b, source)),
                 passed_on: most.passed_on.max(dependent_store(index, rows, b, source)),
             };
@@ -206,11 +220,18 @@ fn dependent_store(index: &Index, rows: &[Row], b: &Operation, source: Option<Op
     row.address.max(row.data_stored)
 }
 
-/// The weight at an operation's place in the order.
-pub(crate) fn weight_of(index: &Index, weights: &[usize], a: &Operation) -> usize
+// The weight at an operation's place in the order.
+fn weight_of(index: &Index, weights: &[usize], a: &Operation) -> usize
     ensures { result ≡ spec.weight_of weights.now index.now a.now }
 {
-    match weights.get(index.position_of(a)) {
+    weight_at(weights, index.position_of(a))
+}
+
+/// The weight at a place of the order.
+pub(crate) fn weight_at(weights: &[usize], position: usize) -> usize
+    ensures { result ≡ slice_index_or weights.now position 0 }
+{
+    match weights.get(position) {
         Some(weight) => *weight,
         None => 0,
     }

@@ -23,5 +23,5 @@ loop-item-preserved c =
     let there = at_item c.list-item-items.result.now (items_of c.args.harts.now c.args.hart) c.loop-item.item-index c.item-item.result (c.list-item-items.ensures.list ∙ c.items_of-items.ensures.list) (subst (λ (xs : List Item). IsPlaced 0 xs) c.items_of-items.ensures.list c.list-item-items.ensures.placed) (omega arith) c.item-item.is in
     record {
       bound = bound_as c.loop-item.walk.model c.args.model c.args.harts.now c.args.index.now c.args.weights.now _ (sym c.loop-item.invariant.come.model_is) c.bound_item-own.ensures.bound;
-      come = come_further c.args.model (own_weight c.args.weights.now c.args.index.now) c.args.index.now (items_of c.args.harts.now c.args.hart) c.loop-item.item-index c.bound_item-own.result c.item-item.result c.loop-item.walk _ c.loop-item.invariant.come there (sym c.bound_item-own.ensures.weight) c.in_ok-pass.ensures.model c.in_ok-pass.ensures.carried c.in_ok-pass.ensures.passed c.in_ok-pass.ensures.touched;
+      come = come_further c.args.model (own_weight c.args.weights.now c.args.index.now) c.args.index.now (items_of c.args.harts.now c.args.hart) c.loop-item.item-index c.bound_item-own.result.weight c.item-item.result c.loop-item.walk _ c.loop-item.invariant.come there (sym c.bound_item-own.ensures.weight) c.in_ok-pass.ensures.model c.in_ok-pass.ensures.carried c.in_ok-pass.ensures.passed c.in_ok-pass.ensures.touched;
     }

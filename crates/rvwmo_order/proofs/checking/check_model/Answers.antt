@@ -1,5 +1,9 @@
-use Rattle.std.proofs.Common.{◌≡◌, ◌∙◌, sym, true}
-use Rattle.memory_model.specs.Traces.{has_each_operation_once}
+use Rattle.std.proofs.Common.{◌≡◌, ◌∙◌, List, ap, sym, true}
+use Rattle.std.specs.Prelude.{is_some}
+use Rattle.trace_recorder.specs.declared.operation.OpId.{OpId}
+use Rattle.memory_model.specs.Items.{Item}
+use Rattle.memory_model.specs.Traces.{has_each_operation_once, is_among, operation_at}
+use Rattle.memory_model.proofs.Told.{names_find_operations}
 use Rattle.rvwmo_order.proofs.Bounded.{three}
 use Rattle.rvwmo_order.proofs.Verdicts.{first_verdict, legal_verdict, sound_verdict, tested_order}
 use Rattle.rvwmo_order.proofs.checking.check_model.Goals as goal
@@ -19,5 +23,10 @@ returns-clause-first c =
     let tested : has_each_operation_once t c.args.order.now ≡ true = sym (tested_order t c.args.order.now c.deref.result.now (c.deref.ensures.value ∙ c.in_ok-names.ensures)) ∙ (sym c.in_ok-is_order.ensures ∙ c.if-not-branch.false) in
     first_verdict c.args.model t c.args.order.now c.in_ok-verdict_on.field-0 tested c.in_ok-verdict_on.ensures
 
-pub verdict_on-requires : goal.verdict_on-requires
-verdict_on-requires c = (three _ _ _ (sym c.in_ok-is_order.ensures ∙ c.if-not-branch.false)).1
+pub is_order-requires : goal.is_order-requires
+is_order-requires c = λ n.
+    ap (λ (names : List OpId). is_among names n) (c.deref.ensures.value ∙ c.in_ok-names.ensures)
+    ∙ (names_find_operations c.args.trace.now.history n ∙ ap (λ (hs : List (List Item)). is_some (operation_at hs n)) (sym c.in_ok-harts.ensures))
+
+pub verdict_on-requires-clause-distinct : goal.verdict_on-requires-clause-distinct
+verdict_on-requires-clause-distinct c = (three _ _ _ (sym c.in_ok-is_order.ensures ∙ c.if-not-branch.false)).1

@@ -1,9 +1,15 @@
-use Rattle.std.proofs.Common.{◌≡◌, ℕ, ◌&&◌, if◌then◌else◌}
-use Rattle.std.specs.Prelude.{nat_le, nat_lt}
+use Rattle.std.proofs.Common.{◌≡◌, ℕ, ◌-◌, ◌≤◌}
 use Rattle.rvwmo_order.specs.Touched.{touch_in, touched}
+use Rattle.rvwmo_order.proofs.Words.{passed}
 use Rattle.rvwmo_order.proofs.touched.pass_bytes.Given as goal
 
 -- the bytes so far have the operation
 abbrev pub invariant-loop-x : goal.invariant-loop-x
-invariant-loop-x l = (q : ℕ) → touch_in l.touches q
-    ≡ (if nat_le l.a.address q && nat_lt q l.x then touched l.index q l.own l.a (touch_in l.fn.touches q) else touch_in l.fn.touches q)
+invariant-loop-x l = record {
+  touched : (q : ℕ) → touch_in l.touches q ≡ passed (λ y t. touched l.index y l.own l.a t) l.a.address l.x q (touch_in l.fn.touches q);
+  from : l.a.address ≤ l.x;
+  up_to : l.x ≤ l.end;
+}
+
+abbrev pub decreases-loop-x : goal.decreases-loop-x
+decreases-loop-x l = l.end - l.x

@@ -1,0 +1,10 @@
+use Rattle.std.proofs.Common.{◌≡◌, ap, arith, length, sym}
+use Rattle.rvwmo_order.specs.Scans.{all_rules}
+use Rattle.rvwmo_order.proofs.Clear.{none_broken}
+use Rattle.rvwmo_order.proofs.judging.broken_rule.Goals as goal
+
+pub returns-then-are_clear : goal.returns-then-are_clear
+returns-then-are_clear c =
+    let same : c.order.result.now ≡ c.args.index.now = c.order.ensures in
+    let long = ap length same in
+    sym (none_broken c.args.model c.args.harts.now c.args.index.now c.args.rows.now c.requires.distinct c.requires.ranked (λ p l. c.are_clear.ensures c.if-are_clear.true p (omega (arith, l, long))) all_rules)
