@@ -15,7 +15,7 @@ pub use ends::print_ends;
 pub use fault::{Fault, Unshown};
 pub use files::Files;
 pub use input::{Source, WithInput};
-pub use machines::{config_of, named_config};
+pub use machines::{config_of, named_config, script_of};
 pub use reading::{contents, image_in, image_of, script_in, text_in, unmade};
 pub use remarked::{Remarked, remark, remark_event};
 pub use system::SystemFiles;

@@ -1,15 +1,17 @@
 //! Which machine a script is for, and which one the words name.
 
 ghost use Rattle.std.specs.Prelude.{◌≡◌, IfSome, IsNone, true};
-ghost use Rattle.command_files.specs.Sizes.{IsOutside, config_named, config_of};
+ghost use Rattle.std.specs.List.{AllByRecursion};
+ghost use Rattle.command_files.specs.Sizes.{IsOutside, config_named, config_of, script_named};
 ghost use Rattle.elf_loader.specs.Size.{IsMemoryKib};
 ghost use Rattle.machine_model.specs.Config.{is_within_limits as is_within};
+ghost use Rattle.trace_text.specs.Scripts.{IsEvent};
 
 use command_settings::MachineOptions;
 use elf_loader::size_of_kib;
-use machine_model::{Config, MemoryModel};
+use machine_model::{Config, Event, MemoryModel};
 use machine_parts::is_within_limits;
-use trace_text::Script;
+use trace_text::{Events, Script};
 
 /// The machine that a script is for.
 pub fn config_of(script: &Script, model: MemoryModel) -> Config
@@ -42,3 +44,34 @@ pub fn named_config(wanted: MachineOptions) -> Option<Config>
         None
     }
 }
+
+/// The script of these events, for the machine that is wanted.
+pub fn script_of(machine: MachineOptions, events: Vec<Event>) -> Script
+    ensures script { result ≡ script_named machine events.items }
+    ensures events { AllByRecursion IsEvent result.events }
+{
+    all_spelt(events.as_slice());
+    Script {
+        harts: machine.harts,
+        kib: machine.memory,
+        sets: machine.sets,
+        ways: machine.ways,
+        line: machine.line,
+        events: Events::new(events),
+    }
+}
+
+/// Each event's numbers have a spelling.
+fn all_spelt(events: &[Event])
+    ensures { AllByRecursion IsEvent events.now }
+{
+    let mut rest = events;
+    while let [event, tail @ ..] = rest {
+        spelt(*event);
+        rest = tail;
+    }
+}
+
+fn spelt(_event: Event)
+    ensures { IsEvent _event }
+{}
