@@ -1,4 +1,5 @@
 mod NeverEnds
 mod Once
 mod Pieces
+mod Searched
 mod Together

@@ -1,10 +1,15 @@
 -- Each outcome is told once.
-use Rattle.std.proofs.Common.{◌≡◌, ◌∙◌, ◌+◌, ◌≤◌, ◌||◌, ℕ, Bool, true, false, true≢false, List, [], ◌∷◌, ◌++◌, IsPermutation, ap, arith, cond, is_eq, map, refl, subst, sym}
-use Rattle.std.specs.Cmp.{Equal-is}
-use Rattle.std.specs.List.{count_by, list_any}
-use Rattle.std.specs.List.Sorted.{IsSortedByKey, IsStrictlySortedBy}
-use Rattle.std.specs.Ordering.{on}
-use Rattle.std.proofs.lemmas.List.Sums.{sum_by-append, sum_by-cons, sum_by_push}
+use Rattle.std.proofs.Common.{◌≡◌, ◌∙◌, ◌+◌, ◌≤◌, ◌||◌, ℕ, All, Bool, true, false, true≢false, List, [], ◌∷◌, ◌++◌, IsPermutation, ap, arith, cond, map, refl, subst, sym}
+use Rattle.std.specs.Cmp.{Equal-is, on_total}
+use Rattle.std.specs.List.{count_by, dedup, list_any}
+use Rattle.std.specs.List.Retain.{DiffersFromLast, IsFiltered}
+use Rattle.std.specs.List.Sorted.{IsSorted, IsSortedByKey, IsStrictlySortedBy}
+use Rattle.std.specs.Ordering.{eq_by_cmp, on}
+use Rattle.std.proofs.lemmas.List.Filters.{All-dedup, dedup_is}
+use Rattle.std.proofs.lemmas.List.Folds.{Any-from_list_any}
+use Rattle.std.proofs.lemmas.List.Kept.{IsStrictlySortedBy-dedup}
+use Rattle.std.proofs.lemmas.List.Sorted.{All-permutation}
+use Rattle.std.proofs.lemmas.List.Sums.{sum_by-append, sum_by-cons}
 use Rattle.architecture_outcomes.specs.declared.outcome.Outcome.{Outcome}
 use Rattle.architecture_outcomes.specs.Outcomes.{TellOnce, is_end, of_found, outcome_of, tells}
 use Rattle.explorer.proofs.Once.{once_of_strict, strict_of_once, times_moved}
@@ -17,7 +22,7 @@ use Rattle.flat_model.specs.Shown.{Result}
 counted : {X : Type 0} (p : X → Bool) (x : X) (xs : List X) → count_by p (x ∷ xs) ≡ cond (p x) 1 0 + count_by p xs
 counted p x xs = sum_by-cons (λ y. cond (p y) 1 0) x xs
 
-pub neither : (a b : Bool) → (a || b) ≡ false → (a ≡ false) × (b ≡ false)
+neither : (a b : Bool) → (a || b) ≡ false → (a ≡ false) × (b ≡ false)
 neither true b e = absurd (true≢false e)
 neither false b e = (refl, e)
 
@@ -30,37 +35,45 @@ none_counted p (x ∷ xs) none =
     let rest = none_counted p xs parts.1 in
     omega (arith, more, here, rest)
 
--- what the machine was found to come to tells each once
-pub found_once : (found : List Found) → IsStrictlySortedBy (on found_outcome outcome_cmp) found → TellOnce found []
-found_once found strict outcome = let few = once_of_strict outcome_total found_outcome found strict outcome in omega (arith, few)
-
--- one more that neither tells
-pub one_more : (found : List Found) (outcomes : List Outcome) (o : Outcome) → (list_any (is_end (outcome_of o)) found || list_any (tells (outcome_of o)) outcomes) ≡ false → TellOnce found outcomes → TellOnce found (outcomes ++ o ∷ [])
-one_more found outcomes o new once outcome = go (tells outcome o) refl
+-- two lists that rise strictly and have nothing in common
+pub once_apart : (found : List Found) (outcomes : List Outcome) → IsStrictlySortedBy (on found_outcome outcome_cmp) found → IsStrictlySortedBy (on outcome_of outcome_cmp) outcomes
+    → All (λ o. list_any (is_end (outcome_of o)) found ≡ false) outcomes → TellOnce found outcomes
+once_apart found outcomes up also apart outcome = go (list_any (tells outcome) outcomes) refl
   where
-    parts : (list_any (is_end (outcome_of o)) found ≡ false) × (list_any (tells (outcome_of o)) outcomes ≡ false)
-    parts = neither (list_any (is_end (outcome_of o)) found) (list_any (tells (outcome_of o)) outcomes) new
+    few : count_by (is_end outcome) found ≤ 1
+    few = once_of_strict outcome_total found_outcome found up outcome
 
-    more : count_by (tells outcome) (outcomes ++ o ∷ []) ≡ count_by (tells outcome) outcomes + cond (tells outcome o) 1 0
-    more = sum_by_push (λ x. cond (tells outcome x) 1 0) outcomes o
+    others : count_by (tells outcome) outcomes ≤ 1
+    others = once_of_strict outcome_total outcome_of outcomes also outcome
 
-    go : (b : Bool) → tells outcome o ≡ b → count_by (is_end outcome) found + count_by (tells outcome) (outcomes ++ o ∷ []) ≤ 1
-    go false e =
-        let other = more ∙ ap (λ b. count_by (tells outcome) outcomes + cond b 1 0) e in
-        let before = once outcome in omega (arith, other, before)
+    go : (b : Bool) → list_any (tells outcome) outcomes ≡ b → count_by (is_end outcome) found + count_by (tells outcome) outcomes ≤ 1
+    go false e = let none = none_counted (tells outcome) outcomes e in omega (arith, few, none)
     go true e =
-        let one : outcome_of o ≡ outcome = same_outcome (outcome_of o) outcome ((Equal-is (outcome_cmp (outcome_of o) outcome)).0 e) in
-        let here = more ∙ ap (λ b. count_by (tells outcome) outcomes + cond b 1 0) e in
-        let none : count_by (is_end outcome) found ≡ 0 = none_counted (is_end outcome) found (subst (λ r. list_any (is_end r) found ≡ false) one parts.0) in
-        let others : count_by (tells outcome) outcomes ≡ 0 = none_counted (tells outcome) outcomes (subst (λ r. list_any (tells r) outcomes ≡ false) one parts.1) in
-        omega (arith, here, none, others)
+        let told = Any-from_list_any (tells outcome) outcomes e in
+        let one : outcome_of told.1 ≡ outcome = same_outcome (outcome_of told.1) outcome ((Equal-is (outcome_cmp (outcome_of told.1) outcome)).0 told.4) in
+        let new : list_any (is_end (outcome_of told.1)) found ≡ false = subst (λ (o : Outcome). list_any (is_end (outcome_of o)) found ≡ false) told.3 (apart told.0 told.1 told.2) in
+        let none : count_by (is_end outcome) found ≡ 0 = none_counted (is_end outcome) found (subst (λ r. list_any (is_end r) found ≡ false) one new) in
+        omega (arith, none, others)
+
+-- ---- what is left of a list that is sorted, each once
+
+module _ (before sorted left : List Outcome) (kept : IsFiltered (DiffersFromLast (eq_by_cmp (on outcome_of outcome_cmp))) [] sorted left) where
+  left_is : left ≡ dedup (eq_by_cmp (on outcome_of outcome_cmp)) sorted
+  left_is = dedup_is (eq_by_cmp (on outcome_of outcome_cmp)) sorted left kept
+
+  pub left_of : (P : Outcome → Type 0) → IsPermutation before sorted → All P before → All P left
+  left_of P moved all = subst (All P) (sym left_is) (All-dedup (eq_by_cmp (on outcome_of outcome_cmp)) P sorted (All-permutation P before sorted moved all))
+
+  pub left_strict : IsSorted (on outcome_of outcome_cmp) sorted → IsStrictlySortedBy (on outcome_of outcome_cmp) left
+  left_strict up = subst (IsStrictlySortedBy (on outcome_of outcome_cmp)) (sym left_is) (IsStrictlySortedBy-dedup (on_total outcome_of outcome_total) (λ x y. refl) sorted up)
+
+-- ---- all of them, sorted
 
 found_counted : (outcome : List Result) (found : List Found) → count_by (tells outcome) (map of_found found) ≡ count_by (is_end outcome) found
 found_counted outcome [] = refl
 found_counted outcome (f ∷ fs) =
     counted (tells outcome) (of_found f) (map of_found fs) ∙ (ap (λ n. cond (is_end outcome f) 1 0 + n) (found_counted outcome fs) ∙ sym (counted (is_end outcome) f fs))
 
--- all of them, sorted
 pub rises : (beyond joined sorted : List Outcome) (found : List Found) → joined ≡ beyond ++ map of_found found → IsPermutation joined sorted → IsSortedByKey outcome_of outcome_cmp sorted → TellOnce found beyond
     → IsStrictlySortedBy (on outcome_of outcome_cmp) sorted
 rises beyond joined sorted found joined_is moved up once = strict_of_once outcome_total outcome_of sorted up few

@@ -1,9 +1,9 @@
 //! What a memory model allows beyond what the machine comes to.
-ghost use Rattle.std.specs.Prelude.{◌≡◌, ◌||◌, All, IfOk, IsTrue};
+ghost use Rattle.std.specs.Prelude.{◌≡◌, All, IfOk, IsTrue};
 ghost use Rattle.std.specs.List.{list_any};
 ghost use Rattle.std.specs.List.Sorted.{IsStrictlySortedBy};
 ghost use Rattle.std.specs.Ordering.{on};
-ghost use Rattle.architecture_outcomes.specs.Outcomes.{IsWitnessed, TellOnce, is_end, tells};
+ghost use Rattle.architecture_outcomes.specs.Outcomes.{IsWitnessed, TellOnce, is_end};
 ghost use Rattle.explorer.specs.Ends.{outcome_of, outcomes_of};
 ghost use Rattle.explorer.specs.Outcomes.{HasEachEnd};
 ghost use Rattle.explorer.specs.Ranks.{outcome_cmp};
@@ -43,25 +43,16 @@ pub(crate) fn search_model(
 
 /// Whether the machine comes to this outcome.
 fn is_found(found: &[Found], harts: &[HartResult]) -> bool
+    requires once { IsStrictlySortedBy (on outcome_of outcome_cmp) found.now }
     ensures { result ≡ list_any (is_end (told harts.now)) found.now }
 {
-    found.iter().any(|end| compare(&end.harts, harts).is_eq())
-}
-
-/// Whether this outcome is told.
-fn is_told(outcomes: &[Outcome], harts: &[HartResult]) -> bool
-    ensures { result ≡ list_any (tells (told harts.now)) outcomes.now }
-{
-    outcomes
-        .iter()
-        .any(|outcome| compare(&outcome.harts, harts).is_eq())
-}
-
-/// Whether the machine comes to this outcome, or it is told.
-fn is_known(found: &[Found], outcomes: &[Outcome], harts: &[HartResult]) -> bool
-    ensures { result ≡ (list_any (is_end (told harts.now)) found.now || list_any (tells (told harts.now)) outcomes.now) }
-{
-    is_found(found, harts) || is_told(outcomes, harts)
+    found
+        .binary_search_by(
+            |end|
+                ensures { result ≡ outcome_cmp (outcome_of end.now) (told harts.entry.now) }
+            { compare(&end.harts, harts) },
+        )
+        .is_ok()
 }
 
 /// The outcomes of the witnesses to which the machine doesn't come, each once. Where its own search isn't complete it
@@ -83,9 +74,11 @@ pub(crate) fn beyond(
     let mut outcomes = Vec::new(alloc);
     let mut left = witnesses;
     while let Some(witness) = left.pop() {
-        if !is_known(found, &outcomes, &witness.harts) {
+        if !is_found(found, &witness.harts) {
             outcomes.push(Outcome::beyond(witness, is_complete))?;
         }
     }
+    outcomes.sort_unstable();
+    outcomes.dedup();
     Ok(outcomes)
 }

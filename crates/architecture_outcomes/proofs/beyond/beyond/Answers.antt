@@ -1,10 +1,10 @@
-use Rattle.std.proofs.Common.{◌≡◌, ◌∙◌, ◌||◌, ◌++◌, ◌∷◌, [], List, Option, All, IfSome, false, subst, sym}
+use Rattle.std.proofs.Common.{◌≡◌, ◌∙◌, List, Option, All, IfSome, false, subst, sym}
 use Rattle.std.specs.List.{list_any}
 use Rattle.std.proofs.lemmas.List.Elements.{All-nil, All-pop, All-push}
-use Rattle.architecture_outcomes.specs.Outcomes.{IsWitnessed, TellOnce, is_end, of_witness, tells}
+use Rattle.architecture_outcomes.specs.Outcomes.{IsWitnessed, is_end, outcome_of}
 use Rattle.architecture_outcomes.specs.declared.outcome.Outcome.{Outcome}
 use Rattle.architecture_outcomes.proofs.NeverEnds.{shown}
-use Rattle.architecture_outcomes.proofs.Once.{found_once, neither, one_more}
+use Rattle.architecture_outcomes.proofs.Once.{left_of, left_strict, once_apart}
 use Rattle.flat_model.specs.declared.results.HartResult.{HartResult}
 use Rattle.flat_model.specs.Shown.{told}
 use Rattle.witnesses.specs.declared.witness.Witness.{Witness}
@@ -12,34 +12,43 @@ use Rattle.witnesses.specs.Witnesses.{IsWitness}
 use Rattle.architecture_outcomes.proofs.beyond.beyond.Goals as goal
 
 pub loop-witness-init : goal.loop-witness-init
-loop-witness-init c = record {
-  left = c.requires.witnessed;
-  shown = subst (All (IsWitnessed c.args.image.now c.args.config)) (sym c.new-outcomes.ensures.items) (All-nil (IsWitnessed c.args.image.now c.args.config));
-  once = subst (TellOnce c.args.found.now) (sym c.new-outcomes.ensures.items) (found_once c.args.found.now c.requires.once);
-}
+loop-witness-init c =
+    let apart = λ (o : Outcome). list_any (is_end (outcome_of o)) c.args.found.now ≡ false in
+    record {
+      left = c.requires.witnessed;
+      shown = subst (All (IsWitnessed c.args.image.now c.args.config)) (sym c.new-outcomes.ensures.items) (All-nil (IsWitnessed c.args.image.now c.args.config));
+      apart = subst (All apart) (sym c.new-outcomes.ensures.items) (All-nil apart);
+    }
 
 pub loop-witness-preserved-in-Continue-1 : goal.loop-witness-preserved-in-Continue-1
 loop-witness-preserved-in-Continue-1 c =
     let P = IsWitness c.args.image.now c.args.config in
     let S = IsWitnessed c.args.image.now c.args.config in
+    let apart = λ (o : Outcome). list_any (is_end (outcome_of o)) c.args.found.now ≡ false in
     let parts = All-pop P c.loop-witness.left.items c.pop.new.self.items c.pop.result c.pop.ensures.items c.loop-witness.invariant.left in
     let here : P c.in-Some.witness = subst (λ (o : Option Witness). IfSome o P) c.in-Some.is parts.1 in
-    let outcomes = c.loop-witness.outcomes.items in
-    let new : (list_any (is_end (told c.in-Some.witness.harts.items)) c.args.found.now || list_any (tells (told c.in-Some.witness.harts.items)) outcomes) ≡ false =
-    subst (λ (os : List Outcome). (list_any (is_end (told c.in-Some.witness.harts.items)) c.args.found.now || list_any (tells (told c.in-Some.witness.harts.items)) os) ≡ false) c.deref.ensures.value
-    (subst (λ (rs : List HartResult). (list_any (is_end (told rs)) c.args.found.now || list_any (tells (told rs)) c.deref.result.now) ≡ false) c.deref-in-Some.ensures.value (sym c.is_known.ensures ∙ c.if-not-is_known.true)) in
-    let none = (neither _ _ new).0 in
+    let none : list_any (is_end (told c.in-Some.witness.harts.items)) c.args.found.now ≡ false =
+    subst (λ (rs : List HartResult). list_any (is_end (told rs)) c.args.found.now ≡ false) c.deref.ensures.value (sym c.is_found.ensures ∙ c.if-not-is_found.true) in
     let one : S c.beyond.result = subst S (sym c.beyond.ensures) (shown c.args.image.now c.args.config c.args.found.now c.args.is_complete c.in-Some.witness c.requires.complete none here) in
     record {
       left = parts.0;
       shown = subst (All S) (sym c.in_ok-push.ensures.items) (All-push S c.loop-witness.outcomes.items c.beyond.result c.loop-witness.invariant.shown one);
-      once = subst (TellOnce c.args.found.now) (sym c.in_ok-push.ensures.items)
-          (subst (λ (o : Outcome). TellOnce c.args.found.now (outcomes ++ o ∷ [])) (sym c.beyond.ensures) (one_more c.args.found.now outcomes (of_witness c.args.is_complete c.in-Some.witness) new c.loop-witness.invariant.once));
+      apart = subst (All apart) (sym c.in_ok-push.ensures.items) (All-push apart c.loop-witness.outcomes.items c.beyond.result c.loop-witness.invariant.apart (subst apart (sym c.beyond.ensures) none));
     }
 
 pub loop-witness-preserved : goal.loop-witness-preserved
 loop-witness-preserved c = record {
   left = (All-pop (IsWitness c.args.image.now c.args.config) c.loop-witness.left.items c.pop.new.self.items c.pop.result c.pop.ensures.items c.loop-witness.invariant.left).0;
   shown = c.loop-witness.invariant.shown;
-  once = c.loop-witness.invariant.once;
+  apart = c.loop-witness.invariant.apart;
 }
+
+pub returns-clause-shown : goal.returns-clause-shown
+returns-clause-shown c =
+    left_of c.loop-witness.outcomes.items _ _ c.dedup.ensures.filtered (IsWitnessed c.args.image.now c.args.config) c.sort_unstable.ensures.permutation c.loop-witness.invariant.shown
+
+pub returns-clause-once : goal.returns-clause-once
+returns-clause-once c =
+    let apart = λ (o : Outcome). list_any (is_end (outcome_of o)) c.args.found.now ≡ false in
+    once_apart c.args.found.now _ c.requires.once (left_strict c.loop-witness.outcomes.items _ _ c.dedup.ensures.filtered c.sort_unstable.ensures.sorted)
+    (left_of c.loop-witness.outcomes.items _ _ c.dedup.ensures.filtered apart c.sort_unstable.ensures.permutation c.loop-witness.invariant.apart)
