@@ -1,3 +1,4 @@
 pub mod Allowing
 pub mod Exploring
+pub mod Judging
 pub mod Keeping

@@ -1,24 +1,21 @@
 //! The outcomes that a file allows.
 
 ghost use Rattle.std.specs.Prelude.{◌≡◌, IfOk, List, ℕ};
-ghost use Rattle.explore_command.specs.Allowing.{has_line, is_allowed_line, line_of, outcome_in, without_number, without_source};
-ghost use Rattle.flat_model.specs.Shown.{told};
+ghost use Rattle.explore_command.specs.Allowing.{has_line, is_allowed_line, outcome_in, without_number, without_source};
 
 use bstr::ByteSlice;
-use exploration_text::harts_text;
-use flat_model::HartResult;
 use indexmap::IndexSet;
 use std::alloc::{AllocError, Global};
 
 /// The lines of a file, without their numbers and without who comes to them.
 #[derive(Drop)]
-pub struct Allowed<'a> {
+pub(crate) struct Allowed<'a> {
     pub(crate) lines: IndexSet<&'a [u8]>,
 }
 
 impl<'a> Allowed<'a> {
     /// Each line of the text. It takes a step for each byte.
-    pub fn new(alloc: Global, text: &'a [u8]) -> Result<Allowed<'a>, AllocError>
+    pub(crate) fn new(alloc: Global, text: &'a [u8]) -> Result<Allowed<'a>, AllocError>
         ensures { IfOk result (λ allowed. (line : List ℕ) → has_line allowed.lines.keys line ≡ is_allowed_line text.now line) }
     {
         let mut lines = IndexSet::new(alloc);
@@ -30,18 +27,10 @@ impl<'a> Allowed<'a> {
     }
 
     /// Whether one of the lines is this one, without its number.
-    pub fn has(&self, line: &[u8]) -> bool
+    pub(crate) fn has(&self, line: &[u8]) -> bool
         ensures { result ≡ has_line self.now.lines.keys line.now }
     {
         self.lines.contains(line)
-    }
-
-    /// Whether one of the lines tells that the harts end so.
-    pub fn has_outcome(&self, alloc: Global, harts: &[HartResult]) -> Result<bool, AllocError>
-        ensures { IfOk result (λ has. has ≡ has_line self.now.lines.keys (line_of (told harts.now))) }
-    {
-        let line = harts_text(alloc, harts)?;
-        Ok(self.has(without_number(&line)))
     }
 }
 
@@ -74,7 +63,7 @@ fn without_source<'a>(line: &'a [u8]) -> &'a [u8]
 }
 
 /// The line behind the digits and spaces at its beginning.
-pub fn without_number<'a>(line: &'a [u8]) -> &'a [u8]
+pub(crate) fn without_number<'a>(line: &'a [u8]) -> &'a [u8]
     ensures { result.now ≡ without_number line.now }
 {
     let mut rest = line;

@@ -1,28 +1,21 @@
 //! `rvtl explore`: every end that the machine can bring a program to is found, told, kept and judged.
 
-ghost use Rattle.std.specs.Prelude.{◌≡◌, ◌≢◌, ◌<◌, ◌⊎◌, Err, IfErr, IfOk, IfSome, OnErr, OnOk, length, option_map, true};
-ghost use Rattle.std.specs.Io.KnownBytes.{Appends};
+ghost use Rattle.std.specs.Prelude.{◌≡◌, ◌<◌, Err, IfErr, IfOk, option_map};
 ghost use Rattle.command_files.specs.Faults.{IsReadFault};
-ghost use Rattle.command_files.specs.Sizes.{IsOutside, config_named};
-ghost use Rattle.elf_loader.specs.Size.{IsMemoryKib};
-ghost use Rattle.explore_command.specs.Exploring.{ComesAfter, IsAllowFile, IsExploreFault, IsExplorationTold, IsFolderFault, IsNamedBy, IsPartlyExplored, IsPrinted, LeavesPart, judgement_on};
-ghost use Rattle.explore_command.specs.Keeping.{AreKept, IsInNamed, IsScriptFile, IsScriptOf, SparesOthers};
-ghost use Rattle.exploration_text.specs.Text.{exploration_text};
-ghost use Rattle.explorer.specs.Ends.{outcomes_of};
-ghost use Rattle.machine_model.specs.Config.{is_within_limits};
-ghost use Rattle.text_fields.specs.Writing.{Begins};
+ghost use Rattle.command_files.specs.Sizes.{IsOutside};
+ghost use Rattle.explore_command.specs.Exploring.{ComesAfter, IsAllowFile, IsExploreFault, IsExplorationTold, IsNamedBy, IsPartlyExplored, IsPrinted, LeavesPart};
+ghost use Rattle.explore_command.specs.Keeping.{IsScriptFile, SparesOthers};
 
-use crate::judging::{Judgement, are_allowed};
-use crate::keeping::Folder;
+use crate::findings::print;
+use crate::judging::{Judgement, judge};
+use crate::keeping::keep;
 use command_files::{Fault, Files, contents, image_in, named_config};
 use command_settings::Explore;
-use exploration_text::text_of;
-use explorer::{Exploration, explore};
+use explorer::explore;
 use progress_line::{Progress, Stage};
-use state_search::{Extent, Watch};
+use state_search::Watch;
 use std::alloc::Global;
 use std::io::Write;
-use text_fields::{Piece, put_pieces};
 
 /// Tells a command's progress how far its search is.
 #[derive(Drop)]
@@ -94,69 +87,4 @@ pub fn allow_file<'a, F: Files>(
     };
     let bytes = contents(alloc, files, file)?;
     Ok(Some(bytes))
-}
-
-fn print<'a, O: Write>(alloc: Global, found: &Exploration, out: &mut O) -> Result<(), Fault<'a>>
-    ensures printed { OnOk result (Appends (O.contents out.old) (O.contents out.new) (exploration_text found.now)) }
-    ensures told { IfErr result (λ fault. (fault ≡ Fault.CannotWrite) ⊎ (fault ≡ Fault.OutOfMemory)) }
-    ensures begun { OnErr result (Begins (O.contents out.old) (O.contents out.new) (exploration_text found.now)) }
-{
-    let Ok(text) = text_of(alloc, found) else {
-        return Err(Fault::OutOfMemory);
-    };
-    if let Err(error) = put_pieces(out, &[Piece::Text(&text)]) {
-        return Err(Fault::writing(error));
-    }
-    match out.flush() {
-        Ok(()) => Ok(()),
-        Err(error) => Err(Fault::writing(error)),
-    }
-}
-
-/// Writes the scripts into the folder that was named, if one was.
-fn keep<'a, F: Files>(
-    alloc: Global,
-    files: &mut F,
-    wanted: Explore<'a>,
-    found: &Exploration,
-) -> Result<(), Fault<'a>>
-    requires within { is_within_limits (config_named wanted.machine) ≡ true }
-    requires memory { IsMemoryKib wanted.machine.memory }
-    ensures kept { OnOk result (IfSome wanted.entry.scripts (λ folder. AreKept (F.held files.new) wanted.entry.machine folder.now found.now)) }
-    ensures told { IfErr result (IsNamedBy wanted.entry.scripts IsFolderFault) }
-    ensures spared { SparesOthers (IsInNamed wanted.entry.scripts (IsScriptOf (length found.now.outcomes.items) found.now.stuck)) (F.held files.old) (F.held files.new) }
-{
-    let Some(name) = wanted.scripts else {
-        return Ok(());
-    };
-    let folder = Folder {
-        alloc,
-        name,
-        machine: wanted.machine,
-    };
-    folder.keep(files, found)
-}
-
-/// Whether what was found is allowed. Where it is, but memory ended, there may be more: that is an error.
-fn judge<'a, E: Write>(
-    alloc: Global,
-    allowed: &Option<Vec<u8>>,
-    found: &Exploration,
-    err: &mut E,
-) -> Result<Judgement, Fault<'a>>
-    ensures judged { IfOk result (λ judgement. judgement ≡ judgement_on (option_map (λ bytes. bytes.items) allowed.now) (outcomes_of found.now.outcomes.items)) }
-    ensures whole { IfOk result (λ judgement. judgement ≡ Judgement.Allowed → found.now.extent ≢ Extent.OutOfMemory) }
-    ensures told { IfErr result (λ fault. fault ≡ Fault.OutOfMemory) }
-{
-    if let Some(text) = allowed {
-        match are_allowed(alloc, text, &found.outcomes, err) {
-            Ok(true) => {}
-            Ok(false) => return Ok(Judgement::NotAllowed),
-            Err(_) => return Err(Fault::OutOfMemory),
-        }
-    }
-    if found.extent == Extent::OutOfMemory {
-        return Err(Fault::OutOfMemory);
-    }
-    Ok(Judgement::Allowed)
 }

@@ -1,23 +1,23 @@
 //! The scripts of what was found, as files of a folder.
 
-ghost use Rattle.std.specs.Prelude.{◌≡◌, ◌≢◌, IfErr, IfOk, List, OnOk, length, true, ℕ};
-ghost use Rattle.std.specs.List.{AllByRecursion};
+ghost use Rattle.std.specs.Prelude.{◌≡◌, ◌≢◌, IfErr, IfOk, IfSome, List, OnOk, length, true, ℕ};
 ghost use Rattle.std.specs.String.{string_bytes};
 ghost use Rattle.command_files.specs.Files.{HoldsScript};
-ghost use Rattle.command_files.specs.Held.{HoldsBytes};
+ghost use Rattle.command_files.specs.Held.{Held, HoldsBytes};
 ghost use Rattle.command_files.specs.Sizes.{config_named, script_named};
+ghost use Rattle.command_settings.specs.declared.wanted.MachineOptions.{MachineOptions};
 ghost use Rattle.elf_loader.specs.Size.{IsMemoryKib};
-ghost use Rattle.explore_command.specs.Exploring.{IsFolderFault};
-ghost use Rattle.explore_command.specs.Keeping.{AreKept, AreKeptFrom, IsKeptAt, IsOutcomeScript, IsScriptOf, SparesOthers, outcome_path, stuck_path};
+ghost use Rattle.explore_command.specs.Exploring.{IsFolderFault, IsNamedBy};
+ghost use Rattle.explore_command.specs.Keeping.{AreKept, AreKeptFrom, IsInNamed, IsKeptAt, IsOutcomeScript, IsScriptOf, Name, SparesOthers, outcome_path, stuck_path};
 ghost use Rattle.machine_model.specs.Config.{is_within_limits};
-ghost use Rattle.trace_text.specs.Scripts.{IsEvent, text};
+ghost use Rattle.trace_text.specs.Scripts.{text};
 
-use command_files::{Fault, Files};
-use command_settings::MachineOptions;
+use command_files::{Fault, Files, script_of};
+use command_settings::{Explore, MachineOptions};
 use explorer::{Exploration, Found, Script as Way};
 use machine_model::Event;
 use std::alloc::{AllocError, Global};
-use trace_text::{Events, Script, write_script};
+use trace_text::{Script, write_script};
 
 /// Where scripts are written, and for which machine they are.
 #[derive(Clone, Copy)]
@@ -25,6 +25,52 @@ pub struct Folder<'a> {
     pub alloc: Global,
     pub name: &'a str,
     pub machine: MachineOptions,
+}
+
+/// What a folder may have of what was found.
+pub trait Keepable {
+    // All of it has a text.
+    ghost HasTexts: { Self → Type 0 };
+
+    // The folder has it, for the machine that was named.
+    ghost AreKept: { Self → Held → MachineOptions → Name → Type 0 };
+
+    // The file is one of those that have it in this folder.
+    ghost IsFileOf: { Self → Name → Name → Type 0 };
+
+    /// Writes it into the folder.
+    fn keep_in<'a, F: Files>(&self, folder: Folder<'a>, files: &mut F) -> Result<(), Fault<'a>>
+        requires within { is_within_limits (config_named folder.machine) ≡ true }
+        requires memory { IsMemoryKib folder.machine.memory }
+        requires readable { HasTexts self.now }
+        ensures kept { OnOk result (AreKept self.now (F.held files.new) folder.entry.machine folder.entry.name.now) }
+        ensures told { IfErr result (IsFolderFault folder.entry.name) }
+        ensures spared { SparesOthers (IsFileOf self.now folder.entry.name.now) (F.held files.old) (F.held files.new) };
+}
+
+/// Writes what was found into the folder that was named, if one was.
+pub fn keep<'a, T: Keepable, F: Files>(
+    alloc: Global,
+    files: &mut F,
+    wanted: Explore<'a>,
+    found: &T,
+) -> Result<(), Fault<'a>>
+    requires within { is_within_limits (config_named wanted.machine) ≡ true }
+    requires memory { IsMemoryKib wanted.machine.memory }
+    requires readable { T.HasTexts found.now }
+    ensures kept { OnOk result (IfSome wanted.entry.scripts (λ folder. T.AreKept found.now (F.held files.new) wanted.entry.machine folder.now)) }
+    ensures told { IfErr result (IsNamedBy wanted.entry.scripts IsFolderFault) }
+    ensures spared { SparesOthers (IsInNamed wanted.entry.scripts (T.IsFileOf found.now)) (F.held files.old) (F.held files.new) }
+{
+    let Some(name) = wanted.scripts else {
+        return Ok(());
+    };
+    let folder = Folder {
+        alloc,
+        name,
+        machine: wanted.machine,
+    };
+    found.keep_in(folder, files)
 }
 
 impl<'a> Folder<'a> {
@@ -143,34 +189,3 @@ fn copied(alloc: Global, events: &[Event]) -> Result<Vec<Event>, AllocError>
     copy.extend_from_slice(events)?;
     Ok(copy)
 }
-
-/// The script of these events, for this machine.
-fn script_of(machine: MachineOptions, events: Vec<Event>) -> Script
-    ensures script { result ≡ script_named machine events.items }
-    ensures events { AllByRecursion IsEvent result.events }
-{
-    all_spelt(events.as_slice());
-    Script {
-        harts: machine.harts,
-        kib: machine.memory,
-        sets: machine.sets,
-        ways: machine.ways,
-        line: machine.line,
-        events: Events::new(events),
-    }
-}
-
-/// Each event's numbers have a spelling.
-fn all_spelt(events: &[Event])
-    ensures { AllByRecursion IsEvent events.now }
-{
-    let mut rest = events;
-    while let [event, tail @ ..] = rest {
-        spelt(*event);
-        rest = tail;
-    }
-}
-
-fn spelt(_event: Event)
-    ensures { IsEvent _event }
-{}

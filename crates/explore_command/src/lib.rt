@@ -2,11 +2,13 @@
 #![tactic(auto)]
 
 mod allowing;
+mod exploration;
 mod exploring;
+mod findings;
 mod judging;
 mod keeping;
 
-pub use allowing::{Allowed, without_number};
 pub use exploring::{Telling, allow_file, explore_files};
-pub use judging::{Judgement, are_allowed};
-pub use keeping::Folder;
+pub use findings::{Findings, print};
+pub use judging::{Judgement, judge};
+pub use keeping::{Folder, Keepable, keep};

@@ -2,7 +2,9 @@ use Rattle.std.proofs.Common.{◌≡◌, ◌∙◌, inl, inr, refl, subst, true}
 use Rattle.command_files.proofs.Left.{handed_up, image_as_before}
 use Rattle.explore_command.proofs.Explored.{all_of, err_more, judged, memory_left, memory_told, ok_both, ok_more, part, printed, spared, spared_after, whole}
 use Rattle.explore_command.proofs.Faults.{allow_first, first_left, first_told, folder_left, folder_told, image_next, memory_last, output_left, output_told, scripts_next, text_next}
+use Rattle.explore_command.proofs.Judged.{judged_on}
 use Rattle.explore_command.proofs.Kept.{script_file, spares_wider}
+use Rattle.explorer.specs.Ends.{outcome_of}
 use Rattle.machine_model.specs.Config.{is_within_limits}
 use Rattle.machine_model.specs.declared.config.Config.{Config}
 use Rattle.explore_command.proofs.exploring.explore_files.Goals as goal
@@ -84,7 +86,7 @@ returns-clause-explored g c =
     (λ judgement so.
     whole (g.F.Files.held c.args.files.now) (g.F.Files.held c.allow_file.new.files) c.args.wanted c.in-Some.config c.in_ok-image.image c.in-Ok.found _ _ c.in-Some.ensures.config.0 c.in_ok-allowed.ensures.stays c.in_ok-image.ensures.image
     (record { real = found.real; complete = found.complete; none_stuck = found.none_stuck; some = found.some; stuck = found.stuck; order = found.order; full = found.full; visited = found.visited })
-    (g.F.Files.held c.keep.new.files) judgement c.in_ok-print.ensures.printed c.in_ok-keep.ensures.kept (spared_after _ _ _ _ (c.image_in.ensures.stays ∙ c.in_ok-allowed.ensures.stays) c.keep.ensures.spared) (judged _ c.args.wanted.allow _ _ judgement c.in_ok-allowed.ensures.read so.0) so.1)
+    (g.F.Files.held c.keep.new.files) judgement c.in_ok-print.ensures.printed c.in_ok-keep.ensures.kept (spared_after _ _ _ _ (c.image_in.ensures.stays ∙ c.in_ok-allowed.ensures.stays) c.keep.ensures.spared) (judged _ c.args.wanted.allow _ _ judgement c.in_ok-allowed.ensures.read (so.0 ∙ judged_on outcome_of _ c.in-Ok.found.outcomes.items)) so.1)
     (ok_both _ _ c.judge.result c.judge.ensures.judged c.judge.ensures.whole)
 
 pub returns-clause-told : goal.returns-clause-told

@@ -1,0 +1,55 @@
+//! An exploration, as it is told, kept and judged.
+
+ghost use Rattle.std.specs.Prelude.{◌≢◌, length};
+ghost use Rattle.explore_command.specs.Keeping.{AreKept, IsScriptOf};
+ghost use Rattle.exploration_text.specs.Text.{exploration_text, harts_text};
+ghost use Rattle.explorer.specs.Ends.{outcome_of};
+ghost use Rattle.state_search.specs.declared.findings.Extent.TheVariants as extent;
+
+use crate::findings::Findings;
+use crate::keeping::{Folder, Keepable};
+use command_files::{Fault, Files};
+use exploration_text::{harts_text, text_of};
+use explorer::{Exploration, Found};
+use state_search::Extent;
+use std::alloc::{AllocError, Global};
+
+impl Findings for Exploration {
+    type Outcome = Found;
+
+    ghost text = { exploration_text };
+
+    ghost outcomes = { λ e. e.outcomes.items };
+
+    ghost line = { λ e f. harts_text 0 (outcome_of f) };
+
+    ghost IsWhole = { λ e. e.extent ≢ extent.OutOfMemory };
+
+    fn text(&self, alloc: Global) -> Result<Vec<u8>, AllocError> {
+        text_of(alloc, self)
+    }
+
+    fn outcomes(&self) -> &[Found] {
+        &self.outcomes
+    }
+
+    fn line(&self, alloc: Global, outcome: &Found) -> Result<Vec<u8>, AllocError> {
+        harts_text(alloc, &outcome.harts)
+    }
+
+    fn is_whole(&self) -> bool {
+        self.extent != Extent::OutOfMemory
+    }
+}
+
+impl Keepable for Exploration {
+    ghost HasTexts = { λ e. Unit {0} };
+
+    ghost AreKept = { λ e left machine folder. AreKept left machine folder e };
+
+    ghost IsFileOf = { λ e. IsScriptOf (length e.outcomes.items) e.stuck };
+
+    fn keep_in<'a, F: Files>(&self, folder: Folder<'a>, files: &mut F) -> Result<(), Fault<'a>> {
+        folder.keep(files, self)
+    }
+}

@@ -1,0 +1,65 @@
+//! What a search for a program's outcomes finds, as the command that made it tells and judges it.
+
+ghost use Rattle.std.specs.Prelude.{◌≡◌, ◌⊎◌, IfErr, IfOk, IsTrue, List, OnErr, OnOk, ℕ};
+ghost use Rattle.std.specs.Io.KnownBytes.{Appends};
+ghost use Rattle.text_fields.specs.Writing.{Begins};
+
+use command_files::Fault;
+use std::alloc::{AllocError, Global};
+use std::io::Write;
+use text_fields::{Piece, put_pieces};
+
+/// What a search for a program's outcomes finds.
+pub trait Findings {
+    type Outcome;
+
+    // The lines that tell it.
+    ghost text: { Self → List ℕ };
+
+    // As those lines number them.
+    ghost outcomes: { Self → List Self.Outcome };
+
+    // What an outcome's line says, its number left out.
+    ghost line: { Self → Self.Outcome → List ℕ };
+
+    // Memory sufficed for the whole search.
+    ghost IsWhole: { Self → Type 0 };
+
+    /// The lines that tell it.
+    fn text(&self, alloc: Global) -> Result<Vec<u8>, AllocError>
+        ensures { IfOk result (λ bytes. bytes.items ≡ text self.now) };
+
+    /// As those lines number them.
+    fn outcomes(&self) -> &[Self::Outcome]
+        ensures { result.now ≡ outcomes self.now };
+
+    /// What an outcome's line says, its number left out.
+    fn line(&self, alloc: Global, outcome: &Self::Outcome) -> Result<Vec<u8>, AllocError>
+        ensures { IfOk result (λ bytes. bytes.items ≡ line self.now outcome.now) };
+
+    /// Whether memory sufficed for the whole search.
+    fn is_whole(&self) -> bool
+        ensures { IsTrue result → IsWhole self.now };
+}
+
+/// Prints what was found.
+pub fn print<'a, T: Findings, O: Write>(
+    alloc: Global,
+    found: &T,
+    out: &mut O,
+) -> Result<(), Fault<'a>>
+    ensures printed { OnOk result (Appends (O.contents out.old) (O.contents out.new) (T.text found.now)) }
+    ensures told { IfErr result (λ fault. (fault ≡ Fault.CannotWrite) ⊎ (fault ≡ Fault.OutOfMemory)) }
+    ensures begun { OnErr result (Begins (O.contents out.old) (O.contents out.new) (T.text found.now)) }
+{
+    let Ok(text) = found.text(alloc) else {
+        return Err(Fault::OutOfMemory);
+    };
+    if let Err(error) = put_pieces(out, &[Piece::Text(&text)]) {
+        return Err(Fault::writing(error));
+    }
+    match out.flush() {
+        Ok(()) => Ok(()),
+        Err(error) => Err(Fault::writing(error)),
+    }
+}
