@@ -1,5 +1,5 @@
 -- What is known of random runs, and what they leave.
-use Rattle.std.proofs.Common.{◌≡◌, ℕ, IfSome, List, Option, length, subst}
+use Rattle.std.proofs.Common.{◌≡◌, ◌≤◌, ℕ, IfSome, List, Option, arith, length, subst}
 use Rattle.std.specs.Io.KnownBytes.{Appends}
 use Rattle.command_files.specs.Files.{HoldsImage}
 use Rattle.command_files.specs.Held.{Held}
@@ -42,3 +42,7 @@ module _ (held first : Held) (wanted : Explore) (runs : ℕ) (config : Config) (
     judged = by;
     whole = whole;
   }
+
+-- no fewer runs than were asked for, and no more
+pub all_made : (made runs : ℕ) {most : ℕ} → made ≤ most → most ≡ runs → runs ≤ made → made ≡ runs
+all_made made runs few same enough = omega (arith, few, same, enough)

@@ -2,10 +2,12 @@ use Rattle.std.proofs.Common.{◌≡◌, ◌∙◌, ◌≤◌, ℕ, inl, inr, re
 use Rattle.command_files.proofs.Left.{handed_up, image_as_before}
 use Rattle.explore_command.proofs.Explored.{all_of, err_more, judged, memory_left, memory_told, ok_both, ok_more, spared, spared_after}
 use Rattle.explore_command.proofs.Faults.{first_left, first_told, folder_left, folder_told, output_left, output_told}
+use Rattle.explore_command.proofs.Judged.{judged_on}
 use Rattle.explore_command.proofs.Kept.{outcome_file, spares_wider}
+use Rattle.explorer.specs.Ends.{outcome_of}
 use Rattle.machine_model.specs.Config.{is_within_limits}
 use Rattle.machine_model.specs.declared.config.Config.{Config}
-use Rattle.sample_command.proofs.Runs.{all, part}
+use Rattle.sample_command.proofs.Runs.{all, all_made, part}
 use Rattle.sample_command.proofs.sampling.sample_files.Goals as goal
 
 pub returns-in_err-allowed-clause-told : goal.returns-in_err-allowed-clause-told
@@ -37,8 +39,8 @@ returns-in_err-print-clause-unfinished g c =
     let found = c.in-Ok.ensures in
     handed_up _ c.from_residual-in_err-print.result _ c.from_residual-in_err-print.ensures.1
     (output_left _ _ _ _ c.in_err-print.ensures.told
-    (part (g.F.Files.held c.args.files.now) (g.F.Files.held c.allow_file.new.files) c.args.wanted c.args.runs c.in-Some.config c.in_ok-image.image c.in-Ok.found _ _ c.in-Some.ensures.config.0 c.in_ok-allowed.ensures.stays c.in_ok-image.ensures.image
-    (record { sampled = found.sampled; within = subst (λ (n : ℕ). c.in-Ok.found.runs ≤ n) c.from.ensures found.within })
+    (part (g.F.Files.held c.args.files.now) (g.F.Files.held c.allow_file.new.files) c.args.wanted c.args.runs c.in-Some.config c.in_ok-image.image c.in-Ok.sampled _ _ c.in-Some.ensures.config.0 c.in_ok-allowed.ensures.stays c.in_ok-image.ensures.image
+    (record { sampled = found.sampled; within = subst (λ (n : ℕ). c.in-Ok.sampled.runs ≤ n) c.from.ensures found.within })
     c.in_err-print.ensures.begun))
 
 pub returns-in_err-print-clause-spared : goal.returns-in_err-print-clause-spared
@@ -52,8 +54,8 @@ returns-in_err-keep-clause-unfinished g c =
     let found = c.in-Ok.ensures in
     handed_up _ c.from_residual-in_err-keep.result _ c.from_residual-in_err-keep.ensures.1
     (folder_left c.args.wanted _ _ _ _ c.in_err-keep.ensures.told
-    (part (g.F.Files.held c.args.files.now) (g.F.Files.held c.allow_file.new.files) c.args.wanted c.args.runs c.in-Some.config c.in_ok-image.image c.in-Ok.found _ _ c.in-Some.ensures.config.0 c.in_ok-allowed.ensures.stays c.in_ok-image.ensures.image
-    (record { sampled = found.sampled; within = subst (λ (n : ℕ). c.in-Ok.found.runs ≤ n) c.from.ensures found.within })
+    (part (g.F.Files.held c.args.files.now) (g.F.Files.held c.allow_file.new.files) c.args.wanted c.args.runs c.in-Some.config c.in_ok-image.image c.in-Ok.sampled _ _ c.in-Some.ensures.config.0 c.in_ok-allowed.ensures.stays c.in_ok-image.ensures.image
+    (record { sampled = found.sampled; within = subst (λ (n : ℕ). c.in-Ok.sampled.runs ≤ n) c.from.ensures found.within })
     (all_of _ _ _ c.in_ok-print.ensures.printed)))
 
 pub returns-in_err-keep-clause-spared : goal.returns-in_err-keep-clause-spared
@@ -64,9 +66,9 @@ returns-clause-sampled g c =
     let found = c.in-Ok.ensures in
     ok_more _ _ c.judge.result
     (λ judgement so.
-    all (g.F.Files.held c.args.files.now) (g.F.Files.held c.allow_file.new.files) c.args.wanted c.args.runs c.in-Some.config c.in_ok-image.image c.in-Ok.found _ _ c.in-Some.ensures.config.0 c.in_ok-allowed.ensures.stays c.in_ok-image.ensures.image
-    (record { sampled = found.sampled; within = subst (λ (n : ℕ). c.in-Ok.found.runs ≤ n) c.from.ensures found.within })
-    (g.F.Files.held c.keep.new.files) judgement c.in_ok-print.ensures.printed c.in_ok-keep.ensures.kept (spared_after _ _ _ _ (c.image_in.ensures.stays ∙ c.in_ok-allowed.ensures.stays) c.keep.ensures.spared) (judged _ c.args.wanted.allow _ _ judgement c.in_ok-allowed.ensures.read so.0) so.1)
+    all (g.F.Files.held c.args.files.now) (g.F.Files.held c.allow_file.new.files) c.args.wanted c.args.runs c.in-Some.config c.in_ok-image.image c.in-Ok.sampled _ _ c.in-Some.ensures.config.0 c.in_ok-allowed.ensures.stays c.in_ok-image.ensures.image
+    (record { sampled = found.sampled; within = subst (λ (n : ℕ). c.in-Ok.sampled.runs ≤ n) c.from.ensures found.within })
+    (g.F.Files.held c.keep.new.files) judgement c.in_ok-print.ensures.printed c.in_ok-keep.ensures.kept (spared_after _ _ _ _ (c.image_in.ensures.stays ∙ c.in_ok-allowed.ensures.stays) c.keep.ensures.spared) (judged _ c.args.wanted.allow _ _ judgement c.in_ok-allowed.ensures.read (so.0 ∙ judged_on outcome_of _ c.in-Ok.sampled.ends.items)) (λ is. all_made _ c.args.runs found.within c.from.ensures (so.1 is)))
     (ok_both _ _ c.judge.result c.judge.ensures.judged c.judge.ensures.whole)
 
 pub returns-clause-told : goal.returns-clause-told
@@ -78,8 +80,8 @@ returns-clause-unfinished g c =
     err_more _ _ c.judge.result
     (λ fault is.
     memory_left fault _ _ _ is
-    (part (g.F.Files.held c.args.files.now) (g.F.Files.held c.allow_file.new.files) c.args.wanted c.args.runs c.in-Some.config c.in_ok-image.image c.in-Ok.found _ _ c.in-Some.ensures.config.0 c.in_ok-allowed.ensures.stays c.in_ok-image.ensures.image
-    (record { sampled = found.sampled; within = subst (λ (n : ℕ). c.in-Ok.found.runs ≤ n) c.from.ensures found.within })
+    (part (g.F.Files.held c.args.files.now) (g.F.Files.held c.allow_file.new.files) c.args.wanted c.args.runs c.in-Some.config c.in_ok-image.image c.in-Ok.sampled _ _ c.in-Some.ensures.config.0 c.in_ok-allowed.ensures.stays c.in_ok-image.ensures.image
+    (record { sampled = found.sampled; within = subst (λ (n : ℕ). c.in-Ok.sampled.runs ≤ n) c.from.ensures found.within })
     (all_of _ _ _ c.in_ok-print.ensures.printed)))
     c.judge.ensures.told
 
