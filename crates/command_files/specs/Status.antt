@@ -1,6 +1,8 @@
 -- With which status the program ends where something went wrong, and which fault a stream's error is.
-use Rattle.std.specs.Prelude.{◌≡◌, ◌⊎◌, ◌+◌, ◌-◌, ◌^◌, ℕ, List, min}
+use Rattle.std.specs.Prelude.{◌≡◌, ◌⊎◌, ◌↔◌, ◌+◌, ◌-◌, ◌^◌, ℕ, List, min}
 use Rattle.std.specs.Borrow.{Bor}
+use Rattle.std.specs.IoError.{error_kind}
+use Rattle.std.specs.declared.io.ErrorKind.TheVariants as io
 use Rattle.command_files.specs.declared.fault.Fault.{Fault}
 use Rattle.command_files.specs.declared.fault.Fault.TheVariants as fault
 use Rattle.command_files.specs.declared.fault.Fault.TheVariants.{BadAddress, BytesAfterTrace, CannotMake, CannotRead, CannotShow, CannotWrite, Check, Configuration, Event, Image, NoThread, NothingHappens, OutOfMemory, Text, TooManyRows}
@@ -51,7 +53,7 @@ IsStreamFault script (stream.Refused index applying.NoMemory) told = told ≡ Ou
 IsStreamFault script (stream.Refused index applying.BadEvent) told = told ≡ Event script (line_at index) applying.BadEvent
 IsStreamFault script (stream.Refused index applying.Limit) told = told ≡ Event script (line_at index) applying.Limit
 IsStreamFault script (stream.Idle index outcome) told = told ≡ NothingHappens script (line_at index) outcome
-IsStreamFault script (stream.Writing error) told = (told ≡ CannotWrite) ⊎ (told ≡ OutOfMemory)
+IsStreamFault script (stream.Writing error) told = ((told ≡ CannotWrite) ⊎ (told ≡ OutOfMemory)) × ((told ≡ OutOfMemory) ↔ (error_kind error ≡ io.OutOfMemory))
 
 -- no memory for the machine, or for what an event adds
 abbrev pub IsOutOfMemory : ReplayError → Type 0

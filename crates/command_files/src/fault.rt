@@ -3,6 +3,7 @@
 ghost use Rattle.std.specs.Prelude.{◌≡◌, ◌≢◌, ◌↔◌, ◌⊎◌, ◌+◌, ◌-◌, ◌^◌, ℕ, min};
 ghost use Rattle.std.specs.IoError.{error_kind};
 ghost use Rattle.command_files.specs.Status.{IsOutOfMemory, IsStreamFault, status_of};
+ghost use Rattle.command_files.specs.declared.fault.Fault.TheVariants.{OutOfMemory};
 
 use coherent_machine::{ApplyError, NewError, ReplayError};
 use elf_loader::LoadError;
@@ -246,6 +247,8 @@ impl<'a> Fault<'a> {
 }
 
 impl From<AllocError> for Fault<'_> {
+    ghost from_gives = { λ _ fault. fault ≡ OutOfMemory };
+
     fn from(_error: AllocError) -> Self {
         Fault::OutOfMemory
     }

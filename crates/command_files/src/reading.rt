@@ -1,8 +1,9 @@
 //! What files hold: their bytes, a script, an image.
 
-ghost use Rattle.std.specs.Prelude.{◌≡◌, ◌==◌, ◌*◌, ◌⊎◌, IfErr, IfOk, IsErrOf, Ok, false, length, true};
+ghost use Rattle.std.specs.Prelude.{◌≡◌, ◌==◌, ◌*◌, ◌⊎◌, ◌↔◌, IfErr, IfOk, IsErrOf, Ok, false, length, true};
 ghost use Rattle.std.specs.List.{list_any};
 ghost use Rattle.std.specs.Io.KnownBytes.{Consumes};
+ghost use Rattle.std.specs.IoError.{error_kind};
 ghost use Rattle.elf_loader.specs.Size.{IsMemoryKib, IsMemorySize};
 ghost use Rattle.command_files.specs.Faults.{IsImageFault, IsLoadFault, IsReadFault, IsScriptFault, IsTextFault};
 ghost use Rattle.command_files.specs.Files.{HoldsImage, HoldsScript, IsTheScriptIn, image_answer};
@@ -126,6 +127,7 @@ pub fn text_in<'a, F: Files>(
 /// A file could not be opened or read, and why is remarked.
 fn unread<'a, F: Files>(alloc: Global, files: &mut F, name: &'a str, error: io::Error) -> Fault<'a>
     ensures fault { IsReadFault name.entry result }
+    ensures memory { (result ≡ Fault.OutOfMemory) ↔ (error_kind error ≡ ErrorKind.OutOfMemory) }
     ensures stays { F.held files.new ≡ F.held files.old }
 {
     if error.kind() != ErrorKind::OutOfMemory {
@@ -142,6 +144,7 @@ pub fn unmade<'a, F: Files>(
     error: io::Error,
 ) -> Fault<'a>
     ensures told { (result ≡ Fault.CannotMake name.entry) ⊎ (result ≡ Fault.OutOfMemory) }
+    ensures memory { (result ≡ Fault.OutOfMemory) ↔ (error_kind error ≡ ErrorKind.OutOfMemory) }
     ensures stays { F.held files.new ≡ F.held files.old }
 {
     if error.kind() != ErrorKind::OutOfMemory {
