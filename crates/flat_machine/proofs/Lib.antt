@@ -1,5 +1,4 @@
 mod Numbers
-mod Fetching
 mod FoundPlans
 mod Patches
 mod Limits

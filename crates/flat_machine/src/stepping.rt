@@ -1,12 +1,12 @@
 //! What a hart's next instruction comes to.
-ghost use Rattle.std.specs.Prelude.{◌≡◌, IsTrue, is_some, if◌then◌else◌};
-ghost use Rattle.elf_loader.specs.Image.{HasWord, word_at};
+ghost use Rattle.std.specs.Prelude.{◌≡◌, is_some, if◌then◌else◌};
+ghost use Rattle.elf_loader.specs.Image.{word_at};
 ghost use Rattle.elf_loader.specs.Size.{IsMemorySize};
 ghost use Rattle.flat_machine.specs.Accesses.{fetched_of};
 ghost use Rattle.flat_machine.specs.Memories.{bytes_of};
 ghost use Rattle.flat_machine.specs.Plans.{meant};
 ghost use Rattle.flat_model.specs.Steps as spec;
-ghost use Rattle.hart.specs.Run.{can_fetch, next_stop};
+ghost use Rattle.hart.specs.Run.{next_stop};
 ghost use Rattle.rv32_decode.specs.Rows.{decoded};
 ghost use Rattle.rv32_exec.specs.Meaning.{access_of, stop_of};
 
@@ -17,6 +17,7 @@ use crate::memory::Memory;
 use crate::node::Node;
 use crate::plan::Plan;
 use elf_loader::Image;
+use hart::can_fetch;
 use machine_model::{Deed, MemoryModel, Outcome};
 use rv32_decode::decode;
 use rv32_exec::{Action, plan, stop};
@@ -45,14 +46,6 @@ fn plan_instr(
         Action::Call => plan_call(node, fetched),
         Action::Stop(code) => Plan::Stops(code),
     }
-}
-
-/// Whether a word of memory lies at this address.
-pub(crate) fn can_fetch(image: &Image, pc: u32) -> bool
-    ensures exact { result ≡ can_fetch image.now pc }
-    ensures word { IsTrue result → HasWord image.now pc }
-{
-    image.has_word(pc)
 }
 
 /// What the next instruction of a running hart comes to.

@@ -4,7 +4,6 @@ pub mod Covered
 pub mod Clear
 pub mod Counts
 pub mod Faults
-pub mod Fetches
 pub mod Filled
 pub mod First
 pub mod Gathered

@@ -1,7 +1,6 @@
 //! Whether lists of retired instructions are runs: each hart's own meaning of its instructions, whatever
 //! the other harts do (chapters 2, 7 and 8).
-ghost use Rattle.std.specs.Prelude.{◌≡◌, ◌^◌, ◌&&◌, ℕ, IsTrue, List};
-ghost use Rattle.elf_loader.specs.Image.{HasWord};
+ghost use Rattle.std.specs.Prelude.{◌≡◌, ◌^◌, ◌&&◌, ℕ, List};
 ghost use Rattle.elf_loader.specs.Size.{IsMemorySize};
 ghost use Rattle.hart.specs.Run as spec;
 ghost use Rattle.rv32_decode.specs.Rows.{decoded};
@@ -10,7 +9,7 @@ ghost use Rattle.rv32_exec.specs.Meaning as meaning;
 ghost use Rattle.memory_model.specs.Traces.{are_runs as spec_are_runs};
 
 use elf_loader::Image;
-use hart::{Hart, Retired, Status};
+use hart::{Hart, Retired, Status, can_fetch};
 use rv32_decode::{Instr, LoadOp, decode};
 use rv32_exec::{Action, plan, stop};
 use trace_recorder::Trace;
@@ -63,13 +62,6 @@ fn is_step(image: &Image, hart: &Hart, entry: &Retired, instr: &Option<Instr>) -
         && can_fetch(image, hart.pc)
         && entry.word == image.word(hart.pc)
         && does(image.size(), hart, entry, instr)
-}
-
-fn can_fetch(image: &Image, pc: u32) -> bool
-    ensures exact { result ≡ spec.can_fetch image.now pc }
-    ensures word { IsTrue result → HasWord image.now pc }
-{
-    image.has_word(pc)
 }
 
 // Whether the entry's instruction doesn't stop, and has the answers that its kind has.

@@ -1,5 +1,0 @@
-use Rattle.rvwmo_order.proofs.Fetches.{fetches}
-use Rattle.rvwmo_order.proofs.runs.can_fetch.Goals as goal
-
-pub returns-clause-exact : goal.returns-clause-exact
-returns-clause-exact c = fetches c.args.image.now c.args.pc c.has_word.result c.has_word.ensures
