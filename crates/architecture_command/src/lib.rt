@@ -1,7 +1,7 @@
 //! `rvtl explore --architecture`, over files and streams that the caller hands in.
 #![tactic(auto)]
 
-mod judging;
+mod allowed;
 mod keeping;
 mod searching;
 mod telling;

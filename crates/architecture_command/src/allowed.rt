@@ -1,0 +1,65 @@
+//! What a memory model was found to allow, as it is told, kept and judged.
+
+ghost use Rattle.std.specs.Prelude.{◌≢◌, All};
+ghost use Rattle.architecture_command.specs.Keeping.{AreWaysKept, HasText, IsWayFile};
+ghost use Rattle.architecture_outcomes.specs.Outcomes.{outcome_of};
+ghost use Rattle.architecture_outcomes.specs.Text.{architecture_text};
+ghost use Rattle.exploration_text.specs.Text.{harts_text};
+ghost use Rattle.state_search.specs.declared.findings.Extent.TheVariants as extent;
+ghost use Rattle.window_machine.specs.declared.allowed.Reach.TheVariants as reach;
+
+use crate::keeping::keep_outcomes;
+use architecture_outcomes::{Architecture, Outcome, text_of};
+use command_files::{Fault, Files};
+use exploration_text::harts_text;
+use explore_command::{Findings, Folder, Keepable};
+use state_search::Extent;
+use std::alloc::{AllocError, Global};
+use window_machine::Reach;
+
+/// What a search under a memory model found.
+#[derive(Drop)]
+pub(crate) struct Searched {
+    pub(crate) architecture: Architecture,
+}
+
+impl Findings for Searched {
+    type Outcome = Outcome;
+
+    ghost text = { λ s. architecture_text s.architecture };
+
+    ghost outcomes = { λ s. s.architecture.outcomes.items };
+
+    ghost line = { λ s o. harts_text 0 (outcome_of o) };
+
+    ghost IsWhole = { λ s. (s.architecture.machine ≢ extent.OutOfMemory) × (s.architecture.reach ≢ reach.OutOfMemory) };
+
+    fn text(&self, alloc: Global) -> Result<Vec<u8>, AllocError> {
+        text_of(alloc, &self.architecture)
+    }
+
+    fn outcomes(&self) -> &[Outcome] {
+        &self.architecture.outcomes
+    }
+
+    fn line(&self, alloc: Global, outcome: &Outcome) -> Result<Vec<u8>, AllocError> {
+        harts_text(alloc, &outcome.harts)
+    }
+
+    fn is_whole(&self) -> bool {
+        let found = &self.architecture;
+        found.machine != Extent::OutOfMemory && found.reach != Reach::OutOfMemory
+    }
+}
+
+impl Keepable for Searched {
+    ghost HasTexts = { λ s. All (λ o. HasText o.way) s.architecture.outcomes.items };
+
+    ghost AreKept = { λ s left machine folder. AreWaysKept left machine folder 1 s.architecture.outcomes.items };
+
+    ghost IsFileOf = { λ s. IsWayFile 1 s.architecture.outcomes.items };
+
+    fn keep_in<'a, F: Files>(&self, folder: Folder<'a>, files: &mut F) -> Result<(), Fault<'a>> {
+        keep_outcomes(folder, files, &self.architecture.outcomes)
+    }
+}
