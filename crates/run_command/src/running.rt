@@ -1,25 +1,21 @@
 //! `rvtl run`: a program runs with a thread for each hart, what happened is kept as a script, and the
 //! trace printed.
 
-ghost use Rattle.std.specs.Prelude.{◌≡◌, ◌≢◌, ◌⊎◌, ℕ, Err, IfErr, IfSome, IsNone, List, OnErr, OnOk, true};
+ghost use Rattle.std.specs.Prelude.{◌≡◌, ◌≢◌, ◌⊎◌, ℕ, Err, IfErr, List, OnErr, OnOk};
 ghost use Rattle.std.specs.Io.KnownBytes.{Appends};
-ghost use Rattle.std.specs.List.{AllByRecursion};
 ghost use Rattle.command_files.specs.Held.{HoldsBytes};
 ghost use Rattle.run_command.specs.Running.{IsRun, IsRunCutOff, run_fault};
-ghost use Rattle.command_files.specs.Sizes.{IsOutside, config_named, script_named};
+ghost use Rattle.command_files.specs.Sizes.{IsOutside};
 ghost use Rattle.run_command.specs.Running.{IsRunFault};
 ghost use Rattle.command_files.specs.Faults.{LeavesAtFault};
-ghost use Rattle.elf_loader.specs.Size.{IsMemoryKib};
-ghost use Rattle.machine_model.specs.Config.{is_within_limits as is_within};
 ghost use Rattle.text_fields.specs.Writing.{Begins};
-ghost use Rattle.trace_text.specs.Scripts.{IsEvent, text};
+ghost use Rattle.trace_text.specs.Scripts.{text};
 ghost use Rattle.trace_text.specs.TraceLimits.{IsTrace};
 ghost use Rattle.trace_text.specs.Traces.{text as trace_text};
 
-use command_files::{Fault, Files, image_in, named_config, print_ends, unmade};
-use command_settings::{MachineOptions, Run};
+use command_files::{Fault, Files, image_in, named_config, print_ends, script_of, unmade};
+use command_settings::Run;
 use host_threads::{Gate, Report, RunError, run};
-use machine_model::Event;
 use progress_line::{Progress, Stage};
 use std::alloc::Global;
 use std::io::Write;
@@ -27,7 +23,7 @@ use std::sync::Wait;
 use std::sync::atomic::{AtomicU64, Ordering};
 use std::thread::Threads;
 use trace_recorder::Trace;
-use trace_text::{Events, Script, every_trace_has_a_text, write_script, write_trace};
+use trace_text::{Script, every_trace_has_a_text, write_script, write_trace};
 
 /// How many turns a worker takes before it tells how far the run is.
 const TURNS: u64 = 256;
@@ -133,37 +129,6 @@ fn fault_of<'a>(error: RunError) -> Fault<'a>
         RunError::BadEvent => Fault::BadEvent,
     }
 }
-
-/// The script of a run: the machine that is wanted, and what happened to it.
-fn script_of(wanted: MachineOptions, journal: Vec<Event>) -> Script
-    ensures script { result ≡ script_named wanted journal.items }
-    ensures events { AllByRecursion IsEvent result.events }
-{
-    all_spelt(journal.as_slice());
-    Script {
-        harts: wanted.harts,
-        kib: wanted.memory,
-        sets: wanted.sets,
-        ways: wanted.ways,
-        line: wanted.line,
-        events: Events::new(journal),
-    }
-}
-
-/// Each event's numbers have a spelling.
-fn all_spelt(events: &[Event])
-    ensures { AllByRecursion IsEvent events.now }
-{
-    let mut rest = events;
-    while let [event, tail @ ..] = rest {
-        spelt(*event);
-        rest = tail;
-    }
-}
-
-fn spelt(_event: Event)
-    ensures { IsEvent _event }
-{}
 
 /// Writes a script into the file of this name.
 fn keep<'a, F: Files>(

@@ -1,5 +1,5 @@
 -- What is known of an exploration that shows words, and what its faults say and leave.
-use Rattle.std.proofs.Common.{◌≡◌, ◌∙◌, ◌⊎◌, ◌≤◌, ◌-◌, ℕ, suc, [], ◌∷◌, ◌++◌, arith, Contains, IfSome, List, None, Option, Some, ap, drop, get_or, inl, inr, length, map, reverse, subst, sym, take}
+use Rattle.std.proofs.Common.{◌≡◌, ◌∙◌, ◌⊎◌, ◌≤◌, ◌-◌, ℕ, suc, [], ◌∷◌, ◌++◌, arith, Bool, Contains, IfSome, List, None, Option, Some, ap, drop, get_or, if◌then◌else◌, inl, inr, length, map, refl, reverse, subst, sym, take}
 use Rattle.std.proofs.lemmas.List.{append_assoc, length-drop, length-map, map-append, reverse-append, take_all}
 use Rattle.command_files.specs.Faults.{Name}
 use Rattle.command_files.specs.Held.{Held}
@@ -13,10 +13,15 @@ use Rattle.elf_loader.specs.Image.{Initial}
 use Rattle.elf_symbols.specs.Named.{Named}
 use Rattle.explain_command.specs.Named.{HoldsNamedImage}
 use Rattle.exploration_text.specs.declared.wording.WordName.{WordName}
+use Rattle.exploration_text.specs.Words.{end_text}
 use Rattle.explore_command.proofs.Explored.{memory_told}
+use Rattle.explore_command.proofs.Judged.{all_told}
+use Rattle.explore_command.specs.Allowing.{is_allowed_line, without_number}
 use Rattle.explore_command.specs.Exploring.{IsAllowFile, LeavesPart}
+use Rattle.explore_command.specs.Judging.{judgement_of_lines}
 use Rattle.explore_command.specs.Keeping.{AreKept, AreKeptFrom, IsKeptAt, IsScriptOf, SparesOthers, stuck_path}
 use Rattle.explore_command.specs.declared.judging.Judgement.{Judgement}
+use Rattle.explore_command.specs.declared.judging.Judgement.TheVariants.{Allowed, NotAllowed}
 use Rattle.explorer.specs.declared.exploration.Exploration.{Exploration}
 use Rattle.explorer.specs.declared.exploration.Stuck.{Stuck}
 use Rattle.explorer.specs.declared.found.Found.{Found}
@@ -28,6 +33,7 @@ use Rattle.show_command.specs.Showing.{IsFoundIn, IsOfFile, IsShowFault}
 use Rattle.show_command.specs.Targets.{AreAddressesOf, IsUnplaced, IsUnshown, name_of, place_of}
 use Rattle.word_explorer.specs.declared.exploration.WordExploration.{WordExploration}
 use Rattle.word_explorer.specs.declared.found.WordFound.{WordFound}
+use Rattle.word_explorer.specs.Ends.{ending_of, endings_of}
 
 -- ---- what was found
 
@@ -69,6 +75,13 @@ judged held (Some file) (Some text) names endings judgement read is = (text, rea
 
 pub judged_of : (held : Held) (allow : Option Name) (text : Option (List ℕ)) (names told : List WordName) (endings : List Ending) (judgement : Judgement) → names ≡ told → IsAllowFile held allow text → judgement ≡ judgement_on text names endings → AreWordsJudged held allow told endings judgement
 judged_of held allow text names told endings judgement same read is = judged held allow text told endings judgement read (is ∙ ap (λ (n : List WordName). judgement_on text n endings) same)
+
+-- a judgement on lines is one on the outcomes that they tell
+pub judged_words : (names : List WordName) (text : Option (List ℕ)) (xs : List WordFound) → judgement_of_lines text (map (λ f. end_text names (ending_of f)) xs) ≡ judgement_on text names (endings_of xs)
+judged_words names None xs = refl
+judged_words names (Some text) xs =
+    ap (λ (b : Bool). if b then Allowed else NotAllowed)
+    (all_told (λ e. is_allowed_line text (without_number (end_text names e))) (λ line. is_allowed_line text (without_number line)) ending_of (λ f. end_text names (ending_of f)) (λ f. refl) xs)
 
 -- ---- scripts
 

@@ -1,31 +1,23 @@
 //! `rvtl explore --show`: every end that the machine can bring a program to is found with words of memory, told, kept
 //! and judged.
 
-ghost use Rattle.std.specs.Prelude.{◌≡◌, ◌≢◌, ◌<◌, ◌⊎◌, Err, IfErr, IfOk, IfSome, IsNone, OnErr, OnOk, Some, option_map, true};
-ghost use Rattle.std.specs.Io.KnownBytes.{Appends};
+ghost use Rattle.std.specs.Prelude.{◌≡◌, ◌<◌, Err, IfErr, IfOk, IfSome, IsNone};
 ghost use Rattle.command_files.specs.Faults.{Name};
-ghost use Rattle.exploration_text.specs.Words.{words_text};
 ghost use Rattle.explore_command.specs.Exploring.{LeavesPart};
 ghost use Rattle.explore_command.specs.Keeping.{IsScriptFile, SparesOthers};
-ghost use Rattle.show_command.specs.Judging.{judgement_on};
 ghost use Rattle.show_command.specs.Showing.{IsElsewhere, IsPartlyShown, IsShowFault, AreWordsShown};
-ghost use Rattle.text_fields.specs.Writing.{Begins};
-ghost use Rattle.word_explorer.specs.Ends.{endings_of};
 
-use crate::judging::are_allowed;
 use crate::keeping::keep;
 use crate::targets::targets_of;
+use crate::words::Shown;
 use command_files::{Fault, Files, Unshown, named_config};
 use command_settings::Show;
 use explain_command::named_image_in;
-use exploration_text::{WordName, words_text_of};
-use explore_command::{Judgement, Telling, allow_file};
+use explore_command::{Judgement, Telling, allow_file, judge, print};
 use progress_line::Progress;
-use state_search::Extent;
 use std::alloc::Global;
 use std::io::Write;
-use text_fields::{Piece, put_pieces};
-use word_explorer::{WordExploration, explore_words};
+use word_explorer::explore_words;
 
 /// Does what `explore_files` does, where words of memory are to be shown: each is judged behind the image. Random runs
 /// and a search under the memory model show none.
@@ -63,7 +55,7 @@ pub fn show_files<'a, F: Files, O: Write, E: Write, P: Progress>(
     )?;
     let targets = targets_of(alloc, &named.image, &named.names, &wanted.words)?;
     let watch = Telling { progress };
-    let Ok(found) = explore_words(
+    let Ok(exploration) = explore_words(
         alloc,
         &named.image,
         config,
@@ -75,9 +67,13 @@ pub fn show_files<'a, F: Files, O: Write, E: Write, P: Progress>(
         return Err(Fault::OutOfMemory);
     };
     progress.end();
-    print(alloc, &targets.names, &found, out)?;
-    let judgement = judge(alloc, &allowed, &targets.names, &found, err);
-    keep(alloc, files, explore, found)?;
+    let found = Shown {
+        names: targets.names,
+        exploration,
+    };
+    print(alloc, &found, out)?;
+    let judgement = judge(alloc, &allowed, &found, err);
+    keep(alloc, files, explore, found.exploration)?;
     judgement
 }
 
@@ -94,51 +90,4 @@ fn sought_elsewhere<'a>(wanted: &Show<'a>) -> Option<&'a str>
         [first, ..] => Some(first),
         [] => Some(""),
     }
-}
-
-fn print<'a, O: Write>(
-    alloc: Global,
-    names: &[WordName<'_>],
-    found: &WordExploration,
-    out: &mut O,
-) -> Result<(), Fault<'a>>
-    ensures printed { OnOk result (Appends (O.contents out.old) (O.contents out.new) (words_text names.now found.now)) }
-    ensures told { IfErr result (λ fault. (fault ≡ Fault.CannotWrite) ⊎ (fault ≡ Fault.OutOfMemory)) }
-    ensures begun { OnErr result (Begins (O.contents out.old) (O.contents out.new) (words_text names.now found.now)) }
-{
-    let Ok(text) = words_text_of(alloc, names, found) else {
-        return Err(Fault::OutOfMemory);
-    };
-    if let Err(error) = put_pieces(out, &[Piece::Text(&text)]) {
-        return Err(Fault::writing(error));
-    }
-    match out.flush() {
-        Ok(()) => Ok(()),
-        Err(error) => Err(Fault::writing(error)),
-    }
-}
-
-/// Whether what was found is allowed. Where it is, but memory ended, there may be more: that is an error.
-fn judge<'a, E: Write>(
-    alloc: Global,
-    allowed: &Option<Vec<u8>>,
-    names: &[WordName<'_>],
-    found: &WordExploration,
-    err: &mut E,
-) -> Result<Judgement, Fault<'a>>
-    ensures judged { IfOk result (λ judgement. judgement ≡ judgement_on (option_map (λ bytes. bytes.items) allowed.now) names.now (endings_of found.now.outcomes.items)) }
-    ensures whole { IfOk result (λ judgement. judgement ≡ Judgement.Allowed → found.now.extent ≢ Extent.OutOfMemory) }
-    ensures told { IfErr result (λ fault. fault ≡ Fault.OutOfMemory) }
-{
-    if let Some(text) = allowed {
-        match are_allowed(alloc, text, names, &found.outcomes, err) {
-            Ok(true) => {}
-            Ok(false) => return Ok(Judgement::NotAllowed),
-            Err(_) => return Err(Fault::OutOfMemory),
-        }
-    }
-    if found.extent == Extent::OutOfMemory {
-        return Err(Fault::OutOfMemory);
-    }
-    Ok(Judgement::Allowed)
 }
