@@ -25,6 +25,15 @@ TEXTS = [
 
 FLAT = [
     ("flat_model", "Laws", "ShownAlways"),
+    ("state_search", "Explored", "IsEachSuccessor"),
+    ("state_search", "Findings", "IsReal"),
+    ("state_search", "Findings", "AreReached"),
+    ("state_search", "Findings", "IsComplete"),
+    ("state_search", "Findings", "IsIncomplete"),
+    ("state_search", "Findings", "HasEachOutcome"),
+    ("state_search", "Findings", "NoneIsStuck"),
+    ("state_search", "Outcomes", "AreShown"),
+    ("state_search", "Ends", "AreStuck"),
     ("explorer", "Outcomes", "HasEachEnd"),
     ("explorer", "Outcomes", "CanAlwaysEnd"),
     ("explorer", "Outcomes", "IsFlatEnd"),
@@ -69,11 +78,19 @@ def modules():
             for part in (match[3] or "").split(","):
                 there, _, here = part.strip().partition(" as ")
                 names[here or there] = (match[1], match[2], there)
+        parameters = ""
         for line in text.splitlines():
-            if line and not line.startswith((" ", "--", "use ", "pub use ", "pub mod ", "infix", "module ")):
+            # what stands indented in a module of parameters stands there as at the top, and rests on their types too
+            if line.startswith("module "):
+                parameters, current = line + "\n", None
+                continue
+            if line and not line.startswith(" "):
+                parameters = ""
+            line = line.removeprefix("  ") if parameters else line
+            if line and not line.startswith((" ", "--", "use ", "pub use ", "pub mod ", "infix")):
                 head = HEAD.match(line)
                 current = head[1] if head else current
-                definitions.setdefault(current, "")
+                definitions.setdefault(current, parameters)
             if current and not line.lstrip().startswith("--"):
                 definitions[current] += line + "\n"
         found[crate, module] = (definitions, names, aliases)
