@@ -5,13 +5,15 @@ use Rattle.std.specs.Io.KnownBytes.{Appends, Keeps}
 use Rattle.coherent_machine.specs.Machine.{IsFirstRefusal}
 use Rattle.coherent_machine.specs.declared.errors.NewError.TheVariants as making
 use Rattle.coherent_machine.specs.declared.errors.ReplayError.TheVariants as refusals
+use Rattle.chart_drawing.specs.declared.sheet.TheConstants.{STYLE}
 use Rattle.chart_command.specs.Charting.{IsAddress, IsChartFault, IsDrawingFault, IsPictureCutOff}
-use Rattle.command_files.specs.Faults.{Name}
+use Rattle.command_files.specs.Faults.{LeavesAtFault, Name}
 use Rattle.command_files.specs.Files.{HoldsImage, HoldsScript}
 use Rattle.command_files.specs.Held.{Held}
 use Rattle.command_files.specs.Sizes.{config_of}
 use Rattle.command_files.specs.declared.fault.Fault.{Fault}
 use Rattle.command_files.specs.declared.fault.Fault.TheVariants.{CannotWrite, Configuration, Event, OutOfMemory}
+use Rattle.command_files.proofs.Left.{spoiled}
 use Rattle.command_files.proofs.Written.{all_begun, kept_on}
 use Rattle.command_settings.specs.declared.wanted.Replay.{Replay}
 use Rattle.elf_loader.specs.Image.{Initial}
@@ -31,13 +33,6 @@ module _ (image : Initial) (config : Config) (events : List AnEvent) (address : 
   pub drawn_begun : Keeps mid new → IsDrawn image config events address style old mid → IsBegun image config events address style old new
   drawn_begun kept h = record { text = h.text; chart = h.chart; begun = all_begun old mid new h.text h.sent kept }
 
-  -- nothing went out, or a beginning did
-  pub undrawn_is : (error : ChartError) → IsUndrawn image config events address style old mid error → (mid ≡ old) ⊎ IsBegun image config events address style old mid
-  undrawn_is (chart.Replay refusal) h = inl h.0
-  undrawn_is chart.TooManyRows h = inl h.0
-  undrawn_is chart.NoMemory h = inl h
-  undrawn_is (chart.Writing fault) h = inr h
-
 -- of the configuration and events that the script names
 pub drawn_at : (image : Initial) (config wanted : Config) (events given : List AnEvent) (address : Option ℕ) (style : List ℕ) (old new : Option (List ℕ)) → config ≡ wanted → events ≡ given
     → IsDrawn image config events address style old new → IsDrawn image wanted given address style old new
@@ -55,19 +50,30 @@ undrawn_at image config wanted events given address style old new error same_con
     subst (λ (c : Config). IsUndrawn image c given address style old new error) same_config (subst (λ (e : List AnEvent). IsUndrawn image config e address style old new error) same_events h)
 
 -- a script, an image and an address whose picture broke off
-pub stopped : (held : Held) (replay : Replay) (line : Option Name) (script : Script) (image : Initial) (address : Option ℕ) (style : List ℕ) (old new : Option (List ℕ))
+pub stopped : (held : Held) (replay : Replay) (line : Option Name) (script : Script) (image : Initial) (address : Option ℕ) (old new : Option (List ℕ))
     → HoldsScript held replay.script.now script → HoldsImage held replay.raw replay.image.now script.kib image → IsAddress line address
-    → IsBegun image (config_of script replay.model) script.events address style old new → IsPictureCutOff held replay line old new
-stopped held replay line script image address style old new script_file image_file named begun =
-    record { script = script; image = image; address = address; style = style; script_file = script_file; image_file = image_file; named = named; begun = begun }
+    → IsBegun image (config_of script replay.model) script.events address STYLE.now old new → IsPictureCutOff held replay line old new
+stopped held replay line script image address old new script_file image_file named begun =
+    record { script = script; image = image; address = address; script_file = script_file; image_file = image_file; named = named; begun = begun }
 
-pub left_or_stopped : (held : Held) (replay : Replay) (line : Option Name) (script : Script) (image : Initial) (address : Option ℕ) (style : List ℕ) (old new : Option (List ℕ)) (error : ChartError)
+-- what the drawing's fault leaves on the output
+pub left_by : (held : Held) (replay : Replay) (line : Option Name) (script : Script) (image : Initial) (address : Option ℕ) (old new : Option (List ℕ)) (error : ChartError) (fault : Fault)
     → HoldsScript held replay.script.now script → HoldsImage held replay.raw replay.image.now script.kib image → IsAddress line address
-    → IsUndrawn image (config_of script replay.model) script.events address style old new error → (new ≡ old) ⊎ IsPictureCutOff held replay line old new
-left_or_stopped held replay line script image address style old new error script_file image_file named h = elim (undrawn_is image (config_of script replay.model) script.events address style old new new error h) [
-  | inl same ↦ inl same
-  | inr begun ↦ inr (stopped held replay line script image address style old new script_file image_file named begun)
+    → IsUndrawn image (config_of script replay.model) script.events address STYLE.now old new error
+    → IsDrawingFault replay.script error fault → LeavesAtFault fault old new (IsPictureCutOff held replay line old new)
+left_by held replay line script image address old new (chart.Replay refusal) fault script_file image_file named h told = elim told.0 [
+  | inl at ↦ subst (λ f. LeavesAtFault f old new (IsPictureCutOff held replay line old new)) (sym at) h.0
+  | inr other ↦ elim other [
+    | inl at ↦ subst (λ f. LeavesAtFault f old new (IsPictureCutOff held replay line old new)) (sym at) (inl h.0)
+    | inr event ↦ subst (λ f. LeavesAtFault f old new (IsPictureCutOff held replay line old new)) (sym event.3) h.0
+  ]
 ]
+left_by held replay line script image address old new chart.TooManyRows fault script_file image_file named h told =
+    subst (λ f. LeavesAtFault f old new (IsPictureCutOff held replay line old new)) (sym told) h.0
+left_by held replay line script image address old new chart.NoMemory fault script_file image_file named h told =
+    subst (λ f. LeavesAtFault f old new (IsPictureCutOff held replay line old new)) (sym told) (inl h)
+left_by held replay line script image address old new (chart.Writing error) fault script_file image_file named h told =
+    spoiled old new _ fault told.0 (stopped held replay line script image address old new script_file image_file named h)
 
 -- what the drawing's fault is told as
 pub told_as : (held : Held) (replay : Replay) (line : Option Name) (script : Script) (image : Initial) (address : Option ℕ) (style : List ℕ) (old new : Option (List ℕ)) (error : ChartError) (fault : Fault)
@@ -96,7 +102,7 @@ told_as held replay line script image address style old new chart.TooManyRows fa
     subst (IsChartFault held replay line) (sym told)
     (refl, record { script = script; image = image; address = address; script_file = script_file; image_file = image_file; named = named; large = h.1 })
 told_as held replay line script image address style old new chart.NoMemory fault script_file image_file named within h told = subst (IsChartFault held replay line) (sym told) tt
-told_as held replay line script image address style old new (chart.Writing error) fault script_file image_file named within h told = elim told [
+told_as held replay line script image address style old new (chart.Writing error) fault script_file image_file named within h told = elim told.0 [
   | inl at ↦ subst (IsChartFault held replay line) (sym at) tt
   | inr at ↦ subst (IsChartFault held replay line) (sym at) tt
 ]

@@ -18,6 +18,10 @@ pub of_address : (held : Held) (replay : Replay) (line : Option Name) (fault : F
 of_address held replay None fault so = absurd so
 of_address held replay (Some word) fault so = subst (IsChartFault held replay (Some word)) (sym so.1) (refl, so.0)
 
+pub address_is_not_write : (line : Option Name) (fault : Fault) → IsNoAddress line fault → fault ≡ CannotWrite → ⊥
+address_is_not_write None fault so at = so
+address_is_not_write (Some word) fault so at = let bad : BadAddress word ≡ CannotWrite = sym so.1 ∙ at in cc
+
 pub of_chart_script : (held : Held) (replay : Replay) (line : Option Name) (fault : Fault) → IsScriptFault held replay.script fault → IsChartFault held replay line fault
 of_chart_script held replay line (CannotRead file) is = inl is
 of_chart_script held replay line (CannotMake file) is = absurd is
@@ -100,4 +104,4 @@ drawing_never_misused script (chart.Replay refusal) fault within told two = elim
 ]
 drawing_never_misused script chart.TooManyRows fault within told two = one_not_two (sym (ap status_of told) ∙ two)
 drawing_never_misused script chart.NoMemory fault within told two = four_not_two (sym (ap status_of told) ∙ two)
-drawing_never_misused script (chart.Writing error) fault within told two = writing_never_misused fault told two
+drawing_never_misused script (chart.Writing error) fault within told two = writing_never_misused fault told.0 two

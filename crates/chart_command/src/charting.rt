@@ -1,7 +1,9 @@
 //! `rvtl chart`: a script of events is applied to a machine, and what happened is drawn.
 
-ghost use Rattle.std.specs.Prelude.{◌≡◌, ◌⊎◌, IfErr, IfOk, OnOk};
+ghost use Rattle.std.specs.Prelude.{◌≡◌, IfErr, IfOk, IfSome, OnOk};
+ghost use Rattle.command_files.specs.Faults.{LeavesAtFault};
 ghost use Rattle.command_files.specs.Status.{status_of};
+ghost use Rattle.chart_command.specs.Addresses.{address};
 ghost use Rattle.chart_command.specs.Charting.{IsAddress, IsChartFault, IsCharted, IsDrawingFault, IsNoAddress, IsPictureCutOff};
 
 use crate::address::address_in;
@@ -50,7 +52,9 @@ pub fn chart_files<'a, F: Files, O: Write>(
     out: &mut O,
 ) -> Result<(), Fault<'a>>
     ensures charted { OnOk result (IsCharted (F.held files.old) wanted.entry line.entry (O.contents out.old) (O.contents out.new)) }
-    ensures unfinished { IfErr result (λ _. (O.contents out.new ≡ O.contents out.old) ⊎ IsPictureCutOff (F.held files.old) wanted.entry line.entry (O.contents out.old) (O.contents out.new)) }
+    ensures unfinished { IfErr result (λ fault. LeavesAtFault fault (O.contents out.old) (O.contents out.new)
+        (IsPictureCutOff (F.held files.old) wanted.entry line.entry (O.contents out.old) (O.contents out.new))) }
+    ensures unnamed { IfSome line.entry (λ word. address word.now ≡ None → result ≡ Err (Fault.BadAddress word)) }
     ensures misused { IfErr result (λ fault. status_of fault ≡ 2 → IsNoAddress line.entry fault × (O.contents out.new ≡ O.contents out.old)) }
     ensures told { IfErr result (IsChartFault (F.held files.old) wanted.entry line.entry) }
     ensures spared { F.held files.new ≡ F.held files.old }

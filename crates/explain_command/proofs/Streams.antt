@@ -24,7 +24,8 @@ use Rattle.command_files.specs.Files.{HoldsScript}
 use Rattle.elf_symbols.specs.Named.{Named}
 use Rattle.explain_command.specs.Named.{HoldsNamedImage}
 use Rattle.command_files.specs.Held.{Held}
-use Rattle.explain_command.specs.Explaining.{IsExplainFault, IsPartOfStream, IsWholeExplanation, explanation, state_behind, state_if}
+use Rattle.explain_command.specs.Explaining.{IsExplainFault, IsPartOfStream, IsWholeExplanation, LeavesOfStream, explanation, state_behind, state_if}
+use Rattle.command_files.specs.Faults.{Name}
 use Rattle.command_files.specs.Status.{IsStreamFault}
 use Rattle.command_files.specs.declared.fault.Fault.{Fault}
 use Rattle.command_files.specs.declared.fault.Fault.TheVariants.{CannotWrite, OutOfMemory}
@@ -126,7 +127,7 @@ told_as names held replay strictness with_state script image old new (stream.Ref
 told_as names held replay strictness with_state script image old new (stream.Idle index outcome) fault script_file image_file within part told =
     subst (IsExplainFault held replay strictness old new) (sym told)
     (refl, (part.0, record { script = script; image = image; names = names; script_file = script_file; image_file = image_file; index = index; place = refl; cut = part.1 }))
-told_as names held replay strictness with_state script image old new (stream.Writing error) fault script_file image_file within part told = elim told [
+told_as names held replay strictness with_state script image old new (stream.Writing error) fault script_file image_file within part told = elim told.0 [
   | inl at ↦ subst (IsExplainFault held replay strictness old new) (sym at) tt
   | inr at ↦ subst (IsExplainFault held replay strictness old new) (sym at) tt
 ]
@@ -136,3 +137,22 @@ lost_told held replay strictness old new fault is = elim is [
   | inl at ↦ subst (IsExplainFault held replay strictness old new) (sym at) tt
   | inr at ↦ subst (IsExplainFault held replay strictness old new) (sym at) tt
 ]
+
+-- ---- what a fault leaves
+
+-- the fault of a writer leaves what was cut off
+pub lost_left : (old new : Option (List ℕ)) (cut : Type 0) (fault : Fault) → (fault ≡ CannotWrite) ⊎ (fault ≡ OutOfMemory) → cut → LeavesOfStream fault old new cut
+lost_left old new cut fault is so = elim is [
+  | inl at ↦ subst (λ f. LeavesOfStream f old new cut) (sym at) so
+  | inr at ↦ subst (λ f. LeavesOfStream f old new cut) (sym at) (inr so)
+]
+
+-- and so does what a stream's end is told as
+pub cut_left : (script : Name) (old new : Option (List ℕ)) (cut : Type 0) (error : StreamError) (fault : Fault) → (error ≡ stream.New making.Config → ⊥) → IsStreamFault script error fault → cut → LeavesOfStream fault old new cut
+cut_left script old new cut (stream.New making.Config) fault within told so = absurd (within refl)
+cut_left script old new cut (stream.New making.NoMemory) fault within told so = subst (λ f. LeavesOfStream f old new cut) (sym told) (inr so)
+cut_left script old new cut (stream.Refused index applying.NoMemory) fault within told so = subst (λ f. LeavesOfStream f old new cut) (sym told) (inr so)
+cut_left script old new cut (stream.Refused index applying.BadEvent) fault within told so = subst (λ f. LeavesOfStream f old new cut) (sym told) so
+cut_left script old new cut (stream.Refused index applying.Limit) fault within told so = subst (λ f. LeavesOfStream f old new cut) (sym told) so
+cut_left script old new cut (stream.Idle index outcome) fault within told so = subst (λ f. LeavesOfStream f old new cut) (sym told) so
+cut_left script old new cut (stream.Writing error) fault within told so = lost_left old new cut fault told.0 so

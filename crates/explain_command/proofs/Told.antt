@@ -1,11 +1,11 @@
 -- Which faults an explanation hands up.
-use Rattle.std.proofs.Common.{◌≡◌, ℕ, List, Option, inl, inr}
+use Rattle.std.proofs.Common.{◌≡◌, ℕ, Bool, List, Option, inl, inr}
 use Rattle.event_stream.specs.declared.strictness.Strictness.{Strictness}
 use Rattle.command_files.specs.Held.{Held}
 use Rattle.command_files.specs.Status.{status_of}
-use Rattle.command_files.specs.Faults.{IsImageFault, IsScriptFault}
+use Rattle.command_files.specs.Faults.{IsImageFault, IsScriptFault, Name}
 use Rattle.command_files.specs.Files.{HoldsScript}
-use Rattle.explain_command.specs.Explaining.{IsExplainFault}
+use Rattle.explain_command.specs.Explaining.{IsExplainFault, LeavesOfStream}
 use Rattle.command_files.specs.declared.fault.Fault.{Fault}
 use Rattle.command_files.specs.declared.fault.Fault.TheVariants.{BadAddress, BadEvent, BytesAfterTrace, CannotMake, CannotRead, CannotShow, CannotWrite, Check, Configuration, Event, Image, Mismatch, NoThread, NothingHappens, OutOfMemory, Text, TooManyRows}
 use Rattle.command_settings.specs.declared.wanted.Replay.{Replay}
@@ -68,3 +68,42 @@ explain_never_misused held replay strictness old new NoThread so two = cc
 explain_never_misused held replay strictness old new Mismatch so two = cc
 explain_never_misused held replay strictness old new BadEvent so two = cc
 explain_never_misused held replay strictness old new Configuration so two = so
+
+-- a file's fault leaves the output as it was
+pub script_left : (held : Held) (name : Name) (old new : Option (List ℕ)) (cut : Type 0) (fault : Fault) → IsScriptFault held name fault → new ≡ old → LeavesOfStream fault old new cut
+script_left held name old new cut CannotWrite is same = absurd is
+script_left held name old new cut OutOfMemory is same = inl same
+script_left held name old new cut (CannotRead file) is same = same
+script_left held name old new cut (CannotMake file) is same = absurd is
+script_left held name old new cut (Image file error) is same = absurd is
+script_left held name old new cut (Text file error) is same = same
+script_left held name old new cut (Event file line error) is same = absurd is
+script_left held name old new cut (NothingHappens file line outcome) is same = absurd is
+script_left held name old new cut (BytesAfterTrace file) is same = absurd is
+script_left held name old new cut (Check file error) is same = absurd is
+script_left held name old new cut (TooManyRows file) is same = absurd is
+script_left held name old new cut (BadAddress word) is same = absurd is
+script_left held name old new cut (CannotShow word cause) is same = absurd is
+script_left held name old new cut NoThread is same = absurd is
+script_left held name old new cut Mismatch is same = absurd is
+script_left held name old new cut BadEvent is same = absurd is
+script_left held name old new cut Configuration is same = absurd is
+
+pub image_left : (held : Held) (is_raw : Bool) (name : Name) (kib : ℕ) (old new : Option (List ℕ)) (cut : Type 0) (fault : Fault) → IsImageFault held is_raw name kib fault → new ≡ old → LeavesOfStream fault old new cut
+image_left held is_raw name kib old new cut CannotWrite is same = absurd is
+image_left held is_raw name kib old new cut OutOfMemory is same = inl same
+image_left held is_raw name kib old new cut (CannotRead file) is same = same
+image_left held is_raw name kib old new cut (CannotMake file) is same = absurd is
+image_left held is_raw name kib old new cut (Image file error) is same = same
+image_left held is_raw name kib old new cut (Text file error) is same = absurd is
+image_left held is_raw name kib old new cut (Event file line error) is same = absurd is
+image_left held is_raw name kib old new cut (NothingHappens file line outcome) is same = absurd is
+image_left held is_raw name kib old new cut (BytesAfterTrace file) is same = absurd is
+image_left held is_raw name kib old new cut (Check file error) is same = absurd is
+image_left held is_raw name kib old new cut (TooManyRows file) is same = absurd is
+image_left held is_raw name kib old new cut (BadAddress word) is same = absurd is
+image_left held is_raw name kib old new cut (CannotShow word cause) is same = absurd is
+image_left held is_raw name kib old new cut NoThread is same = absurd is
+image_left held is_raw name kib old new cut Mismatch is same = absurd is
+image_left held is_raw name kib old new cut BadEvent is same = absurd is
+image_left held is_raw name kib old new cut Configuration is same = absurd is

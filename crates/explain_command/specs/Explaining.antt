@@ -24,7 +24,7 @@ use Rattle.machine_model.specs.Events.{Verdict}
 use Rattle.machine_model.specs.Views.{State, opening}
 use Rattle.machine_model.specs.declared.config.Config.{Config}
 use Rattle.machine_model.specs.declared.event.Event.{Event}
-use Rattle.command_files.specs.Faults.{IsReplayFault}
+use Rattle.command_files.specs.Faults.{IsReplayFault, LeavesAtFault}
 use Rattle.std.specs.Io.KnownBytes.{Appends}
 use Rattle.std.specs.Prelude.{◌≡◌, ℕ, Bool, true, false, List, [], ◌++◌, Option}
 use Rattle.text_fields.specs.Writing.{Begins}
@@ -97,3 +97,9 @@ IsExplainFault held replay strictness old new (Refused file line error) = (file 
 IsExplainFault held replay strictness old new (NothingHappens file line outcome) =
     (file ≡ replay.script) × ((strictness ≡ Strict) × IsToldUpTo held replay strictness line (λ v. v ≡ Keeps outcome) old new)
 IsExplainFault held replay strictness old new fault = IsReplayFault held replay fault
+
+-- what a fault leaves on the output: the explanation cut off, where an event ends the stream or the output itself had the fault; else nothing, but where memory ran out
+abbrev pub LeavesOfStream : Fault → Option (List ℕ) → Option (List ℕ) → Type 0 → Type 0
+LeavesOfStream (Refused file line error) old new cut = cut
+LeavesOfStream (NothingHappens file line outcome) old new cut = cut
+LeavesOfStream fault old new cut = LeavesAtFault fault old new cut

@@ -1,9 +1,9 @@
 //! `rvtl explain`: a script of events is applied to a machine, and told event by event.
 
-ghost use Rattle.std.specs.Prelude.{◌≡◌, ◌⊎◌, IfErr, OnOk, false};
+ghost use Rattle.std.specs.Prelude.{◌≡◌, IfErr, OnOk, false};
 ghost use Rattle.coherent_machine.specs.Machine.{IsReached};
 ghost use Rattle.coherent_machine.specs.declared.errors.NewError.TheVariants as making;
-ghost use Rattle.explain_command.specs.Explaining.{IsExplainFault, IsExplained, IsPartOfStream, IsStreamCutOff, IsWholeExplanation, state_if};
+ghost use Rattle.explain_command.specs.Explaining.{IsExplainFault, IsExplained, IsPartOfStream, IsStreamCutOff, IsWholeExplanation, LeavesOfStream, state_if};
 ghost use Rattle.machine_model.specs.Config.{is_within_limits};
 ghost use Rattle.text_fields.specs.Writing.{Writes};
 
@@ -63,7 +63,8 @@ pub fn explain_files<'a, F: Files, O: Write>(
     out: &mut O,
 ) -> Result<(), Fault<'a>>
     ensures explained { OnOk result (IsExplained (F.held files.old) wanted.entry strictness with_state (O.contents out.old) (O.contents out.new)) }
-    ensures unfinished { IfErr result (λ _. (O.contents out.new ≡ O.contents out.old) ⊎ IsStreamCutOff (F.held files.old) wanted.entry strictness with_state (O.contents out.old) (O.contents out.new)) }
+    ensures unfinished { IfErr result (λ fault. LeavesOfStream fault (O.contents out.old) (O.contents out.new)
+        (IsStreamCutOff (F.held files.old) wanted.entry strictness with_state (O.contents out.old) (O.contents out.new))) }
     ensures told { IfErr result (IsExplainFault (F.held files.old) wanted.entry strictness (O.contents out.old) (O.contents out.new)) }
     ensures spared { F.held files.new ≡ F.held files.old }
 {

@@ -1,8 +1,8 @@
-use Rattle.std.proofs.Common.{◌≡◌, ◌∙◌, Err, ap, false, inr, subst, sym}
+use Rattle.std.proofs.Common.{◌≡◌, ◌∙◌, Err, ap, false, inr, refl, subst, sym}
 use Rattle.std.proofs.lemmas.Bool.{false≢true}
-use Rattle.chart_command.proofs.Drawn.{begun_at, drawn_at, drawn_begun, drawn_on, left_or_stopped, lost_told, stopped, told_as, undrawn_at}
-use Rattle.chart_command.proofs.Told.{chart_misused, drawing_never_misused, of_address, of_chart_image, of_chart_script, writing_never_misused}
-use Rattle.command_files.proofs.Left.{handed_up, image_as_before}
+use Rattle.chart_command.proofs.Drawn.{begun_at, drawn_at, drawn_begun, drawn_on, left_by, lost_told, stopped, told_as, undrawn_at}
+use Rattle.chart_command.proofs.Told.{address_is_not_write, chart_misused, drawing_never_misused, of_address, of_chart_image, of_chart_script, writing_never_misused}
+use Rattle.command_files.proofs.Left.{handed_up, image_as_before, image_is_not_write, left, script_is_not_write, spoiled}
 use Rattle.command_files.proofs.Limits.{machine_within, memory_within}
 use Rattle.command_files.specs.Files.{HoldsImage}
 use Rattle.command_files.specs.Held.{Held}
@@ -11,6 +11,20 @@ use Rattle.chart_command.proofs.charting.chart_files.Goals as goal
 
 pub image_in-requires : goal.image_in-requires
 image_in-requires g c = memory_within c.in_ok-script.script c.in_ok-script.ensures.script.is_script
+
+pub returns-in_err-address-clause-unfinished : goal.returns-in_err-address-clause-unfinished
+returns-in_err-address-clause-unfinished g c =
+    handed_up _ c.from_residual.result _ c.from_residual.ensures.1 (left _ _ _ _ (address_is_not_write _ _ c.in_err-address.ensures.refused) refl)
+
+pub returns-in_err-script-clause-unfinished : goal.returns-in_err-script-clause-unfinished
+returns-in_err-script-clause-unfinished g c =
+    handed_up _ c.from_residual-in_err-script.result _ c.from_residual-in_err-script.ensures.1
+    (left _ _ _ _ (script_is_not_write (g.F.Files.held c.args.files.now) _ _ c.in_err-script.ensures.fault) refl)
+
+pub returns-in_err-image-clause-unfinished : goal.returns-in_err-image-clause-unfinished
+returns-in_err-image-clause-unfinished g c =
+    handed_up _ c.from_residual-in_err-image.result _ c.from_residual-in_err-image.ensures.1
+    (left _ _ _ _ (image_is_not_write (g.F.Files.held c.script_in.new.files) c.args.wanted.raw c.args.wanted.image c.in_ok-script.script.kib _ c.in_err-image.ensures.fault) refl)
 
 pub returns-in_err-address-clause-told : goal.returns-in_err-address-clause-told
 returns-in_err-address-clause-told g c = handed_up _ c.from_residual.result _ c.from_residual.ensures.1 (of_address _ c.args.wanted _ _ c.in_err-address.ensures.refused)
@@ -26,10 +40,11 @@ returns-in_err-image-clause-told g c =
 
 pub returns-in-Err-clause-unfinished : goal.returns-in-Err-clause-unfinished
 returns-in-Err-clause-unfinished g c =
-    left_or_stopped _ c.args.wanted c.args.line c.in_ok-script.script c.in_ok-image.image c.in_ok-address.address _ _ _ c.in-Err.error c.in_ok-script.ensures.script
+    left_by _ c.args.wanted c.args.line c.in_ok-script.script c.in_ok-image.image c.in_ok-address.address _ _ c.in-Err.error _ c.in_ok-script.ensures.script
     (subst (λ (held : Held). HoldsImage held c.args.wanted.raw c.args.wanted.image.now c.in_ok-script.script.kib c.in_ok-image.image) c.in_ok-script.ensures.stays c.in_ok-image.ensures.image)
     c.in_ok-address.ensures.named
     (undrawn_at _ _ _ _ _ _ _ _ _ c.in-Err.error c.config_of-config.ensures c.as_slice-events.ensures c.in-Err.ensures.undrawn)
+    c.fault_of.ensures
 
 pub returns-in-Err-clause-misused : goal.returns-in-Err-clause-misused
 returns-in-Err-clause-misused g c = λ two.
@@ -51,7 +66,6 @@ returns-in-Ok-clause-charted g c = record {
   script = c.in_ok-script.script;
   image = c.in_ok-image.image;
   address = c.in_ok-address.address;
-  style = _;
   script_file = c.in_ok-script.ensures.script;
   image_file =
       subst (λ (held : Held). HoldsImage held c.args.wanted.raw c.args.wanted.image.now c.in_ok-script.script.kib c.in_ok-image.image)
@@ -63,7 +77,8 @@ returns-in-Ok-clause-charted g c = record {
 
 pub returns-clause-unfinished : goal.returns-clause-unfinished
 returns-clause-unfinished g c =
-    inr (stopped _ c.args.wanted c.args.line c.in_ok-script.script c.in_ok-image.image c.in_ok-address.address _ _ _ c.in_ok-script.ensures.script
+    spoiled _ _ _ _ c.writing.ensures.told
+    (stopped _ c.args.wanted c.args.line c.in_ok-script.script c.in_ok-image.image c.in_ok-address.address _ _ c.in_ok-script.ensures.script
     (subst (λ (held : Held). HoldsImage held c.args.wanted.raw c.args.wanted.image.now c.in_ok-script.script.kib c.in_ok-image.image) c.in_ok-script.ensures.stays c.in_ok-image.ensures.image)
     c.in_ok-address.ensures.named
     (begun_at _ _ _ _ _ _ _ _ _ c.config_of-config.ensures c.as_slice-events.ensures (drawn_begun _ _ _ _ _ _ _ _ c.flush.ensures.bytes c.in_default.ensures.drawn)))
