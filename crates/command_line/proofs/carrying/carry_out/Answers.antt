@@ -2,6 +2,7 @@ use Rattle.std.proofs.Common.{subst, sym}
 use Rattle.command_files.proofs.Left.{either, handed_up}
 use Rattle.command_line.proofs.Carried.{all_told_of, broken, broken_off, check_beyond, check_broken, check_came, explain_told, explained, explore_beyond, explore_broken, explore_came, explore_written, show_beyond, show_broken, show_came, show_written, told_of}
 use Rattle.command_line.proofs.Meant.{beyond_run, journal_alone, no_address, unwritten}
+use Rattle.command_line.proofs.StreamLeft.{stream_either}
 use Rattle.command_line.specs.Running.{IsOutOfRange, IsDone, IsWritten}
 use Rattle.explain_command.proofs.Told.{explain_never_misused}
 use Rattle.replay_command.proofs.Told.{replay_never_misused}
@@ -32,7 +33,7 @@ pub returns-in_err-explain_files-in-Explain-clause-spared : goal.returns-in_err-
 returns-in_err-explain_files-in-Explain-clause-spared g c = unwritten _ _ _ c.in_err-explain_files-in-Explain.ensures.spared
 
 pub returns-in_err-explain_files-in-Explain-clause-unfinished : goal.returns-in_err-explain_files-in-Explain-clause-unfinished
-returns-in_err-explain_files-in-Explain-clause-unfinished g c = handed_up _ c.from_residual-in_err-explain_files-in-Explain.result _ c.from_residual-in_err-explain_files-in-Explain.ensures.1 (broken _ _ _ _ _ _ c.in-Explain.is (broken_off _ _ _ c.in-Explain.explain c.strictness_of-strictness.result c.strictness_of-strictness.ensures c.in_err-explain_files-in-Explain.ensures.unfinished))
+returns-in_err-explain_files-in-Explain-clause-unfinished g c = handed_up _ c.from_residual-in_err-explain_files-in-Explain.result _ c.from_residual-in_err-explain_files-in-Explain.ensures.1 (broken _ _ _ _ _ _ c.in-Explain.is (broken_off _ _ _ c.in-Explain.explain c.strictness_of-strictness.result c.strictness_of-strictness.ensures (stream_either _ _ _ _ c.in_err-explain_files-in-Explain.ensures.unfinished)))
 
 pub returns-in_err-explain_files-in-Explain-clause-beyond : goal.returns-in_err-explain_files-in-Explain-clause-beyond
 returns-in_err-explain_files-in-Explain-clause-beyond g c = handed_up _ c.from_residual-in_err-explain_files-in-Explain.result _ c.from_residual-in_err-explain_files-in-Explain.ensures.1 (λ two. absurd (explain_never_misused _ _ _ _ _ _ c.in_err-explain_files-in-Explain.ensures.told two))
@@ -47,7 +48,7 @@ pub returns-in_err-chart_files-in-Chart-clause-spared : goal.returns-in_err-char
 returns-in_err-chart_files-in-Chart-clause-spared g c = unwritten _ _ _ c.in_err-chart_files-in-Chart.ensures.spared
 
 pub returns-in_err-chart_files-in-Chart-clause-unfinished : goal.returns-in_err-chart_files-in-Chart-clause-unfinished
-returns-in_err-chart_files-in-Chart-clause-unfinished g c = handed_up _ c.from_residual-in_err-chart_files-in-Chart.result _ c.from_residual-in_err-chart_files-in-Chart.ensures.1 (broken _ _ _ _ _ _ c.in-Chart.is c.in_err-chart_files-in-Chart.ensures.unfinished)
+returns-in_err-chart_files-in-Chart-clause-unfinished g c = handed_up _ c.from_residual-in_err-chart_files-in-Chart.result _ c.from_residual-in_err-chart_files-in-Chart.ensures.1 (broken _ _ _ _ _ _ c.in-Chart.is (either _ _ _ _ c.in_err-chart_files-in-Chart.ensures.unfinished))
 
 pub returns-in_err-chart_files-in-Chart-clause-beyond : goal.returns-in_err-chart_files-in-Chart-clause-beyond
 returns-in_err-chart_files-in-Chart-clause-beyond g c = handed_up _ c.from_residual-in_err-chart_files-in-Chart.result _ c.from_residual-in_err-chart_files-in-Chart.ensures.1 (λ two. let it = c.in_err-chart_files-in-Chart.ensures.misused two in (subst IsOutOfRange (sym c.in-Chart.is) (no_address _ _ it.0), it.1))
