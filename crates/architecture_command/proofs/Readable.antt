@@ -15,8 +15,8 @@ use Rattle.hart.specs.declared.retired.Retired.{Retired}
 use Rattle.hart.specs.declared.status.Status.{Status}
 use Rattle.hart.specs.declared.status.Status.TheVariants.{Running, Stopped, Exited}
 use Rattle.hart.specs.Run.{is_run}
-use Rattle.machine_model.specs.Config.{is_within_limits}
-use Rattle.machine_model.specs.declared.config.Config.{Config}
+use Rattle.machine_types.specs.Config.{is_within_limits}
+use Rattle.machine_types.specs.declared.config.Config.{Config}
 use Rattle.machine_model.specs.Ranges.{HasCode, HasWords, NamesPlace}
 use Rattle.machine_model.proofs.ranges.Runs.{named_in_range, runs_in_range}
 use Rattle.memory_model.specs.Traces.{are_runs_from}

@@ -17,7 +17,7 @@ use Rattle.explore_command.specs.Keeping.{IsInNamed, SparesOthers}
 use Rattle.explore_command.specs.declared.judging.Judgement.{Judgement}
 use Rattle.explore_command.specs.declared.judging.Judgement.TheVariants.{Allowed}
 use Rattle.explorer.specs.Ranks.{outcome_cmp}
-use Rattle.machine_model.specs.declared.config.Config.{Config}
+use Rattle.machine_types.specs.declared.config.Config.{Config}
 use Rattle.state_search.specs.declared.findings.Extent.TheVariants.{Complete, LimitMet}
 use Rattle.state_search.specs.declared.findings.Extent.TheVariants as extent
 use Rattle.text_fields.specs.Writing.{Begins}

@@ -8,7 +8,7 @@ ghost use Rattle.command_files.specs.Sizes.{config_named};
 ghost use Rattle.elf_loader.specs.Size.{IsMemoryKib};
 ghost use Rattle.explore_command.specs.Exploring.{IsFolderFault};
 ghost use Rattle.explore_command.specs.Keeping.{SparesOthers};
-ghost use Rattle.machine_model.specs.Config.{is_within_limits};
+ghost use Rattle.machine_types.specs.Config.{is_within_limits};
 ghost use Rattle.trace_text.specs.TraceLimits.{IsTrace};
 
 use architecture_outcomes::{Outcome, Way};

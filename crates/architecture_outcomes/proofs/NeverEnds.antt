@@ -10,7 +10,7 @@ use Rattle.explorer.specs.Orders.{outcome_total}
 use Rattle.explorer.specs.Outcomes.{HasEachEnd}
 use Rattle.explorer.specs.Ranks.{outcome_cmp}
 use Rattle.flat_model.specs.Shown.{Result, told}
-use Rattle.machine_model.specs.declared.config.Config.{Config}
+use Rattle.machine_types.specs.declared.config.Config.{Config}
 use Rattle.witnesses.specs.declared.witness.Witness.{Witness}
 use Rattle.witnesses.specs.Witnesses.{IsWitness}
 

@@ -10,7 +10,7 @@ use Rattle.explorer.specs.declared.found.Found.{Found}
 use Rattle.explorer.specs.Ends.{IsRealIn, outcomes_of}
 use Rattle.explorer.specs.Outcomes.{HasEachEnd}
 use Rattle.flat_model.specs.Shown.{Result, results}
-use Rattle.machine_model.specs.declared.config.Config.{Config}
+use Rattle.machine_types.specs.declared.config.Config.{Config}
 use Rattle.schedules.specs.Schedules.{led}
 
 Contains-map : {X Y : Type 0} (f : X → Y) (xs : List X) (x : X) → Contains xs x → Contains (map f xs) (f x)

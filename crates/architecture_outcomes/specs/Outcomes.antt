@@ -12,8 +12,8 @@ use Rattle.explorer.specs.Ends.{outcome_of as found_outcome}
 use Rattle.explorer.specs.Ranks.{outcome_cmp}
 use Rattle.flat_exploration.specs.Laws.{none_runs}
 use Rattle.flat_model.specs.Shown.{Result, results, told}
-use Rattle.machine_model.specs.declared.config.Config.{Config}
-use Rattle.machine_model.specs.declared.event.Event.{Event}
+use Rattle.machine_types.specs.declared.config.Config.{Config}
+use Rattle.machine_types.specs.declared.event.Event.{Event}
 use Rattle.schedules.specs.Schedules.{led}
 use Rattle.witnesses.specs.declared.witness.Witness.{Witness}
 use Rattle.witnesses.specs.Witnesses.{IsWitness}

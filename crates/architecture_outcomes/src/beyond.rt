@@ -8,14 +8,14 @@ ghost use Rattle.explorer.specs.Ends.{outcome_of, outcomes_of};
 ghost use Rattle.explorer.specs.Outcomes.{HasEachEnd};
 ghost use Rattle.explorer.specs.Ranks.{outcome_cmp};
 ghost use Rattle.flat_model.specs.Shown.{told};
-ghost use Rattle.machine_model.specs.Config.{is_within_limits};
+ghost use Rattle.machine_types.specs.Config.{is_within_limits};
 ghost use Rattle.witnesses.specs.Witnesses.{IsWitness};
 
 use crate::outcome::Outcome;
 use elf_loader::Image;
 use explorer::{Found, compare};
 use flat_model::HartResult;
-use machine_model::Config;
+use machine_types::Config;
 use std::alloc::{AllocError, Global};
 use window_machine::{Allowed, Reach, search};
 use witnesses::Witness;

@@ -4,14 +4,14 @@ ghost use Rattle.std.specs.List.Sorted.{IsStrictlySortedBy};
 ghost use Rattle.std.specs.Ordering.{on};
 ghost use Rattle.architecture_outcomes.specs.Outcomes.{IsWitnessed, TellsEachEnd, of_found, outcome_of};
 ghost use Rattle.explorer.specs.Ranks.{outcome_cmp};
-ghost use Rattle.machine_model.specs.Config.{is_within_limits};
+ghost use Rattle.machine_types.specs.Config.{is_within_limits};
 
 use crate::architecture::Architecture;
 use crate::beyond::{beyond, search_model};
 use crate::outcome::{Outcome, Way};
 use elf_loader::Image;
 use explorer::{Exploration, Found, explore};
-use machine_model::Config;
+use machine_types::Config;
 use state_search::{Extent, Unwatched};
 use std::alloc::{AllocError, Global};
 use window_machine::Allowed;

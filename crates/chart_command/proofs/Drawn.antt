@@ -18,8 +18,8 @@ use Rattle.command_files.proofs.Written.{all_begun, kept_on}
 use Rattle.command_settings.specs.declared.wanted.Replay.{Replay}
 use Rattle.elf_loader.specs.Image.{Initial}
 use Rattle.machine_model.specs.Views.{opening}
-use Rattle.machine_model.specs.declared.config.Config.{Config}
-use Rattle.machine_model.specs.declared.event.Event.{Event as AnEvent}
+use Rattle.machine_types.specs.declared.config.Config.{Config}
+use Rattle.machine_types.specs.declared.event.Event.{Event as AnEvent}
 use Rattle.run_chart.specs.Charts.{IsBegun, IsChart, IsDrawn, IsUndrawn}
 use Rattle.run_chart.specs.declared.errors.ChartError.{ChartError}
 use Rattle.run_chart.specs.declared.errors.ChartError.TheVariants as chart

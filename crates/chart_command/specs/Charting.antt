@@ -13,8 +13,8 @@ use Rattle.command_files.specs.declared.fault.Fault.{Fault}
 use Rattle.command_files.specs.declared.fault.Fault.TheVariants.{BadAddress, CannotWrite, Configuration, Event, OutOfMemory, TooManyRows}
 use Rattle.command_settings.specs.declared.wanted.Replay.{Replay}
 use Rattle.elf_loader.specs.Image.{Initial}
-use Rattle.machine_model.specs.declared.config.Config.{Config}
-use Rattle.machine_model.specs.declared.event.Event.{Event as AnEvent}
+use Rattle.machine_types.specs.declared.config.Config.{Config}
+use Rattle.machine_types.specs.declared.event.Event.{Event as AnEvent}
 use Rattle.machine_parts.specs.declared.errors.ApplyError.{ApplyError}
 use Rattle.run_chart.specs.Charts.{IsBegun, IsDrawn}
 use Rattle.run_chart.specs.Stories.{IsOverfull}

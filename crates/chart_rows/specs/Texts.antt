@@ -2,8 +2,8 @@
 use Rattle.std.specs.Prelude.{ℕ, Bool, true, false, List, [], ◌∷◌, ◌++◌, Option, Some, None, codes, decimal, vec_len}
 use Rattle.assembly.specs.Assembly.{assembly}
 use Rattle.hart.specs.declared.retired.Retired.{Retired}
-use Rattle.machine_model.specs.declared.outcome.Outcome.{Outcome}
-use Rattle.machine_model.specs.declared.outcome.Outcome.TheVariants.{Missed}
+use Rattle.machine_types.specs.declared.outcome.Outcome.{Outcome}
+use Rattle.machine_types.specs.declared.outcome.Outcome.TheVariants.{Missed}
 use Rattle.rv32_decode.specs.Rows.{decoded}
 use Rattle.rv32_decode.specs.declared.instruction.Instr.{Instr}
 use Rattle.text_fields.specs.Fields.{number, word}

@@ -3,7 +3,7 @@ ghost use Rattle.std.specs.Prelude.{◌≤◌, vec_len};
 
 use chart_drawing::Hold;
 use hart::Retired;
-use machine_model::{Event, Outcome};
+use machine_types::{Event, Outcome};
 use trace_recorder::Logged;
 
 /// Something that a hart's core did.

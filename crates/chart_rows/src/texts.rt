@@ -6,7 +6,7 @@ ghost use Rattle.chart_rows.specs.Texts as texts;
 use crate::rows::{Note, Row, Story};
 use assembly::spell_assembly;
 use hart::Retired;
-use machine_model::Outcome;
+use machine_types::Outcome;
 use rv32_decode::decode;
 use text_fields::Page;
 use trace_text::spell_event;

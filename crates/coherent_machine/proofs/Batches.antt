@@ -10,8 +10,8 @@ use Rattle.hart.specs.declared.state.Hart.{Hart}
 use Rattle.hart.specs.Local.{IsRow, Row, are_private_steps, can_go_alone, is_done_alone, is_private_step, next_entry, private_row, row_of}
 use Rattle.hart.specs.Run.{after, can_fetch, is_running, reached}
 use Rattle.machine_model.specs.declared.act.Act.TheVariants as act
-use Rattle.machine_model.specs.declared.outcome.Outcome.{Outcome}
-use Rattle.machine_model.specs.declared.outcome.Outcome.TheVariants as outcome
+use Rattle.machine_types.specs.declared.outcome.Outcome.{Outcome}
+use Rattle.machine_types.specs.declared.outcome.Outcome.TheVariants as outcome
 use Rattle.machine_model.specs.Changing.{went_alone}
 use Rattle.machine_model.specs.Events.{Verdict, counted, is_limited, verdict}
 use Rattle.machine_model.specs.Events.Verdict.{IsLimited, Moves}

@@ -4,8 +4,8 @@ use Rattle.elf_loader.specs.Image.{Initial, word_at}
 use Rattle.hart.specs.declared.retired.Retired.{Retired}
 use Rattle.hart.specs.Local.{Row}
 use Rattle.hart.specs.Run.{can_fetch}
-use Rattle.machine_model.specs.declared.event.Event.{Event}
-use Rattle.machine_model.specs.declared.event.Event.TheVariants.{Local}
+use Rattle.machine_types.specs.declared.event.Event.{Event}
+use Rattle.machine_types.specs.declared.event.Event.TheVariants.{Local}
 use Rattle.machine_model.specs.Views.{State, node_at}
 use Rattle.coherent_machine.specs.declared.errors.AdoptError.{AdoptError}
 use Rattle.coherent_machine.specs.declared.errors.AdoptError.TheVariants.{Stale, Empty, Limit, NoMemory}

@@ -1,9 +1,9 @@
 -- What a machine is by its history, and what a list of events comes to from reset.
 use Rattle.std.specs.Prelude.{ℕ, ◌≡◌, ◌≢◌, ◌+◌, List, [], ◌∷◌, ◌++◌, length, IsTrue}
 use Rattle.elf_loader.specs.Image.{IsImage}
-use Rattle.machine_model.specs.declared.event.Event.{Event as AnEvent}
-use Rattle.machine_model.specs.declared.outcome.Outcome.TheVariants.{Stopped}
-use Rattle.machine_model.specs.Config.{is_within_limits}
+use Rattle.machine_types.specs.declared.event.Event.{Event as AnEvent}
+use Rattle.machine_types.specs.declared.outcome.Outcome.TheVariants.{Stopped}
+use Rattle.machine_types.specs.Config.{is_within_limits}
 use Rattle.machine_model.specs.Events.{Verdict, after_events, happens, verdict}
 use Rattle.machine_model.specs.Events.Verdict.{IsBad, Keeps, IsLimited, Moves}
 use Rattle.machine_model.specs.Laws.{IsHeadline}

@@ -2,7 +2,7 @@
 
 ghost use Rattle.std.specs.Prelude.{◌≡◌, ◌≢◌, ◌↔◌, ◌<◌, [], Err, IfErr, IfOk, IsTrue, OnOk, OnErr, false, length, map};
 ghost use Rattle.hart.specs.Local.{IsRow};
-ghost use Rattle.machine_model.specs.Config as limits;
+ghost use Rattle.machine_types.specs.Config as limits;
 ghost use Rattle.machine_model.specs.Events.{Verdict, happens, verdict};
 ghost use Rattle.machine_model.specs.LawfulLog.{IsLawfulLog};
 ghost use Rattle.machine_model.specs.Laws.{Grows, IsHeadline, KeepsImageAndConfig};
@@ -18,10 +18,11 @@ use crate::views::Views;
 use elf_loader::Image;
 use hart::Batch;
 use machine_model::{
-    Config, Event, Outcome, headline, image_and_config_stay, log_lawful_always,
-    nothing_is_rewritten, ready_always, sound_always,
+    headline, image_and_config_stay, log_lawful_always, nothing_is_rewritten, ready_always,
+    sound_always,
 };
 use machine_parts::{ApplyError, Parts, is_within_limits};
+use machine_types::{Config, Event, Outcome};
 use std::alloc::Global;
 use std::marker::Model;
 use trace_recorder::Trace;

@@ -4,7 +4,7 @@ use Rattle.std.proofs.lemmas.Bool.{eq-eqb, false≢true, le-leb}
 use Rattle.std.proofs.lemmas.Bool.Decides.{nat_tests}
 use Rattle.command_files.specs.Sizes.{config_of}
 use Rattle.elf_loader.specs.Size.{IsMemoryKib}
-use Rattle.machine_model.specs.Config.{is_power_to_64, is_within_limits}
+use Rattle.machine_types.specs.Config.{is_power_to_64, is_within_limits}
 use Rattle.memory_model.specs.declared.MemoryModel.{MemoryModel}
 use Rattle.trace_text.specs.Scripts.{IsScript, head_of, is_head}
 use Rattle.trace_text.specs.declared.script.Script.{Script}

@@ -5,10 +5,10 @@ use Rattle.command_files.specs.Composition.{Leads}
 use Rattle.command_files.specs.Sizes.{config_of}
 use Rattle.elf_loader.specs.Image.{Initial}
 use Rattle.machine_model.specs.Views.{State, opening}
-use Rattle.machine_model.specs.declared.config.Config.{Config}
-use Rattle.machine_model.specs.declared.event.Event.{Event}
+use Rattle.machine_types.specs.declared.config.Config.{Config}
+use Rattle.machine_types.specs.declared.event.Event.{Event}
 use Rattle.memory_model.specs.declared.MemoryModel.{MemoryModel}
-use Rattle.trace_text.specs.MachineTraces.{EveryTraceHasAText}
+use Rattle.machine_traces.specs.MachineTraces.{EveryTraceHasAText}
 use Rattle.trace_text.specs.TraceLimits.{IsTrace}
 use Rattle.trace_text.specs.declared.script.Script.{Script}
 

@@ -2,10 +2,10 @@
 use Rattle.std.specs.Prelude.{◌≡◌, ◌⊎◌, List, false}
 use Rattle.command_settings.specs.declared.wanted.MachineOptions.{MachineOptions}
 use Rattle.elf_loader.specs.Size.{IsMemoryKib}
-use Rattle.machine_model.specs.Config.{is_within_limits}
-use Rattle.machine_model.specs.declared.config.Config.{Config}
+use Rattle.machine_types.specs.Config.{is_within_limits}
+use Rattle.machine_types.specs.declared.config.Config.{Config}
 use Rattle.memory_model.specs.declared.MemoryModel.{MemoryModel}
-use Rattle.machine_model.specs.declared.event.Event.{Event}
+use Rattle.machine_types.specs.declared.event.Event.{Event}
 use Rattle.trace_text.specs.declared.script.Script.{Script}
 
 -- the machine that a script is for

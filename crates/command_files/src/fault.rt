@@ -8,7 +8,7 @@ ghost use Rattle.command_files.specs.declared.fault.Fault.TheVariants.{OutOfMemo
 use coherent_machine::{ApplyError, NewError, ReplayError};
 use elf_loader::LoadError;
 use event_stream::{StreamError, outcome_name};
-use machine_model::Outcome;
+use machine_types::Outcome;
 use rvwmo_order::CheckError;
 use std::alloc::AllocError;
 use std::io::{self, ErrorKind};

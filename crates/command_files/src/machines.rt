@@ -4,13 +4,14 @@ ghost use Rattle.std.specs.Prelude.{◌≡◌, IfSome, IsNone, true};
 ghost use Rattle.std.specs.List.{AllByRecursion};
 ghost use Rattle.command_files.specs.Sizes.{IsOutside, config_named, config_of, script_named};
 ghost use Rattle.elf_loader.specs.Size.{IsMemoryKib};
-ghost use Rattle.machine_model.specs.Config.{is_within_limits as is_within};
+ghost use Rattle.machine_types.specs.Config.{is_within_limits as is_within};
 ghost use Rattle.trace_text.specs.Scripts.{IsEvent};
 
 use command_settings::MachineOptions;
 use elf_loader::size_of_kib;
-use machine_model::{Config, Event, MemoryModel};
+use machine_model::MemoryModel;
 use machine_parts::is_within_limits;
+use machine_types::{Config, Event};
 use trace_text::{Events, Script};
 
 /// The machine that a script is for.

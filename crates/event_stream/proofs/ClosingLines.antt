@@ -7,8 +7,8 @@ use Rattle.coherent_machine.proofs.Reached.{law_of}
 use Rattle.elf_symbols.specs.Named.{Named}
 use Rattle.hart.specs.declared.status.Status.{Status}
 use Rattle.hart.specs.declared.status.Status.TheVariants.{Running, Stopped, Exited}
-use Rattle.machine_model.specs.declared.config.Config.{Config}
-use Rattle.machine_model.specs.Config.{is_power_to_64, is_within_limits}
+use Rattle.machine_types.specs.declared.config.Config.{Config}
+use Rattle.machine_types.specs.Config.{is_power_to_64, is_within_limits}
 use Rattle.machine_model.specs.Ready.{IsSound, SoundAlways}
 use Rattle.machine_model.specs.Views.{State}
 use Rattle.text_fields.specs.Fields.{number}

@@ -5,8 +5,8 @@ use Rattle.std.proofs.lemmas.List.{append-nil, append_assoc, length-append, leng
 use Rattle.std.specs.Io.KnownBytes.{Appends}
 use Rattle.coherent_machine.specs.Machine.{Refuses}
 use Rattle.elf_symbols.specs.Named.{Named}
-use Rattle.machine_model.specs.declared.event.Event.{Event}
-use Rattle.machine_model.specs.declared.outcome.Outcome.{Outcome}
+use Rattle.machine_types.specs.declared.event.Event.{Event}
+use Rattle.machine_types.specs.declared.outcome.Outcome.{Outcome}
 use Rattle.machine_model.specs.Events.{Verdict, happens, hart_of, verdict}
 use Rattle.machine_model.specs.Events.Verdict.{IsBad, Keeps, IsLimited, Moves}
 use Rattle.machine_model.specs.Laws.{ChangesAreCounted}

@@ -11,9 +11,9 @@ use Rattle.hart.specs.Run.{can_fetch}
 use Rattle.hart.specs.declared.state.Hart.{Hart}
 use Rattle.hart.specs.declared.status.Status.{Status}
 use Rattle.hart.specs.declared.status.Status.TheVariants.{Running, Stopped as IsStopped, Exited as HasExited}
-use Rattle.machine_model.specs.declared.event.Event.TheVariants.{Step}
-use Rattle.machine_model.specs.declared.outcome.Outcome.{Outcome}
-use Rattle.machine_model.specs.declared.outcome.Outcome.TheVariants.{Retired, Stopped, Exited, Drained, Delivered, Evicted, Missed, Halted, WaitRelease, WaitGrant, NoTracker, SetFull, BufferFull, MustDrain, NoEntry, NotOldest, Empty, Busy, Releasing, AckFull, NotHeld, AcquirePending, ReleaseFull, NotLocal}
+use Rattle.machine_types.specs.declared.event.Event.TheVariants.{Step}
+use Rattle.machine_types.specs.declared.outcome.Outcome.{Outcome}
+use Rattle.machine_types.specs.declared.outcome.Outcome.TheVariants.{Retired, Stopped, Exited, Drained, Delivered, Evicted, Missed, Halted, WaitRelease, WaitGrant, NoTracker, SetFull, BufferFull, MustDrain, NoEntry, NotOldest, Empty, Busy, Releasing, AckFull, NotHeld, AcquirePending, ReleaseFull, NotLocal}
 use Rattle.machine_model.specs.Events.{verdict}
 use Rattle.machine_model.specs.Ready.{shape_of}
 use Rattle.machine_model.specs.Views.{State, line_of, line_size, node_at}

@@ -4,8 +4,8 @@ use Rattle.std.specs.List.{flat_map}
 use Rattle.coherent_machine.specs.Machine.{Replayed, replayed_from}
 use Rattle.elf_loader.specs.Image.{Initial}
 use Rattle.hart.specs.declared.retired.Retired.{Retired}
-use Rattle.machine_model.specs.declared.config.Config.{Config}
-use Rattle.machine_model.specs.declared.event.Event.{Event}
+use Rattle.machine_types.specs.declared.config.Config.{Config}
+use Rattle.machine_types.specs.declared.event.Event.{Event}
 use Rattle.machine_model.specs.Events.{hart_of}
 use Rattle.machine_model.specs.Views.{State, opening}
 use Rattle.trace_recorder.specs.History.{History, entries_of}

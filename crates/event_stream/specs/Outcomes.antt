@@ -1,8 +1,8 @@
 -- How the outcomes of events are spelled: by their names, with the code or the line's address behind it.
 use Rattle.std.specs.Prelude.{ℕ, List, [], ◌∷◌, ◌++◌, codes, decimal}
 use Rattle.text_fields.specs.Fields.{word}
-use Rattle.machine_model.specs.declared.outcome.Outcome.{Outcome}
-use Rattle.machine_model.specs.declared.outcome.Outcome.TheVariants.{Retired, Stopped, Exited, Drained, Delivered, Evicted, Missed, Halted, WaitRelease, WaitGrant, NoTracker, SetFull, BufferFull, MustDrain, NoEntry, NotOldest, Empty, Busy, Releasing, AckFull, NotHeld, AcquirePending, ReleaseFull, NotLocal}
+use Rattle.machine_types.specs.declared.outcome.Outcome.{Outcome}
+use Rattle.machine_types.specs.declared.outcome.Outcome.TheVariants.{Retired, Stopped, Exited, Drained, Delivered, Evicted, Missed, Halted, WaitRelease, WaitGrant, NoTracker, SetFull, BufferFull, MustDrain, NoEntry, NotOldest, Empty, Busy, Releasing, AckFull, NotHeld, AcquirePending, ReleaseFull, NotLocal}
 
 -- its name
 abbrev pub name : Outcome → List ℕ

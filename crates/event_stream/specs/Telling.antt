@@ -3,8 +3,8 @@ use Rattle.std.specs.Prelude.{ℕ, ◌≡◌, ◌⊎◌, ◌++◌, Bool, false, 
 use Rattle.std.specs.Io.KnownBytes.{Appends}
 use Rattle.coherent_machine.specs.Machine.{Refuses}
 use Rattle.elf_symbols.specs.Named.{Named}
-use Rattle.machine_model.specs.declared.event.Event.{Event}
-use Rattle.machine_model.specs.declared.outcome.Outcome.{Outcome}
+use Rattle.machine_types.specs.declared.event.Event.{Event}
+use Rattle.machine_types.specs.declared.outcome.Outcome.{Outcome}
 use Rattle.machine_model.specs.Events.{hart_of}
 use Rattle.machine_model.specs.Events.Verdict.{Keeps}
 use Rattle.machine_model.specs.Views.{State}

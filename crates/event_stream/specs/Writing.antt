@@ -4,8 +4,8 @@ use Rattle.std.specs.Io.KnownBytes.{Appends}
 use Rattle.coherent_machine.specs.Machine.{Refuses}
 use Rattle.elf_loader.specs.Image.{Initial}
 use Rattle.elf_symbols.specs.Named.{Named}
-use Rattle.machine_model.specs.declared.config.Config.{Config}
-use Rattle.machine_model.specs.declared.event.Event.{Event}
+use Rattle.machine_types.specs.declared.config.Config.{Config}
+use Rattle.machine_types.specs.declared.event.Event.{Event}
 use Rattle.machine_model.specs.Events.{Verdict, verdict}
 use Rattle.machine_model.specs.Events.Verdict.{Keeps}
 use Rattle.machine_model.specs.Views.{State, opening}

@@ -1,7 +1,7 @@
 //! Why a stream is not whole.
 
 use coherent_machine::{ApplyError, NewError};
-use machine_model::Outcome;
+use machine_types::Outcome;
 use std::io::Error;
 
 /// Why a stream is not whole.

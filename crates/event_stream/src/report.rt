@@ -7,7 +7,7 @@ ghost use Rattle.event_stream.specs.Telling.{lengths_of, report_of, report_behin
 
 use coherent_machine::{Machine, Views};
 use hart::Retired;
-use machine_model::{Event, Outcome};
+use machine_types::{Event, Outcome};
 use trace_recorder::{Logged, OpId, Trace};
 
 /// How long the lists are before an event of a hart, and how many events have changed the machine.

@@ -10,7 +10,7 @@ use crate::report::{Report, hart_of};
 use crate::spellings::spell_outcome;
 use elf_symbols::Symbols;
 use hart::Retired;
-use machine_model::{Event, Outcome};
+use machine_types::{Event, Outcome};
 use rv32_decode::decode;
 use std::io::{Result, Write};
 use text_fields::Page;

@@ -3,7 +3,7 @@ ghost use Rattle.std.specs.Prelude.{◌≡◌, ◌+◌, ◌≤◌, ◌++◌, len
 ghost use Rattle.text_fields.specs.Pages.{size};
 ghost use Rattle.event_stream.specs.Outcomes as outcomes;
 
-use machine_model::Outcome;
+use machine_types::Outcome;
 use text_fields::Page;
 
 /// The outcome's name.

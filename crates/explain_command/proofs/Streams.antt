@@ -10,8 +10,8 @@ use Rattle.event_stream.specs.Writing.{IsCut, IsStreamUnfinished, IsWholeStream}
 use Rattle.event_stream.specs.declared.errors.StreamError.{StreamError}
 use Rattle.event_stream.specs.declared.errors.StreamError.TheVariants as stream
 use Rattle.event_stream.specs.declared.strictness.Strictness.{Strictness}
-use Rattle.machine_model.specs.declared.config.Config.{Config}
-use Rattle.machine_model.specs.declared.event.Event.{Event}
+use Rattle.machine_types.specs.declared.config.Config.{Config}
+use Rattle.machine_types.specs.declared.event.Event.{Event}
 use Rattle.machine_model.specs.Events.{Verdict}
 use Rattle.machine_model.specs.Events.Verdict.{Keeps as Stays}
 use Rattle.machine_model.specs.Views.{State, opening}

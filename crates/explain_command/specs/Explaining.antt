@@ -22,8 +22,8 @@ use Rattle.event_stream.specs.declared.strictness.Strictness.{Strictness}
 use Rattle.machine_model.specs.Events.Verdict.{Keeps}
 use Rattle.machine_model.specs.Events.{Verdict}
 use Rattle.machine_model.specs.Views.{State, opening}
-use Rattle.machine_model.specs.declared.config.Config.{Config}
-use Rattle.machine_model.specs.declared.event.Event.{Event}
+use Rattle.machine_types.specs.declared.config.Config.{Config}
+use Rattle.machine_types.specs.declared.event.Event.{Event}
 use Rattle.command_files.specs.Faults.{IsReplayFault, LeavesAtFault}
 use Rattle.std.specs.Io.KnownBytes.{Appends}
 use Rattle.std.specs.Prelude.{◌≡◌, ℕ, Bool, true, false, List, [], ◌++◌, Option}

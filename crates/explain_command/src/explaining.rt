@@ -4,7 +4,7 @@ ghost use Rattle.std.specs.Prelude.{◌≡◌, IfErr, OnOk, false};
 ghost use Rattle.coherent_machine.specs.Machine.{IsReached};
 ghost use Rattle.coherent_machine.specs.declared.errors.NewError.TheVariants as making;
 ghost use Rattle.explain_command.specs.Explaining.{IsExplainFault, IsExplained, IsPartOfStream, IsStreamCutOff, IsWholeExplanation, LeavesOfStream, state_if};
-ghost use Rattle.machine_model.specs.Config.{is_within_limits};
+ghost use Rattle.machine_types.specs.Config.{is_within_limits};
 ghost use Rattle.text_fields.specs.Writing.{Writes};
 
 use crate::named::{NamedImage, named_image_in};
@@ -12,7 +12,7 @@ use coherent_machine::Machine;
 use command_files::{Fault, Files, config_of, script_in};
 use command_settings::Replay;
 use event_stream::{StreamError, Strictness, write_state, write_stream};
-use machine_model::{Config, Event};
+use machine_types::{Config, Event};
 use std::alloc::Global;
 use std::io::{self, Write};
 

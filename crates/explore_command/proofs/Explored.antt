@@ -19,7 +19,7 @@ use Rattle.explore_command.specs.declared.judging.Judgement.TheVariants.{Allowed
 use Rattle.explorer.specs.Ends.{outcomes_of}
 use Rattle.explorer.specs.declared.exploration.Exploration.{Exploration}
 use Rattle.flat_model.specs.Shown.{Result as Ended}
-use Rattle.machine_model.specs.declared.config.Config.{Config}
+use Rattle.machine_types.specs.declared.config.Config.{Config}
 use Rattle.state_search.specs.declared.findings.Extent.TheVariants as extent
 use Rattle.text_fields.specs.Writing.{Begins}
 

@@ -10,8 +10,8 @@ use Rattle.command_files.specs.Held.{Held, HoldsBytes}
 use Rattle.command_files.specs.Sizes.{config_named, config_of, script_named}
 use Rattle.command_files.proofs.Limits.{script_within}
 use Rattle.elf_loader.specs.Size.{IsMemoryKib}
-use Rattle.machine_model.specs.Config.{is_within_limits}
-use Rattle.machine_model.specs.declared.event.Event.{Event}
+use Rattle.machine_types.specs.Config.{is_within_limits}
+use Rattle.machine_types.specs.declared.event.Event.{Event}
 use Rattle.std.specs.List.{AllByRecursion}
 use Rattle.command_settings.specs.declared.wanted.MachineOptions.{MachineOptions}
 use Rattle.explore_command.specs.Keeping.{AreKept, AreKeptFrom, IsInNamed, IsKeptAt, IsOutcomeScript, IsScriptFile, IsScriptOf, Name, SparesOthers, outcome_path, stuck_path}

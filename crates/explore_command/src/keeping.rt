@@ -9,13 +9,13 @@ ghost use Rattle.command_settings.specs.declared.wanted.MachineOptions.{MachineO
 ghost use Rattle.elf_loader.specs.Size.{IsMemoryKib};
 ghost use Rattle.explore_command.specs.Exploring.{IsFolderFault, IsNamedBy};
 ghost use Rattle.explore_command.specs.Keeping.{AreKept, AreKeptFrom, IsInNamed, IsKeptAt, IsOutcomeScript, IsScriptOf, Name, SparesOthers, outcome_path, stuck_path};
-ghost use Rattle.machine_model.specs.Config.{is_within_limits};
+ghost use Rattle.machine_types.specs.Config.{is_within_limits};
 ghost use Rattle.trace_text.specs.Scripts.{text};
 
 use command_files::{Fault, Files, script_of};
 use command_settings::{Explore, MachineOptions};
 use explorer::{Exploration, Found, Script as Way};
-use machine_model::Event;
+use machine_types::Event;
 use std::alloc::{AllocError, Global};
 use trace_text::{Script, write_script};
 

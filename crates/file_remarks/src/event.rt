@@ -1,6 +1,6 @@
 //! What is wrong with an event that no machine of a size has.
 
-use machine_model::Event;
+use machine_types::Event;
 use std::fmt::{self, Display, Formatter};
 use trace_text::Script;
 

@@ -6,7 +6,7 @@ use crate::written::Written;
 use coherent_machine::Machine;
 use elf_loader::Image;
 use flat_model::FlatEvent;
-use machine_model::{Config, Event, Outcome};
+use machine_types::{Config, Event, Outcome};
 use plain_machine::{FlatMachine, Variant};
 use rv32_decode::decode;
 use rv32_exec::{Action, plan};

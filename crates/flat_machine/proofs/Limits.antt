@@ -1,8 +1,8 @@
 -- What the limits of a configuration say of its numbers.
 use Rattle.std.proofs.Common.{◌≡◌, ℕ, zero, suc, ◌<◌, ◌≤◌, true, arith}
 use Rattle.std.proofs.lemmas.Bool.{and_parts, false≢true, leb-true}
-use Rattle.machine_model.specs.Config.{is_power_to_64, is_within_limits}
-use Rattle.machine_model.specs.declared.config.Config.{Config}
+use Rattle.machine_types.specs.Config.{is_power_to_64, is_within_limits}
+use Rattle.machine_types.specs.declared.config.Config.{Config}
 
 positive : (n : ℕ) → is_power_to_64 n ≡ true → 0 < n
 positive zero e = absurd (false≢true e)

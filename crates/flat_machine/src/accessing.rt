@@ -3,14 +3,14 @@ ghost use Rattle.std.specs.Prelude.{◌≡◌, ◌<◌, IsTrue, if◌then◌else
 ghost use Rattle.flat_machine.specs.States.{flat_of};
 ghost use Rattle.flat_model.specs.Changing as spec;
 ghost use Rattle.flat_model.specs.Flat.{node_at};
-ghost use Rattle.machine_model.specs.Config.{is_within_limits};
+ghost use Rattle.machine_types.specs.Config.{is_within_limits};
 ghost use Rattle.machine_model.specs.Views.{size_of_config};
 ghost use Rattle.reservations.specs.Reservation.{without_line};
 
 use crate::node::Node;
 use crate::state::State;
-use machine_model::Config;
 use machine_parts::line_size;
+use machine_types::Config;
 
 /// The address of the line that an address lies in.
 fn line_at(config: &Config, address: u32) -> u32

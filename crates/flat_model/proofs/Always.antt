@@ -16,10 +16,10 @@ use Rattle.flat_model.proofs.Sees.{shown_as}
 use Rattle.hart.specs.declared.state.Hart.{Hart}
 use Rattle.machine_model.specs.declared.act.Plan.{Plan}
 use Rattle.machine_model.specs.declared.act.Plan.TheVariants.{Stays, Changes}
-use Rattle.machine_model.specs.declared.config.Config.{Config}
-use Rattle.machine_model.specs.declared.event.Event.{Event}
+use Rattle.machine_types.specs.declared.config.Config.{Config}
+use Rattle.machine_types.specs.declared.event.Event.{Event}
 use Rattle.machine_model.specs.Changing.{acted, outcome_of}
-use Rattle.machine_model.specs.Config.{is_within_limits}
+use Rattle.machine_types.specs.Config.{is_within_limits}
 use Rattle.machine_model.specs.Events.{IsBad, IsLimited, Moves, after_events, counted, happens, hart_of, is_good, is_limited, names_well, plan_of, state_by, verdict_by}
 use Rattle.machine_model.specs.Laws.{AreRunsOf, IsCompletedLegally}
 use Rattle.machine_model.specs.Ready.{AreReady}

@@ -23,7 +23,7 @@ use Rattle.hart.proofs.Alone.{after-running, alone, private_is}
 use Rattle.hart.proofs.Rows.{stop_of-private}
 use Rattle.machine_model.specs.Changing.{went_alone, with_entries, with_halt}
 use Rattle.machine_model.specs.declared.act.Deed.TheVariants as deed
-use Rattle.machine_model.specs.declared.outcome.Outcome.TheVariants as outcome
+use Rattle.machine_types.specs.declared.outcome.Outcome.TheVariants as outcome
 use Rattle.machine_model.specs.Views as views
 use Rattle.machine_model.specs.Views.{State}
 use Rattle.memory_model.specs.declared.MemoryModel.{MemoryModel}

@@ -36,7 +36,7 @@ use Rattle.machine_model.specs.declared.act.Act.{Act}
 use Rattle.machine_model.specs.declared.act.Act.TheVariants as act
 use Rattle.machine_model.specs.declared.act.Deed.{Deed}
 use Rattle.machine_model.specs.declared.act.Deed.TheVariants as deed
-use Rattle.machine_model.specs.declared.config.Config.{Config}
+use Rattle.machine_types.specs.declared.config.Config.{Config}
 use Rattle.machine_model.specs.Changing.{acted, does, drained, performs, performs_own, sent_if_evicted, writes_word}
 use Rattle.machine_model.specs.Deliveries.{delivered, handled, on_grant, on_probe_ack, on_release, with_less, sent_any, sent_if_answered, sent_if_granted, sent_if_handled, sent_probes, taken, with_memory, with_notes}
 use Rattle.machine_model.specs.Ready.{IsReadyAct, IsReadyBody}

@@ -19,7 +19,7 @@ use Rattle.machine_model.specs.declared.act.Deed.{Deed}
 use Rattle.machine_model.specs.declared.act.Deed.TheVariants as deed
 use Rattle.machine_model.specs.declared.act.Plan.{Plan}
 use Rattle.machine_model.specs.declared.act.Plan.TheVariants.{Stays, Changes}
-use Rattle.machine_model.specs.declared.outcome.Outcome.TheVariants as outcome
+use Rattle.machine_types.specs.declared.outcome.Outcome.TheVariants as outcome
 use Rattle.machine_model.specs.Deciding.{miss_by, reading, reading_by, writing, writing_by}
 use Rattle.machine_model.specs.Events.{plan_drain}
 use Rattle.machine_model.specs.Steps.{Fetched, plan_access, plan_amo, plan_sc, plan_fence, plan_instr, plan_load, plan_lr, plan_step, plan_store, plan_unless, retires, update, waits_for_stores, write_waits}

@@ -16,7 +16,7 @@ use Rattle.hart.specs.Run.{after_instr}
 use Rattle.machine_model.specs.Changing.{does, drained, performs, performs_own, place_at, put_behind, retired, stopped, with_buffer, with_halt, with_reservation, writes_word}
 use Rattle.machine_model.specs.Views.{Node, State, node_at, with_node, with_trace}
 use Rattle.machine_model.specs.Words.{bytes_of_word}
-use Rattle.machine_model.specs.declared.config.Config.{Config}
+use Rattle.machine_types.specs.declared.config.Config.{Config}
 use Rattle.machine_model.specs.declared.act.Deed.{Deed}
 use Rattle.machine_model.specs.declared.act.Deed.TheVariants as deed
 use Rattle.machine_model.proofs.Nodes.{node_other, node_same}

@@ -7,7 +7,7 @@ use Rattle.hart.specs.declared.status.Status.TheVariants.{Stopped}
 use Rattle.hart.specs.Run.{after_instr}
 use Rattle.machine_model.specs.declared.act.Deed.{Deed}
 use Rattle.machine_model.specs.declared.act.Deed.TheVariants as deed
-use Rattle.machine_model.specs.declared.config.Config.{Config}
+use Rattle.machine_types.specs.declared.config.Config.{Config}
 use Rattle.machine_model.specs.Changing.{put_behind, with_halt}
 use Rattle.machine_model.specs.Views.{line_of, size_of_config}
 use Rattle.machine_model.specs.Words.{bytes_of_word}

@@ -6,8 +6,8 @@ use Rattle.flat_model.specs.declared.event.FlatEvent.TheVariants as event
 use Rattle.flat_model.specs.Flat.{Flat, node_at}
 use Rattle.flat_model.specs.Steps.{FlatPlan, Refused, Stays, Stops, Retires, Drains, plan_drain, plan_fail, plan_step}
 use Rattle.hart.specs.Run.{after_instr}
-use Rattle.machine_model.specs.declared.outcome.Outcome.{Outcome}
-use Rattle.machine_model.specs.declared.outcome.Outcome.TheVariants as outcome
+use Rattle.machine_types.specs.declared.outcome.Outcome.{Outcome}
+use Rattle.machine_types.specs.declared.outcome.Outcome.TheVariants as outcome
 use Rattle.machine_model.specs.Changing.{outcome_by}
 
 abbrev pub hart_of : FlatEvent → ℕ

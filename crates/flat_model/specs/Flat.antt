@@ -5,7 +5,7 @@ use Rattle.elf_loader.specs.Image.{Initial}
 use Rattle.elf_loader.specs.Size.{base}
 use Rattle.hart.specs.declared.state.Hart.{Hart}
 use Rattle.hart.specs.Run.{at_reset}
-use Rattle.machine_model.specs.declared.config.Config.{Config}
+use Rattle.machine_types.specs.declared.config.Config.{Config}
 use Rattle.machine_model.specs.Views.{size_of_config}
 use Rattle.store_buffer.specs.ByteMask.{each_place, is_marked}
 use Rattle.store_buffer.specs.Groups.{Groups, no_groups}

@@ -6,7 +6,7 @@ use Rattle.flat_model.specs.Events.{after_events, verdict}
 use Rattle.flat_model.specs.Flat.{Flat, opening}
 use Rattle.flat_model.specs.Projected.{projected, projected_verdict}
 use Rattle.flat_model.specs.Shown.{Shows, flat_results, results}
-use Rattle.machine_model.specs.declared.config.Config.{Config}
+use Rattle.machine_types.specs.declared.config.Config.{Config}
 use Rattle.machine_model.specs.Laws.{Always, AreRunsOf, IsCompletedLegally}
 use Rattle.machine_model.specs.Views.{State}
 

@@ -6,8 +6,8 @@ use Rattle.flat_model.specs.declared.event.FlatEvent.{FlatEvent}
 use Rattle.flat_model.specs.declared.event.FlatEvent.TheVariants.{Step, Drain, Fail}
 use Rattle.flat_model.specs.Events.{IsBad, Keeps, after_events, verdict}
 use Rattle.flat_model.specs.Flat.{Flat, node_at, opening, word_in}
-use Rattle.machine_model.specs.declared.config.Config.{Config}
-use Rattle.machine_model.specs.declared.outcome.Outcome.TheVariants.{MustDrain, NoEntry}
+use Rattle.machine_types.specs.declared.config.Config.{Config}
+use Rattle.machine_types.specs.declared.outcome.Outcome.TheVariants.{MustDrain, NoEntry}
 use Rattle.machine_model.specs.Words.{number_of_bytes}
 use Rattle.memory_model.specs.Examples.{bytes_of_words}
 use Rattle.memory_model.specs.declared.MemoryModel.TheVariants.{Rvwmo}

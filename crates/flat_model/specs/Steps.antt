@@ -7,8 +7,8 @@ use Rattle.hart.specs.declared.retired.Retired.{Retired}
 use Rattle.hart.specs.Run.{is_running, next_stop}
 use Rattle.machine_model.specs.declared.act.Deed.{Deed}
 use Rattle.machine_model.specs.declared.act.Deed.TheVariants as deed
-use Rattle.machine_model.specs.declared.outcome.Outcome.{Outcome}
-use Rattle.machine_model.specs.declared.outcome.Outcome.TheVariants as outcome
+use Rattle.machine_types.specs.declared.outcome.Outcome.{Outcome}
+use Rattle.machine_types.specs.declared.outcome.Outcome.TheVariants as outcome
 use Rattle.machine_model.specs.Steps.{Fetched}
 use Rattle.machine_model.specs.Words.{word_of, read_from, store_of}
 use Rattle.memory_model.specs.declared.MemoryModel.{MemoryModel}

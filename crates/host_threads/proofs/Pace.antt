@@ -11,8 +11,8 @@ use Rattle.locked_fabric.specs.declared.taken.Taken.{Taken}
 use Rattle.locked_fabric.specs.declared.taken.Taken.TheVariants.{Nothing, Over, HeldBack, Tried}
 use Rattle.locked_fabric.specs.Port.{Applied, Left, seat_of, share_of}
 use Rattle.locked_fabric.specs.declared.port.Port.{Port}
-use Rattle.machine_model.specs.declared.event.Event.{Event}
-use Rattle.machine_model.specs.declared.outcome.Outcome.{Outcome}
+use Rattle.machine_types.specs.declared.event.Event.{Event}
+use Rattle.machine_types.specs.declared.outcome.Outcome.{Outcome}
 use Rattle.machine_model.specs.Events.{Verdict, verdict}
 use Rattle.machine_model.specs.Events.Verdict.{IsBad, Keeps, IsLimited, Moves}
 use Rattle.machine_parts.specs.declared.errors.ApplyError.{ApplyError}

@@ -7,8 +7,8 @@ use Rattle.std.proofs.Math.Nat.{eq-or-lt_of_le, lt_of_not-le, mod-lt, mul-div_ca
 use Rattle.client_cache.specs.Cache.{Cache}
 use Rattle.elf_loader.specs.Size.{base}
 use Rattle.host_threads.specs.Due.{IsLowestSpare, IsSpare, set_at}
-use Rattle.machine_model.specs.declared.config.Config.{Config}
-use Rattle.machine_model.specs.Config.{is_power_to_64, is_within_limits}
+use Rattle.machine_types.specs.declared.config.Config.{Config}
+use Rattle.machine_types.specs.Config.{is_power_to_64, is_within_limits}
 
 -- ---- the numbers of a configuration within the limits
 

@@ -6,9 +6,9 @@ use Rattle.elf_loader.specs.Size.{base}
 use Rattle.hart.specs.Run.{is_running}
 use Rattle.host_threads.specs.declared.rounds.Place.{Place}
 use Rattle.host_threads.specs.declared.rounds.Place.TheVariants as place
-use Rattle.machine_model.specs.declared.config.Config.{Config}
-use Rattle.machine_model.specs.declared.event.Event.{Event}
-use Rattle.machine_model.specs.declared.event.Event.TheVariants.{Step, Drain, Evict, Deliver, Local}
+use Rattle.machine_types.specs.declared.config.Config.{Config}
+use Rattle.machine_types.specs.declared.event.Event.{Event}
+use Rattle.machine_types.specs.declared.event.Event.TheVariants.{Step, Drain, Evict, Deliver, Local}
 use Rattle.machine_model.specs.Events.{hart_of}
 use Rattle.machine_model.specs.Views.{Node, State, node_at}
 use Rattle.store_buffer.specs.Groups.{drainable, oldest}

@@ -4,7 +4,7 @@ ghost use Rattle.std.specs.Prelude.{◌≡◌};
 ghost use Rattle.host_threads.specs.Errors.{run_error_number};
 
 use coherent_machine::NewError;
-use machine_model::Event;
+use machine_types::Event;
 use std::alloc::AllocError;
 use thiserror::Error;
 use trace_recorder::Trace;

@@ -3,7 +3,7 @@
 ghost use Rattle.std.specs.Prelude.{◌≡◌, ◌<◌, IfNone, IfSome, IsTrue, length};
 ghost use Rattle.host_threads.specs.Due.{HasNothing, IsDue, IsIdle};
 ghost use Rattle.host_threads.specs.Route.{Route};
-ghost use Rattle.machine_model.specs.Config.{is_within_limits};
+ghost use Rattle.machine_types.specs.Config.{is_within_limits};
 ghost use Rattle.machine_model.specs.Views.{node_at};
 
 use crate::spare::lowest_spare;
@@ -11,7 +11,7 @@ use coherent_machine::Views;
 use elf_loader::Image;
 use hart::Hart;
 use locked_fabric::Turn;
-use machine_model::{Config, Event, Outcome};
+use machine_types::{Config, Event, Outcome};
 use rv32_decode::decode;
 use rv32_exec::{Action, plan};
 use std::marker::Model;
@@ -55,7 +55,7 @@ pub struct Rounds<'a> {
 impl<'a> Model for Rounds<'a> {
     ghost use Rattle.std.specs.Prelude.{◌<◌, IsTrue};
     ghost use Rattle.host_threads.specs.Route.{Route};
-    ghost use Rattle.machine_model.specs.Config.{is_within_limits};
+    ghost use Rattle.machine_types.specs.Config.{is_within_limits};
 
     ghost Value = { Route };
 

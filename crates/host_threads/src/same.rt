@@ -5,7 +5,7 @@ ghost use Rattle.elf_loader.specs.Image.{IsImage};
 
 use coherent_machine::Machine;
 use elf_loader::Image;
-use machine_model::Config;
+use machine_types::Config;
 
 fn is_same_image(one: &Image, other: &Image) -> bool
     ensures same { IsTrue result ↔ (one.now ≡ other.now) }

@@ -3,11 +3,11 @@
 ghost use Rattle.std.specs.Prelude.{◌≡◌, ◌↔◌, IfSome, IsTrue};
 ghost use Rattle.elf_loader.specs.Size.{IsMemorySize};
 ghost use Rattle.host_threads.specs.Due.{IsLowestSpare, IsSpare, set_at};
-ghost use Rattle.machine_model.specs.Config as limits;
+ghost use Rattle.machine_types.specs.Config as limits;
 
 use client_cache::ClientCache;
 use elf_loader::BASE;
-use machine_model::Config;
+use machine_types::Config;
 
 /// Whether the line is held, and no Acquire of it is outstanding.
 fn is_spare(cache: &ClientCache, line: u32) -> bool

@@ -4,14 +4,14 @@ ghost use Rattle.std.specs.Prelude.{◌≡◌, ◌<◌, ◌↔◌, IfSome, IsSom
 ghost use Rattle.elf_loader.specs.Size.{IsMemorySize};
 ghost use Rattle.hart.specs.Local.{can_go_alone, is_done_alone};
 ghost use Rattle.locked_fabric.specs.Port.{seen_in};
-ghost use Rattle.machine_model.specs.declared.event.Event.TheVariants as TheEvents;
+ghost use Rattle.machine_types.specs.declared.event.Event.TheVariants as TheEvents;
 ghost use Rattle.machine_model.specs.Views.{node_at};
 
 use coherent_machine::{Machine, Views};
 use elf_loader::Image;
 use hart::{Hart, Status};
 use locked_fabric::{Turn, Visit};
-use machine_model::{Event, Outcome};
+use machine_types::{Event, Outcome};
 use rv32_decode::{Instr, decode};
 use rv32_exec::{Action, plan};
 

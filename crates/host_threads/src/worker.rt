@@ -14,7 +14,7 @@ use crossbeam_utils::Backoff;
 use elf_loader::Image;
 use hart::{Batch, Hart, run_local};
 use locked_fabric::{Numbers, Port, Share, Taken, Turn};
-use machine_model::{Config, Event, Outcome};
+use machine_types::{Config, Event, Outcome};
 use progress_board::Board;
 use std::alloc::{AllocError, Global};
 use std::sync::Wait;

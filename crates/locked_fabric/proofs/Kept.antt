@@ -1,8 +1,8 @@
 -- What each fabric keeps stays kept, whether its machine stays or moves by an event.
 use Rattle.std.proofs.Common.{◌≡◌, ◌∙◌, refl, sym, ap, subst, ℕ, ◌+◌, List, [], ◌∷◌, ◌++◌}
 use Rattle.std.proofs.lemmas.List.{length-append}
-use Rattle.machine_model.specs.declared.event.Event.{Event}
-use Rattle.machine_model.specs.declared.outcome.Outcome.{Outcome}
+use Rattle.machine_types.specs.declared.event.Event.{Event}
+use Rattle.machine_types.specs.declared.outcome.Outcome.{Outcome}
 use Rattle.machine_model.specs.Events.{Verdict, verdict, after_events, happens, state_by}
 use Rattle.machine_model.specs.Events.Verdict.{Moves}
 use Rattle.machine_model.specs.LawfulLog.{IsLawfulLog}

@@ -1,7 +1,7 @@
 -- What a turn that is taken under one lock does to the fabric, and to a worker's seat and share.
 use Rattle.std.specs.Prelude.{◌≡◌, ◌+◌, ◌⊎◌, ◌^◌, ◌<◌, ◌≤◌, ℕ, [], ◌∷◌, ◌++◌, length, Option, Some, None}
 use Rattle.std.specs.List.{All}
-use Rattle.machine_model.specs.declared.event.Event.{Event}
+use Rattle.machine_types.specs.declared.event.Event.{Event}
 use Rattle.machine_model.specs.Views.{State}
 use Rattle.progress_board.specs.declared.view.View.{View}
 use Rattle.locked_fabric.specs.declared.taken.Taken.{Taken}

@@ -11,7 +11,7 @@ use crate::taken::Taken;
 use crate::turn::{Turn, Visit};
 use coherent_machine::{AdoptError, ApplyError};
 use hart::{Batch, Hart, Status};
-use machine_model::{Event, Outcome};
+use machine_types::{Event, Outcome};
 use progress_board::Seat;
 use std::sync::ledger::Ledger;
 use std::sync::{Mutex, Wait};

@@ -1,7 +1,7 @@
 //! What a turn comes to.
 
 use coherent_machine::ApplyError;
-use machine_model::{Event, Outcome};
+use machine_types::{Event, Outcome};
 
 /// What a worker's turn came to while it held the lock.
 #[derive(Clone, Copy, Debug, PartialEq, Eq)]

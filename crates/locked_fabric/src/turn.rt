@@ -1,12 +1,12 @@
 //! What a worker asks for its next event.
 
 ghost use Rattle.std.specs.Prelude.{Option, ⊤};
-ghost use Rattle.machine_model.specs.declared.event.Event.{Event};
-ghost use Rattle.machine_model.specs.declared.outcome.Outcome.{Outcome};
+ghost use Rattle.machine_types.specs.declared.event.Event.{Event};
+ghost use Rattle.machine_types.specs.declared.outcome.Outcome.{Outcome};
 ghost use Rattle.machine_model.specs.Views.{State};
 
 use coherent_machine::{Machine, Views};
-use machine_model::{Event, Outcome};
+use machine_types::{Event, Outcome};
 
 /// Picks events for a worker. Whatever it picks, a fabric stays what its journal leads to.
 pub trait Turn {

@@ -22,8 +22,8 @@ use Rattle.machine_model.specs.declared.act.Deed.{Deed}
 use Rattle.machine_model.specs.declared.act.Deed.TheVariants as deed
 use Rattle.machine_model.specs.declared.act.Plan.{Plan}
 use Rattle.machine_model.specs.declared.act.Plan.TheVariants as plan
-use Rattle.machine_model.specs.declared.event.Event.{Event}
-use Rattle.machine_model.specs.declared.outcome.Outcome.{Outcome}
+use Rattle.machine_types.specs.declared.event.Event.{Event}
+use Rattle.machine_types.specs.declared.outcome.Outcome.{Outcome}
 use Rattle.machine_model.specs.Changing.{acted, does, outcome_of, performs_own, place_at, performs, with_halt, with_entries, retired, sent_if_evicted}
 use Rattle.machine_model.specs.Deliveries.{handled, taken, sent_probes, sent_any, sent_if_handled, sent_if_granted, sent_if_answered, with_memory, with_notes, with_less, on_probe_ack}
 use Rattle.machine_model.specs.Events.{Verdict, counted, verdict, verdict_by, state_by, happens, is_good, is_limited, plan_of, hart_of}

@@ -12,8 +12,8 @@ use Rattle.machine_model.specs.declared.act.Act.{Act}
 use Rattle.machine_model.specs.declared.act.Act.TheVariants as act
 use Rattle.machine_model.specs.declared.act.Deed.{Deed}
 use Rattle.machine_model.specs.declared.act.Deed.TheVariants as deed
-use Rattle.machine_model.specs.declared.outcome.Outcome.{Outcome}
-use Rattle.machine_model.specs.declared.outcome.Outcome.TheVariants as outcome
+use Rattle.machine_types.specs.declared.outcome.Outcome.{Outcome}
+use Rattle.machine_types.specs.declared.outcome.Outcome.TheVariants as outcome
 use Rattle.machine_model.specs.Deliveries.{delivered, with_less}
 use Rattle.machine_model.specs.Views.{State, line_of, node_at, with_node, with_trace, sent}
 use Rattle.machine_model.specs.Words.{bytes_of_word}

@@ -14,7 +14,7 @@ use Rattle.directory.specs.declared.answer.Sent.TheVariants.{Probes, Granting as
 use Rattle.machine_model.specs.declared.act.Act.TheVariants as act
 use Rattle.machine_model.specs.declared.act.Plan.{Plan}
 use Rattle.machine_model.specs.declared.act.Plan.TheVariants.{Stays, Changes}
-use Rattle.machine_model.specs.declared.outcome.Outcome.TheVariants as outcome
+use Rattle.machine_types.specs.declared.outcome.Outcome.TheVariants as outcome
 use Rattle.machine_model.specs.Views.{Node, State, line_size, place_of, node_at, with_node, with_trace, sent}
 use Rattle.reservations.specs.Reservation.{without_line}
 use Rattle.tilelink_channels.specs.Queues.{front_of, popped, queue_of, room_of}

@@ -5,13 +5,13 @@ use Rattle.std.specs.FinSet as set
 use Rattle.client_cache.specs.Cache.{Cache, copy_at}
 use Rattle.client_cache.specs.Held.{perm_of}
 use Rattle.elf_loader.specs.Image.{Initial, IsImage}
-use Rattle.machine_model.specs.declared.config.Config.{Config}
-use Rattle.machine_model.specs.declared.event.Event.{Event}
-use Rattle.machine_model.specs.declared.event.Event.TheVariants as event
-use Rattle.machine_model.specs.declared.outcome.Outcome.{Outcome}
-use Rattle.machine_model.specs.declared.outcome.Outcome.TheVariants as outcome
+use Rattle.machine_types.specs.declared.config.Config.{Config}
+use Rattle.machine_types.specs.declared.event.Event.{Event}
+use Rattle.machine_types.specs.declared.event.Event.TheVariants as event
+use Rattle.machine_types.specs.declared.outcome.Outcome.{Outcome}
+use Rattle.machine_types.specs.declared.outcome.Outcome.TheVariants as outcome
 use Rattle.machine_model.specs.Coherent.{IsCoherent, perm_at}
-use Rattle.machine_model.specs.Config.{is_within_limits}
+use Rattle.machine_types.specs.Config.{is_within_limits}
 use Rattle.machine_model.specs.Changing.{stopped}
 use Rattle.machine_model.specs.Events.{Verdict, after_events, counted, happens, verdict}
 use Rattle.machine_model.specs.LawfulLog.{IsBeginningOf, IsLawfulLog, is_grant}

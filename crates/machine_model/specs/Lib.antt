@@ -1,4 +1,3 @@
-pub mod Config
 pub mod Views
 pub mod Words
 pub mod Deciding

@@ -9,11 +9,11 @@ use Rattle.machine_model.specs.declared.act.Act.TheVariants as act
 use Rattle.machine_model.specs.declared.act.Deed.{Deed}
 use Rattle.machine_model.specs.declared.act.Deed.TheVariants as deed
 use Rattle.machine_model.specs.declared.act.Plan.TheVariants.{Changes}
-use Rattle.machine_model.specs.declared.config.Config.{Config}
-use Rattle.machine_model.specs.declared.event.Event.{Event}
+use Rattle.machine_types.specs.declared.config.Config.{Config}
+use Rattle.machine_types.specs.declared.event.Event.{Event}
 use Rattle.machine_model.specs.Changing.{acted}
 use Rattle.machine_model.specs.Coherent.{perm_at}
-use Rattle.machine_model.specs.Config.{is_within_limits}
+use Rattle.machine_types.specs.Config.{is_within_limits}
 use Rattle.machine_model.specs.Events.{hart_of, is_good, is_limited, is_piece, most_changes, most_entries, plan_of}
 use Rattle.machine_model.specs.Laws.{Always, QueuesFit}
 use Rattle.machine_model.specs.Views.{State, line_of, line_size, node_at}

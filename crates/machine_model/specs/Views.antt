@@ -10,7 +10,7 @@ use Rattle.elf_loader.specs.Image.{Initial}
 use Rattle.elf_loader.specs.Size.{base}
 use Rattle.hart.specs.declared.state.Hart.{Hart}
 use Rattle.hart.specs.Run.{at_reset}
-use Rattle.machine_model.specs.declared.config.Config.{Config}
+use Rattle.machine_types.specs.declared.config.Config.{Config}
 use Rattle.store_buffer.specs.Groups.{Groups, no_groups}
 use Rattle.tilelink_channels.specs.Queues.{Waiting, none_waiting, pushed}
 use Rattle.tl_types.specs.Line.{length_of}

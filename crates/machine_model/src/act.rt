@@ -1,7 +1,7 @@
 //! What an event changes, once it is decided on.
 
-use crate::outcome::Outcome;
 use hart::Retired;
+use machine_types::Outcome;
 use rv32_decode::Instr;
 use store_buffer::Store;
 use tl_types::{Grow, Msg};

@@ -1,22 +1,17 @@
-//! What a machine is made of, what happens to it, and what comes of it.
+//! What every event means to a machine, and what holds after every list of events.
 #![tactic(auto)]
 
 mod act;
-mod config;
-mod event;
 mod headline_laws;
 mod joint_laws;
 mod laws;
 mod log_laws;
 mod order_laws;
-mod outcome;
 mod range_laws;
 mod ready_laws;
 mod room_laws;
 
 pub use act::{Act, Deed, Plan};
-pub use config::Config;
-pub use event::Event;
 pub use headline_laws::{atomicity_always, headline, legal_always};
 pub use joint_laws::{coherent_always, load_values_always};
 pub use laws::{
@@ -26,7 +21,6 @@ pub use laws::{
 pub use log_laws::{log_lawful_always, sums_agree};
 pub use memory_model::MemoryModel;
 pub use order_laws::{order_always, preserved_always};
-pub use outcome::Outcome;
 pub use range_laws::in_range_always;
 pub use ready_laws::{ready_always, sound_always};
 pub use room_laws::room_always;

@@ -14,9 +14,9 @@ use Rattle.hart.specs.Run.{can_fetch, is_running}
 use Rattle.machine_model.specs.declared.act.Act.TheVariants as act
 use Rattle.machine_model.specs.declared.act.Plan.{Plan}
 use Rattle.machine_model.specs.declared.act.Plan.TheVariants.{Stays, Changes}
-use Rattle.machine_model.specs.declared.event.Event.TheVariants.{Local}
-use Rattle.machine_model.specs.declared.outcome.Outcome.{Outcome}
-use Rattle.machine_model.specs.declared.outcome.Outcome.TheVariants as outcome
+use Rattle.machine_types.specs.declared.event.Event.TheVariants.{Local}
+use Rattle.machine_types.specs.declared.outcome.Outcome.{Outcome}
+use Rattle.machine_types.specs.declared.outcome.Outcome.TheVariants as outcome
 use Rattle.machine_model.specs.Changing.{went_alone}
 use Rattle.machine_model.specs.Events.{Verdict, counted, is_good, is_limited, plan_of, verdict, verdict_by}
 use Rattle.machine_model.specs.Events.Verdict.{IsBad, IsLimited, Moves}

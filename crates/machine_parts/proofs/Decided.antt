@@ -7,10 +7,10 @@ use Rattle.std.specs.Result.{IsErrAnd}
 use Rattle.machine_model.specs.declared.act.Act.{Act}
 use Rattle.machine_model.specs.declared.act.Plan.{Plan}
 use Rattle.machine_model.specs.declared.act.Plan.TheVariants.{Stays, Changes}
-use Rattle.machine_model.specs.declared.event.Event.{Event}
-use Rattle.machine_model.specs.declared.outcome.Outcome.{Outcome}
+use Rattle.machine_types.specs.declared.event.Event.{Event}
+use Rattle.machine_types.specs.declared.outcome.Outcome.{Outcome}
 use Rattle.machine_model.specs.declared.act.Act.TheVariants as act
-use Rattle.machine_model.specs.declared.outcome.Outcome.TheVariants.{Stopped}
+use Rattle.machine_types.specs.declared.outcome.Outcome.TheVariants.{Stopped}
 use Rattle.machine_model.specs.Changing.{acted, outcome_by, outcome_of, place_at}
 use Rattle.machine_model.specs.Events.{Verdict, counted, entries_by, hart_of, is_good, is_limited, most_changes, most_entries, plan_of, verdict, verdict_by}
 use Rattle.machine_model.specs.Events.Verdict.{IsBad, Keeps, IsLimited, Moves}

@@ -11,7 +11,8 @@ use crate::limits::{is_limited, outcome_of, reserve};
 use crate::parts::Parts;
 use crate::perform::perform;
 use crate::plan::hart_of;
-use machine_model::{Act, Event, Outcome, Plan};
+use machine_model::{Act, Plan};
+use machine_types::{Event, Outcome};
 use std::alloc::AllocError;
 
 impl Parts {

@@ -14,7 +14,8 @@ ghost use Rattle.store_buffer.specs.Groups.{drainable, oldest};
 
 use crate::parts::Parts;
 use hart::Status;
-use machine_model::{Act, Outcome};
+use machine_model::Act;
+use machine_types::Outcome;
 use std::alloc::AllocError;
 use trace_recorder::MAX_ENTRIES;
 

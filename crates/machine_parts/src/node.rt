@@ -2,14 +2,14 @@
 
 ghost use Rattle.std.specs.Prelude.{◌≡◌, IfOk, IsTrue};
 ghost use Rattle.client_cache.specs.Held.{perm_of};
-ghost use Rattle.machine_model.specs.Config.{is_within_limits};
+ghost use Rattle.machine_types.specs.Config.{is_within_limits};
 ghost use Rattle.machine_model.specs.Deliveries.{is_trunk, kept_reservation};
 ghost use Rattle.machine_model.specs.Views.{opening_node, size_of_config};
 
 use client_cache::ClientCache;
 use elf_loader::Image;
 use hart::Hart;
-use machine_model::Config;
+use machine_types::Config;
 use reservations::Reservation;
 use std::alloc::{AllocError, Global};
 use std::marker::Model;

@@ -22,7 +22,8 @@ use drain::plan_drain;
 use elf_loader::{BASE, Image};
 use evict::plan_evict;
 use local::plan_local;
-use machine_model::{Event, Plan};
+use machine_model::Plan;
+use machine_types::Event;
 use step::plan_step;
 
 /// The hart that an event names.

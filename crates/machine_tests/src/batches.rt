@@ -2,7 +2,8 @@
 use coherent_machine::{AdoptError, ApplyError, Machine};
 use elf_loader::{Image, raw, size_of_kib};
 use hart::{Batch, run_local};
-use machine_model::{Config, Event, MemoryModel, Outcome};
+use machine_model::MemoryModel;
+use machine_types::{Config, Event, Outcome};
 use std::alloc::Global;
 use std::test::Fail;
 

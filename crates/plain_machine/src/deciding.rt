@@ -4,7 +4,7 @@
 use crate::buffer::Store;
 use crate::cache::{Cache, Held, Want};
 use hart::Retired;
-use machine_model::Outcome;
+use machine_types::Outcome;
 use rv32_decode::Instr;
 use tl_types::{Grow, LineData, Msg};
 

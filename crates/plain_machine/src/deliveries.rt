@@ -4,7 +4,7 @@ use crate::cache::Probed;
 use crate::deciding::{Act, Plan};
 use crate::notes::{Acquired, Granting, Notes, Transaction};
 use crate::state::{Node, PlainMachine};
-use machine_model::Outcome;
+use machine_types::Outcome;
 use std::alloc::AllocError;
 use tl_types::{Body, Cap, Change, Channel, Grow, LineData, Msg, Perm};
 

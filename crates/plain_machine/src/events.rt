@@ -7,7 +7,7 @@ use crate::state::{Node, PlainMachine};
 use crate::steps::{next_alone, plan_step};
 use crate::words::{line_of, word_of};
 use elf_loader::BASE;
-use machine_model::{Config, Event, Outcome};
+use machine_types::{Config, Event, Outcome};
 use std::alloc::AllocError;
 
 /// Events that may change a machine.

@@ -7,7 +7,7 @@ use crate::notes::Notes;
 use crate::queues::Waiting;
 use elf_loader::{BASE, Image};
 use hart::{Hart, Retired};
-use machine_model::Config;
+use machine_types::Config;
 use std::alloc::{AllocError, Global};
 use tl_types::{LineData, LineSize, Msg};
 use trace_recorder::{Direction, Logged, OpId, Trace, are_within_limits};

@@ -10,7 +10,8 @@ use amo_unit::combine;
 use bitflags::Flags;
 use elf_loader::Image;
 use hart::{Hart, Retired, Status};
-use machine_model::{MemoryModel, Outcome};
+use machine_model::MemoryModel;
+use machine_types::Outcome;
 use rv32_decode::{AmoOp, FenceSet, Instr, Register, SystemOp, decode};
 use rv32_exec::{Action, Regs, Width, finish, plan, stop};
 

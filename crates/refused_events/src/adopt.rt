@@ -7,7 +7,7 @@ use crate::shown::shown;
 use anyhow::{Context, Result, ensure};
 use coherent_machine::{AdoptError, Machine};
 use hart::{Batch, run_local};
-use machine_model::{Event, Outcome};
+use machine_types::{Event, Outcome};
 use std::alloc::{AllocError, Global};
 
 /// The most instructions of one batch.

@@ -3,7 +3,8 @@
 use crate::again::again;
 use anyhow::{Context, Result, bail};
 use elf_loader::{Image, raw, size_of_kib};
-use machine_model::{Config, Event, MemoryModel};
+use machine_model::MemoryModel;
+use machine_types::{Config, Event};
 use std::alloc::Global;
 use std::rt::Files;
 use std::{fs, io};

@@ -9,7 +9,7 @@ use anyhow::{Result, ensure};
 use coherent_machine::{AdoptError, ApplyError, Machine, NewError};
 use hart::Batch;
 use locked_fabric::{Fabric, Share};
-use machine_model::{Config, Event, Outcome};
+use machine_types::{Config, Event, Outcome};
 use std::alloc::Global;
 use std::io::{self, Write};
 use std::sync::ledger::{Blank, Ledger};

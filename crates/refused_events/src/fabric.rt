@@ -13,7 +13,7 @@ use crate::play::is_as_kept;
 use anyhow::{Result, ensure};
 use coherent_machine::AdoptError;
 use hart::Batch;
-use machine_model::{Config, Event, Outcome};
+use machine_types::{Config, Event, Outcome};
 use std::marker::Brand;
 use std::sync::ledger::{Blank, Ledger};
 

@@ -6,7 +6,7 @@ use crate::ends::compare_ends;
 use crate::shown::shown;
 use anyhow::{Result, bail, ensure};
 use coherent_machine::{ApplyError, Machine, NewError, ReplayError, replay};
-use machine_model::{Event, Outcome};
+use machine_types::{Event, Outcome};
 use std::alloc::Global;
 
 /// A machine at reset.

@@ -3,7 +3,7 @@
 ghost use Rattle.std.specs.Prelude.{◌≡◌, ◌↔◌, Err, IfErr, IfOk, false};
 ghost use Rattle.coherent_machine.specs.declared.errors.NewError.TheVariants as making;
 ghost use Rattle.coherent_machine.specs.declared.errors.ReplayError.TheVariants as refusal;
-ghost use Rattle.machine_model.specs.Config.{is_within_limits};
+ghost use Rattle.machine_types.specs.Config.{is_within_limits};
 ghost use Rattle.command_files.specs.Composition.{IsComposition};
 ghost use Rattle.replay_command.specs.Unfinished.{IsTraceUnfinished};
 ghost use Rattle.command_files.specs.Sizes.{config_of};
@@ -12,9 +12,10 @@ use coherent_machine::{Machine, ReplayError, replay};
 use command_files::config_of;
 use elf_loader::Image;
 use machine_model::MemoryModel;
+use machine_traces::every_trace_has_a_text;
 use std::alloc::Global;
 use std::io::{self, Write};
-use trace_text::{Script, every_trace_has_a_text, write_trace};
+use trace_text::{Script, write_trace};
 
 /// Why a replay is not printed.
 #[derive(Debug, Drop)]

@@ -6,9 +6,9 @@ use Rattle.chart_rows.specs.declared.rows.Note.{Note}
 use Rattle.chart_rows.specs.declared.rows.Noted.{Noted}
 use Rattle.coherent_machine.specs.Machine.{Replayed, replayed_from}
 use Rattle.elf_loader.specs.Image.{Initial}
-use Rattle.machine_model.specs.declared.config.Config.{Config}
-use Rattle.machine_model.specs.declared.event.Event.{Event}
-use Rattle.machine_model.specs.declared.outcome.Outcome.{Outcome}
+use Rattle.machine_types.specs.declared.config.Config.{Config}
+use Rattle.machine_types.specs.declared.event.Event.{Event}
+use Rattle.machine_types.specs.declared.outcome.Outcome.{Outcome}
 use Rattle.machine_model.specs.Events.{Verdict, happens, verdict}
 use Rattle.machine_model.specs.Events.Verdict.{IsBad, Keeps, IsLimited, Moves}
 use Rattle.machine_model.specs.Views.{State, opening}

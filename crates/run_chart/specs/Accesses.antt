@@ -5,8 +5,8 @@ use Rattle.event_stream.specs.Closing.{accessed_by}
 use Rattle.hart.specs.Run.{can_fetch}
 use Rattle.hart.specs.declared.state.Hart.{Hart}
 use Rattle.machine_model.specs.Views.{State, node_at}
-use Rattle.machine_model.specs.declared.event.Event.{Event}
-use Rattle.machine_model.specs.declared.event.Event.TheVariants.{Step, Drain, Evict, Deliver, Local}
+use Rattle.machine_types.specs.declared.event.Event.{Event}
+use Rattle.machine_types.specs.declared.event.Event.TheVariants.{Step, Drain, Evict, Deliver, Local}
 use Rattle.rv32_decode.specs.Rows.{decoded}
 
 -- what a hart's next instruction reads or writes

@@ -5,8 +5,8 @@ use Rattle.chart_rows.specs.declared.rows.Note.{Note}
 use Rattle.chart_rows.specs.declared.rows.Note.TheVariants as note
 use Rattle.event_stream.specs.Reports.{Report}
 use Rattle.hart.specs.declared.retired.Retired.{Retired}
-use Rattle.machine_model.specs.declared.outcome.Outcome.{Outcome}
-use Rattle.machine_model.specs.declared.outcome.Outcome.TheVariants.{Exited, Stopped}
+use Rattle.machine_types.specs.declared.outcome.Outcome.{Outcome}
+use Rattle.machine_types.specs.declared.outcome.Outcome.TheVariants.{Exited, Stopped}
 use Rattle.trace_recorder.specs.History.{History, entries_of}
 use Rattle.trace_recorder.specs.declared.operation.OpId.{OpId}
 

@@ -4,8 +4,8 @@ use Rattle.coherent_machine.specs.Machine.{IsFirstRefusal, Replayed, replayed_fr
 use Rattle.elf_loader.specs.Image.{Initial}
 use Rattle.machine_model.specs.Events.{happens}
 use Rattle.machine_model.specs.Views.{State, opening}
-use Rattle.machine_model.specs.declared.config.Config.{Config}
-use Rattle.machine_model.specs.declared.event.Event.{Event}
+use Rattle.machine_types.specs.declared.config.Config.{Config}
+use Rattle.machine_types.specs.declared.event.Event.{Event}
 use Rattle.chart_rows.specs.declared.rows.Story.{Story}
 use Rattle.tl_types.specs.Line.{length_of}
 use Rattle.run_chart.specs.declared.errors.ChartError.{ChartError}

@@ -5,7 +5,7 @@ ghost use Rattle.run_chart.specs.Accesses as accesses;
 use coherent_machine::Machine;
 use elf_loader::Image;
 use hart::{Hart, can_fetch};
-use machine_model::Event;
+use machine_types::Event;
 use rv32_decode::decode;
 use rv32_exec::plan;
 

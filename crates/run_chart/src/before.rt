@@ -5,7 +5,7 @@ ghost use Rattle.run_chart.specs.Rows as rows;
 use crate::accesses::address_at;
 use coherent_machine::{Machine, Views};
 use event_stream::{Lengths, hart_of};
-use machine_model::Event;
+use machine_types::Event;
 
 /// How long the lists are, the word that the event's hart has reserved, and the address that the event is
 /// about.

@@ -2,7 +2,7 @@
 ghost use Rattle.std.specs.Prelude.{◌≡◌, ◌↔◌, ◌<◌, ◌≤◌, ◌++◌, ◌∷◌, [], Err, IfErr, IfOk, OnOk, false, length, map};
 ghost use Rattle.coherent_machine.specs.declared.errors.NewError.TheVariants as making;
 ghost use Rattle.coherent_machine.specs.declared.errors.ReplayError.TheVariants as replaying;
-ghost use Rattle.machine_model.specs.Config.{is_within_limits};
+ghost use Rattle.machine_types.specs.Config.{is_within_limits};
 ghost use Rattle.machine_model.specs.Events.{happens};
 ghost use Rattle.machine_model.specs.Views.{opening};
 ghost use Rattle.run_chart.specs.Accesses.{line_around};
@@ -19,7 +19,8 @@ use chart_rows::{Row, Story};
 use coherent_machine::{Machine, replay};
 use elf_loader::Image;
 use event_stream::Report;
-use machine_model::{Config, Event, changes_are_counted};
+use machine_model::changes_are_counted;
+use machine_types::{Config, Event};
 use std::alloc::{AllocError, Global};
 
 /// The rows so far, and the line of text on which the next one begins.

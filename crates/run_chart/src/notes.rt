@@ -9,7 +9,7 @@ ghost use Rattle.trace_recorder.specs.History.{entries_of};
 use chart_rows::Note;
 use event_stream::Report;
 use hart::Retired;
-use machine_model::Outcome;
+use machine_types::Outcome;
 use std::alloc::{AllocError, Global};
 use trace_recorder::{OpId, Trace};
 

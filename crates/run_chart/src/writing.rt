@@ -2,14 +2,14 @@
 ghost use Rattle.std.specs.Prelude.{◌≡◌, ◌↔◌, Err, IfErr, OnOk, false};
 ghost use Rattle.coherent_machine.specs.declared.errors.NewError.TheVariants as making;
 ghost use Rattle.coherent_machine.specs.declared.errors.ReplayError.TheVariants as replaying;
-ghost use Rattle.machine_model.specs.Config.{is_within_limits};
+ghost use Rattle.machine_types.specs.Config.{is_within_limits};
 ghost use Rattle.run_chart.specs.Charts.{IsDrawn, IsUndrawn};
 
 use crate::errors::ChartError;
 use crate::gathering::gather;
 use chart_rows::draw;
 use elf_loader::Image;
-use machine_model::{Config, Event};
+use machine_types::{Config, Event};
 use std::alloc::Global;
 use std::io::Write;
 use text_fields::put;

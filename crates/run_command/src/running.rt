@@ -16,6 +16,7 @@ ghost use Rattle.trace_text.specs.Traces.{text as trace_text};
 use command_files::{Fault, Files, image_in, named_config, print_ends, script_of, unmade};
 use command_settings::Run;
 use host_threads::{Gate, Report, RunError, run};
+use machine_traces::every_trace_has_a_text;
 use progress_line::{Progress, Stage};
 use std::alloc::Global;
 use std::io::Write;
@@ -23,7 +24,7 @@ use std::sync::Wait;
 use std::sync::atomic::{AtomicU64, Ordering};
 use std::thread::Threads;
 use trace_recorder::Trace;
-use trace_text::{Script, every_trace_has_a_text, write_script, write_trace};
+use trace_text::{Script, write_script, write_trace};
 
 /// How many turns a worker takes before it tells how far the run is.
 const TURNS: u64 = 256;

@@ -12,7 +12,7 @@ use Rattle.explore_command.specs.Keeping.{AreKeptFrom, IsInNamed, IsOutcomeScrip
 use Rattle.explore_command.specs.declared.judging.Judgement.{Judgement}
 use Rattle.explore_command.specs.declared.judging.Judgement.TheVariants.{Allowed}
 use Rattle.explorer.specs.Ends.{outcomes_of}
-use Rattle.machine_model.specs.declared.config.Config.{Config}
+use Rattle.machine_types.specs.declared.config.Config.{Config}
 use Rattle.sampler.specs.Sampled as ends
 use Rattle.sampler.specs.declared.sampled.Sampled.{Sampled}
 use Rattle.text_fields.specs.Writing.{Begins}

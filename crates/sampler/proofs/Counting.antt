@@ -11,8 +11,8 @@ use Rattle.explorer.specs.Ends.{outcome_of}
 use Rattle.explorer.specs.Orders.{same_outcome}
 use Rattle.explorer.specs.Ranks.{outcome_cmp}
 use Rattle.flat_model.specs.Shown.{Result, results}
-use Rattle.machine_model.specs.declared.config.Config.{Config}
-use Rattle.machine_model.specs.declared.event.Event.{Event}
+use Rattle.machine_types.specs.declared.config.Config.{Config}
+use Rattle.machine_types.specs.declared.event.Event.{Event}
 use Rattle.sampler.specs.Sampled.{AreCounted, IsRealEnd, LeadsToEnd, ends_led, have_ended, is_outcome_of, numbered, times_of}
 use Rattle.schedules.specs.Schedules.{Replays, led}
 

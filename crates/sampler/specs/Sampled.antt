@@ -12,8 +12,8 @@ use Rattle.explorer.specs.Ends.{BringsAbout, outcome_of}
 use Rattle.explorer.specs.Ranks.{outcome_cmp}
 use Rattle.flat_model.specs.Shown.{Result, results}
 use Rattle.hart.specs.Run.{is_running}
-use Rattle.machine_model.specs.declared.config.Config.{Config}
-use Rattle.machine_model.specs.declared.event.Event.{Event}
+use Rattle.machine_types.specs.declared.config.Config.{Config}
+use Rattle.machine_types.specs.declared.event.Event.{Event}
 use Rattle.sampler.specs.declared.sampled.Sampled.{Sampled}
 use Rattle.sampler.specs.declared.tally.Tally.{Tally}
 use Rattle.schedules.specs.Schedules.{Replays, led}

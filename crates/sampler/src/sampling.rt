@@ -2,7 +2,7 @@
 
 ghost use Rattle.std.specs.Prelude.{◌≡◌, ◌≤◌, IfOk, IsTrue};
 ghost use Rattle.flat_model.specs.Shown.{results, told};
-ghost use Rattle.machine_model.specs.Config.{is_within_limits};
+ghost use Rattle.machine_types.specs.Config.{is_within_limits};
 ghost use Rattle.sampler.specs.Sampled.{IsSampled, IsTally};
 ghost use Rattle.schedules.specs.Schedules.{Replays, led};
 
@@ -10,7 +10,7 @@ use crate::sampled::Sampled;
 use crate::tally::Tally;
 use coherent_machine::NewError;
 use elf_loader::Image;
-use machine_model::Config;
+use machine_types::Config;
 use rand_core::{Rng, SeedableRng};
 use rand_xoshiro::SplitMix64;
 use schedules::{Schedule, sample};

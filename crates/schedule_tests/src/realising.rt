@@ -3,7 +3,8 @@
 use elf_loader::{Image, raw, size_of_kib};
 use flat_model::{FlatEvent, HartResult};
 use hart::Status;
-use machine_model::{Config, Event, MemoryModel};
+use machine_model::MemoryModel;
+use machine_types::{Config, Event};
 use schedules::{RealiseError, Schedule, realise, sample, shorten};
 use std::alloc::Global;
 use std::test::Fail;

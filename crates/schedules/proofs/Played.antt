@@ -4,10 +4,10 @@ use Rattle.elf_loader.specs.Image.{Initial}
 use Rattle.flat_model.specs.declared.results.HartResult.{HartResult}
 use Rattle.flat_model.specs.Shown.{results, told}
 use Rattle.coherent_machine.specs.Machine.{Replayed, replayed_from, unless_refused}
-use Rattle.machine_model.specs.declared.config.Config.{Config}
-use Rattle.machine_model.specs.declared.event.Event.{Event}
-use Rattle.machine_model.specs.declared.outcome.Outcome.{Outcome}
-use Rattle.machine_model.specs.Config.{is_within_limits}
+use Rattle.machine_types.specs.declared.config.Config.{Config}
+use Rattle.machine_types.specs.declared.event.Event.{Event}
+use Rattle.machine_types.specs.declared.outcome.Outcome.{Outcome}
+use Rattle.machine_types.specs.Config.{is_within_limits}
 use Rattle.machine_model.specs.Events.{Verdict, after_events, happens, state_by, verdict}
 use Rattle.machine_model.specs.Events.Verdict.{IsBad, Keeps, IsLimited, Moves}
 use Rattle.machine_model.specs.Laws.{ChangesAreCounted, KeepsImageAndConfig}

@@ -1,7 +1,7 @@
 -- Lists that leave out elements of lists.
 use Rattle.std.proofs.Common.{inl, inr, refl, sym, ap, subst, ℕ, ◌+◌, ◌<◌, List, [], ◌∷◌, ◌++◌, length, take, get_or}
 use Rattle.std.proofs.lemmas.List.{append-nil, take_more}
-use Rattle.machine_model.specs.declared.event.Event.{Event}
+use Rattle.machine_types.specs.declared.event.Event.{Event}
 use Rattle.schedules.specs.Schedules.{MayAdd}
 use Rattle.schedules.specs.Sublists.{IsSublist}
 

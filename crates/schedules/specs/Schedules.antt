@@ -4,9 +4,9 @@ use Rattle.elf_loader.specs.Image.{Initial}
 use Rattle.coherent_machine.specs.Machine.{Replayed, replayed_from}
 use Rattle.flat_model.specs.declared.results.HartResult.{HartResult}
 use Rattle.flat_model.specs.Shown.{results, told}
-use Rattle.machine_model.specs.declared.config.Config.{Config}
-use Rattle.machine_model.specs.declared.event.Event.{Event}
-use Rattle.machine_model.specs.Config.{is_within_limits}
+use Rattle.machine_types.specs.declared.config.Config.{Config}
+use Rattle.machine_types.specs.declared.event.Event.{Event}
+use Rattle.machine_types.specs.Config.{is_within_limits}
 use Rattle.machine_model.specs.Events.{after_events}
 use Rattle.machine_model.specs.Views.{State, opening}
 

@@ -2,7 +2,7 @@
 
 ghost use Rattle.std.specs.Prelude.{◌≡◌, ◌↔◌, [], Err, IfOk, IsTrue, false};
 ghost use Rattle.flat_model.specs.Shown.{results, told};
-ghost use Rattle.machine_model.specs.Config.{is_within_limits};
+ghost use Rattle.machine_types.specs.Config.{is_within_limits};
 ghost use Rattle.machine_model.specs.Events.{after_events};
 ghost use Rattle.machine_model.specs.Views.{opening};
 ghost use Rattle.coherent_machine.specs.Machine.{Replayed, replayed_from};
@@ -13,7 +13,8 @@ use crate::results::results_of;
 use crate::schedule::Schedule;
 use coherent_machine::{ApplyError, Machine, NewError, Views};
 use elf_loader::Image;
-use machine_model::{Config, Event, Outcome, changes_are_counted};
+use machine_model::changes_are_counted;
+use machine_types::{Config, Event, Outcome};
 use std::alloc::{AllocError, Global};
 use std::marker::Model;
 

@@ -8,7 +8,7 @@ use crate::player::{MOST_HARTS, Player};
 use coherent_machine::Views;
 use elf_loader::Image;
 use hart::{Hart, run_local};
-use machine_model::{Event, Outcome};
+use machine_types::{Event, Outcome};
 use rv32_decode::decode;
 use rv32_exec::{Action, plan};
 use std::alloc::{AllocError, Global};

@@ -2,7 +2,7 @@
 
 ghost use Rattle.std.specs.Prelude.{◌≡◌, ◌↔◌, Err, IfErr, IfOk, false, length};
 ghost use Rattle.flat_model.specs.Shown.{results, told};
-ghost use Rattle.machine_model.specs.Config.{is_within_limits};
+ghost use Rattle.machine_types.specs.Config.{is_within_limits};
 ghost use Rattle.schedules.specs.Errors.{IsOneOf};
 ghost use Rattle.schedules.specs.Schedules.{Replays, led, start_of};
 
@@ -12,7 +12,7 @@ use crate::quiet::{has_stepped, next_plan};
 use crate::schedule::Schedule;
 use elf_loader::Image;
 use flat_model::FlatEvent;
-use machine_model::{Config, Event, Outcome};
+use machine_types::{Config, Event, Outcome};
 use rv32_exec::Action;
 use std::alloc::Global;
 

@@ -3,7 +3,7 @@
 ghost use Rattle.std.specs.Prelude.{◌≡◌, ◌↔◌, Err, IfOk, false};
 ghost use Rattle.coherent_machine.specs.declared.errors.NewError.TheVariants as making;
 ghost use Rattle.flat_model.specs.Shown.{results, told};
-ghost use Rattle.machine_model.specs.Config.{is_within_limits};
+ghost use Rattle.machine_types.specs.Config.{is_within_limits};
 ghost use Rattle.schedules.specs.Schedules.{Replays, led, start_of};
 
 use crate::errors::Fault;
@@ -11,7 +11,7 @@ use crate::player::{MOST_HARTS, Player};
 use crate::schedule::Schedule;
 use coherent_machine::{NewError, Views};
 use elf_loader::Image;
-use machine_model::{Config, Event, Outcome};
+use machine_types::{Config, Event, Outcome};
 use rand_core::{Rng, SeedableRng};
 use rand_xoshiro::SplitMix64;
 use std::alloc::{AllocError, Global};

@@ -2,7 +2,7 @@
 
 use coherent_machine::Machine;
 use flat_model::HartResult;
-use machine_model::Event;
+use machine_types::Event;
 
 /// Events, the first one first, each of which changes the machine, and what they lead to from reset.
 #[derive(Drop)]

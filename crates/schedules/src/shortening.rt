@@ -5,7 +5,7 @@ ghost use Rattle.coherent_machine.specs.Machine.{IsFirstRefusal};
 ghost use Rattle.coherent_machine.specs.declared.errors.NewError.TheVariants as making;
 ghost use Rattle.coherent_machine.specs.declared.errors.ReplayError.TheVariants as replaying;
 ghost use Rattle.flat_model.specs.Shown.{results, told};
-ghost use Rattle.machine_model.specs.Config as limits;
+ghost use Rattle.machine_types.specs.Config as limits;
 ghost use Rattle.machine_model.specs.Views.{opening};
 ghost use Rattle.schedules.specs.Schedules.{ComesTo, Replays, led, start_of};
 ghost use Rattle.schedules.specs.Sublists.{IsSublist};
@@ -16,8 +16,8 @@ use crate::results::{are_results, results_of};
 use coherent_machine::{Machine, NewError, ReplayError, replay};
 use elf_loader::Image;
 use flat_model::HartResult;
-use machine_model::{Config, Event};
 use machine_parts::is_within_limits;
+use machine_types::{Config, Event};
 use std::alloc::Global;
 
 /// Some of the events, in their order, that leave the same results. Left out are first those that change

@@ -2,11 +2,11 @@
 
 ghost use Rattle.std.specs.Prelude.{IsTrue};
 ghost use Rattle.elf_loader.specs.Size.{IsMemorySize};
-ghost use Rattle.machine_model.specs.Config as limits;
+ghost use Rattle.machine_types.specs.Config as limits;
 
 use client_cache::ClientCache;
 use elf_loader::BASE;
-use machine_model::Config;
+use machine_types::Config;
 
 /// The lowest line that the cache holds in the set of an address, but for the line of the word that is
 /// kept. Memory has `size` bytes.

@@ -7,7 +7,7 @@ use crate::errors::Fault;
 use crate::player::{MOST_HARTS, Player};
 use crate::quiet::next_plan;
 use crate::spare::lowest_held;
-use machine_model::Event;
+use machine_types::Event;
 use rv32_exec::Action;
 use tl_types::Channel;
 

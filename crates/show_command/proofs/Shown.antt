@@ -26,7 +26,7 @@ use Rattle.explorer.specs.declared.exploration.Exploration.{Exploration}
 use Rattle.explorer.specs.declared.exploration.Stuck.{Stuck}
 use Rattle.explorer.specs.declared.found.Found.{Found}
 use Rattle.flat_exploration.specs.Drained.{Ending}
-use Rattle.machine_model.specs.declared.config.Config.{Config}
+use Rattle.machine_types.specs.declared.config.Config.{Config}
 use Rattle.show_command.specs.Judging.{AreWordsJudged, judgement_on}
 use Rattle.show_command.specs.Keeping.{AreWordsKept, bare_of}
 use Rattle.show_command.specs.Showing.{IsFoundIn, IsOfFile, IsShowFault}

@@ -19,7 +19,7 @@ use Rattle.explore_command.specs.Keeping.{IsInNamed, IsScriptOf, SparesOthers}
 use Rattle.explore_command.specs.declared.judging.Judgement.{Judgement}
 use Rattle.explore_command.specs.declared.judging.Judgement.TheVariants.{Allowed}
 use Rattle.flat_model.specs.Flat.{Flat}
-use Rattle.machine_model.specs.declared.config.Config.{Config}
+use Rattle.machine_types.specs.declared.config.Config.{Config}
 use Rattle.show_command.specs.Judging.{AreWordsJudged}
 use Rattle.show_command.specs.Keeping.{AreWordsKept}
 use Rattle.show_command.specs.Targets.{AreAddressesOf, IsUnplaced, names_of}

@@ -5,7 +5,7 @@ ghost use Rattle.command_files.specs.Sizes.{config_named};
 ghost use Rattle.elf_loader.specs.Size.{IsMemoryKib};
 ghost use Rattle.explore_command.specs.Exploring.{IsFolderFault, IsNamedBy};
 ghost use Rattle.explore_command.specs.Keeping.{IsInNamed, IsScriptOf, SparesOthers};
-ghost use Rattle.machine_model.specs.Config.{is_within_limits};
+ghost use Rattle.machine_types.specs.Config.{is_within_limits};
 ghost use Rattle.show_command.specs.Keeping.{AreWordsKept, bare_of};
 
 use command_files::{Fault, Files};

@@ -3,7 +3,7 @@
 use crate::same::same;
 use elf_loader::{LoadError, load, raw};
 use file_remarks::{EventRemark, FileRemark, ImageRemark, ScriptRemark, TraceRemark};
-use machine_model::Event;
+use machine_types::Event;
 use std::alloc::Global;
 use std::fmt::Display;
 use std::io::{self, ErrorKind};

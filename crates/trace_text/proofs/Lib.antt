@@ -7,5 +7,4 @@ mod ImageLaws
 mod WholeTraces
 mod TraceLoops
 mod ImageLoops
-mod MachineTraces
 mod NameLaws

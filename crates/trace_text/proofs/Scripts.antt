@@ -10,9 +10,9 @@ use Rattle.text_fields.specs.Reading.{◌>>=◌, pair_at, seen_at, led_at, numbe
 use Rattle.text_fields.proofs.Laws.{Reads, bind_some, some_is, pair_reads, seen_takes, seen_again, led_reads, number_reads, word_reads, ended_reads, table_reads, both_true, either_takes, guarded_takes, all_takes, all_again}
 use Rattle.tl_types.specs.declared.message.Channel.{Channel}
 use Rattle.tl_types.specs.declared.message.Channel.TheVariants.{A, B, C, D, E}
-use Rattle.machine_model.specs.declared.event.Event.{Event}
-use Rattle.machine_model.specs.declared.event.Event.TheVariants.{Step, Drain, Evict, Deliver, Local}
-use Rattle.machine_model.specs.Config.{is_power_to_64}
+use Rattle.machine_types.specs.declared.event.Event.{Event}
+use Rattle.machine_types.specs.declared.event.Event.TheVariants.{Step, Drain, Evict, Deliver, Local}
+use Rattle.machine_types.specs.Config.{is_power_to_64}
 use Rattle.trace_text.specs.declared.script.Head.{Head}
 use Rattle.trace_text.specs.Words.{channel}
 use Rattle.trace_text.specs.Scripts.{event, IsEvent, is_first_version, head, is_head, head_of, text, IsScript}

@@ -11,4 +11,3 @@ pub mod TraceLines
 pub mod TraceHeads
 pub mod TraceLimits
 pub mod TraceSections
-pub mod MachineTraces

@@ -4,7 +4,6 @@
 
 mod fault;
 mod head;
-mod laws;
 mod message_reading;
 mod script;
 mod script_faults;
@@ -17,7 +16,6 @@ mod trace_reading;
 mod trace_writing;
 
 pub use fault::{TextCode, TextError};
-pub use laws::every_trace_has_a_text;
 pub use script::{Events, Script};
 pub use script_reading::read_script;
 pub use script_writing::{spell_event, write_script};

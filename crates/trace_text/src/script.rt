@@ -2,7 +2,7 @@
 ghost use Rattle.std.specs.Prelude.{◌≡◌};
 ghost use Rattle.trace_text.specs.Scripts.{is_first_version};
 
-use machine_model::Event;
+use machine_types::Event;
 use std::marker::Model;
 
 /// Events in the order in which they happen.
@@ -13,7 +13,7 @@ pub struct Events {
 
 impl Model for Events {
     ghost use Rattle.std.specs.Prelude.{List};
-    ghost use Rattle.machine_model.specs.declared.event.Event.{Event};
+    ghost use Rattle.machine_types.specs.declared.event.Event.{Event};
 
     ghost Value = { List Event };
 

@@ -3,14 +3,14 @@ ghost use Rattle.std.specs.Prelude.{◌≡◌, length, IfOk};
 ghost use Rattle.std.specs.Option.{option_map};
 ghost use Rattle.text_fields.specs.Reading.{all_at};
 ghost use Rattle.trace_text.specs.Scripts.{is_head, text, IsScript};
-ghost use Rattle.machine_model.specs.Config.{is_power_to_64};
+ghost use Rattle.machine_types.specs.Config.{is_power_to_64};
 ghost use Rattle.trace_text.specs.ScriptReading as reads;
 ghost use Rattle.trace_text.specs.Reading.{Gives, IsReadOrRefused, IsNoMemory};
 
 use crate::fault::{Stop, TextError};
 use crate::script::{Events, Head, Script, is_first_version};
 use crate::script_faults::script_fault;
-use machine_model::Event;
+use machine_types::Event;
 use std::alloc::Global;
 use text_fields::{after, number_at, word_at};
 use tl_types::Channel;

@@ -8,7 +8,7 @@ ghost use Rattle.trace_text.specs.Scripts.{event as event_text, event_ended, hea
 
 use crate::script::{Script, is_first_version};
 use crate::spellings::spell_channel;
-use machine_model::Event;
+use machine_types::Event;
 use std::io::{Result, Write};
 use text_fields::Page;
 

@@ -5,7 +5,7 @@ use Rattle.elf_loader.specs.Image.{Initial}
 use Rattle.flat_model.specs.Shown.{told}
 use Rattle.hart.specs.declared.status.Status.{Status}
 use Rattle.hart.specs.Run.{is_running}
-use Rattle.machine_model.specs.declared.config.Config.{Config}
+use Rattle.machine_types.specs.declared.config.Config.{Config}
 use Rattle.machine_model.specs.Views.{size_of_config}
 use Rattle.memory_model.specs.declared.MemoryModel.{MemoryModel}
 use Rattle.memory_model.specs.Traces.{IsLegalOrder, IsOrder, are_runs, names_in}

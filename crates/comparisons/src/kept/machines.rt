@@ -3,7 +3,7 @@
 use anyhow::{Context, Result, bail};
 use coherent_machine::Machine;
 use elf_loader::Image;
-use machine_model::{Config, Event, Outcome};
+use machine_types::{Config, Event, Outcome};
 use plain_machine::PlainMachine;
 use std::alloc::Global;
 use trace_recorder::Trace;

@@ -1,7 +1,7 @@
 //! Which outcomes were met.
 
 use super::WORD;
-use machine_model::Outcome;
+use machine_types::Outcome;
 
 /// The outcomes that a stream is to meet.
 const EXPECTED: [Outcome; 14] = [

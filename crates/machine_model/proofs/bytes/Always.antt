@@ -9,8 +9,8 @@ use Rattle.elf_loader.specs.Image.{Initial, end_of}
 use Rattle.elf_loader.specs.Size.{base}
 use Rattle.machine_model.specs.declared.act.Plan.{Plan}
 use Rattle.machine_model.specs.declared.act.Plan.TheVariants.{Stays, Changes}
-use Rattle.machine_model.specs.declared.config.Config.{Config}
-use Rattle.machine_model.specs.declared.event.Event.{Event}
+use Rattle.machine_types.specs.declared.config.Config.{Config}
+use Rattle.machine_types.specs.declared.event.Event.{Event}
 use Rattle.machine_model.specs.Changing.{acted, outcome_of}
 use Rattle.machine_model.specs.Coherent.{IsCoherent}
 use Rattle.machine_model.specs.Events.{IsBad, IsLimited, Moves, after_events, counted, happens, hart_of, is_limited, is_piece, names_well, plan_of, state_by, verdict_by}

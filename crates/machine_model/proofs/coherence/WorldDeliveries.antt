@@ -21,7 +21,7 @@ use Rattle.directory.specs.declared.answer.Transaction.{Transaction}
 use Rattle.directory.specs.declared.answer.Transaction.TheVariants.{Idle, Probing, Granted}
 use Rattle.machine_model.specs.Deliveries.{grant_body, line_in_memory, on_acquire, on_grant_ack, on_probe_ack, on_release, sent_grant, sent_if_granted, sent_if_handled, sent_probes, taken, with_memory, with_notes}
 use Rattle.machine_model.specs.Views.{Node, State, line_size, node_at, place_of, sent, size_of_config}
-use Rattle.machine_model.specs.declared.config.Config.{Config}
+use Rattle.machine_types.specs.declared.config.Config.{Config}
 use Rattle.machine_model.proofs.coherence.LineKept.{part_of, stored}
 use Rattle.machine_model.proofs.coherence.LinePlaces.{place_inside}
 use Rattle.machine_model.proofs.coherence.LineStands as stands

@@ -21,7 +21,7 @@ use Rattle.directory.specs.declared.answer.Transaction.{Transaction}
 use Rattle.elf_loader.specs.Image.{Initial}
 use Rattle.machine_model.specs.Coherent.{perm_at}
 use Rattle.machine_model.specs.Views.{Node, State, line_size, node_at, opening, opening_node, place_of, size_of_config}
-use Rattle.machine_model.specs.declared.config.Config.{Config}
+use Rattle.machine_types.specs.declared.config.Config.{Config}
 use Rattle.machine_model.proofs.coherence.LineKept.{IsKept}
 use Rattle.machine_model.proofs.coherence.LineStands.{Alone, Holds, Side, Stands, noted_none, noted_writer, quiet_side}
 use Rattle.machine_model.proofs.coherence.WorldFits.{IsFit, kit_at, kit_of}

@@ -8,8 +8,8 @@ use Rattle.machine_model.specs.Views.{State}
 use Rattle.machine_model.specs.declared.act.Act.{Act}
 use Rattle.machine_model.specs.declared.act.Plan.{Plan}
 use Rattle.machine_model.specs.declared.act.Plan.TheVariants.{Stays, Changes}
-use Rattle.machine_model.specs.declared.event.Event.{Event}
-use Rattle.machine_model.specs.declared.outcome.Outcome.{Outcome}
+use Rattle.machine_types.specs.declared.event.Event.{Event}
+use Rattle.machine_types.specs.declared.outcome.Outcome.{Outcome}
 
 -- `G` is known already of each state
 module _ (G P : State → Type 0) (known : (s : State) (e : Event) → G s → G (happens s e)) (counts : (s : State) → P s → P (counted s)) (acts : (s : State) (e : Event) (a : Act) → plan_of s e ≡ Changes a → hart_of e < length s.views.nodes → G s → P s → P (acted (hart_of e) a s)) where

@@ -13,8 +13,8 @@ use Rattle.machine_model.specs.Views.{State, opening, sent}
 use Rattle.machine_model.specs.declared.act.Act.{Act}
 use Rattle.machine_model.specs.declared.act.Act.TheVariants as act
 use Rattle.machine_model.specs.declared.act.Plan.TheVariants.{Changes}
-use Rattle.machine_model.specs.declared.config.Config.{Config}
-use Rattle.machine_model.specs.declared.event.Event.{Event}
+use Rattle.machine_types.specs.declared.config.Config.{Config}
+use Rattle.machine_types.specs.declared.event.Event.{Event}
 use Rattle.machine_model.proofs.log.Acts.{Delivers, IsAsking, acted_keeps, handled_keeps}
 use Rattle.machine_model.proofs.log.Always.{Anything, events_keep}
 use Rattle.machine_model.proofs.log.Counts.{EachSent, NoneTooMany, Owes, no_last, none_in, none_out, one_sent, one_taken, owes_out}

@@ -12,8 +12,8 @@ use Rattle.machine_model.specs.Views.{Node, State, node_at, opening, opening_nod
 use Rattle.machine_model.specs.declared.act.Act.{Act}
 use Rattle.machine_model.specs.declared.act.Act.TheVariants as act
 use Rattle.machine_model.specs.declared.act.Plan.TheVariants.{Changes}
-use Rattle.machine_model.specs.declared.config.Config.{Config}
-use Rattle.machine_model.specs.declared.event.Event.{Event}
+use Rattle.machine_types.specs.declared.config.Config.{Config}
+use Rattle.machine_types.specs.declared.event.Event.{Event}
 use Rattle.machine_model.proofs.log.Acts.{Delivers, acted_keeps, handled_keeps, same_nodes}
 use Rattle.machine_model.proofs.log.Always.{Anything, events_keep, happens_keeps}
 use Rattle.machine_model.proofs.log.Lists.{no_first}

@@ -22,9 +22,9 @@ use Rattle.machine_model.specs.Views.{Node, State, line_of, line_size, node_at, 
 use Rattle.machine_model.specs.declared.act.Act.TheVariants as act
 use Rattle.machine_model.specs.declared.act.Plan.{Plan}
 use Rattle.machine_model.specs.declared.act.Plan.TheVariants.{Stays, Changes}
-use Rattle.machine_model.specs.declared.event.Event.{Event}
-use Rattle.machine_model.specs.declared.event.Event.TheVariants as event
-use Rattle.machine_model.specs.declared.outcome.Outcome.TheVariants as outcome
+use Rattle.machine_types.specs.declared.event.Event.{Event}
+use Rattle.machine_types.specs.declared.event.Event.TheVariants as event
+use Rattle.machine_types.specs.declared.outcome.Outcome.TheVariants as outcome
 use Rattle.machine_model.proofs.log.Queues.{IsInOrder, front_channel}
 use Rattle.machine_model.proofs.runs.Retiring.{IsNext, step_is_next}
 use Rattle.store_buffer.specs.Groups.{drainable, has}

@@ -22,8 +22,8 @@ use Rattle.machine_model.specs.Views.{Node, State, line_size, node_at, opening, 
 use Rattle.machine_model.specs.declared.act.Act.{Act}
 use Rattle.machine_model.specs.declared.act.Act.TheVariants as act
 use Rattle.machine_model.specs.declared.act.Plan.TheVariants.{Changes}
-use Rattle.machine_model.specs.declared.config.Config.{Config}
-use Rattle.machine_model.specs.declared.event.Event.{Event}
+use Rattle.machine_types.specs.declared.config.Config.{Config}
+use Rattle.machine_types.specs.declared.event.Event.{Event}
 use Rattle.machine_model.proofs.coherence.LineStands.{Side, Part, Stands, Leaves, Left, LeavesProbed, LeftProbed, LeavesAnswered, Receives, Upgrades, LeavesGranted, LeftGranted}
 use Rattle.machine_model.proofs.coherence.LineViews.{evicted_says, front_here, of_line}
 use Rattle.machine_model.proofs.log.Acts.{acknowledged, acquired_keeps, alone_still, noted_still, same_nodes}

@@ -14,7 +14,7 @@ use Rattle.machine_model.specs.declared.act.Deed.{Deed}
 use Rattle.machine_model.specs.declared.act.Deed.TheVariants as deed
 use Rattle.machine_model.specs.declared.act.Plan.{Plan}
 use Rattle.machine_model.specs.declared.act.Plan.TheVariants.{Stays, Changes}
-use Rattle.machine_model.specs.declared.outcome.Outcome.TheVariants as outcome
+use Rattle.machine_types.specs.declared.outcome.Outcome.TheVariants as outcome
 use Rattle.machine_model.specs.Deciding.{miss_by, reading, reading_by, writing, writing_by}
 use Rattle.machine_model.specs.Steps.{Fetched, retires, plan_load, plan_store, plan_lr, plan_sc, plan_amo, plan_fence, plan_call, plan_access, waits_for_stores, write_waits, update}
 use Rattle.machine_model.specs.Views.{Node, line_of}

@@ -7,7 +7,7 @@ use Rattle.std.proofs.lemmas.Bool.Decides.{eqb_tells}
 use Rattle.std.proofs.lemmas.List.{map-append, length-set}
 use Rattle.std.proofs.lemmas.List.Elements.{filter_map-append}
 use Rattle.machine_model.specs.Changing.{performs, drained, writes_word}
-use Rattle.machine_model.specs.declared.config.Config.{Config}
+use Rattle.machine_types.specs.declared.config.Config.{Config}
 use Rattle.machine_model.specs.Views.{State, node_at}
 use Rattle.machine_model.proofs.order.Buffers.{KeepsBuffers, Moves, moves_on, node_keeps, names_at, performs_moves, buffer_after}
 use Rattle.machine_model.proofs.order.Kept.{joined, kept_group, of_word, IsWaiting, Kept, joined-kept, foreign_keeps, drain_sealed_keeps, drain_open_keeps}

@@ -9,7 +9,7 @@ use Rattle.hart.specs.Run.{is_step}
 use Rattle.machine_model.specs.declared.act.Act.{Act}
 use Rattle.machine_model.specs.declared.act.Act.TheVariants as act
 use Rattle.machine_model.specs.declared.act.Deed.{Deed}
-use Rattle.machine_model.specs.declared.config.Config.{Config}
+use Rattle.machine_types.specs.declared.config.Config.{Config}
 use Rattle.machine_model.specs.Changing.{acted, does, drained, place_at, retired, went_alone}
 use Rattle.machine_model.specs.Steps.{Fetched}
 use Rattle.machine_model.specs.Views.{State, node_at}

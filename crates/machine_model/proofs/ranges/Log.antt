@@ -6,7 +6,7 @@ use Rattle.std.proofs.lemmas.Bool.{and_parts, eq-eqb, false≢true, ltb-true}
 use Rattle.std.proofs.lemmas.List.{append-nil}
 use Rattle.elf_loader.specs.Image.{Initial, IsImage}
 use Rattle.machine_model.specs.Changing.{acted, outcome_of}
-use Rattle.machine_model.specs.Config.{is_within_limits}
+use Rattle.machine_types.specs.Config.{is_within_limits}
 use Rattle.machine_model.specs.Deliveries.{taken}
 use Rattle.machine_model.specs.Events.{IsBad, IsLimited, Moves, after_events, counted, happens, hart_of, is_good, is_limited, is_piece, names_well, plan_of, state_by, verdict_by}
 use Rattle.machine_model.specs.LawfulLog.{IsBeginningOf, is_on, is_sent, sent_on, taken_on}
@@ -17,9 +17,9 @@ use Rattle.machine_model.specs.declared.act.Act.{Act}
 use Rattle.machine_model.specs.declared.act.Act.TheVariants as act
 use Rattle.machine_model.specs.declared.act.Plan.{Plan}
 use Rattle.machine_model.specs.declared.act.Plan.TheVariants.{Stays, Changes}
-use Rattle.machine_model.specs.declared.config.Config.{Config}
-use Rattle.machine_model.specs.declared.event.Event.{Event}
-use Rattle.machine_model.specs.declared.outcome.Outcome.{Outcome}
+use Rattle.machine_types.specs.declared.config.Config.{Config}
+use Rattle.machine_types.specs.declared.event.Event.{Event}
+use Rattle.machine_types.specs.declared.outcome.Outcome.{Outcome}
 use Rattle.machine_model.proofs.Growth.{happens_follows}
 use Rattle.machine_model.proofs.bytes.Always.{Joint, joint_always}
 use Rattle.machine_model.proofs.log.Acts.{Delivers, acted_keeps, handled_keeps}

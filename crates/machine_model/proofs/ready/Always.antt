@@ -2,13 +2,13 @@
 use Rattle.std.proofs.Common.{true, List, [], ◌∷◌, ◌++◌, ◌≡◌, refl, ap, sym, ◌∙◌, subst}
 use Rattle.elf_loader.specs.Image.{Initial, IsImage}
 use Rattle.machine_model.specs.Changing.{acted}
-use Rattle.machine_model.specs.Config.{is_within_limits}
+use Rattle.machine_types.specs.Config.{is_within_limits}
 use Rattle.machine_model.specs.Events.{after_events, counted, happens, hart_of}
 use Rattle.machine_model.specs.Laws.{KeepsImageAndConfig, QueuesFit}
 use Rattle.machine_model.specs.Ready.{ReadyAlways, SoundAlways}
 use Rattle.machine_model.specs.Views.{State, opening, size_of_config}
-use Rattle.machine_model.specs.declared.config.Config.{Config}
-use Rattle.machine_model.specs.declared.event.Event.{Event}
+use Rattle.machine_types.specs.declared.config.Config.{Config}
+use Rattle.machine_types.specs.declared.event.Event.{Event}
 use Rattle.machine_model.proofs.Growth.{happens_follows}
 use Rattle.machine_model.proofs.ready.Kept.{IsSized, act_ready, events_sized, moves, opening_sized}
 use Rattle.machine_model.proofs.ready.Messages.{queued_line}

@@ -20,7 +20,7 @@ use Rattle.elf_loader.specs.Image.{Initial}
 use Rattle.hart.specs.Local.{private_row}
 use Rattle.hart.specs.Run.{is_running}
 use Rattle.machine_model.specs.Changing.{acted, outcome_of, place_at}
-use Rattle.machine_model.specs.Config.{is_within_limits}
+use Rattle.machine_types.specs.Config.{is_within_limits}
 use Rattle.machine_model.specs.Deciding.{miss_by, writing_by}
 use Rattle.machine_model.specs.Deliveries.{plan_body, plan_front, unless_acks_full, unless_busy, unless_releasing}
 use Rattle.machine_model.specs.Events.{IsBad, IsLimited, Moves, after_events, counted, evict_by, happens, hart_of, is_limited, names_well, plan_drain, plan_of, state_by, verdict_by}
@@ -29,10 +29,10 @@ use Rattle.machine_model.specs.Views.{State, line_of, line_size, node_at, openin
 use Rattle.machine_model.specs.declared.act.Act.TheVariants as act
 use Rattle.machine_model.specs.declared.act.Plan.{Plan}
 use Rattle.machine_model.specs.declared.act.Plan.TheVariants.{Stays, Changes}
-use Rattle.machine_model.specs.declared.config.Config.{Config}
-use Rattle.machine_model.specs.declared.event.Event.{Event}
-use Rattle.machine_model.specs.declared.event.Event.TheVariants as event
-use Rattle.machine_model.specs.declared.outcome.Outcome.TheVariants as outcome
+use Rattle.machine_types.specs.declared.config.Config.{Config}
+use Rattle.machine_types.specs.declared.event.Event.{Event}
+use Rattle.machine_types.specs.declared.event.Event.TheVariants as event
+use Rattle.machine_types.specs.declared.outcome.Outcome.TheVariants as outcome
 use Rattle.machine_model.proofs.runs.Retiring.{IsNext, step_is_next}
 use Rattle.machine_model.proofs.room.Sizes.{AllSmall, IsSmallState, LeavesRoom, acted_small, node_opens_small}
 use Rattle.store_buffer.specs.Groups.{drainable, has}

@@ -36,7 +36,7 @@ use Rattle.machine_model.specs.declared.act.Act.{Act}
 use Rattle.machine_model.specs.declared.act.Act.TheVariants as act
 use Rattle.machine_model.specs.declared.act.Deed.{Deed}
 use Rattle.machine_model.specs.declared.act.Deed.TheVariants as deed
-use Rattle.machine_model.specs.declared.config.Config.{Config}
+use Rattle.machine_types.specs.declared.config.Config.{Config}
 use Rattle.machine_model.proofs.Nodes.{node_same}
 use Rattle.machine_model.proofs.coherence.WorldFits.{framed_taken}
 use Rattle.memory_model.specs.declared.MemoryModel.{MemoryModel}

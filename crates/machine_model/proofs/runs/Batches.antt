@@ -15,9 +15,9 @@ use Rattle.hart.proofs.Rows.{stop_of-private}
 use Rattle.machine_model.specs.declared.act.Act.TheVariants as act
 use Rattle.machine_model.specs.declared.act.Deed.TheVariants as deed
 use Rattle.machine_model.specs.declared.act.Plan.TheVariants.{Stays, Changes}
-use Rattle.machine_model.specs.declared.event.Event.TheVariants as event
-use Rattle.machine_model.specs.declared.outcome.Outcome.{Outcome}
-use Rattle.machine_model.specs.declared.outcome.Outcome.TheVariants as outcome
+use Rattle.machine_types.specs.declared.event.Event.TheVariants as event
+use Rattle.machine_types.specs.declared.outcome.Outcome.{Outcome}
+use Rattle.machine_types.specs.declared.outcome.Outcome.TheVariants as outcome
 use Rattle.machine_model.specs.Changing.{with_entries, outcome_by, place_at, retired, went_alone, with_halt}
 use Rattle.machine_model.specs.Events.{Verdict, counted, is_good, most_changes, most_entries, plan_of, verdict, verdict_by}
 use Rattle.machine_model.specs.Laws.{LocalIsSteps, StepsRetire, with_changes}

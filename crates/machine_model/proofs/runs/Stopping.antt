@@ -7,9 +7,9 @@ use Rattle.machine_model.specs.declared.act.Act.{Act}
 use Rattle.machine_model.specs.declared.act.Act.TheVariants as act
 use Rattle.machine_model.specs.declared.act.Plan.{Plan}
 use Rattle.machine_model.specs.declared.act.Plan.TheVariants as plan
-use Rattle.machine_model.specs.declared.event.Event.TheVariants as event
-use Rattle.machine_model.specs.declared.outcome.Outcome.{Outcome}
-use Rattle.machine_model.specs.declared.outcome.Outcome.TheVariants as outcome
+use Rattle.machine_types.specs.declared.event.Event.TheVariants as event
+use Rattle.machine_types.specs.declared.outcome.Outcome.{Outcome}
+use Rattle.machine_types.specs.declared.outcome.Outcome.TheVariants as outcome
 use Rattle.machine_model.specs.Changing.{acted, outcome_by, outcome_of, stopped}
 use Rattle.machine_model.specs.Events.{Verdict, counted, is_good, is_limited, plan_of, state_by, verdict_by}
 use Rattle.machine_model.specs.Laws.{StopsChangeStatusAlone}

@@ -14,7 +14,8 @@ use crate::errors::ApplyError;
 use crate::limits::{is_limited, reserve};
 use crate::parts::Parts;
 use hart::{Batch, Retired};
-use machine_model::{Act, Event, Outcome};
+use machine_model::Act;
+use machine_types::{Event, Outcome};
 use trace_recorder::Trace;
 
 impl Parts {

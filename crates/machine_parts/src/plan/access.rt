@@ -14,7 +14,8 @@ use crate::parts::line_size;
 use crate::words::{line_of, marks_of, read_from, store_of, word_in, word_of};
 use amo_unit::combine;
 use hart::Retired;
-use machine_model::{Act, Config, Deed, MemoryModel, Outcome, Plan};
+use machine_model::{Act, Deed, MemoryModel, Plan};
+use machine_types::{Config, Outcome};
 use rv32_decode::{AmoOp, Instr, Register};
 use rv32_exec::Width;
 

@@ -18,7 +18,8 @@ use crate::parts::{Parts, line_size};
 use client_cache::ClientCache;
 use directory::{Directory, Transaction};
 use elf_loader::BASE;
-use machine_model::{Act, Outcome, Plan};
+use machine_model::{Act, Plan};
+use machine_types::Outcome;
 use tl_types::{Body, Channel, LineSize, Msg};
 
 /// The place in memory of the line that begins at an address.

@@ -5,7 +5,8 @@ ghost use Rattle.machine_model.specs.Events.{plan_evict};
 
 use crate::node::Node;
 use client_cache::Evict;
-use machine_model::{Act, Outcome, Plan};
+use machine_model::{Act, Plan};
+use machine_types::Outcome;
 
 /// What an eviction of the line comes to.
 pub(crate) fn plan_evict(node: &Node, line: u32) -> Plan

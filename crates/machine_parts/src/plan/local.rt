@@ -6,7 +6,8 @@ ghost use Rattle.machine_model.specs.Events.{plan_local};
 use crate::node::Node;
 use elf_loader::Image;
 use hart::{Hart, next_alone};
-use machine_model::{Act, Outcome, Plan};
+use machine_model::{Act, Plan};
+use machine_types::Outcome;
 
 /// Whether the hart's next so many instructions are private, and none of them stops.
 fn goes_alone(image: &Image, hart: &Hart, count: u32) -> bool

@@ -7,7 +7,8 @@ ghost use Rattle.machine_parts.specs.Deciding.{with_line};
 ghost use Rattle.tl_types.specs.declared.line.LineData.{LineData as AnyLine};
 
 use client_cache::{ClientCache, Held, Want};
-use machine_model::{Act, Outcome, Plan};
+use machine_model::{Act, Plan};
+use machine_types::Outcome;
 use tl_types::{Grow, LineData};
 
 /// A miss on a line, by the cache's rule.

@@ -15,7 +15,8 @@ use super::access::{
 use crate::node::Node;
 use elf_loader::Image;
 use hart::can_fetch;
-use machine_model::{Act, Config, Deed, Outcome, Plan};
+use machine_model::{Act, Deed, Plan};
+use machine_types::{Config, Outcome};
 use rv32_decode::decode;
 use rv32_exec::{Action, plan, stop};
 

@@ -1,7 +1,7 @@
 //! Which reservations an access of memory ends.
 
 use crate::words::line_of;
-use machine_model::Config;
+use machine_types::Config;
 use tl_types::LineSize;
 
 /// The flat meaning, or a wrong one that differs from it in one rule.

@@ -9,7 +9,7 @@ use crate::steps::{
 use crate::words::{covers, laid_over, marks_of_access, read_from, store_of, word_of};
 use amo_unit::combine;
 use hart::Retired;
-use machine_model::Outcome;
+use machine_types::Outcome;
 use rv32_decode::{AmoOp, Instr};
 use rv32_exec::{Action, Width};
 

@@ -8,8 +8,8 @@ use Rattle.explore_command.proofs.Explored.{all_of, err_more, judged, memory_lef
 use Rattle.explore_command.proofs.Faults.{first_left, first_told, folder_left, folder_told, output_left, output_told}
 use Rattle.explore_command.proofs.Judged.{judged_on}
 use Rattle.explore_command.proofs.Kept.{spares_wider}
-use Rattle.machine_model.specs.Config.{is_within_limits}
-use Rattle.machine_model.specs.declared.config.Config.{Config}
+use Rattle.machine_types.specs.Config.{is_within_limits}
+use Rattle.machine_types.specs.declared.config.Config.{Config}
 use Rattle.architecture_command.proofs.searching.architecture_files.Goals as goal
 
 pub returns-in_err-allowed-clause-told : goal.returns-in_err-allowed-clause-told

@@ -6,7 +6,7 @@ use Rattle.command_files.proofs.Left.{handed_up, image_as_before, image_is_not_w
 use Rattle.command_files.proofs.Limits.{machine_within, memory_within}
 use Rattle.command_files.specs.Files.{HoldsImage}
 use Rattle.command_files.specs.Held.{Held}
-use Rattle.machine_model.specs.Config.{is_within_limits}
+use Rattle.machine_types.specs.Config.{is_within_limits}
 use Rattle.chart_command.proofs.charting.chart_files.Goals as goal
 
 pub image_in-requires : goal.image_in-requires

@@ -1,7 +1,7 @@
 use Rattle.std.proofs.Common.{◌∙◌, ap, refl, subst, sym}
 use Rattle.std.proofs.lemmas.Bool.{false≢true}
 use Rattle.event_stream.specs.declared.errors.StreamError.TheVariants as stream
-use Rattle.machine_model.specs.Config.{is_within_limits}
+use Rattle.machine_types.specs.Config.{is_within_limits}
 use Rattle.explain_command.specs.Named.{HoldsNamedImage}
 use Rattle.command_files.specs.Held.{Held}
 use Rattle.command_files.proofs.Left.{handed_up, image_as_before}

@@ -5,8 +5,8 @@ use Rattle.explore_command.proofs.Faults.{allow_first, first_left, first_told, f
 use Rattle.explore_command.proofs.Judged.{judged_on}
 use Rattle.explore_command.proofs.Kept.{script_file, spares_wider}
 use Rattle.explorer.specs.Ends.{outcome_of}
-use Rattle.machine_model.specs.Config.{is_within_limits}
-use Rattle.machine_model.specs.declared.config.Config.{Config}
+use Rattle.machine_types.specs.Config.{is_within_limits}
+use Rattle.machine_types.specs.declared.config.Config.{Config}
 use Rattle.explore_command.proofs.exploring.explore_files.Goals as goal
 
 pub returns-in_err-allowed-clause-told : goal.returns-in_err-allowed-clause-told

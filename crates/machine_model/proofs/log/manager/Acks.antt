@@ -15,7 +15,7 @@ use Rattle.directory.specs.declared.answer.Transaction.TheVariants.{Idle, Probin
 use Rattle.machine_model.specs.Deliveries.{grant_body, line_in_memory, on_probe_ack, sent_grant, sent_if_granted, taken, with_memory, with_notes}
 use Rattle.machine_model.specs.LawfulLog.{concerns, is_BtoT, is_acquire, is_grant, is_grant_ack, is_loss, is_probe, is_probe_ack, may_send, sent_count, taken_count}
 use Rattle.machine_model.specs.Views.{Node, State, line_size, node_at, place_of}
-use Rattle.machine_model.specs.declared.config.Config.{Config}
+use Rattle.machine_types.specs.declared.config.Config.{Config}
 use Rattle.machine_model.proofs.coherence.LineKept.{not_eq, part_of}
 use Rattle.machine_model.proofs.coherence.LineStands.{Asking, Probed, Stands}
 use Rattle.machine_model.proofs.coherence.LineViews.{front_here, of_line}

@@ -15,8 +15,8 @@ use Rattle.machine_model.specs.Views.{State, line_size, node_at, opening, place_
 use Rattle.machine_model.specs.declared.act.Act.{Act}
 use Rattle.machine_model.specs.declared.act.Act.TheVariants as act
 use Rattle.machine_model.specs.declared.act.Plan.TheVariants.{Changes}
-use Rattle.machine_model.specs.declared.config.Config.{Config}
-use Rattle.machine_model.specs.declared.event.Event.{Event}
+use Rattle.machine_types.specs.declared.config.Config.{Config}
+use Rattle.machine_types.specs.declared.event.Event.{Event}
 use Rattle.machine_model.proofs.log.Always.{events_keep}
 use Rattle.machine_model.proofs.log.Counts.{no_last}
 use Rattle.machine_model.proofs.log.Events.{log_in_order_always, opening_order}

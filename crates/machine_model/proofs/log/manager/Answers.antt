@@ -16,8 +16,8 @@ use Rattle.machine_model.specs.Views.{Node, State, no_node, node_at, opening, se
 use Rattle.machine_model.specs.declared.act.Act.{Act}
 use Rattle.machine_model.specs.declared.act.Act.TheVariants as act
 use Rattle.machine_model.specs.declared.act.Plan.TheVariants.{Changes}
-use Rattle.machine_model.specs.declared.config.Config.{Config}
-use Rattle.machine_model.specs.declared.event.Event.{Event}
+use Rattle.machine_types.specs.declared.config.Config.{Config}
+use Rattle.machine_types.specs.declared.event.Event.{Event}
 use Rattle.machine_model.proofs.log.Acts.{IsManaging, Still, acknowledged, acquired_keeps, alone_still, same-set}
 use Rattle.machine_model.proofs.log.Always.{Anything, happens_keeps}
 use Rattle.machine_model.proofs.log.Counts.{bit, sent_in, sent_out, taken_in, taken_out}

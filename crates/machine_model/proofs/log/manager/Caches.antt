@@ -29,8 +29,8 @@ use Rattle.machine_model.specs.Views.{Node, State, line_size, no_node, node_at, 
 use Rattle.machine_model.specs.declared.act.Act.{Act}
 use Rattle.machine_model.specs.declared.act.Act.TheVariants as act
 use Rattle.machine_model.specs.declared.act.Plan.TheVariants.{Changes}
-use Rattle.machine_model.specs.declared.config.Config.{Config}
-use Rattle.machine_model.specs.declared.event.Event.{Event}
+use Rattle.machine_types.specs.declared.config.Config.{Config}
+use Rattle.machine_types.specs.declared.event.Event.{Event}
 use Rattle.machine_model.proofs.coherence.LineStands.{Side}
 use Rattle.machine_model.proofs.coherence.LineViews.{Answering, evicted_says, front_here, granted_other, answered_other, of_line, probed_says}
 use Rattle.machine_model.proofs.log.Acts.{IsAlone, Still, alone_still, if_granted, if_handled}

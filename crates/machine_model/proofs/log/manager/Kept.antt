@@ -24,7 +24,7 @@ use Rattle.machine_model.specs.LawfulLog.{is_acquire, may_send}
 use Rattle.machine_model.proofs.log.Parts.{is_probe_or_grant}
 use Rattle.machine_model.specs.Views.{State, line_size, node_at, place_of, sent, size_of_config, with_node}
 use Rattle.machine_model.specs.declared.act.Act.{Act}
-use Rattle.machine_model.specs.declared.config.Config.{Config}
+use Rattle.machine_types.specs.declared.config.Config.{Config}
 use Rattle.machine_model.proofs.Growth.{Follows, acted_follows}
 use Rattle.machine_model.proofs.log.Acts.{IsAlone, alone_still}
 use Rattle.machine_model.proofs.log.Counts.{EachSent, one_sent, one_taken}

@@ -1,6 +1,6 @@
 use Rattle.std.proofs.Common.{subst}
 use Rattle.machine_model.specs.Laws.{IsHeadline}
-use Rattle.machine_model.specs.declared.config.Config.{Config}
+use Rattle.machine_types.specs.declared.config.Config.{Config}
 use Rattle.command_files.proofs.Replays.{leads_there, readable}
 use Rattle.replay_command.proofs.composing.replay_and_write.Goals as goal
 

@@ -9,11 +9,11 @@ use Rattle.command_files.specs.declared.fault.Fault.TheVariants.{CannotWrite, Ou
 use Rattle.command_settings.specs.declared.wanted.Run.{Run}
 use Rattle.elf_loader.specs.Image.{Initial}
 use Rattle.elf_loader.specs.Size.{IsMemoryKib}
-use Rattle.machine_model.specs.Config.{is_within_limits}
+use Rattle.machine_types.specs.Config.{is_within_limits}
 use Rattle.machine_model.specs.LawfulLog.{IsLawfulLog}
 use Rattle.machine_model.specs.Laws.{IsHeadline}
-use Rattle.machine_model.specs.declared.config.Config.{Config}
-use Rattle.machine_model.specs.declared.event.Event.{Event}
+use Rattle.machine_types.specs.declared.config.Config.{Config}
+use Rattle.machine_types.specs.declared.event.Event.{Event}
 use Rattle.std.specs.Io.KnownBytes.{Appends}
 use Rattle.std.specs.List.{AllByRecursion}
 use Rattle.text_fields.specs.Writing.{Begins}

@@ -5,8 +5,8 @@ use Rattle.explore_command.proofs.Faults.{first_left, first_told, folder_left, f
 use Rattle.explore_command.proofs.Judged.{judged_on}
 use Rattle.explore_command.proofs.Kept.{outcome_file, spares_wider}
 use Rattle.explorer.specs.Ends.{outcome_of}
-use Rattle.machine_model.specs.Config.{is_within_limits}
-use Rattle.machine_model.specs.declared.config.Config.{Config}
+use Rattle.machine_types.specs.Config.{is_within_limits}
+use Rattle.machine_types.specs.declared.config.Config.{Config}
 use Rattle.sample_command.proofs.Runs.{all, all_made, part}
 use Rattle.sample_command.proofs.sampling.sample_files.Goals as goal
 

@@ -1,7 +1,7 @@
 use Rattle.std.proofs.Common.{List, ◌++◌, sym, subst}
 use Rattle.std.proofs.lemmas.List.{append-nil}
 use Rattle.std.specs.List.{flat_map}
-use Rattle.machine_model.specs.declared.event.Event.{Event}
+use Rattle.machine_types.specs.declared.event.Event.{Event}
 use Rattle.text_fields.specs.Pages.{Paged}
 use Rattle.text_fields.specs.Writing.{Begins}
 use Rattle.text_fields.proofs.Pages.{page_first, page_as, page_more, page_fails, page_out}

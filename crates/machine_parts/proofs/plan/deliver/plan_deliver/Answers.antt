@@ -3,7 +3,7 @@ use Rattle.machine_model.specs.Deliveries.{plan_front}
 use Rattle.machine_model.specs.Views.{node_at}
 use Rattle.machine_model.specs.declared.act.Act.TheVariants as act
 use Rattle.machine_model.specs.declared.act.Plan.TheVariants.{Changes}
-use Rattle.machine_model.specs.declared.outcome.Outcome.{Outcome}
+use Rattle.machine_types.specs.declared.outcome.Outcome.{Outcome}
 use Rattle.machine_parts.specs.Deciding.{unless_stalled}
 use Rattle.machine_parts.specs.Parts.{state_of}
 use Rattle.machine_parts.proofs.Fronts.{front_waits, from_base, noted_line}

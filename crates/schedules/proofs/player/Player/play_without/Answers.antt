@@ -1,5 +1,5 @@
 use Rattle.std.proofs.Common.{◌∙◌}
-use Rattle.machine_model.specs.declared.event.Event.TheVariants as event
+use Rattle.machine_types.specs.declared.event.Event.TheVariants as event
 use Rattle.schedules.proofs.Shorter.{skip_next, take_next}
 use Rattle.schedules.proofs.player.Player.play_without.Goals as goal
 

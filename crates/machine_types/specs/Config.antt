@@ -1,6 +1,6 @@
 -- Which configurations a machine can be made of.
 use Rattle.std.specs.Prelude.{ℕ, Bool, ◌&&◌, ◌||◌, ◌==◌, nat_le}
-use Rattle.machine_model.specs.declared.config.Config.{Config}
+use Rattle.machine_types.specs.declared.config.Config.{Config}
 
 -- a power of two from 1 to 64
 abbrev pub is_power_to_64 : ℕ → Bool

@@ -1,0 +1,10 @@
+//! What a machine is made of, what happens to it, and what comes of it.
+#![tactic(auto)]
+
+mod config;
+mod event;
+mod outcome;
+
+pub use config::Config;
+pub use event::Event;
+pub use outcome::Outcome;
