@@ -1,4 +1,3 @@
-mod Numbers
 mod FoundPlans
 mod Patches
 mod Limits

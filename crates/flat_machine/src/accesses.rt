@@ -4,18 +4,16 @@ ghost use Rattle.flat_machine.specs.Accesses.{fetched_of};
 ghost use Rattle.flat_machine.specs.Memories as memory_spec;
 ghost use Rattle.flat_machine.specs.Plans.{meant};
 ghost use Rattle.flat_model.specs.Steps as spec;
-ghost use Rattle.memory_model.specs.declared.operation.Kind.TheVariants.{Load, Store};
 ghost use Rattle.memory_model.specs.Items.{annotations_of};
-ghost use Rattle.memory_model.specs.Rules.{fences};
 ghost use Rattle.rv32_exec.specs.Width.{bytes_of};
 
 use crate::memory::Memory;
 use crate::node::Node;
 use crate::plan::Plan;
-use crate::words::{marks_of, read_from, store_of, word_of};
 use amo_unit::combine;
 use hart::Retired;
 use machine_model::{Deed, MemoryModel};
+use machine_parts::{marks_of, orders_after_stores, read_from, store_of, word_of};
 use machine_types::Outcome;
 use rv32_decode::{AmoOp, Instr, Register};
 use rv32_exec::Width;
@@ -200,35 +198,6 @@ pub(crate) fn plan_amo(
     }
     let old = read_from(memory.word(address), address, Width::Word);
     update(node, fetched, address, op, operand, old)
-}
-
-/// Whether an instruction orders stores before loads, and whether it orders stores before stores.
-fn orders_after_stores(instr: &Instr) -> (bool, bool)
-    ensures { result ≡ (fences (Some instr.now) Store Load, fences (Some instr.now) Store Store) }
-{
-    match instr {
-        Instr::Fence(sets) => {
-            let (before, after) = (sets.before(), sets.after());
-            (
-                before.has_writes() && after.has_reads(),
-                before.has_writes() && after.has_writes(),
-            )
-        }
-        Instr::FenceTso => (false, true),
-        Instr::Upper { .. }
-        | Instr::Jal { .. }
-        | Instr::Jalr { .. }
-        | Instr::Branch { .. }
-        | Instr::Load { .. }
-        | Instr::Store { .. }
-        | Instr::Immediate { .. }
-        | Instr::Shift { .. }
-        | Instr::Register { .. }
-        | Instr::System(_)
-        | Instr::Lr { .. }
-        | Instr::Sc { .. }
-        | Instr::Amo { .. } => (false, false),
-    }
 }
 
 /// One that orders stores before loads waits until no store waits; one that orders stores before stores

@@ -17,6 +17,7 @@ ghost use Rattle.machine_parts.specs.Parts.{state_of};
 
 use crate::node::Node;
 use crate::parts::{Parts, line_size};
+pub use access::orders_after_stores;
 use deliver::plan_deliver;
 use drain::plan_drain;
 use elf_loader::{BASE, Image};

@@ -10,7 +10,7 @@ use store_buffer::{ByteMask, Store};
 use tl_types::{LineData, LineSize};
 
 /// The address of the aligned word that an address lies in.
-pub(crate) fn word_of(address: u32) -> u32
+pub fn word_of(address: u32) -> u32
     ensures { result ≡ word_of address }
 {
     address - address % 4
@@ -50,8 +50,8 @@ pub(crate) fn word_in(line: &LineData, word: u32) -> [u8; 4]
     }
 }
 
-/// The bytes of an access in its word.
-pub(crate) fn marks_of(address: u32, size: Width) -> ByteMask
+/// The bytes of an access in its word, as marks: the lowest address first.
+pub fn marks_of(address: u32, size: Width) -> ByteMask
     requires aligned { address % bytes_of size ≡ 0 }
     ensures { result ≡ marks_of_access (address % 4) (bytes_of size) }
 {
@@ -59,7 +59,7 @@ pub(crate) fn marks_of(address: u32, size: Width) -> ByteMask
 }
 
 /// The number that an access reads, where the bytes of its word are these.
-pub(crate) fn read_from(word: [u8; 4], address: u32, size: Width) -> u32
+pub fn read_from(word: [u8; 4], address: u32, size: Width) -> u32
     ensures { result ≡ read_from word address (bytes_of size) }
 {
     let number = u32::from_le_bytes(word) >> (8 * (address % 4));
@@ -71,7 +71,7 @@ pub(crate) fn read_from(word: [u8; 4], address: u32, size: Width) -> u32
 }
 
 /// A store of a number, by the entry at this place of its hart's list.
-pub(crate) fn store_of(address: u32, size: Width, value: u32, op: u32) -> Store
+pub fn store_of(address: u32, size: Width, value: u32, op: u32) -> Store
     requires aligned { address % bytes_of size ≡ 0 }
     requires fits { value < 2 ^ (8 * bytes_of size) }
     ensures { result ≡ store_of address (bytes_of size) value op }

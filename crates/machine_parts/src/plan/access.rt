@@ -208,7 +208,7 @@ pub(crate) fn plan_amo(
 }
 
 /// Whether an instruction orders stores before loads, and whether it orders stores before stores.
-fn orders_after_stores(instr: &Instr) -> (bool, bool)
+pub fn orders_after_stores(instr: &Instr) -> (bool, bool)
     ensures { result ≡ (fences (Some instr.now) Store Load, fences (Some instr.now) Store Store) }
 {
     match instr {
