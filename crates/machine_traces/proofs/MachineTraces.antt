@@ -29,7 +29,6 @@ use Rattle.machine_traces.specs.MachineTraces.{EveryTraceHasAText}
 use Rattle.trace_text.specs.TraceHeads.{IsTraceHead}
 use Rattle.trace_text.specs.TraceLimits.{IsBody, IsData, IsHart, IsLoaded, IsLogged, IsOperation, IsRetired, IsStatus}
 use Rattle.trace_text.specs.Traces.{head_of}
-use Rattle.trace_text.specs.declared.head.TraceHead.{TraceHead}
 
 all_map : {X : Type 0} (P Q : X → Type 0) → ((x : X) → P x → Q x) → (xs : List X) → AllByRecursion P xs → AllByRecursion Q xs
 all_map P Q f [] all = tt
@@ -77,8 +76,8 @@ some_length : (size : LineSize) → 1 ≤ length_of size
 some_length sizes.Bytes16 = omega arith
 some_length sizes.Bytes64 = omega arith
 
-logged_fits : (s : State) (h : TraceHead) → h.line ≡ line_size s → h.harts ≡ s.views.config.harts → h.kib * 1024 ≡ length s.trace.image.bytes → (l : Logged) → IsOfMachine s l → IsLogged h l
-logged_fits s h line harts kib l is =
+logged_fits : (s : State) (t : History) → t.line ≡ line_size s → length t.statuses ≡ s.views.config.harts → length t.image.bytes / 1024 * 1024 ≡ length s.trace.image.bytes → (l : Logged) → IsOfMachine s l → IsLogged (head_of t) l
+logged_fits s t line harts kib l is =
     let p : IsPiece s.trace.image l.message.line (length_of (line_size s)) = piece s.trace.image l.message.line (length_of (line_size s)) is.line in
     record {
       hart = subst (λ n. l.hart < n) (sym harts) is.hart;
@@ -136,7 +135,7 @@ every_trace_has_a_text image config events is within = record {
   lists = lists;
   entries = harts_fit t.entries ranges.entries sound.places;
   performed = all_map (NamesPlace t) (IsOperation (length t.statuses)) placed t.performed ranges.performed;
-  log = all_map (IsOfMachine s) (IsLogged (head_of t)) (logged_fits s (head_of t) sound.line sound.statuses (whole_kib (length t.image.bytes) sound.image.legal_size)) t.log ranges.log;
+  log = all_map (IsOfMachine s) (IsLogged (head_of t)) (logged_fits s t sound.line sound.statuses (whole_kib (length t.image.bytes) sound.image.legal_size)) t.log ranges.log;
   statuses = all_map HasCode IsStatus status_fits t.statuses ranges.statuses;
 }
   where
