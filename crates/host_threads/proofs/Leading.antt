@@ -1,14 +1,15 @@
 -- Where a journal leads, and that no event of it is refused where each changed the machine.
-use Rattle.std.proofs.Common.{◌≡◌, ◌∙◌, refl, sym, ap, subst, ℕ, ◌+◌, ◌≤◌, List, [], ◌∷◌, length, arith, IsTrue}
+use Rattle.std.proofs.Common.{◌≡◌, ◌∙◌, refl, sym, subst, ℕ, ◌+◌, List, [], ◌∷◌, IsTrue}
 use Rattle.coherent_machine.specs.Machine.{IsReached, KeepsHeadline, Replayed, replayed_from, unless_refused}
 use Rattle.elf_loader.specs.Image.{Initial, IsImage}
-use Rattle.locked_fabric.specs.Held.{Held, IsReplay}
+use Rattle.locked_fabric.specs.Held.{AreMoves, Held, IsReplay, reset_of}
 use Rattle.machine_types.specs.declared.config.Config.{Config}
 use Rattle.machine_types.specs.declared.event.Event.{Event}
+use Rattle.machine_types.specs.declared.outcome.Outcome.{Outcome}
 use Rattle.machine_types.specs.Config.{is_within_limits}
-use Rattle.machine_model.specs.Events.{Verdict, after_events, happens, state_by, verdict}
-use Rattle.machine_model.specs.Events.Verdict.{IsBad, Keeps, IsLimited, Moves}
-use Rattle.machine_model.specs.Laws.{ChangesAreCounted, IsHeadline}
+use Rattle.machine_model.specs.Events.{Verdict, after_events, happens, verdict}
+use Rattle.machine_model.specs.Events.Verdict.{Moves}
+use Rattle.machine_model.specs.Laws.{IsHeadline}
 use Rattle.machine_model.specs.Views.{State, opening}
 
 -- a machine of this image and configuration is where its journal leads from their reset
@@ -39,34 +40,18 @@ headline_at image config s t of_image of_config same keeps =
     subst (λ (u : State). IsHeadline image config u) same
     (subst (λ (k : Config). IsHeadline image k s) of_config (subst (λ (i : Initial). IsHeadline i s.views.config s) of_image keeps))
 
--- ---- an event counts at most once, and once only where it moves the machine
+-- ---- no event that changes the machine is refused
 
-counts_once : ChangesAreCounted → (s : State) (e : Event) (v : Verdict) → verdict s e ≡ v → (state_by s v).views.changes ≤ s.views.changes + 1
-counts_once law s e IsBad is = omega arith
-counts_once law s e (Keeps o) is = omega arith
-counts_once law s e IsLimited is = omega arith
-counts_once law s e (Moves o new) is = let one = law s e o new is in omega (arith, one)
+goes_on : (i : ℕ) (next : Replayed) (v : Verdict) (o : Outcome) (new : State) → v ≡ Moves o new → unless_refused v i next ≡ next
+goes_on i next v o new is = subst (λ (w : Verdict). unless_refused w i next ≡ next) (sym is) refl
 
-count_within : ChangesAreCounted → (s : State) (events : List Event) → (after_events s events).views.changes ≤ s.views.changes + length events
-count_within law s [] = omega arith
-count_within law s (e ∷ events) =
-    let one = counts_once law s e (verdict s e) refl in
-    let more = count_within law (happens s e) events in
-    omega (arith, one, more)
+pub none_refused : (i : ℕ) (s : State) (events : List Event) → AreMoves s events → replayed_from i s events ≡ Replayed.Reached (after_events s events)
+none_refused i s [] all = refl
+none_refused i s (e ∷ events) all = goes_on i (replayed_from (i + 1) (happens s e) events) (verdict s e) all.0.0 all.0.1 all.0.2 ∙ none_refused (i + 1) (happens s e) events all.1
 
--- what an event leads to, by its verdict, where as many more changes are counted as events remain
-unrefused : ChangesAreCounted → (i : ℕ) (s : State) (e : Event) (events : List Event) (v : Verdict) → verdict s e ≡ v
-    → ((t : State) → (after_events t events).views.changes ≡ t.views.changes + length events → replayed_from (i + 1) t events ≡ Replayed.Reached (after_events t events))
-    → (after_events (state_by s v) events).views.changes ≡ s.views.changes + (length events + 1)
-    → unless_refused v i (replayed_from (i + 1) (state_by s v) events) ≡ Replayed.Reached (after_events (state_by s v) events)
-unrefused law i s e events IsBad is rest all = absurd (let few = count_within law s events in omega (arith, few, all))
-unrefused law i s e events (Keeps o) is rest all = absurd (let few = count_within law s events in omega (arith, few, all))
-unrefused law i s e events IsLimited is rest all = absurd (let few = count_within law s events in omega (arith, few, all))
-unrefused law i s e events (Moves o new) is rest all = rest new (let one = law s e o new is in omega (arith, one, all))
-
--- where as many changes are counted as there are events, none is refused
-pub none_refused : ChangesAreCounted → (i : ℕ) (s : State) (events : List Event) → (after_events s events).views.changes ≡ s.views.changes + length events
-    → replayed_from i s events ≡ Replayed.Reached (after_events s events)
-none_refused law i s [] all = refl
-none_refused law i s (e ∷ events) all =
-    unrefused law i s e events (verdict s e) refl (λ t. none_refused law (i + 1) t events) (omega (arith, all))
+-- the journal of a machine of this image and configuration
+pub moves_from : (image : Initial) (config : Config) (held : Held) (journal : List Event) → held.machine.trace.image ≡ image → held.machine.views.config ≡ config → AreMoves (reset_of held) held.journal → journal ≡ held.journal
+    → AreMoves (opening image config) journal
+moves_from image config held journal of_image of_config moves of_journal =
+    subst (λ (events : List Event). AreMoves (opening image config) events) (sym of_journal)
+    (subst (λ (k : Config). AreMoves (opening image k) held.journal) of_config (subst (λ (i : Initial). AreMoves (opening i held.machine.views.config) held.journal) of_image moves))

@@ -1,5 +1,6 @@
 pub mod Joining
 pub mod Leading
+pub mod Limit
 pub mod Pace
 pub mod Round
 pub mod Sets

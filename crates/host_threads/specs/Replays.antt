@@ -4,6 +4,7 @@ use Rattle.std.specs.List.{All}
 use Rattle.coherent_machine.specs.Machine.{Replayed, replayed_from}
 use Rattle.elf_loader.specs.Image.{Initial}
 use Rattle.host_threads.specs.declared.report.Report.{Report}
+use Rattle.locked_fabric.specs.Held.{AreMoves}
 use Rattle.machine_types.specs.declared.config.Config.{Config}
 use Rattle.machine_model.specs.Events.{after_events}
 use Rattle.machine_model.specs.Views.{State, opening}
@@ -23,6 +24,10 @@ pub record IsOf (image : Initial) (config : Config) (report : Report) : Type 0 w
 pub record IsWithinLimit (limit : ℕ) (report : Report) : Type 0 where
   pub events : length report.journal.items ≤ limit
   pub harts : All (λ receipt. receipt ≤ limit) report.receipts.items
+
+-- each event of the journal changes the machine to which those before it lead
+abbrev pub JournalMoves : Initial → Config → Report → Type 0
+JournalMoves image config report = AreMoves (opening image config) report.journal.items
 
 -- no event of the journal is refused on the way there
 abbrev pub JournalReplays : Initial → Config → Report → Type 0

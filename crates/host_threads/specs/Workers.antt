@@ -1,8 +1,16 @@
--- What contracts see of a worker.
-use Rattle.std.specs.Prelude.{ℕ}
+-- What contracts see of a worker, and what its thread hands back.
+use Rattle.host_threads.specs.Pace.{IsPaced}
+use Rattle.host_threads.specs.declared.worker.Common.{Common}
+use Rattle.host_threads.specs.declared.worker.Done.{Done}
 use Rattle.host_threads.specs.declared.worker.Worker.{Worker}
 use Rattle.locked_fabric.specs.declared.turn.Turn as turn
+use Rattle.progress_board.specs.Seat.{IsSeatOf, view}
 
--- how many events the run has at most
-abbrev pub limit_of : {L T : Type 0} {g : turn.Ghosts T} → Worker L T g → ℕ
-limit_of worker = worker.common.now.limit
+-- what it shares with the run's other workers
+abbrev pub common_of : {L T : Type 0} {g : turn.Ghosts T} → Worker L T g → Common
+common_of worker = worker.common.now
+
+-- its seat, and a share that counts no more events than the seat drew numbers below the limit
+pub record HandsBack {L : Type 0} (common : Common) (done : Done L) : Type 0 where
+  pub seat : IsSeatOf common.board done.seat
+  pub paced : IsPaced common.limit (view done.seat) done.share

@@ -2,7 +2,7 @@
 
 ghost use Rattle.std.specs.Prelude.{◌≡◌, ◌≢◌, ◌≤◌, Err, IfOk, vec_len};
 ghost use Rattle.std.specs.List.{All};
-ghost use Rattle.host_threads.specs.Workers.{limit_of};
+ghost use Rattle.host_threads.specs.Workers.{HandsBack, common_of};
 ghost use Rattle.progress_board.specs.Seat.{IsSeatOf};
 
 use crate::gate::Gate;
@@ -11,6 +11,7 @@ use crate::worker::{Common, Done, Worker};
 use locked_fabric::{Fabric, Port, Share, Turn};
 use progress_board::Seat;
 use std::alloc::AllocError;
+use std::snapshot::Snapshot;
 use std::sync::atomic::Ordering;
 use std::sync::ledger::Ledger;
 use std::sync::{Mutex, Wait};
@@ -31,7 +32,7 @@ pub(crate) fn workers<'a, L: Ledger, T: Turn + Drop>(
     requires seats { vec_len seats ≡ vec_len shares }
     requires turns { vec_len turns ≡ vec_len shares }
     ensures made { IfOk result (λ made. vec_len made ≡ vec_len shares) }
-    ensures limit { IfOk result (λ made. All (λ worker. limit_of worker ≡ common.now.limit) made.items) }
+    ensures common { IfOk result (λ made. All (λ worker. common_of worker ≡ common.now) made.items) }
 {
     let harts = shares.len() as u8;
     let mut made = Vec::with_capacity(common.alloc, shares.len())?;
@@ -51,14 +52,14 @@ pub(crate) fn workers<'a, L: Ledger, T: Turn + Drop>(
     Ok(made)
 }
 
-/// A worker's thread hands back a share that counts at most so many events.
+/// The thread of a worker that shares this hands back what [`Worker::run`] does.
 #[derive(Drop)]
-struct AtMost(u64);
+struct Shared(Snapshot<Common>);
 
-impl<L: Ledger> Promise<Done<L>> for AtMost {
-    ghost use Rattle.std.specs.Prelude.{◌≤◌};
+impl<L: Ledger> Promise<Done<L>> for Shared {
+    ghost use Rattle.host_threads.specs.Workers.{HandsBack};
 
-    ghost kept_by = { λ most done. done.share ≤ most.0 };
+    ghost kept_by = { λ shared done. HandsBack shared.0.value done };
 }
 
 /// Runs each worker in a thread of its own, and joins them all, the last worker's first.
@@ -74,9 +75,9 @@ pub(crate) fn run_all<
     mut workers: Vec<Worker<'a, L, T>>,
     gate: &G,
 ) -> Result<Vec<Done<L>>, RunError>
-    requires { All (λ worker. limit_of worker ≡ common.now.limit) workers.items }
+    requires { All (λ worker. common_of worker ≡ common.now) workers.items }
     ensures done { IfOk result (λ done. vec_len done ≡ vec_len workers.entry) }
-    ensures limit { IfOk result (λ done. All (λ one. one.share ≤ common.now.limit) done.items) }
+    ensures back { IfOk result (λ done. All (HandsBack common.now) done.items) }
     ensures config { result ≢ Err RunError.Config }
 {
     let count = workers.len();
@@ -85,12 +86,12 @@ pub(crate) fn run_all<
         rt,
         |scope| -> Result<Vec<Done<L>>, RunError>
             requires count { vec_len workers ≡ count }
-            requires limit { All (λ worker. limit_of worker ≡ common.now.limit) workers.items }
+            requires common { All (λ worker. common_of worker ≡ common.now) workers.items }
             ensures done { IfOk result (λ done. vec_len done ≡ count) }
-            ensures limit { IfOk result (λ done. All (λ one. one.share ≤ common.entry.now.limit) done.items) }
+            ensures back { IfOk result (λ done. All (HandsBack common.entry.now) done.items) }
             ensures config { result ≢ Err RunError.Config }
         {
-            let mut running: Vec<PromisedHandle<Done<L>, AtMost>> = Vec::with_capacity(
+            let mut running: Vec<PromisedHandle<Done<L>, Shared>> = Vec::with_capacity(
                 common.alloc,
                 count,
             )?;
@@ -101,9 +102,9 @@ pub(crate) fn run_all<
                     unreachable!()
                 };
                 match scope.spawn_with(
-                    AtMost(common.limit),
+                    Shared(Snapshot::of(common)),
                     move || -> Done<L>
-                        ensures { result.share ≤ limit_of worker.entry }
+                        ensures { HandsBack (common_of worker.entry) result }
                     { worker.run(rt, gate) },
                 ) {
                     Ok(thread) => running.push_reserved(thread),

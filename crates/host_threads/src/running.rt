@@ -1,13 +1,13 @@
 //! A whole run.
 
-ghost use Rattle.std.specs.Prelude.{◌≡◌, ◌≢◌, ◌≤◌, ◌↔◌, ◌⊎◌, Err, IfOk, IsTrue, false, length, map, vec_len};
+ghost use Rattle.std.specs.Prelude.{◌≡◌, ◌≢◌, ◌↔◌, ◌⊎◌, Err, IfOk, IsTrue, false, map, vec_len};
 ghost use Rattle.std.specs.List.{All};
 ghost use Rattle.coherent_machine.specs.Machine.{IsReached};
-ghost use Rattle.host_threads.specs.Replays.{IsOf, IsWithinLimit, JournalReplays, end_of_journal};
+ghost use Rattle.host_threads.specs.Replays.{IsOf, IsWithinLimit, JournalMoves, JournalReplays, end_of_journal};
 ghost use Rattle.machine_types.specs.Config as limits;
 ghost use Rattle.machine_model.specs.LawfulLog.{IsLawfulLog};
 ghost use Rattle.machine_model.specs.Laws.{IsHeadline};
-ghost use Rattle.progress_board.specs.Seat.{IsSeatOf};
+ghost use Rattle.progress_board.specs.Seat.{IsSeatOf, harts_of};
 
 use crate::crew::{run_all, workers};
 use crate::gate::Gate;
@@ -17,9 +17,8 @@ use crate::same::is_of;
 use crate::worker::{Common, Done};
 use elf_loader::Image;
 use locked_fabric::{Fabric, Share, Turn};
-use machine_model::changes_are_counted;
 use machine_parts::is_within_limits;
-use machine_types::{Config, Event};
+use machine_types::Config;
 use progress_board::{Board, Seat};
 use std::alloc::{AllocError, Global};
 use std::marker::Brand;
@@ -39,6 +38,7 @@ pub fn run<G: Gate + Sync, R: Threads + Wait + Sync>(
     gate: &G,
 ) -> Result<Report, RunError>
     ensures report { IfOk result (λ report. IsOf image config report) }
+    ensures moves { IfOk result (λ report. JournalMoves image config report) }
     ensures replays { IfOk result (λ report. JournalReplays image config report) }
     ensures reached { IfOk result (λ report. IsReached (end_of_journal image config report)) }
     ensures headline { IfOk result (λ report. IsHeadline image config (end_of_journal image config report)) }
@@ -77,6 +77,7 @@ pub fn run_with<G: Gate + Sync, T: Turn + Drop + Send, R: Threads + Wait + Sync>
     turns: Vec<T>,
 ) -> Result<Report, RunError>
     ensures report { IfOk result (λ report. IsOf image config report) }
+    ensures moves { IfOk result (λ report. JournalMoves image config report) }
     ensures replays { IfOk result (λ report. JournalReplays image config report) }
     ensures reached { IfOk result (λ report. IsReached (end_of_journal image config report)) }
     ensures headline { IfOk result (λ report. IsHeadline image config (end_of_journal image config report)) }
@@ -121,10 +122,12 @@ fn run_counted<
     requires harts { blank.parts ≡ common.now.config.harts }
     requires limits { IsTrue (limits.is_within_limits common.now.config) }
     requires image { common.now.image ≡ image }
+    requires made { harts_of common.now.board ≡ common.now.config.harts }
     requires board { All (λ seat. IsSeatOf common.now.board seat) seats.items }
     requires seats { vec_len seats ≡ common.now.config.harts }
     requires turns { vec_len turns ≡ common.now.config.harts }
     ensures report { IfOk result (λ report. IsOf image common.now.config report) }
+    ensures moves { IfOk result (λ report. JournalMoves image common.now.config report) }
     ensures replays { IfOk result (λ report. JournalReplays image common.now.config report) }
     ensures reached { IfOk result (λ report. IsReached (end_of_journal image common.now.config report)) }
     ensures headline { IfOk result (λ report. IsHeadline image common.now.config (end_of_journal image common.now.config report)) }
@@ -132,20 +135,15 @@ fn run_counted<
     ensures limit { IfOk result (λ report. IsWithinLimit common.now.limit report) }
     ensures config { result ≢ Err RunError.Config }
 {
-    changes_are_counted();
     let alloc = common.alloc;
     let (fabric, shares) = Fabric::<L>::new(alloc, blank, image, common.config)?;
     let lock = Mutex::new(fabric);
     let crew = workers(common, &lock, seats, shares, turns)?;
     let done = run_all(rt, common, crew, gate)?;
-    let shares = shares_of(alloc, done)?;
+    let (seats, shares) = handed_back(alloc, done)?;
+    let _numbers = common.board.settle(seats);
     let fabric = lock.into_inner();
     if !is_of(fabric.machine(), &common.image, &common.config) {
-        return Err(RunError::Mismatch);
-    }
-    // Each thread draws a number below the limit for each of its events. That no two draw one is the
-    // board's rule, which a single seat can't tell.
-    if !is_within(fabric.journal(), common.limit) {
         return Err(RunError::Mismatch);
     }
     let (machine, journal, receipts) = fabric.into_parts(shares);
@@ -158,26 +156,24 @@ fn run_counted<
     })
 }
 
-// Whether there are no more events than the limit says.
-fn is_within(journal: &[Event], limit: u64) -> bool
-    ensures { IsTrue result ↔ (length journal.now ≤ limit) }
-{
-    journal.len() as u64 <= limit
-}
-
-// The shares in their order, or the first fault.
-fn shares_of<L: Ledger>(alloc: Global, done: Vec<Done<L>>) -> Result<Vec<Share<L>>, RunError>
-    ensures shares { IfOk result (λ shares. vec_len shares ≡ vec_len done) }
-    ensures each { IfOk result (λ shares. shares.items ≡ map (λ one. one.share) done.items) }
+// The seats and the shares in their order, or the first fault.
+fn handed_back<L: Ledger>(
+    alloc: Global,
+    done: Vec<Done<L>>,
+) -> Result<(Vec<Seat>, Vec<Share<L>>), RunError>
+    ensures seats { IfOk result (λ back. back.0.items ≡ map (λ one. one.seat) done.items) }
+    ensures shares { IfOk result (λ back. back.1.items ≡ map (λ one. one.share) done.items) }
     ensures config { result ≢ Err RunError.Config }
 {
+    let mut seats = Vec::with_capacity(alloc, done.len())?;
     let mut shares = Vec::with_capacity(alloc, done.len())?;
     for one in done {
-        let Done { share, fault } = one;
+        let Done { seat, share, fault } = one;
         if let Some(fault) = fault {
             return Err(RunError::from(fault));
         }
+        seats.push_reserved(seat);
         shares.push_reserved(share);
     }
-    Ok(shares)
+    Ok((seats, shares))
 }

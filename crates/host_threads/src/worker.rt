@@ -1,6 +1,6 @@
 //! What one thread does.
 
-ghost use Rattle.std.specs.Prelude.{◌≡◌, ◌+◌, ◌≤◌, IfOk, OnErr};
+ghost use Rattle.std.specs.Prelude.{◌≡◌, ◌+◌, IfOk, OnErr};
 ghost use Rattle.hart.specs.Local.{row_of};
 ghost use Rattle.host_threads.specs.Pace.{IsPaced};
 ghost use Rattle.locked_fabric.specs.Port.{seat_of, share_of};
@@ -15,7 +15,7 @@ use elf_loader::Image;
 use hart::{Batch, Hart, run_local};
 use locked_fabric::{Numbers, Port, Share, Taken, Turn};
 use machine_types::{Config, Event, Outcome};
-use progress_board::Board;
+use progress_board::{Board, Seat};
 use std::alloc::{AllocError, Global};
 use std::sync::Wait;
 use std::sync::atomic::{AtomicBool, Ordering};
@@ -57,15 +57,18 @@ pub(crate) struct Worker<'a, L: Ledger, T: Turn + Drop> {
 /// What a thread hands back.
 #[derive(Drop)]
 pub(crate) struct Done<L: Ledger> {
+    pub(crate) seat: Seat,
     pub(crate) share: Share<L>,
     pub(crate) fault: Option<Fault>,
 }
 
 impl<'a, L: Ledger, T: Turn + Drop> Worker<'a, L, T> {
+    ghost use Rattle.host_threads.specs.Workers.{HandsBack, common_of};
+
     pub(crate) fn new(common: &'a Common, port: Port<'a, L>, hart: u8, turn: T) -> Worker<'a, L, T>
         requires seat { IsSeatOf common.now.board port.seat }
         requires share { share_of port ≡ 0 }
-        ensures { result.common.now.limit ≡ common.now.limit }
+        ensures { common_of result ≡ common.now }
     {
         let turn = Watched {
             turn,
@@ -87,7 +90,7 @@ impl<'a, L: Ledger, T: Turn + Drop> Worker<'a, L, T> {
 
     /// Takes turns until the run is over for this hart.
     pub(crate) fn run<R: Wait, G: Gate>(mut self, rt: &R, gate: &G) -> Done<L>
-        ensures { result.share ≤ self.entry.common.now.limit }
+        ensures { HandsBack (common_of self.entry) result }
     {
         let mut fault = None;
         let mut turn = 0u64;
@@ -108,8 +111,8 @@ impl<'a, L: Ledger, T: Turn + Drop> Worker<'a, L, T> {
             }
         }
         self.halt();
-        let (_seat, share) = self.port.end();
-        Done { share, fault }
+        let (seat, share) = self.port.end();
+        Done { seat, share, fault }
     }
 
     // Lets the gate see the published lengths.

@@ -5,7 +5,7 @@ use Rattle.elf_loader.specs.Image.{Initial}
 use Rattle.machine_types.specs.declared.config.Config.{Config}
 use Rattle.machine_types.specs.declared.event.Event.{Event}
 use Rattle.machine_types.specs.declared.outcome.Outcome.{Outcome}
-use Rattle.machine_model.specs.Events.{Verdict, verdict, after_events}
+use Rattle.machine_model.specs.Events.{Verdict, verdict, after_events, happens}
 use Rattle.machine_model.specs.Events.Verdict.{IsBad, Keeps, IsLimited, Moves}
 use Rattle.machine_model.specs.LawfulLog.{IsLawfulLog}
 use Rattle.machine_model.specs.Views.{State, opening}
@@ -23,9 +23,23 @@ pub record Held : Type 0 where
 abbrev pub IsReplay : Held → Type 0
 IsReplay held = after_events (opening held.machine.trace.image held.machine.views.config) held.journal ≡ held.machine
 
--- what each fabric keeps: its machine is its journal's replay, the book is the journal's length, each event in the journal changed the machine and no other did, the headline holds, and the log is lawful
+-- the event changes this machine
+abbrev pub IsMove : State → Event → Type 0
+IsMove s e = (o : Outcome) × (new : State) × (verdict s e ≡ Moves o new)
+
+-- each event changes the machine to which those before it lead
+abbrev pub AreMoves : State → List Event → Type 0
+AreMoves s [] = Unit {0}
+AreMoves s (e ∷ events) = IsMove s e × AreMoves (happens s e) events
+
+-- the machine as it was reset
+abbrev pub reset_of : Held → State
+reset_of held = opening held.machine.trace.image held.machine.views.config
+
+-- what each fabric keeps: its machine is its journal's replay, each event of the journal changed it, the book is the journal's length, no other event changed it, the headline holds, and the log is lawful
 pub record IsKept (held : Held) : Type 0 where
   pub replay : IsReplay held
+  pub moves : AreMoves (reset_of held) held.journal
   pub book : held.book ≡ length held.journal
   pub changes : held.machine.views.changes ≡ held.book
   pub headline : KeepsHeadline held.machine

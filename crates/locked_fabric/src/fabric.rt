@@ -3,7 +3,7 @@
 ghost use Rattle.std.specs.Prelude.{◌≡◌, ◌≢◌, ◌+◌, ◌↔◌, [], length, replicate, sum, false, IsTrue, Err, IfOk, OnOk, OnErr};
 ghost use Rattle.coherent_machine.specs.Adopting.{IsCurrent, local_of};
 ghost use Rattle.coherent_machine.specs.Machine.{KeepsHeadline};
-ghost use Rattle.locked_fabric.specs.Held.{Answered, IsKept, IsReplay, journalled, opened};
+ghost use Rattle.locked_fabric.specs.Held.{Answered, AreMoves, IsKept, IsReplay, journalled, opened, reset_of};
 ghost use Rattle.locked_fabric.specs.Turns.{Takes};
 ghost use Rattle.machine_types.specs.Config.{is_within_limits};
 ghost use Rattle.machine_model.specs.Events.{Verdict, happens, verdict};
@@ -71,6 +71,7 @@ impl<L: Ledger> Fabric<L> {
         ensures shares { IfOk result (λ made. made.1.items ≡ replicate config.harts 0) }
         ensures config { (result ≡ Err NewError.Config) ↔ (is_within_limits config ≡ false) }
         ensures replay { IfOk result (λ made. IsReplay made.0) }
+        ensures moves { IfOk result (λ made. AreMoves (reset_of made.0) made.0.journal) }
         ensures book { IfOk result (λ made. made.0.book ≡ length made.0.journal) }
         ensures changes { IfOk result (λ made. made.0.machine.views.changes ≡ made.0.book) }
         ensures headline { IfOk result (λ made. IsHeadline image config made.0.machine) }
@@ -103,6 +104,7 @@ impl<L: Ledger> Fabric<L> {
         ensures err { OnErr result (self.new ≡ self.old) }
         ensures share { share.new + self.old.book ≡ share.old + self.new.book }
         ensures replay { IsReplay self.new }
+        ensures moves { AreMoves (reset_of self.new) self.new.journal }
         ensures book { self.new.book ≡ length self.new.journal }
         ensures changes { self.new.machine.views.changes ≡ self.new.book }
         ensures headline { KeepsHeadline self.new.machine }
@@ -170,6 +172,7 @@ impl<L: Ledger> Fabric<L> {
         ensures err { OnErr result (self.new ≡ self.old) }
         ensures share { share.new + self.old.book ≡ share.old + self.new.book }
         ensures replay { IsReplay self.new }
+        ensures moves { AreMoves (reset_of self.new) self.new.journal }
         ensures book { self.new.book ≡ length self.new.journal }
         ensures changes { self.new.machine.views.changes ≡ self.new.book }
         ensures headline { KeepsHeadline self.new.machine }
@@ -192,6 +195,7 @@ impl<L: Ledger> Fabric<L> {
     pub fn machine(&self) -> &Machine
         ensures machine { result.now ≡ self.now.machine }
         ensures replay { IsReplay self.now }
+        ensures moves { AreMoves (reset_of self.now) self.now.journal }
         ensures book { self.now.book ≡ length self.now.journal }
         ensures changes { self.now.machine.views.changes ≡ self.now.book }
         ensures headline { KeepsHeadline self.now.machine }
@@ -204,6 +208,7 @@ impl<L: Ledger> Fabric<L> {
     pub fn journal(&self) -> &[Event]
         ensures journal { result.now ≡ self.now.journal }
         ensures replay { IsReplay self.now }
+        ensures moves { AreMoves (reset_of self.now) self.now.journal }
         ensures book { self.now.book ≡ length self.now.journal }
         ensures changes { self.now.machine.views.changes ≡ self.now.book }
     {
@@ -220,6 +225,7 @@ impl<L: Ledger> Fabric<L> {
         ensures counts { result.2.items ≡ shares.items }
         ensures total { sum result.2.items ≡ length self.journal }
         ensures replay { IsReplay self }
+        ensures moves { AreMoves (reset_of self) self.journal }
         ensures book { self.book ≡ length self.journal }
         ensures changes { self.machine.views.changes ≡ self.book }
         ensures headline { KeepsHeadline self.machine }

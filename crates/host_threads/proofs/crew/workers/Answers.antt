@@ -3,15 +3,15 @@ use Rattle.std.proofs.lemmas.List.Elements.{All-pop, All-push}
 use Rattle.std.specs.List.{All}
 use Rattle.progress_board.specs.declared.seat.Seat.{Seat}
 use Rattle.progress_board.specs.Seat.{IsSeatOf}
-use Rattle.host_threads.specs.Workers.{limit_of}
+use Rattle.host_threads.specs.Workers.{common_of}
 use Rattle.host_threads.proofs.crew.workers.Goals as goal
 
 pub loop-hart-preserved : goal.loop-hart-preserved
 loop-hart-preserved g c = record {
   board = (All-pop (λ (seat : Seat). IsSeatOf c.args.common.now.board seat) _ _ _ c.pop.ensures.items c.loop-hart.invariant.board).0;
   opening = (All-pop (λ (share : ℕ). share ≡ 0) _ _ _ c.pop-in-loop-hart.ensures.items c.loop-hart.invariant.opening).0;
-  limit = subst (All (λ worker. limit_of worker ≡ c.args.common.now.limit)) (sym c.push_reserved.ensures.items)
-      (All-push (λ worker. limit_of worker ≡ c.args.common.now.limit) _ _ c.loop-hart.invariant.limit c.new.ensures);
+  common = subst (All (λ worker. common_of worker ≡ c.args.common.now)) (sym c.push_reserved.ensures.items)
+      (All-push (λ worker. common_of worker ≡ c.args.common.now) _ _ c.loop-hart.invariant.common c.new.ensures);
   seats = search rules;
   shares = search rules;
   turns = search rules;

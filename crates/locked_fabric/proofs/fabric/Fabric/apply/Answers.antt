@@ -22,6 +22,9 @@ invariant_of-self-then-changes g c =
 pub returns-then-changes-clause-replay : goal.returns-then-changes-clause-replay
 returns-then-changes-clause-replay g c = (invariant_of-self-then-changes g c).0.replay
 
+pub returns-then-changes-clause-moves : goal.returns-then-changes-clause-moves
+returns-then-changes-clause-moves g c = (invariant_of-self-then-changes g c).0.moves
+
 pub returns-then-changes-clause-changes : goal.returns-then-changes-clause-changes
 returns-then-changes-clause-changes g c = (invariant_of-self-then-changes g c).0.changes
 
@@ -40,6 +43,9 @@ invariant_of-self-else-changes g c =
 
 pub returns-else-changes-clause-replay : goal.returns-else-changes-clause-replay
 returns-else-changes-clause-replay g c = (invariant_of-self-else-changes g c).0.replay
+
+pub returns-else-changes-clause-moves : goal.returns-else-changes-clause-moves
+returns-else-changes-clause-moves g c = (invariant_of-self-else-changes g c).0.moves
 
 pub returns-else-changes-clause-answers : goal.returns-else-changes-clause-answers
 returns-else-changes-clause-answers g c =

@@ -20,6 +20,9 @@ invariant_of-self-2 g c =
 pub returns-clause-replay : goal.returns-clause-replay
 returns-clause-replay g c = (invariant_of-self-2 g c).0.replay
 
+pub returns-clause-moves : goal.returns-clause-moves
+returns-clause-moves g c = (invariant_of-self-2 g c).0.moves
+
 pub returns-clause-changes : goal.returns-clause-changes
 returns-clause-changes g c = (invariant_of-self-2 g c).0.changes
 

@@ -10,6 +10,9 @@ returns-clause-journal g c = search rules
 pub returns-clause-replay : goal.returns-clause-replay
 returns-clause-replay g c = search rules
 
+pub returns-clause-moves : goal.returns-clause-moves
+returns-clause-moves g c = search rules
+
 pub returns-clause-book : goal.returns-clause-book
 returns-clause-book g c = search rules
 

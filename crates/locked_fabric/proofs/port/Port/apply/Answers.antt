@@ -4,6 +4,6 @@ pub returns-clause-answers : goal.returns-clause-answers
 returns-clause-answers g c =
     let after = c.apply-applied.ensures in (
       c.apply-applied.new.self,
-      record { replay = after.replay; book = after.book; changes = after.changes; headline = after.headline; log = after.log },
+      record { replay = after.replay; moves = after.moves; book = after.book; changes = after.changes; headline = after.headline; log = after.log },
       record { old = c.deref_mut.result.now; answered = after.answers; counted = after.share },
     )

@@ -1,27 +1,27 @@
-use Rattle.std.proofs.Common.{◌≡◌, ◌≤◌, IfSome, ap, rules, subst, sym}
+use Rattle.std.proofs.Common.{◌≡◌, ◌∙◌, IfSome, ap, rules, subst, sym}
 use Rattle.std.proofs.lemmas.List.Elements.{All-pop, All-push}
 use Rattle.std.specs.List.{All}
 use Rattle.std.specs.declared.thread.PromisedHandle.{PromisedHandle}
 use Rattle.host_threads.proofs.Joining.{joined}
-use Rattle.host_threads.specs.Workers.{limit_of}
-use Rattle.host_threads.specs.declared.crew.AtMost.{AtMost}
-use Rattle.host_threads.specs.declared.worker.Done.{Done}
+use Rattle.host_threads.specs.Workers.{HandsBack, common_of}
+use Rattle.host_threads.specs.declared.crew.Shared.{Shared}
+use Rattle.host_threads.specs.declared.worker.Common.{Common}
 use Rattle.host_threads.proofs.crew.fn.run_all.scope.Goals as goal
 
 pub spawn_with-requires-clause-keeps : goal.spawn_with-requires-clause-keeps
 spawn_with-requires-clause-keeps g c = λ lifetimes outlives done kept.
-    let n = c.captures.common.now.limit in
-    let popped = (All-pop (λ worker. limit_of worker ≡ n) _ _ _ c.pop.ensures.items c.loop-worker.invariant.limit).1 in
-    let limit : limit_of c.in-Some.worker ≡ n = subst (λ one. IfSome one (λ worker. limit_of worker ≡ n)) c.in-Some.is popped in
-    subst (λ most. done.share ≤ most) limit kept
+    let common = c.captures.common.now in
+    let popped = (All-pop (λ worker. common_of worker ≡ common) _ _ _ c.pop.ensures.items c.loop-worker.invariant.common).1 in
+    let own : common_of c.in-Some.worker ≡ common = subst (λ one. IfSome one (λ worker. common_of worker ≡ common)) c.in-Some.is popped in
+    subst (λ (shared : Common). HandsBack shared done) (own ∙ sym c.of.ensures) kept
 
 pub loop-worker-preserved : goal.loop-worker-preserved
 loop-worker-preserved g c = record {
   left = search rules;
-  limit = (All-pop (λ worker. limit_of worker ≡ c.captures.common.now.limit) _ _ _ c.pop.ensures.items c.loop-worker.invariant.limit).0;
+  common = (All-pop (λ worker. common_of worker ≡ c.captures.common.now) _ _ _ c.pop.ensures.items c.loop-worker.invariant.common).0;
   running = search rules;
-  promised = subst (All (λ (thread : PromisedHandle _ AtMost). thread.promise.0 ≡ c.captures.common.now.limit)) (sym c.push_reserved.ensures.items)
-      (All-push (λ (thread : PromisedHandle _ AtMost). thread.promise.0 ≡ c.captures.common.now.limit) _ _ c.loop-worker.invariant.promised (ap (λ (most : AtMost). most.0) c.in-Ok.ensures.ok));
+  promised = subst (All (λ (thread : PromisedHandle _ Shared). thread.promise.0.value ≡ c.captures.common.now)) (sym c.push_reserved.ensures.items)
+      (All-push (λ (thread : PromisedHandle _ Shared). thread.promise.0.value ≡ c.captures.common.now) _ _ c.loop-worker.invariant.promised (ap (λ (shared : Shared). shared.0.value) c.in-Ok.ensures.ok ∙ c.of.ensures));
   room = search rules;
   none = search rules;
   done_room = search rules;
@@ -34,15 +34,15 @@ loop-thread-preserved g c = record {
   finite = search rules;
   all = search rules;
   room = search rules;
-  limit = λ n all.
-      joined (λ (thread : PromisedHandle _ AtMost). thread.promise.0) (λ (one : Done _). one.share) n _ _ _ _ _ _ c.in-Some-thread.ensures.steps.0 c.push_reserved-in-loop-thread.ensures.items c.join.ensures
-      (c.loop-thread.invariant.limit n all);
+  back = λ common all.
+      joined (λ (thread : PromisedHandle _ Shared). thread.promise.0.value) HandsBack common _ _ _ _ _ _ c.in-Some-thread.ensures.steps.0 c.push_reserved-in-loop-thread.ensures.items c.join.ensures
+      (c.loop-thread.invariant.back common all);
 }
 
 pub returns : goal.returns
 returns g c = record {
   done = search rules;
-  limit = (c.loop-thread.invariant.limit c.captures.common.now.limit
-      (subst (All (λ (thread : PromisedHandle _ AtMost). thread.promise.0 ≡ c.captures.common.now.limit)) (sym c.into_iter-thread-iterator.ensures.into_iter_gives.0) c.loop-worker.invariant.promised)).1;
+  back = (c.loop-thread.invariant.back c.captures.common.now
+      (subst (All (λ (thread : PromisedHandle _ Shared). thread.promise.0.value ≡ c.captures.common.now)) (sym c.into_iter-thread-iterator.ensures.into_iter_gives.0) c.loop-worker.invariant.promised)).1;
   config = search rules;
 }
