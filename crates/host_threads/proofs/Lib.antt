@@ -4,3 +4,4 @@ pub mod Limit
 pub mod Pace
 pub mod Round
 pub mod Sets
+pub mod Wanting

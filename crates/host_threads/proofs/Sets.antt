@@ -3,10 +3,10 @@ use Rattle.std.proofs.Common.{◌≡◌, ◌∙◌, ◌⊎◌, inl, inr, refl, s
 use Rattle.std.proofs.lemmas.Bool.{and_parts, eqb-true}
 use Rattle.std.proofs.lemmas.Nat.{div-add-mod', mod-mul-add, mul-add-lt, mul-le}
 use Rattle.std.proofs.Math.Dec.{eqb}
-use Rattle.std.proofs.Math.Nat.{eq-or-lt_of_le, lt_of_not-le, mod-lt, mul-div_cancel}
+use Rattle.std.proofs.Math.Nat.{eq-or-lt_of_le, lt_of_not-le, mod-lt, mul-div_cancel, mul-mod_left}
 use Rattle.client_cache.specs.Cache.{Cache}
 use Rattle.elf_loader.specs.Size.{base}
-use Rattle.host_threads.specs.Due.{IsLowestSpare, IsSpare, set_at}
+use Rattle.host_threads.specs.Due.{HasNoVictim, IsLine, IsLowestSpare, IsSpare, set_at}
 use Rattle.machine_types.specs.declared.config.Config.{Config}
 use Rattle.machine_types.specs.Config.{is_power_to_64, is_within_limits}
 
@@ -96,12 +96,14 @@ before_memory config set i s below before =
 
 -- it stands at one of them, and found none of the earlier ones spare
 pub record Walks (config : Config) (c : Cache) (set line : ℕ) : Type 0 where
+  pub inside : base ≤ line
   pub place : ℕ
   pub stands : line ≡ nth config set place
   pub passed : (i : ℕ) → i < place → base ≤ nth config set i → IsSpare c (nth config set i) → ⊥
 
 pub walk_begins : (config : Config) (c : Cache) (set : ℕ) → Sized config → set < config.sets → Walks config c set (base + set * config.line)
 walk_begins config c set s below = record {
+  inside = omega arith;
   place = base / config.line / config.sets;
   stands = nth_first config set s;
   passed = λ i before inside spare. absurd (let outside = before_memory config set i s below before in omega arith);
@@ -109,6 +111,7 @@ walk_begins config c set s below = record {
 
 pub walk_goes_on : (config : Config) (c : Cache) (set line : ℕ) → Walks config c set line → (IsSpare c line → ⊥) → Walks config c set (line + config.sets * config.line)
 walk_goes_on config c set line w none = record {
+  inside = omega (arith, w.inside);
   place = w.place + 1;
   stands = ap (λ n. n + config.sets * config.line) w.stands ∙ nth-add config set w.place;
   passed = λ i before inside spare. elim (lt_or_eq i w.place before) [
@@ -126,13 +129,22 @@ set_of_walk config c set line s below w = ap (λ n. set_at config n) w.stands �
 not_below : (a b : ℕ) → (a < b → ⊥) → b ≤ a
 not_below a b not = let lt : b < suc a = lt_of_not-le not in omega arith
 
+-- it passed each spare line of the set that lies below
+no_spare_below : (config : Config) (c : Cache) (set line : ℕ) → Walks config c set line → (other : ℕ) → IsLine config other → set_at config other ≡ set → other < line → IsSpare c other → ⊥
+no_spare_below config c set line w other is same lower free =
+    let i = other / config.line / config.sets in
+    let stands : nth config set i ≡ other = ap (λ k. nth config k i) (sym same) ∙ nth_of config other is.1 in
+    let less : nth config set i < nth config set w.place = subst (λ n. n < nth config set w.place) (sym stands) (subst (λ n. other < n) w.stands lower) in
+    w.passed i (nth_rises config set i w.place less) (subst (λ n. base ≤ n) (sym stands) is.0) (subst (λ n. IsSpare c n) (sym stands) free)
+
 -- where it finds a spare line, that is the lowest
 pub walk_finds : (config : Config) (c : Cache) (set line : ℕ) → Sized config → set < config.sets → Walks config c set line → IsSpare c line → IsLowestSpare config c line
 walk_finds config c set line s below w spare = record {
+  begins = (w.inside, ap (λ n. n % config.line) w.stands ∙ mul-mod_left (w.place * config.sets + set) config.line);
   spare = spare;
-  lowest = λ other inside whole same free. not_below other line (λ lower.
-      let i = other / config.line / config.sets in
-      let stands : nth config set i ≡ other = ap (λ k. nth config k i) (sym (set_of_walk config c set line s below w) ∙ sym same) ∙ nth_of config other whole in
-      let less : nth config set i < nth config set w.place = subst (λ n. n < nth config set w.place) (sym stands) (subst (λ n. other < n) w.stands lower) in
-      w.passed i (nth_rises config set i w.place less) (subst (λ n. base ≤ n) (sym stands) inside) (subst (λ n. IsSpare c n) (sym stands) free));
+  lowest = λ other is same free. not_below other line (λ lower. no_spare_below config c set line w other is (same ∙ set_of_walk config c set line s below w) lower free);
 }
+
+-- where it comes to the end of memory, the set has none
+pub walk_ends : (config : Config) (size : ℕ) (c : Cache) (address line : ℕ) → Walks config c (set_at config address) line → base + size ≤ line → HasNoVictim config size c address
+walk_ends config size c address line w ends other is inside same free = no_spare_below config c (set_at config address) line w other is same (omega (arith, ends, inside)) free

@@ -1,11 +1,9 @@
 -- Which events there are for one hart: those that it isn't idle for to ask.
-use Rattle.std.specs.Prelude.{◌≡◌, ◌≢◌, ℕ, ◌/◌, ◌%◌, ◌<◌, ◌≤◌, false, [], length, All, IsSome, IsTrue}
+use Rattle.std.specs.Prelude.{◌≡◌, ◌≢◌, ℕ, ◌+◌, ◌/◌, ◌%◌, ◌<◌, ◌≤◌, false, [], length, All, IsSome, IsTrue}
 use Rattle.std.specs.FinSet as set
 use Rattle.client_cache.specs.Cache.{Cache, copy_at}
 use Rattle.elf_loader.specs.Size.{base}
 use Rattle.hart.specs.Run.{is_running}
-use Rattle.host_threads.specs.declared.rounds.Place.{Place}
-use Rattle.host_threads.specs.declared.rounds.Place.TheVariants as place
 use Rattle.machine_types.specs.declared.config.Config.{Config}
 use Rattle.machine_types.specs.declared.event.Event.{Event}
 use Rattle.machine_types.specs.declared.event.Event.TheVariants.{Step, Drain, Evict, Deliver, Local}
@@ -19,6 +17,10 @@ use Rattle.tl_types.specs.declared.message.Channel.{Channel}
 abbrev pub set_at : Config → ℕ → ℕ
 set_at config address = address / config.line % config.sets
 
+-- a line of memory begins here
+abbrev pub IsLine : Config → ℕ → Type 0
+IsLine config line = (base ≤ line) × (line % config.line ≡ 0)
+
 -- the line is held, and no Acquire of it is outstanding
 pub record IsSpare (c : Cache) (line : ℕ) : Type 0 where
   pub held : IsSome (copy_at c line)
@@ -26,8 +28,18 @@ pub record IsSpare (c : Cache) (line : ℕ) : Type 0 where
 
 -- no line of memory below this one lies in its set and is spare too
 pub record IsLowestSpare (config : Config) (c : Cache) (line : ℕ) : Type 0 where
+  pub begins : IsLine config line
   pub spare : IsSpare c line
-  pub lowest : (other : ℕ) → base ≤ other → other % config.line ≡ 0 → set_at config other ≡ set_at config line → IsSpare c other → line ≤ other
+  pub lowest : (other : ℕ) → IsLine config other → set_at config other ≡ set_at config line → IsSpare c other → line ≤ other
+
+-- the lowest line of memory that may be evicted, of those in the set of the line that is wanted
+pub record IsVictim (config : Config) (c : Cache) (wanted line : ℕ) : Type 0 where
+  pub lowest : IsLowestSpare config c line
+  pub set : set_at config line ≡ set_at config wanted
+
+-- of so many bytes of memory no line in that set may be evicted
+abbrev pub HasNoVictim : Config → (size : ℕ) → Cache → (wanted : ℕ) → Type 0
+HasNoVictim config size c wanted = (line : ℕ) → IsLine config line → line < base + size → set_at config line ≡ set_at config wanted → IsSpare c line → ⊥
 
 -- the hart's node has something for the event to do: it is running, the word is the lowest that may drain, the line is the lowest of its set that may be evicted, a message waits
 abbrev pub IsThere : Config → Node → Event → Type 0
@@ -42,13 +54,6 @@ pub record IsDue (config : Config) (s : State) (hart : ℕ) (e : Event) : Type 0
   pub own : hart_of e ≡ hart
   pub inside : hart < length s.views.nodes
   pub there : IsThere config (node_at s hart) e
-
--- the node has nothing for the events of a place of the round; an eviction isn't asked for
-abbrev pub HasNothing : Node → Place → Type 0
-HasNothing n place.Step = is_running n.hart.status ≡ false
-HasNothing n place.Drain = oldest n.buffer ≡ []
-HasNothing n place.Evict = Unit {0}
-HasNothing n (place.Deliver channel) = queue_of n.queues channel ≡ []
 
 -- but for evictions there is no event for the hart
 pub record IsIdle (n : Node) : Type 0 where

@@ -1,3 +1,4 @@
+pub mod Asked
 pub mod Due
 pub mod Errors
 pub mod Pace

@@ -1,12 +1,15 @@
 //! The turn that goes round the events of one hart.
 
-ghost use Rattle.std.specs.Prelude.{◌≡◌, ◌<◌, IfNone, IfSome, IsTrue, length};
-ghost use Rattle.host_threads.specs.Due.{HasNothing, IsDue, IsIdle};
+ghost use Rattle.std.specs.Prelude.{◌≡◌, ◌<◌, ◌≤◌, IfNone, IfSome, IsTrue, length};
+ghost use Rattle.host_threads.specs.Asked as spec;
+ghost use Rattle.host_threads.specs.Asked.{Asks, AsksVictim, IsFirst, IsPickOf, behind, first_round, passing, told_at, wanted_by_event, wanted_by_hart};
+ghost use Rattle.host_threads.specs.Due.{IsDue, IsIdle};
 ghost use Rattle.host_threads.specs.Route.{Route};
 ghost use Rattle.machine_types.specs.Config.{is_within_limits};
 ghost use Rattle.machine_model.specs.Views.{node_at};
 
 use crate::spare::lowest_spare;
+use client_cache::ClientCache;
 use coherent_machine::Views;
 use elf_loader::Image;
 use hart::Hart;
@@ -59,7 +62,14 @@ impl<'a> Model for Rounds<'a> {
 
     ghost Value = { Route };
 
-    ghost view = { λ r. record { hart = r.hart; image = r.image.now; config = r.config } };
+    ghost view = { λ r. record {
+      hart = r.hart;
+      image = r.image.now;
+      config = r.config;
+      place = r.next;
+      picked = r.picked;
+      full = r.full;
+    } };
 
     ghost invariant = { λ r. (r.next < 8) × IsTrue (is_within_limits r.config) };
 }
@@ -68,7 +78,7 @@ impl<'a> Rounds<'a> {
     /// The rounds of a hart of a machine of this image and configuration.
     pub fn new(hart: u8, image: &'a Image, config: Config) -> Rounds<'a>
         requires { IsTrue (is_within_limits config) }
-        ensures { result ≡ record { hart = hart; image = image.now; config = config } }
+        ensures { result ≡ first_round hart image.now config }
     {
         Rounds {
             hart,
@@ -81,7 +91,9 @@ impl<'a> Rounds<'a> {
     }
 
     // Where the event picked last wanted a line and its set was full: an address of the line.
-    fn wanted(&self, hart: &Hart) -> Option<u32> {
+    fn wanted(&self, hart: &Hart) -> Option<u32>
+        ensures { result ≡ wanted_by_event self.now.image hart.now self.now.picked }
+    {
         match self.picked {
             Some(Event::Step { .. }) => accessed(self.image, hart),
             Some(Event::Drain { word, .. }) => Some(word),
@@ -89,11 +101,30 @@ impl<'a> Rounds<'a> {
         }
     }
 
+    // Takes in what came of the event picked last.
+    fn hear(&mut self, hart: &Hart, last: Option<Outcome>)
+        ensures { self.new ≡ told_at self.old hart.now last }
+    {
+        if last == Some(Outcome::SetFull) {
+            self.full = self.wanted(hart).or(self.full);
+        }
+    }
+
+    // Goes on behind the place that asked for this event, so many places further.
+    fn go_on(&mut self, steps: usize, event: Event)
+        requires { steps < 8 }
+        ensures { self.new ≡ behind self.old steps event }
+    {
+        let place = (self.next + steps) % ROUND.len();
+        self.next = (place + 1) % ROUND.len();
+        self.picked = Some(event);
+        self.full = remembered(ROUND[place], self.full);
+    }
+
     // The event of a place of the round, where there is one.
     fn event_at(&self, place: Place, views: &Views<'_>) -> Option<Event>
         requires { self.now.hart < length views.now.views.nodes }
-        ensures due { IfSome result (IsDue self.now.config views.now self.now.hart) }
-        ensures nothing { IfNone result (HasNothing (node_at views.now self.now.hart) place) }
+        ensures { Asks self.now (node_at views.now self.now.hart) place result }
     {
         let hart = self.hart;
         let index = usize::from(hart);
@@ -104,11 +135,7 @@ impl<'a> Rounds<'a> {
                 let word = views.buffer(index).lowest()?;
                 Some(Event::Drain { hart, word })
             }
-            Place::Evict => {
-                let cache = views.cache(index);
-                let line = lowest_spare(cache, &self.config, self.image.size(), self.full?)?;
-                Some(Event::Evict { hart, line })
-            }
+            Place::Evict => self.eviction(views.cache(index)),
             Place::Deliver(channel) if views.queues(index).len(channel) > 0 => {
                 Some(Event::Deliver { channel, hart })
             }
@@ -116,18 +143,29 @@ impl<'a> Rounds<'a> {
         }
     }
 
-    // The first event that there is from where the round goes on, and its place in the round.
+    // The eviction that makes room in the set that was found full.
+    fn eviction(&self, cache: &ClientCache) -> Option<Event>
+        ensures { AsksVictim self.now cache.now self.now.full result }
+    {
+        let address = self.full?;
+        let line = lowest_spare(cache, &self.config, self.image.size(), address)?;
+        Some(Event::Evict {
+            hart: self.hart,
+            line,
+        })
+    }
+
+    // The first event that there is from where the round goes on, and how many places further it stands.
     fn next_event(&self, views: &Views<'_>) -> Option<(usize, Event)>
         requires { self.now.hart < length views.now.views.nodes }
-        ensures place { IfSome result (λ found. found.0 < 8) }
-        ensures due { IfSome result (λ found. IsDue self.now.config views.now self.now.hart found.1) }
+        ensures first { IfSome result (λ found. IsFirst self.now (node_at views.now self.now.hart) found.0 found.1) }
         ensures idle { IfNone result (IsIdle (node_at views.now self.now.hart)) }
     {
         let next = self.next;
-        for step in 0..ROUND.len() {
-            let place = (next + step) % ROUND.len();
-            if let Some(event) = self.event_at(ROUND[place], views) {
-                return Some((place, event));
+        for steps in 0..ROUND.len() {
+            let place = ROUND[(next + steps) % ROUND.len()];
+            if let Some(event) = self.event_at(place, views) {
+                return Some((steps, event));
             }
         }
         None
@@ -138,38 +176,51 @@ impl<'a> Turn for Rounds<'a> {
     /// The next event of the round that there is, or `None` where the hart has ended, and neither stores
     /// nor messages wait.
     fn pick(&mut self, views: &Views<'_>, last: Option<Outcome>) -> Option<Event>
+        ensures picks { IfSome result (λ event. IsPickOf self.old views.now last event self.new) }
         ensures due { IfSome result (IsDue self.old.config views.now self.old.hart) }
         ensures idle { IfNone result (self.old.hart < length views.now.views.nodes → IsIdle (node_at views.now self.old.hart)) }
-        ensures stays { self.new ≡ self.old }
+        ensures passes { IfNone result (self.old.hart < length views.now.views.nodes → self.new ≡ passing self.old views.now last) }
+        ensures outside { length views.now.views.nodes ≤ self.old.hart → self.new ≡ self.old }
     {
         let hart = usize::from(self.hart);
         if hart >= views.harts() {
             return None;
         }
-        if last == Some(Outcome::SetFull) {
-            self.full = self.wanted(views.hart(hart)).or(self.full);
-        }
-        let Some((place, event)) = self.next_event(views) else {
+        self.hear(views.hart(hart), last);
+        let Some((steps, event)) = self.next_event(views) else {
             self.picked = None;
             return None;
         };
-        self.next = (place + 1) % ROUND.len();
-        self.picked = Some(event);
-        // Only a drain stands between an event that finds its set full and the round's eviction.
-        if ROUND[place] != Place::Drain {
-            self.full = None;
-        }
+        self.go_on(steps, event);
         Some(event)
     }
 }
 
+// Only a drain stands between an event that finds its set full and the round's eviction.
+fn remembered(place: Place, full: Option<u32>) -> Option<u32>
+    ensures { result ≡ spec.remembered place full }
+{
+    match place {
+        Place::Drain => full,
+        Place::Step | Place::Evict | Place::Deliver(_) => None,
+    }
+}
+
 // The address that the hart's next instruction loads from or updates.
-fn accessed(image: &Image, hart: &Hart) -> Option<u32> {
+fn accessed(image: &Image, hart: &Hart) -> Option<u32>
+    ensures { result ≡ wanted_by_hart image.now hart.now }
+{
     if !image.has_word(hart.pc) {
         return None;
     }
     let instr = decode(image.word(hart.pc))?;
-    match plan(&instr, hart.pc, &hart.regs, image.size()) {
+    wanted_by(&plan(&instr, hart.pc, &hart.regs, image.size()))
+}
+
+fn wanted_by(action: &Action) -> Option<u32>
+    ensures { result ≡ spec.wanted_by action.now }
+{
+    match *action {
         Action::Load { addr, .. } | Action::Lr { addr } | Action::Amo { addr, .. } => Some(addr),
         _ => None,
     }

@@ -1,8 +1,8 @@
 //! Lines that a cache may give up.
 
-ghost use Rattle.std.specs.Prelude.{◌≡◌, ◌↔◌, IfSome, IsTrue};
+ghost use Rattle.std.specs.Prelude.{◌↔◌, IfNone, IfSome, IsTrue};
 ghost use Rattle.elf_loader.specs.Size.{IsMemorySize};
-ghost use Rattle.host_threads.specs.Due.{IsLowestSpare, IsSpare, set_at};
+ghost use Rattle.host_threads.specs.Due.{HasNoVictim, IsSpare, IsVictim};
 ghost use Rattle.machine_types.specs.Config as limits;
 
 use client_cache::ClientCache;
@@ -26,8 +26,8 @@ pub(crate) fn lowest_spare(
 ) -> Option<u32>
     requires limits { IsTrue (limits.is_within_limits config.now) }
     requires memory { IsMemorySize size }
-    ensures lowest { IfSome result (λ line. IsLowestSpare config.now cache.now line) }
-    ensures set { IfSome result (λ line. set_at config.now line ≡ set_at config.now address) }
+    ensures victim { IfSome result (λ line. IsVictim config.now cache.now address line) }
+    ensures none { IfNone result (HasNoVictim config.now size cache.now address) }
 {
     let set = address / config.line % config.sets;
     let mut line = BASE + set * config.line;

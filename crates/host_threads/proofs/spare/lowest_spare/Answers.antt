@@ -1,6 +1,6 @@
-use Rattle.std.proofs.Common.{refl}
+use Rattle.std.proofs.Common.{arith, refl}
 use Rattle.host_threads.specs.Due.{set_at}
-use Rattle.host_threads.proofs.Sets.{set_below, set_of_walk, sized, walk_begins, walk_finds, walk_goes_on}
+use Rattle.host_threads.proofs.Sets.{set_below, set_of_walk, sized, walk_begins, walk_ends, walk_finds, walk_goes_on}
 use Rattle.host_threads.proofs.spare.lowest_spare.Goals as goal
 
 pub loop-line-init : goal.loop-line-init
@@ -13,13 +13,15 @@ loop-line-preserved c =
     walk_goes_on c.args.config.now c.args.cache.now (set_at c.args.config.now c.args.address) c.loop-line.line c.loop-line.invariant
     (λ spare. absurd (let found = c.if-is_spare.ensures.1 spare in cc))
 
-pub returns-then-is_spare-clause-lowest : goal.returns-then-is_spare-clause-lowest
-returns-then-is_spare-clause-lowest c =
-    let s = sized c.args.config.now c.requires.limits in
-    walk_finds c.args.config.now c.args.cache.now (set_at c.args.config.now c.args.address) c.loop-line.line s (set_below c.args.config.now c.args.address s) c.loop-line.invariant
-    (c.if-is_spare.ensures.0 refl)
+pub returns-then-is_spare-clause-victim : goal.returns-then-is_spare-clause-victim
+returns-then-is_spare-clause-victim c =
+    let config = c.args.config.now in
+    let set = set_at config c.args.address in
+    let s = sized config c.requires.limits in
+    record {
+      lowest = walk_finds config c.args.cache.now set c.loop-line.line s (set_below config c.args.address s) c.loop-line.invariant (c.if-is_spare.ensures.0 refl);
+      set = set_of_walk config c.args.cache.now set c.loop-line.line s (set_below config c.args.address s) c.loop-line.invariant;
+    }
 
-pub returns-then-is_spare-clause-set : goal.returns-then-is_spare-clause-set
-returns-then-is_spare-clause-set c =
-    let s = sized c.args.config.now c.requires.limits in
-    set_of_walk c.args.config.now c.args.cache.now (set_at c.args.config.now c.args.address) c.loop-line.line s (set_below c.args.config.now c.args.address s) c.loop-line.invariant
+pub returns-clause-none : goal.returns-clause-none
+returns-clause-none c = walk_ends c.args.config.now c.args.size c.args.cache.now c.args.address c.loop-line.line c.loop-line.invariant (omega (arith, c.loop-line-test.false))

@@ -1,9 +1,10 @@
-use Rattle.std.proofs.Common.{◌+◌, ◌%◌, ◌<◌, ℕ, slice_index_or}
-use Rattle.host_threads.specs.Due.{HasNothing}
-use Rattle.host_threads.specs.declared.rounds.Place.TheVariants.{Step}
-use Rattle.host_threads.specs.declared.rounds.TheConstants.{ROUND}
+use Rattle.std.proofs.Common.{◌≡◌, ◌+◌, ◌<◌, ℕ, None}
+use Rattle.host_threads.specs.Asked.{Asks, place_at}
 use Rattle.machine_model.specs.Views.{node_at}
 use Rattle.host_threads.proofs.rounds.Rounds.next_event.Given as goal
 
-abbrev pub invariant-loop-step : goal.invariant-loop-step
-invariant-loop-step l = (k : ℕ) → k < l.step → HasNothing (node_at l.views l.self.hart) (slice_index_or ROUND ((l.next + k) % 8) Step)
+abbrev pub invariant-loop-steps : goal.invariant-loop-steps
+invariant-loop-steps l = record {
+  same : l.next ≡ l.self.place;
+  skipped : (k : ℕ) → k < l.steps → Asks l.self (node_at l.views l.self.hart) (place_at (l.self.place + k)) None;
+}
