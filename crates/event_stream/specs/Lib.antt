@@ -1,6 +1,8 @@
 pub mod Outcomes
 pub mod Reports
 pub mod Naming
+pub mod Comments
+pub mod Disassembly
 pub mod Lines
 pub mod Closing
 pub mod Holding

@@ -3,6 +3,7 @@
 #![tactic(auto)]
 
 mod closing;
+mod disassembly;
 mod errors;
 mod holding;
 mod laws;

@@ -2,10 +2,11 @@
 ghost use Rattle.std.specs.Prelude.{◌≡◌, ◌+◌, ◌<◌, ◌^◌, ◌++◌};
 ghost use Rattle.std.specs.List.{flat_map};
 ghost use Rattle.text_fields.specs.Pages.{HasLineRoom, Spells};
+ghost use Rattle.event_stream.specs.Disassembly.{AreKept};
 ghost use Rattle.event_stream.specs.Lines as lines;
 ghost use Rattle.event_stream.specs.Telling.{report_of};
 
-use crate::naming::spell_instruction;
+use crate::disassembly::Disassembly;
 use crate::report::{Report, hart_of};
 use crate::spellings::spell_outcome;
 use elf_symbols::Symbols;
@@ -30,16 +31,27 @@ fn spell_event_line(page: &mut Page, index: usize, event: Event, outcome: Outcom
 }
 
 /// An R line, with the instruction behind it.
-fn spell_retired_line(page: &mut Page, names: &Symbols, hart: u8, entry: &Retired)
-    requires { HasLineRoom page.old }
-    ensures { page.new ≡ page.old ++ lines.retired_line names.now hart entry.now }
+fn spell_retired_line(
+    page: &mut Page,
+    names: &Symbols,
+    instructions: &mut Disassembly,
+    hart: u8,
+    entry: &Retired,
+)
+    requires room { HasLineRoom page.old }
+    requires kept { AreKept names.now instructions.old }
+    ensures line { page.new ≡ page.old ++ lines.retired_line names.now hart entry.now }
+    ensures kept { AreKept names.now instructions.new }
 {
+    if let Some(text) = instructions.text(entry.pc, entry.word) {
+        spell_retired(page, hart as u64, entry, b' ');
+        page.text(text);
+        return;
+    }
     match decode(entry.word) {
         Some(instr) => {
             spell_retired(page, hart as u64, entry, b' ');
-            page.text(b"; ");
-            spell_instruction(page, names, entry.pc, &instr);
-            page.text(b"\n");
+            instructions.spell(page, names, entry.pc, entry.word, &instr);
         }
         None => spell_retired(page, hart as u64, entry, b'\n'),
     }
@@ -49,14 +61,17 @@ fn put_entries<W: Write>(
     page: &mut Page,
     out: &mut W,
     names: &Symbols,
+    instructions: &mut Disassembly,
     hart: u8,
     entries: &[Retired],
 ) -> Result<()>
-    ensures { Spells (W.contents out.old) (W.contents out.new) page.old page.new (flat_map (lines.retired_line names.now hart) entries.now) result }
+    requires { AreKept names.now instructions.old }
+    ensures lines { Spells (W.contents out.old) (W.contents out.new) page.old page.new (flat_map (lines.retired_line names.now hart) entries.now) result }
+    ensures kept { AreKept names.now instructions.new }
 {
     for entry in entries {
         page.make_room(out)?;
-        spell_retired_line(page, names, hart, entry);
+        spell_retired_line(page, names, instructions, hart, entry);
     }
     Ok(())
 }
@@ -85,15 +100,18 @@ pub(crate) fn put_report<W: Write>(
     page: &mut Page,
     out: &mut W,
     names: &Symbols,
+    instructions: &mut Disassembly,
     report: &Report<'_>,
 ) -> Result<()>
-    requires { report.now.index + 2 < 2 ^ 64 }
-    ensures { Spells (W.contents out.old) (W.contents out.new) page.old page.new (lines.report_lines names.now (report_of report.now)) result }
+    requires few { report.now.index + 2 < 2 ^ 64 }
+    requires kept { AreKept names.now instructions.old }
+    ensures lines { Spells (W.contents out.old) (W.contents out.new) page.old page.new (lines.report_lines names.now (report_of report.now)) result }
+    ensures kept { AreKept names.now instructions.new }
 {
     let hart = hart_of(report.event);
     page.make_room(out)?;
     spell_event_line(page, report.index, report.event, report.outcome);
-    put_entries(page, out, names, hart, report.entries)?;
+    put_entries(page, out, names, instructions, hart, report.entries)?;
     put_performed(page, out, report.performed)?;
     put_log(page, out, report.log)?;
     put_output(page, out, hart, report.output)

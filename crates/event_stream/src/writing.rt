@@ -12,6 +12,7 @@ ghost use Rattle.text_fields.specs.Writing.{Writes};
 ghost use Rattle.trace_text.specs.Scripts.{is_first_version};
 
 use crate::closing::put_statuses;
+use crate::disassembly::Disassembly;
 use crate::errors::StreamError;
 use crate::report::{Lengths, Report, hart_of};
 use crate::report_writing::put_report;
@@ -91,6 +92,7 @@ fn tell<W: Write>(
     ensures reached { IsReached machine.new }
 {
     changes_are_counted();
+    let mut instructions = Disassembly::new();
     let mut index = 0;
     let mut rest = events;
     while let [event, tail @ ..] = rest {
@@ -103,7 +105,7 @@ fn tell<W: Write>(
             return Err(ended_by(page, out, StreamError::Idle(index, outcome)));
         }
         let report = Report::behind(&before, machine, index, *event, outcome);
-        if let Err(fault) = put_report(page, out, names, &report) {
+        if let Err(fault) = put_report(page, out, names, &mut instructions, &report) {
             return Err(StreamError::Writing(fault));
         }
         index += 1;
