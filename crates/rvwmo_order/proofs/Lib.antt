@@ -1,3 +1,4 @@
+pub mod Back
 pub mod Bounded
 pub mod Bytes
 pub mod Covered
@@ -12,10 +13,12 @@ pub mod Harts
 pub mod Indexed
 pub mod Judged
 pub mod Kept
+pub mod Listing
 pub mod Lowest
 pub mod Marks
 pub mod Noted
 pub mod Opcodes
+pub mod Pairs
 pub mod Parted
 pub mod Passing
 pub mod Placed

@@ -3,6 +3,7 @@ pub mod Scans
 pub mod Answers
 pub mod Indexed
 pub mod Placed
+pub mod Listed
 pub mod Sweeps
 pub mod Marks
 pub mod Lowest

@@ -8,7 +8,8 @@ ghost use Rattle.rvwmo_order.specs.Bounds.{BoundsEach, GivesEach, HasCome, Ranks
 ghost use Rattle.rvwmo_order.specs.Placed.{GivesOwn, IsPlaced};
 
 use crate::index::Index;
-use crate::items::{Harts, Item};
+use crate::items::Harts;
+use crate::listed::Item;
 use crate::rows::{Row, UNBOUNDED};
 use crate::walking::{Walk, weight_at};
 use memory_model::MemoryModel;
@@ -85,9 +86,11 @@ fn bound_hart(
 {
     let items = harts.items_of(hart);
     let mut walk = Walk::new(alloc, model);
-    for item in items.list() {
-        let own = bound_item(rows, &walk, harts, hart, index, weights, item);
-        walk.pass(index, item, own.position, own.weight)?;
+    let count = items.count();
+    for place in 0..count {
+        let item = items.item(place);
+        let own = bound_item(rows, &walk, harts, hart, index, weights, &item);
+        walk.pass(index, &item, own.position, own.weight)?;
     }
     Ok(())
 }

@@ -1,8 +1,7 @@
-//! A hart's retired instructions with their memory operations (chapter 14.1, "Memory Model
+//! Each hart's retired instructions, with the memory operations that they gave (chapter 14.1, "Memory Model
 //! Primitives").
-ghost use Rattle.std.specs.Prelude.{◌≡◌, ◌≤◌, ◌-◌, ◌*◌, ◌%◌, ◌^◌, Bool, IfOk, Option, Some, false, drop, length, slice_get, slice_index, take, []};
+ghost use Rattle.std.specs.Prelude.{◌≡◌, ◌≤◌, ◌*◌, ◌%◌, ◌^◌, Bool, IfOk, Option, Some, false, length, slice_get, slice_index};
 ghost use Rattle.std.specs.Option.{option_copied, option_map_or};
-ghost use Rattle.memory_model.specs.Dependencies.{between};
 ghost use Rattle.memory_model.specs.Rules as rules;
 ghost use Rattle.hart.specs.Run as run;
 ghost use Rattle.rv32_decode.specs.Rows.{decoded};
@@ -10,8 +9,9 @@ ghost use Rattle.rv32_exec.specs.Arithmetic as arithmetic;
 ghost use Rattle.rv32_exec.specs.Meaning as meaning;
 ghost use Rattle.memory_model.specs.Items as spec;
 ghost use Rattle.memory_model.specs.Traces as traces;
-ghost use Rattle.rvwmo_order.specs.Placed.{GivesOwn, IsPlaced};
+ghost use Rattle.rvwmo_order.specs.Placed.{GivesOwn};
 
+use crate::listed::Items;
 use crate::runs::retire;
 use amo_unit::combine;
 use hart::{Hart, Retired};
@@ -21,167 +21,34 @@ use std::alloc::{AllocError, Global};
 use std::marker::Model;
 use trace_recorder::Trace;
 
-/// An instruction of a hart's list: its place, what it is, and its memory operation, where it has one.
-#[derive(Drop)]
-pub(crate) struct Item {
-    place: u32,
-    instr: Option<Instr>,
-    operation: Option<Operation>,
-}
-
-impl Model for Item {
-    ghost use Rattle.memory_model.specs.Items as spec;
-
-    ghost Value = { spec.Item };
-
-    ghost view = { λ m. record { place = m.place; instr = m.instr; operation = m.operation } };
-}
-
-impl Item {
-    pub(crate) fn place(&self) -> u32
-        ensures { result ≡ self.now.place }
-    {
-        self.place
-    }
-
-    pub(crate) fn instr(&self) -> Option<Instr>
-        ensures { result ≡ self.now.instr }
-    {
-        self.instr
-    }
-
-    pub(crate) fn operation(&self) -> Option<Operation>
-        ensures { result ≡ self.now.operation }
-    {
-        self.operation
-    }
-
-    /// The item of a retired instruction, its hart standing before it.
-    fn new(place: u32, hart: &Hart, entry: &Retired, instr: &Option<Instr>) -> Item
-        requires { instr.now ≡ decoded entry.now.word }
-        ensures { result ≡ spec.item_of place hart.now entry.now }
-    {
-        let operation = match instr {
-            Some(instr) => operation_of(place, hart, entry, instr),
-            None => None,
-        };
-        Item {
-            place,
-            instr: *instr,
-            operation,
-        }
-    }
-}
-
-/// A hart's instructions in order, each at its place.
-#[derive(Drop)]
-pub(crate) struct Items {
-    list: Vec<Item>,
-}
-
-impl Model for Items {
-    ghost use Rattle.std.specs.Prelude.{List};
-    ghost use Rattle.memory_model.specs.Items as spec;
-    ghost use Rattle.rvwmo_order.specs.Placed.{IsPlaced};
-
-    ghost Value = { List spec.Item };
-
-    ghost view = { λ i. i.list.items };
-
-    ghost invariant = { λ i. IsPlaced 0 i.list.items };
-}
-
-impl Items {
-    /// The instructions of a hart's list of at most 2^32 retired ones.
-    #[tactic(auto, using(crate::proofs::Placed::placed_items))]
-    fn of(alloc: Global, reset: &Hart, entries: &[Retired]) -> Result<Items, AllocError>
-        requires { length entries.now ≤ 2 ^ 32 }
-        ensures { IfOk result (λ items. items ≡ spec.items_from 0 reset.now entries.now) }
-    {
-        let list = items_of(alloc, reset, entries)?;
-        Ok(Items { list })
-    }
-
-    fn none(alloc: Global) -> Items
-        ensures { result ≡ [] }
-    {
-        Items {
-            list: Vec::new(alloc),
-        }
-    }
-
-    pub(crate) fn list(&self) -> &[Item]
-        ensures list { result.now ≡ self.now }
-        ensures placed { IsPlaced 0 self.now }
-    {
-        &self.list
-    }
-
-    /// The instruction at a place.
-    pub(crate) fn get(&self, place: u32) -> Option<&Item>
-        ensures { option_copied result ≡ slice_get self.now place }
-    {
-        self.list.get(place as usize)
-    }
-
-    /// The instructions from a place on, up to another.
-    pub(crate) fn stretch(&self, from: u32, to: u32) -> &[Item]
-        ensures cut { result.now ≡ take (to - from) (drop from self.now) }
-        ensures placed { IsPlaced 0 self.now }
-    {
-        first_of(
-            behind(&self.list, from as usize),
-            to.saturating_sub(from) as usize,
-        )
-    }
-
-    /// The instructions that stand between two operations of the hart in program order.
-    #[tactic(auto, using(crate::proofs::Placed::between_cut))]
-    pub(crate) fn between(&self, a: &Operation, b: &Operation) -> &[Item]
-        ensures { result.now ≡ between self.now a.now b.now }
-    {
-        let start = a.place as usize + 1;
-        first_of(
-            behind(&self.list, start),
-            (b.place as usize).saturating_sub(start),
-        )
-    }
-}
-
-// What stands behind so many.
-fn behind(items: &[Item], count: usize) -> &[Item]
-    ensures { result.now ≡ drop count items.now }
-{
-    if count <= items.len() {
-        &items[count..]
-    } else {
-        &[]
-    }
-}
-
-// The first so many.
-fn first_of(items: &[Item], count: usize) -> &[Item]
-    ensures { result.now ≡ take count items.now }
-{
-    if count <= items.len() {
-        &items[..count]
-    } else {
-        items
-    }
-}
-
-fn items_of(alloc: Global, reset: &Hart, entries: &[Retired]) -> Result<Vec<Item>, AllocError>
-    requires { length entries.now ≤ 2 ^ 32 }
-    ensures { IfOk result (λ items. items.items ≡ spec.items_from 0 reset.now entries.now) }
+// The instructions of a hart's list.
+fn items_of(alloc: Global, reset: &Hart, entries: &[Retired]) -> Result<Items, AllocError>
+    requires { length entries.now ≤ 1000000 }
+    ensures { IfOk result (λ items. items ≡ spec.items_from 0 reset.now entries.now) }
 {
     let mut hart = *reset;
-    let mut items = Vec::with_capacity(alloc, entries.len())?;
+    let mut items = Items::with_capacity(alloc, entries.len())?;
     for (place, entry) in entries.iter().enumerate() {
         let instr = decode(entry.word);
-        items.push(Item::new(place as u32, &hart, entry, &instr))?;
+        items.push(entry.word, operation_in(place as u32, &hart, entry, &instr))?;
         retire(&mut hart, entry, &instr);
     }
     Ok(items)
+}
+
+// The operation of an entry, where it has one, its hart standing before it.
+fn operation_in(
+    place: u32,
+    hart: &Hart,
+    entry: &Retired,
+    instr: &Option<Instr>,
+) -> Option<Operation>
+    ensures { result ≡ spec.operation_of_entry place hart.now entry.now instr.now }
+{
+    match instr {
+        Some(instr) => operation_of(place, hart, entry, instr),
+        None => None,
+    }
 }
 
 /// Each hart's instructions.
@@ -240,7 +107,7 @@ fn instructions(alloc: Global, trace: &Trace) -> Result<Vec<Items>, AllocError>
     let mut lists = Vec::new(alloc);
     for id in 0..count {
         let reset = Hart::at_reset(id as u8, trace.image().entry(), count as u32);
-        lists.push(Items::of(alloc, &reset, trace.entries(id))?)?;
+        lists.push(items_of(alloc, &reset, trace.entries(id))?)?;
     }
     Ok(lists)
 }

@@ -1,6 +1,8 @@
 //! Judging an order of operations, over its index: each definition as it stands, but dependencies by the
 //! marks of sweeps.
-ghost use Rattle.std.specs.Prelude.{◌≡◌, ◌==◌, IfOk, find};
+ghost use Rattle.std.specs.Prelude.{◌≡◌, ◌<◌, ◌==◌, IfOk, false, find};
+ghost use Rattle.memory_model.specs.declared.operation.Operation.{Operation as OperationValue};
+ghost use Rattle.memory_model.specs.Rules as rules;
 ghost use Rattle.std.specs.List.{list_all};
 ghost use Rattle.memory_model.specs.Operations as operations;
 ghost use Rattle.memory_model.specs.Order as orders;
@@ -15,7 +17,7 @@ use crate::bounding::ranked_rows;
 use crate::index::Index;
 use crate::items::Harts;
 use crate::rows::{Row, are_clear};
-use crate::rules::are_paired;
+use crate::rules::{are_paired, earliest_pair};
 use crate::searching::first_broken_by;
 use crate::sources::byte_from;
 use crate::verdict::{Code, RULES, Rule, Verdict};
@@ -125,14 +127,27 @@ fn first_broken_with(harts: &Harts, index: &Index, w: &Operation) -> Option<Oper
     if !is_sc(w.kind) {
         return None;
     }
+    let first = earliest_pair(harts.items_of(w.hart), w);
     let mut rest = index.reserves(w.hart);
     while let [r, tail @ ..] = rest {
-        if is_broken_pair(harts, index, r, w) {
+        if is_broken_from(first, harts, index, r, w) {
             return Some(*r);
         }
         rest = tail;
     }
     None
+}
+
+// Whether the LR and the SC are paired and not atomic, where no LR before this place is paired with it.
+#[tactic(auto, using(crate::proofs::Pairs::none_broken_before))]
+fn is_broken_from(first: u32, harts: &Harts, index: &Index, r: &Operation, w: &Operation) -> bool
+    requires { (a : OperationValue) → a.place < first → rules.paired (rules.items_of harts.now w.now.hart) a w.now ≡ false }
+    ensures { result ≡ scans.is_broken_pair harts.now index.now r.now w.now }
+{
+    if r.place < first {
+        return false;
+    }
+    is_broken_pair(harts, index, r, w)
 }
 
 // Whether the LR and the SC are paired and not atomic.

@@ -11,6 +11,7 @@ mod error;
 mod index;
 mod items;
 mod judging;
+mod listed;
 mod names;
 mod orders;
 mod passed;

@@ -118,5 +118,5 @@ pub(crate) fn operations_at(
 fn operation_at(harts: &Harts, name: OpId) -> Option<Operation>
     ensures { result ≡ spec.operation_at harts.now name }
 {
-    harts.get(name.hart)?.get(name.place)?.operation()
+    harts.get(name.hart)?.operation(name.place)
 }

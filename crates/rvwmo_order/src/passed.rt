@@ -4,8 +4,8 @@ ghost use Rattle.std.specs.Prelude.{◌≡◌};
 ghost use Rattle.rvwmo_order.specs.Passed as spec;
 
 use crate::accesses::{has_acquire, has_rcsc, is_lr, reads, writes};
-use crate::items::Item;
-use crate::rules::{fences, is_lr_or_sc};
+use crate::listed::Item;
+use crate::rules::{fences, is_fence, is_lr_or_sc};
 use memory_model::{Kind, MemoryModel, Operation};
 
 /// The greatest weights of the operations passed, each of those that it names.
@@ -88,8 +88,10 @@ impl Passed {
     fn fence(&mut self, item: &Item)
         ensures { self.new ≡ spec.fenced_after item.now.instr self.old }
     {
-        self.fenced_reads = self.fenced_reads.max(self.fenced_by(item, Kind::Load));
-        self.fenced_writes = self.fenced_writes.max(self.fenced_by(item, Kind::Store));
+        if is_fence(item.instr()) {
+            self.fenced_reads = self.fenced_reads.max(self.fenced_by(item, Kind::Load));
+            self.fenced_writes = self.fenced_writes.max(self.fenced_by(item, Kind::Store));
+        }
         if is_lr_or_sc(item.instr()) {
             self.reserved = 0;
         }

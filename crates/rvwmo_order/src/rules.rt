@@ -1,6 +1,8 @@
 //! The thirteen rules of preserved program order (chapter 14.1, "Preserved Program Order"), each a test of
 //! two operations of one hart, `a` before `b` in program order. `items` is the list of their hart.
-ghost use Rattle.std.specs.Prelude.{◌≡◌, ◌&&◌, ◌||◌, Some};
+ghost use Rattle.std.specs.Prelude.{◌≡◌, ◌<◌, ◌&&◌, ◌||◌, Some, false};
+ghost use Rattle.memory_model.specs.declared.operation.Operation.{Operation as OperationValue};
+ghost use Rattle.memory_model.specs.declared.operation.Kind.{Kind as KindValue};
 ghost use Rattle.std.specs.List.{list_any};
 ghost use Rattle.memory_model.specs.Rules as spec;
 ghost use Rattle.memory_model.specs.Dependencies.{between};
@@ -15,7 +17,7 @@ use crate::accesses::{
     stores_to, touches, writes,
 };
 use crate::index::Index;
-use crate::items::Items;
+use crate::listed::Items;
 use crate::sources::{is_same_source, returns_from};
 use crate::sweeping::Sweep;
 use crate::verdict::Rule;
@@ -79,10 +81,14 @@ fn returns_differently(x: u64, items: &Items, index: &Index, a: &Operation, b: &
 pub(crate) fn has_store_between(items: &Items, a: &Operation, b: &Operation, x: u64) -> bool
     ensures { result ≡ list_any (λ m. spec.has_store_to x m.operation) (between items.now a.now b.now) }
 {
-    items
-        .between(a, b)
-        .iter()
-        .any(|item| has_store_to(x, item.operation()))
+    let mut rest = items.between(a, b);
+    while let Some((item, tail)) = rest.split_first() {
+        if has_store_to(x, item.operation()) {
+            return true;
+        }
+        rest = tail;
+    }
+    false
 }
 
 fn has_store_to(x: u64, operation: Option<Operation>) -> bool
@@ -98,10 +104,14 @@ fn has_store_to(x: u64, operation: Option<Operation>) -> bool
 pub(crate) fn is_fenced(items: &Items, a: &Operation, b: &Operation) -> bool
     ensures { result ≡ list_any (λ m. spec.fences m.instr a.now.kind b.now.kind) (between items.now a.now b.now) }
 {
-    items
-        .between(a, b)
-        .iter()
-        .any(|item| fences(item.instr(), a.kind, b.kind))
+    let mut rest = items.between(a, b);
+    while let Some((item, tail)) = rest.split_first() {
+        if fences(item.instr(), a.kind, b.kind) {
+            return true;
+        }
+        rest = tail;
+    }
+    false
 }
 
 // An AMO is in a set as a load or as a store.
@@ -118,6 +128,31 @@ pub(crate) fn fences(instr: Option<Instr>, a: Kind, b: Kind) -> bool
     match instr {
         Some(instr) => is_fencing(&instr, a, b),
         None => false,
+    }
+}
+
+/// Whether it is a FENCE of any kind.
+pub(crate) fn is_fence(instr: Option<Instr>) -> bool
+    ensures { result ≡ false → (a b : KindValue) → spec.fences instr a b ≡ false }
+{
+    match instr {
+        Some(Instr::Fence(_) | Instr::FenceTso) => true,
+        Some(
+            Instr::Branch { .. }
+            | Instr::Jalr { .. }
+            | Instr::Load { .. }
+            | Instr::Store { .. }
+            | Instr::Lr { .. }
+            | Instr::Sc { .. }
+            | Instr::Amo { .. }
+            | Instr::Upper { .. }
+            | Instr::Jal { .. }
+            | Instr::Immediate { .. }
+            | Instr::Shift { .. }
+            | Instr::Register { .. }
+            | Instr::System(_),
+        )
+        | None => false,
     }
 }
 
@@ -153,10 +188,31 @@ pub(crate) fn are_paired(items: &Items, a: &Operation, b: &Operation) -> bool
 fn has_lr_or_sc_between(items: &Items, a: &Operation, b: &Operation) -> bool
     ensures { result ≡ list_any (λ m. spec.is_lr_or_sc m.instr) (between items.now a.now b.now) }
 {
-    items
-        .between(a, b)
-        .iter()
-        .any(|item| is_lr_or_sc(item.instr()))
+    let mut rest = items.between(a, b);
+    while let Some((item, tail)) = rest.split_first() {
+        if is_lr_or_sc(item.instr()) {
+            return true;
+        }
+        rest = tail;
+    }
+    false
+}
+
+/// The lowest place at which an LR may stand that an SC is paired with: that of the last LR or SC before it,
+/// 0 where there is none.
+pub(crate) fn earliest_pair(items: &Items, sc: &Operation) -> u32
+    ensures { (r : OperationValue) → r.place < result → spec.paired items.now r sc.now ≡ false }
+{
+    let count = items.count();
+    let mut place = sc.place.min(count);
+    while place > 0 {
+        place -= 1;
+        let item = items.item(place);
+        if is_lr_or_sc(item.instr()) {
+            return place;
+        }
+    }
+    0
 }
 
 pub(crate) fn is_lr_or_sc(instr: Option<Instr>) -> bool

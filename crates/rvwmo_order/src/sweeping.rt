@@ -14,7 +14,7 @@ ghost use Rattle.rvwmo_order.specs.Scans.{registers_in};
 
 use crate::accesses::{end_of, precedes, reads, writes};
 use crate::index::Index;
-use crate::items::{Item, Items};
+use crate::listed::{Item, Items, Stretch};
 use crate::sources::is_same_source;
 use crate::uses::{
     address_register, destination, instr_at, is_steering, other_registers, stored_register,
@@ -74,10 +74,10 @@ impl Sweep {
         }
         self.low = lowest(among, b);
         find_sources(&mut self.sources, rule, index, b)?;
-        let stretch = items.stretch(self.low, b.place);
+        let stretch = items.stretch(self.low as usize, b.place as usize);
         self.marks.resize(stretch.len(), false)?;
         let mut wanted = wanted_at(rule, items, b);
-        mark_back(rule, &self.sources, stretch, &mut wanted, &mut self.marks);
+        mark_back(rule, &self.sources, &stretch, &mut wanted, &mut self.marks);
         Ok(())
     }
 
@@ -157,7 +157,7 @@ fn wanted_at(rule: Rule, items: &Items, b: &Operation) -> [bool; 32]
 fn mark_back(
     rule: Rule,
     sources: &[Option<Operation>],
-    stretch: &[Item],
+    stretch: &Stretch<'_>,
     wanted: &mut [bool; 32],
     marks: &mut [bool],
 )
@@ -167,9 +167,9 @@ fn mark_back(
     let mut left = stretch.len();
     while left > 0 {
         left -= 1;
-        let item = &stretch[left];
+        let item = stretch.item(left);
         marks[left] = replace_written(wanted, item.instr());
-        want_asked(wanted, rule, sources, item);
+        want_asked(wanted, rule, sources, &item);
     }
 }
 

@@ -5,7 +5,7 @@ ghost use Rattle.memory_model.specs.Dependencies as spec;
 ghost use Rattle.rv32_exec.specs.Uses.{named, uses_of};
 ghost use Rattle.rvwmo_order.specs.Scans.{registers_in};
 
-use crate::items::Items;
+use crate::listed::Items;
 use memory_model::Operation;
 use rv32_decode::{Instr, Register};
 

@@ -15,7 +15,7 @@ ghost use Rattle.rvwmo_order.specs.Touched.{but, touch_after, touch_in};
 use crate::accesses::{end_of, has_rcsc, has_release, is_amo, is_sc, reads, writes};
 use crate::carried::Carried;
 use crate::index::Index;
-use crate::items::Item;
+use crate::listed::Item;
 use crate::passed::Passed;
 use crate::rows::{Row, row_at};
 use crate::touched::{Touch, pass_bytes, touch_near, word_of};

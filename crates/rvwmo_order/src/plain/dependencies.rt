@@ -6,7 +6,7 @@ ghost use Rattle.rv32_exec.specs.Uses.{uses_of};
 ghost use Rattle.memory_model.specs.Dependencies as spec;
 
 use crate::accesses::precedes;
-use crate::items::Items;
+use crate::listed::Items;
 use crate::uses::{
     address_register, destination, instr_at, is_steering, other_registers, stored_register,
 };
@@ -88,7 +88,7 @@ fn held_at(items: &Items, a: &Operation, b: &Operation) -> [bool; 32]
 {
     let mut held = held_first(items, a);
     let mut rest = items.between(a, b);
-    while let [item, tail @ ..] = rest {
+    while let Some((item, tail)) = rest.split_first() {
         pass(&mut held, item.instr());
         rest = tail;
     }
@@ -141,7 +141,7 @@ pub(crate) fn has_control_dependency(items: &Items, a: &Operation, b: &Operation
     }
     let mut held = held_first(items, a);
     let mut rest = items.between(a, b);
-    while let [item, tail @ ..] = rest {
+    while let Some((item, tail)) = rest.split_first() {
         if steers(&held, item.instr()) {
             return true;
         }
@@ -160,7 +160,7 @@ pub(crate) fn has_dependent_address_between(items: &Items, a: &Operation, b: &Op
     }
     let mut held = held_first(items, a);
     let mut rest = items.between(a, b);
-    while let [item, tail @ ..] = rest {
+    while let Some((item, tail)) = rest.split_first() {
         if addresses(&held, item.instr()) {
             return true;
         }

@@ -14,7 +14,7 @@ ghost use Rattle.rvwmo_order.specs.Codes.{rule_of};
 use crate::accesses::{
     end_of, has_acquire, has_rcsc, has_release, is_amo, is_sc, overlap, reads, touches, writes,
 };
-use crate::items::Items;
+use crate::listed::Items;
 use crate::plain::dependencies::{
     has_address_dependency, has_control_dependency, has_data_dependency,
     has_dependent_address_between,
@@ -93,10 +93,14 @@ fn returns_from_between(items: &Items, order: &[Operation], a: &Operation, b: &O
     ensures { result
         ≡ list_any (λ m. spec.passes_on items.now order.now a.now b.now m.operation) (between items.now a.now b.now) }
 {
-    items
-        .between(a, b)
-        .iter()
-        .any(|item| is_returned(items, order, a, b, item.operation()))
+    let mut rest = items.between(a, b);
+    while let Some((item, tail)) = rest.split_first() {
+        if is_returned(items, order, a, b, item.operation()) {
+            return true;
+        }
+        rest = tail;
+    }
+    false
 }
 
 // Whether it is a store whose address or number depends on `a`, and `b` returns a value that it wrote.
