@@ -6,23 +6,18 @@ use Rattle.machine_model.specs.LogLaws.{AgreeInSum}
 use Rattle.machine_model.proofs.log.Sums.{sums_agree}
 use Rattle.lawful_log.specs.Facts as by_facts
 use Rattle.lawful_log.specs.Facts.{GoesBy, KeepsBy, front_for, known_of, without_data}
-use Rattle.lawful_log.specs.Rules.{Obeys, KeepsGoing, fits_data, is_asked, may_go_by}
+use Rattle.lawful_log.specs.Rules.{Obeys, KeepsGoing, fits_data, may_go_by}
 use Rattle.lawful_log.specs.declared.rule.LogRule.{LogRule}
 use Rattle.lawful_log.specs.declared.rule.LogRule.TheVariants.{InOrder, Question, Permission, Data, AcquireOnce, ProbeOnce, GrantAlone, ReleaseAlone}
 use Rattle.tl_types.specs.declared.message.Body.{Body}
 use Rattle.tl_types.specs.declared.message.Body.TheVariants.{AcquireBlock, ProbeBlock, ProbeAck, ProbeAckData, Release, ReleaseData, Grant, GrantData, ReleaseAck, GrantAck}
 use Rattle.tl_types.specs.declared.message.Msg.{Msg}
-use Rattle.tl_types.specs.declared.permission.Cap.{Cap}
 use Rattle.tl_types.specs.declared.permission.Grow.{Grow}
 use Rattle.trace_recorder.specs.declared.logged.Direction.{Direction}
 use Rattle.trace_recorder.specs.declared.logged.Direction.TheVariants.{Sent, Taken}
 use Rattle.trace_recorder.specs.declared.logged.Logged.{Logged}
 
 module _ (h line : ℕ) (log : List Logged) (agree : AgreeInSum line log) where
-  asked_same : (o : Option Grow) (p : Cap) → is_asked o p ≡ by_facts.is_asked o p
-  asked_same None p = refl
-  asked_same (Some g) p = refl
-
   without_same : (o : Option Grow) → fits_data o false h line log ≡ unwrap_or (without_data o (lost_since_asking h line false log)) true
   without_same None = refl
   without_same (Some g) = refl
@@ -53,8 +48,8 @@ module _ (h line : ℕ) (log : List Logged) (agree : AgreeInSum line log) where
   same Permission (ProbeAckData c b) = refl
   same Permission (Release c) = refl
   same Permission (ReleaseData c b) = refl
-  same Permission (Grant c) = asked_same (asked_by_next h line log) c
-  same Permission (GrantData c b) = asked_same (asked_by_next h line log) c
+  same Permission (Grant c) = refl
+  same Permission (GrantData c b) = refl
   same Permission ReleaseAck = refl
   same Permission GrantAck = refl
   same Data (AcquireBlock g) = refl

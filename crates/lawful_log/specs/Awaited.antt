@@ -19,7 +19,8 @@ has_answered ProbeAck h line log = is_settled is_probe is_probe_ack (concerns h 
 abbrev pub OwesNothing : ℕ → ℕ → List Logged → Type 0
 OwesNothing h line log = (answer : Answer) → has_answered answer h line log ≡ true
 
--- of the first hart that owes an answer of the line; nothing where each of so many has answered
+-- of the first hart that owes an answer of the line, its GrantAck where it owes both; nothing where each of so many has answered
 abbrev pub FindsAwaited : ℕ → ℕ → List Logged → Option Awaited → Type 0
 FindsAwaited harts line log None = (h : ℕ) → h < harts → OwesNothing h line log
-FindsAwaited harts line log (Some a) = (a.hart < harts) × ((has_answered a.answer a.hart line log ≡ false) × ((h : ℕ) → h < a.hart → OwesNothing h line log))
+FindsAwaited harts line log (Some a) = (a.hart < harts) × (has_answered a.answer a.hart line log ≡ false) × (a.answer ≡ ProbeAck → has_answered GrantAck a.hart line log ≡ true)
+    × ((h : ℕ) → h < a.hart → OwesNothing h line log)

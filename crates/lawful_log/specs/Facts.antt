@@ -1,7 +1,7 @@
 -- What is counted of a log, and the rules in terms of it.
 use Rattle.std.specs.Prelude.{ℕ, ◌≡◌, ◌<◌, ◌+◌, ◌^◌, Bool, true, false, ◌&&◌, not, ◌==◌, nat_lt, List, Option, Some, None, IsTrue, is_some, unwrap_or, length, slice_get}
-use Rattle.machine_model.specs.LawfulLog.{asked_by_next, concerns, is_acquire, is_BtoT, is_for, is_grant, is_grant_ack, is_of_line, is_probe, is_probe_ack, is_release, is_release_ack, lost_since_asking, sent_count, sent_on, taken_count, taken_on}
-use Rattle.lawful_log.specs.Rules.{rank}
+use Rattle.machine_model.specs.LawfulLog.{asked_by_next, concerns, is_acquire, is_BtoT, is_grant, is_grant_ack, is_of_line, is_probe, is_probe_ack, is_release, is_release_ack, lost_since_asking, sent_count, sent_on, taken_count, taken_on}
+use Rattle.lawful_log.specs.Rules.{is_asked, rank}
 use Rattle.lawful_log.specs.declared.facts.Facts.{Facts}
 use Rattle.lawful_log.specs.declared.rule.LogRule.{LogRule}
 use Rattle.lawful_log.specs.declared.rule.LogRule.TheVariants.{InOrder, Question, Permission, Data, AcquireOnce, ProbeOnce, GrantAlone, ReleaseAlone}
@@ -11,7 +11,6 @@ use Rattle.tl_types.specs.Message.{channel_of}
 use Rattle.tl_types.specs.declared.message.Body.{Body}
 use Rattle.tl_types.specs.declared.message.Body.TheVariants.{AcquireBlock, ProbeBlock, ProbeAck, ProbeAckData, Release, ReleaseData, Grant, GrantData, ReleaseAck, GrantAck}
 use Rattle.tl_types.specs.declared.message.Msg.{Msg}
-use Rattle.tl_types.specs.declared.permission.Cap.{Cap}
 use Rattle.tl_types.specs.declared.permission.Grow.{Grow}
 use Rattle.trace_recorder.specs.declared.logged.Direction.{Direction}
 use Rattle.trace_recorder.specs.declared.logged.Direction.TheVariants.{Sent, Taken}
@@ -110,10 +109,6 @@ has_question (Grant cap) f = is_some f.asked
 has_question (GrantData cap bytes) f = is_some f.asked
 has_question ReleaseAck f = nat_lt f.hart.release_acks.sent f.hart.releases.taken
 has_question GrantAck f = nat_lt f.hart.grant_acks.sent f.hart.grants.taken
-
-abbrev pub is_asked : Option Grow → Cap → Bool
-is_asked None cap = true
-is_asked (Some grow) cap = is_for grow cap
 
 abbrev pub has_permission : Body → Known → Bool
 has_permission (Grant cap) f = is_asked f.asked cap

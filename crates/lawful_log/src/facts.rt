@@ -2,6 +2,7 @@
 ghost use Rattle.std.specs.Prelude.{◌≡◌};
 ghost use Rattle.lawful_log.specs.Facts.{FindsBroken, told};
 ghost use Rattle.lawful_log.specs.Facts as spec;
+ghost use Rattle.lawful_log.specs.Rules.{is_asked};
 
 use crate::rule::LogRule;
 use crate::tallies::Tallies;
@@ -140,7 +141,7 @@ impl Facts<'_> {
 
 // Whether this is the permission that was asked for; it is where nothing was.
 fn is_asked(asked: Option<Grow>, cap: Cap) -> bool
-    ensures { result ≡ spec.is_asked asked cap }
+    ensures { result ≡ is_asked asked cap }
 {
     match asked {
         Some(Grow::NtoB) => cap == Cap::ToB,
