@@ -8,7 +8,7 @@ use Rattle.command_files.specs.Faults.{IsReplayFault, Name}
 use Rattle.command_files.specs.Files.{HoldsImage, HoldsScript, IsTheScriptIn}
 use Rattle.command_files.specs.Held.{Held}
 use Rattle.command_files.specs.Sizes.{config_of}
-use Rattle.command_files.specs.Status.{IsOutOfMemory}
+use Rattle.command_files.specs.Status.{IsOutOfMemory, line_at}
 use Rattle.command_files.specs.declared.fault.Fault.{Fault}
 use Rattle.command_files.specs.declared.fault.Fault.TheVariants.{BadAddress, CannotWrite, Configuration, Event, OutOfMemory, TooManyRows}
 use Rattle.command_settings.specs.declared.wanted.Replay.{Replay}
@@ -23,7 +23,7 @@ use Rattle.run_chart.specs.declared.errors.ChartError.TheVariants as chart
 use Rattle.std.specs.Io.KnownBytes.{Appends}
 use Rattle.std.specs.IoError.{error_kind}
 use Rattle.std.specs.declared.io.ErrorKind.TheVariants as io
-use Rattle.std.specs.Prelude.{◌≡◌, ◌⊎◌, ◌↔◌, ◌+◌, ◌-◌, ◌^◌, ℕ, List, [], Option, Some, None, min}
+use Rattle.std.specs.Prelude.{◌≡◌, ◌⊎◌, ◌↔◌, ℕ, List, [], Option, Some, None}
 use Rattle.trace_text.specs.declared.script.Script.{Script}
 
 -- the address that the word names, where there is a word
@@ -70,7 +70,7 @@ pub record IsNotDrawable (held : Held) (replay : Replay) (line : Option Name) : 
 -- which fault tells why a script's run is not drawn
 abbrev pub IsDrawingFault : Name → ChartError → Fault → Type 0
 IsDrawingFault script (chart.Replay refusal) told =
-    ((told ≡ Configuration) ⊎ ((told ≡ OutOfMemory) ⊎ ((index : ℕ) × (error : ApplyError) × (refusal ≡ refusals.Event index error) × (told ≡ Event script (min (index + 2) (2 ^ 64 - 1)) error))))
+    ((told ≡ Configuration) ⊎ ((told ≡ OutOfMemory) ⊎ ((index : ℕ) × (error : ApplyError) × (refusal ≡ refusals.Event index error) × (told ≡ Event script (line_at index) error))))
     × ((told ≡ Configuration) ↔ (refusal ≡ refusals.New making.Config))
     × ((told ≡ OutOfMemory) ↔ IsOutOfMemory refusal)
 IsDrawingFault script chart.TooManyRows told = told ≡ TooManyRows script

@@ -5,13 +5,14 @@ use Rattle.command_files.specs.Held.{HasLongFirstLine, Held, HoldsBytes}
 use Rattle.command_files.specs.declared.fault.Fault.TheVariants.{CannotRead, CannotWrite, Event, Image, OutOfMemory, Text}
 use Rattle.command_files.specs.declared.fault.Fault.{Fault}
 use Rattle.command_files.specs.Sizes.{config_of}
+use Rattle.command_files.specs.Status.{line_at}
 use Rattle.command_settings.specs.declared.wanted.Replay.{Replay}
 use Rattle.elf_loader.specs.Image.{Initial}
 use Rattle.elf_loader.specs.declared.error.LoadError.{LoadError}
 use Rattle.machine_model.specs.Views.{opening}
 use Rattle.machine_parts.specs.declared.errors.ApplyError.{ApplyError}
 use Rattle.std.specs.Borrow.{Bor}
-use Rattle.std.specs.Prelude.{◌≡◌, ◌≢◌, ◌⊎◌, ◌+◌, ◌*◌, ◌^◌, ◌-◌, ℕ, Bool, Err, IfSome, List, Option, min}
+use Rattle.std.specs.Prelude.{◌≡◌, ◌≢◌, ◌⊎◌, ◌*◌, ℕ, Bool, Err, IfSome, List, Option}
 use Rattle.trace_text.specs.Scripts as scripts
 use Rattle.trace_text.specs.Scripts.{IsScript}
 use Rattle.trace_text.specs.declared.script.Script.{Script}
@@ -71,7 +72,7 @@ pub record IsEventFault (held : Held) (replay : Replay) (line : ℕ) (error : Ap
   pub script_file : HoldsScript held replay.script.now script
   pub image_file : HoldsImage held replay.raw replay.image.now script.kib image
   pub index : ℕ
-  pub place : line ≡ min (index + 2) (2 ^ 64 - 1)
+  pub place : line ≡ line_at index
   pub refused : IsRefusedAt (opening image (config_of script replay.model)) script.events index error
 
 -- the script is judged first, then the image, then the events

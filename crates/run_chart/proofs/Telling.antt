@@ -15,7 +15,7 @@ use Rattle.machine_model.specs.Views.{State}
 use Rattle.machine_parts.specs.Applying.{Answers}
 use Rattle.run_chart.specs.declared.before.Before.{Before}
 use Rattle.run_chart.specs.declared.gathering.Gathered.{Gathered}
-use Rattle.run_chart.specs.Rows.{Told, before, is_shown, line_behind, report_between, row, row_between, rows_at, rows_by, rows_of, shown, told}
+use Rattle.run_chart.specs.Rows.{Told, before, is_shown, line_behind, report_since, row, row_between, rows_at, rows_by, rows_of, shown, told}
 use Rattle.run_chart.specs.Stories.{IsRowTold}
 
 stays : (v : Verdict) (w : ℕ) (only : Option ℕ) (columns : List ℕ) (line index : ℕ) (s new : State) (e : Event) (o : Outcome) → Answers v s (Ok o) new
@@ -57,7 +57,7 @@ pub one_told : (w : ℕ) (only : Option ℕ) (columns : List ℕ) (line index : 
     → rows_at w only columns line index s e ≡ shown (is_shown w only b.address r.log) t
 one_told w only columns line index s new e o b r t a h eb er et =
     ap (λ (v : Verdict). rows_by v w only columns line index s e) (moves (verdict s e) s new o a h)
-    ∙ ap (λ (x : Told). shown (is_shown w only (before s e).address (report_between index s e o new).log) x) (sym (row_told only columns line index s new e o b r t eb er et))
+    ∙ ap (λ (x : Told). shown (is_shown w only (before s e).address (report_since index s e o new).log) x) (sym (row_told only columns line index s new e o b r t eb er et))
     ∙ ap (λ (x : Before). shown (is_shown w only x.address (report_behind x.lengths new index e o).log) t) (sym eb)
     ∙ ap (λ (x : Report). shown (is_shown w only b.address x.log) t) (sym er)
 

@@ -80,11 +80,11 @@ shown true t = t ∷ []
 shown false t = []
 
 -- what an event that leads from one state to another has done
-abbrev pub report_between : ℕ → State → Event → Outcome → State → Report
-report_between index s e o new = report_behind (lengths_of s (hart_of e)) new index e o
+abbrev pub report_since : ℕ → State → Event → Outcome → State → Report
+report_since index s e o new = report_behind (lengths_of s (hart_of e)) new index e o
 
 abbrev pub row_between : Option ℕ → List ℕ → ℕ → ℕ → State → Event → Outcome → State → Told
-row_between only columns line index s e o new = row only columns (before s e) new line (report_between index s e o new)
+row_between only columns line index s e o new = row only columns (before s e) new line (report_since index s e o new)
 
 -- an event has a row where it changes the machine and is shown
 abbrev pub rows_by : Verdict → ℕ → Option ℕ → List ℕ → ℕ → ℕ → State → Event → List Told
@@ -92,7 +92,7 @@ rows_by IsBad width only columns line index s e = []
 rows_by (Keeps o) width only columns line index s e = []
 rows_by IsLimited width only columns line index s e = []
 rows_by (Moves o new) width only columns line index s e =
-    shown (is_shown width only (address_at s e) (report_between index s e o new).log) (row_between only columns line index s e o new)
+    shown (is_shown width only (address_at s e) (report_since index s e o new).log) (row_between only columns line index s e o new)
 
 abbrev pub rows_at : ℕ → Option ℕ → List ℕ → ℕ → ℕ → State → Event → List Told
 rows_at width only columns line index s e = rows_by (verdict s e) width only columns line index s e
