@@ -54,6 +54,13 @@ IsRunFault held run CannotWrite = Unit {0}
 IsRunFault held run OutOfMemory = Unit {0}
 IsRunFault held run _ = ⊥
 
+-- what is told before the journal's file is opened
+abbrev pub ComesBeforeJournal : Fault → Type 0
+ComesBeforeJournal (CannotMake file) = ⊥
+ComesBeforeJournal CannotWrite = ⊥
+ComesBeforeJournal OutOfMemory = ⊥
+ComesBeforeJournal _ = Unit {0}
+
 -- which fault an error of the threads is
 abbrev pub run_fault : RunError → Fault
 run_fault threads.Config = Configuration

@@ -4,7 +4,7 @@
 ghost use Rattle.std.specs.Prelude.{◌≡◌, ◌≢◌, ◌⊎◌, ℕ, Err, IfErr, List, OnErr, OnOk};
 ghost use Rattle.std.specs.Io.KnownBytes.{Appends};
 ghost use Rattle.command_files.specs.Held.{HoldsBytes};
-ghost use Rattle.run_command.specs.Running.{IsRun, IsRunCutOff, run_fault};
+ghost use Rattle.run_command.specs.Running.{ComesBeforeJournal, IsRun, IsRunCutOff, run_fault};
 ghost use Rattle.command_files.specs.Sizes.{IsOutside};
 ghost use Rattle.run_command.specs.Running.{IsRunFault};
 ghost use Rattle.command_files.specs.Faults.{LeavesAtFault};
@@ -82,6 +82,7 @@ pub fn run_files<'a, R: Threads + Wait + Sync, F: Files, O: Write, E: Write, P: 
     ensures unfinished { IfErr result (λ fault. LeavesAtFault fault (O.contents out.old) (O.contents out.new)
         (IsRunCutOff (F.held files.old) (F.held files.new) wanted.entry (O.contents out.old) (O.contents out.new))) }
     ensures spared { (other : List ℕ) → other ≢ wanted.entry.journal.now → F.held files.new other ≡ F.held files.old other }
+    ensures untouched { IfErr result (λ fault. ComesBeforeJournal fault → F.held files.new ≡ F.held files.old) }
 {
     every_trace_has_a_text();
     let Some(config) = named_config(wanted.machine) else {

@@ -2,10 +2,10 @@ use Rattle.std.proofs.Common.{◌≡◌, ◌∙◌, ◌⊎◌, ◌≤◌, ℕ, L
 use Rattle.command_files.specs.Sizes.{config_of, config_named, script_named}
 use Rattle.command_files.specs.Files.{HoldsImage}
 use Rattle.command_files.specs.Held.{Held, HoldsBytes}
-use Rattle.run_command.specs.Running.{IsJournalled, IsRunFault}
+use Rattle.run_command.specs.Running.{ComesBeforeJournal, IsJournalled, IsRunFault}
 use Rattle.host_threads.specs.Replays.{end_of_journal}
 use Rattle.command_files.specs.declared.fault.Fault.{Fault}
-use Rattle.command_files.specs.declared.fault.Fault.TheVariants.{CannotWrite, OutOfMemory}
+use Rattle.command_files.specs.declared.fault.Fault.TheVariants.{CannotMake, CannotWrite, OutOfMemory}
 use Rattle.command_settings.specs.declared.wanted.Run.{Run}
 use Rattle.elf_loader.specs.Image.{Initial}
 use Rattle.elf_loader.specs.Size.{IsMemoryKib}
@@ -57,6 +57,13 @@ either_told : (held : Held) (run : Run) (fault : Fault) → (fault ≡ CannotWri
 either_told held run fault is = elim is [
   | inl at ↦ subst (IsRunFault held run) (sym at) tt
   | inr at ↦ subst (IsRunFault held run) (sym at) tt
+]
+
+-- a journal that can't be made, an output that takes no more and want of memory may come later
+not_before : (fault late : Fault) → (ComesBeforeJournal late → ⊥) → (fault ≡ late) ⊎ (fault ≡ OutOfMemory) → ComesBeforeJournal fault → ⊥
+not_before fault late never is before = elim is [
+  | inl at ↦ never (subst ComesBeforeJournal at before)
+  | inr at ↦ absurd (subst ComesBeforeJournal at before)
 ]
 
 pub print-requires : goal.print-requires
@@ -117,3 +124,11 @@ returns-clause-ran g c =
 
 pub returns-clause-spared : goal.returns-clause-spared
 returns-clause-spared g c = λ other another. c.keep.ensures.others other another ∙ ap (λ (h : Held). h other) c.in_ok-image.ensures.stays
+
+pub returns-in_err-print-clause-untouched : goal.returns-in_err-print-clause-untouched
+returns-in_err-print-clause-untouched g c =
+    handed_up _ c.from_residual-in_err-print.result _ c.from_residual-in_err-print.ensures.1 (λ before. absurd (not_before _ CannotWrite (λ b. b) c.in_err-print.ensures.told before))
+
+pub returns-in_err-keep-clause-untouched : goal.returns-in_err-keep-clause-untouched
+returns-in_err-keep-clause-untouched g c =
+    handed_up _ c.from_residual-in_err-keep.result _ c.from_residual-in_err-keep.ensures.1 (λ before. absurd (not_before _ (CannotMake c.args.wanted.journal) (λ b. b) c.in_err-keep.ensures.told before))
