@@ -2,7 +2,7 @@
 use Rattle.std.proofs.Common.{◌≡◌, ◌≢◌, ℕ, IfSome, List, Option, subst}
 use Rattle.std.specs.Io.KnownBytes.{Appends}
 use Rattle.architecture_command.specs.Keeping.{AreWaysKept, IsWayFile}
-use Rattle.architecture_command.specs.Searching.{IsFoundUnder, IsPartlySearched, IsSearched}
+use Rattle.architecture_command.specs.Searching.{IsFoundUnder, IsSearched, SearchHas}
 use Rattle.architecture_outcomes.specs.declared.architecture.Architecture.{Architecture}
 use Rattle.architecture_outcomes.specs.Outcomes.{outcomes_of}
 use Rattle.architecture_outcomes.specs.Text.{architecture_text}
@@ -17,28 +17,24 @@ use Rattle.explore_command.specs.declared.judging.Judgement.{Judgement}
 use Rattle.explore_command.specs.declared.judging.Judgement.TheVariants.{Allowed}
 use Rattle.machine_types.specs.declared.config.Config.{Config}
 use Rattle.state_search.specs.declared.findings.Extent.TheVariants as extent
-use Rattle.text_fields.specs.Writing.{Begins}
 use Rattle.window_machine.specs.declared.allowed.Reach.TheVariants as reach
 
-module _ (held first : Held) (wanted : Explore) (window : ℕ) (config : Config) (image : Initial) (found : Architecture) (old new : Option (List ℕ))
-    (config_is : config ≡ config_named wanted.machine) (same : first ≡ held) (file : HoldsImage first wanted.raw wanted.image.now wanted.machine.memory image) (is : IsFoundUnder image config window wanted.states found) where
-  image_file : HoldsImage held wanted.raw wanted.image.now wanted.machine.memory image
-  image_file = subst (λ (h : Held). HoldsImage h wanted.raw wanted.image.now wanted.machine.memory image) same file
-
+module _ (held : Held) (wanted : Explore) (window : ℕ) (config : Config) (image : Initial) (found : Architecture)
+    (config_is : config ≡ config_named wanted.machine) (file : HoldsImage held wanted.raw wanted.image.now wanted.machine.memory image) (is : IsFoundUnder image config window wanted.states found) where
   is_found : IsFoundUnder image (config_named wanted.machine) window wanted.states found
   is_found = subst (λ (c : Config). IsFoundUnder image c window wanted.states found) config_is is
 
-  pub part : Begins old new (architecture_text found) → IsPartlySearched held wanted window old new
-  part begun = record { image = image; architecture = found; image_file = image_file; found = is_found; begun = begun }
+  pub has : (P : List ℕ → Type 0) → P (architecture_text found) → SearchHas held wanted window P
+  has P so = record { image = image; architecture = found; image_file = file; found = is_found; of_text = so }
 
-  pub whole : (left : Held) (judgement : Judgement) → Appends old new (architecture_text found) → IfSome wanted.scripts (λ folder. AreWaysKept left wanted.machine folder.now 1 found.outcomes.items)
+  pub whole : (old new : Option (List ℕ)) (left : Held) (judgement : Judgement) → Appends old new (architecture_text found) → IfSome wanted.scripts (λ folder. AreWaysKept left wanted.machine folder.now 1 found.outcomes.items)
       → SparesOthers (IsInNamed wanted.scripts (IsWayFile 1 found.outcomes.items)) held left
       → IsJudged held wanted.allow (outcomes_of found.outcomes.items) judgement
       → (judgement ≡ Allowed → (found.machine ≢ extent.OutOfMemory) × (found.reach ≢ reach.OutOfMemory)) → IsSearched held left wanted window judgement old new
-  whole left judgement printed kept spares by memory = record {
+  whole old new left judgement printed kept spares by memory = record {
     image = image;
     architecture = found;
-    image_file = image_file;
+    image_file = file;
     found = is_found;
     printed = printed;
     kept = kept;

@@ -5,7 +5,7 @@ use Rattle.std.specs.List.Sorted.{IsStrictlySortedBy}
 use Rattle.std.specs.Ordering.{on}
 use Rattle.architecture_command.specs.Keeping.{AreWaysKept, IsWayFile}
 use Rattle.architecture_outcomes.specs.declared.architecture.Architecture.{Architecture}
-use Rattle.architecture_outcomes.specs.Outcomes.{IsWitnessed, TellsEachEnd, outcome_of, outcomes_of}
+use Rattle.architecture_outcomes.specs.Outcomes.{IsDecided, IsWitnessed, TellsEachEnd, outcome_of, outcomes_of}
 use Rattle.architecture_outcomes.specs.Text.{architecture_text}
 use Rattle.command_files.specs.Files.{HoldsImage}
 use Rattle.command_files.specs.Held.{Held}
@@ -20,13 +20,13 @@ use Rattle.explorer.specs.Ranks.{outcome_cmp}
 use Rattle.machine_types.specs.declared.config.Config.{Config}
 use Rattle.state_search.specs.declared.findings.Extent.TheVariants.{Complete, LimitMet}
 use Rattle.state_search.specs.declared.findings.Extent.TheVariants as extent
-use Rattle.text_fields.specs.Writing.{Begins}
 use Rattle.window_machine.specs.declared.allowed.Reach.TheVariants as reach
 
--- what is said to show an outcome does; where the machine's own search is complete, each of its outcomes is told as one of the machine; the outcomes stand in their order, each once; where that search met its limit it found as many states
+-- what is said to show an outcome does; where the machine's own search is complete, each of its outcomes is told as one of the machine, and each other as the model's alone; the outcomes stand in their order, each once; where that search met its limit it found as many states
 pub record IsFoundUnder (image : Initial) (config : Config) (window limit : ℕ) (found : Architecture) : Type 0 where
   pub shown : All (IsWitnessed image config) found.outcomes.items
   pub machine : found.machine ≡ Complete → TellsEachEnd image config found.outcomes.items
+  pub alone : found.machine ≡ Complete → All (λ o. IsDecided o.way) found.outcomes.items
   pub order : IsStrictlySortedBy (on outcome_of outcome_cmp) found.outcomes.items
   pub full : found.machine ≡ LimitMet → found.machine_states ≡ limit
   pub model : found.model ≡ config.model
@@ -44,10 +44,10 @@ pub record IsSearched (held left : Held) (wanted : Explore) (window : ℕ) (judg
   pub judged : IsJudged held wanted.allow (outcomes_of architecture.outcomes.items) judgement
   pub whole : judgement ≡ Allowed → (architecture.machine ≢ extent.OutOfMemory) × (architecture.reach ≢ reach.OutOfMemory)
 
--- such a text was printed, all of it or a beginning
-pub record IsPartlySearched (held : Held) (wanted : Explore) (window : ℕ) (old new : Option (List ℕ)) : Type 0 where
+-- P holds of the text of what was found of the image in the file
+pub record SearchHas (held : Held) (wanted : Explore) (window : ℕ) (P : List ℕ → Type 0) : Type 0 where
   pub image : Initial
   pub architecture : Architecture
   pub image_file : HoldsImage held wanted.raw wanted.image.now wanted.machine.memory image
   pub found : IsFoundUnder image (config_named wanted.machine) window wanted.states architecture
-  pub begun : Begins old new (architecture_text architecture)
+  pub of_text : P (architecture_text architecture)

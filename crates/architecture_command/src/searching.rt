@@ -2,7 +2,7 @@
 
 ghost use Rattle.std.specs.Prelude.{◌≡◌, ◌<◌, Err, IfErr, IfOk};
 ghost use Rattle.architecture_command.specs.Keeping.{IsFileOf};
-ghost use Rattle.architecture_command.specs.Searching.{IsPartlySearched, IsSearched};
+ghost use Rattle.architecture_command.specs.Searching.{IsSearched, SearchHas};
 ghost use Rattle.command_files.specs.Sizes.{IsOutside};
 ghost use Rattle.explore_command.specs.Exploring.{IsExploreFault, LeavesPart};
 ghost use Rattle.explore_command.specs.Keeping.{SparesOthers};
@@ -10,9 +10,9 @@ ghost use Rattle.explore_command.specs.Keeping.{SparesOthers};
 use crate::allowed::Searched;
 use crate::telling::tell_overtakings;
 use architecture_outcomes::{Outcome, explore_architecture};
-use command_files::{Fault, Files, image_in, named_config};
+use command_files::{Fault, Files};
 use command_settings::Explore;
-use explore_command::{Judgement, allow_file, judge, keep, print};
+use explore_command::{Asked, Judgement, judge, keep, print};
 use std::alloc::Global;
 use std::io::Write;
 
@@ -33,30 +33,26 @@ pub fn architecture_files<'a, F: Files, O: Write, E: Write>(
     ensures outside { IsOutside wanted.entry.machine → result ≡ Err Fault.Configuration }
     ensures told { IfErr result (IsExploreFault (F.held files.old) wanted.entry) }
     ensures unfinished { IfErr result (λ fault. LeavesPart fault (O.contents out.old) (O.contents out.new)
-        (IsPartlySearched (F.held files.old) wanted.entry window (O.contents out.old) (O.contents out.new))) }
+        (SearchHas (F.held files.old) wanted.entry window)) }
     ensures spared { SparesOthers (IsFileOf wanted.entry.scripts) (F.held files.old) (F.held files.new) }
 {
-    let Some(config) = named_config(wanted.machine) else {
-        return Err(Fault::Configuration);
-    };
-    let allowed = allow_file(alloc, files, wanted.allow)?;
-    let image = image_in(
+    let asked = Asked::read(alloc, files, wanted)?;
+    let Ok(architecture) = explore_architecture(
         alloc,
-        files,
-        wanted.raw,
-        wanted.image,
-        wanted.machine.memory,
-    )?;
-    let Ok(architecture) = explore_architecture(alloc, &image, config, window, wanted.states) else {
+        &asked.image,
+        asked.config,
+        window,
+        wanted.states,
+    ) else {
         return Err(Fault::OutOfMemory);
     };
     let found = Searched { architecture };
     // Called for its clause that the bytes are an image's.
-    let _entry = image.entry();
+    let _entry = asked.image.entry();
     print(alloc, &found, out)?;
     keep(alloc, files, wanted, &found)?;
     tell(alloc, wanted, &found.architecture.outcomes, err)?;
-    judge(alloc, &allowed, &found, err)
+    judge(alloc, &asked.allowed, &found, err)
 }
 
 /// Tells what the traces show, where they were written.

@@ -4,7 +4,7 @@ use Rattle.std.proofs.lemmas.List.{get_or-map, length-map, map-append}
 use Rattle.std.proofs.lemmas.List.Elements.{All-append, All-map, Contains-append_right}
 use Rattle.std.proofs.lemmas.List.Sorted.{All-permutation, Contains-permutation, IsPermutation-map}
 use Rattle.architecture_outcomes.specs.declared.outcome.Outcome.{Outcome}
-use Rattle.architecture_outcomes.specs.Outcomes.{IsWitnessed, TellsEachEnd, machine_end, of_found}
+use Rattle.architecture_outcomes.specs.Outcomes.{IsDecided, IsWitnessed, TellsEachEnd, machine_end, of_found}
 use Rattle.elf_loader.specs.Image.{Initial}
 use Rattle.explorer.specs.declared.found.Found.{Found}
 use Rattle.explorer.specs.Ends.{IsRealIn, outcomes_of}
@@ -32,6 +32,11 @@ module _ (image : Initial) (config : Config) (beyond joined sorted : List Outcom
   all_shown first second =
       All-permutation (IsWitnessed image config) joined sorted moved
       (subst (All (IsWitnessed image config)) (sym joined_is) (All-append (IsWitnessed image config) beyond (map of_found found) first (All-map (IsWitnessed image config) of_found found second)))
+
+  pub all_decided : All (λ o. IsDecided o.way) beyond → All (λ o. IsDecided o.way) sorted
+  all_decided first =
+      All-permutation (λ o. IsDecided o.way) joined sorted moved
+      (subst (All (λ o. IsDecided o.way)) (sym joined_is) (All-append (λ o. IsDecided o.way) beyond (map of_found found) first (All-map (λ o. IsDecided o.way) of_found found (λ k d l. tt))))
 
   pub each_told : HasEachEnd image config (outcomes_of found) → TellsEachEnd image config sorted
   each_told each events ended =

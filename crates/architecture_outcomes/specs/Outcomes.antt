@@ -39,6 +39,12 @@ IsWitnessedBy image config o (Model trace) = IsWitness image config (record { ha
 abbrev pub IsWitnessed : Initial → Config → Outcome → Type 0
 IsWitnessed image config o = IsWitnessedBy image config o o.way
 
+-- it says whether the machine comes to the outcome
+abbrev pub IsDecided : Way → Type 0
+IsDecided (Machine script) = Unit {0}
+IsDecided (ModelAlone trace) = Unit {0}
+IsDecided (Model trace) = ⊥
+
 -- ---- where outcomes come from
 
 abbrev pub of_found : Found → Outcome

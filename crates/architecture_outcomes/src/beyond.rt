@@ -3,7 +3,7 @@ ghost use Rattle.std.specs.Prelude.{◌≡◌, All, IfOk, IsTrue};
 ghost use Rattle.std.specs.List.{list_any};
 ghost use Rattle.std.specs.List.Sorted.{IsStrictlySortedBy};
 ghost use Rattle.std.specs.Ordering.{on};
-ghost use Rattle.architecture_outcomes.specs.Outcomes.{IsWitnessed, TellOnce, is_end};
+ghost use Rattle.architecture_outcomes.specs.Outcomes.{IsDecided, IsWitnessed, TellOnce, is_end};
 ghost use Rattle.explorer.specs.Ends.{outcome_of, outcomes_of};
 ghost use Rattle.explorer.specs.Outcomes.{HasEachEnd};
 ghost use Rattle.explorer.specs.Ranks.{outcome_cmp};
@@ -70,6 +70,7 @@ pub(crate) fn beyond(
     requires once { IsStrictlySortedBy (on outcome_of outcome_cmp) found.now }
     ensures shown { IfOk result (λ outcomes. All (IsWitnessed image.now config) outcomes.items) }
     ensures once { IfOk result (λ outcomes. TellOnce found.now outcomes.items) }
+    ensures alone { IfOk result (λ outcomes. IsTrue is_complete → All (λ o. IsDecided o.way) outcomes.items) }
 {
     let mut outcomes = Vec::new(alloc);
     let mut left = witnesses;

@@ -2,7 +2,7 @@
 ghost use Rattle.std.specs.Prelude.{◌≡◌, ◌<◌, ◌++◌, All, IfOk, IsTrue, OnOk, map};
 ghost use Rattle.std.specs.List.Sorted.{IsStrictlySortedBy};
 ghost use Rattle.std.specs.Ordering.{on};
-ghost use Rattle.architecture_outcomes.specs.Outcomes.{IsWitnessed, TellsEachEnd, of_found, outcome_of};
+ghost use Rattle.architecture_outcomes.specs.Outcomes.{IsDecided, IsWitnessed, TellsEachEnd, of_found, outcome_of};
 ghost use Rattle.explorer.specs.Ranks.{outcome_cmp};
 ghost use Rattle.machine_types.specs.Config.{is_within_limits};
 
@@ -35,6 +35,9 @@ pub fn explore_architecture(
 
     // Where the machine's own search is complete, each of its outcomes is told as one of the machine.
     ensures machine { IfOk result (λ a. a.machine ≡ Extent.Complete → TellsEachEnd image.now config a.outcomes.items) }
+
+    // And each other is told as the model's alone.
+    ensures alone { IfOk result (λ a. a.machine ≡ Extent.Complete → All (λ o. IsDecided o.way) a.outcomes.items) }
 
     // No outcome is told twice.
     ensures order { IfOk result (λ a. IsStrictlySortedBy (on outcome_of outcome_cmp) a.outcomes.items) }

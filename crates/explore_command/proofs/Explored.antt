@@ -12,7 +12,7 @@ use Rattle.command_settings.specs.declared.wanted.Explore.{Explore}
 use Rattle.elf_loader.specs.Image.{Initial}
 use Rattle.exploration_text.specs.Text.{exploration_text}
 use Rattle.explore_command.specs.Allowing.{IsJudged}
-use Rattle.explore_command.specs.Exploring.{IsAllowFile, IsExploreFault, IsExplorationTold, IsFoundIn, IsPartlyExplored, IsPrinted, LeavesPart, judgement_on}
+use Rattle.explore_command.specs.Exploring.{IsAllowFile, IsExploreFault, IsExplorationTold, IsFoundIn, ExplorationHas, LeavesPart, judgement_on}
 use Rattle.explore_command.specs.Keeping.{AreKept, IsInNamed, IsScriptOf, SparesOthers}
 use Rattle.explore_command.specs.declared.judging.Judgement.{Judgement}
 use Rattle.explore_command.specs.declared.judging.Judgement.TheVariants.{Allowed}
@@ -57,27 +57,21 @@ judged held None (Some text) outcomes judgement read is = absurd read
 judged held (Some file) None outcomes judgement read is = absurd read
 judged held (Some file) (Some text) outcomes judgement read is = (text, read, is)
 
-module _ (held first : Held) (wanted : Explore) (config : Config) (image : Initial) (found : Exploration) (old new : Option (List ℕ))
-    (config_is : config ≡ config_named wanted.machine) (same : first ≡ held) (file : HoldsImage first wanted.raw wanted.image.now wanted.machine.memory image) (is : IsFoundIn image config wanted.states found) where
-  image_file : HoldsImage held wanted.raw wanted.image.now wanted.machine.memory image
-  image_file = subst (λ (h : Held). HoldsImage h wanted.raw wanted.image.now wanted.machine.memory image) same file
-
+module _ (held : Held) (wanted : Explore) (config : Config) (image : Initial) (found : Exploration)
+    (config_is : config ≡ config_named wanted.machine) (file : HoldsImage held wanted.raw wanted.image.now wanted.machine.memory image) (is : IsFoundIn image config wanted.states found) where
   is_found : IsFoundIn image (config_named wanted.machine) wanted.states found
   is_found = subst (λ (c : Config). IsFoundIn image c wanted.states found) config_is is
 
-  pub part : Begins old new (exploration_text found) → IsPartlyExplored held wanted old new
-  part begun = record { image = image; exploration = found; image_file = image_file; found = is_found; begun = begun }
+  pub has : (P : List ℕ → Type 0) → P (exploration_text found) → ExplorationHas held wanted P
+  has P so = record { image = image; exploration = found; image_file = file; found = is_found; of_text = so }
 
-  pub printed : Appends old new (exploration_text found) → IsPrinted held wanted old new
-  printed whole = record { image = image; exploration = found; image_file = image_file; found = is_found; whole = whole }
-
-  pub whole : (left : Held) (judgement : Judgement) → Appends old new (exploration_text found) → IfSome wanted.scripts (λ folder. AreKept left wanted.machine folder.now found)
+  pub whole : (old new : Option (List ℕ)) (left : Held) (judgement : Judgement) → Appends old new (exploration_text found) → IfSome wanted.scripts (λ folder. AreKept left wanted.machine folder.now found)
       → SparesOthers (IsInNamed wanted.scripts (IsScriptOf (length found.outcomes.items) found.stuck)) held left
       → IsJudged held wanted.allow (outcomes_of found.outcomes.items) judgement → (judgement ≡ Allowed → found.extent ≢ extent.OutOfMemory) → IsExplorationTold held left wanted judgement old new
-  whole left judgement told kept spares by memory = record {
+  whole old new left judgement told kept spares by memory = record {
     image = image;
     exploration = found;
-    image_file = image_file;
+    image_file = file;
     found = is_found;
     printed = told;
     kept = kept;
@@ -86,8 +80,8 @@ module _ (held first : Held) (wanted : Explore) (config : Config) (image : Initi
     whole = memory;
   }
 
-pub memory_left : (fault : Fault) (old new : Option (List ℕ)) (part : Type 0) → fault ≡ OutOfMemory → part → LeavesPart fault old new part
-memory_left fault old new part is so = subst (λ f. LeavesPart f old new part) (sym is) (inr so)
+pub memory_left : (fault : Fault) (old new : Option (List ℕ)) (Has : (List ℕ → Type 0) → Type 0) → fault ≡ OutOfMemory → Has (Begins old new) → LeavesPart fault old new Has
+memory_left fault old new Has is so = subst (λ f. LeavesPart f old new Has) (sym is) (inr so)
 
 pub memory_told : (held : Held) (explore : Explore) (fault : Fault) → fault ≡ OutOfMemory → IsExploreFault held explore fault
 memory_told held explore fault is = subst (IsExploreFault held explore) (sym is) tt

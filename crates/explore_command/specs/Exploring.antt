@@ -1,8 +1,9 @@
 -- What an exploration has told, written and judged, and which faults it tells.
-use Rattle.std.specs.Prelude.{◌≡◌, ◌≢◌, ◌⊎◌, ℕ, [], All, IfSome, List, length, None, Option, Some}
+use Rattle.std.specs.Prelude.{◌≡◌, ◌≢◌, ◌⊎◌, ◌≤◌, ℕ, [], All, IfSome, List, length, None, Option, Some}
 use Rattle.std.specs.Io.KnownBytes.{Appends}
-use Rattle.std.specs.List.Sorted.{IsSortedByKey}
-use Rattle.command_files.specs.Faults.{IsNoImage, Name}
+use Rattle.std.specs.List.Sorted.{IsStrictlySortedBy}
+use Rattle.std.specs.Ordering.{on}
+use Rattle.command_files.specs.Faults.{IsImageFault, IsNoImage, IsReadFault, Name}
 use Rattle.command_files.specs.Files.{HoldsImage}
 use Rattle.command_files.specs.Held.{Held, HoldsBytes}
 use Rattle.command_files.specs.Sizes.{IsOutside, config_named}
@@ -31,14 +32,15 @@ use Rattle.text_fields.specs.Writing.{Begins}
 -- ---- what is found
 
 -- each end is one, and its script leads there; where it says complete no end is missing, and where nothing is stuck an end can always be reached, and one is told;
--- the ends stand in their order; there are states, as many as it says, that were found
+-- the ends stand in their order, each once; there are states, no more than the limit, as many as it says, that were found
 pub record IsFoundIn (image : Initial) (config : Config) (limit : ℕ) (found : Exploration) : Type 0 where
   pub real : All (IsRealIn image config) found.outcomes.items
   pub complete : found.extent ≡ Complete → HasEachEnd image config (outcomes_of found.outcomes.items)
   pub none_stuck : found.extent ≡ Complete → found.stuck ≡ None → CanAlwaysEnd image config
   pub some : found.extent ≡ Complete → found.stuck ≡ None → found.outcomes.items ≢ []
   pub stuck : IfSome found.stuck (IsStuckIn image config)
-  pub order : IsSortedByKey outcome_of outcome_cmp found.outcomes.items
+  pub order : IsStrictlySortedBy (on outcome_of outcome_cmp) found.outcomes.items
+  pub within : found.states ≤ limit
   pub full : found.extent ≡ LimitMet → found.states ≡ limit
   pub visited : (states : List Flat) × AreVisited image config found states
 
@@ -54,21 +56,13 @@ pub record IsExplorationTold (held left : Held) (wanted : Explore) (judgement : 
   pub judged : IsJudged held wanted.allow (outcomes_of exploration.outcomes.items) judgement
   pub whole : judgement ≡ Allowed → exploration.extent ≢ extent.OutOfMemory
 
--- what was found of the image in the file was printed, all of it
-pub record IsPrinted (held : Held) (wanted : Explore) (old new : Option (List ℕ)) : Type 0 where
+-- P holds of the text of what was found of the image in the file
+pub record ExplorationHas (held : Held) (wanted : Explore) (P : List ℕ → Type 0) : Type 0 where
   pub image : Initial
   pub exploration : Exploration
   pub image_file : HoldsImage held wanted.raw wanted.image.now wanted.machine.memory image
   pub found : IsFoundIn image (config_named wanted.machine) wanted.states exploration
-  pub whole : Appends old new (exploration_text exploration)
-
--- such a text was printed, all of it or a beginning
-pub record IsPartlyExplored (held : Held) (wanted : Explore) (old new : Option (List ℕ)) : Type 0 where
-  pub image : Initial
-  pub exploration : Exploration
-  pub image_file : HoldsImage held wanted.raw wanted.image.now wanted.machine.memory image
-  pub found : IsFoundIn image (config_named wanted.machine) wanted.states exploration
-  pub begun : Begins old new (exploration_text exploration)
+  pub of_text : P (exploration_text exploration)
 
 -- ---- what is allowed
 
@@ -90,6 +84,14 @@ abbrev pub IsNamedBy : Option Name → (Name → Fault → Type 0) → Fault →
 IsNamedBy None IsOf fault = ⊥
 IsNamedBy (Some file) IsOf fault = IsOf file fault
 
+-- the file that says what is allowed, or the image, can't be read or used
+abbrev pub IsReadingFault : Held → Explore → Fault → Type 0
+IsReadingFault held explore fault = IsNamedBy explore.allow IsReadFault fault ⊎ IsImageFault held explore.raw explore.image explore.machine.memory fault
+
+-- or the machine is out of limits
+abbrev pub IsFirstFault : Held → Explore → Fault → Type 0
+IsFirstFault held explore fault = ((fault ≡ Configuration) × IsOutside explore.machine) ⊎ IsReadingFault held explore fault
+
 -- a script can't be written into the folder, or memory ran out
 abbrev pub IsFolderFault : Name → Fault → Type 0
 IsFolderFault folder fault = (fault ≡ CannotMake folder) ⊎ (fault ≡ OutOfMemory)
@@ -104,21 +106,9 @@ IsExploreFault held explore CannotWrite = Unit {0}
 IsExploreFault held explore OutOfMemory = Unit {0}
 IsExploreFault held explore _ = ⊥
 
--- the file that says what is allowed could be read, if one was named
-abbrev pub HasAllowFile : Held → Option Name → Type 0
-HasAllowFile held allow = (text : Option (List ℕ)) × IsAllowFile held allow text
-
--- what was done before a fault: the image is read behind the file that says what is allowed; behind both the text is printed, and behind all of the text the scripts are written
-abbrev pub ComesAfter : Held → Explore → Type 0 → Fault → Type 0
-ComesAfter held explore printed (CannotRead file) = (explore.allow ≡ Some file) ⊎ ((file ≡ explore.image) × HasAllowFile held explore.allow)
-ComesAfter held explore printed (Image file error) = HasAllowFile held explore.allow
-ComesAfter held explore printed CannotWrite = HasAllowFile held explore.allow
-ComesAfter held explore printed (CannotMake file) = HasAllowFile held explore.allow × printed
-ComesAfter held explore printed _ = Unit {0}
-
--- what a fault leaves on standard output: a text that may have been begun, where the output or the folder takes no more; or nothing
-abbrev pub LeavesPart : Fault → Option (List ℕ) → Option (List ℕ) → Type 0 → Type 0
-LeavesPart CannotWrite old new part = part
-LeavesPart (CannotMake file) old new part = part
-LeavesPart OutOfMemory old new part = (new ≡ old) ⊎ part
-LeavesPart _ old new part = new ≡ old
+-- what a fault leaves on standard output of the text of what was found: a beginning, where the output takes no more, all of it, where the folder takes none of the scripts, or nothing
+abbrev pub LeavesPart : Fault → Option (List ℕ) → Option (List ℕ) → ((List ℕ → Type 0) → Type 0) → Type 0
+LeavesPart CannotWrite old new Has = Has (Begins old new)
+LeavesPart (CannotMake file) old new Has = Has (Appends old new)
+LeavesPart OutOfMemory old new Has = (new ≡ old) ⊎ Has (Begins old new)
+LeavesPart _ old new Has = new ≡ old

@@ -1,15 +1,15 @@
 //! `rvtl explore`: every end that the machine can bring a program to is found, told, kept and judged.
 
-ghost use Rattle.std.specs.Prelude.{◌≡◌, ◌<◌, Err, IfErr, IfOk, option_map};
-ghost use Rattle.command_files.specs.Faults.{IsReadFault};
+ghost use Rattle.std.specs.Prelude.{◌≡◌, ◌<◌, Err, IfErr, IfOk};
 ghost use Rattle.command_files.specs.Sizes.{IsOutside};
-ghost use Rattle.explore_command.specs.Exploring.{ComesAfter, IsAllowFile, IsExploreFault, IsExplorationTold, IsNamedBy, IsPartlyExplored, IsPrinted, LeavesPart};
+ghost use Rattle.explore_command.specs.Exploring.{ExplorationHas, IsExploreFault, IsExplorationTold, LeavesPart};
 ghost use Rattle.explore_command.specs.Keeping.{IsScriptFile, SparesOthers};
 
+use crate::asked::Asked;
 use crate::findings::print;
 use crate::judging::{Judgement, judge};
 use crate::keeping::keep;
-use command_files::{Fault, Files, contents, image_in, named_config};
+use command_files::{Fault, Files};
 use command_settings::Explore;
 use explorer::explore;
 use progress_line::{Progress, Stage};
@@ -45,46 +45,17 @@ pub fn explore_files<'a, F: Files, O: Write, E: Write, P: Progress>(
     ensures outside { IsOutside wanted.entry.machine → result ≡ Err Fault.Configuration }
     ensures told { IfErr result (IsExploreFault (F.held files.old) wanted.entry) }
     ensures unfinished { IfErr result (λ fault. LeavesPart fault (O.contents out.old) (O.contents out.new)
-        (IsPartlyExplored (F.held files.old) wanted.entry (O.contents out.old) (O.contents out.new))) }
-    ensures before { IfErr result (ComesAfter (F.held files.old) wanted.entry
-        (IsPrinted (F.held files.old) wanted.entry (O.contents out.old) (O.contents out.new))) }
+        (ExplorationHas (F.held files.old) wanted.entry)) }
     ensures spared { SparesOthers (IsScriptFile wanted.entry.scripts) (F.held files.old) (F.held files.new) }
 {
-    let Some(config) = named_config(wanted.machine) else {
-        return Err(Fault::Configuration);
-    };
-    let allowed = allow_file(alloc, files, wanted.allow)?;
-    let image = image_in(
-        alloc,
-        files,
-        wanted.raw,
-        wanted.image,
-        wanted.machine.memory,
-    )?;
+    let asked = Asked::read(alloc, files, wanted)?;
     let watch = Telling { progress };
-    let Ok(found) = explore(alloc, &image, config, wanted.states, &watch) else {
+    let Ok(found) = explore(alloc, &asked.image, asked.config, wanted.states, &watch) else {
         progress.end();
         return Err(Fault::OutOfMemory);
     };
     progress.end();
     print(alloc, &found, out)?;
     keep(alloc, files, wanted, &found)?;
-    judge(alloc, &allowed, &found, err)
-}
-
-/// The bytes of the file that was named, if one was.
-pub fn allow_file<'a, F: Files>(
-    alloc: Global,
-    files: &mut F,
-    allow: Option<&'a str>,
-) -> Result<Option<Vec<u8>>, Fault<'a>>
-    ensures read { IfOk result (λ text. IsAllowFile (F.held files.old) allow.entry (option_map (λ bytes. bytes.items) text)) }
-    ensures told { IfErr result (IsNamedBy allow.entry IsReadFault) }
-    ensures stays { F.held files.new ≡ F.held files.old }
-{
-    let Some(file) = allow else {
-        return Ok(None);
-    };
-    let bytes = contents(alloc, files, file)?;
-    Ok(Some(bytes))
+    judge(alloc, &asked.allowed, &found, err)
 }

@@ -2,13 +2,15 @@
 #![tactic(auto)]
 
 mod allowing;
+mod asked;
 mod exploration;
 mod exploring;
 mod findings;
 mod judging;
 mod keeping;
 
-pub use exploring::{Telling, allow_file, explore_files};
+pub use asked::{Asked, allow_file};
+pub use exploring::{Telling, explore_files};
 pub use findings::{Findings, print};
 pub use judging::{Judgement, judge};
 pub use keeping::{Folder, Keepable, keep};

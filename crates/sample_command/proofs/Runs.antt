@@ -13,28 +13,24 @@ use Rattle.explore_command.specs.declared.judging.Judgement.{Judgement}
 use Rattle.explore_command.specs.declared.judging.Judgement.TheVariants.{Allowed}
 use Rattle.explorer.specs.Ends.{outcomes_of}
 use Rattle.machine_types.specs.declared.config.Config.{Config}
-use Rattle.sample_command.specs.Sampling.{AreRuns, IsPartlySampled, IsSampleTold}
+use Rattle.sample_command.specs.Sampling.{AreRuns, IsSampleTold, SampleHas}
 use Rattle.sampler.specs.declared.sampled.Sampled.{Sampled}
-use Rattle.text_fields.specs.Writing.{Begins}
 
-module _ (held first : Held) (wanted : Explore) (runs : ℕ) (config : Config) (image : Initial) (found : Sampled) (old new : Option (List ℕ))
-    (config_is : config ≡ config_named wanted.machine) (same : first ≡ held) (file : HoldsImage first wanted.raw wanted.image.now wanted.machine.memory image) (are : AreRuns image config runs found) where
-  image_file : HoldsImage held wanted.raw wanted.image.now wanted.machine.memory image
-  image_file = subst (λ (h : Held). HoldsImage h wanted.raw wanted.image.now wanted.machine.memory image) same file
-
+module _ (held : Held) (wanted : Explore) (runs : ℕ) (config : Config) (image : Initial) (found : Sampled)
+    (config_is : config ≡ config_named wanted.machine) (file : HoldsImage held wanted.raw wanted.image.now wanted.machine.memory image) (are : AreRuns image config runs found) where
   are_runs : AreRuns image (config_named wanted.machine) runs found
   are_runs = subst (λ (c : Config). AreRuns image c runs found) config_is are
 
-  pub part : Begins old new (sampled_text found) → IsPartlySampled held wanted runs old new
-  part begun = record { image = image; found = found; image_file = image_file; runs_made = are_runs; begun = begun }
+  pub has : (P : List ℕ → Type 0) → P (sampled_text found) → SampleHas held wanted runs P
+  has P so = record { image = image; found = found; image_file = file; runs_made = are_runs; of_text = so }
 
-  pub all : (left : Held) (judgement : Judgement) → Appends old new (sampled_text found) → IfSome wanted.scripts (λ folder. AreKeptFrom left wanted.machine folder.now 1 found.ends.items)
+  pub all : (old new : Option (List ℕ)) (left : Held) (judgement : Judgement) → Appends old new (sampled_text found) → IfSome wanted.scripts (λ folder. AreKeptFrom left wanted.machine folder.now 1 found.ends.items)
       → SparesOthers (IsInNamed wanted.scripts (IsOutcomeScript (length found.ends.items))) held left
       → IsJudged held wanted.allow (outcomes_of found.ends.items) judgement → (judgement ≡ Allowed → found.runs ≡ runs) → IsSampleTold held left wanted runs judgement old new
-  all left judgement printed kept spares by whole = record {
+  all old new left judgement printed kept spares by whole = record {
     image = image;
     found = found;
-    image_file = image_file;
+    image_file = file;
     runs_made = are_runs;
     printed = printed;
     kept = kept;

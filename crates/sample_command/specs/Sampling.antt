@@ -15,7 +15,6 @@ use Rattle.explorer.specs.Ends.{outcomes_of}
 use Rattle.machine_types.specs.declared.config.Config.{Config}
 use Rattle.sampler.specs.Sampled as ends
 use Rattle.sampler.specs.declared.sampled.Sampled.{Sampled}
-use Rattle.text_fields.specs.Writing.{Begins}
 
 -- at most so many runs were made, each end is one, its script leads there, and so many came to it
 pub record AreRuns (image : Initial) (config : Config) (runs : ℕ) (found : Sampled) : Type 0 where
@@ -34,10 +33,10 @@ pub record IsSampleTold (held left : Held) (wanted : Explore) (runs : ℕ) (judg
   pub judged : IsJudged held wanted.allow (outcomes_of found.ends.items) judgement
   pub whole : judgement ≡ Allowed → found.runs ≡ runs
 
--- such a text was printed, all of it or a beginning
-pub record IsPartlySampled (held : Held) (wanted : Explore) (runs : ℕ) (old new : Option (List ℕ)) : Type 0 where
+-- P holds of the text of what runs of the image in the file came to
+pub record SampleHas (held : Held) (wanted : Explore) (runs : ℕ) (P : List ℕ → Type 0) : Type 0 where
   pub image : Initial
   pub found : Sampled
   pub image_file : HoldsImage held wanted.raw wanted.image.now wanted.machine.memory image
   pub runs_made : AreRuns image (config_named wanted.machine) runs found
-  pub begun : Begins old new (sampled_text found)
+  pub of_text : P (sampled_text found)

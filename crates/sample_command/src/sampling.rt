@@ -4,12 +4,12 @@ ghost use Rattle.std.specs.Prelude.{◌≡◌, Err, IfErr, IfOk};
 ghost use Rattle.command_files.specs.Sizes.{IsOutside};
 ghost use Rattle.explore_command.specs.Exploring.{IsExploreFault, LeavesPart};
 ghost use Rattle.explore_command.specs.Keeping.{IsScriptFile, SparesOthers};
-ghost use Rattle.sample_command.specs.Sampling.{IsPartlySampled, IsSampleTold};
+ghost use Rattle.sample_command.specs.Sampling.{IsSampleTold, SampleHas};
 
 use crate::random_runs::Runs;
-use command_files::{Fault, Files, image_in, named_config};
+use command_files::{Fault, Files};
 use command_settings::Explore;
-use explore_command::{Judgement, allow_file, judge, keep, print};
+use explore_command::{Asked, Judgement, judge, keep, print};
 use sampler::{Sampling, sample_ends};
 use std::alloc::Global;
 use std::io::Write;
@@ -31,31 +31,23 @@ pub fn sample_files<'a, F: Files, O: Write, E: Write>(
     ensures outside { IsOutside wanted.entry.machine → result ≡ Err Fault.Configuration }
     ensures told { IfErr result (IsExploreFault (F.held files.old) wanted.entry) }
     ensures unfinished { IfErr result (λ fault. LeavesPart fault (O.contents out.old) (O.contents out.new)
-        (IsPartlySampled (F.held files.old) wanted.entry runs (O.contents out.old) (O.contents out.new))) }
+        (SampleHas (F.held files.old) wanted.entry runs)) }
     ensures spared { SparesOthers (IsScriptFile wanted.entry.scripts) (F.held files.old) (F.held files.new) }
 {
-    let Some(config) = named_config(wanted.machine) else {
-        return Err(Fault::Configuration);
-    };
-    let allowed = allow_file(alloc, files, wanted.allow)?;
-    let image = image_in(
-        alloc,
-        files,
-        wanted.raw,
-        wanted.image,
-        wanted.machine.memory,
-    )?;
+    let asked = Asked::read(alloc, files, wanted)?;
     let sampling = Sampling {
         runs: u64::from(runs),
         seed: u64::from(seed),
         shortened: wanted.scripts.is_some(),
     };
-    let Ok(sampled) = sample_ends(alloc, &image, config, sampling) else {
+    let Ok(sampled) = sample_ends(alloc, &asked.image, asked.config, sampling) else {
         return Err(Fault::OutOfMemory);
     };
-    let asked = runs;
-    let found = Runs { sampled, asked };
+    let found = Runs {
+        sampled,
+        asked: runs,
+    };
     print(alloc, &found, out)?;
     keep(alloc, files, wanted, &found)?;
-    judge(alloc, &allowed, &found, err)
+    judge(alloc, &asked.allowed, &found, err)
 }

@@ -61,10 +61,10 @@ unplaced_is : (image : Initial) (symbols : List Named) (word : Name) (fault : Fa
 unplaced_is image symbols word fault (inl (none, is)) = (_, is)
 unplaced_is image symbols word fault (inr (place, at, never, is)) = (_, is)
 
-pub unshown_left : (image : Initial) (symbols : List Named) (words : List Name) (fault : Fault) (old new : Option (List ℕ)) (part : Type 0) → IsUnshown image symbols words fault → new ≡ old → LeavesPart fault old new part
-unshown_left image symbols words fault old new part (inl (word, given, unplaced)) same =
-    let is = unplaced_is image symbols word fault unplaced in subst (λ f. LeavesPart f old new part) (sym is.1) same
-unshown_left image symbols words fault old new part (inr memory) same = subst (λ f. LeavesPart f old new part) (sym memory) (inl same)
+pub unshown_left : (image : Initial) (symbols : List Named) (words : List Name) (fault : Fault) (old new : Option (List ℕ)) (Has : (List ℕ → Type 0) → Type 0) → IsUnshown image symbols words fault → new ≡ old → LeavesPart fault old new Has
+unshown_left image symbols words fault old new Has (inl (word, given, unplaced)) same =
+    let is = unplaced_is image symbols word fault unplaced in subst (λ f. LeavesPart f old new Has) (sym is.1) same
+unshown_left image symbols words fault old new Has (inr memory) same = subst (λ f. LeavesPart f old new Has) (sym memory) (inl same)
 
 -- what one file's bytes say of the outcomes, all files say
 judged : (held : Held) (allow : Option Name) (text : Option (List ℕ)) (names : List WordName) (endings : List Ending) (judgement : Judgement) → IsAllowFile held allow text → judgement ≡ judgement_on text names endings → AreWordsJudged held allow names endings judgement

@@ -1,7 +1,8 @@
 -- What an exploration that shows words of memory has told, written and judged, and which faults it tells.
-use Rattle.std.specs.Prelude.{◌≡◌, ◌≢◌, ◌<◌, ◌⊎◌, ℕ, [], All, Contains, IfSome, List, None, Option, length, true}
+use Rattle.std.specs.Prelude.{◌≡◌, ◌≢◌, ◌<◌, ◌≤◌, ◌⊎◌, ℕ, [], All, Contains, IfSome, List, None, Option, length, true}
 use Rattle.std.specs.Io.KnownBytes.{Appends}
-use Rattle.std.specs.List.Sorted.{IsSortedByKey}
+use Rattle.std.specs.List.Sorted.{IsStrictlySortedBy}
+use Rattle.std.specs.Ordering.{on}
 use Rattle.command_files.specs.Faults.{Name}
 use Rattle.command_files.specs.Held.{Held}
 use Rattle.command_files.specs.Sizes.{config_named}
@@ -25,7 +26,6 @@ use Rattle.show_command.specs.Keeping.{AreWordsKept}
 use Rattle.show_command.specs.Targets.{AreAddressesOf, IsUnplaced, names_of}
 use Rattle.state_search.specs.declared.findings.Extent.TheVariants.{Complete, LimitMet}
 use Rattle.state_search.specs.declared.findings.Extent.TheVariants as extent
-use Rattle.text_fields.specs.Writing.{Begins}
 use Rattle.word_explorer.specs.declared.exploration.WordExploration.{WordExploration}
 use Rattle.word_explorer.specs.Ends.{CanAlwaysDrain, HasEachEnding, IsRealIn, ending_of, endings_of}
 use Rattle.word_explorer.specs.Orders.{ending_cmp}
@@ -35,14 +35,15 @@ use Rattle.word_explorer.specs.Visited.{AreVisited}
 -- ---- what is found
 
 -- each end is one, with these words, and its script leads there; where it says complete no end is missing, and where nothing is stuck an end can always be reached, and one is told;
--- the ends stand in their order; there are states, as many as it says, that were found
+-- the ends stand in their order, each once; there are states, no more than the limit, as many as it says, that were found
 pub record IsFoundIn (image : Initial) (config : Config) (addresses : List ℕ) (limit : ℕ) (found : WordExploration) : Type 0 where
   pub real : All (IsRealIn image config addresses) found.outcomes.items
   pub complete : found.extent ≡ Complete → HasEachEnding image config addresses (endings_of found.outcomes.items)
   pub none_stuck : found.extent ≡ Complete → found.stuck ≡ None → CanAlwaysDrain image config
   pub some : found.extent ≡ Complete → found.stuck ≡ None → found.outcomes.items ≢ []
   pub stuck : IfSome found.stuck (IsStuckIn image config addresses)
-  pub order : IsSortedByKey ending_of ending_cmp found.outcomes.items
+  pub order : IsStrictlySortedBy (on ending_of ending_cmp) found.outcomes.items
+  pub within : found.states ≤ limit
   pub full : found.extent ≡ LimitMet → found.states ≡ limit
   pub visited : (states : List Flat) × AreVisited image config addresses found states
 
@@ -65,11 +66,11 @@ pub record AreWordsShown (held left : Held) (show : Show) (judgement : Judgement
   pub judged : AreWordsJudged held show.explore.allow (names_of show.words.items) (endings_of exploration.outcomes.items) judgement
   pub whole : judgement ≡ Allowed → exploration.extent ≢ extent.OutOfMemory
 
--- such a text was printed, all of it or a beginning
-pub record IsPartlyShown (held : Held) (show : Show) (old new : Option (List ℕ)) : Type 0 where
+-- P holds of the text of what was found
+pub record WordsHave (held : Held) (show : Show) (P : List ℕ → Type 0) : Type 0 where
   pub exploration : WordExploration
   pub of_file : IsOfFile held show exploration
-  pub begun : Begins old new (words_text (names_of show.words.items) exploration)
+  pub of_text : P (words_text (names_of show.words.items) exploration)
 
 -- ---- faults
 

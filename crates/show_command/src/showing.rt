@@ -1,11 +1,12 @@
 //! `rvtl explore --show`: every end that the machine can bring a program to is found with words of memory, told, kept
 //! and judged.
 
-ghost use Rattle.std.specs.Prelude.{◌≡◌, ◌<◌, Err, IfErr, IfOk, IfSome, IsNone};
+ghost use Rattle.std.specs.Prelude.{◌≡◌, ◌⊎◌, ◌<◌, Err, IfErr, IfOk, IfSome, IsNone};
 ghost use Rattle.command_files.specs.Faults.{Name};
+ghost use Rattle.command_files.specs.Sizes.{IsOutside};
 ghost use Rattle.explore_command.specs.Exploring.{LeavesPart};
 ghost use Rattle.explore_command.specs.Keeping.{IsScriptFile, SparesOthers};
-ghost use Rattle.show_command.specs.Showing.{IsElsewhere, IsPartlyShown, IsShowFault, AreWordsShown};
+ghost use Rattle.show_command.specs.Showing.{IsElsewhere, IsShowFault, AreWordsShown, WordsHave};
 
 use crate::keeping::keep;
 use crate::targets::targets_of;
@@ -32,9 +33,10 @@ pub fn show_files<'a, F: Files, O: Write, E: Write, P: Progress>(
     requires room { 0 < wanted.now.explore.states }
     ensures shown { IfOk result (λ judgement. AreWordsShown (F.held files.old) (F.held files.new) wanted.now judgement (O.contents out.old) (O.contents out.new)) }
     ensures elsewhere { IsElsewhere wanted.now.explore → (word : Name) × (result ≡ Err (Fault.CannotShow word Unshown.Elsewhere)) }
+    ensures outside { IsOutside wanted.now.explore.machine → (result ≡ Err Fault.Configuration) ⊎ IsElsewhere wanted.now.explore }
     ensures told { IfErr result (IsShowFault (F.held files.old) wanted.now) }
     ensures unfinished { IfErr result (λ fault. LeavesPart fault (O.contents out.old) (O.contents out.new)
-        (IsPartlyShown (F.held files.old) wanted.now (O.contents out.old) (O.contents out.new))) }
+        (WordsHave (F.held files.old) wanted.now)) }
     ensures spared { SparesOthers (IsScriptFile wanted.now.explore.scripts) (F.held files.old) (F.held files.new) }
 {
     let explore = wanted.explore;

@@ -1,8 +1,8 @@
 use Rattle.std.proofs.Common.{◌≡◌, ◌∙◌, inl, inr, refl, subst, true}
-use Rattle.command_files.proofs.Left.{handed_up, image_as_before}
+use Rattle.command_files.proofs.Left.{handed_up}
 use Rattle.architecture_command.proofs.Kept.{way_file}
 use Rattle.architecture_command.proofs.Readable.{each_has_text}
-use Rattle.architecture_command.proofs.Searched.{part, whole}
+use Rattle.architecture_command.proofs.Searched.{has, whole}
 use Rattle.architecture_outcomes.specs.Outcomes.{outcome_of}
 use Rattle.explore_command.proofs.Explored.{all_of, err_more, judged, memory_left, memory_told, ok_both, ok_more, spared, spared_after}
 use Rattle.explore_command.proofs.Faults.{first_left, first_told, folder_left, folder_told, output_left, output_told}
@@ -12,29 +12,20 @@ use Rattle.machine_types.specs.Config.{is_within_limits}
 use Rattle.machine_types.specs.declared.config.Config.{Config}
 use Rattle.architecture_command.proofs.searching.architecture_files.Goals as goal
 
-pub returns-in_err-allowed-clause-told : goal.returns-in_err-allowed-clause-told
-returns-in_err-allowed-clause-told g c = handed_up _ c.from_residual.result _ c.from_residual.ensures.1 (first_told (g.F.Files.held c.args.files.now) c.args.wanted _ (inl c.in_err-allowed.ensures.told))
+pub returns-in_err-asked-clause-told : goal.returns-in_err-asked-clause-told
+returns-in_err-asked-clause-told g c = handed_up _ c.from_residual.result _ c.from_residual.ensures.1 (first_told (g.F.Files.held c.args.files.now) c.args.wanted _ c.in_err-asked.ensures.told)
 
-pub returns-in_err-allowed-clause-unfinished : goal.returns-in_err-allowed-clause-unfinished
-returns-in_err-allowed-clause-unfinished g c = handed_up _ c.from_residual.result _ c.from_residual.ensures.1 (first_left (g.F.Files.held c.args.files.now) c.args.wanted _ _ _ _ (inl c.in_err-allowed.ensures.told) refl)
+pub returns-in_err-asked-clause-unfinished : goal.returns-in_err-asked-clause-unfinished
+returns-in_err-asked-clause-unfinished g c = handed_up _ c.from_residual.result _ c.from_residual.ensures.1 (first_left (g.F.Files.held c.args.files.now) c.args.wanted _ _ _ _ c.in_err-asked.ensures.told refl)
 
-pub returns-in_err-allowed-clause-spared : goal.returns-in_err-allowed-clause-spared
-returns-in_err-allowed-clause-spared g c = spared _ _ _ c.allow_file.ensures.stays
-
-pub returns-in_err-image-clause-told : goal.returns-in_err-image-clause-told
-returns-in_err-image-clause-told g c = handed_up _ c.from_residual-in_err-image.result _ c.from_residual-in_err-image.ensures.1 (first_told (g.F.Files.held c.args.files.now) c.args.wanted _ (inr (image_as_before (g.F.Files.held c.allow_file.new.files) (g.F.Files.held c.args.files.now) c.args.wanted.raw c.args.wanted.image c.args.wanted.machine.memory _ c.in_ok-allowed.ensures.stays c.in_err-image.ensures.fault)))
-
-pub returns-in_err-image-clause-unfinished : goal.returns-in_err-image-clause-unfinished
-returns-in_err-image-clause-unfinished g c = handed_up _ c.from_residual-in_err-image.result _ c.from_residual-in_err-image.ensures.1 (first_left (g.F.Files.held c.args.files.now) c.args.wanted _ _ _ _ (inr (image_as_before (g.F.Files.held c.allow_file.new.files) (g.F.Files.held c.args.files.now) c.args.wanted.raw c.args.wanted.image c.args.wanted.machine.memory _ c.in_ok-allowed.ensures.stays c.in_err-image.ensures.fault)) refl)
-
-pub returns-in_err-image-clause-spared : goal.returns-in_err-image-clause-spared
-returns-in_err-image-clause-spared g c = spared _ _ _ (c.image_in.ensures.stays ∙ c.in_ok-allowed.ensures.stays)
+pub returns-in_err-asked-clause-spared : goal.returns-in_err-asked-clause-spared
+returns-in_err-asked-clause-spared g c = spared _ _ _ c.read.ensures.stays
 
 pub keep-requires-clause-within : goal.keep-requires-clause-within
-keep-requires-clause-within g c = subst (λ (k : Config). is_within_limits k ≡ true) c.in-Some.ensures.config.0 c.in-Some.ensures.config.1
+keep-requires-clause-within g c = subst (λ (k : Config). is_within_limits k ≡ true) c.in_ok-asked.ensures.config c.in_ok-asked.ensures.within
 
 pub keep-requires-clause-readable : goal.keep-requires-clause-readable
-keep-requires-clause-readable g c = each_has_text c.in_ok-image.image c.in-Some.config c.entry-entry.ensures.image c.in-Some.ensures.config.1 c.in-Ok.architecture.outcomes.items c.in-Ok.ensures.shown
+keep-requires-clause-readable g c = each_has_text c.in_ok-asked.asked.image c.in_ok-asked.asked.config c.entry-entry.ensures.image c.in_ok-asked.ensures.within c.in-Ok.architecture.outcomes.items c.in-Ok.ensures.shown
 
 pub returns-in_err-print-clause-told : goal.returns-in_err-print-clause-told
 returns-in_err-print-clause-told g c = handed_up _ c.from_residual-in_err-print.result _ c.from_residual-in_err-print.ensures.1 (output_told _ c.args.wanted _ c.in_err-print.ensures.told)
@@ -44,12 +35,12 @@ returns-in_err-print-clause-unfinished g c =
     let found = c.in-Ok.ensures in
     handed_up _ c.from_residual-in_err-print.result _ c.from_residual-in_err-print.ensures.1
     (output_left _ _ _ _ c.in_err-print.ensures.told
-    (part (g.F.Files.held c.args.files.now) (g.F.Files.held c.allow_file.new.files) c.args.wanted c.args.window c.in-Some.config c.in_ok-image.image c.in-Ok.architecture _ _ c.in-Some.ensures.config.0 c.in_ok-allowed.ensures.stays c.in_ok-image.ensures.image
-    (record { shown = found.shown; machine = found.machine; order = found.order; full = found.full; model = found.model; window_is = found.window })
-    c.in_err-print.ensures.begun))
+    (has (g.F.Files.held c.args.files.now) c.args.wanted c.args.window c.in_ok-asked.asked.config c.in_ok-asked.asked.image c.in-Ok.architecture c.in_ok-asked.ensures.config c.in_ok-asked.ensures.image
+    (record { shown = found.shown; machine = found.machine; alone = found.alone; order = found.order; full = found.full; model = found.model; window_is = found.window })
+    _ c.in_err-print.ensures.begun))
 
 pub returns-in_err-print-clause-spared : goal.returns-in_err-print-clause-spared
-returns-in_err-print-clause-spared g c = spared _ _ _ (c.image_in.ensures.stays ∙ c.in_ok-allowed.ensures.stays)
+returns-in_err-print-clause-spared g c = spared _ _ _ c.in_ok-asked.ensures.stays
 
 pub returns-in_err-keep-clause-told : goal.returns-in_err-keep-clause-told
 returns-in_err-keep-clause-told g c = handed_up _ c.from_residual-in_err-keep.result _ c.from_residual-in_err-keep.ensures.1 (folder_told _ c.args.wanted _ c.in_err-keep.ensures.told)
@@ -57,14 +48,12 @@ returns-in_err-keep-clause-told g c = handed_up _ c.from_residual-in_err-keep.re
 pub returns-in_err-keep-clause-unfinished : goal.returns-in_err-keep-clause-unfinished
 returns-in_err-keep-clause-unfinished g c =
     let found = c.in-Ok.ensures in
+    let has_text = has (g.F.Files.held c.args.files.now) c.args.wanted c.args.window c.in_ok-asked.asked.config c.in_ok-asked.asked.image c.in-Ok.architecture c.in_ok-asked.ensures.config c.in_ok-asked.ensures.image (record { shown = found.shown; machine = found.machine; alone = found.alone; order = found.order; full = found.full; model = found.model; window_is = found.window }) in
     handed_up _ c.from_residual-in_err-keep.result _ c.from_residual-in_err-keep.ensures.1
-    (folder_left c.args.wanted _ _ _ _ c.in_err-keep.ensures.told
-    (part (g.F.Files.held c.args.files.now) (g.F.Files.held c.allow_file.new.files) c.args.wanted c.args.window c.in-Some.config c.in_ok-image.image c.in-Ok.architecture _ _ c.in-Some.ensures.config.0 c.in_ok-allowed.ensures.stays c.in_ok-image.ensures.image
-    (record { shown = found.shown; machine = found.machine; order = found.order; full = found.full; model = found.model; window_is = found.window })
-    (all_of _ _ _ c.in_ok-print.ensures.printed)))
+    (folder_left c.args.wanted _ _ _ _ c.in_err-keep.ensures.told (has_text _ (all_of _ _ _ c.in_ok-print.ensures.printed)) (has_text _ c.in_ok-print.ensures.printed))
 
 pub returns-in_err-keep-clause-spared : goal.returns-in_err-keep-clause-spared
-returns-in_err-keep-clause-spared g c = spared_after _ _ _ _ (c.image_in.ensures.stays ∙ c.in_ok-allowed.ensures.stays) (spares_wider _ _ _ _ (way_file _ c.args.wanted.scripts) c.keep.ensures.spared)
+returns-in_err-keep-clause-spared g c = spared_after _ _ _ _ c.in_ok-asked.ensures.stays (spares_wider _ _ _ _ (way_file _ c.args.wanted.scripts) c.keep.ensures.spared)
 
 pub returns-in_err-tell-clause-told : goal.returns-in_err-tell-clause-told
 returns-in_err-tell-clause-told g c = handed_up _ c.from_residual-in_err-tell.result _ c.from_residual-in_err-tell.ensures.1 (memory_told _ c.args.wanted _ c.in_err-tell.ensures.told)
@@ -74,21 +63,21 @@ returns-in_err-tell-clause-unfinished g c =
     let found = c.in-Ok.ensures in
     handed_up _ c.from_residual-in_err-tell.result _ c.from_residual-in_err-tell.ensures.1
     (memory_left _ _ _ _ c.in_err-tell.ensures.told
-    (part (g.F.Files.held c.args.files.now) (g.F.Files.held c.allow_file.new.files) c.args.wanted c.args.window c.in-Some.config c.in_ok-image.image c.in-Ok.architecture _ _ c.in-Some.ensures.config.0 c.in_ok-allowed.ensures.stays c.in_ok-image.ensures.image
-    (record { shown = found.shown; machine = found.machine; order = found.order; full = found.full; model = found.model; window_is = found.window })
-    (all_of _ _ _ c.in_ok-print.ensures.printed)))
+    (has (g.F.Files.held c.args.files.now) c.args.wanted c.args.window c.in_ok-asked.asked.config c.in_ok-asked.asked.image c.in-Ok.architecture c.in_ok-asked.ensures.config c.in_ok-asked.ensures.image
+    (record { shown = found.shown; machine = found.machine; alone = found.alone; order = found.order; full = found.full; model = found.model; window_is = found.window })
+    _ (all_of _ _ _ c.in_ok-print.ensures.printed)))
 
 pub returns-in_err-tell-clause-spared : goal.returns-in_err-tell-clause-spared
-returns-in_err-tell-clause-spared g c = spared_after _ _ _ _ (c.image_in.ensures.stays ∙ c.in_ok-allowed.ensures.stays) (spares_wider _ _ _ _ (way_file _ c.args.wanted.scripts) c.keep.ensures.spared)
+returns-in_err-tell-clause-spared g c = spared_after _ _ _ _ c.in_ok-asked.ensures.stays (spares_wider _ _ _ _ (way_file _ c.args.wanted.scripts) c.keep.ensures.spared)
 
 pub returns-clause-searched : goal.returns-clause-searched
 returns-clause-searched g c =
     let found = c.in-Ok.ensures in
     ok_more _ _ c.judge.result
     (λ judgement is.
-    whole (g.F.Files.held c.args.files.now) (g.F.Files.held c.allow_file.new.files) c.args.wanted c.args.window c.in-Some.config c.in_ok-image.image c.in-Ok.architecture _ _ c.in-Some.ensures.config.0 c.in_ok-allowed.ensures.stays c.in_ok-image.ensures.image
-    (record { shown = found.shown; machine = found.machine; order = found.order; full = found.full; model = found.model; window_is = found.window })
-    (g.F.Files.held c.keep.new.files) judgement c.in_ok-print.ensures.printed c.in_ok-keep.ensures.kept (spared_after _ _ _ _ (c.image_in.ensures.stays ∙ c.in_ok-allowed.ensures.stays) c.keep.ensures.spared) (judged _ c.args.wanted.allow _ _ judgement c.in_ok-allowed.ensures.read (is.0 ∙ judged_on outcome_of _ c.in-Ok.architecture.outcomes.items)) is.1)
+    whole (g.F.Files.held c.args.files.now) c.args.wanted c.args.window c.in_ok-asked.asked.config c.in_ok-asked.asked.image c.in-Ok.architecture c.in_ok-asked.ensures.config c.in_ok-asked.ensures.image
+    (record { shown = found.shown; machine = found.machine; alone = found.alone; order = found.order; full = found.full; model = found.model; window_is = found.window })
+    _ _ (g.F.Files.held c.keep.new.files) judgement c.in_ok-print.ensures.printed c.in_ok-keep.ensures.kept (spared_after _ _ _ _ c.in_ok-asked.ensures.stays c.keep.ensures.spared) (judged _ c.args.wanted.allow _ _ judgement c.in_ok-asked.ensures.allowed (is.0 ∙ judged_on outcome_of _ c.in-Ok.architecture.outcomes.items)) is.1)
     (ok_both _ _ c.judge.result c.judge.ensures.judged c.judge.ensures.whole)
 
 pub returns-clause-told : goal.returns-clause-told
@@ -100,10 +89,10 @@ returns-clause-unfinished g c =
     err_more _ _ c.judge.result
     (λ fault is.
     memory_left fault _ _ _ is
-    (part (g.F.Files.held c.args.files.now) (g.F.Files.held c.allow_file.new.files) c.args.wanted c.args.window c.in-Some.config c.in_ok-image.image c.in-Ok.architecture _ _ c.in-Some.ensures.config.0 c.in_ok-allowed.ensures.stays c.in_ok-image.ensures.image
-    (record { shown = found.shown; machine = found.machine; order = found.order; full = found.full; model = found.model; window_is = found.window })
-    (all_of _ _ _ c.in_ok-print.ensures.printed)))
+    (has (g.F.Files.held c.args.files.now) c.args.wanted c.args.window c.in_ok-asked.asked.config c.in_ok-asked.asked.image c.in-Ok.architecture c.in_ok-asked.ensures.config c.in_ok-asked.ensures.image
+    (record { shown = found.shown; machine = found.machine; alone = found.alone; order = found.order; full = found.full; model = found.model; window_is = found.window })
+    _ (all_of _ _ _ c.in_ok-print.ensures.printed)))
     c.judge.ensures.told
 
 pub returns-clause-spared : goal.returns-clause-spared
-returns-clause-spared g c = spared_after _ _ _ _ (c.image_in.ensures.stays ∙ c.in_ok-allowed.ensures.stays) (spares_wider _ _ _ _ (way_file _ c.args.wanted.scripts) c.keep.ensures.spared)
+returns-clause-spared g c = spared_after _ _ _ _ c.in_ok-asked.ensures.stays (spares_wider _ _ _ _ (way_file _ c.args.wanted.scripts) c.keep.ensures.spared)

@@ -1,7 +1,7 @@
-use Rattle.std.proofs.Common.{◌≡◌, ◌∙◌, List, Option, All, IfSome, false, subst, sym}
+use Rattle.std.proofs.Common.{◌≡◌, ◌∙◌, Bool, List, Option, All, IfSome, IsTrue, false, true, subst, sym}
 use Rattle.std.specs.List.{list_any}
 use Rattle.std.proofs.lemmas.List.Elements.{All-nil, All-pop, All-push}
-use Rattle.architecture_outcomes.specs.Outcomes.{IsWitnessed, is_end, outcome_of}
+use Rattle.architecture_outcomes.specs.Outcomes.{IsDecided, IsWitnessed, is_end, of_witness, outcome_of}
 use Rattle.architecture_outcomes.specs.declared.outcome.Outcome.{Outcome}
 use Rattle.architecture_outcomes.proofs.NeverEnds.{shown}
 use Rattle.architecture_outcomes.proofs.Once.{left_of, left_strict, once_apart}
@@ -11,12 +11,21 @@ use Rattle.witnesses.specs.declared.witness.Witness.{Witness}
 use Rattle.witnesses.specs.Witnesses.{IsWitness}
 use Rattle.architecture_outcomes.proofs.beyond.beyond.Goals as goal
 
+abbrev decided : Outcome → Type 0
+decided o = IsDecided o.way
+
+-- one of a witness is told as the model's alone, where the machine's search is complete
+is_decided : (is_complete : Bool) (w : Witness) → IsTrue is_complete → decided (of_witness is_complete w)
+is_decided true w complete = tt
+is_decided false w complete = cc complete
+
 pub loop-witness-init : goal.loop-witness-init
 loop-witness-init c =
     let apart = λ (o : Outcome). list_any (is_end (outcome_of o)) c.args.found.now ≡ false in
     record {
       left = c.requires.witnessed;
       shown = subst (All (IsWitnessed c.args.image.now c.args.config)) (sym c.new-outcomes.ensures.items) (All-nil (IsWitnessed c.args.image.now c.args.config));
+      alone = λ complete. subst (All decided) (sym c.new-outcomes.ensures.items) (All-nil decided);
       apart = subst (All apart) (sym c.new-outcomes.ensures.items) (All-nil apart);
     }
 
@@ -33,6 +42,8 @@ loop-witness-preserved-in-Continue-1 c =
     record {
       left = parts.0;
       shown = subst (All S) (sym c.in_ok-push.ensures.items) (All-push S c.loop-witness.outcomes.items c.beyond.result c.loop-witness.invariant.shown one);
+      alone = λ complete. subst (All decided) (sym c.in_ok-push.ensures.items)
+          (All-push decided c.loop-witness.outcomes.items c.beyond.result (c.loop-witness.invariant.alone complete) (subst decided (sym c.beyond.ensures) (is_decided c.args.is_complete c.in-Some.witness complete)));
       apart = subst (All apart) (sym c.in_ok-push.ensures.items) (All-push apart c.loop-witness.outcomes.items c.beyond.result c.loop-witness.invariant.apart (subst apart (sym c.beyond.ensures) none));
     }
 
@@ -40,6 +51,7 @@ pub loop-witness-preserved : goal.loop-witness-preserved
 loop-witness-preserved c = record {
   left = (All-pop (IsWitness c.args.image.now c.args.config) c.loop-witness.left.items c.pop.new.self.items c.pop.result c.pop.ensures.items c.loop-witness.invariant.left).0;
   shown = c.loop-witness.invariant.shown;
+  alone = c.loop-witness.invariant.alone;
   apart = c.loop-witness.invariant.apart;
 }
 
@@ -52,3 +64,7 @@ returns-clause-once c =
     let apart = λ (o : Outcome). list_any (is_end (outcome_of o)) c.args.found.now ≡ false in
     once_apart c.args.found.now _ c.requires.once (left_strict c.loop-witness.outcomes.items _ _ c.dedup.ensures.filtered c.sort_unstable.ensures.sorted)
     (left_of c.loop-witness.outcomes.items _ _ c.dedup.ensures.filtered apart c.sort_unstable.ensures.permutation c.loop-witness.invariant.apart)
+
+pub returns-clause-alone : goal.returns-clause-alone
+returns-clause-alone c =
+    λ complete. left_of c.loop-witness.outcomes.items _ _ c.dedup.ensures.filtered decided c.sort_unstable.ensures.permutation (c.loop-witness.invariant.alone complete)

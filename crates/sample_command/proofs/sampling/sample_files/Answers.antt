@@ -1,5 +1,5 @@
 use Rattle.std.proofs.Common.{◌≡◌, ◌∙◌, ◌≤◌, ℕ, inl, inr, refl, subst, true}
-use Rattle.command_files.proofs.Left.{handed_up, image_as_before}
+use Rattle.command_files.proofs.Left.{handed_up}
 use Rattle.explore_command.proofs.Explored.{all_of, err_more, judged, memory_left, memory_told, ok_both, ok_more, spared, spared_after}
 use Rattle.explore_command.proofs.Faults.{first_left, first_told, folder_left, folder_told, output_left, output_told}
 use Rattle.explore_command.proofs.Judged.{judged_on}
@@ -7,29 +7,20 @@ use Rattle.explore_command.proofs.Kept.{outcome_file, spares_wider}
 use Rattle.explorer.specs.Ends.{outcome_of}
 use Rattle.machine_types.specs.Config.{is_within_limits}
 use Rattle.machine_types.specs.declared.config.Config.{Config}
-use Rattle.sample_command.proofs.Runs.{all, all_made, part}
+use Rattle.sample_command.proofs.Runs.{all, all_made, has}
 use Rattle.sample_command.proofs.sampling.sample_files.Goals as goal
 
-pub returns-in_err-allowed-clause-told : goal.returns-in_err-allowed-clause-told
-returns-in_err-allowed-clause-told g c = handed_up _ c.from_residual.result _ c.from_residual.ensures.1 (first_told (g.F.Files.held c.args.files.now) c.args.wanted _ (inl c.in_err-allowed.ensures.told))
+pub returns-in_err-asked-clause-told : goal.returns-in_err-asked-clause-told
+returns-in_err-asked-clause-told g c = handed_up _ c.from_residual.result _ c.from_residual.ensures.1 (first_told (g.F.Files.held c.args.files.now) c.args.wanted _ c.in_err-asked.ensures.told)
 
-pub returns-in_err-allowed-clause-unfinished : goal.returns-in_err-allowed-clause-unfinished
-returns-in_err-allowed-clause-unfinished g c = handed_up _ c.from_residual.result _ c.from_residual.ensures.1 (first_left (g.F.Files.held c.args.files.now) c.args.wanted _ _ _ _ (inl c.in_err-allowed.ensures.told) refl)
+pub returns-in_err-asked-clause-unfinished : goal.returns-in_err-asked-clause-unfinished
+returns-in_err-asked-clause-unfinished g c = handed_up _ c.from_residual.result _ c.from_residual.ensures.1 (first_left (g.F.Files.held c.args.files.now) c.args.wanted _ _ _ _ c.in_err-asked.ensures.told refl)
 
-pub returns-in_err-allowed-clause-spared : goal.returns-in_err-allowed-clause-spared
-returns-in_err-allowed-clause-spared g c = spared _ _ _ c.allow_file.ensures.stays
-
-pub returns-in_err-image-clause-told : goal.returns-in_err-image-clause-told
-returns-in_err-image-clause-told g c = handed_up _ c.from_residual-in_err-image.result _ c.from_residual-in_err-image.ensures.1 (first_told (g.F.Files.held c.args.files.now) c.args.wanted _ (inr (image_as_before (g.F.Files.held c.allow_file.new.files) (g.F.Files.held c.args.files.now) c.args.wanted.raw c.args.wanted.image c.args.wanted.machine.memory _ c.in_ok-allowed.ensures.stays c.in_err-image.ensures.fault)))
-
-pub returns-in_err-image-clause-unfinished : goal.returns-in_err-image-clause-unfinished
-returns-in_err-image-clause-unfinished g c = handed_up _ c.from_residual-in_err-image.result _ c.from_residual-in_err-image.ensures.1 (first_left (g.F.Files.held c.args.files.now) c.args.wanted _ _ _ _ (inr (image_as_before (g.F.Files.held c.allow_file.new.files) (g.F.Files.held c.args.files.now) c.args.wanted.raw c.args.wanted.image c.args.wanted.machine.memory _ c.in_ok-allowed.ensures.stays c.in_err-image.ensures.fault)) refl)
-
-pub returns-in_err-image-clause-spared : goal.returns-in_err-image-clause-spared
-returns-in_err-image-clause-spared g c = spared _ _ _ (c.image_in.ensures.stays ∙ c.in_ok-allowed.ensures.stays)
+pub returns-in_err-asked-clause-spared : goal.returns-in_err-asked-clause-spared
+returns-in_err-asked-clause-spared g c = spared _ _ _ c.read.ensures.stays
 
 pub keep-requires-clause-within : goal.keep-requires-clause-within
-keep-requires-clause-within g c = subst (λ (k : Config). is_within_limits k ≡ true) c.in-Some.ensures.config.0 c.in-Some.ensures.config.1
+keep-requires-clause-within g c = subst (λ (k : Config). is_within_limits k ≡ true) c.in_ok-asked.ensures.config c.in_ok-asked.ensures.within
 
 pub returns-in_err-print-clause-told : goal.returns-in_err-print-clause-told
 returns-in_err-print-clause-told g c = handed_up _ c.from_residual-in_err-print.result _ c.from_residual-in_err-print.ensures.1 (output_told _ c.args.wanted _ c.in_err-print.ensures.told)
@@ -39,12 +30,12 @@ returns-in_err-print-clause-unfinished g c =
     let found = c.in-Ok.ensures in
     handed_up _ c.from_residual-in_err-print.result _ c.from_residual-in_err-print.ensures.1
     (output_left _ _ _ _ c.in_err-print.ensures.told
-    (part (g.F.Files.held c.args.files.now) (g.F.Files.held c.allow_file.new.files) c.args.wanted c.args.runs c.in-Some.config c.in_ok-image.image c.in-Ok.sampled _ _ c.in-Some.ensures.config.0 c.in_ok-allowed.ensures.stays c.in_ok-image.ensures.image
+    (has (g.F.Files.held c.args.files.now) c.args.wanted c.args.runs c.in_ok-asked.asked.config c.in_ok-asked.asked.image c.in-Ok.sampled c.in_ok-asked.ensures.config c.in_ok-asked.ensures.image
     (record { sampled = found.sampled; within = subst (λ (n : ℕ). c.in-Ok.sampled.runs ≤ n) c.from.ensures found.within })
-    c.in_err-print.ensures.begun))
+    _ c.in_err-print.ensures.begun))
 
 pub returns-in_err-print-clause-spared : goal.returns-in_err-print-clause-spared
-returns-in_err-print-clause-spared g c = spared _ _ _ (c.image_in.ensures.stays ∙ c.in_ok-allowed.ensures.stays)
+returns-in_err-print-clause-spared g c = spared _ _ _ c.in_ok-asked.ensures.stays
 
 pub returns-in_err-keep-clause-told : goal.returns-in_err-keep-clause-told
 returns-in_err-keep-clause-told g c = handed_up _ c.from_residual-in_err-keep.result _ c.from_residual-in_err-keep.ensures.1 (folder_told _ c.args.wanted _ c.in_err-keep.ensures.told)
@@ -52,23 +43,21 @@ returns-in_err-keep-clause-told g c = handed_up _ c.from_residual-in_err-keep.re
 pub returns-in_err-keep-clause-unfinished : goal.returns-in_err-keep-clause-unfinished
 returns-in_err-keep-clause-unfinished g c =
     let found = c.in-Ok.ensures in
+    let has_text = has (g.F.Files.held c.args.files.now) c.args.wanted c.args.runs c.in_ok-asked.asked.config c.in_ok-asked.asked.image c.in-Ok.sampled c.in_ok-asked.ensures.config c.in_ok-asked.ensures.image (record { sampled = found.sampled; within = subst (λ (n : ℕ). c.in-Ok.sampled.runs ≤ n) c.from.ensures found.within }) in
     handed_up _ c.from_residual-in_err-keep.result _ c.from_residual-in_err-keep.ensures.1
-    (folder_left c.args.wanted _ _ _ _ c.in_err-keep.ensures.told
-    (part (g.F.Files.held c.args.files.now) (g.F.Files.held c.allow_file.new.files) c.args.wanted c.args.runs c.in-Some.config c.in_ok-image.image c.in-Ok.sampled _ _ c.in-Some.ensures.config.0 c.in_ok-allowed.ensures.stays c.in_ok-image.ensures.image
-    (record { sampled = found.sampled; within = subst (λ (n : ℕ). c.in-Ok.sampled.runs ≤ n) c.from.ensures found.within })
-    (all_of _ _ _ c.in_ok-print.ensures.printed)))
+    (folder_left c.args.wanted _ _ _ _ c.in_err-keep.ensures.told (has_text _ (all_of _ _ _ c.in_ok-print.ensures.printed)) (has_text _ c.in_ok-print.ensures.printed))
 
 pub returns-in_err-keep-clause-spared : goal.returns-in_err-keep-clause-spared
-returns-in_err-keep-clause-spared g c = spared_after _ _ _ _ (c.image_in.ensures.stays ∙ c.in_ok-allowed.ensures.stays) (spares_wider _ _ _ _ (outcome_file _ c.args.wanted.scripts) c.keep.ensures.spared)
+returns-in_err-keep-clause-spared g c = spared_after _ _ _ _ c.in_ok-asked.ensures.stays (spares_wider _ _ _ _ (outcome_file _ c.args.wanted.scripts) c.keep.ensures.spared)
 
 pub returns-clause-sampled : goal.returns-clause-sampled
 returns-clause-sampled g c =
     let found = c.in-Ok.ensures in
     ok_more _ _ c.judge.result
     (λ judgement so.
-    all (g.F.Files.held c.args.files.now) (g.F.Files.held c.allow_file.new.files) c.args.wanted c.args.runs c.in-Some.config c.in_ok-image.image c.in-Ok.sampled _ _ c.in-Some.ensures.config.0 c.in_ok-allowed.ensures.stays c.in_ok-image.ensures.image
+    all (g.F.Files.held c.args.files.now) c.args.wanted c.args.runs c.in_ok-asked.asked.config c.in_ok-asked.asked.image c.in-Ok.sampled c.in_ok-asked.ensures.config c.in_ok-asked.ensures.image
     (record { sampled = found.sampled; within = subst (λ (n : ℕ). c.in-Ok.sampled.runs ≤ n) c.from.ensures found.within })
-    (g.F.Files.held c.keep.new.files) judgement c.in_ok-print.ensures.printed c.in_ok-keep.ensures.kept (spared_after _ _ _ _ (c.image_in.ensures.stays ∙ c.in_ok-allowed.ensures.stays) c.keep.ensures.spared) (judged _ c.args.wanted.allow _ _ judgement c.in_ok-allowed.ensures.read (so.0 ∙ judged_on outcome_of _ c.in-Ok.sampled.ends.items)) (λ is. all_made _ c.args.runs found.within c.from.ensures (so.1 is)))
+    _ _ (g.F.Files.held c.keep.new.files) judgement c.in_ok-print.ensures.printed c.in_ok-keep.ensures.kept (spared_after _ _ _ _ c.in_ok-asked.ensures.stays c.keep.ensures.spared) (judged _ c.args.wanted.allow _ _ judgement c.in_ok-asked.ensures.allowed (so.0 ∙ judged_on outcome_of _ c.in-Ok.sampled.ends.items)) (λ is. all_made _ c.args.runs found.within c.from.ensures (so.1 is)))
     (ok_both _ _ c.judge.result c.judge.ensures.judged c.judge.ensures.whole)
 
 pub returns-clause-told : goal.returns-clause-told
@@ -80,10 +69,10 @@ returns-clause-unfinished g c =
     err_more _ _ c.judge.result
     (λ fault is.
     memory_left fault _ _ _ is
-    (part (g.F.Files.held c.args.files.now) (g.F.Files.held c.allow_file.new.files) c.args.wanted c.args.runs c.in-Some.config c.in_ok-image.image c.in-Ok.sampled _ _ c.in-Some.ensures.config.0 c.in_ok-allowed.ensures.stays c.in_ok-image.ensures.image
+    (has (g.F.Files.held c.args.files.now) c.args.wanted c.args.runs c.in_ok-asked.asked.config c.in_ok-asked.asked.image c.in-Ok.sampled c.in_ok-asked.ensures.config c.in_ok-asked.ensures.image
     (record { sampled = found.sampled; within = subst (λ (n : ℕ). c.in-Ok.sampled.runs ≤ n) c.from.ensures found.within })
-    (all_of _ _ _ c.in_ok-print.ensures.printed)))
+    _ (all_of _ _ _ c.in_ok-print.ensures.printed)))
     c.judge.ensures.told
 
 pub returns-clause-spared : goal.returns-clause-spared
-returns-clause-spared g c = spared_after _ _ _ _ (c.image_in.ensures.stays ∙ c.in_ok-allowed.ensures.stays) (spares_wider _ _ _ _ (outcome_file _ c.args.wanted.scripts) c.keep.ensures.spared)
+returns-clause-spared g c = spared_after _ _ _ _ c.in_ok-asked.ensures.stays (spares_wider _ _ _ _ (outcome_file _ c.args.wanted.scripts) c.keep.ensures.spared)

@@ -22,10 +22,10 @@ returns-in_err-print-clause-unfinished g c =
     let found = c.in-Ok.ensures in
     let placed = subst (λ (a : List ℕ). AreAddressesOf named.names show.words.items a) (sym c.deref-2.ensures.value) (subst (λ (w : List Name). AreAddressesOf named.names w targets.addresses.items) c.deref.ensures.value c.in_ok-targets.ensures.placed) in
     let of = of_file held (g.F.Files.held c.allow_file.new.files) show c.in-Some-named_config.config named.image named.names c.in-Some-named_config.ensures.config.0 c.in_ok-allowed.ensures.stays c.in_ok-named.ensures.image c.deref-2.result.now c.in-Ok.exploration placed
-    (record { real = found.real; complete = found.complete; none_stuck = found.none_stuck; some = found.some; stuck = found.stuck; order = found.order; full = found.full; visited = found.visited }) in
+    (record { real = found.real; complete = found.complete; none_stuck = found.none_stuck; some = found.some; stuck = found.stuck; order = found.strict; within = found.within; full = found.full; visited = found.visited }) in
     let names = c.in_ok-targets.ensures.names ∙ ap names_of c.deref.ensures.value in
     handed_up _ c.from_residual-in_err-print.result _ c.from_residual-in_err-print.ensures.1
-    (output_left _ _ _ _ c.in_err-print.ensures.told (record { exploration = c.in-Ok.exploration; of_file = of; begun = subst (λ (n : List WordName). Begins (g.O.Write.contents c.args.out.now) (g.O.Write.contents c.print.new.out) (words_text n c.in-Ok.exploration)) names c.in_err-print.ensures.begun }))
+    (output_left _ _ _ _ c.in_err-print.ensures.told (record { exploration = c.in-Ok.exploration; of_file = of; of_text = subst (λ (n : List WordName). Begins (g.O.Write.contents c.args.out.now) (g.O.Write.contents c.print.new.out) (words_text n c.in-Ok.exploration)) names c.in_err-print.ensures.begun }))
 
 pub returns-in_err-keep-clause-told : goal.returns-in_err-keep-clause-told
 returns-in_err-keep-clause-told g c = handed_up _ c.from_residual-in_err-keep.result _ c.from_residual-in_err-keep.ensures.1 (inl (folder_told (g.F.Files.held c.args.files.now) c.args.wanted.now.explore _ c.in_err-keep.ensures.told))
@@ -39,10 +39,11 @@ returns-in_err-keep-clause-unfinished g c =
     let found = c.in-Ok.ensures in
     let placed = subst (λ (a : List ℕ). AreAddressesOf named.names show.words.items a) (sym c.deref-2.ensures.value) (subst (λ (w : List Name). AreAddressesOf named.names w targets.addresses.items) c.deref.ensures.value c.in_ok-targets.ensures.placed) in
     let of = of_file held (g.F.Files.held c.allow_file.new.files) show c.in-Some-named_config.config named.image named.names c.in-Some-named_config.ensures.config.0 c.in_ok-allowed.ensures.stays c.in_ok-named.ensures.image c.deref-2.result.now c.in-Ok.exploration placed
-    (record { real = found.real; complete = found.complete; none_stuck = found.none_stuck; some = found.some; stuck = found.stuck; order = found.order; full = found.full; visited = found.visited }) in
+    (record { real = found.real; complete = found.complete; none_stuck = found.none_stuck; some = found.some; stuck = found.stuck; order = found.strict; within = found.within; full = found.full; visited = found.visited }) in
     let names = c.in_ok-targets.ensures.names ∙ ap names_of c.deref.ensures.value in
+    let printed = subst (λ (n : List WordName). Appends (g.O.Write.contents c.args.out.now) (g.O.Write.contents c.print.new.out) (words_text n c.in-Ok.exploration)) names c.in_ok-print.ensures.printed in
     handed_up _ c.from_residual-in_err-keep.result _ c.from_residual-in_err-keep.ensures.1
-    (folder_left show.explore _ _ _ _ c.in_err-keep.ensures.told (record { exploration = c.in-Ok.exploration; of_file = of; begun = all_of _ _ _ (subst (λ (n : List WordName). Appends (g.O.Write.contents c.args.out.now) (g.O.Write.contents c.print.new.out) (words_text n c.in-Ok.exploration)) names c.in_ok-print.ensures.printed) }))
+    (folder_left show.explore _ _ _ _ c.in_err-keep.ensures.told (record { exploration = c.in-Ok.exploration; of_file = of; of_text = all_of _ _ _ printed }) (record { exploration = c.in-Ok.exploration; of_file = of; of_text = printed }))
 
 pub returns-in_err-keep-clause-spared : goal.returns-in_err-keep-clause-spared
 returns-in_err-keep-clause-spared g c = spared_after _ _ _ _ (c.named_image_in.ensures.stays ∙ c.in_ok-allowed.ensures.stays) (spares_wider _ _ _ _ (script_file _ _ c.args.wanted.now.explore.scripts) c.keep.ensures.spared)
@@ -56,7 +57,7 @@ returns-clause-shown g c =
     let found = c.in-Ok.ensures in
     let placed = subst (λ (a : List ℕ). AreAddressesOf named.names show.words.items a) (sym c.deref-2.ensures.value) (subst (λ (w : List Name). AreAddressesOf named.names w targets.addresses.items) c.deref.ensures.value c.in_ok-targets.ensures.placed) in
     let of = of_file held (g.F.Files.held c.allow_file.new.files) show c.in-Some-named_config.config named.image named.names c.in-Some-named_config.ensures.config.0 c.in_ok-allowed.ensures.stays c.in_ok-named.ensures.image c.deref-2.result.now c.in-Ok.exploration placed
-    (record { real = found.real; complete = found.complete; none_stuck = found.none_stuck; some = found.some; stuck = found.stuck; order = found.order; full = found.full; visited = found.visited }) in
+    (record { real = found.real; complete = found.complete; none_stuck = found.none_stuck; some = found.some; stuck = found.stuck; order = found.strict; within = found.within; full = found.full; visited = found.visited }) in
     let names = c.in_ok-targets.ensures.names ∙ ap names_of c.deref.ensures.value in
     ok_more _ _ c.judge-judgement.result
     (λ judgement so. record {
@@ -79,10 +80,10 @@ returns-clause-unfinished g c =
     let found = c.in-Ok.ensures in
     let placed = subst (λ (a : List ℕ). AreAddressesOf named.names show.words.items a) (sym c.deref-2.ensures.value) (subst (λ (w : List Name). AreAddressesOf named.names w targets.addresses.items) c.deref.ensures.value c.in_ok-targets.ensures.placed) in
     let of = of_file held (g.F.Files.held c.allow_file.new.files) show c.in-Some-named_config.config named.image named.names c.in-Some-named_config.ensures.config.0 c.in_ok-allowed.ensures.stays c.in_ok-named.ensures.image c.deref-2.result.now c.in-Ok.exploration placed
-    (record { real = found.real; complete = found.complete; none_stuck = found.none_stuck; some = found.some; stuck = found.stuck; order = found.order; full = found.full; visited = found.visited }) in
+    (record { real = found.real; complete = found.complete; none_stuck = found.none_stuck; some = found.some; stuck = found.stuck; order = found.strict; within = found.within; full = found.full; visited = found.visited }) in
     let names = c.in_ok-targets.ensures.names ∙ ap names_of c.deref.ensures.value in
     err_more _ _ c.judge-judgement.result
-    (λ fault is. memory_left fault _ _ _ is (record { exploration = c.in-Ok.exploration; of_file = of; begun = all_of _ _ _ (subst (λ (n : List WordName). Appends (g.O.Write.contents c.args.out.now) (g.O.Write.contents c.print.new.out) (words_text n c.in-Ok.exploration)) names c.in_ok-print.ensures.printed) }))
+    (λ fault is. memory_left fault _ _ _ is (record { exploration = c.in-Ok.exploration; of_file = of; of_text = all_of _ _ _ (subst (λ (n : List WordName). Appends (g.O.Write.contents c.args.out.now) (g.O.Write.contents c.print.new.out) (words_text n c.in-Ok.exploration)) names c.in_ok-print.ensures.printed) }))
     c.judge-judgement.ensures.told
 
 pub returns-clause-spared : goal.returns-clause-spared

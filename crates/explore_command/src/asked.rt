@@ -1,0 +1,76 @@
+//! What a search is asked of.
+
+ghost use Rattle.std.specs.Prelude.{◌≡◌, Err, IfErr, IfOk, option_map, true};
+ghost use Rattle.command_files.specs.Faults.{IsReadFault};
+ghost use Rattle.command_files.specs.Files.{HoldsImage};
+ghost use Rattle.command_files.specs.Sizes.{IsOutside, config_named};
+ghost use Rattle.elf_loader.specs.Size.{IsMemoryKib};
+ghost use Rattle.explore_command.specs.Exploring.{IsAllowFile, IsFirstFault, IsNamedBy};
+ghost use Rattle.machine_types.specs.Config.{is_within_limits};
+
+use command_files::{Fault, Files, contents, image_in, named_config};
+use command_settings::Explore;
+use elf_loader::Image;
+use machine_types::Config;
+use std::alloc::Global;
+
+/// The machine and the program that a search is asked of.
+#[derive(Drop)]
+pub struct Asked {
+    pub config: Config,
+    pub image: Image,
+    /// The text that says which outcomes are allowed, where a file was named for it.
+    pub allowed: Option<Vec<u8>>,
+}
+
+impl Asked {
+    /// Judges the machine's size, then reads the file that says what is allowed, if one was named, then the image.
+    pub fn read<'a, F: Files>(
+        alloc: Global,
+        files: &mut F,
+        wanted: Explore<'a>,
+    ) -> Result<Asked, Fault<'a>>
+        ensures config { IfOk result (λ asked. asked.config ≡ config_named wanted.entry.machine) }
+        ensures within { IfOk result (λ asked. is_within_limits asked.config ≡ true) }
+        ensures memory { IfOk result (λ asked. IsMemoryKib wanted.entry.machine.memory) }
+        ensures image { IfOk result (λ asked. HoldsImage (F.held files.old) wanted.entry.raw wanted.entry.image.now wanted.entry.machine.memory asked.image) }
+        ensures allowed { IfOk result (λ asked. IsAllowFile (F.held files.old) wanted.entry.allow (option_map (λ bytes. bytes.items) asked.allowed)) }
+        ensures outside { IsOutside wanted.entry.machine → result ≡ Err Fault.Configuration }
+        ensures told { IfErr result (IsFirstFault (F.held files.old) wanted.entry) }
+        ensures stays { F.held files.new ≡ F.held files.old }
+    {
+        let Some(config) = named_config(wanted.machine) else {
+            return Err(Fault::Configuration);
+        };
+        let allowed = allow_file(alloc, files, wanted.allow)?;
+        let image = image_in(
+            alloc,
+            files,
+            wanted.raw,
+            wanted.image,
+            wanted.machine.memory,
+        )?;
+        Ok(Asked {
+            config,
+            image,
+            allowed,
+        })
+    }
+}
+
+/// The bytes of the file that was named, if one was.
+pub fn allow_file<'a, F: Files>(
+    alloc: Global,
+    files: &mut F,
+    allow: Option<&'a str>,
+) -> Result<Option<Vec<u8>>, Fault<'a>>
+    ensures read { IfOk result (λ text. IsAllowFile (F.held files.old) allow.entry (option_map (λ bytes. bytes.items) text)) }
+    ensures told { IfErr result (IsNamedBy allow.entry IsReadFault) }
+    ensures stays { F.held files.new ≡ F.held files.old }
+{
+    let Some(file) = allow else {
+        return Ok(None);
+    };
+    let bytes = contents(alloc, files, file)?;
+    Ok(Some(bytes))
+}
