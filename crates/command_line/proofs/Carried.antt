@@ -1,12 +1,12 @@
 -- What came of a command is what came of the settings that name it.
-use Rattle.std.proofs.Common.{◌≡◌, ◌≢◌, ◌⊎◌, ℕ, Err, IfErr, IfOk, List, Ok, Option, Result, subst, sym}
+use Rattle.std.proofs.Common.{◌≡◌, ◌≢◌, ℕ, Err, IfErr, IfOk, List, Ok, Option, Result, subst, sym}
 use Rattle.std.specs.Prelude.{nat_lt}
 use Rattle.clap.specs.Words.{Text}
 use Rattle.command_files.specs.Held.{Held}
 use Rattle.command_files.specs.Status.{status_of}
 use Rattle.command_files.specs.declared.fault.Fault.{Fault}
 use Rattle.command_line.proofs.Meant.{beyond_explore, beyond_show, written}
-use Rattle.command_line.specs.Running.{Came, CheckCame, ExploreCame, IsOutOfRange, IsHalfPrinted, IsCheckBroken, IsDone, IsExploreBroken, IsExploreFile, IsFaulty, IsWritten, strictness_of}
+use Rattle.command_line.specs.Running.{Came, CheckCame, ExploreCame, IsOutOfRange, IsDone, IsExploreFile, IsFaulty, IsWritten, strictness_of}
 use Rattle.command_settings.specs.declared.wanted.Check.{Check as Judging}
 use Rattle.command_settings.specs.declared.wanted.Explain.{Explain as Telling}
 use Rattle.command_settings.specs.declared.wanted.Explore.{Explore as Sought}
@@ -15,25 +15,17 @@ use Rattle.command_settings.specs.declared.wanted.Show.{Show as Shown}
 use Rattle.command_settings.specs.declared.wanted.Settings.TheVariants.{Check, Explain, Explore, Show}
 use Rattle.event_stream.specs.declared.strictness.Strictness.{Strictness}
 use Rattle.command_line.specs.Telling.{IsFaultOfCommand}
-use Rattle.explain_command.specs.Explaining.{IsExplainFault, IsExplained, IsStreamCutOff}
-use Rattle.explore_command.proofs.Faults.{some_part}
+use Rattle.explain_command.specs.Explaining.{IsExplainFault, IsExplained}
 use Rattle.explore_command.specs.Exploring.{IsExploreFault, LeavesPart}
 use Rattle.explore_command.specs.Keeping.{IsScriptFile, SparesOthers}
-use Rattle.show_command.specs.Showing.{IsPartlyShown, IsShowFault, AreWordsShown}
+use Rattle.show_command.specs.Showing.{IsShowFault, AreWordsShown}
 use Rattle.explore_command.specs.declared.judging.Judgement.{Judgement}
 use Rattle.explore_command.specs.declared.judging.Judgement.TheVariants.{Allowed, NotAllowed}
-
-pub broken : (held left : Held) (old new : Option (List ℕ)) (wanted meant : Settings) → wanted ≡ meant → (new ≡ old) ⊎ IsHalfPrinted held left old new meant → (new ≡ old) ⊎ IsHalfPrinted held left old new wanted
-broken held left old new wanted meant is so = subst (λ w. (new ≡ old) ⊎ IsHalfPrinted held left old new w) (sym is) so
 
 pub explained : (held left : Held) (old new : Option (List ℕ)) (wanted : Settings) (explain : Telling) (strictness : Strictness) → wanted ≡ Explain explain → strictness ≡ strictness_of explain.strict
     → IsExplained held explain.replay strictness explain.state old new → IsDone held left old new wanted
 explained held left old new wanted explain strictness is is_strict told =
     subst (IsDone held left old new) (sym is) (subst (λ s. IsExplained held explain.replay s explain.state old new) is_strict told)
-
-pub broken_off : (held : Held) (old new : Option (List ℕ)) (explain : Telling) (strictness : Strictness) → strictness ≡ strictness_of explain.strict
-    → (new ≡ old) ⊎ IsStreamCutOff held explain.replay strictness explain.state old new → (new ≡ old) ⊎ IsStreamCutOff held explain.replay (strictness_of explain.strict) explain.state old new
-broken_off held old new explain strictness is_strict so = subst (λ s. (new ≡ old) ⊎ IsStreamCutOff held explain.replay s explain.state old new) is_strict so
 
 module _ (held left : Held) (old new : Option (List ℕ)) (wanted : Settings) where
   pub explore_came : (explore : Sought) (r : Result Judgement Fault) → wanted ≡ Explore explore
@@ -42,31 +34,15 @@ module _ (held left : Held) (old new : Option (List ℕ)) (wanted : Settings) wh
   explore_came explore (Ok NotAllowed) is so = subst (IsFaulty held left old new) (sym is) so
   explore_came explore (Err fault) is so = tt
 
-  pub explore_broken : (explore : Sought) (r : Result Judgement Fault) → wanted ≡ Explore explore
-      → IfErr r (λ fault. LeavesPart fault old new (IsExploreBroken explore.architecture (nat_lt 0 explore.sample) held explore old new))
-      → IfErr r (λ _. (new ≡ old) ⊎ IsHalfPrinted held left old new wanted)
-  explore_broken explore (Ok judgement) is so = tt
-  explore_broken explore (Err fault) is so = broken held left old new wanted (Explore explore) is (some_part old new _ fault so)
-
   pub show_came : (show : Shown) (r : Result Judgement Fault) → wanted ≡ Show show → IfOk r (λ judgement. AreWordsShown held left show judgement old new) → IfOk r (Came held left old new wanted)
   show_came show (Ok Allowed) is so = subst (IsDone held left old new) (sym is) so
   show_came show (Ok NotAllowed) is so = subst (IsFaulty held left old new) (sym is) so
   show_came show (Err fault) is so = tt
 
-  pub show_broken : (show : Shown) (r : Result Judgement Fault) → wanted ≡ Show show → IfErr r (λ fault. LeavesPart fault old new (IsPartlyShown held show old new))
-      → IfErr r (λ _. (new ≡ old) ⊎ IsHalfPrinted held left old new wanted)
-  show_broken show (Ok judgement) is so = tt
-  show_broken show (Err fault) is so = broken held left old new wanted (Show show) is (some_part old new _ fault so)
-
   pub check_came : (check : Judging) (r : Result Judgement Fault) → wanted ≡ Check check → IfOk r (λ judgement. CheckCame judgement check.messages held check old new) → IfOk r (Came held left old new wanted)
   check_came check (Ok Allowed) is so = subst (IsDone held left old new) (sym is) so
   check_came check (Ok NotAllowed) is so = subst (IsFaulty held left old new) (sym is) so
   check_came check (Err fault) is so = tt
-
-  pub check_broken : (check : Judging) (r : Result Judgement Fault) → wanted ≡ Check check → IfErr r (λ _. (new ≡ old) ⊎ IsCheckBroken check.messages held check old new)
-      → IfErr r (λ _. (new ≡ old) ⊎ IsHalfPrinted held left old new wanted)
-  check_broken check (Ok judgement) is so = tt
-  check_broken check (Err fault) is so = broken held left old new wanted (Check check) is so
 
 -- whatever fault a command tells is one of what the settings name
 pub told_of : (held : Held) (old new : Option (List ℕ)) (wanted meant : Settings) (fault : Fault) → wanted ≡ meant → IsFaultOfCommand held old new meant fault → IsFaultOfCommand held old new wanted fault
@@ -80,17 +56,17 @@ pub explain_told : (held : Held) (old new : Option (List ℕ)) (explain : Tellin
     → IsExplainFault held explain.replay strictness old new fault → IsExplainFault held explain.replay (strictness_of explain.strict) old new fault
 explain_told held old new explain strictness fault is_strict so = subst (λ s. IsExplainFault held explain.replay s old new fault) is_strict so
 
-pub explore_beyond : (held : Held) (old new : Option (List ℕ)) (wanted : Settings) (explore : Sought) (part : Type 0) (r : Result Judgement Fault) → wanted ≡ Explore explore → IfErr r (IsExploreFault held explore)
-    → IfErr r (λ fault. LeavesPart fault old new part) → IfErr r (λ fault. status_of fault ≡ 2 → IsOutOfRange wanted × (new ≡ old))
-explore_beyond held old new wanted explore part (Ok judgement) is told leaves = tt
-explore_beyond held old new wanted explore part (Err fault) is told leaves = λ two.
-    let it = beyond_explore held old new explore part fault told leaves two in (subst IsOutOfRange (sym is) it.0, it.1)
+pub explore_beyond : (held : Held) (old new : Option (List ℕ)) (wanted : Settings) (explore : Sought) (Has : (List ℕ → Type 0) → Type 0) (r : Result Judgement Fault) → wanted ≡ Explore explore → IfErr r (IsExploreFault held explore)
+    → IfErr r (λ fault. LeavesPart fault old new Has) → IfErr r (λ fault. status_of fault ≡ 2 → IsOutOfRange wanted × (new ≡ old))
+explore_beyond held old new wanted explore Has (Ok judgement) is told leaves = tt
+explore_beyond held old new wanted explore Has (Err fault) is told leaves = λ two.
+    let it = beyond_explore held old new explore Has fault told leaves two in (subst IsOutOfRange (sym is) it.0, it.1)
 
-pub show_beyond : (held : Held) (old new : Option (List ℕ)) (wanted : Settings) (show : Shown) (part : Type 0) (r : Result Judgement Fault) → wanted ≡ Show show → IfErr r (IsShowFault held show)
-    → IfErr r (λ fault. LeavesPart fault old new part) → IfErr r (λ fault. status_of fault ≡ 2 → IsOutOfRange wanted × (new ≡ old))
-show_beyond held old new wanted show part (Ok judgement) is told leaves = tt
-show_beyond held old new wanted show part (Err fault) is told leaves = λ two.
-    let it = beyond_show held old new show part fault told leaves two in (subst IsOutOfRange (sym is) it.0, it.1)
+pub show_beyond : (held : Held) (old new : Option (List ℕ)) (wanted : Settings) (show : Shown) (Has : (List ℕ → Type 0) → Type 0) (r : Result Judgement Fault) → wanted ≡ Show show → IfErr r (IsShowFault held show)
+    → IfErr r (λ fault. LeavesPart fault old new Has) → IfErr r (λ fault. status_of fault ≡ 2 → IsOutOfRange wanted × (new ≡ old))
+show_beyond held old new wanted show Has (Ok judgement) is told leaves = tt
+show_beyond held old new wanted show Has (Err fault) is told leaves = λ two.
+    let it = beyond_show held old new show Has fault told leaves two in (subst IsOutOfRange (sym is) it.0, it.1)
 
 pub show_written : (held left : Held) (wanted : Settings) (show : Shown) → wanted ≡ Show show → SparesOthers (IsScriptFile show.explore.scripts) held left
     → (name : Text) → left name ≢ held name → IsWritten name wanted

@@ -2,3 +2,4 @@ mod Again
 mod Carried
 mod Meant
 pub mod StreamLeft
+mod Leaving

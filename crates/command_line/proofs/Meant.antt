@@ -1,5 +1,5 @@
 -- What the words' settings allow to be done, and what faults say of them.
-use Rattle.std.proofs.Common.{◌≡◌, ◌≢◌, ◌∙◌, ◌⊎◌, ℕ, Bool, IfSome, List, None, Option, Some, arith, false, true, inl, inr, subst, sym, ap, refl}
+use Rattle.std.proofs.Common.{◌≡◌, ◌≢◌, ◌∙◌, ◌⊎◌, ℕ, Bool, IsSomeAnd, List, None, Option, Some, arith, false, true, inl, inr, subst, sym, ap, refl}
 use Rattle.std.proofs.lemmas.Bool.{false≢true}
 use Rattle.std.proofs.lemmas.Slice.Eq.{bytes_eq-Decides}
 use Rattle.std.specs.Str.{bytes_eq}
@@ -41,11 +41,11 @@ beyond_run held old new run broken fault told leaves two =
     let at = only_configuration fault (λ word address. subst (IsRunFault held run) address told) (λ word cause shown. subst (IsRunFault held run) shown told) two in
     (subst (IsRunFault held run) at told, subst (λ f. LeavesAtFault f old new broken) at leaves)
 
-pub beyond_explore : (held : Held) (old new : Option (List ℕ)) (explore : Sought) (broken : Type 0) (fault : Fault) → IsExploreFault held explore fault → LeavesPart fault old new broken → status_of fault ≡ 2
+pub beyond_explore : (held : Held) (old new : Option (List ℕ)) (explore : Sought) (Has : (List ℕ → Type 0) → Type 0) (fault : Fault) → IsExploreFault held explore fault → LeavesPart fault old new Has → status_of fault ≡ 2
     → IsOutside explore.machine × (new ≡ old)
-beyond_explore held old new explore broken fault told leaves two =
+beyond_explore held old new explore Has fault told leaves two =
     let at = only_configuration fault (λ word address. subst (IsExploreFault held explore) address told) (λ word cause shown. subst (IsExploreFault held explore) shown told) two in
-    (subst (IsExploreFault held explore) at told, subst (λ f. LeavesPart f old new broken) at leaves)
+    (subst (IsExploreFault held explore) at told, subst (λ f. LeavesPart f old new Has) at leaves)
 
 -- what an image hasn't is a fault of status 1
 one_is_not_two : (fault other : Fault) → fault ≡ other → status_of other ≡ 1 → status_of fault ≡ 2 → ⊥
@@ -58,15 +58,15 @@ unshown_once held show fault unshown two = elim unshown.unplaced [
   | inr at ↦ one_is_not_two fault _ at.3 refl two
 ]
 
-pub beyond_show : (held : Held) (old new : Option (List ℕ)) (show : Shown) (broken : Type 0) (fault : Fault) → IsShowFault held show fault → LeavesPart fault old new broken → status_of fault ≡ 2
+pub beyond_show : (held : Held) (old new : Option (List ℕ)) (show : Shown) (Has : (List ℕ → Type 0) → Type 0) (fault : Fault) → IsShowFault held show fault → LeavesPart fault old new Has → status_of fault ≡ 2
     → (IsOutside show.explore.machine ⊎ IsElsewhere show.explore) × (new ≡ old)
-beyond_show held old new show broken fault (inl told) leaves two =
-    let it = beyond_explore held old new show.explore broken fault told leaves two in (inl it.0, it.1)
-beyond_show held old new show broken fault (inr (inl unshown)) leaves two = absurd (unshown_once held show fault unshown two)
-beyond_show held old new show broken fault (inr (inr (word, is, elsewhere))) leaves two = (inr elsewhere, subst (λ f. LeavesPart f old new broken) is leaves)
+beyond_show held old new show Has fault (inl told) leaves two =
+    let it = beyond_explore held old new show.explore Has fault told leaves two in (inl it.0, it.1)
+beyond_show held old new show Has fault (inr (inl unshown)) leaves two = absurd (unshown_once held show fault unshown two)
+beyond_show held old new show Has fault (inr (inr (word, is, elsewhere))) leaves two = (inr elsewhere, subst (λ f. LeavesPart f old new Has) is leaves)
 
 -- the word names no address
-pub no_address : (line : Option Name) (fault : Fault) → IsNoAddress line fault → IfSome line (λ word. address word.now ≡ None)
+pub no_address : (line : Option Name) (fault : Fault) → IsNoAddress line fault → IsSomeAnd line (λ word. address word.now ≡ None)
 no_address None fault is = absurd is
 no_address (Some word) fault is = is.0
 

@@ -1,17 +1,17 @@
 -- What a run of the program has done, by its status.
-use Rattle.std.specs.Prelude.{◌≡◌, ◌≢◌, ◌⊎◌, ◌<◌, ℕ, Bool, false, true, nat_lt, IfSome, List, None, Option}
+use Rattle.std.specs.Prelude.{◌≡◌, ◌≢◌, ◌⊎◌, ◌<◌, ℕ, Bool, false, true, nat_lt, IsSomeAnd, List, None, Option}
 use Rattle.clap.specs.Words.{Text}
 use Rattle.command_files.specs.Held.{Held}
 use Rattle.replay_command.specs.Replaying.{IsCutOff, IsReplayed}
 use Rattle.explain_command.specs.Explaining.{IsExplained, IsStreamCutOff}
-use Rattle.explore_command.specs.Exploring.{IsExplorationTold, IsPartlyExplored}
+use Rattle.explore_command.specs.Exploring.{ExplorationHas, IsExplorationTold}
 use Rattle.explore_command.specs.Keeping.{IsScriptFile}
 use Rattle.explore_command.specs.declared.judging.Judgement.{Judgement}
 use Rattle.explore_command.specs.declared.judging.Judgement.TheVariants.{Allowed, NotAllowed}
 use Rattle.architecture_command.specs.Keeping.{IsFileOf}
-use Rattle.architecture_command.specs.Searching.{IsPartlySearched, IsSearched}
-use Rattle.sample_command.specs.Sampling.{IsPartlySampled, IsSampleTold}
-use Rattle.show_command.specs.Showing.{IsElsewhere, IsPartlyShown, AreWordsShown}
+use Rattle.architecture_command.specs.Searching.{IsSearched, SearchHas}
+use Rattle.sample_command.specs.Sampling.{IsSampleTold, SampleHas}
+use Rattle.show_command.specs.Showing.{AreWordsShown, IsElsewhere, WordsHave}
 use Rattle.chart_command.specs.Addresses.{address}
 use Rattle.chart_command.specs.Charting.{IsCharted, IsPictureCutOff as IsHalfCharted}
 use Rattle.check_command.specs.Checking.{IsVerdictTold, IsVerdictCutOff}
@@ -30,6 +30,7 @@ use Rattle.lawful_log.specs.declared.rule.LogRule.{LogRule}
 use Rattle.lawful_log.specs.declared.rule.LogVerdict.TheVariants.{Lawful, Unlawful}
 use Rattle.rvwmo_order.specs.declared.verdict.Code.{Code}
 use Rattle.rvwmo_order.specs.declared.verdict.Verdict.TheVariants.{Fault, Legal}
+use Rattle.text_fields.specs.Writing.{Begins}
 use Rattle.trace_recorder.specs.declared.operation.OpId.{OpId}
 
 -- the words fit the usage, and P holds of the settings that they name
@@ -67,11 +68,11 @@ ExploreCame true sampled judgement held left explore old new = IsSearched held l
 ExploreCame false true judgement held left explore old new = IsSampleTold held left explore explore.sample judgement old new
 ExploreCame false false judgement held left explore old new = IsExplorationTold held left explore judgement old new
 
--- of it no more than a beginning, or it wasn't kept or judged
-abbrev pub IsExploreBroken : (architecture sampled : Bool) → Held → Seeking → Option (List ℕ) → Option (List ℕ) → Type 0
-IsExploreBroken true sampled held explore old new = IsPartlySearched held explore explore.window old new
-IsExploreBroken false true held explore old new = IsPartlySampled held explore explore.sample old new
-IsExploreBroken false false held explore old new = IsPartlyExplored held explore old new
+-- P holds of the text of it
+abbrev pub ExploreHas : (architecture sampled : Bool) → Held → Seeking → (List ℕ → Type 0) → Type 0
+ExploreHas true sampled held explore = SearchHas held explore explore.window
+ExploreHas false true held explore = SampleHas held explore explore.sample
+ExploreHas false false held explore = ExplorationHas held explore
 
 -- the file is one that shows an outcome
 abbrev pub IsExploreFile : (architecture : Bool) → Seeking → Text → Type 0
@@ -115,8 +116,8 @@ abbrev pub IsHalfPrinted : Held → Held → Option (List ℕ) → Option (List 
 IsHalfPrinted held left old new (Replay replay) = IsCutOff held replay old new
 IsHalfPrinted held left old new (Explain explain) = IsStreamCutOff held explain.replay (strictness_of explain.strict) explain.state old new
 IsHalfPrinted held left old new (Run run) = IsRunCutOff held left run old new
-IsHalfPrinted held left old new (Explore explore) = IsExploreBroken explore.architecture (nat_lt 0 explore.sample) held explore old new
-IsHalfPrinted held left old new (Show show) = IsPartlyShown held show old new
+IsHalfPrinted held left old new (Explore explore) = ExploreHas explore.architecture (nat_lt 0 explore.sample) held explore (Begins old new)
+IsHalfPrinted held left old new (Show show) = WordsHave held show (Begins old new)
 IsHalfPrinted held left old new (Chart chart) = IsHalfCharted held chart.replay chart.line old new
 IsHalfPrinted held left old new (Check check) = IsCheckBroken check.messages held check old new
 
@@ -129,7 +130,7 @@ abbrev pub IsOutOfRange : Settings → Type 0
 IsOutOfRange (Run run) = IsOutside run.machine
 IsOutOfRange (Explore explore) = IsOutside explore.machine
 IsOutOfRange (Show show) = IsOutside show.explore.machine ⊎ IsElsewhere show.explore
-IsOutOfRange (Chart chart) = IfSome chart.line (λ word. address word.now ≡ None)
+IsOutOfRange (Chart chart) = IsSomeAnd chart.line (λ word. address word.now ≡ None)
 IsOutOfRange _ = ⊥
 
 -- an exploration may meet a state at least

@@ -1,22 +1,22 @@
 -- Which fault tells why what the words ask for was not done.
-use Rattle.std.specs.Prelude.{◌≡◌, ◌⊎◌, ℕ, Bool, true, false, List, Option}
+use Rattle.std.specs.Prelude.{◌≡◌, ◌⊎◌, ℕ, Bool, true, false, nat_lt, List, Option}
 use Rattle.clap.specs.Words.{Text}
 use Rattle.chart_command.specs.Charting.{IsChartFault}
 use Rattle.check_command.specs.Checking.{IsCheckFault}
 use Rattle.check_command.specs.Messages.{IsLogFault}
-use Rattle.command_files.specs.Faults.{IsReplayFault}
+use Rattle.command_files.specs.Faults.{IsReplayFault, LeavesAtFault}
 use Rattle.command_files.specs.Held.{Held}
 use Rattle.command_files.specs.Status.{status_of}
 use Rattle.command_files.specs.declared.fault.Fault.{Fault}
-use Rattle.command_line.specs.Running.{HasNamed, strictness_of}
+use Rattle.command_line.specs.Running.{ExploreHas, HasNamed, IsHalfPrinted, IsOutOfRange, strictness_of}
 use Rattle.command_settings.specs.Refusals.{IsForHelp}
 use Rattle.command_settings.specs.declared.wanted.Check.{Check as Judging}
 use Rattle.command_settings.specs.declared.wanted.Settings.{Settings}
 use Rattle.command_settings.specs.declared.wanted.Settings.TheVariants.{Chart, Check, Explain, Explore, Replay, Run, Show}
-use Rattle.explain_command.specs.Explaining.{IsExplainFault}
-use Rattle.explore_command.specs.Exploring.{IsExploreFault}
+use Rattle.explain_command.specs.Explaining.{IsExplainFault, LeavesOfStream}
+use Rattle.explore_command.specs.Exploring.{IsExploreFault, LeavesPart}
 use Rattle.run_command.specs.Running.{IsRunFault}
-use Rattle.show_command.specs.Showing.{IsShowFault}
+use Rattle.show_command.specs.Showing.{IsShowFault, WordsHave}
 
 -- the messages of a trace can't be judged, or its order
 abbrev pub IsJudgingFault : (of_messages : Bool) → Held → Judging → Fault → Type 0
@@ -33,12 +33,24 @@ IsFaultOfCommand held old new (Show show) = IsShowFault held show
 IsFaultOfCommand held old new (Chart chart) = IsChartFault held chart.replay chart.line
 IsFaultOfCommand held old new (Check check) = IsJudgingFault check.messages held check
 
--- such a fault, and of this status
-pub record HasFault (held : Held) (old new : Option (List ℕ)) (status : ℕ) (wanted : Settings) : Type 0 where
+-- each command says what its faults leave on standard output
+abbrev pub LeavesOf : Held → Held → Option (List ℕ) → Option (List ℕ) → Settings → Fault → Type 0
+LeavesOf held left old new (Explain explain) fault = LeavesOfStream fault old new (IsHalfPrinted held left old new (Explain explain))
+LeavesOf held left old new (Explore explore) fault = LeavesPart fault old new (ExploreHas explore.architecture (nat_lt 0 explore.sample) held explore)
+LeavesOf held left old new (Show show) fault = LeavesPart fault old new (WordsHave held show)
+LeavesOf held left old new (Replay replay) fault = LeavesAtFault fault old new (IsHalfPrinted held left old new (Replay replay))
+LeavesOf held left old new (Run run) fault = LeavesAtFault fault old new (IsHalfPrinted held left old new (Run run))
+LeavesOf held left old new (Chart chart) fault = LeavesAtFault fault old new (IsHalfPrinted held left old new (Chart chart))
+LeavesOf held left old new (Check check) fault = LeavesAtFault fault old new (IsHalfPrinted held left old new (Check check))
+
+-- such a fault, of this status, that left this; a machine out of limits and a word out of place have another status
+pub record HasFault (held left : Held) (old new : Option (List ℕ)) (status : ℕ) (wanted : Settings) : Type 0 where
   pub fault : Fault
   pub told : IsFaultOfCommand held old new wanted fault
+  pub leaves : LeavesOf held left old new wanted fault
   pub of_status : status_of fault ≡ status
+  pub inside : ¬ IsOutOfRange wanted
 
 -- what the words name has a fault of status 1, or there was help to print
-unfoldable pub IsFaulted : List Text → Held → Option (List ℕ) → Option (List ℕ) → Type 0
-IsFaulted words held old new = IsForHelp words ⊎ HasNamed words (HasFault held old new 1)
+unfoldable pub HasToldFault : List Text → Held → Held → Option (List ℕ) → Option (List ℕ) → Type 0
+HasToldFault words held left old new = IsForHelp words ⊎ HasNamed words (HasFault held left old new 1)

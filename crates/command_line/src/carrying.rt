@@ -1,10 +1,12 @@
 //! What the words ask for is carried out, command by command.
 
-ghost use Rattle.std.specs.Prelude.{◌≡◌, ◌≢◌, ◌⊎◌, ◌<◌, IfErr, IfOk, nat_lt};
+ghost use Rattle.std.specs.Prelude.{◌≡◌, ◌≢◌, ◌<◌, Err, IfErr, IfOk, nat_lt};
 ghost use Rattle.clap.specs.Words.{Text};
+ghost use Rattle.command_files.specs.Faults.{LeavesAtFault};
+ghost use Rattle.command_files.specs.Sizes.{IsOutside};
 ghost use Rattle.command_files.specs.Status.{status_of};
-ghost use Rattle.command_line.specs.Telling.{IsFaultOfCommand, IsJudgingFault};
-ghost use Rattle.command_line.specs.Running.{Came, CheckCame, ExploreCame, MeetsSomeState, IsOutOfRange, IsHalfPrinted, IsCheckBroken, IsExploreBroken, IsExploreFile, IsWritten, strictness_of};
+ghost use Rattle.command_line.specs.Telling.{IsFaultOfCommand, IsJudgingFault, LeavesOf};
+ghost use Rattle.command_line.specs.Running.{Came, CheckCame, ExploreCame, ExploreHas, MeetsSomeState, IsOutOfRange, IsCheckBroken, IsExploreFile, IsWritten, strictness_of};
 ghost use Rattle.explore_command.specs.Exploring.{IsExploreFault, LeavesPart};
 ghost use Rattle.explore_command.specs.Keeping.{SparesOthers};
 
@@ -48,8 +50,8 @@ pub(crate) fn carry_out<
 ) -> Result<Judgement, Fault<'a>>
     requires room { MeetsSomeState wanted }
     ensures came { IfOk result (Came (F.held files.old) (F.held files.new) (O.contents out.old) (O.contents out.new) wanted.entry) }
-    ensures unfinished { IfErr result (λ _. (O.contents out.new ≡ O.contents out.old)
-        ⊎ IsHalfPrinted (F.held files.old) (F.held files.new) (O.contents out.old) (O.contents out.new) wanted.entry) }
+    ensures leaves { IfErr result (LeavesOf (F.held files.old) (F.held files.new) (O.contents out.old) (O.contents out.new) wanted.entry) }
+    ensures outside { IfErr result (λ fault. IsOutOfRange wanted.entry → status_of fault ≡ 2) }
     ensures beyond { IfErr result (λ fault. status_of fault ≡ 2 → IsOutOfRange wanted.entry × (O.contents out.new ≡ O.contents out.old)) }
     ensures told { IfErr result (IsFaultOfCommand (F.held files.old) (O.contents out.old) (O.contents out.new) wanted.entry) }
     ensures spared { (name : Text) → F.held files.new name ≢ F.held files.old name → IsWritten name wanted.entry }
@@ -90,9 +92,10 @@ fn explored<'a, F: Files, O: Write, E: Write, P: Progress>(
     requires room { 0 < wanted.states }
     ensures came { IfOk result (λ judgement. ExploreCame wanted.entry.architecture (nat_lt 0 wanted.entry.sample) judgement
         (F.held files.old) (F.held files.new) wanted.entry (O.contents out.old) (O.contents out.new)) }
+    ensures outside { IsOutside wanted.entry.machine → result ≡ Err Fault.Configuration }
     ensures told { IfErr result (IsExploreFault (F.held files.old) wanted.entry) }
     ensures unfinished { IfErr result (λ fault. LeavesPart fault (O.contents out.old) (O.contents out.new)
-        (IsExploreBroken wanted.entry.architecture (nat_lt 0 wanted.entry.sample) (F.held files.old) wanted.entry (O.contents out.old) (O.contents out.new))) }
+        (ExploreHas wanted.entry.architecture (nat_lt 0 wanted.entry.sample) (F.held files.old) wanted.entry)) }
     ensures spared { SparesOthers (IsExploreFile wanted.entry.architecture wanted.entry) (F.held files.old) (F.held files.new) }
 {
     if wanted.architecture {
@@ -113,8 +116,8 @@ fn checked<'a, F: Files, O: Write, E: Write>(
     err: &mut E,
 ) -> Result<Judgement, Fault<'a>>
     ensures came { IfOk result (λ judgement. CheckCame judgement wanted.entry.messages (F.held files.old) wanted.entry (O.contents out.old) (O.contents out.new)) }
-    ensures unfinished { IfErr result (λ _. (O.contents out.new ≡ O.contents out.old)
-        ⊎ IsCheckBroken wanted.entry.messages (F.held files.old) wanted.entry (O.contents out.old) (O.contents out.new)) }
+    ensures unfinished { IfErr result (λ fault. LeavesAtFault fault (O.contents out.old) (O.contents out.new)
+        (IsCheckBroken wanted.entry.messages (F.held files.old) wanted.entry (O.contents out.old) (O.contents out.new))) }
     ensures fitting { IfErr result (λ fault. status_of fault ≢ 2) }
     ensures told { IfErr result (IsJudgingFault wanted.entry.messages (F.held files.old) wanted.entry) }
     ensures spared { F.held files.new ≡ F.held files.old }

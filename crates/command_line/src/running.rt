@@ -4,7 +4,7 @@ ghost use Rattle.std.specs.Prelude.{◌≡◌, ◌≢◌, ◌⊎◌, ◌≤◌, 
 ghost use Rattle.clap.specs.Words.{kind_of};
 ghost use Rattle.command_settings.specs.Refusals.{IsFitting, IsForHelp, IsHelp, IsUnfit};
 ghost use Rattle.command_line.specs.Running.{HasNamed, IsOutOfRange, IsCarriedOut, IsNotLegal, IsUnprinted, Spares};
-ghost use Rattle.command_line.specs.Telling.{IsFaulted};
+ghost use Rattle.command_line.specs.Telling.{HasToldFault};
 
 use crate::carrying::carry_out;
 use command_files::{Fault, Files};
@@ -37,7 +37,7 @@ pub fn run_line<
     ensures carried_out { result ≡ 0 → IsCarriedOut (map S.text words.now) (F.held files.old) (F.held files.new) (O.contents out.old) (O.contents out.new) }
     ensures not_legal { result ≡ 3 → IsNotLegal (map S.text words.now) (F.held files.old) (F.held files.new) (O.contents out.old) (O.contents out.new) }
     ensures unprinted { 0 < result → result ≢ 3 → IsUnprinted (map S.text words.now) (F.held files.old) (F.held files.new) (O.contents out.old) (O.contents out.new) }
-    ensures faulted { result ≡ 1 → IsFaulted (map S.text words.now) (F.held files.old) (O.contents out.old) (O.contents out.new) }
+    ensures faulted { result ≡ 1 → HasToldFault (map S.text words.now) (F.held files.old) (F.held files.new) (O.contents out.old) (O.contents out.new) }
     ensures misused { result ≡ 2 → (IsUnfit (map S.text words.now) ⊎ HasNamed (map S.text words.now) IsOutOfRange) × (O.contents out.new ≡ O.contents out.old) }
     ensures unfit { ¬ IsFitting (map S.text words.now) → ¬ IsForHelp (map S.text words.now) → (result ≡ 2) ⊎ (result ≡ 4) }
     ensures spared { Spares (map S.text words.now) (F.held files.old) (F.held files.new) }

@@ -1,8 +1,8 @@
-use Rattle.std.proofs.Common.{subst, sym}
-use Rattle.command_files.proofs.Left.{either, handed_up}
-use Rattle.command_line.proofs.Carried.{all_told_of, broken, broken_off, check_beyond, check_broken, check_came, explain_told, explained, explore_beyond, explore_broken, explore_came, explore_written, show_beyond, show_broken, show_came, show_written, told_of}
+use Rattle.std.proofs.Common.{refl, subst, sym}
+use Rattle.command_files.proofs.Left.{handed_up}
+use Rattle.command_line.proofs.Carried.{all_told_of, check_beyond, check_came, explain_told, explained, explore_beyond, explore_came, explore_written, show_beyond, show_came, show_written, told_of}
 use Rattle.command_line.proofs.Meant.{beyond_run, journal_alone, no_address, unwritten}
-use Rattle.command_line.proofs.StreamLeft.{stream_either}
+use Rattle.command_line.proofs.Leaving.{all_left_of, as_told, chart_outside, check_outside, explore_outside, left_of, show_outside, stream_left}
 use Rattle.command_line.specs.Running.{IsOutOfRange, IsDone, IsWritten}
 use Rattle.explain_command.proofs.Told.{explain_never_misused}
 use Rattle.replay_command.proofs.Told.{replay_never_misused}
@@ -17,8 +17,11 @@ returns-in_ok-replay_files-in-Replay-clause-spared g c = unwritten _ _ _ c.in_ok
 pub returns-in_err-replay_files-in-Replay-clause-spared : goal.returns-in_err-replay_files-in-Replay-clause-spared
 returns-in_err-replay_files-in-Replay-clause-spared g c = unwritten _ _ _ c.in_err-replay_files-in-Replay.ensures.spared
 
-pub returns-in_err-replay_files-in-Replay-clause-unfinished : goal.returns-in_err-replay_files-in-Replay-clause-unfinished
-returns-in_err-replay_files-in-Replay-clause-unfinished g c = handed_up _ c.from_residual.result _ c.from_residual.ensures.1 (broken _ _ _ _ _ _ c.in-Replay.is (either _ _ _ _ c.in_err-replay_files-in-Replay.ensures.unfinished))
+pub returns-in_err-replay_files-in-Replay-clause-leaves : goal.returns-in_err-replay_files-in-Replay-clause-leaves
+returns-in_err-replay_files-in-Replay-clause-leaves g c = handed_up _ c.from_residual.result _ c.from_residual.ensures.1 (left_of _ _ _ _ _ _ _ c.in-Replay.is c.in_err-replay_files-in-Replay.ensures.unfinished)
+
+pub returns-in_err-replay_files-in-Replay-clause-outside : goal.returns-in_err-replay_files-in-Replay-clause-outside
+returns-in_err-replay_files-in-Replay-clause-outside g c = handed_up _ c.from_residual.result _ c.from_residual.ensures.1 (λ out. absurd (subst IsOutOfRange c.in-Replay.is out))
 
 pub returns-in_err-replay_files-in-Replay-clause-beyond : goal.returns-in_err-replay_files-in-Replay-clause-beyond
 returns-in_err-replay_files-in-Replay-clause-beyond g c = handed_up _ c.from_residual.result _ c.from_residual.ensures.1 (λ two. absurd (replay_never_misused _ _ _ c.in_err-replay_files-in-Replay.ensures.told two))
@@ -32,8 +35,11 @@ returns-in_ok-explain_files-in-Explain-clause-spared g c = unwritten _ _ _ c.in_
 pub returns-in_err-explain_files-in-Explain-clause-spared : goal.returns-in_err-explain_files-in-Explain-clause-spared
 returns-in_err-explain_files-in-Explain-clause-spared g c = unwritten _ _ _ c.in_err-explain_files-in-Explain.ensures.spared
 
-pub returns-in_err-explain_files-in-Explain-clause-unfinished : goal.returns-in_err-explain_files-in-Explain-clause-unfinished
-returns-in_err-explain_files-in-Explain-clause-unfinished g c = handed_up _ c.from_residual-in_err-explain_files-in-Explain.result _ c.from_residual-in_err-explain_files-in-Explain.ensures.1 (broken _ _ _ _ _ _ c.in-Explain.is (broken_off _ _ _ c.in-Explain.explain c.strictness_of-strictness.result c.strictness_of-strictness.ensures (stream_either _ _ _ _ c.in_err-explain_files-in-Explain.ensures.unfinished)))
+pub returns-in_err-explain_files-in-Explain-clause-leaves : goal.returns-in_err-explain_files-in-Explain-clause-leaves
+returns-in_err-explain_files-in-Explain-clause-leaves g c = handed_up _ c.from_residual-in_err-explain_files-in-Explain.result _ c.from_residual-in_err-explain_files-in-Explain.ensures.1 (left_of _ _ _ _ _ _ _ c.in-Explain.is (stream_left _ _ _ c.in-Explain.explain c.strictness_of-strictness.result _ c.strictness_of-strictness.ensures c.in_err-explain_files-in-Explain.ensures.unfinished))
+
+pub returns-in_err-explain_files-in-Explain-clause-outside : goal.returns-in_err-explain_files-in-Explain-clause-outside
+returns-in_err-explain_files-in-Explain-clause-outside g c = handed_up _ c.from_residual-in_err-explain_files-in-Explain.result _ c.from_residual-in_err-explain_files-in-Explain.ensures.1 (λ out. absurd (subst IsOutOfRange c.in-Explain.is out))
 
 pub returns-in_err-explain_files-in-Explain-clause-beyond : goal.returns-in_err-explain_files-in-Explain-clause-beyond
 returns-in_err-explain_files-in-Explain-clause-beyond g c = handed_up _ c.from_residual-in_err-explain_files-in-Explain.result _ c.from_residual-in_err-explain_files-in-Explain.ensures.1 (λ two. absurd (explain_never_misused _ _ _ _ _ _ c.in_err-explain_files-in-Explain.ensures.told two))
@@ -47,8 +53,11 @@ returns-in_ok-chart_files-in-Chart-clause-spared g c = unwritten _ _ _ c.in_ok-c
 pub returns-in_err-chart_files-in-Chart-clause-spared : goal.returns-in_err-chart_files-in-Chart-clause-spared
 returns-in_err-chart_files-in-Chart-clause-spared g c = unwritten _ _ _ c.in_err-chart_files-in-Chart.ensures.spared
 
-pub returns-in_err-chart_files-in-Chart-clause-unfinished : goal.returns-in_err-chart_files-in-Chart-clause-unfinished
-returns-in_err-chart_files-in-Chart-clause-unfinished g c = handed_up _ c.from_residual-in_err-chart_files-in-Chart.result _ c.from_residual-in_err-chart_files-in-Chart.ensures.1 (broken _ _ _ _ _ _ c.in-Chart.is (either _ _ _ _ c.in_err-chart_files-in-Chart.ensures.unfinished))
+pub returns-in_err-chart_files-in-Chart-clause-leaves : goal.returns-in_err-chart_files-in-Chart-clause-leaves
+returns-in_err-chart_files-in-Chart-clause-leaves g c = handed_up _ c.from_residual-in_err-chart_files-in-Chart.result _ c.from_residual-in_err-chart_files-in-Chart.ensures.1 (left_of _ _ _ _ _ _ _ c.in-Chart.is c.in_err-chart_files-in-Chart.ensures.unfinished)
+
+pub returns-in_err-chart_files-in-Chart-clause-outside : goal.returns-in_err-chart_files-in-Chart-clause-outside
+returns-in_err-chart_files-in-Chart-clause-outside g c = handed_up _ c.from_residual-in_err-chart_files-in-Chart.result _ c.from_residual-in_err-chart_files-in-Chart.ensures.1 (λ out. chart_outside _ _ c.in_err-chart_files-in-Chart.ensures.unnamed (subst IsOutOfRange c.in-Chart.is out))
 
 pub returns-in_err-chart_files-in-Chart-clause-beyond : goal.returns-in_err-chart_files-in-Chart-clause-beyond
 returns-in_err-chart_files-in-Chart-clause-beyond g c = handed_up _ c.from_residual-in_err-chart_files-in-Chart.result _ c.from_residual-in_err-chart_files-in-Chart.ensures.1 (λ two. let it = c.in_err-chart_files-in-Chart.ensures.misused two in (subst IsOutOfRange (sym c.in-Chart.is) (no_address _ _ it.0), it.1))
@@ -62,8 +71,11 @@ returns-in_ok-run_files-in-Run-clause-spared g c = λ name changed. subst (IsWri
 pub returns-in_err-run_files-in-Run-clause-spared : goal.returns-in_err-run_files-in-Run-clause-spared
 returns-in_err-run_files-in-Run-clause-spared g c = λ name changed. subst (IsWritten name) (sym c.in-Run.is) (journal_alone _ _ _ c.in_err-run_files-in-Run.ensures.spared name changed)
 
-pub returns-in_err-run_files-in-Run-clause-unfinished : goal.returns-in_err-run_files-in-Run-clause-unfinished
-returns-in_err-run_files-in-Run-clause-unfinished g c = handed_up _ c.from_residual-in_err-run_files-in-Run.result _ c.from_residual-in_err-run_files-in-Run.ensures.1 (broken _ _ _ _ _ _ c.in-Run.is (either _ _ _ _ c.in_err-run_files-in-Run.ensures.unfinished))
+pub returns-in_err-run_files-in-Run-clause-leaves : goal.returns-in_err-run_files-in-Run-clause-leaves
+returns-in_err-run_files-in-Run-clause-leaves g c = handed_up _ c.from_residual-in_err-run_files-in-Run.result _ c.from_residual-in_err-run_files-in-Run.ensures.1 (left_of _ _ _ _ _ _ _ c.in-Run.is c.in_err-run_files-in-Run.ensures.unfinished)
+
+pub returns-in_err-run_files-in-Run-clause-outside : goal.returns-in_err-run_files-in-Run-clause-outside
+returns-in_err-run_files-in-Run-clause-outside g c = handed_up _ c.from_residual-in_err-run_files-in-Run.result _ c.from_residual-in_err-run_files-in-Run.ensures.1 (λ out. as_told _ _ (c.in_err-run_files-in-Run.ensures.outside (subst IsOutOfRange c.in-Run.is out)) refl)
 
 pub returns-in_err-run_files-in-Run-clause-beyond : goal.returns-in_err-run_files-in-Run-clause-beyond
 returns-in_err-run_files-in-Run-clause-beyond g c = handed_up _ c.from_residual-in_err-run_files-in-Run.result _ c.from_residual-in_err-run_files-in-Run.ensures.1 (λ two. let it = beyond_run _ _ _ c.in-Run.run' _ _ c.in_err-run_files-in-Run.ensures.told c.in_err-run_files-in-Run.ensures.unfinished two in (subst IsOutOfRange (sym c.in-Run.is) it.0, it.1))
@@ -71,8 +83,11 @@ returns-in_err-run_files-in-Run-clause-beyond g c = handed_up _ c.from_residual-
 pub returns-in-Explore-clause-came : goal.returns-in-Explore-clause-came
 returns-in-Explore-clause-came g c = explore_came _ _ _ _ _ c.in-Explore.explore c.explored.result c.in-Explore.is c.explored.ensures.came
 
-pub returns-in-Explore-clause-unfinished : goal.returns-in-Explore-clause-unfinished
-returns-in-Explore-clause-unfinished g c = explore_broken _ _ _ _ _ c.in-Explore.explore c.explored.result c.in-Explore.is c.explored.ensures.unfinished
+pub returns-in-Explore-clause-leaves : goal.returns-in-Explore-clause-leaves
+returns-in-Explore-clause-leaves g c = all_left_of _ _ _ _ _ _ c.explored.result c.in-Explore.is c.explored.ensures.unfinished
+
+pub returns-in-Explore-clause-outside : goal.returns-in-Explore-clause-outside
+returns-in-Explore-clause-outside g c = explore_outside _ c.in-Explore.explore c.explored.result c.in-Explore.is c.explored.ensures.outside
 
 pub returns-in-Explore-clause-beyond : goal.returns-in-Explore-clause-beyond
 returns-in-Explore-clause-beyond g c = explore_beyond _ _ _ _ c.in-Explore.explore _ c.explored.result c.in-Explore.is c.explored.ensures.told c.explored.ensures.unfinished
@@ -83,8 +98,11 @@ returns-in-Explore-clause-spared g c = explore_written _ _ _ c.in-Explore.explor
 pub returns-in-Check-clause-came : goal.returns-in-Check-clause-came
 returns-in-Check-clause-came g c = check_came _ _ _ _ _ c.in-Check.check c.checked.result c.in-Check.is c.checked.ensures.came
 
-pub returns-in-Check-clause-unfinished : goal.returns-in-Check-clause-unfinished
-returns-in-Check-clause-unfinished g c = check_broken _ _ _ _ _ c.in-Check.check c.checked.result c.in-Check.is c.checked.ensures.unfinished
+pub returns-in-Check-clause-leaves : goal.returns-in-Check-clause-leaves
+returns-in-Check-clause-leaves g c = all_left_of _ _ _ _ _ _ c.checked.result c.in-Check.is c.checked.ensures.unfinished
+
+pub returns-in-Check-clause-outside : goal.returns-in-Check-clause-outside
+returns-in-Check-clause-outside g c = check_outside _ c.in-Check.check c.checked.result c.in-Check.is
 
 pub returns-in-Check-clause-beyond : goal.returns-in-Check-clause-beyond
 returns-in-Check-clause-beyond g c = check_beyond _ _ _ c.checked.result c.checked.ensures.fitting
@@ -114,8 +132,11 @@ returns-in-Check-clause-told g c = all_told_of _ _ _ _ _ c.checked.result c.in-C
 pub returns-in-Show-clause-came : goal.returns-in-Show-clause-came
 returns-in-Show-clause-came g c = show_came _ _ _ _ _ c.in-Show.show c.show_files.result c.in-Show.is c.show_files.ensures.shown
 
-pub returns-in-Show-clause-unfinished : goal.returns-in-Show-clause-unfinished
-returns-in-Show-clause-unfinished g c = show_broken _ _ _ _ _ c.in-Show.show c.show_files.result c.in-Show.is c.show_files.ensures.unfinished
+pub returns-in-Show-clause-leaves : goal.returns-in-Show-clause-leaves
+returns-in-Show-clause-leaves g c = all_left_of _ _ _ _ _ _ c.show_files.result c.in-Show.is c.show_files.ensures.unfinished
+
+pub returns-in-Show-clause-outside : goal.returns-in-Show-clause-outside
+returns-in-Show-clause-outside g c = show_outside _ c.in-Show.show c.show_files.result c.in-Show.is c.show_files.ensures.outside c.show_files.ensures.elsewhere
 
 pub returns-in-Show-clause-beyond : goal.returns-in-Show-clause-beyond
 returns-in-Show-clause-beyond g c = show_beyond _ _ _ _ c.in-Show.show _ c.show_files.result c.in-Show.is c.show_files.ensures.told c.show_files.ensures.unfinished

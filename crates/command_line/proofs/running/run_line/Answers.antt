@@ -3,9 +3,10 @@ use Rattle.clap.specs.Words.{IsAmong, Text, kind_of}
 use Rattle.clap.specs.declared.error.Error.{Error}
 use Rattle.clap.specs.declared.error.kind.ErrorKind.{ErrorKind}
 use Rattle.command_files.specs.Held.{Held}
+use Rattle.command_line.proofs.Leaving.{either_of, not_both}
 use Rattle.command_line.proofs.Meant.{some_states}
 use Rattle.command_line.specs.Running.{Came, IsHalfPrinted, IsCarriedOut, IsNotLegal, IsUnprinted}
-use Rattle.command_line.specs.Telling.{IsFaulted}
+use Rattle.command_line.specs.Telling.{HasToldFault}
 use Rattle.command_settings.specs.Refusals.{HasKinds, IsFitting, IsHelp, IsRefused}
 use Rattle.command_settings.specs.Settings.{IsNamed}
 use Rattle.command_settings.specs.declared.wanted.Settings.{Settings}
@@ -71,7 +72,7 @@ returns-in-Err-Usage-clause-unprinted g c = λ some other. elim (rw c.in-Err-Usa
 pub returns-clause-unprinted : goal.returns-clause-unprinted
 unfolding IsUnprinted
 returns-clause-unprinted g c = λ some other. elim c.match-settings.branch [
-  | in-Ok+in-Err w ↦ rw (w.out-is, w.files-is) (stopped _ _ _ _ _ w.in-Ok.wanted w.in-Ok.ensures.named w.in-Ok.ensures.fitting w.in-Err.ensures.unfinished)
+  | in-Ok+in-Err w ↦ rw (w.out-is, w.files-is) (stopped _ _ _ _ _ w.in-Ok.wanted w.in-Ok.ensures.named w.in-Ok.ensures.fitting (either_of _ _ _ _ w.in-Ok.wanted w.in-Err.fault w.in-Err.ensures.leaves))
   | in-Err-NoMemory w ↦ rw (w.out-is) (inl refl)
 ]
 
@@ -123,23 +124,25 @@ pub returns-in-Ok-NotAllowed-clause-faulted : goal.returns-in-Ok-NotAllowed-clau
 returns-in-Ok-NotAllowed-clause-faulted g c = λ one. let bad : 3 ≡ 1 = one in cc
 
 pub returns-in-Err-Usage-clause-faulted : goal.returns-in-Err-Usage-clause-faulted
-unfolding IsFaulted
+unfolding HasToldFault
 returns-in-Err-Usage-clause-faulted g c = λ one. elim (rw c.in-Err-Usage.field-0-is at c.explain.ensures.help) [
   | inl two ↦ let no : 1 ≡ 2 = sym one ∙ two in cc
   | inr asks ↦ inl (told_of _ c.in-Err-Usage.field-0 c.in-Err-Usage.usage IsHelp c.in-Err-Usage.field-0-is c.in-Err-Usage.ensures.refused asks)
 ]
 
 pub returns-clause-faulted : goal.returns-clause-faulted
-unfolding IsFaulted
+unfolding HasToldFault
 returns-clause-faulted g c = λ one. elim c.match-settings.branch [
-  | in-Ok+in-Err w ↦ rw (w.out-is) (inr (
+  | in-Ok+in-Err w ↦ rw (w.out-is, w.files-is) (inr (
     w.in-Ok.wanted,
     w.in-Ok.ensures.named,
     w.in-Ok.ensures.fitting,
     record {
       fault = w.in-Err.fault;
       told = w.in-Err.ensures.told;
+      leaves = w.in-Err.ensures.leaves;
       of_status = rw (← w.fault-is) (sym c.status.ensures ∙ one);
+      inside = λ out. not_both w.in-Err.fault (rw (← w.fault-is) (sym c.status.ensures ∙ one)) (w.in-Err.ensures.outside out);
     },
   ))
   | in-Err-NoMemory w ↦

@@ -1,0 +1,107 @@
+-- What a command's fault leaves, and its status, are those of a fault of the settings that name the command.
+use Rattle.std.proofs.Common.{◌≡◌, ◌∙◌, ◌⊎◌, ℕ, Bool, true, false, Err, IfErr, IfSome, IsSomeAnd, List, None, Ok, Option, Result, Some, ap, inl, inr, refl, subst, sym}
+use Rattle.std.specs.Io.KnownBytes.{Appends}
+use Rattle.std.specs.Prelude.{nat_lt}
+use Rattle.chart_command.specs.Addresses.{address}
+use Rattle.command_files.proofs.Left.{either}
+use Rattle.command_files.specs.Faults.{LeavesAtFault, Name}
+use Rattle.command_files.specs.Held.{Held}
+use Rattle.command_files.specs.Sizes.{IsOutside}
+use Rattle.command_files.specs.Status.{status_of}
+use Rattle.command_files.specs.declared.fault.Fault.{Fault}
+use Rattle.command_files.specs.declared.fault.Fault.TheVariants.{BadAddress, CannotShow, Configuration}
+use Rattle.command_files.specs.declared.fault.Unshown.TheVariants.{Elsewhere}
+use Rattle.command_line.proofs.StreamLeft.{stream_either}
+use Rattle.command_line.specs.Running.{ExploreHas, IsHalfPrinted, IsOutOfRange, strictness_of}
+use Rattle.command_line.specs.Telling.{LeavesOf}
+use Rattle.command_settings.specs.declared.wanted.Check.{Check as Judging}
+use Rattle.command_settings.specs.declared.wanted.Explain.{Explain as Telling}
+use Rattle.command_settings.specs.declared.wanted.Explore.{Explore as Sought}
+use Rattle.command_settings.specs.declared.wanted.Settings.{Settings}
+use Rattle.command_settings.specs.declared.wanted.Settings.TheVariants.{Chart, Check, Explain, Explore, Replay, Run, Show}
+use Rattle.command_settings.specs.declared.wanted.Show.{Show as Shown}
+use Rattle.event_stream.specs.declared.strictness.Strictness.{Strictness}
+use Rattle.explain_command.specs.Explaining.{IsStreamCutOff, LeavesOfStream}
+use Rattle.explore_command.proofs.Explored.{all_of}
+use Rattle.explore_command.proofs.Faults.{some_part}
+use Rattle.explore_command.specs.declared.judging.Judgement.{Judgement}
+use Rattle.show_command.specs.Showing.{IsElsewhere, WordsHave}
+use Rattle.text_fields.specs.Writing.{Begins}
+
+-- ---- what is left
+
+pub stream_left : (held : Held) (old new : Option (List ℕ)) (explain : Telling) (strictness : Strictness) (fault : Fault) → strictness ≡ strictness_of explain.strict
+    → LeavesOfStream fault old new (IsStreamCutOff held explain.replay strictness explain.state old new)
+    → LeavesOfStream fault old new (IsStreamCutOff held explain.replay (strictness_of explain.strict) explain.state old new)
+stream_left held old new explain strictness fault is so = subst (λ s. LeavesOfStream fault old new (IsStreamCutOff held explain.replay s explain.state old new)) is so
+
+module _ (held left : Held) (old new : Option (List ℕ)) where
+  pub left_of : (wanted meant : Settings) (fault : Fault) → wanted ≡ meant → LeavesOf held left old new meant fault → LeavesOf held left old new wanted fault
+  left_of wanted meant fault is so = subst (λ w. LeavesOf held left old new w fault) (sym is) so
+
+  pub all_left_of : (wanted meant : Settings) (r : Result Judgement Fault) → wanted ≡ meant → IfErr r (LeavesOf held left old new meant) → IfErr r (LeavesOf held left old new wanted)
+  all_left_of wanted meant (Ok judgement) is so = tt
+  all_left_of wanted meant (Err fault) is so = left_of wanted meant fault is so
+
+  -- all of a text is a beginning of it
+  search_begins : (architecture sampled : Bool) (explore : Sought) → ExploreHas architecture sampled held explore (Appends old new) → ExploreHas architecture sampled held explore (Begins old new)
+  search_begins true sampled explore so = record { image = so.image; architecture = so.architecture; image_file = so.image_file; found = so.found; of_text = all_of old new _ so.of_text }
+  search_begins false true explore so = record { image = so.image; found = so.found; image_file = so.image_file; runs_made = so.runs_made; of_text = all_of old new _ so.of_text }
+  search_begins false false explore so = record { image = so.image; exploration = so.exploration; image_file = so.image_file; found = so.found; of_text = all_of old new _ so.of_text }
+
+  words_begin : (show : Shown) → WordsHave held show (Appends old new) → WordsHave held show (Begins old new)
+  words_begin show so = record { exploration = so.exploration; of_file = so.of_file; of_text = all_of old new _ so.of_text }
+
+  -- that is nothing, or no more than a beginning
+  pub either_of : (wanted : Settings) (fault : Fault) → LeavesOf held left old new wanted fault → (new ≡ old) ⊎ IsHalfPrinted held left old new wanted
+  either_of (Replay replay) fault so = either old new _ fault so
+  either_of (Explain explain) fault so = stream_either old new _ fault so
+  either_of (Run run) fault so = either old new _ fault so
+  either_of (Explore explore) fault so = some_part old new (ExploreHas explore.architecture (nat_lt 0 explore.sample) held explore) fault (search_begins explore.architecture (nat_lt 0 explore.sample) explore) so
+  either_of (Show show) fault so = some_part old new (WordsHave held show) fault (words_begin show) so
+  either_of (Chart chart) fault so = either old new _ fault so
+  either_of (Check check) fault so = either old new _ fault so
+
+-- ---- which status it has
+
+abbrev failed : (T : Type 0) → Fault → Result T Fault
+failed T fault = Err fault
+
+abbrev told_in : {T : Type 0} → Result T Fault → Fault
+told_in (Ok value) = Configuration
+told_in (Err fault) = fault
+
+pub as_told : {T : Type 0} (fault other : Fault) → failed T fault ≡ failed T other → status_of other ≡ 2 → status_of fault ≡ 2
+as_told fault other is two = subst (λ f. status_of f ≡ 2) (sym (ap told_in is)) two
+
+-- a fault has one status
+pub not_both : (fault : Fault) → status_of fault ≡ 1 → status_of fault ≡ 2 → ⊥
+not_both fault one two =
+    let bad : 1 ≡ 2 = sym one ∙ two in cc
+
+pub chart_outside : (line : Option Name) (fault : Fault) → IfSome line (λ word. address word.now ≡ None → failed (Unit {0}) fault ≡ failed (Unit {0}) (BadAddress word)) → IsSomeAnd line (λ word. address word.now ≡ None) → status_of fault ≡ 2
+chart_outside None fault unnamed out = absurd out
+chart_outside (Some word) fault unnamed out = as_told fault (BadAddress word) (unnamed out) refl
+
+pub explore_outside : (wanted : Settings) (explore : Sought) (r : Result Judgement Fault) → wanted ≡ Explore explore → (IsOutside explore.machine → r ≡ Err Configuration)
+    → IfErr r (λ fault. IsOutOfRange wanted → status_of fault ≡ 2)
+explore_outside wanted explore (Ok judgement) is outside = tt
+explore_outside wanted explore (Err fault) is outside = λ out. as_told fault Configuration (outside (subst IsOutOfRange is out)) refl
+
+pub show_outside : (wanted : Settings) (show : Shown) (r : Result Judgement Fault) → wanted ≡ Show show → (IsOutside show.explore.machine → (r ≡ Err Configuration) ⊎ IsElsewhere show.explore)
+    → (IsElsewhere show.explore → (word : Name) × (r ≡ Err (CannotShow word Elsewhere))) → IfErr r (λ fault. IsOutOfRange wanted → status_of fault ≡ 2)
+show_outside wanted show (Ok judgement) is outside elsewhere = tt
+show_outside wanted show (Err fault) is outside elsewhere = λ out. elim (subst IsOutOfRange is out) [
+  | inl far ↦ elim (outside far) [
+    | inl told ↦ as_told fault Configuration told refl
+    | inr other ↦ at other
+  ]
+  | inr other ↦ at other
+]
+  where
+    at : IsElsewhere show.explore → status_of fault ≡ 2
+    at other = let it = elsewhere other in as_told fault (CannotShow it.0 Elsewhere) it.1 refl
+
+pub check_outside : (wanted : Settings) (check : Judging) (r : Result Judgement Fault) → wanted ≡ Check check → IfErr r (λ fault. IsOutOfRange wanted → status_of fault ≡ 2)
+check_outside wanted check (Ok judgement) is = tt
+check_outside wanted check (Err fault) is = λ out. absurd (subst IsOutOfRange is out)
