@@ -501,7 +501,9 @@ fn what_changes_no_result_is_left_out(rt: HostRuntime) -> Result<(), Fail> {
     let short = shorten(alloc, &image, config, &events, 1000)?;
     assert!(rt; short.as_slice() == [first, first].as_slice());
     let untried = shorten(alloc, &image, config, &events, 0)?;
-    assert!(rt; untried.as_slice() == events.as_slice());
+    // Neither the delivery nor the drain changes anything.
+    let changing = [first, second, second, second, first, second];
+    assert!(rt; untried.as_slice() == changing.as_slice());
     Ok(())
 }
 

@@ -1,3 +1,4 @@
 pub mod Played
+mod Replaying
 pub mod Shorter
 pub mod Told

@@ -1,5 +1,5 @@
 -- A machine with the events that changed it stays where they lead.
-use Rattle.std.proofs.Common.{◌≡◌, ◌≢◌, ◌∙◌, refl, sym, ap, subst, ℕ, ◌+◌, List, [], ◌∷◌, ◌++◌, Ok, inl, inr, IsTrue, arith}
+use Rattle.std.proofs.Common.{◌≡◌, ◌≢◌, ◌∙◌, refl, sym, ap, subst, ℕ, ◌+◌, List, [], ◌∷◌, ◌++◌, Option, Ok, inl, inr, IsTrue, arith, true, Result as Answer}
 use Rattle.elf_loader.specs.Image.{Initial}
 use Rattle.flat_model.specs.declared.results.HartResult.{HartResult}
 use Rattle.flat_model.specs.Shown.{results, told}
@@ -13,7 +13,8 @@ use Rattle.machine_model.specs.Events.Verdict.{IsBad, Keeps, IsLimited, Moves}
 use Rattle.machine_model.specs.Laws.{ChangesAreCounted, KeepsImageAndConfig}
 use Rattle.machine_model.specs.Views.{State, opening}
 use Rattle.machine_parts.specs.Applying.{Answers}
-use Rattle.schedules.specs.Schedules.{IsPlayed, ComesTo}
+use Rattle.schedules.specs.declared.errors.Fault.{Fault}
+use Rattle.schedules.specs.Schedules.{AnswersAs, EachMovesFrom, IsPlayed, ComesTo, does_move}
 
 -- where the number of changes stays, the machine does
 pub still : ChangesAreCounted → (old : State) (e : Event) (new : State) → new ≡ happens old e → new.views.changes ≡ old.views.changes → new ≡ old
@@ -35,6 +36,10 @@ moves old e o new answers differ = by_verdict (verdict old e) answers
     by_verdict (Keeps p) a = absurd (differ (ap (λ (s : State). s.views.changes) a.1))
     by_verdict IsLimited a = absurd (cc (a.0))
     by_verdict (Moves p moved) a = elim a [ inl x ↦ cc (x.0, x.1) | inr x ↦ absurd (cc (x.0)) ]
+
+-- what is known of an answer is known of what it is found to be
+pub answered : (v : Verdict) (old new : State) (r known : Answer (Option Outcome) Fault) → r ≡ known → AnswersAs v old r new → AnswersAs v old known new
+answered v old new r known is answers = subst (λ (a : Answer (Option Outcome) Fault). AnswersAs v old a new) is answers
 
 -- an event behind a list of events happens where the list leads
 one_more : (s : State) (events : List Event) (e : Event) → after_events s (events ++ e ∷ []) ≡ happens (after_events s events) e
@@ -59,6 +64,11 @@ replays_more i s (x ∷ events) e o t new is p = by_verdict (verdict s x) (repla
     by_verdict IsLimited more q = absurd (cc q)
     by_verdict (Moves k moved) more q = more q
 
+-- and where each of the list changes the machine, so does the one behind it
+moves_more : (s : State) (events : List Event) (e : Event) → does_move (verdict (after_events s events) e) ≡ true → EachMovesFrom s events → EachMovesFrom s (events ++ e ∷ [])
+moves_more s [] e last each = (last, tt)
+moves_more s (x ∷ events) e last each = (each.0, moves_more (happens s x) events e last each.1)
+
 -- two machines of one image and one configuration open alike
 pub opens_alike : (old new : State) → KeepsImageAndConfig old new → opening new.trace.image new.views.config ≡ opening old.trace.image old.views.config
 opens_alike old new stays = λ i. opening (stays.image i) (stays.config i)
@@ -74,6 +84,9 @@ played_moved machine events e o new is stays was = record {
   replays =
       ap (λ (s : State). replayed_from 0 s (events ++ e ∷ [])) (opens_alike machine new stays)
       ∙ replays_more 0 (opening machine.trace.image machine.views.config) events e o machine new is was.replays;
+  moves =
+      subst (λ (s : State). EachMovesFrom s (events ++ e ∷ [])) (sym (opens_alike machine new stays))
+      (moves_more (opening machine.trace.image machine.views.config) events e (ap (λ (s : State). does_move (verdict s e)) was.leads ∙ ap does_move is) was.moves);
   within = subst (λ (c : Config). IsTrue (is_within_limits c)) (sym stays.config) was.within;
 }
 
@@ -90,6 +103,9 @@ pub replays_at : (reset start machine : State) (events : List Event) → start �
 replays_at reset start machine events same leads replays =
     ap (λ (s : State). replayed_from 0 s events) (sym same) ∙ replays ∙ ap Replayed.Reached (real_at reset start machine events same leads)
 
+pub moves_at : (reset start : State) (events : List Event) → start ≡ reset → EachMovesFrom start events → EachMovesFrom reset events
+moves_at reset start events same each = subst (λ (s : State). EachMovesFrom s events) same each
+
 -- a replay that refuses nothing leads where its events lead
 goes_on : (v : Verdict) (i : ℕ) (rest : Replayed) (t : State) → unless_refused v i rest ≡ Replayed.Reached t → rest ≡ Replayed.Reached t
 goes_on IsBad i rest t p = absurd (cc p)
@@ -97,16 +113,16 @@ goes_on (Keeps o) i rest t p = p
 goes_on IsLimited i rest t p = absurd (cc p)
 goes_on (Moves o new) i rest t p = p
 
-leads_to : (s t : State) (i : ℕ) (events : List Event) → replayed_from i s events ≡ Replayed.Reached t → after_events s events ≡ t
+pub leads_to : (s t : State) (i : ℕ) (events : List Event) → replayed_from i s events ≡ Replayed.Reached t → after_events s events ≡ t
 leads_to s t i [] p = cc p
 leads_to s t i (e ∷ events) p = leads_to (happens s e) t (i + 1) events (goes_on (verdict s e) i (replayed_from (i + 1) (happens s e) events) t p)
 
--- so what a replay's machine shows its events lead to
-pub replayed_to : (image : Initial) (config : Config) (events : List Event) (machine : State) (goal : List HartResult)
-    → replayed_from 0 (opening image config) events ≡ Replayed.Reached machine → told goal ≡ results machine → ComesTo image config goal events
-replayed_to image config events machine goal replays same =
-    let leads = leads_to (opening image config) machine 0 events replays in
-    record {
-      replays = replays ∙ ap Replayed.Reached (sym leads);
-      same = same ∙ ap results (sym leads);
-    }
+-- what is kept of a machine's events shows what the machine does
+pub comes_to : (image : Initial) (config : Config) (start machine : State) (events : List Event) (goal : List HartResult) → start ≡ opening image config
+    → after_events start events ≡ machine → replayed_from 0 start events ≡ Replayed.Reached machine → EachMovesFrom start events → told goal ≡ results machine
+    → ComesTo image config goal events
+comes_to image config start machine events goal same leads replays each goal_is = record {
+  replays = replays_at (opening image config) start machine events same leads replays;
+  moves = moves_at (opening image config) start events same each;
+  same = goal_is ∙ ap results (real_at (opening image config) start machine events same leads);
+}

@@ -1,6 +1,6 @@
 -- Lists that leave out elements of lists.
-use Rattle.std.proofs.Common.{inl, inr, refl, sym, ap, subst, ℕ, ◌+◌, ◌<◌, List, [], ◌∷◌, ◌++◌, length, take, get_or}
-use Rattle.std.proofs.lemmas.List.{append-nil, take_more}
+use Rattle.std.proofs.Common.{◌≡◌, inl, inr, refl, sym, ap, subst, arith, ℕ, ◌+◌, ◌-◌, ◌<◌, ◌≤◌, List, [], ◌∷◌, ◌++◌, drop, length, take, get_or}
+use Rattle.std.proofs.lemmas.List.{append-nil, append_assoc, length-drop, take_all, take_more}
 use Rattle.machine_types.specs.declared.event.Event.{Event}
 use Rattle.schedules.specs.Schedules.{MayAdd}
 use Rattle.schedules.specs.Sublists.{IsSublist}
@@ -50,3 +50,28 @@ skip_next xs events i d below p = subst (IsSublist xs) (sym (take_more events i 
 
 pub take_next : (xs events : List Event) (i : ℕ) (d : Event) (new : List Event) → i < length events → MayAdd xs (get_or events i d) new → IsSublist xs (take i events) → IsSublist new (take (i + 1) events)
 take_next xs events i d new below k p = subst (IsSublist new) (sym (take_more events i d below)) (one_more xs (take i events) (get_or events i d) new p k)
+
+-- ---- of a list whose first elements are gone through
+
+-- what is kept, and whatever is kept of the rest behind it, is some of all
+abbrev pub IsSomeBefore : List Event → List Event → List Event → Type 0
+IsSomeBefore xs rest all = (vs : List Event) → IsSublist vs rest → IsSublist (xs ++ vs) all
+
+first_is : (xs : List Event) (d : Event) → 1 ≤ length xs → xs ≡ get_or xs 0 d ∷ take (length xs - 1) (drop 1 xs)
+first_is [] d some = absurd (omega (arith, some))
+first_is (x ∷ xs) d some = ap (λ (r : List Event). x ∷ r) (sym (take_all (length (x ∷ xs) - 1) (drop 1 (x ∷ xs)) (omega (arith, length-drop 1 (x ∷ xs)))))
+
+pub one_before : (xs rest all : List Event) (d : Event) (new : List Event) → 1 ≤ length rest → MayAdd xs (get_or rest 0 d) new → IsSomeBefore xs rest all → IsSomeBefore new (take (length rest - 1) (drop 1 rest)) all
+one_before xs rest all d new some k before vs p =
+    elim k [
+      | inl out ↦ subst (λ l. IsSublist (l ++ vs) all) (sym out) (go vs (inl p))
+      | inr kept ↦
+          subst (λ l. IsSublist (l ++ vs) all) (sym kept)
+          (subst (λ l. IsSublist l all) (sym (append_assoc xs (get_or rest 0 d ∷ []) vs)) (go (get_or rest 0 d ∷ vs) (inr (vs, refl, p))))
+    ]
+  where
+    go : IsSomeBefore xs (get_or rest 0 d ∷ take (length rest - 1) (drop 1 rest)) all
+    go = subst (λ r. IsSomeBefore xs r all) (first_is rest d some) before
+
+pub all_before : (xs rest all : List Event) → IsSomeBefore xs rest all → IsSublist xs all
+all_before xs rest all before = subst (λ l. IsSublist l all) (append-nil xs) (before [] (nothing rest))

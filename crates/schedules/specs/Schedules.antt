@@ -1,5 +1,6 @@
 -- What lists of events lead to, and what is told of it.
-use Rattle.std.specs.Prelude.{◌≡◌, ◌⊎◌, List, [], ◌∷◌, ◌++◌, map, IsTrue}
+use Rattle.std.specs.Prelude.{◌≡◌, ◌⊎◌, Bool, true, false, List, [], ◌∷◌, ◌++◌, IsTrue, Option, Some, None, Ok, Err}
+use Rattle.std.specs.declared.result.Result.{Result}
 use Rattle.elf_loader.specs.Image.{Initial}
 use Rattle.coherent_machine.specs.Machine.{Replayed, replayed_from}
 use Rattle.flat_model.specs.declared.results.HartResult.{HartResult}
@@ -7,8 +8,14 @@ use Rattle.flat_model.specs.Shown.{results, told}
 use Rattle.machine_types.specs.declared.config.Config.{Config}
 use Rattle.machine_types.specs.declared.event.Event.{Event}
 use Rattle.machine_types.specs.Config.{is_within_limits}
-use Rattle.machine_model.specs.Events.{after_events}
+use Rattle.machine_types.specs.declared.outcome.Outcome.{Outcome}
+use Rattle.machine_model.specs.Events.{Verdict, after_events, happens, verdict}
+use Rattle.machine_model.specs.Events.Verdict.{IsBad, Keeps, IsLimited, Moves}
 use Rattle.machine_model.specs.Views.{State, opening}
+use Rattle.machine_parts.specs.Applying.{Answers}
+use Rattle.machine_parts.specs.declared.errors.ApplyError.TheVariants.{BadEvent, Limit}
+use Rattle.schedules.specs.declared.errors.Fault.{Fault}
+use Rattle.schedules.specs.declared.errors.Fault.TheVariants as fault
 
 -- where events lead from reset
 abbrev pub led : Initial → Config → List Event → State
@@ -18,9 +25,25 @@ led image config events = after_events (opening image config) events
 abbrev pub Replays : Initial → Config → List Event → Type 0
 Replays image config events = replayed_from 0 (opening image config) events ≡ Replayed.Reached (led image config events)
 
--- events of which none is refused lead to these results
+-- an event changes the machine: it is not refused, and comes to something
+abbrev pub does_move : Verdict → Bool
+does_move IsBad = false
+does_move (Keeps o) = false
+does_move IsLimited = false
+does_move (Moves o new) = true
+
+-- each of the events changes the machine to which those before it lead
+abbrev pub EachMovesFrom : State → List Event → Type 0
+EachMovesFrom s [] = Unit {0}
+EachMovesFrom s (e ∷ events) = (does_move (verdict s e) ≡ true) × EachMovesFrom (happens s e) events
+
+abbrev pub EachMoves : Initial → Config → List Event → Type 0
+EachMoves image config events = EachMovesFrom (opening image config) events
+
+-- events of which none is refused and each changes the machine lead to these results
 pub record ComesTo (image : Initial) (config : Config) (goal : List HartResult) (events : List Event) : Type 0 where
   pub replays : Replays image config events
+  pub moves : EachMoves image config events
   pub same : told goal ≡ results (led image config events)
 
 -- ---- a machine with the events that changed it
@@ -33,12 +56,20 @@ pub record Played : Type 0 where
 abbrev pub start_of : Played → State
 start_of p = opening p.machine.trace.image p.machine.views.config
 
--- the events lead to the machine, none is refused, and the configuration is within the limits
+-- the events lead to the machine, none is refused, each changes it, and the configuration is within the limits
 pub record IsPlayed (p : Played) : Type 0 where
   pub leads : after_events (start_of p) p.events ≡ p.machine
   pub replays : replayed_from 0 (start_of p) p.events ≡ Replayed.Reached p.machine
+  pub moves : EachMovesFrom (start_of p) p.events
   pub within : IsTrue (is_within_limits p.machine.views.config)
 
 -- the event is kept behind the others, or left out
 abbrev pub MayAdd : List Event → Event → List Event → Type 0
 MayAdd old event new = (new ≡ old) ⊎ (new ≡ old ++ event ∷ [])
+
+-- an event is answered as the machine does, but for want of memory, of which the list of events may have too little
+abbrev pub AnswersAs : Verdict → State → Result (Option Outcome) Fault → State → Type 0
+AnswersAs v old (Ok (Some o)) new = Answers v old (Ok o) new
+AnswersAs v old (Ok None) new = Answers v old (Err BadEvent) new
+AnswersAs v old (Err fault.Limit) new = Answers v old (Err Limit) new
+AnswersAs v old (Err fault.NoMemory) new = Unit {0}

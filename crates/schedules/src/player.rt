@@ -1,17 +1,20 @@
 //! A machine with the events that changed it.
 
-ghost use Rattle.std.specs.Prelude.{◌≡◌, ◌↔◌, [], Err, IfOk, IsTrue, false};
+ghost use Rattle.std.specs.Prelude.{◌≡◌, ◌≢◌, ◌↔◌, [], Err, IfErr, IfOk, IsTrue, OnOk, false};
 ghost use Rattle.flat_model.specs.Shown.{results, told};
 ghost use Rattle.machine_types.specs.Config.{is_within_limits};
-ghost use Rattle.machine_model.specs.Events.{after_events};
+ghost use Rattle.machine_model.specs.Events.{after_events, verdict};
 ghost use Rattle.machine_model.specs.Views.{opening};
-ghost use Rattle.coherent_machine.specs.Machine.{Replayed, replayed_from};
-ghost use Rattle.schedules.specs.Schedules.{MayAdd, Played, start_of};
+ghost use Rattle.coherent_machine.specs.Machine.{IsFirstRefusal, Replayed, replayed_from};
+ghost use Rattle.coherent_machine.specs.declared.errors.NewError.TheVariants as making;
+ghost use Rattle.coherent_machine.specs.declared.errors.ReplayError.TheVariants as replaying;
+ghost use Rattle.schedules.specs.Schedules.{AnswersAs, EachMovesFrom, MayAdd, Played, start_of};
+ghost use Rattle.schedules.specs.Sublists.{IsSublist};
 
 use crate::errors::Fault;
 use crate::results::results_of;
 use crate::schedule::Schedule;
-use coherent_machine::{ApplyError, Machine, NewError, Views};
+use coherent_machine::{ApplyError, Machine, NewError, ReplayError, Views};
 use elf_loader::Image;
 use machine_model::changes_are_counted;
 use machine_types::{Config, Event, Outcome};
@@ -60,6 +63,7 @@ impl Player {
     pub(crate) fn apply(&mut self, event: Event) -> Result<Option<Outcome>, Fault>
         ensures start { start_of self.new ≡ start_of self.old }
         ensures kept { MayAdd self.old.events event self.new.events }
+        ensures answers { AnswersAs (verdict self.old.machine event) self.old.machine result self.new.machine }
     {
         changes_are_counted();
         self.events.reserve(1)?;
@@ -75,6 +79,30 @@ impl Player {
             Err(ApplyError::Limit) => Err(Fault::Limit),
             Err(ApplyError::NoMemory) => Err(Fault::NoMemory),
         }
+    }
+
+    /// Applies these events in their order to a machine at reset. Where one is refused the answer has its index.
+    pub(crate) fn replay(&mut self, events: &[Event]) -> Result<(), ReplayError>
+        requires { self.old.events ≡ [] }
+        ensures start { start_of self.new ≡ start_of self.old }
+        ensures ok { OnOk result (replayed_from 0 self.old.machine events.now ≡ Replayed.Reached self.new.machine) }
+        ensures sublist { OnOk result (IsSublist self.new.events events.now) }
+        ensures refused { IfErr result (λ error. IsFirstRefusal self.old.machine events.now error) }
+        ensures config { result ≢ Err (replaying.New making.Config) }
+    {
+        let mut index = 0;
+        let mut rest = events;
+        while let [event, tail @ ..] = rest {
+            match self.apply(*event) {
+                Ok(Some(_)) => {}
+                Ok(None) => return Err(ReplayError::Event(index, ApplyError::BadEvent)),
+                Err(Fault::Limit) => return Err(ReplayError::Event(index, ApplyError::Limit)),
+                Err(Fault::NoMemory) => return Err(ReplayError::New(NewError::NoMemory)),
+            }
+            index += 1;
+            rest = tail;
+        }
+        Ok(())
     }
 
     /// The machine as it stands.
@@ -95,6 +123,7 @@ impl Player {
     pub(crate) fn into_schedule(self, alloc: Global) -> Result<Schedule, AllocError>
         ensures leads { IfOk result (λ schedule. after_events (start_of self) schedule.events.items ≡ schedule.machine) }
         ensures replays { IfOk result (λ schedule. replayed_from 0 (start_of self) schedule.events.items ≡ Replayed.Reached schedule.machine) }
+        ensures moves { IfOk result (λ schedule. EachMovesFrom (start_of self) schedule.events.items) }
         ensures results { IfOk result (λ schedule. told schedule.results.items ≡ results schedule.machine) }
         ensures events { IfOk result (λ schedule. schedule.events.items ≡ self.events) }
     {
@@ -111,6 +140,7 @@ impl Player {
     pub(crate) fn into_events(self) -> Vec<Event>
         ensures leads { after_events (start_of self) result.items ≡ self.machine }
         ensures replays { replayed_from 0 (start_of self) result.items ≡ Replayed.Reached self.machine }
+        ensures moves { EachMovesFrom (start_of self) result.items }
         ensures events { result.items ≡ self.events }
     {
         let Player { machine: _, events } = self;

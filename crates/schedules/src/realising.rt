@@ -4,7 +4,7 @@ ghost use Rattle.std.specs.Prelude.{◌≡◌, ◌↔◌, Err, IfErr, IfOk, fals
 ghost use Rattle.flat_model.specs.Shown.{results, told};
 ghost use Rattle.machine_types.specs.Config.{is_within_limits};
 ghost use Rattle.schedules.specs.Errors.{IsOneOf};
-ghost use Rattle.schedules.specs.Schedules.{Replays, led, start_of};
+ghost use Rattle.schedules.specs.Schedules.{EachMoves, Replays, led, start_of};
 
 use crate::errors::{Fault, RealiseError};
 use crate::player::Player;
@@ -32,6 +32,7 @@ pub fn realise(
 ) -> Result<Schedule, RealiseError>
     ensures real { IfOk result (λ schedule. schedule.machine ≡ led image config schedule.events.items) }
     ensures replays { IfOk result (λ schedule. Replays image config schedule.events.items) }
+    ensures moves { IfOk result (λ schedule. EachMoves image config schedule.events.items) }
     ensures results { IfOk result (λ schedule. told schedule.results.items ≡ results schedule.machine) }
     ensures config { (result ≡ Err RealiseError.Config) ↔ (is_within_limits config ≡ false) }
     ensures index { IfErr result (IsOneOf (length steps.now)) }

@@ -7,13 +7,13 @@ ghost use Rattle.coherent_machine.specs.declared.errors.ReplayError.TheVariants 
 ghost use Rattle.flat_model.specs.Shown.{results, told};
 ghost use Rattle.machine_types.specs.Config as limits;
 ghost use Rattle.machine_model.specs.Views.{opening};
-ghost use Rattle.schedules.specs.Schedules.{ComesTo, Replays, led, start_of};
+ghost use Rattle.schedules.specs.Schedules.{ComesTo, EachMoves, Replays, led, start_of};
 ghost use Rattle.schedules.specs.Sublists.{IsSublist};
 
 use crate::errors::Fault;
 use crate::player::Player;
 use crate::results::{are_results, results_of};
-use coherent_machine::{Machine, NewError, ReplayError, replay};
+use coherent_machine::{NewError, ReplayError, Views};
 use elf_loader::Image;
 use flat_model::HartResult;
 use machine_parts::is_within_limits;
@@ -21,9 +21,9 @@ use machine_types::{Config, Event};
 use std::alloc::Global;
 
 /// Some of the events, in their order, that leave the same results. Left out are first those that change
-/// nothing, and then pieces of halving length, each where the results stay. Each attempt plays what is
-/// left from reset; there is none that would pass `most_played` events played. It errs as
-/// `coherent_machine::replay` of the events does.
+/// nothing, and then pieces of halving length, each where the results stay. Each attempt at a piece plays
+/// what is left from reset; there is none that would pass `most_played` events played. It errs as
+/// `coherent_machine::replay` of the events does, but that want of memory has no index.
 pub fn shorten(
     alloc: Global,
     image: &Image,
@@ -33,6 +33,7 @@ pub fn shorten(
 ) -> Result<Vec<Event>, ReplayError>
     ensures same { IfOk result (λ short. results (led image.now config short.items) ≡ results (led image.now config events.now)) }
     ensures replays { IfOk result (λ short. Replays image.now config short.items) }
+    ensures moves { IfOk result (λ short. EachMoves image.now config short.items) }
     ensures sublist { IfOk result (λ short. IsSublist short.items events.now) }
     ensures config { (result ≡ Err (replaying.New making.Config)) ↔ (limits.is_within_limits config ≡ false) }
     ensures refused { IfErr result (λ error. IsFirstRefusal (opening image.now config) events.now error) }
@@ -40,15 +41,16 @@ pub fn shorten(
     if !is_within_limits(&config) {
         return Err(ReplayError::New(NewError::Config));
     }
-    let machine = replay(alloc, copy_of(alloc, image)?, config, events)?;
-    let goal = goal_of(alloc, &machine)?;
+    let mut player = Player::new(alloc, copy_of(alloc, image)?, config)?;
+    player.replay(events)?;
+    let goal = goal_of(alloc, &player.views())?;
     let script = Script {
         alloc,
         image,
         config,
         goal: &goal,
     };
-    Ok(script.shortened(events, most_played)?)
+    Ok(script.shortened(player.into_events(), most_played)?)
 }
 
 fn copy_of(alloc: Global, image: &Image) -> Result<Image, NewError>
@@ -58,11 +60,11 @@ fn copy_of(alloc: Global, image: &Image) -> Result<Image, NewError>
     Ok(image.try_copy(alloc)?)
 }
 
-fn goal_of(alloc: Global, machine: &Machine) -> Result<Vec<HartResult>, NewError>
-    ensures goal { IfOk result (λ goal. told goal.items ≡ results machine.now) }
+fn goal_of(alloc: Global, views: &Views<'_>) -> Result<Vec<HartResult>, NewError>
+    ensures goal { IfOk result (λ goal. told goal.items ≡ results views.now) }
     ensures config { result ≢ Err making.Config }
 {
-    Ok(results_of(alloc, &machine.views())?)
+    Ok(results_of(alloc, views)?)
 }
 
 /// What a shorter list is to lead to, and from where.
@@ -75,17 +77,16 @@ struct Script<'a> {
 }
 
 impl<'a> Script<'a> {
-    fn shortened(&self, events: &[Event], most_played: u64) -> Result<Vec<Event>, NewError>
+    // Leaves out what it can of the events.
+    fn shortened(&self, events: Vec<Event>, most_played: u64) -> Result<Vec<Event>, NewError>
         requires limits { IsTrue (limits.is_within_limits self.now.config) }
-        requires good { ComesTo self.now.image.now self.now.config self.now.goal.now events.now }
+        requires good { ComesTo self.now.image.now self.now.config self.now.goal.now events.items }
         ensures good { IfOk result (λ short. ComesTo self.now.image.now self.now.config self.now.goal.now short.items) }
-        ensures sublist { IfOk result (λ short. IsSublist short.items events.now) }
+        ensures sublist { IfOk result (λ short. IsSublist short.items events.items) }
         ensures config { result ≢ Err making.Config }
     {
-        let mut short = Vec::new(self.alloc);
-        short.extend_from_slice(events)?;
+        let mut short = events;
         let mut left = most_played;
-        self.try_without(&mut short, 0, 0, &mut left)?;
         let mut size = short.len() / 2;
         while size > 0 {
             self.leave_out(&mut short, size, &mut left)?;
