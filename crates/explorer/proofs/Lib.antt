@@ -1,3 +1,4 @@
+mod Images
 pub mod Once
 pub mod Telling
 pub mod Views

@@ -15,4 +15,4 @@ pub use found::{Found, Script};
 pub use laws::{each_end_is_seen, ends_are_real, stuck_is_seen};
 pub use ranks::compare;
 pub use scripts::Program;
-pub use stuck::{key_at, nodes_of};
+pub use stuck::{has_memory_of, key_at, nodes_of};

@@ -1,1 +1,2 @@
 mod Drained
+mod Patched
