@@ -1,11 +1,10 @@
 //! Writing what a hart's next step waits for.
-ghost use Rattle.std.specs.Prelude.{◌≡◌, ◌+◌, ◌<◌, ◌≤◌, ◌*◌, ◌++◌, length};
+ghost use Rattle.std.specs.Prelude.{◌≡◌, ◌+◌, ◌<◌, ◌*◌, ◌++◌, length};
 ghost use Rattle.std.specs.List.{flat_map};
-ghost use Rattle.client_cache.specs.Cache.{copy_at};
 ghost use Rattle.elf_loader.specs.Size.{base};
 ghost use Rattle.event_stream.specs.Closing as closing;
 ghost use Rattle.machine_model.specs.Ready.{shape_of};
-ghost use Rattle.machine_model.specs.Views.{line_of, line_size, node_at, size_of_config};
+ghost use Rattle.machine_model.specs.Views.{line_of, line_size};
 ghost use Rattle.client_cache.specs.Shape.{set_of};
 ghost use Rattle.text_fields.specs.Pages.{HasLineRoom, Spells};
 ghost use Rattle.tl_types.specs.Line.{length_of};
