@@ -4,7 +4,7 @@ ghost use Rattle.std.specs.Prelude.{◌≡◌, ◌≤◌, IfOk, IsTrue};
 ghost use Rattle.flat_model.specs.Shown.{results, told};
 ghost use Rattle.machine_types.specs.Config.{is_within_limits};
 ghost use Rattle.sampler.specs.Sampled.{IsSampled, IsTally};
-ghost use Rattle.schedules.specs.Schedules.{Replays, led};
+ghost use Rattle.schedules.specs.Schedules.{EachMoves, Replays, led};
 
 use crate::sampled::Sampled;
 use crate::tally::Tally;
@@ -75,6 +75,7 @@ impl Program<'_> {
     fn run(&self, seed: u64) -> Result<Schedule, NewError>
         ensures real { IfOk result (λ schedule. schedule.machine ≡ led self.now.image.now self.now.config schedule.events.items) }
         ensures replays { IfOk result (λ schedule. Replays self.now.image.now self.now.config schedule.events.items) }
+        ensures moves { IfOk result (λ schedule. EachMoves self.now.image.now self.now.config schedule.events.items) }
         ensures results { IfOk result (λ schedule. told schedule.results.items ≡ results schedule.machine) }
     {
         let image = self.image.try_copy(self.alloc)?;

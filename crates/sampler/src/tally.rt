@@ -4,7 +4,7 @@ ghost use Rattle.std.specs.Prelude.{◌≡◌, ◌+◌, ◌^◌, ◌<◌, [], If
 ghost use Rattle.explorer.specs.Ends.{outcome_of};
 ghost use Rattle.flat_model.specs.Shown.{results, told};
 ghost use Rattle.sampler.specs.Sampled.{IsRealEnd, IsSampled, IsTally, have_ended};
-ghost use Rattle.schedules.specs.Schedules.{Replays, led};
+ghost use Rattle.schedules.specs.Schedules.{EachMoves, Replays, led};
 
 use crate::sampled::Sampled;
 use crate::sampling::Program;
@@ -48,6 +48,7 @@ impl Tally {
         requires tally { IsTally program.now.image.now program.now.config self.old }
         requires real { schedule.machine ≡ led program.now.image.now program.now.config schedule.events.items }
         requires replays { Replays program.now.image.now program.now.config schedule.events.items }
+        requires moves { EachMoves program.now.image.now program.now.config schedule.events.items }
         requires results { told schedule.results.items ≡ results schedule.machine }
         ensures tally { IsTally program.now.image.now program.now.config self.new }
         ensures ok { OnOk result (self.new.runs ≡ self.old.runs + 1) }
