@@ -179,6 +179,25 @@ fn draw<R: Files + Threads + Wait + Sync + AllocGlobal>(rt: &R, case: &Case<'_>)
     Ok(())
 }
 
+/// The command line explains a case, with as many lines of each kind as the kept trace has.
+fn explain<R: Files + Threads + Wait + Sync + AllocGlobal>(rt: &R, case: &Case<'_>) -> Result<()> {
+    let name = case.name;
+    let said = ask(rt, "explain", case)?;
+    let told = from_utf8(&said.err)?;
+    ensure!(said.status == 0 && told.is_empty(), "{name}: {told}");
+    let stream = from_utf8(&said.out)?;
+    let bytes = kept(rt, case, "trace")?;
+    let trace = from_utf8(&bytes)?;
+    for kind in ["T ", "I ", "R ", "P ", "M ", "H "] {
+        let (lines, wanted) = (lines_with(stream, kind), lines_with(trace, kind));
+        ensure!(
+            lines == wanted,
+            "{name}: {lines} lines {kind}for {wanted} of the trace"
+        );
+    }
+    Ok(())
+}
+
 /// What of one case isn't as kept, where it was played by each.
 #[derive(Clone, Copy)]
 struct Differences {
@@ -277,8 +296,10 @@ pub fn play_all<R: Files + Threads + Wait + Sync + AllocGlobal, W: Write>(
         all_kept = all_kept && differences.is_as_kept();
         all_counts = all_counts.and(flat_counts(rt, &case)?);
         draw(rt, &case)?;
+        explain(rt, &case)?;
     }
     writeln!(out, "each is drawn, with an arrow for each of its messages")?;
+    writeln!(out, "each is explained, with the lines of its trace")?;
     writeln!(out, "flat: {all_counts}")?;
     for (name, variant) in WRONG {
         let wrong = refutation(rt, name, variant)?;
