@@ -1,5 +1,5 @@
-//! Plays the examples of the repository, and prints how each ends: the trace's last lines, and what the
-//! harts put out.
+//! Plays the examples of the repository, and prints how each ends: the trace's last lines, what the harts put
+//! out, and the status with which it is explained.
 
 use command_files::SystemFiles;
 use command_line::run_line;
@@ -58,7 +58,19 @@ fn play<R: Files + Threads + Wait + Sync + AllocGlobal, W: Write>(
     );
     writeln!(out, "{name}")?;
     out.write_all(last_lines(trace.as_slice()))?;
-    out.write_all(ends.as_slice())
+    out.write_all(ends.as_slice())?;
+    let words = ["rvtl", "explain", image.as_str(), script.as_str()];
+    let mut stream = Vec::new(alloc);
+    let status = run_line(
+        rt,
+        alloc,
+        &words,
+        &mut SystemFiles::new(rt),
+        &mut stream,
+        &mut ends,
+        &Silent,
+    );
+    writeln!(out, "explained: status {status}")
 }
 
 /// The last lines of a text.
