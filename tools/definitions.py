@@ -54,7 +54,7 @@ PROGRAM = [
     ("command_line", "Running", "IsNotLegal"),
     ("command_line", "Running", "IsUnprinted"),
     ("command_line", "Running", "Spares"),
-    ("command_line", "Telling", "IsFaulted"),
+    ("command_line", "Telling", "HasToldFault"),
     ("command_settings", "Refusals", "IsUnfit"),
     ("command_line", "Runs", "IsOfRun"),
 ]
