@@ -16,7 +16,7 @@ use std::sync::atomic::Ordering;
 use std::sync::ledger::Ledger;
 use std::sync::{Mutex, Wait};
 use std::thread;
-use std::thread::{Promise, PromisedHandle, Threads};
+use std::thread::{Promise, Threads};
 
 /// A worker for each hart, the last hart's first.
 pub(crate) fn workers<'a, L: Ledger, T: Turn + Drop>(
@@ -91,29 +91,24 @@ pub(crate) fn run_all<
             ensures back { IfOk result (λ done. All (HandsBack common.entry.now) done.items) }
             ensures config { result ≢ Err RunError.Config }
         {
-            let mut running: Vec<PromisedHandle<Done<L>, Shared>> = Vec::with_capacity(
-                common.alloc,
-                count,
-            )?;
+            let mut running = Vec::with_capacity(common.alloc, count)?;
             let mut done = Vec::with_capacity(common.alloc, count)?;
             let mut is_refused = false;
             for _worker in 0..count {
                 let Some(worker) = workers.pop() else {
                     unreachable!()
                 };
-                match scope.spawn_with(
+                let Ok(thread) = scope.spawn_with(
                     Shared(Snapshot::of(common)),
                     move || -> Done<L>
                         ensures { HandsBack (common_of worker.entry) result }
                     { worker.run(rt, gate) },
-                ) {
-                    Ok(thread) => running.push_reserved(thread),
-                    Err(_) => {
-                        common.stop.store(true, Ordering::SeqCst);
-                        is_refused = true;
-                        break;
-                    }
-                }
+                ) else {
+                    common.stop.store(true, Ordering::SeqCst);
+                    is_refused = true;
+                    break;
+                };
+                running.push_reserved(thread);
             }
             for thread in running {
                 done.push_reserved(thread.join(rt));
