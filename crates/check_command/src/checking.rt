@@ -45,8 +45,7 @@ pub fn check_file<'a, F: Files, O: Write>(
     if length < bytes.len() {
         return Err(Fault::BytesAfterTrace { file });
     }
-    // Judging needs room that the text takes.
-    drop(bytes);
+    drop(bytes); // judging needs the room
     let verdict = match judged(alloc, &trace, model) {
         Ok(verdict) => verdict,
         Err(error) => {
