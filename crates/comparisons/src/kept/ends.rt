@@ -10,7 +10,7 @@ use std::sync::Wait;
 use std::thread::Threads;
 
 /// What stands behind `rvtl explore`.
-const EXPLORED: [&str; 40] = [
+const EXPLORED: [&str; 86] = [
     "--harts 2 store_buffering.elf",
     "--harts 3 store_buffering.elf",
     "--harts 2 --model ztso store_buffering.elf",
@@ -51,11 +51,57 @@ const EXPLORED: [&str; 40] = [
     "--harts 3 barrier.elf",
     "--harts 2 barrier_unfenced.elf",
     "--harts 2 --model ztso barrier_unfenced.elf",
+    "--harts 2 store_buffering_volatile.elf",
+    "--harts 3 store_buffering_volatile.elf",
+    "--harts 2 --model ztso store_buffering_volatile.elf",
+    "--harts 2 store_buffering_relaxed.elf",
+    "--harts 3 store_buffering_relaxed.elf",
+    "--harts 2 --model ztso store_buffering_relaxed.elf",
+    "--harts 2 store_buffering_seq_cst.elf",
+    "--harts 3 store_buffering_seq_cst.elf",
+    "--harts 2 --model ztso store_buffering_seq_cst.elf",
+    "--harts 2 message_passing_volatile.elf",
+    "--harts 3 message_passing_volatile.elf",
+    "--harts 2 --model ztso message_passing_volatile.elf",
+    "--harts 2 message_passing_relaxed.elf",
+    "--harts 3 message_passing_relaxed.elf",
+    "--harts 2 --model ztso message_passing_relaxed.elf",
+    "--harts 2 message_passing_release.elf",
+    "--harts 3 message_passing_release.elf",
+    "--harts 2 --model ztso message_passing_release.elf",
+    "--harts 2 dekker_volatile.elf",
+    "--harts 2 --model ztso dekker_volatile.elf",
+    "--harts 2 dekker_seq_cst.elf",
+    "--harts 2 --model ztso dekker_seq_cst.elf",
+    "--harts 2 peterson_volatile.elf",
+    "--harts 2 --model ztso peterson_volatile.elf",
+    "--harts 2 peterson_seq_cst.elf",
+    "--harts 2 --model ztso peterson_seq_cst.elf",
+    "--harts 2 exchange_lock.elf",
+    "--harts 3 exchange_lock.elf",
+    "--harts 2 --model ztso exchange_lock.elf",
+    "--harts 2 compare_lock.elf",
+    "--harts 3 compare_lock.elf",
+    "--harts 2 --model ztso compare_lock.elf",
+    "--harts 2 queue_lock.elf",
+    "--harts 3 queue_lock.elf",
+    "--harts 2 --model ztso queue_lock.elf",
+    "--harts 2 sequence_lock.elf",
+    "--harts 3 sequence_lock.elf",
+    "--harts 2 --model ztso sequence_lock.elf",
+    "--harts 2 sequence_lock_unfenced.elf",
+    "--harts 3 sequence_lock_unfenced.elf",
+    "--harts 2 --model ztso sequence_lock_unfenced.elf",
+    "--harts 2 stack.elf",
+    "--harts 3 stack.elf",
+    "--harts 2 --model ztso stack.elf",
+    "--harts 2 stack_unreleased.elf",
+    "--harts 2 --model ztso stack_unreleased.elf",
 ];
 
 /// What stands behind `rvtl explore` where the architecture is asked: of what is told the last line is left
 /// out, since nobody else has counted the states.
-const ALLOWED: [&str; 18] = [
+const ALLOWED: [&str; 23] = [
     "--architecture --harts 2 store_buffering.elf",
     "--architecture --harts 2 message_passing_fenced.elf",
     "--architecture --harts 2 message_passing_unacquired.elf",
@@ -74,6 +120,11 @@ const ALLOWED: [&str; 18] = [
     "--architecture --harts 2 --window 5 seqlock_unacquired.elf",
     "--architecture --harts 2 barrier.elf",
     "--architecture --harts 2 barrier_unacquired.elf",
+    "--architecture --harts 2 store_buffering_relaxed.elf",
+    "--architecture --harts 2 --model ztso store_buffering_relaxed.elf",
+    "--architecture --harts 2 message_passing_relaxed.elf",
+    "--architecture --harts 2 message_passing_release.elf",
+    "--architecture --harts 2 compare_lock.elf",
 ];
 
 /// What a command printed, and its status.
