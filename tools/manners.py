@@ -7,9 +7,11 @@ RVTL is the built program. A line tells of each case whether it ended as it shou
 import os
 import pty
 import resource
+import signal
 import subprocess
 import sys
 import tempfile
+import time
 
 EXAMPLES = os.path.join(os.path.dirname(os.path.dirname(os.path.realpath(__file__))), "examples")
 IMAGE = os.path.join(EXAMPLES, "exit.bin")
@@ -47,6 +49,30 @@ def reader_goes_away(rvtl, folder):
     child.stdout.close()
     err = child.stderr.read()
     tell("a reader that goes away", child.wait() == 1 and err == b"", err)
+
+
+def interrupted(rvtl, folder):
+    """A run that is interrupted leaves no journal, and says nothing."""
+    journal = os.path.join(folder, "interrupted.script")
+    run = [rvtl, "run", "--raw", "--limit", "1000000000", "--journal", journal, os.path.join(folder, "spin.bin")]
+    child = subprocess.Popen(run, stdout=subprocess.PIPE, stderr=subprocess.PIPE)
+    time.sleep(1)
+    child.send_signal(signal.SIGINT)
+    out, err = child.communicate(timeout=60)
+    is_well = child.returncode == -signal.SIGINT and out == err == b"" and not os.path.exists(journal)
+    tell("a run that is interrupted", is_well, (child.returncode, err))
+
+
+def refused_programs(rvtl, folder):
+    """What isn't built for these harts, and what was cut short."""
+    elsewhere = os.path.realpath(sys.executable)
+    ends("a program for another processor", [rvtl, "explore", elsewhere], 1,
+         [f"rvtl: {elsewhere}: image fault 3 Class", "note: this is for another processor than RISC-V"])
+    cut = os.path.join(folder, "cut.elf")
+    with open(os.path.join(EXAMPLES, "dekker.elf"), "rb") as whole, open(cut, "wb") as file:
+        file.write(whole.read()[:150])
+    ends("a program cut short", [rvtl, "explore", cut], 1,
+         [f"rvtl: {cut}: image fault 8 SegmentOutside", "note: the file ends within a segment: it may be cut short"])
 
 
 def on_terminal(words):
@@ -104,6 +130,16 @@ def main():
         with open(SCRIPT, "rb") as file:
             ends("standard input twice", [rvtl, "replay", "-", "-"], 1,
                  ["rvtl: -: cannot read", "note: standard input is read once"], stdin=file)
+        ends("standard input that is closed", [*read_script, "-"], 1,
+             ["rvtl: -: cannot read", "note: Bad file descriptor (os error 9)"], preexec_fn=lambda: os.close(0))
+        ends("a journal on standard input", [rvtl, "run", "--raw", "--journal", "-", IMAGE], 1,
+             ["rvtl: -: cannot write", "note: standard input is not written"])
+        ends("a journal on a full device", [rvtl, "run", "--raw", "--journal", "/dev/full", IMAGE], 1,
+             ["rvtl: /dev/full: cannot write", "note: no space is left"])
+        ends("a name that steers a terminal", [*read_script, "\x1b[2J\n"], 1,
+             ["rvtl: \\u{1b}[2J\\n: cannot read", "note: there is no such file or folder"])
+        refused_programs(rvtl, folder)
+        interrupted(rvtl, folder)
         fifo = os.path.join(folder, "fifo")
         os.mkfifo(fifo)
         with open(SCRIPT, "rb") as file:

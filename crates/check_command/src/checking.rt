@@ -9,7 +9,7 @@ ghost use Rattle.check_command.specs.Checking.{IsCheckFault};
 ghost use Rattle.command_files.specs.Faults.{LeavesAtFault};
 
 use command_files::{Fault, Files, remark, text_in};
-use file_remarks::TraceRemark;
+use file_remarks::{BehindRemark, TraceRemark};
 use machine_model::MemoryModel;
 use order_remarks::{OrderRemark, RunRemark};
 use rvwmo_order::{CheckError, Verdict, check_model, completed, has_too_many};
@@ -43,6 +43,8 @@ pub fn check_file<'a, F: Files, O: Write>(
         }
     };
     if length < bytes.len() {
+        let bytes = bytes.as_slice();
+        remark(alloc, files, BehindRemark { bytes, length });
         return Err(Fault::BytesAfterTrace { file });
     }
     drop(bytes); // judging needs the room

@@ -6,7 +6,8 @@ ghost use Rattle.log_text.specs.Verdicts.{verdict_text};
 ghost use Rattle.check_command.specs.Messages.{IsLogCutOff, IsLogFault, IsLogJudged};
 ghost use Rattle.command_files.specs.Faults.{LeavesAtFault};
 
-use command_files::{Fault, Files, text_in};
+use command_files::{Fault, Files, remark, text_in};
+use file_remarks::{BehindRemark, TraceRemark};
 use lawful_log::{LogVerdict, check_log};
 use log_text::{Objection, end_text, line_of_message, put_verdict};
 use std::alloc::Global;
@@ -36,9 +37,15 @@ pub fn check_messages<'a, F: Files, O: Write, E: Write>(
     };
     let (trace, length) = match read_trace(alloc, bytes.as_slice()) {
         Ok(read) => read,
-        Err(error) => return Err(Fault::text(file, error)),
+        Err(error) => {
+            let bytes = bytes.as_slice();
+            remark(alloc, files, TraceRemark { bytes, error });
+            return Err(Fault::text(file, error));
+        }
     };
     if length < bytes.len() {
+        let bytes = bytes.as_slice();
+        remark(alloc, files, BehindRemark { bytes, length });
         return Err(Fault::BytesAfterTrace { file });
     }
     let Ok(verdict) = check_log(alloc, trace.log()) else {

@@ -20,6 +20,8 @@ to 64, WAYS (lines a set) 1 to 4, LINE 16 or 64. Then comes an event a line:
   evict HART ADDRESS     the cache gives a line up
   deliver CHANNEL HART   the oldest message on channel A, B, C, D or E arrives
   local HART COUNT       so many instructions at once, 1 to 256, that touch no memory
+ADDRESS is 0x and 8 lower-case digits, of a word to drain or a line to evict. One blank stands between
+words, and a line feed alone ends each line.
 
 Each hart has a store buffer of 8 entries, and a cache of which at most 4 Acquires (its MSHRs) and 4
 Releases are outstanding; AMOs are carried out in the cache. A hart begins with its number in a0
@@ -118,7 +120,7 @@ not among the outcomes. With --architecture it is: behind each outcome stands wh
 it, or the memory model alone allows it, and the last line is
   searched: N outcomes, M states, no window over W (not proved complete)
 or incomplete: and the limit that was met. With --sample, random runs are made and counted instead, and
-the last line is sampled: RUNS runs, not complete.
+the last line is sampled: RUNS runs, not complete. With both, --architecture alone counts.
 
 Example: rvtl explore --harts 2 examples/dekker.elf";
 
@@ -126,7 +128,7 @@ pub(crate) const SHOW_HELP: &str =
     "show the word of memory at this address (decimal, or hexadecimal behind 0x) or symbol in each outcome, which then ends only once no store waits; may be given again";
 
 pub(crate) const SCRIPTS_HELP: &str =
-    "the folder to write outcome-1.script .. and stuck.script into, each for replay; and outcome-1.trace .., each for check, of outcomes that this machine can't show";
+    "the folder, which has to exist, to write outcome-1.script .. and stuck.script into, each for replay; and outcome-1.trace .., each for check, of outcomes that this machine can't show. Other files there stay, also those of an earlier search";
 
 pub(crate) const ALLOW_HELP: &str =
     "the file with the allowed outcomes, a line each as printed, without its number; where another is found its number is told and the status is 3";
@@ -151,6 +153,14 @@ the first has to be performed before the second:
 14 is the load value axiom (both are the load), 15 the atomicity axiom (an LR and its SC).
 
 With --messages the trace may end behind its M lines, and need not come from rvtl. It prints lawful, or
-with status 3 unlawful, a rule and the number of the message, from 0, that breaks it.
+with status 3 unlawful, a rule and the number of the message, from 0, that breaks it. A message is
+M s CHANNEL HART .. where it is sent, M t CHANNEL HART .. where it is taken, with behind it
+  on A  AcquireBlock LINE NtoB, NtoT or BtoT
+  on B  ProbeBlock LINE toT, toB or toN
+  on C  ProbeAck LINE, Release LINE and TtoB, TtoN, BtoN, TtoT, BtoB or NtoN; or
+        ProbeAckData LINE, ReleaseData LINE and the same, then DATA
+  on D  Grant LINE and toT, toB or toN; GrantData LINE and the same, then DATA; or ReleaseAck LINE
+  on E  GrantAck LINE
+LINE is a line's address, 0x and 8 lower-case digits; DATA has 2 for each byte of the line, the lowest first.
 
 Example: rvtl check examples/legal.trace";

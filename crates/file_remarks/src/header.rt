@@ -49,7 +49,6 @@ impl Display for HeaderRemark<'_> {
             return wanted(self.0, f);
         }
         let (version, numbers) = split_once(rest, b' ');
-        let numbers = numbers.unwrap_or_default();
         if version == b"1".as_slice() {
             const FIRST: [Field; 4] = [Field::Harts, Field::Kib, Field::Sets, Field::Ways];
             fields(
@@ -88,12 +87,12 @@ fn wanted<W: fmt::Write>(line: &[u8], f: &mut Formatter<W>) -> fmt::Result {
 
 // The first of these fields that is wrong, what follows them, or else what is wrong with all of them.
 fn fields<W: fmt::Write>(
-    numbers: &[u8],
+    numbers: Option<&[u8]>,
     expected: &[Field],
     otherwise: &str,
     f: &mut Formatter<W>,
 ) -> fmt::Result {
-    let mut rest = Some(numbers);
+    let mut rest = numbers;
     for field in expected {
         let Some(later) = rest else {
             return write!(f, "{}, and is missing", field.range());

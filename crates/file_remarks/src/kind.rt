@@ -8,6 +8,7 @@ pub(crate) enum Kind {
     Elf,
     Script,
     Trace,
+    Stream,
     Empty,
 }
 
@@ -22,6 +23,8 @@ impl Kind {
             Some(Kind::Script)
         } else if bytes.starts_with(b"rvtl-trace ") {
             Some(Kind::Trace)
+        } else if bytes.starts_with(b"rvtl-stream ") {
+            Some(Kind::Stream)
         } else {
             None
         }
@@ -34,6 +37,7 @@ impl Display for Kind {
             Kind::Elf => "an ELF file",
             Kind::Script => "a script",
             Kind::Trace => "a trace",
+            Kind::Stream => "a stream, as `rvtl explain` prints it",
             Kind::Empty => "an empty file",
         })
     }

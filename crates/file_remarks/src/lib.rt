@@ -2,6 +2,7 @@
 //! looks like. Each remark is a line of text without its line feed.
 #![tactic(auto)]
 
+mod elf;
 mod event;
 mod file;
 mod header;
@@ -16,4 +17,4 @@ pub use event::EventRemark;
 pub use file::FileRemark;
 pub use image::ImageRemark;
 pub use script::ScriptRemark;
-pub use trace::TraceRemark;
+pub use trace::{BehindRemark, TraceRemark};

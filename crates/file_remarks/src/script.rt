@@ -2,7 +2,7 @@
 
 use crate::header::HeaderRemark;
 use crate::kind::Kind;
-use crate::lines::{first_word, line_of};
+use crate::lines::{blemish_of, first_word, line_of};
 use crate::quoted::Quoted;
 use std::fmt::{self, Display, Formatter};
 use trace_text::{TextCode, TextError};
@@ -16,16 +16,19 @@ pub struct ScriptRemark<'a> {
 
 impl Display for ScriptRemark<'_> {
     fn fmt<W: fmt::Write>(&self, f: &mut Formatter<W>) -> fmt::Result {
+        let line = line_of(self.bytes, self.error.line);
         match Kind::of(self.bytes) {
-            None | Some(Kind::Script) => {}
+            None => return write!(f, "{}", HeaderRemark(line)),
+            Some(Kind::Script) => {}
             Some(kind) => return write!(f, "this is {kind}, and a script is wanted"),
         }
-        let line = line_of(self.bytes, self.error.line);
-        if line.ends_with(b"\r") {
-            return f.write_str("a carriage return stands at the end of the line");
+        if self.error.code == TextCode::End {
+            return f.write_str("the line has no line feed: the file ends within it");
+        }
+        if let Some(blemish) = blemish_of(line) {
+            return f.write_str(blemish);
         }
         match self.error.code {
-            TextCode::End => f.write_str("the line has no line feed: the file ends within it"),
             TextCode::Header => write!(f, "{}", HeaderRemark(line)),
             TextCode::Fields => write!(f, "{} is wanted, not {}", form_of(line), Quoted(line)),
             _ => write!(
@@ -43,9 +46,9 @@ fn form_of(line: &[u8]) -> &'static str {
     if word == b"step".as_slice() {
         "`step HART`"
     } else if word == b"drain".as_slice() {
-        "`drain HART ADDRESS`, with an address such as 0x80000100,"
+        "`drain HART ADDRESS`, with an address of 8 lower-case digits such as 0x80000abc,"
     } else if word == b"evict".as_slice() {
-        "`evict HART ADDRESS`, with an address such as 0x80000100,"
+        "`evict HART ADDRESS`, with an address of 8 lower-case digits such as 0x80000ab0,"
     } else if word == b"deliver".as_slice() {
         "`deliver CHANNEL HART`, with a channel from A to E,"
     } else {

@@ -2,7 +2,7 @@
 
 use crate::same::same;
 use elf_loader::{LoadError, load, raw};
-use file_remarks::{EventRemark, FileRemark, ImageRemark, ScriptRemark, TraceRemark};
+use file_remarks::{BehindRemark, EventRemark, FileRemark, ImageRemark, ScriptRemark, TraceRemark};
 use machine_types::Event;
 use std::alloc::Global;
 use std::fmt::Display;
@@ -12,7 +12,7 @@ use std::test::Fail;
 use trace_text::{Events, Script, read_script, read_trace};
 
 /// Scripts that are refused, and what is remarked of each.
-const SCRIPTS: [(&str, &str); 16] = [
+const SCRIPTS: [(&str, &str); 23] = [
     ("", "this is an empty file, and a script is wanted"),
     (
         "rvtl-trace 1\nT 1 4 0x80000000\n",
@@ -57,7 +57,32 @@ const SCRIPTS: [(&str, &str); 16] = [
     ),
     (
         "rvtl-script 1 1 4 4 2\nstep 0\r\n",
-        "a carriage return stands at the end of the line",
+        "a carriage return stands at the end of the line: line feeds alone end lines (tr -d '\\r')",
+    ),
+    (
+        "rvtl-stream 1\nT 1 4 0x80000000\n",
+        "this is a stream, as `rvtl explain` prints it, and a script is wanted",
+    ),
+    ("rvtl-script 1\n", "HARTS is 1 to 8, and is missing"),
+    (
+        "rvtl-script 1 1 4 4 2 \n",
+        "a blank too many stands in the line: words have one between them",
+    ),
+    (
+        "rvtl-script 1 1 4 4 2\nstep  0\n",
+        "a blank too many stands in the line: words have one between them",
+    ),
+    (
+        "rvtl-script 1 1 4 4 2\nstep\t0\n",
+        "a tab stands in the line: words have one blank between them",
+    ),
+    (
+        "rvtl-script 1 1 4 4 2\nstep 0\n\nstep 0\n",
+        "the line is empty",
+    ),
+    (
+        "rvtl-script 1 1 4 4 2\ndrain 0 0x8000000A\n",
+        "`drain HART ADDRESS`, with an address of 8 lower-case digits such as 0x80000abc, is wanted, not `drain 0 0x8000000A`",
     ),
 ];
 
@@ -75,18 +100,18 @@ fn scripts(rt: HostRuntime) -> Result<(), Fail> {
 }
 
 /// Traces that are refused, and what is remarked of each.
-const TRACES: [(&str, &str); 6] = [
+const TRACES: [(&str, &str); 12] = [
     (
         "rvtl-script 1 1 4 4 2\n",
         "this is a script, and a trace is wanted",
     ),
     (
         "rvtl-trace 1\nT 1 4\n",
-        "a trace begins with `rvtl-trace 1` and `T HARTS KIB ENTRY`; `T 1 4` stands here",
+        "`T HARTS KIB ENTRY` is wanted, with HARTS 1 to 4, KIB a multiple of 4 from 4 to 1024, ENTRY a word in memory such as 0x80000000, not `T 1 4`",
     ),
     (
         "rvtl-trace 1\nT 1 4 0x80000000\nH 0 run",
-        "the text ends within this line, or before it",
+        "the trace is cut short within this line or before it: each hart's H line ends it",
     ),
     (
         "rvtl-trace 1\nT 1 4 0x80000000\nQ 0123456789\n",
@@ -99,6 +124,30 @@ const TRACES: [(&str, &str); 6] = [
     (
         "rvtl-trace 1\nT 1 4 0x80000000\nT 1 4 0x80000000\n",
         "`T 1 4 0x80000000` may not stand here: I, R by hart, P, M and H lines follow each other",
+    ),
+    (
+        "rvtl-trace 3\nT 1 4 0x80000000\n",
+        "a trace begins with `rvtl-trace 1` or `rvtl-trace 2`, not with `rvtl-trace 3`",
+    ),
+    (
+        "T 1 4 0x80000000\n",
+        "a trace begins with `rvtl-trace 1` or `rvtl-trace 2`, not with `T 1 4 0x80000000`",
+    ),
+    (
+        "rvtl-trace 2\nT 9 4 0x80000000 64\n",
+        "`T HARTS KIB ENTRY LINE` is wanted, with HARTS 1 to 8, KIB a multiple of 4 from 4 to 1024, ENTRY a word in memory such as 0x80000000, LINE 16 (of 5 harts or more) or 64, not `T 9 4 0x80000000 64`",
+    ),
+    (
+        "rvtl-trace 1\nT 1 4 0x80000000\nM s A 0 AcquirePerm 0x80000000 NtoT\n",
+        "`M s|t A HART AcquireBlock LINE NtoB|NtoT|BtoT` is wanted, not `M s A 0 AcquirePerm 0x80000000 NtoT`",
+    ),
+    (
+        "rvtl-trace 1\nT 1 4 0x80000000\nM s F 0 GrantAck 0x80000000\n",
+        "`M s|t CHANNEL HART MESSAGE LINE ..`, with a channel from A to E, is wanted, not `M s F 0 GrantAck 0x80000000`",
+    ),
+    (
+        "rvtl-trace 1\nT 1 4 0x80000000\nH 0 run \n",
+        "a blank too many stands in the line: words have one between them",
     ),
 ];
 
@@ -115,7 +164,22 @@ fn traces(rt: HostRuntime) -> Result<(), Fail> {
     Ok(())
 }
 
-/// The head of an ELF file for RISC-V in 32 bits, little-endian, with floating-point code.
+#[test]
+fn what_stands_behind_a_trace(rt: HostRuntime) -> Result<(), Fail> {
+    let bytes = b"rvtl-trace 1\nT 1 4 0x80000000\nH 0 run\nH 0 run\n".as_slice();
+    let Ok((_, length)) = read_trace(rt.alloc(), bytes) else {
+        panic!(rt; "a trace is refused")
+    };
+    let told = format!(in rt.alloc(); "{}", BehindRemark { bytes, length })?;
+    same(
+        &rt,
+        told.as_str(),
+        "line 4, `H 0 run`, stands behind the last hart's H line, which ends a trace",
+    );
+    Ok(())
+}
+
+/// The head of an ELF file for RISC-V in 32 bits, little-endian, with compressed and floating-point code.
 const FLOATING: [u8; 52] = [
     0x7f, b'E', b'L', b'F', 1, 1, 1, 0, 0, 0, 0, 0, 0, 0, 0, 0, 2, 0, 243, 0, 1, 0, 0, 0, 0, 0, 0,
     0x80, 52, 0, 0, 0, 0, 0, 0, 0, 5, 0, 0, 0, 52, 0, 32, 0, 0, 0, 0, 0, 0, 0, 0, 0,
@@ -134,35 +198,127 @@ const IMAGES: [(&[u8], bool, &str); 5] = [
         true,
         "bare words are 4 bytes each, and the file ends within one",
     ),
-    (&[0; 4100], true, "the words are more than memory holds"),
+    (
+        &[0; 4100],
+        true,
+        "the words are more than memory holds: name more KIB, at most 1024",
+    ),
     (
         &FLOATING,
         false,
-        "compressed and floating-point code are not supported: build it with -march=rv32ima -mabi=ilp32",
+        "compressed code is not supported: build it with -march=rv32ima -mabi=ilp32",
     ),
 ];
 
 #[test]
 fn images(rt: HostRuntime) -> Result<(), Fail> {
     for (bytes, is_raw, remark) in IMAGES {
-        let loaded = if is_raw {
-            raw(rt.alloc(), bytes, 4096)
-        } else {
-            load(rt.alloc(), bytes, 4096)
-        };
-        let Err(error) = loaded else {
-            panic!(rt; "a program is loaded")
-        };
-        let told = format!(in rt.alloc();
-            "{}",
-            ImageRemark {
-                bytes,
-                is_raw,
-                error
-            }
-        )?;
-        same(&rt, told.as_str(), remark);
+        is_refused(&rt, bytes, is_raw, remark)?;
     }
+    Ok(())
+}
+
+/// The bytes are no program for 4 KiB of memory, and so much is remarked of them.
+fn is_refused(
+    rt: &(impl Abort + AllocGlobal),
+    bytes: &[u8],
+    is_raw: bool,
+    remark: &str,
+) -> Result<(), Fail> {
+    let loaded = if is_raw {
+        raw(rt.alloc(), bytes, 4096)
+    } else {
+        load(rt.alloc(), bytes, 4096)
+    };
+    let Err(error) = loaded else {
+        panic!(rt; "a program is loaded")
+    };
+    let told = format!(in rt.alloc();
+        "{}",
+        ImageRemark {
+            bytes,
+            is_raw,
+            error
+        }
+    )?;
+    same(rt, told.as_str(), remark);
+    Ok(())
+}
+
+/// An ELF file of one segment: four bytes of the file, behind its headers, at 0x80000000.
+const LINKED: [u8; 88] = [
+    0x7f, b'E', b'L', b'F', 1, 1, 1, 0, 0, 0, 0, 0, 0, 0, 0, 0, 2, 0, 243, 0, 1, 0, 0, 0, 0, 0, 0,
+    0x80, 52, 0, 0, 0, 0, 0, 0, 0, 0, 0, 0, 0, 52, 0, 32, 0, 1, 0, 0, 0, 0, 0, 0, 0, 1, 0, 0, 0,
+    84, 0, 0, 0, 0, 0, 0, 0x80, 0, 0, 0, 0x80, 4, 0, 0, 0, 4, 0, 0, 0, 5, 0, 0, 0, 4, 0, 0, 0,
+    0x13, 0, 0, 0,
+];
+
+/// Bytes of that file, each by its place and as it is set, and what is remarked of the file then.
+const CHANGES: [(usize, u8, &str); 14] = [
+    (16, 1, "this is an object file, which isn't linked"),
+    (
+        16,
+        3,
+        "this is position-independent, or a shared library: link it with -no-pie",
+    ),
+    (16, 4, "this is no executable file"),
+    (18, 62, "this is for another processor than RISC-V"),
+    (
+        4,
+        2,
+        "a 32-bit little-endian file is wanted: build it with -march=rv32ima -mabi=ilp32",
+    ),
+    (
+        36,
+        1,
+        "compressed code is not supported: build it with -march=rv32ima -mabi=ilp32",
+    ),
+    (
+        36,
+        4,
+        "floating-point code is not supported: build it with -march=rv32ima -mabi=ilp32",
+    ),
+    (
+        36,
+        16,
+        "code for Ztso alone is not supported, only --model ztso: build it with -march=rv32ima -mabi=ilp32",
+    ),
+    (44, 17, "it has more than 16 program headers"),
+    (
+        44,
+        2,
+        "its program headers lie outside the file, which may be cut short",
+    ),
+    (
+        56,
+        85,
+        "the file ends within a segment: it may be cut short",
+    ),
+    (
+        63,
+        0,
+        "a segment begins at 0x00000000, before memory, which begins at 0x80000000: link it with -n -Ttext=0x80000000",
+    ),
+    (
+        61,
+        0x10,
+        "a segment ends at 0x80001004, behind memory: name more KIB, at most 1024, or link it with -n -Ttext=0x80000000",
+    ),
+    (
+        24,
+        2,
+        "the entry, 0x80000002, is no multiple of 4, or lies outside memory",
+    ),
+];
+
+#[test]
+fn linked_files(rt: HostRuntime) -> Result<(), Fail> {
+    for (at, byte, remark) in CHANGES {
+        let mut bytes = LINKED;
+        bytes[at] = byte;
+        is_refused(&rt, &bytes, false, remark)?;
+    }
+    assert!(rt; load(rt.alloc(), &LINKED, 4096).is_ok());
     Ok(())
 }
 
