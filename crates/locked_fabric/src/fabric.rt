@@ -156,9 +156,8 @@ impl<L: Ledger> Fabric<L> {
     }
 
     /// Adopts a batch as `Machine::adopt` does, for the hart that the batch begins with, and journals it as
-    /// the event `Local` of that hart and of as many instructions, which counts once in the share. Nothing
-    /// is executed again. Where the journal can't grow the answer is `NoMemory`, whatever the machine would
-    /// answer.
+    /// the event `Local` of that hart and of as many instructions, which counts once in the share. Where the
+    /// journal can't grow the answer is `NoMemory`, whatever the machine would answer.
     pub fn commit(&mut self, batch: &Batch, share: &mut Share<L>) -> Result<Outcome, AdoptError>
         ensures stale { result ≢ Err AdoptError.NoMemory →
             (result ≡ Err AdoptError.Stale) ↔ (IsCurrent batch.now.first.id batch.now self.old.machine → ⊥) }
