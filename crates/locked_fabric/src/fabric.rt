@@ -110,6 +110,7 @@ impl<L: Ledger> Fabric<L> {
         ensures headline { KeepsHeadline self.new.machine }
         ensures log { IsLawfulLog self.new.machine.trace.log }
         ensures stays { KeepsImageAndConfig self.old.machine self.new.machine }
+        ensures found { IsKept self.old }
     {
         changes_are_counted();
         self.journal.reserve(1)?;
@@ -177,6 +178,7 @@ impl<L: Ledger> Fabric<L> {
         ensures headline { KeepsHeadline self.new.machine }
         ensures log { IsLawfulLog self.new.machine.trace.log }
         ensures stays { KeepsImageAndConfig self.old.machine self.new.machine }
+        ensures found { IsKept self.old }
     {
         changes_are_counted();
         if self.journal.reserve(1).is_err() {
