@@ -8,13 +8,11 @@ ghost use Rattle.chart_command.specs.Charting.{IsAddress, IsChartFault, IsCharte
 
 use crate::address::address_in;
 use chart_drawing::STYLE;
-use coherent_machine::{ApplyError, ReplayError};
-use command_files::{Fault, Files, config_of, image_in, remark_event, script_in};
+use command_files::{Fault, Files, config_of, image_in, remark_refused, script_in};
 use command_settings::Replay;
 use run_chart::{ChartError, write_chart};
 use std::alloc::Global;
 use std::io::Write;
-use trace_text::Script;
 
 /// The address of the line that is asked for, if one is.
 fn address_of<'a>(line: Option<&'a str>) -> Result<Option<u32>, Fault<'a>>
@@ -44,7 +42,7 @@ fn fault_of<'a>(script: &'a str, error: ChartError) -> Fault<'a>
 
 /// Reads and judges the address, the script, then the image, applies the events, and prints on `out` the
 /// picture of what happened, an SVG document. `line` is an address in the line of memory whose messages, bars
-/// and rows alone are drawn. A picture has at most 400 rows. Where there is a fault, nothing is printed, but
+/// and rows alone are drawn. A picture has at most 400 rows and bars. Where there is a fault, nothing is printed, but
 /// after `cannot write` a beginning of the picture.
 pub fn chart_files<'a, F: Files, O: Write>(
     alloc: Global,
@@ -68,20 +66,12 @@ pub fn chart_files<'a, F: Files, O: Write>(
     let events = script.events.as_slice();
     let drawn = write_chart(alloc, image, config, events, address, STYLE, out);
     if let Err(error) = drawn {
-        remark_refused(alloc, files, &script, &error);
-        return Err(fault_of(wanted.script, error));
+        let fault = fault_of(wanted.script, error);
+        remark_refused(alloc, files, &script, &fault);
+        return Err(fault);
     }
     match out.flush() {
         Ok(()) => Ok(()),
         Err(error) => Err(Fault::writing(error)),
-    }
-}
-
-/// Remarks what is wrong with an event that no machine of the script has, where the run ended at one.
-fn remark_refused<F: Files>(alloc: Global, files: &mut F, script: &Script, error: &ChartError)
-    ensures { F.held files.new ≡ F.held files.old }
-{
-    if let ChartError::Replay(ReplayError::Event(index, ApplyError::BadEvent)) = error {
-        remark_event(alloc, files, script, *index);
     }
 }

@@ -74,7 +74,7 @@ pub enum Fault<'a> {
         file: &'a str,
         error: CheckError,
     },
-    /// A picture would have more than 400 rows, or more than 65,535 lines of text.
+    /// A picture would have more than 400 rows or bars, or more than 65,535 lines of text.
     #[error("rvtl: {}: too many rows to draw (400 at most): choose fewer by --line, or by a shorter script", .file.escape_debug())]
     TooManyRows {
         file: &'a str,

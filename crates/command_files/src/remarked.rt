@@ -3,8 +3,11 @@
 ghost use Rattle.std.specs.Prelude.{◌≡◌, ◌≢◌, ℕ, IfOk, List, OnOk};
 ghost use Rattle.command_files.specs.Held.{IsUnread, HoldsBytes};
 
+use crate::fault::Fault;
 use crate::files::Files;
-use file_remarks::EventRemark;
+use coherent_machine::ApplyError;
+use command_settings::MachineOptions;
+use file_remarks::{EventRemark, SizeRemark};
 use std::alloc::Global;
 use std::fmt::Display;
 use std::io;
@@ -53,14 +56,55 @@ impl<F: Files + Drop> Files for Remarked<F> {
     }
 }
 
-/// Remarks what is wrong with the event of this index of a script, which no machine of the script has.
-pub fn remark_event<F: Files>(alloc: Global, files: &mut F, script: &Script, index: usize)
+/// Remarks what is wrong with the event of a script that was refused, where no machine of the script has it.
+pub fn remark_refused<F: Files>(alloc: Global, files: &mut F, script: &Script, fault: &Fault<'_>)
     ensures { F.held files.new ≡ F.held files.old }
 {
+    let Fault::Event {
+        line,
+        error: ApplyError::BadEvent,
+        ..
+    } = fault
+    else {
+        return;
+    };
+    // The first event stands on line 2.
+    let index = line.saturating_sub(2);
     if let Some(event) = script.events.as_slice().get(index) {
         let event = *event;
         remark(alloc, files, EventRemark { event, script });
     }
+}
+
+/// No machine is of this size, and which number of it is out of limits is remarked.
+pub fn out_of_limits<'a, F: Files>(
+    alloc: Global,
+    files: &mut F,
+    machine: MachineOptions,
+) -> Fault<'a>
+    ensures told { result ≡ Fault.Configuration }
+    ensures stays { F.held files.new ≡ F.held files.old }
+{
+    let MachineOptions {
+        harts,
+        memory,
+        sets,
+        ways,
+        line,
+        model: _,
+    } = machine;
+    remark(
+        alloc,
+        files,
+        SizeRemark {
+            harts,
+            memory,
+            sets,
+            ways,
+            line,
+        },
+    );
+    Fault::Configuration
 }
 
 /// Hands a remark on, where there is memory for its text.

@@ -8,14 +8,13 @@ ghost use Rattle.machine_types.specs.Config.{is_within_limits};
 ghost use Rattle.text_fields.specs.Writing.{Writes};
 
 use crate::named::{NamedImage, named_image_in};
-use coherent_machine::{ApplyError, Machine};
-use command_files::{Fault, Files, config_of, remark_event, script_in};
+use coherent_machine::Machine;
+use command_files::{Fault, Files, config_of, remark_refused, script_in};
 use command_settings::Replay;
 use event_stream::{StreamError, Strictness, write_state, write_stream};
 use machine_types::{Config, Event};
 use std::alloc::Global;
 use std::io::{self, Write};
-use trace_text::Script;
 
 /// What a machine holds, where it is to be told.
 fn tell_state<O: Write>(machine: &Machine, with_state: bool, out: &mut O) -> io::Result<()>
@@ -80,17 +79,9 @@ pub fn explain_files<'a, F: Files, O: Write>(
     match told {
         Ok(()) => Ok(()),
         Err(error) => {
-            remark_refused(alloc, files, &script, &error);
-            Err(Fault::explaining(wanted.script, error))
+            let fault = Fault::explaining(wanted.script, error);
+            remark_refused(alloc, files, &script, &fault);
+            Err(fault)
         }
-    }
-}
-
-/// Remarks what is wrong with an event that no machine of the script has, where the stream ended at one.
-fn remark_refused<F: Files>(alloc: Global, files: &mut F, script: &Script, error: &StreamError)
-    ensures { F.held files.new ≡ F.held files.old }
-{
-    if let StreamError::Refused(index, ApplyError::BadEvent) = error {
-        remark_event(alloc, files, script, *index);
     }
 }

@@ -6,7 +6,7 @@ use Rattle.command_files.specs.Held.{Held}
 use Rattle.command_files.specs.declared.fault.Fault.{Fault}
 use Rattle.command_files.specs.declared.fault.Fault.TheVariants.{BadAddress, BadEvent, BytesAfterTrace, CannotMake, CannotRead, CannotShow, CannotWrite, Check, Configuration, Event, Image, Mismatch, NoThread, NothingHappens, OutOfMemory, Text, TooManyRows}
 use Rattle.command_settings.specs.declared.wanted.Explore.{Explore}
-use Rattle.explore_command.specs.Exploring.{IsExploreFault, IsFirstFault, IsFolderFault, IsNamedBy, IsReadingFault, LeavesPart}
+use Rattle.explore_command.specs.Exploring.{ComesBeforeScripts, IsExploreFault, IsFirstFault, IsFolderFault, IsNamedBy, IsReadingFault, LeavesPart}
 use Rattle.text_fields.specs.Writing.{Begins}
 
 -- ---- files that are read
@@ -115,6 +115,17 @@ folder_left explore fault old new Has so begun whole = elim (folder_fault explor
   | inl at ↦ subst (λ f. LeavesPart f old new Has) (sym at.2) whole
   | inr at ↦ subst (λ f. LeavesPart f old new Has) (sym at) (inr begun)
 ]
+
+-- ---- what is told before scripts are written
+
+pub folder_late : (scripts : Option Name) (fault : Fault) → IsNamedBy scripts IsFolderFault fault → ComesBeforeScripts fault → ⊥
+folder_late scripts fault so early = elim (folder_fault scripts fault so) [
+  | inl at ↦ subst ComesBeforeScripts at.2 early
+  | inr at ↦ subst ComesBeforeScripts at early
+]
+
+pub memory_late : (fault : Fault) → fault ≡ OutOfMemory → ComesBeforeScripts fault → ⊥
+memory_late fault is early = subst ComesBeforeScripts is early
 
 -- whatever the fault, nothing was printed or a part
 pub some_part : (old new : Option (List ℕ)) (Has : (List ℕ → Type 0) → Type 0) (fault : Fault) → (Has (Appends old new) → Has (Begins old new)) → LeavesPart fault old new Has → (new ≡ old) ⊎ Has (Begins old new)

@@ -112,3 +112,9 @@ LeavesPart CannotWrite old new Has = Has (Begins old new)
 LeavesPart (CannotMake file) old new Has = Has (Appends old new)
 LeavesPart OutOfMemory old new Has = (new ≡ old) ⊎ Has (Begins old new)
 LeavesPart _ old new Has = new ≡ old
+
+-- it is told before scripts are written
+abbrev pub ComesBeforeScripts : Fault → Type 0
+ComesBeforeScripts (CannotMake file) = ⊥
+ComesBeforeScripts OutOfMemory = ⊥
+ComesBeforeScripts _ = Unit {0}

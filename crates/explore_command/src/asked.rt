@@ -8,7 +8,7 @@ ghost use Rattle.elf_loader.specs.Size.{IsMemoryKib};
 ghost use Rattle.explore_command.specs.Exploring.{IsAllowFile, IsFirstFault, IsNamedBy};
 ghost use Rattle.machine_types.specs.Config.{is_within_limits};
 
-use command_files::{Fault, Files, contents, image_in, named_config};
+use command_files::{Fault, Files, contents, image_in, named_config, out_of_limits};
 use command_settings::Explore;
 use elf_loader::Image;
 use machine_types::Config;
@@ -40,7 +40,7 @@ impl Asked {
         ensures stays { F.held files.new ≡ F.held files.old }
     {
         let Some(config) = named_config(wanted.machine) else {
-            return Err(Fault::Configuration);
+            return Err(out_of_limits(alloc, files, wanted.machine));
         };
         let allowed = allow_file(alloc, files, wanted.allow)?;
         let image = image_in(

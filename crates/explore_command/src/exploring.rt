@@ -2,7 +2,7 @@
 
 ghost use Rattle.std.specs.Prelude.{◌≡◌, ◌<◌, Err, IfErr, IfOk};
 ghost use Rattle.command_files.specs.Sizes.{IsOutside};
-ghost use Rattle.explore_command.specs.Exploring.{ExplorationHas, IsExploreFault, IsExplorationTold, LeavesPart};
+ghost use Rattle.explore_command.specs.Exploring.{ComesBeforeScripts, ExplorationHas, IsExploreFault, IsExplorationTold, LeavesPart};
 ghost use Rattle.explore_command.specs.Keeping.{IsScriptFile, SparesOthers};
 
 use crate::asked::Asked;
@@ -47,6 +47,7 @@ pub fn explore_files<'a, F: Files, O: Write, E: Write, P: Progress>(
     ensures unfinished { IfErr result (λ fault. LeavesPart fault (O.contents out.old) (O.contents out.new)
         (ExplorationHas (F.held files.old) wanted.entry)) }
     ensures spared { SparesOthers (IsScriptFile wanted.entry.scripts) (F.held files.old) (F.held files.new) }
+    ensures untouched { IfErr result (λ fault. ComesBeforeScripts fault → F.held files.new ≡ F.held files.old) }
 {
     let asked = Asked::read(alloc, files, wanted)?;
     let watch = Telling { progress };

@@ -12,7 +12,7 @@ ghost use Rattle.explore_command.specs.Keeping.{AreKept, AreKeptFrom, IsInNamed,
 ghost use Rattle.machine_types.specs.Config.{is_within_limits};
 ghost use Rattle.trace_text.specs.Scripts.{text};
 
-use command_files::{Fault, Files, script_of};
+use command_files::{Fault, Files, script_of, unmade};
 use command_settings::{Explore, MachineOptions};
 use explorer::{Exploration, Found, Script as Way};
 use machine_types::Event;
@@ -177,7 +177,7 @@ impl<'a> Folder<'a> {
         }
         match files.write(path, bytes.as_slice()) {
             Ok(()) => Ok(()),
-            Err(error) => Err(Fault::making(self.name, error)),
+            Err(error) => Err(unmade(self.alloc, files, self.name, error)),
         }
     }
 }

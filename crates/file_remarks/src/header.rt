@@ -1,40 +1,9 @@
 //! What is wrong with a script's first line.
 
+use crate::field::Field;
 use crate::lines::split_once;
 use crate::quoted::Quoted;
 use std::fmt::{self, Display, Formatter};
-
-/// A number of the first line.
-#[derive(Clone, Copy, Debug)]
-enum Field {
-    Harts,
-    Kib,
-    Sets,
-    Ways,
-    Line,
-}
-
-impl Field {
-    fn takes(self, number: u32) -> bool {
-        match self {
-            Field::Harts => (1..=8).contains(&number),
-            Field::Kib => (4..=1024).contains(&number) && number % 4 == 0,
-            Field::Sets => number <= 64 && number.is_power_of_two(),
-            Field::Ways => (1..=4).contains(&number),
-            Field::Line => number == 16 || number == 64,
-        }
-    }
-
-    fn range(self) -> &'static str {
-        match self {
-            Field::Harts => "HARTS is 1 to 8",
-            Field::Kib => "KIB is a multiple of 4 from 4 to 1024",
-            Field::Sets => "SETS is a power of two to 64",
-            Field::Ways => "WAYS is 1 to 4",
-            Field::Line => "LINE is 16 or 64",
-        }
-    }
-}
 
 /// What is wrong with the first line of a script that isn't one.
 #[derive(Clone, Copy, Debug)]
@@ -95,12 +64,20 @@ fn fields<W: fmt::Write>(
     let mut rest = numbers;
     for field in expected {
         let Some(later) = rest else {
-            return write!(f, "{}, and is missing", field.range());
+            return write!(f, "{} is {}, and is missing", field.name(), field.limits());
         };
         let (word, behind) = split_once(later, b' ');
         match number_of(word) {
             Some(number) if field.takes(number) => rest = behind,
-            _ => return write!(f, "{}, not {}", field.range(), Quoted(word)),
+            _ => {
+                return write!(
+                    f,
+                    "{} is {}, not {}",
+                    field.name(),
+                    field.limits(),
+                    Quoted(word)
+                );
+            }
         }
     }
     match rest {

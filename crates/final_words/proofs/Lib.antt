@@ -1,2 +1,3 @@
 mod Drained
 mod Patched
+mod Performed

@@ -1,14 +1,16 @@
--- What stands at a place of bytes with patches over them.
-use Rattle.std.proofs.Common.{◌≡◌, ◌<◌, ◌≤◌, ℕ, List, [], ◌∷◌, arith, length, subst, sym}
-use Rattle.std.specs.Prelude.{slice_index, slice_index_or, slice_set}
-use Rattle.std.proofs.lemmas.List.{get_or-set_same}
+-- Patches over bytes, the last one laid first.
+use Rattle.std.proofs.Common.{◌≡◌, ◌∙◌, ◌+◌, ◌-◌, ◌<◌, ◌≤◌, ℕ, List, [], ◌∷◌, ◌++◌, refl, sym, ap, arith, get_or, length, take}
+use Rattle.std.specs.Prelude.{slice_set}
+use Rattle.std.proofs.lemmas.List.{take_more}
 use Rattle.flat_machine.specs.declared.memory.Patch.{Patch}
 use Rattle.flat_machine.specs.Memory.{patched}
-use Rattle.flat_machine.specs.OnePatching.{length_patched}
 
--- the first patch says it, where it is of this place
-pub first_says : (bytes : List ℕ) (ps : List Patch) (d : Patch) (place : ℕ) → place < length bytes → 1 ≤ length ps → (slice_index_or ps 0 d).place ≡ place → (slice_index_or ps 0 d).byte ≡ slice_index (patched bytes ps) place
-first_says bytes [] d place within some here = absurd (omega (arith, some))
-first_says bytes (p ∷ ps) d place within some here =
-    let long = length_patched bytes ps in
-    sym (subst (λ k. slice_index (slice_set (patched bytes ps) k p.byte) place ≡ p.byte) (sym here) (get_or-set_same (patched bytes ps) place p.byte 0 (omega (arith, long, within))))
+patched_last : (bytes : List ℕ) (front : List Patch) (last : Patch) → patched bytes (front ++ last ∷ []) ≡ patched (slice_set bytes last.place last.byte) front
+patched_last bytes [] last = refl
+patched_last bytes (p ∷ ps) last = ap (λ (b : List ℕ). slice_set b p.place p.byte) (patched_last bytes ps last)
+
+pub patched_back : (over new : List ℕ) (ps : List Patch) (i : ℕ) (d : Patch) → 0 < i → i ≤ length ps → new ≡ slice_set over (get_or ps (i - 1) d).place (get_or ps (i - 1) d).byte → patched new (take (i - 1) ps) ≡ patched over (take i ps)
+patched_back over new ps i d some inside is =
+    let e : i - 1 + 1 ≡ i = omega (arith, some) in
+    ap (λ (b : List ℕ). patched b (take (i - 1) ps)) is
+    ∙ (sym (patched_last over (take (i - 1) ps) (get_or ps (i - 1) d)) ∙ ap (patched over) (sym (take_more ps (i - 1) d (omega (arith, some, inside))) ∙ ap (λ (n : ℕ). take n ps) e))

@@ -41,15 +41,17 @@ share_of port = port.share
 abbrev pub Left : (Held → Type 0) → Type 0
 Left P = (held : Held) × IsKept held × P held
 
--- this fabric was left by one that answered so to the event, and the book grew as the share did
+-- this fabric was left by one, which kept the same, that answered so to the event, and the book grew as the share did
 pub record Applied (event : Event) (result : Result Outcome ApplyError) (before after : ℕ) (new : Held) : Type 0 where
   pub old : Held
+  pub kept : IsKept old
   pub answered : Answered old event result new
   pub counted : after + old.book ≡ before + new.book
 
--- this fabric was left by one that took the row so, and the book grew as the share did: Stale where the row isn't current, else Empty, else Limit, else the event that the row is
+-- this fabric was left by one, which kept the same, that took the row so, and the book grew as the share did: Stale where the row isn't current, else Empty, else Limit, else the event that the row is
 pub record Committed (row : Row) (result : Result Outcome AdoptError) (before after : ℕ) (new : Held) : Type 0 where
   pub old : Held
+  pub kept : IsKept old
   pub stale : result ≢ Err NoMemory → (result ≡ Err Stale) ↔ (IsCurrent row.first.id row old.machine → ⊥)
   pub empty : result ≢ Err NoMemory → (result ≡ Err Empty) ↔ (IsCurrent row.first.id row old.machine × (row.entries ≡ []))
   pub limit : result ≢ Err NoMemory →

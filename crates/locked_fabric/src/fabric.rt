@@ -110,6 +110,7 @@ impl<L: Ledger> Fabric<L> {
         ensures headline { KeepsHeadline self.new.machine }
         ensures log { IsLawfulLog self.new.machine.trace.log }
         ensures stays { KeepsImageAndConfig self.old.machine self.new.machine }
+        ensures found { IsKept self.old }
     {
         changes_are_counted();
         self.journal.reserve(1)?;
@@ -156,9 +157,8 @@ impl<L: Ledger> Fabric<L> {
     }
 
     /// Adopts a batch as `Machine::adopt` does, for the hart that the batch begins with, and journals it as
-    /// the event `Local` of that hart and of as many instructions, which counts once in the share. Nothing
-    /// is executed again. Where the journal can't grow the answer is `NoMemory`, whatever the machine would
-    /// answer.
+    /// the event `Local` of that hart and of as many instructions, which counts once in the share. Where the
+    /// journal can't grow the answer is `NoMemory`, whatever the machine would answer.
     pub fn commit(&mut self, batch: &Batch, share: &mut Share<L>) -> Result<Outcome, AdoptError>
         ensures stale { result ≢ Err AdoptError.NoMemory →
             (result ≡ Err AdoptError.Stale) ↔ (IsCurrent batch.now.first.id batch.now self.old.machine → ⊥) }
@@ -178,6 +178,7 @@ impl<L: Ledger> Fabric<L> {
         ensures headline { KeepsHeadline self.new.machine }
         ensures log { IsLawfulLog self.new.machine.trace.log }
         ensures stays { KeepsImageAndConfig self.old.machine self.new.machine }
+        ensures found { IsKept self.old }
     {
         changes_are_counted();
         if self.journal.reserve(1).is_err() {

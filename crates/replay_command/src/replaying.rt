@@ -9,8 +9,7 @@ ghost use Rattle.command_files.specs.Faults.{IsImageFault, IsReadFault, IsScript
 ghost use Rattle.command_files.specs.Faults.{IsReplayFault};
 
 use crate::composing::{CompositionError, replay_and_write};
-use coherent_machine::{ApplyError, ReplayError};
-use command_files::{Fault, Files, image_in, print_ends, remark_event, script_in};
+use command_files::{Fault, Files, image_in, print_ends, remark_refused, script_in};
 use command_settings::Replay;
 use std::alloc::Global;
 use std::io::Write;
@@ -35,10 +34,9 @@ pub fn replay_files<'a, F: Files, O: Write, E: Write>(
     let machine = match replay_and_write(alloc, image, &script, wanted.model, out) {
         Ok(machine) => machine,
         Err(CompositionError::Replay(error)) => {
-            if let ReplayError::Event(index, ApplyError::BadEvent) = error {
-                remark_event(alloc, files, &script, index);
-            }
-            return Err(Fault::replay(wanted.script, error));
+            let fault = Fault::replay(wanted.script, error);
+            remark_refused(alloc, files, &script, &fault);
+            return Err(fault);
         }
         Err(CompositionError::Writing(error)) => return Err(Fault::writing(error)),
     };

@@ -1,5 +1,5 @@
 -- When a picture would be too large.
-use Rattle.std.proofs.Common.{ℕ, ◌≡◌, ◌∙◌, ◌⊎◌, ◌+◌, ◌-◌, ◌<◌, ◌≤◌, Err, IfErr, Ok, Result, refl, sym, ap, subst, List, [], ◌∷◌, ◌++◌, length, Option, inl, inr, arith, get_or, take, drop, true, false, Bool}
+use Rattle.std.proofs.Common.{ℕ, ◌≡◌, ◌∙◌, ◌⊎◌, ◌+◌, ◌-◌, ◌<◌, ◌≤◌, Err, IfErr, Ok, Result, refl, sym, ap, subst, List, [], ◌∷◌, ◌++◌, length, Option, inl, inr, arith, get_or, take, drop, true, false, not, Bool, ◌&&◌, if◌then◌else◌}
 use Rattle.std.proofs.lemmas.List.{length-append}
 use Rattle.std.specs.Prelude.{IsErrAnd, map, max}
 use Rattle.chart_rows.specs.declared.rows.Note.{Note}
@@ -12,13 +12,14 @@ use Rattle.machine_types.specs.declared.outcome.Outcome.{Outcome}
 use Rattle.machine_model.specs.Events.{Verdict, happens, verdict}
 use Rattle.machine_model.specs.Events.Verdict.{IsBad, Keeps, IsLimited, Moves}
 use Rattle.machine_model.specs.Views.{State, opening}
-use Rattle.run_chart.specs.Copies.{lines_of}
+use Rattle.run_chart.specs.Copies.{has, is_about, lines_from, lines_of, with_line}
 use Rattle.run_chart.specs.Lines.{noted}
 use Rattle.run_chart.specs.Rows.{Told, line_behind, row_between, rows_at, rows_by, rows_of, shown}
 use Rattle.run_chart.specs.Errors.{untold}
 use Rattle.run_chart.specs.Stories.{AreTooMany, IsOverfull, IsUntold, only_of, width_of}
 use Rattle.run_chart.specs.declared.errors.RowError.{RowError}
 use Rattle.run_chart.specs.declared.errors.RowError.TheVariants as row
+use Rattle.trace_recorder.specs.declared.logged.Logged.{Logged}
 use Rattle.run_chart.proofs.Telling.{rest_is}
 
 pub line_behind_all : (line : ℕ) (xs ys : List Told) → line_behind line (xs ++ ys) ≡ line_behind (line_behind line xs) ys
@@ -130,3 +131,32 @@ overfull image config events address reached w only columns leads ew eo ec full 
           )
           );
     }
+
+-- ---- bars
+
+with_below : (only : Option ℕ) (lines : List ℕ) (entry : Logged) → length lines ≤ length (with_line only lines entry)
+with_below only lines entry = go (is_about only entry && not (has lines entry.message.line))
+  where
+    go : (b : Bool) → length lines ≤ length (if b then lines ++ entry.message.line ∷ [] else lines)
+    go true = omega (arith, length-append lines (entry.message.line ∷ []))
+    go false = omega (arith)
+
+-- each message leaves as many lines in play at least
+lines_below : (only : Option ℕ) (lines : List ℕ) (log : List Logged) → length lines ≤ length (lines_from only lines log)
+lines_below only lines [] = omega (arith)
+lines_below only lines (entry ∷ log) = omega (arith, with_below only lines entry, lines_below only (with_line only lines entry) log)
+
+-- lines that are too many with the next message's are too many with those of all messages
+pub lines_full : (only : Option ℕ) (lines : List ℕ) (rest log : List Logged) (d : Logged) → 1 ≤ length rest → lines_from only lines rest ≡ lines_from only [] log
+    → 400 < length (with_line only lines (get_or rest 0 d)) → 400 < length (lines_from only [] log)
+lines_full only lines [] log d some h full = absurd (omega (arith, some))
+lines_full only lines (entry ∷ rest) log d some h full = omega (arith, full, lines_below only (with_line only lines entry) rest, ap (λ (xs : List ℕ). length xs) h)
+
+-- the bars of a run that are too many
+pub overfull_bars : (image : Initial) (config : Config) (events : List Event) (address : Option ℕ) (reached : State) (w : ℕ) (only : Option ℕ) → replayed_from 0 (opening image config) events ≡ Replayed.Reached reached
+    → w ≡ width_of reached → only ≡ only_of w address → 400 < length (lines_of only reached.trace.log) → IsOverfull image config events address
+overfull_bars image config events address reached w only leads ew eo full = record {
+  reached = reached;
+  leads = leads;
+  large = inr (subst (λ (o : Option ℕ). 400 < length (lines_of o reached.trace.log)) (eo ∙ ap (λ (k : ℕ). only_of k address) ew) full);
+}

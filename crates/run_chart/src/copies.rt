@@ -1,8 +1,11 @@
 //! What caches hold.
-ghost use Rattle.std.specs.Prelude.{◌≡◌, ◌<◌, IfOk, OnOk, map};
+ghost use Rattle.std.specs.Prelude.{◌≡◌, ◌<◌, ◌≤◌, IfErr, IfOk, OnOk, length, map};
 ghost use Rattle.client_cache.specs.Cache.{copy_at};
 ghost use Rattle.run_chart.specs.Copies as copies;
+ghost use Rattle.run_chart.specs.declared.errors.RowError.TheVariants as error;
 
+use crate::errors::RowError;
+use crate::row::MOST_ROWS;
 use chart_drawing::Hold;
 use chart_rows::Copied;
 use client_cache::{ClientCache, Held};
@@ -81,24 +84,35 @@ fn has(lines: &[u32], line: u32) -> bool
     false
 }
 
-/// A message's line joins the lines in play, if it isn't among them.
-fn meet(lines: &mut Vec<u32>, only: Option<u32>, entry: &Logged) -> Result<(), AllocError>
-    ensures { OnOk result (lines.new.items ≡ copies.with_line only lines.old.items entry.now) }
+/// A message's line joins the lines in play, if it isn't among them: no more than a picture has bars.
+fn meet(lines: &mut Vec<u32>, only: Option<u32>, entry: &Logged) -> Result<(), RowError>
+    requires { length lines.old.items ≤ 400 }
+    ensures lines { OnOk result (lines.new.items ≡ copies.with_line only lines.old.items entry.now) }
+    ensures few { OnOk result (length lines.new.items ≤ 400) }
+    ensures full { IfErr result (λ why. why ≡ error.TooManyRows → 400 < length (copies.with_line only lines.old.items entry.now)) }
 {
     let line = entry.message.line;
     if is_about(only, entry) && !has(lines.as_slice(), line) {
-        lines.push(line)?;
+        if lines.len() >= MOST_ROWS {
+            return Err(RowError::TooManyRows);
+        }
+        if lines.push(line).is_err() {
+            return Err(RowError::NoMemory);
+        }
     }
     Ok(())
 }
 
-/// The lines of memory that messages are about, each once, in the order in which they are met.
+/// The lines of memory that messages are about, each once, in the order in which they are met, if they aren't more
+/// than a picture has bars.
 pub(crate) fn lines_of(
     alloc: Global,
     only: Option<u32>,
     log: &[Logged],
-) -> Result<Vec<u32>, AllocError>
-    ensures { IfOk result (λ lines. lines.items ≡ copies.lines_of only log.now) }
+) -> Result<Vec<u32>, RowError>
+    ensures lines { IfOk result (λ lines. lines.items ≡ copies.lines_of only log.now) }
+    ensures few { IfOk result (λ lines. length lines.items ≤ 400) }
+    ensures full { IfErr result (λ why. why ≡ error.TooManyRows → 400 < length (copies.lines_of only log.now)) }
 {
     let mut lines = Vec::new(alloc);
     let mut rest = log;

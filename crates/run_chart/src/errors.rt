@@ -9,7 +9,7 @@ use std::io::Error;
 pub enum ChartError {
     /// No machine was made, or an event was refused: nothing was written.
     Replay(ReplayError),
-    /// The picture would have more than 400 rows, or more than 65,535 lines of text: nothing was written.
+    /// The picture would have more than 400 rows or bars, or more than 65,535 lines of text: nothing was written.
     TooManyRows,
     /// Memory was refused: nothing was written.
     NoMemory,

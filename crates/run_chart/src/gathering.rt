@@ -158,9 +158,6 @@ pub fn gather(
         columns: columns.as_slice(),
     };
     let rows = rows_of(alloc, &scope, image, config, events)?;
-    if columns.len() > MOST_ROWS {
-        return Err(ChartError::TooManyRows);
-    }
     Ok(Story {
         harts,
         columns,

@@ -18,7 +18,7 @@ use event_stream::{Report, hart_of};
 use std::alloc::Global;
 use trace_recorder::Logged;
 
-/// A picture has no more rows.
+/// A picture has no more rows, and no more bars of a cache.
 pub const MOST_ROWS: usize = 400;
 
 /// A picture has no more lines of text.

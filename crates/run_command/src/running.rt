@@ -13,7 +13,9 @@ ghost use Rattle.trace_text.specs.Scripts.{text};
 ghost use Rattle.trace_text.specs.TraceLimits.{IsTrace};
 ghost use Rattle.trace_text.specs.Traces.{text as trace_text};
 
-use command_files::{Fault, Files, image_in, named_config, print_ends, script_of, unmade};
+use command_files::{
+    Fault, Files, image_in, named_config, out_of_limits, print_ends, script_of, unmade,
+};
 use command_settings::Run;
 use host_threads::{Gate, Report, RunError, run};
 use machine_traces::every_trace_has_a_text;
@@ -86,7 +88,7 @@ pub fn run_files<'a, R: Threads + Wait + Sync, F: Files, O: Write, E: Write, P: 
 {
     every_trace_has_a_text();
     let Some(config) = named_config(wanted.machine) else {
-        return Err(Fault::Configuration);
+        return Err(out_of_limits(alloc, files, wanted.machine));
     };
     let image = image_in(
         alloc,

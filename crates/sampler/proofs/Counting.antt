@@ -1,7 +1,7 @@
 -- One more run is counted.
 use Rattle.std.proofs.Common.{◌≡◌, ◌∙◌, ℕ, ◌+◌, ◌≤◌, Bool, true, false, cond, List, [], ◌∷◌, Option, Some, refl, sym, ap, arith, length, count_by, unwrap_or, is_eq, is_err, Result as Answer, Ok, Err, OnOk, ◌++◌, true≢false}
 use Rattle.std.specs.Cmp.{Equal-is}
-use Rattle.std.specs.Map.{keys_of, lookup}
+use Rattle.std.specs.Map.{keys_of, lookup, values_of}
 use Rattle.std.proofs.lemmas.List.Sums.{count_by-le-length, sum_by-cons}
 use Rattle.elf_loader.specs.Image.{Initial}
 use Rattle.explorer.specs.declared.found.Found.{Found}
@@ -123,3 +123,9 @@ pub ends_of : (fs : List Found) (ns : List ℕ) → length ns ≡ length fs → 
 ends_of [] ns e = refl
 ends_of (f ∷ fs) [] e = absurd (omega (arith, e))
 ends_of (f ∷ fs) (n ∷ ns) e = ap (λ es. f ∷ es) (ends_of fs ns (omega (arith, e)))
+
+pub numbers_of : (fs : List Found) (ns : List ℕ) → length ns ≡ length fs → values_of (numbered fs ns) ≡ ns
+numbers_of [] [] e = refl
+numbers_of [] (n ∷ ns) e = absurd (omega (arith, e))
+numbers_of (f ∷ fs) [] e = absurd (omega (arith, e))
+numbers_of (f ∷ fs) (n ∷ ns) e = ap (λ es. n ∷ es) (numbers_of fs ns (omega (arith, e)))

@@ -1,8 +1,8 @@
 -- What random runs come to, and how often.
-use Rattle.std.specs.Prelude.{◌≡◌, ℕ, ◌+◌, ◌&&◌, Bool, true, not, List, [], ◌∷◌, All, count_by, filter, length, map, unwrap_or}
+use Rattle.std.specs.Prelude.{◌≡◌, ℕ, ◌+◌, ◌<◌, ◌&&◌, Bool, true, not, List, [], ◌∷◌, All, count_by, filter, length, map, unwrap_or}
 use Rattle.std.specs.List.{AllByRecursion}
 use Rattle.std.specs.List.Sorted.{IsStrictlySortedBy}
-use Rattle.std.specs.Map.{keys_of, lookup}
+use Rattle.std.specs.Map.{keys_of, lookup, values_of}
 use Rattle.std.specs.Ordering.{is_eq, on}
 use Rattle.elf_loader.specs.Image.{Initial}
 use Rattle.explorer.specs.declared.found.Found.{Found}
@@ -66,10 +66,12 @@ pub record AreCounted (image : Initial) (config : Config) (counted : List (Found
 pub record IsTally (image : Initial) (config : Config) (t : Tally) : Type 0 where
   pub counted : AreCounted image config t.ends.entries t.unended t.runs
   pub reached : All (IsRealEnd image config) (keys_of t.ends.entries)
+  pub some : All (λ (n : ℕ). 0 < n) (values_of t.ends.entries)
 
--- each end is one, and its script leads there; so many runs came to each, and so many to none; the ends stand in their order, each once
+-- each end is one, and its script leads there; so many runs came to each, one at least, and so many to none; the ends stand in their order, each once
 pub record IsSampled (image : Initial) (config : Config) (s : Sampled) : Type 0 where
   pub reached : All (IsRealEnd image config) s.ends.items
   pub counted : AreCounted image config (numbered s.ends.items s.times.items) s.unended s.runs
   pub as_many : length s.times.items ≡ length s.ends.items
+  pub some : All (λ (n : ℕ). 0 < n) s.times.items
   pub order : IsStrictlySortedBy (on outcome_of outcome_cmp) s.ends.items

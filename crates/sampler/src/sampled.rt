@@ -6,7 +6,7 @@ use explorer::Found;
 #[derive(Drop)]
 pub struct Sampled {
     /// The ends, each once, by hart: status first, then the numbers that it put out. A script is that of
-    /// the first run that came there.
+    /// the first run that came there, or a shorter one, where that was asked for.
     pub ends: Vec<Found>,
     /// How many runs came to each end, in the same order.
     pub times: Vec<u64>,

@@ -2,7 +2,9 @@
 
 use crate::same::same;
 use elf_loader::{LoadError, load, raw};
-use file_remarks::{BehindRemark, EventRemark, FileRemark, ImageRemark, ScriptRemark, TraceRemark};
+use file_remarks::{
+    BehindRemark, EventRemark, FileRemark, ImageRemark, ScriptRemark, SizeRemark, TraceRemark,
+};
 use machine_types::Event;
 use std::alloc::Global;
 use std::fmt::Display;
@@ -376,5 +378,36 @@ fn files(rt: HostRuntime) -> Result<(), Fail> {
     let error = io::Error::from(ErrorKind::NotFound);
     let told = format!(in rt.alloc(); "{}", FileRemark(error))?;
     same(&rt, told.as_str(), "there is no such file or folder");
+    Ok(())
+}
+
+/// Sizes that no machine has, and what is remarked of each; the last one is a machine's.
+const SIZES: [([u32; 5], &str); 6] = [
+    ([9, 64, 4, 2, 16], "--harts is 1 to 8, not 9"),
+    (
+        [1, 6, 4, 2, 16],
+        "--memory is a multiple of 4 from 4 to 1024, not 6",
+    ),
+    ([1, 64, 3, 5, 16], "--sets is a power of two to 64, not 3"),
+    ([1, 64, 4, 5, 16], "--ways is 1 to 4, not 5"),
+    ([1, 64, 4, 2, 32], "--line is 16 or 64, not 32"),
+    ([8, 1024, 64, 4, 64], ""),
+];
+
+#[test]
+fn sizes(rt: HostRuntime) -> Result<(), Fail> {
+    for ([harts, memory, sets, ways, line], remark) in SIZES {
+        let told = format!(in rt.alloc();
+            "{}",
+            SizeRemark {
+                harts,
+                memory,
+                sets,
+                ways,
+                line,
+            }
+        )?;
+        same(&rt, told.as_str(), remark);
+    }
     Ok(())
 }

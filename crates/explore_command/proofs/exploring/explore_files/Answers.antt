@@ -1,7 +1,7 @@
 use Rattle.std.proofs.Common.{◌≡◌, ◌∙◌, inl, inr, refl, subst, true}
 use Rattle.command_files.proofs.Left.{handed_up}
 use Rattle.explore_command.proofs.Explored.{all_of, err_more, has, judged, memory_left, memory_told, ok_both, ok_more, spared, spared_after, whole}
-use Rattle.explore_command.proofs.Faults.{first_left, first_told, folder_left, folder_told, output_left, output_told}
+use Rattle.explore_command.proofs.Faults.{first_left, first_told, folder_late, folder_left, folder_told, memory_late, output_left, output_told}
 use Rattle.explore_command.proofs.Judged.{judged_on}
 use Rattle.explore_command.proofs.Kept.{script_file, spares_wider}
 use Rattle.explorer.specs.Ends.{outcome_of}
@@ -75,3 +75,17 @@ returns-clause-unfinished g c =
 
 pub returns-clause-spared : goal.returns-clause-spared
 returns-clause-spared g c = spared_after _ _ _ _ c.in_ok-asked.ensures.stays (spares_wider _ _ _ _ (script_file _ _ c.args.wanted.scripts) c.keep.ensures.spared)
+
+-- files are as before where the fault comes before the scripts
+pub returns-in_err-asked-clause-untouched : goal.returns-in_err-asked-clause-untouched
+returns-in_err-asked-clause-untouched g c = handed_up _ c.from_residual.result _ c.from_residual.ensures.1 (λ early. c.read.ensures.stays)
+
+pub returns-in_err-print-clause-untouched : goal.returns-in_err-print-clause-untouched
+returns-in_err-print-clause-untouched g c = handed_up _ c.from_residual-in_err-print.result _ c.from_residual-in_err-print.ensures.1 (λ early. c.in_ok-asked.ensures.stays)
+
+pub returns-in_err-keep-clause-untouched : goal.returns-in_err-keep-clause-untouched
+returns-in_err-keep-clause-untouched g c =
+    handed_up _ c.from_residual-in_err-keep.result _ c.from_residual-in_err-keep.ensures.1 (λ early. absurd (folder_late c.args.wanted.scripts _ c.in_err-keep.ensures.told early))
+
+pub returns-clause-untouched : goal.returns-clause-untouched
+returns-clause-untouched g c = err_more _ _ c.judge.result (λ fault is early. absurd (memory_late fault is early)) c.judge.ensures.told

@@ -1,3 +1,6 @@
+use Rattle.std.proofs.Common.{ap}
+use Rattle.std.proofs.lemmas.Result.{on_ok_weaker}
+use Rattle.locked_fabric.specs.Held.{Held}
 use Rattle.locked_fabric.proofs.port.Port.commit.Goals as goal
 
 pub returns-clause-answers : goal.returns-clause-answers
@@ -7,6 +10,7 @@ returns-clause-answers g c =
       record { replay = after.replay; moves = after.moves; book = after.book; changes = after.changes; headline = after.headline; log = after.log },
       record {
         old = c.deref_mut.result.now;
+        kept = after.found;
         stale = after.stale;
         empty = after.empty;
         limit = after.limit;
@@ -16,3 +20,12 @@ returns-clause-answers g c =
         counted = after.share;
       },
     )
+
+pub returns-clause-journalled : goal.returns-clause-journalled
+returns-clause-journalled g c =
+    let after = c.commit-committed.ensures in
+    on_ok_weaker c.commit-committed.result (λ is. (
+      c.commit-committed.new.self,
+      record { replay = after.replay; moves = after.moves; book = after.book; changes = after.changes; headline = after.headline; log = after.log },
+      (c.deref_mut.result.now.journal, ap (λ (held : Held). held.journal) is),
+    )) after.ok

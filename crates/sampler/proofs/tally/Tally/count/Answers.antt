@@ -13,4 +13,5 @@ returns-then-not-have_ended-clause-tally c =
     record {
       counted = one_unended image config c.args.schedule.events.items c.requires.replays _ _ _ c.requires.tally.counted is;
       reached = c.requires.tally.reached;
+      some = c.requires.tally.some;
     }

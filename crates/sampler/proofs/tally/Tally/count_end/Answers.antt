@@ -1,7 +1,7 @@
-use Rattle.std.proofs.Common.{◌≡◌, ◌+◌, ◌∙◌, ap, arith, subst, sym, All, unwrap_or}
-use Rattle.std.specs.Map.{keys_of}
+use Rattle.std.proofs.Common.{◌≡◌, ◌+◌, ◌<◌, ◌∙◌, ℕ, ap, arith, subst, sym, All, unwrap_or}
+use Rattle.std.specs.Map.{keys_of, values_of}
 use Rattle.std.specs.Ordering.{on}
-use Rattle.std.proofs.lemmas.Map.Views.{All-keys-insert_entry}
+use Rattle.std.proofs.lemmas.Map.Views.{All-keys-insert_entry, All-values-insert_entry}
 use Rattle.explorer.specs.Ends.{outcome_of}
 use Rattle.explorer.specs.Ranks.{outcome_cmp}
 use Rattle.sampler.specs.Sampled.{IsRealEnd, times_of}
@@ -28,4 +28,5 @@ returns-clause-tally c =
     record {
       counted = end_counted image config before c.insert.new.self.entries _ _ c.unwrap_or-times.result c.args.end end c.requires.tally.counted c.kept-end.ensures.reached c.kept-end.ensures.outcome times updates.0;
       reached = subst (λ es. All (IsRealEnd image config) (keys_of es)) (sym entries) (All-keys-insert_entry (on outcome_of outcome_cmp) end (c.unwrap_or-times.result + 1) (IsRealEnd image config) before c.requires.tally.reached c.kept-end.ensures.reached);
+      some = subst (λ es. All (λ (n : ℕ). 0 < n) (values_of es)) (sym entries) (All-values-insert_entry (on outcome_of outcome_cmp) end (c.unwrap_or-times.result + 1) (λ (n : ℕ). 0 < n) before c.requires.tally.some (omega arith));
     }

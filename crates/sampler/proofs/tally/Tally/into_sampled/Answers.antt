@@ -1,14 +1,14 @@
-use Rattle.std.proofs.Common.{◌≡◌, ◌∙◌, ◌++◌, ◌∷◌, [], ℕ, All, List, ap, arith, length, subst, sym}
+use Rattle.std.proofs.Common.{◌≡◌, ◌∙◌, ◌++◌, ◌∷◌, ◌<◌, [], ℕ, All, List, ap, arith, length, subst, sym}
 use Rattle.std.proofs.lemmas.List.{append-nil, append_assoc, length_push}
 use Rattle.std.proofs.lemmas.Map.Iter.{rest_all, rest_more}
 use Rattle.std.specs.List.Sorted.{IsStrictlySortedBy}
-use Rattle.std.specs.Map.{keys_of}
+use Rattle.std.specs.Map.{keys_of, values_of}
 use Rattle.std.specs.Ordering.{on}
 use Rattle.explorer.specs.declared.found.Found.{Found}
 use Rattle.explorer.specs.Ends.{outcome_of}
 use Rattle.explorer.specs.Ranks.{outcome_cmp}
 use Rattle.sampler.specs.Sampled.{AreCounted, IsRealEnd, numbered}
-use Rattle.sampler.proofs.Counting.{ends_of, numbered_push}
+use Rattle.sampler.proofs.Counting.{ends_of, numbered_push, numbers_of}
 use Rattle.sampler.proofs.tally.Tally.into_sampled.Goals as goal
 
 pub loop-end-preserved : goal.loop-end-preserved
@@ -42,10 +42,12 @@ returns-clause-sampled c =
     let empty : c.loop-end.end-iterator ≡ [] = rest_all (λ (p : Found × ℕ). p) _ _ _ c.in-None.is c.next.ensures.steps in
     let all : numbered ends times ≡ c.args.self.ends.entries =
     sym (append-nil (numbered ends times)) ∙ (ap (λ xs. numbered ends times ++ xs) (sym empty) ∙ c.loop-end.invariant.left) in
+    let values : values_of c.args.self.ends.entries ≡ times = ap values_of (sym all) ∙ numbers_of ends times many in
     let keys : keys_of c.args.self.ends.entries ≡ ends = ap keys_of (sym all) ∙ ends_of ends times many in
     record {
       reached = subst (All (IsRealEnd image config)) keys c.requires.tally.reached;
       counted = subst (λ (es : List (Found × ℕ)). AreCounted image config es c.args.self.unended c.args.self.runs) (sym all) c.requires.tally.counted;
       as_many = many;
+      some = subst (All (λ (n : ℕ). 0 < n)) values c.requires.tally.some;
       order = subst (IsStrictlySortedBy (on outcome_of outcome_cmp)) keys c.into_iter-end-iterator.ensures.into_iter_gives.5;
     }
