@@ -45,7 +45,7 @@ def main():
     parser.add_argument("--harts", default="1,2,4,8")
     parser.add_argument("--limit", type=int, default=1000000)
     parser.add_argument("--one-core", action="store_true")
-    wanted = parser.parse_args()
+    wanted = parser.parse_intermixed_args()
     examples = f"{os.path.dirname(HERE)}/examples"
     programs = wanted.programs or sorted(glob.glob(f"{examples}/*.elf") + glob.glob(f"{examples}/*.bin"))
     core = ["taskset", "-c", "0"] if wanted.one_core else []
