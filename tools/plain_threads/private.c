@@ -3,7 +3,7 @@
 int main(unsigned hart, unsigned harts)
 {
     unsigned x = hart + 1;
-    for (unsigned i = 0; i < 500000; i++) {
+    for (unsigned i = 0; i < ROUNDS; i++) {
         x ^= x << 13;
         x ^= x >> 17;
         x ^= x << 5;

@@ -6,14 +6,13 @@ use coherent_machine::{AdoptError, ApplyError, Machine, Views};
 use elf_loader::{BASE, Image, load};
 use hart::{Batch, Hart, Status, run_local};
 use kit::alloc::Global;
-use kit::ledger::{Blank, Brand};
 use machine_model::MemoryModel;
 use machine_types::{Config, Event, Outcome};
 use rv32_decode::decode;
 use rv32_exec::{Action, plan};
 use std::sync::Mutex;
 use std::sync::atomic::{AtomicBool, AtomicU64, Ordering};
-use tl_types::{Channel, Ticks};
+use tl_types::Channel;
 
 const MOST_ALONE: u32 = 256;
 const MOST_HARTS: usize = 8;
@@ -137,8 +136,7 @@ impl Rounds<'_> {
         let stride = self.config.sets * self.config.line;
         let first = BASE + address / self.config.line % self.config.sets * self.config.line;
         (first..BASE + self.image.size()).step_by(stride as usize).find(|line| {
-            let mut ticks = Ticks::<Brand>::new(Blank::new(1));
-            cache.copy(*line, &mut ticks).is_some() && !cache.is_acquiring(*line)
+            cache.copy(*line).is_some() && !cache.is_acquiring(*line)
         })
     }
 

@@ -1,6 +1,6 @@
 //! What a worker sees of its hart while it holds the lock.
 
-ghost use Rattle.std.specs.Prelude.{◌≡◌, ◌<◌, ◌↔◌, IfSome, IsSome, IsTrue, Some, length, true};
+ghost use Rattle.std.specs.Prelude.{◌≡◌, ◌<◌, ◌↔◌, IsTrue, Some, length, true};
 ghost use Rattle.elf_loader.specs.Size.{IsMemorySize};
 ghost use Rattle.hart.specs.Local.{can_go_alone, is_done_alone};
 ghost use Rattle.locked_fabric.specs.Port.{seen_in};
@@ -21,8 +21,11 @@ pub(crate) struct Watched<'a, T: Turn + Drop> {
     pub(crate) turn: T,
     pub(crate) hart: u8,
     pub(crate) image: &'a Image,
-    /// The hart as it stood when the turn was asked last, where its step was picked and is private.
-    pub(crate) stepping: Option<Hart>,
+    /// Whether the turn picked the hart's step when it was asked last, and that is private.
+    pub(crate) is_stepping: bool,
+    /// The hart as it stood when such a step was picked last; at reset before any. It is written in place, as
+    /// it is large.
+    pub(crate) stood: Hart,
     /// The length of the hart's list and its status, as they were when the lock was held last.
     pub(crate) seen: Option<(u64, Status)>,
 }
@@ -39,18 +42,19 @@ impl<'a, T: Turn + Drop> Turn for Watched<'a, T> {
     fn pick(&mut self, views: &Views<'_>, last: Option<Outcome>) -> Option<Event>
         ensures hart { self.new.hart ≡ self.old.hart }
         ensures image { self.new.image ≡ self.old.image }
-        ensures steps { IsSome self.new.stepping
+        ensures steps { IsTrue self.new.is_stepping
             ↔ ((self.old.hart < length views.now.views.nodes) × (result ≡ Some (TheEvents.Step self.old.hart))
             × (can_go_alone self.old.image.now (node_at views.now self.old.hart).hart ≡ true)) }
-        ensures stood { IfSome self.new.stepping (λ hart. hart ≡ (node_at views.now self.old.hart).hart) }
+        ensures stood { IsTrue self.new.is_stepping → self.new.stood ≡ (node_at views.now self.old.hart).hart }
     {
         let picked = self.turn.pick(views, last);
         let hart = self.hart;
-        self.stepping = None;
+        self.is_stepping = false;
         if usize::from(hart) < views.harts() && is_step_of(picked, hart) {
             let own = views.hart(usize::from(hart));
             if goes_alone(self.image, own) {
-                self.stepping = Some(*own);
+                self.is_stepping = true;
+                self.stood = *own;
             }
         }
         picked
@@ -60,16 +64,17 @@ impl<'a, T: Turn + Drop> Turn for Watched<'a, T> {
 impl<'a, T: Turn + Drop> Visit for Watched<'a, T> {
     /// A private step is held back: the hart goes on alone.
     fn holds_back(&self) -> bool
-        ensures { IsTrue result ↔ IsSome self.now.stepping }
+        ensures { result ≡ self.now.is_stepping }
     {
-        self.stepping.is_some()
+        self.is_stepping
     }
 
     fn see(&mut self, machine: &Machine)
         ensures seen { self.new.seen ≡ seen_in machine.now.trace self.old.hart }
         ensures hart { self.new.hart ≡ self.old.hart }
         ensures image { self.new.image ≡ self.old.image }
-        ensures stepping { self.new.stepping ≡ self.old.stepping }
+        ensures stepping { self.new.is_stepping ≡ self.old.is_stepping }
+        ensures stood { self.new.stood ≡ self.old.stood }
     {
         let trace = machine.trace();
         let hart = usize::from(self.hart);

@@ -1,9 +1,10 @@
 //! What one thread does.
 
-ghost use Rattle.std.specs.Prelude.{◌≡◌, ◌+◌, IfOk, OnErr};
+ghost use Rattle.std.specs.Prelude.{◌≡◌, ◌+◌, OnErr, OnOk};
+ghost use Rattle.coherent_machine.specs.Adopting.{local_of};
 ghost use Rattle.hart.specs.Local.{row_of};
 ghost use Rattle.host_threads.specs.Pace.{IsPaced};
-ghost use Rattle.locked_fabric.specs.Port.{seat_of, share_of};
+ghost use Rattle.locked_fabric.specs.Port.{IsLast, Left, seat_of, share_of};
 ghost use Rattle.progress_board.specs.Seat.{IsSeatOf, view};
 
 use crate::gate::Gate;
@@ -12,11 +13,11 @@ use crate::watched::Watched;
 use coherent_machine::{AdoptError, ApplyError};
 use crossbeam_utils::Backoff;
 use elf_loader::Image;
-use hart::{Batch, Hart, run_local};
+use hart::{Hart, run_local};
 use locked_fabric::{Numbers, Port, Share, Taken, Turn};
 use machine_types::{Config, Event, Outcome};
 use progress_board::{Board, Seat};
-use std::alloc::{AllocError, Global};
+use std::alloc::Global;
 use std::sync::Wait;
 use std::sync::atomic::{AtomicBool, Ordering};
 use std::sync::ledger::Ledger;
@@ -74,7 +75,8 @@ impl<'a, L: Ledger, T: Turn + Drop> Worker<'a, L, T> {
             turn,
             hart,
             image: &common.image,
-            stepping: None,
+            is_stepping: false,
+            stood: Hart::at_reset(hart, common.image.entry(), common.config.harts),
             seen: None,
         };
         Worker {
@@ -161,8 +163,7 @@ impl<'a, L: Ledger, T: Turn + Drop> Worker<'a, L, T> {
         }
     }
 
-    // Runs what the hart does next alone, from where it stood, and commits it; where the hart stands there no
-    // more, applies its step.
+    // Commits what the hart does next alone; where the hart stands there no more, applies its step.
     fn go_alone<R: Wait>(&mut self, rt: &R, event: Event) -> Result<Outcome, ApplyError>
         requires { IsPaced self.old.common.now.limit (view (seat_of self.old.port)) (share_of self.old.port + 1) }
         ensures { self.new.common ≡ self.old.common }
@@ -177,15 +178,16 @@ impl<'a, L: Ledger, T: Turn + Drop> Worker<'a, L, T> {
         }
     }
 
+    // Runs what the hart does next alone, from where it stood, and commits it.
     fn commit<R: Wait>(&mut self, rt: &R) -> Result<Outcome, AdoptError>
         requires { IsPaced self.old.common.now.limit (view (seat_of self.old.port)) (share_of self.old.port + 1) }
         ensures common { self.new.common ≡ self.old.common }
+        ensures row { let row = row_of self.old.common.now.image self.old.turn.stood 256 in
+            OnOk result (Left (IsLast (local_of row.first.id row))) }
         ensures err { OnErr result (IsPaced self.new.common.now.limit (view (seat_of self.new.port)) (share_of self.new.port + 1)) }
     {
-        let Some(hart) = &self.turn.stepping else {
-            return Err(AdoptError::Empty);
-        };
-        match &row_from(self.common.alloc, &self.common.image, hart) {
+        let common = self.common;
+        match &run_local(common.alloc, &common.image, &self.turn.stood, MOST_ALONE) {
             Ok(batch) => self.port.commit(rt, batch, &mut self.turn),
             Err(_) => Err(AdoptError::NoMemory),
         }
@@ -252,13 +254,6 @@ impl<'a, L: Ledger, T: Turn + Drop> Worker<'a, L, T> {
             self.has_halted = true;
         }
     }
-}
-
-// What a hart does alone from here.
-fn row_from(alloc: Global, image: &Image, hart: &Hart) -> Result<Batch, AllocError>
-    ensures { IfOk result (λ batch. batch ≡ row_of image.now hart.now 256) }
-{
-    run_local(alloc, image, hart, MOST_ALONE)
 }
 
 // Whether an event with this outcome changed the machine.
