@@ -1,9 +1,9 @@
 -- What a walk says of an operation bounds the weight of each that must come before it, rule by rule.
 use Rattle.std.proofs.Common.{◌≡◌, ℕ, zero, suc, ◌+◌, ◌<◌, ◌≤◌, max, find, List, [], ◌∷◌, Bool, true, false, Option, Some, None, refl, cond, sym, subst, ap, ◌∙◌, not, ◌&&◌, ◌||◌, ◌⊎◌, ⊎_elim, inl, inr, arith}
-use Rattle.std.specs.Prelude.{filter, nat_eq, nat_lt, slice_get, slice_index_or}
+use Rattle.std.specs.Prelude.{◌==◌, filter, nat_eq, nat_lt, slice_get, slice_index_or}
 use Rattle.std.specs.List.{AllByRecursion as Each, last_or, list_any, range_with_len}
 use Rattle.std.specs.Option.{option_map_or}
-use Rattle.std.proofs.lemmas.Bool.{and_from, and_parts, eqb-true, le-leb, lt-ltb, ltb-true, not-true, or_cases, true≢false}
+use Rattle.std.proofs.lemmas.Bool.{and_from, and_parts, eqb-true, le-leb, lt-ltb, ltb-true, ne_eqb, not-true, or_cases, true≢false}
 use Rattle.std.proofs.lemmas.List.Folds.{find_at}
 use Rattle.std.proofs.lemmas.Option.{same_Some}
 use Rattle.memory_model.specs.declared.MemoryModel.{MemoryModel}
@@ -18,6 +18,7 @@ use Rattle.memory_model.proofs.Lists.{Member, Each-at, Each-from, Each-kept}
 use Rattle.rvwmo_order.specs.Bounds.{Bounds, BoundsEach, GivesEach, HasCome, IsGiven, IsBoundsRow, IsSource, bound_of, own_weight, unbounded, weight_of}
 use Rattle.rvwmo_order.specs.Carried.{greatest}
 use Rattle.rvwmo_order.specs.Codes.{rule_of}
+use Rattle.rvwmo_order.specs.Indexed.{rank_of}
 use Rattle.rvwmo_order.specs.Passed.{fenced_before}
 use Rattle.rvwmo_order.specs.Placed.{GivesOwn, IsPlaced}
 use Rattle.rvwmo_order.specs.Touched.{but}
@@ -196,6 +197,22 @@ stands harts order b x s g e =
     let given = source_each (λ (a : Operation). IsGiven (items_of harts a.hart) a) order b x s g e in
     sym (find_at (same s) order) ∙ find_it order s member (Each-from (λ (u : Operation). same s u ≡ true → s ≡ u) order (λ u m f. let other = Each-at (λ (a : Operation). IsGiven (items_of harts a.hart) a) u order g m in one_given harts s u other.item given other.there other.gives f))
 
+-- sources that are two have ranks apart
+ranks_apart : (harts : List (List Item)) (order : List Operation) (a b : Operation) (x : ℕ) → GivesEach harts order → same_source (source order a x) (source order b x) ≡ false → (rank_of order (source order a x) == rank_of order (source order b x)) ≡ false
+ranks_apart harts order a b x g d = go (source order a x) refl (source order b x) refl d
+  where
+    go : (o : Option Operation) → source order a x ≡ o → (p : Option Operation) → source order b x ≡ p → same_source o p ≡ false → (rank_of order o == rank_of order p) ≡ false
+    go None e None f d = absurd (true≢false d)
+    go None e (Some t) f d = ne_eqb 0 (position_in order t + 1) (λ h. omega (arith, h))
+    go (Some s) e None f d = ne_eqb (position_in order s + 1) 0 (λ h. omega (arith, h))
+    go (Some s) e (Some t) f d = ne_eqb (position_in order s + 1) (position_in order t + 1) (λ h. one h)
+      where
+        one : position_in order s + 1 ≡ position_in order t + 1 → ⊥
+        one h =
+            let place : position_in order s ≡ position_in order t = omega (arith, h) in
+            let it : s ≡ t = same_Some s t (sym (stands harts order a x s g e) ∙ (ap (slice_get order) place ∙ stands harts order b x t g f)) in
+            true≢false (sym (ap (same s) (sym it) ∙ same-self s) ∙ d)
+
 -- ---- rule by rule
 
 bounded_by : (model : MemoryModel) (harts : List (List Item)) (order : List Operation) (weights : List ℕ) (rows : List Row) (a b : Operation) (w : Walk) (r : Row) (rule : Rule) → Here model harts order weights rows b w r → Member a order → Earlier harts order weights a b
@@ -220,9 +237,9 @@ bounded_by model harts order weights rows a b w r SameByteLoads h m e t =
     let x : ℕ = byte.x in
     let q = three (touches x b) (not (list_any (λ (m : Item). has_store_to x m.operation) (between (items_of harts b.hart) a b))) (not (same_source (source order a x) (source order b x))) byte.passes in
     let in_a = touches_within x a byte.low byte.high in
-    let kept = load_touched order x (own_weight weights order) (items_of harts b.hart) a b e.item (source order b x) h.placed e.there e.gives e.before in_a p.0 (not-true _ q.1) (not-true _ q.2) in
+    let kept = load_touched order x (own_weight weights order) (items_of harts b.hart) a b e.item (rank_of order (source order b x)) h.placed e.there e.gives e.before in_a p.0 (not-true _ q.1) (ranks_apart harts order a b x h.gives (not-true _ q.2)) in
     let row = h.row.same_byte_loads p.1 x q.0 in
-    let come = ap (but (source order b x)) (h.come.touched x) in
+    let come = ap (but (rank_of order (source order b x))) (h.come.touched x) in
     let weighs = e.weighs in
     omega (arith, kept, row, come, weighs)
 bounded_by model harts order weights rows a b w r AtomicSource h m e t =

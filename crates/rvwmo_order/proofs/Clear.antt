@@ -120,7 +120,7 @@ member_at [] k a e = absurd (no_some a e)
 member_at (x ∷ xs) zero a e = inl (sym (same_value x a e))
 member_at (x ∷ xs) (suc k) a e = inr (member_at xs k a e)
 
-position_at : (order : List Operation) (k : ℕ) (a : Operation) → AreDistinctOperations order → slice_get order k ≡ Some a → position_in order a ≡ k
+pub position_at : (order : List Operation) (k : ℕ) (a : Operation) → AreDistinctOperations order → slice_get order k ≡ Some a → position_in order a ≡ k
 position_at [] k a d e = absurd (member_at [] k a e)
 position_at (x ∷ xs) zero a d e = place_head a x xs (ap (same a) (same_value x a e) ∙ same-self a)
 position_at (x ∷ xs) (suc k) a d e =

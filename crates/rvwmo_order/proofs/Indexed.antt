@@ -136,11 +136,15 @@ last_passing_taken p xs i d h = ap (λ ys. last_or None (filter p ys)) (take_mor
 
 -- the store that was looked at is the last that the load may see, where none behind it is
 pub seen_last : (position : ℕ) (load : OpId) (stores : List Stored) (left i : ℕ) (d : Stored) (looked : ℕ × Operation) → left ≡ i + 1 → i < length stores → looked ≡ ((get_or stores i d).position, (get_or stores i d).store) → is_seen position load (record { position = looked.0; store = looked.1 }) ≡ true
-    → last_or None (filter (is_seen position load) stores) ≡ last_or None (filter (is_seen position load) (take left stores)) → Some looked.1 ≡ option_map (λ (s : Stored). s.store) (last_or None (filter (is_seen position load) stores))
+    → last_or None (filter (is_seen position load) stores) ≡ last_or None (filter (is_seen position load) (take left stores)) → Some looked ≡ option_map (λ (s : Stored). (s.position, s.store)) (last_or None (filter (is_seen position load) stores))
 seen_last position load stores left i d looked e h f g k =
     let seen : is_seen position load (get_or stores i d) ≡ true = ap (λ (r : ℕ × Operation). is_seen position load (record { position = r.0; store = r.1 })) (sym f) ∙ g in
     let last : last_or None (filter (is_seen position load) stores) ≡ Some (get_or stores i d) = k ∙ (ap (λ (n : ℕ). last_or None (filter (is_seen position load) (take n stores))) e ∙ (last_passing_taken (is_seen position load) stores i d h ∙ ap (λ (b : Bool). cond b (Some (get_or stores i d)) (last_or None (filter (is_seen position load) (take i stores)))) seen)) in
-    ap (λ (r : ℕ × Operation). Some r.1) f ∙ ap (option_map (λ (s : Stored). s.store)) (sym last)
+    ap (λ (r : ℕ × Operation). Some r) f ∙ ap (option_map (λ (s : Stored). (s.position, s.store))) (sym last)
+
+pub stores_only : (o : Option Stored) → option_map (λ (p : ℕ × Operation). p.1) (option_map (λ (s : Stored). (s.position, s.store)) o) ≡ option_map (λ (s : Stored). s.store) o
+stores_only None = refl
+stores_only (Some s) = refl
 
 -- ---- what a map of places or of stores says
 

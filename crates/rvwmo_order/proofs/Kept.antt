@@ -1,4 +1,4 @@
--- The sources that are kept of each load: one more at a time, and told by the load's name.
+-- The ranks of the sources that are kept of each load: one more at a time, and told by the load's name.
 use Rattle.std.proofs.Common.{◌≡◌, ℕ, ◌+◌, ◌<◌, ◌≤◌, ◌++◌, List, [], ◌∷◌, true, Option, Some, None, cond, sym, subst, ap, ◌∙◌, ◌&&◌, ⊎_elim, arith, length, length-append, get_or, refl, set}
 use Rattle.std.specs.Prelude.{filter, nat_eq, nat_lt, slice_get, slice_index_or}
 use Rattle.std.specs.List.{last_or}
@@ -9,7 +9,7 @@ use Rattle.std.proofs.lemmas.Option.{get_or_from_slice_get, same_Some, slice_get
 use Rattle.memory_model.specs.declared.operation.Operation.{Operation}
 use Rattle.memory_model.specs.Operations.{reads, same, stores_to}
 use Rattle.memory_model.specs.Order.{candidates, source}
-use Rattle.rvwmo_order.specs.Indexed.{GivesSources}
+use Rattle.rvwmo_order.specs.Indexed.{GivesRanks, GivesSources, HasRank}
 
 -- ---- the source is told by the name of the load
 
@@ -28,45 +28,63 @@ source_named order a b x e =
     let p = and_parts (nat_eq a.hart b.hart) (nat_eq a.place b.place) e in
     ap (last_or None) (candidates_named order a b x (eqb-true a.hart b.hart p.0) (eqb-true a.place b.place p.1))
 
--- what is kept at a place is the source of the load there, and of each of its name
-pub kept_named : (order : List Operation) (kept : List (List (Option Operation))) (p i x : ℕ) (a load : Operation) (first : List (Option Operation)) (found : Option Operation) → GivesSources order kept → slice_get kept p ≡ Some first → slice_get order p ≡ Some a → reads a.kind ≡ true → same a load ≡ true → i < 4 → i < a.size → x ≡ a.address + i
-    → found ≡ slice_index_or first i None → found ≡ source order load x
-kept_named order kept p i x a load first found g e f r s few within at is =
-    is ∙ (g p i a first e f r few within ∙ (ap (source order a) (sym at) ∙ source_named order a load x s))
+-- what is kept at a place are the ranks of the load there, and of each of its name and bytes
+pub kept_named : (order : List Operation) (kept : List (List ℕ)) (p : ℕ) (a load : Operation) (ranks : List ℕ) → GivesSources order kept → slice_get kept p ≡ Some ranks → slice_get order p ≡ Some a → reads a.kind ≡ true → same a load ≡ true → a.address ≡ load.address → a.size ≡ load.size
+    → GivesRanks order load ranks
+kept_named order kept p a load ranks g e f r s at long = record {
+  each = λ i few within.
+      let byte : a.address + i ≡ load.address + i = ap (λ (n : ℕ). n + i) at in
+      subst (λ (o : Option Operation). HasRank order o (slice_index_or ranks i 0)) (ap (source order a) byte ∙ source_named order a load (load.address + i) s) ((g p a ranks e f r).each i few (omega (arith, within, long)));
+}
 
 -- ---- one more load
 
-pub gives_more : (order : List Operation) (kept : List (List (Option Operation))) (first : List (Option Operation)) (k : ℕ) (a : Operation) → GivesSources order kept → length kept ≡ k → slice_get order k ≡ Some a
-    → (reads a.kind ≡ true → (i : ℕ) → i < 4 → i < a.size → slice_index_or first i None ≡ source order a (a.address + i)) → GivesSources order (kept ++ first ∷ [])
-gives_more order kept first k a g count there own p i b other h f r few within =
-    let inside = slice_get_within (kept ++ first ∷ []) p other h in
-    let at : get_or (kept ++ first ∷ []) p [] ≡ other = get_or_from_slice_get (kept ++ first ∷ []) p other [] h in
+pub gives_more : (order : List Operation) (kept : List (List ℕ)) (ranks : List ℕ) (k : ℕ) (a : Operation) → GivesSources order kept → length kept ≡ k → slice_get order k ≡ Some a
+    → (reads a.kind ≡ true → GivesRanks order a ranks) → GivesSources order (kept ++ ranks ∷ [])
+gives_more order kept ranks k a g count there own p b other h f r =
+    let inside = slice_get_within (kept ++ ranks ∷ []) p other h in
+    let at : get_or (kept ++ ranks ∷ []) p [] ≡ other = get_or_from_slice_get (kept ++ ranks ∷ []) p other [] h in
     ⊎_elim (λ l. before l at) (λ l. last l inside at) (cases_lt p (length kept))
   where
-    before : p < length kept → get_or (kept ++ first ∷ []) p [] ≡ other → slice_index_or other i None ≡ source order b (b.address + i)
-    before l at = g p i b other (slice_get-get_or kept p [] l ∙ ap Some (sym (get_or_append_left kept (first ∷ []) [] p l) ∙ at)) f r few within
+    before : p < length kept → get_or (kept ++ ranks ∷ []) p [] ≡ other → GivesRanks order b other
+    before l at = g p b other (slice_get-get_or kept p [] l ∙ ap Some (sym (get_or_append_left kept (ranks ∷ []) [] p l) ∙ at)) f r
 
-    last : length kept ≤ p → p < length (kept ++ first ∷ []) → get_or (kept ++ first ∷ []) p [] ≡ other → slice_index_or other i None ≡ source order b (b.address + i)
+    last : length kept ≤ p → p < length (kept ++ ranks ∷ []) → get_or (kept ++ ranks ∷ []) p [] ≡ other → GivesRanks order b other
     last l inside at =
-        let long = length-append kept (first ∷ []) in
+        let long = length-append kept (ranks ∷ []) in
         let is : length kept ≡ p = omega (arith, l, inside, long) in
-        let it : first ≡ other = sym (get_or_push kept first [] p is) ∙ at in
+        let it : ranks ≡ other = sym (get_or_push kept ranks [] p is) ∙ at in
         let one : a ≡ b = same_Some a b (sym there ∙ (ap (slice_get order) (sym count ∙ is) ∙ f)) in
-        subst (λ (y : Operation). reads y.kind ≡ true → i < y.size → slice_index_or other i None ≡ source order y (y.address + i)) one
-        (λ r within. ap (λ (xs : List (Option Operation)). slice_index_or xs i None) (sym it) ∙ own r i few within) r within
+        subst (λ (y : Operation). reads y.kind ≡ true → GivesRanks order y other) one
+        (λ r. subst (GivesRanks order a) it (own r)) r
+
+-- ---- a byte by the ranks of the first ones
+
+pub byte_ranked : (order : List Operation) (load : Operation) (ranks : List ℕ) (offset x : ℕ) → GivesRanks order load ranks → offset < 4 → offset < load.size → x ≡ load.address + offset → HasRank order (source order load x) (slice_index_or ranks offset 0)
+byte_ranked order load ranks offset x g few within at = subst (λ (y : ℕ). HasRank order (source order load y) (slice_index_or ranks offset 0)) (sym at) (g.each offset few within)
 
 -- ---- one more byte of a load
 
-pub sources_next : (order : List Operation) (a : Operation) (sources new : List (Option Operation)) (k x : ℕ) (found : Option Operation) → length sources ≡ 4 → k < 4 → new ≡ set sources k found → x ≡ a.address + k → found ≡ source order a x
-    → ((i : ℕ) → i < k → i < a.size → slice_index_or sources i None ≡ source order a (a.address + i)) → (i : ℕ) → i < k + 1 → i < a.size → slice_index_or new i None ≡ source order a (a.address + i)
+-- of a byte of the load
+abbrev pub IsFound : List Operation → Operation → ℕ → ℕ → Type 0
+IsFound order a i rank = HasRank order (source order a (a.address + i)) rank
+
+pub sources_next : (order : List Operation) (a : Operation) (sources new : List ℕ) (k x found : ℕ) → length sources ≡ 4 → k < 4 → new ≡ set sources k found → x ≡ a.address + k → HasRank order (source order a x) found
+    → ((i : ℕ) → i < k → i < a.size → IsFound order a i (slice_index_or sources i 0)) → (i : ℕ) → i < k + 1 → i < a.size → IsFound order a i (slice_index_or new i 0)
 sources_next order a sources new k x found long few e at is inv i h within = ⊎_elim here other (cases_eq i k)
   where
-    here : i ≡ k → slice_index_or new i None ≡ source order a (a.address + i)
-    here same = ap (λ (xs : List (Option Operation)). slice_index_or xs i None) e ∙ (get_or-set_at sources k i found None same (omega (arith, long, few)) ∙ (is ∙ ap (source order a) (omega (arith, at, same))))
+    here : i ≡ k → IsFound order a i (slice_index_or new i 0)
+    here same =
+        let value : slice_index_or new i 0 ≡ found = ap (λ (xs : List ℕ). slice_index_or xs i 0) e ∙ get_or-set_at sources k i found 0 same (omega (arith, long, few)) in
+        let byte : x ≡ a.address + i = omega (arith, at, same) in
+        subst (IsFound order a i) (sym value) (subst (λ (y : ℕ). HasRank order (source order a y) found) byte is)
 
-    other : (i ≡ k → ⊥) → slice_index_or new i None ≡ source order a (a.address + i)
-    other apart = ap (λ (xs : List (Option Operation)). slice_index_or xs i None) e ∙ (get_or-set_other sources k i found None apart ∙ inv i (omega (arith, h, apart)) within)
+    other : (i ≡ k → ⊥) → IsFound order a i (slice_index_or new i 0)
+    other apart =
+        let value : slice_index_or new i 0 ≡ slice_index_or sources i 0 = ap (λ (xs : List ℕ). slice_index_or xs i 0) e ∙ get_or-set_other sources k i found 0 apart in
+        subst (IsFound order a i) (sym value) (inv i (omega (arith, h, apart)) within)
 
-pub sources_same : (order : List Operation) (a : Operation) (sources new : List (Option Operation)) (k : ℕ) → new ≡ sources → a.size ≤ k
-    → ((i : ℕ) → i < k → i < a.size → slice_index_or sources i None ≡ source order a (a.address + i)) → (i : ℕ) → i < k + 1 → i < a.size → slice_index_or new i None ≡ source order a (a.address + i)
-sources_same order a sources new k e past inv i h within = ap (λ (xs : List (Option Operation)). slice_index_or xs i None) e ∙ inv i (omega (arith, past, within)) within
+pub sources_same : (order : List Operation) (a : Operation) (sources new : List ℕ) (k : ℕ) → new ≡ sources → a.size ≤ k
+    → ((i : ℕ) → i < k → i < a.size → IsFound order a i (slice_index_or sources i 0)) → (i : ℕ) → i < k + 1 → i < a.size → IsFound order a i (slice_index_or new i 0)
+sources_same order a sources new k e past inv i h within =
+    subst (λ (xs : List ℕ). IsFound order a i (slice_index_or xs i 0)) (sym e) (inv i (omega (arith, past, within)) within)

@@ -22,6 +22,7 @@ pub mod Pairs
 pub mod Parted
 pub mod Passing
 pub mod Placed
+pub mod Ranks
 pub mod Seen
 pub mod Steps
 pub mod Sweeps

@@ -1,15 +1,21 @@
 -- An instruction that accesses memory has one of three opcodes.
-use Rattle.std.proofs.Common.{◌≡◌, ◌≢◌, ◌%◌, ℕ, List, [], ◌∷◌, Bool, true, false, Option, Some, None, refl, cond, sym, ap, ◌∙◌, ◌&&◌, ◌||◌, not}
-use Rattle.std.specs.Prelude.{◌==◌, filter, find}
+use Rattle.std.proofs.Common.{◌≡◌, ◌≢◌, ◌<◌, ◌/◌, ◌%◌, ℕ, arith, List, [], ◌∷◌, Bool, true, false, Option, Some, None, refl, cond, sym, ap, ◌∙◌, ◌&&◌, ◌||◌, not}
+use Rattle.std.specs.Prelude.{◌==◌, filter, find, nat_lt}
 use Rattle.std.specs.List.{list_all}
 use Rattle.std.specs.Option.{option_map, option_map_or}
 use Rattle.std.proofs.lemmas.Bool.{and_parts, eqb-true, ne_eqb, true≢false}
 use Rattle.rv32_decode.specs.Rows.{Name, Upper, Jal, Jalr, Branch, Load, Store, Immediate, Shift, Register, Fence, System, Lr, Sc, Amo, Row, decoded, instr_of, is_in, is_tso, rows}
-use Rattle.rv32_decode.specs.Fields.{fences_of}
+use Rattle.rv32_decode.specs.Fields.{fences_of, imm_i, imm_s, rd_of, rs1_of, rs2_of}
+use Rattle.hart.specs.declared.retired.Retired.{Retired}
 use Rattle.rv32_decode.specs.declared.instruction.Instr.{Instr}
 use Rattle.rv32_decode.specs.declared.instruction.Instr.TheVariants as instr
+use Rattle.rv32_decode.specs.declared.instruction.LoadOp.{LoadOp}
+use Rattle.rv32_decode.specs.declared.instruction.StoreOp.{StoreOp}
+use Rattle.rv32_decode.specs.Decoding.{load_of, store_of}
+use Rattle.rv32_decode.proofs.Branches.{decoded_load, decoded_store}
+use Rattle.rv32_decode.proofs.Cases.{by_eight}
 use Rattle.rv32_decode.proofs.Table.{decoded_opcode}
-use Rattle.memory_model.specs.Items.{accesses_memory}
+use Rattle.memory_model.specs.Items.{accesses_memory, has_operation}
 
 -- ---- rows
 
@@ -78,3 +84,29 @@ private_opcode sc w load store atomic = ap (λ (o : Option Instr). option_map_or
     go (Some r) e =
         let both = and_parts (r.match % 128 == w % 128) (has_its_opcode r) (found_both (is_in w) (λ (r : Row). r.match % 128 == w % 128) has_its_opcode rows refl r e) in
         private_named sc r.name w (other r (eqb-true (r.match % 128) (w % 128) both.0) both.1)
+
+-- ---- loads and stores, by funct3
+
+load_known : (sc : Option Bool) (w : ℕ) (o : Option LoadOp) → option_map_or (accesses_memory sc) (option_map (λ op. instr.Load op (rd_of w) (rs1_of w) (imm_i w)) o) false ≡ option_map_or (λ (op : LoadOp). true) o false
+load_known sc w None = refl
+load_known sc w (Some op) = refl
+
+load_named : (f : ℕ) → f < 8 → option_map_or (λ (op : LoadOp). true) (load_of f) false ≡ (nat_lt f 6 && not (f == 3))
+load_named f l = by_eight (λ (f : ℕ). option_map_or (λ (op : LoadOp). true) (load_of f) false ≡ (nat_lt f 6 && not (f == 3))) refl refl refl refl refl refl refl refl f l
+
+pub load_told : (e : Retired) → e.word % 128 ≡ 0x03 → has_operation e ≡ (nat_lt (e.word / 4096 % 8) 6 && not (e.word / 4096 % 8 == 3))
+load_told e o =
+    ap (λ (i : Option Instr). option_map_or (accesses_memory e.sc_ok) i false) (decoded_load e.word o)
+    ∙ (load_known e.sc_ok e.word (load_of (e.word / 4096 % 8)) ∙ load_named (e.word / 4096 % 8) (omega arith))
+
+store_known : (sc : Option Bool) (w : ℕ) (o : Option StoreOp) → option_map_or (accesses_memory sc) (option_map (λ op. instr.Store op (rs1_of w) (rs2_of w) (imm_s w)) o) false ≡ option_map_or (λ (op : StoreOp). true) o false
+store_known sc w None = refl
+store_known sc w (Some op) = refl
+
+store_named : (f : ℕ) → f < 8 → option_map_or (λ (op : StoreOp). true) (store_of f) false ≡ nat_lt f 3
+store_named f l = by_eight (λ (f : ℕ). option_map_or (λ (op : StoreOp). true) (store_of f) false ≡ nat_lt f 3) refl refl refl refl refl refl refl refl f l
+
+pub store_told : (e : Retired) → e.word % 128 ≡ 0x23 → has_operation e ≡ nat_lt (e.word / 4096 % 8) 3
+store_told e o =
+    ap (λ (i : Option Instr). option_map_or (accesses_memory e.sc_ok) i false) (decoded_store e.word o)
+    ∙ (store_known e.sc_ok e.word (store_of (e.word / 4096 % 8)) ∙ store_named (e.word / 4096 % 8) (omega arith))

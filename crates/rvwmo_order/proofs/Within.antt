@@ -45,7 +45,7 @@ rising position x (a ∷ rest) i j s t l e f = go (stores_to x a) i j l e f (λ 
     go true (suc i) (suc j) l e f ih = ih i j (omega (arith, l)) e f
     go false i j l e f ih = ih i j l e f
 
-stored_there : (position x : ℕ) (xs : List Operation) (k : ℕ) (s : Stored) (q : ℕ) → slice_get (stored_from position x xs) k ≡ Some s → s.position ≡ position + q → slice_get xs q ≡ Some s.store
+pub stored_there : (position x : ℕ) (xs : List Operation) (k : ℕ) (s : Stored) (q : ℕ) → slice_get (stored_from position x xs) k ≡ Some s → s.position ≡ position + q → slice_get xs q ≡ Some s.store
 stored_there position x [] k s q e f = absurd (no_value s e)
 stored_there position x (a ∷ rest) k s q e f = go (stores_to x a) k q e f (λ j r e f. stored_there (position + 1) x rest j s r e f)
   where

@@ -11,6 +11,7 @@ use Rattle.memory_model.specs.Order.{position_in, source}
 use Rattle.memory_model.specs.Rules.{asked_by, items_of}
 use Rattle.rvwmo_order.specs.Carried.{carried_behind, greatest, nothing_carried}
 use Rattle.rvwmo_order.specs.Codes.{rule_of}
+use Rattle.rvwmo_order.specs.Indexed.{rank_of}
 use Rattle.rvwmo_order.specs.Passed.{fenced_before, none_passed, passed_behind}
 use Rattle.rvwmo_order.specs.Touched.{but, touch_behind, touch_in, untouched}
 use Rattle.rvwmo_order.specs.declared.rows.Row.{Row}
@@ -121,7 +122,7 @@ pub record IsSource (order : List Operation) (b : Operation) (x : ℕ) (s : Oper
 -- of the operation b with these registers, by what the walk carries and the rows of the stores that its bytes come from
 pub record IsBoundsRow (order : List Operation) (weights : List ℕ) (rows : List Row) (b : Operation) (u : Uses) (w : Walk) (r : Row) : Type 0 where
   pub overlapping_store : writes b.kind ≡ true → (x : ℕ) → touches x b ≡ true → (touch_in w.touches x).all ≤ r.overlapping_store
-  pub same_byte_loads : reads b.kind ≡ true → (x : ℕ) → touches x b ≡ true → but (source order b x) (touch_in w.touches x) ≤ r.same_byte_loads
+  pub same_byte_loads : reads b.kind ≡ true → (x : ℕ) → touches x b ≡ true → but (rank_of order (source order b x)) (touch_in w.touches x) ≤ r.same_byte_loads
   pub atomic_source : reads b.kind ≡ true → (x : ℕ) (s : Operation) → IsSource order b x s → (is_amo s.kind || is_sc s.kind) ≡ true → weight_of weights order s ≤ r.atomic_source
   pub fence : fenced_before b.kind w.passed ≤ r.fence
   pub acquire : w.passed.acquires ≤ r.acquire

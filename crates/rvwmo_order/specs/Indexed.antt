@@ -1,8 +1,8 @@
 -- What an index keeps of an order: where each operation stands, and the stores to each byte.
-use Rattle.std.specs.Prelude.{◌≡◌, ◌≤◌, ◌<◌, ◌-◌, ℕ, ◌+◌, Bool, true, false, slice_get, slice_index_or, ◌&&◌, ◌||◌, ◌==◌, nat_eq, nat_lt, if◌then◌else◌, List, [], ◌∷◌, Option, Some, None, filter}
+use Rattle.std.specs.Prelude.{◌≡◌, ◌≤◌, ◌<◌, ◌-◌, ℕ, ◌+◌, Bool, true, false, slice_get, slice_index_or, ◌&&◌, ◌||◌, ◌==◌, nat_eq, nat_lt, if◌then◌else◌, List, [], ◌∷◌, Option, Some, None, filter, length}
 use Rattle.memory_model.specs.declared.operation.Operation.{Operation}
 use Rattle.memory_model.specs.Operations.{is_lr, precedes, reads, same, stores_to}
-use Rattle.memory_model.specs.Order.{source}
+use Rattle.memory_model.specs.Order.{position_in, source}
 use Rattle.trace_recorder.specs.declared.operation.OpId.{OpId}
 use Rattle.rvwmo_order.specs.declared.stored.Stored.{Stored}
 
@@ -54,6 +54,24 @@ IsBeyond position reach count stores = (k : ℕ) (s : Stored) → count ≤ k �
 abbrev pub SeesWithin : ℕ → ℕ → OpId → List Stored → Type 0
 SeesWithin position reach load stores = (k : ℕ) (s : Stored) → slice_get stores k ≡ Some s → reach < s.position - position → is_seen position load s ≡ false
 
--- what is kept of each load is the store that each of its first bytes comes from
-abbrev pub GivesSources : List Operation → List (List (Option Operation)) → Type 0
-GivesSources order kept = (p i : ℕ) (a : Operation) (first : List (Option Operation)) → slice_get kept p ≡ Some first → slice_get order p ≡ Some a → reads a.kind ≡ true → i < 4 → i < a.size → slice_index_or first i None ≡ source order a (a.address + i)
+-- ---- ranks in an order: one more than a place, and 0 where there is no operation
+
+abbrev pub ranked : List Operation → ℕ → Option Operation
+ranked order rank = if rank == 0 then None else slice_get order (rank - 1)
+
+abbrev pub rank_of : List Operation → Option Operation → ℕ
+rank_of order None = 0
+rank_of order (Some a) = position_in order a + 1
+
+-- an operation, where there is one, stands at the place that the rank names
+pub record HasRank (order : List Operation) (o : Option Operation) (rank : ℕ) : Type 0 where
+  pub within : rank ≤ length order
+  pub there : ranked order rank ≡ o
+
+-- these are the ranks of the stores that a load's first bytes come from
+pub record GivesRanks (order : List Operation) (a : Operation) (ranks : List ℕ) : Type 0 where
+  pub each : (i : ℕ) → i < 4 → i < a.size → HasRank order (source order a (a.address + i)) (slice_index_or ranks i 0)
+
+-- what is kept of each load are those
+abbrev pub GivesSources : List Operation → List (List ℕ) → Type 0
+GivesSources order kept = (p : ℕ) (a : Operation) (ranks : List ℕ) → slice_get kept p ≡ Some ranks → slice_get order p ≡ Some a → reads a.kind ≡ true → GivesRanks order a ranks

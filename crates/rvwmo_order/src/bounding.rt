@@ -4,7 +4,7 @@ ghost use Rattle.memory_model.specs.declared.operation.Operation.{Operation as O
 ghost use Rattle.memory_model.specs.Order as orders;
 ghost use Rattle.memory_model.specs.Rules as rules;
 ghost use Rattle.rvwmo_order.specs.Bounds as spec;
-ghost use Rattle.rvwmo_order.specs.Bounds.{BoundsEach, GivesEach, HasCome, RanksEach};
+ghost use Rattle.rvwmo_order.specs.Bounds.{AreDistinctOperations, BoundsEach, GivesEach, HasCome, RanksEach};
 ghost use Rattle.rvwmo_order.specs.Placed.{GivesOwn, IsPlaced};
 
 use crate::index::Index;
@@ -22,7 +22,8 @@ pub(crate) fn ranked_rows(
     harts: &Harts,
     index: &Index,
 ) -> Result<Vec<Row>, AllocError>
-    requires { GivesEach harts.now index.now }
+    requires gives { GivesEach harts.now index.now }
+    requires distinct { AreDistinctOperations index.now }
     ensures { IfOk result (λ rows. RanksEach model harts.now index.now rows.items) }
 {
     let ranks = ranks(alloc, index.order().len())?;
@@ -33,7 +34,7 @@ pub(crate) fn ranked_rows(
 fn ranks(alloc: Global, count: usize) -> Result<Vec<usize>, AllocError>
     ensures { IfOk result (λ ranks. (k : ℕ) → k < count → slice_index_or ranks.items k 0 ≡ k + 1) }
 {
-    let mut ranks = Vec::new(alloc);
+    let mut ranks = Vec::with_capacity(alloc, count)?;
     for place in 0..count {
         ranks.push(place + 1)?;
     }
@@ -48,7 +49,8 @@ pub(crate) fn rows_of(
     index: &Index,
     weights: &[usize],
 ) -> Result<Vec<Row>, AllocError>
-    requires { GivesEach harts.now index.now }
+    requires gives { GivesEach harts.now index.now }
+    requires distinct { AreDistinctOperations index.now }
     ensures { IfOk result (λ rows. BoundsEach model harts.now index.now weights.now rows.items) }
 {
     let mut rows = no_rows(alloc, index.order().len())?;
@@ -65,8 +67,10 @@ pub(crate) fn rows_of(
 fn no_rows(alloc: Global, count: usize) -> Result<Vec<Row>, AllocError>
     ensures { IfOk result (λ rows. rows.items ≡ replicate count spec.unbounded) }
 {
-    let mut rows = Vec::new(alloc);
-    rows.resize(count, UNBOUNDED)?;
+    let mut rows = Vec::with_capacity(alloc, count)?;
+    for place in 0..count {
+        rows.push(UNBOUNDED)?;
+    }
     Ok(rows)
 }
 
@@ -81,6 +85,7 @@ fn bound_hart(
     weights: &[usize],
 ) -> Result<(), AllocError>
     requires gives { GivesEach harts.now index.now }
+    requires distinct { AreDistinctOperations index.now }
     requires bound { BoundsEach model harts.now index.now weights.now rows.old }
     ensures { OnOk result (BoundsEach model harts.now index.now weights.now rows.new) }
 {
@@ -114,6 +119,7 @@ fn bound_item(
     item: &Item,
 ) -> Standing
     requires gives { GivesEach harts.now index.now }
+    requires distinct { AreDistinctOperations index.now }
     requires bound { BoundsEach walk.now.model harts.now index.now weights.now rows.old }
     requires placed { IsPlaced 0 (rules.items_of harts.now hart) }
     requires own { GivesOwn hart (rules.items_of harts.now hart) }

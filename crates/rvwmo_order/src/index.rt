@@ -1,8 +1,8 @@
 //! An order of a trace's operations, with the stores to each byte and the place of each operation found
 //! without a walk over the order.
-ghost use Rattle.std.specs.Prelude.{◌≡◌, ◌≤◌, ◌<◌, ◌+◌, ◌++◌, ℕ, Option, None, [], ◌∷◌, IfOk, OnOk, Some, filter, if◌then◌else◌, length, nat_eq, slice_index_or, true};
+ghost use Rattle.std.specs.Prelude.{◌≡◌, ◌≤◌, ◌<◌, ◌+◌, ◌^◌, ◌++◌, ℕ, None, List, [], ◌∷◌, IfOk, OnOk, Some, filter, if◌then◌else◌, length, nat_eq, slice_index_or, true};
 ghost use Rattle.std.specs.List.{last_or};
-ghost use Rattle.std.specs.Option.{option_map, option_map_or, option_or};
+ghost use Rattle.std.specs.Option.{option_copied, option_map, option_map_or, option_or};
 ghost use Rattle.std.specs.BTreeMap as tree;
 ghost use Rattle.std.specs.HashMap as hash;
 ghost use Rattle.std.specs.Ordering.{nat_cmp};
@@ -13,7 +13,8 @@ ghost use Rattle.memory_model.specs.Order as spec;
 ghost use Rattle.memory_model.specs.Traces as traces;
 ghost use Rattle.memory_model.specs.Verdict as verdict;
 ghost use Rattle.rvwmo_order.specs.Indexed as indexed;
-ghost use Rattle.rvwmo_order.specs.Indexed.{GivesSources, IsBeyond, AreRisingStores, SeesWithin, is_lr_of, name_eq, place_from, reaches_of, stored_from};
+ghost use Rattle.rvwmo_order.specs.Bounds.{AreDistinctOperations};
+ghost use Rattle.rvwmo_order.specs.Indexed.{GivesRanks, GivesSources, HasRank, IsBeyond, AreRisingStores, SeesWithin, is_lr_of, name_eq, place_from, rank_of, ranked, reaches_of, stored_from};
 
 use crate::accesses::{end_of, is_lr, is_same, name_of, reads, writes};
 use crate::items::Harts;
@@ -40,9 +41,10 @@ pub struct Index {
     stores: HashMap<u64, Vec<Stored>>,
     /// The LRs of each hart, in the order's order.
     reserves: BTreeMap<u8, Vec<Operation>>,
-    /// The stores that the first bytes of each load come from, at the load's place; they are found once, since
-    /// a judge asks for them many times.
-    sources: Vec<[Option<Operation>; 4]>,
+    /// The ranks of the stores that the first bytes of each load come from, at the load's place: a rank is
+    /// one more than a place, and 0 stands for no store. They are found once, since a judge asks for them
+    /// many times.
+    sources: Vec<[usize; 4]>,
 }
 
 impl Model for Index {
@@ -138,66 +140,139 @@ impl Index {
     pub(crate) fn source_of(&self, load: &Operation, x: u64) -> Option<Operation>
         ensures { result ≡ spec.source self.now load.now x }
     {
-        self.source_at(self.position_of(load), load, x)
+        let position = self.position_of(load);
+        let ranks = self.ranks_of(position, load);
+        self.source_at(&ranks, position, load, x)
     }
 
-    /// The same of a load that stands at this place of the order.
-    pub(crate) fn source_at(&self, position: usize, load: &Operation, x: u64) -> Option<Operation>
-        requires { position ≡ spec.position_in self.now load.now }
+    /// The same of a load that stands at this place of the order, of whose first bytes these are the ranks.
+    pub(crate) fn source_at(
+        &self,
+        ranks: &[usize; 4],
+        position: usize,
+        load: &Operation,
+        x: u64,
+    ) -> Option<Operation>
+        requires position { position ≡ spec.position_in self.now load.now }
+        requires ranks { GivesRanks self.now load.now ranks.now }
         ensures { result ≡ spec.source self.now load.now x }
     {
-        match self.kept_source(position, load, x) {
-            Some(source) => source,
-            None => self.find_source(position, load, x),
+        self.ranked(self.rank_at(ranks, position, load, x)).copied()
+    }
+
+    /// The rank of the store that byte `x` of a load comes from.
+    pub(crate) fn source_rank(
+        &self,
+        ranks: &[usize; 4],
+        position: usize,
+        load: &Operation,
+        x: u64,
+    ) -> usize
+        requires position { position ≡ spec.position_in self.now load.now }
+        requires ranks { GivesRanks self.now load.now ranks.now }
+        requires distinct { AreDistinctOperations self.now }
+        ensures source { HasRank self.now (spec.source self.now load.now x) result }
+        ensures rank { result ≡ rank_of self.now (spec.source self.now load.now x) }
+    {
+        self.rank_at(ranks, position, load, x)
+    }
+
+    fn rank_at(&self, ranks: &[usize; 4], position: usize, load: &Operation, x: u64) -> usize
+        requires position { position ≡ spec.position_in self.now load.now }
+        requires ranks { GivesRanks self.now load.now ranks.now }
+        ensures { HasRank self.now (spec.source self.now load.now x) result }
+    {
+        let first = u64::from(load.address);
+        if x < first {
+            return self.find_source(position, load, x);
+        }
+        let offset = x - first;
+        if offset < 4 && offset < u64::from(load.size) {
+            ranks[offset as usize]
+        } else {
+            self.find_source(position, load, x)
         }
     }
 
-    // The source of a load's byte, where it is kept at this place of the order.
-    fn kept_source(&self, position: usize, load: &Operation, x: u64) -> Option<Option<Operation>>
-        ensures { (source : Option OperationValue) → result ≡ Some source → source ≡ spec.source self.now load.now x }
+    /// The ranks of the stores that the first bytes of a load come from, which stands at this place.
+    pub(crate) fn ranks_of(&self, position: usize, load: &Operation) -> [usize; 4]
+        requires { position ≡ spec.position_in self.now load.now }
+        ensures { GivesRanks self.now load.now result }
+    {
+        match self.kept_ranks(position, load) {
+            Some(ranks) => *ranks,
+            None => self.found_ranks(position, load),
+        }
+    }
+
+    /// The operation of a rank; none of 0.
+    pub(crate) fn ranked(&self, rank: usize) -> Option<&Operation>
+        ensures { option_copied result ≡ ranked self.now rank }
+    {
+        if rank == 0 {
+            None
+        } else {
+            self.order.get(rank - 1)
+        }
+    }
+
+    // Those of a load, where they are kept at this place of the order.
+    fn kept_ranks(&self, position: usize, load: &Operation) -> Option<&[usize; 4]>
+        ensures { (ranks : List ℕ) → option_copied result ≡ Some ranks → GivesRanks self.now load.now ranks }
     {
         let a = self.order.get(position)?;
         let kept = self.sources.get(position)?;
-        let first = u64::from(a.address);
-        if !is_same(a, load) || !reads(a.kind) || x < first {
+        if !is_same(a, load) || !reads(a.kind) {
             return None;
         }
-        let offset = x - first;
-        if offset < 4 && offset < u64::from(a.size) {
-            Some(kept[offset as usize])
-        } else {
-            None
+        if a.address != load.address || a.size != load.size {
+            return None;
         }
+        Some(kept)
     }
 
-    // The sources of the first bytes of an operation, where it is a load.
-    fn first_sources(&self, a: &Operation) -> [Option<Operation>; 4]
-        ensures { operations.reads a.now.kind ≡ true → (i : ℕ) → i < 4 → i < a.now.size → slice_index_or result i None ≡ spec.source self.now a.now (a.now.address + i) }
+    // Those of an operation, where it is a load.
+    fn first_sources(&self, a: &Operation) -> [usize; 4]
+        ensures { operations.reads a.now.kind ≡ true → GivesRanks self.now a.now result }
     {
-        let mut sources = [None; 4];
         if !reads(a.kind) {
-            return sources;
+            return [0; 4];
         }
-        let position = self.position_of(a);
+        self.found_ranks(self.position_of(a), a)
+    }
+
+    // Those of a load that stands at this place of the order, each found.
+    fn found_ranks(&self, position: usize, load: &Operation) -> [usize; 4]
+        requires { position ≡ spec.position_in self.now load.now }
+        ensures { GivesRanks self.now load.now result }
+    {
+        let mut ranks = [0; 4];
         for offset in 0..4 {
-            if (offset as u32) < a.size {
-                let x = u64::from(a.address) + offset as u64;
-                sources[offset] = self.find_source(position, a, x);
+            if (offset as u32) < load.size {
+                let x = u64::from(load.address) + offset as u64;
+                ranks[offset] = self.find_source(position, load, x);
             }
         }
-        sources
+        ranks
     }
 
-    fn find_source(&self, position: usize, load: &Operation, x: u64) -> Option<Operation>
+    // The rank of the store that byte `x` of a load comes from, found among the stores to the byte.
+    fn find_source(&self, position: usize, load: &Operation, x: u64) -> usize
         requires { position ≡ spec.position_in self.now load.now }
-        ensures { result ≡ spec.source self.now load.now x }
+        ensures { HasRank self.now (spec.source self.now load.now x) result }
     {
         match self.stores.get(&x) {
             Some(stores) => {
                 let reach = self.reach_at(position);
-                last_within::<Brand>(stores, position, reach, name_of(load), Blank::new(1))
+                rank_of_seen(last_within::<Brand>(
+                    stores,
+                    position,
+                    reach,
+                    name_of(load),
+                    Blank::new(1),
+                ))
             }
-            None => None,
+            None => 0,
         }
     }
 
@@ -218,7 +293,7 @@ impl Index {
     {
         let position = self.position(load);
         match self.stores.get(&x) {
-            Some(stores) => last_seen(stores, position, load, ticks),
+            Some(stores) => store_of(last_seen(stores, position, load, ticks)),
             None => None,
         }
     }
@@ -241,8 +316,8 @@ impl Index {
     }
 }
 
-// The sources of the first bytes of each load.
-fn sources_in(alloc: Global, index: &Index) -> Result<Vec<[Option<Operation>; 4]>, AllocError>
+// The ranks of the sources of the first bytes of each load.
+fn sources_in(alloc: Global, index: &Index) -> Result<Vec<[usize; 4]>, AllocError>
     ensures { IfOk result (λ sources. GivesSources index.now sources.items) }
 {
     let mut sources = Vec::with_capacity(alloc, index.order().len())?;
@@ -333,8 +408,8 @@ fn last_seen<L: Ledger>(
     position: usize,
     load: OpId,
     ticks: &mut Ticks<L>,
-) -> Option<Operation>
-    ensures seen { result ≡ option_map (λ s. s.store) (last_or None (filter (indexed.is_seen position load) stores.now)) }
+) -> Option<(usize, Operation)>
+    ensures seen { result ≡ option_map (λ s. (s.position, s.store)) (last_or None (filter (indexed.is_seen position load) stores.now)) }
     ensures looks { ticks.new ≤ ticks.old + length stores.now }
 {
     let mut left = stores.len();
@@ -342,10 +417,30 @@ fn last_seen<L: Ledger>(
         left -= 1;
         let (place, store) = stores[left].look(ticks);
         if is_seen(position, load, place, &store) {
-            return Some(store);
+            return Some((place, store));
         }
     }
     None
+}
+
+fn store_of(seen: Option<(usize, Operation)>) -> Option<Operation>
+    ensures { result ≡ option_map (λ s. s.1) seen }
+{
+    match seen {
+        Some((_, store)) => Some(store),
+        None => None,
+    }
+}
+
+// The rank of a store that was seen; 0 where none was.
+fn rank_of_seen(seen: Option<(usize, Operation)>) -> usize
+    requires { (s : ℕ × OperationValue) → seen ≡ Some s → s.0 + 1 < 2 ^ 64 }
+    ensures { result ≡ option_map_or (λ s. s.0 + 1) seen 0 }
+{
+    match seen {
+        Some((place, _)) => place + 1,
+        None => 0,
+    }
 }
 
 // Whether a store at this place of the order stands before the load's place there, or precedes it in
@@ -364,13 +459,13 @@ fn last_within<L: Ledger>(
     reach: usize,
     load: OpId,
     blank: Blank,
-) -> Option<Operation>
+) -> Option<(usize, Operation)>
     requires name { blank.name ≡ L.name }
     requires parts { blank.parts ≡ L.parts }
     requires some { 0 < L.parts }
     requires rising { AreRisingStores stores.now }
     requires unseen { SeesWithin position reach load stores.now }
-    ensures { result ≡ option_map (λ s. s.store) (last_or None (filter (indexed.is_seen position load) stores.now)) }
+    ensures { result ≡ option_map (λ s. (s.position, s.store)) (last_or None (filter (indexed.is_seen position load) stores.now)) }
 {
     let mut ticks = Ticks::<L>::new(blank);
     let count = count_within(stores, position, reach, &mut ticks);

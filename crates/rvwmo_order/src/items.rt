@@ -119,6 +119,35 @@ pub(crate) fn has_operation(entry: &Retired) -> bool
     if !has_access_opcode(entry.word) {
         return false;
     }
+    match entry.word % 0x80 {
+        0x03 => is_load(entry),
+        0x23 => is_store(entry),
+        _ => is_access(entry),
+    }
+}
+
+// The same of an entry with the opcode of loads, which needn't be decoded.
+fn is_load(entry: &Retired) -> bool
+    requires { entry.now.word % 128 ≡ 0x03 }
+    ensures { result ≡ spec.has_operation entry.now }
+{
+    let funct3 = entry.word / 0x1000 % 8;
+    funct3 < 6 && funct3 != 3
+}
+
+// The same of one with the opcode of stores.
+#[tactic(auto, using(crate::proofs::Opcodes::store_told))]
+fn is_store(entry: &Retired) -> bool
+    requires { entry.now.word % 128 ≡ 0x23 }
+    ensures { result ≡ spec.has_operation entry.now }
+{
+    entry.word / 0x1000 % 8 < 3
+}
+
+// The same by what the entry's word is.
+fn is_access(entry: &Retired) -> bool
+    ensures { result ≡ spec.has_operation entry.now }
+{
     match decode(entry.word) {
         Some(instr) => match instr {
             Instr::Load { .. } | Instr::Store { .. } | Instr::Lr { .. } | Instr::Amo { .. } => true,

@@ -101,8 +101,9 @@ fn has_source_bytes(image: &Image, index: &Index, a: &Operation) -> bool
         ≡ list_all (λ x. operations.read_at a.now x == orders.byte_from (byte_at image.now) x (orders.source index.now a.now x)) (operations.bytes_of a.now) }
 {
     let position = index.position_of(a);
+    let ranks = index.ranks_of(position, a);
     (u64::from(a.address)..end_of(a)).all(|x| read_at(a, x)
-        == byte_from(image, x, index.source_at(position, a, x)))
+        == byte_from(image, x, index.source_at(&ranks, position, a, x)))
 }
 
 // The first LR and SC that are paired and not atomic.

@@ -106,7 +106,7 @@ pub(crate) fn operations_at(
 ) -> Result<Vec<Operation>, AllocError>
     ensures { IfOk result (λ operations. operations.items ≡ spec.operations_at harts.now order.now) }
 {
-    let mut operations = Vec::new(alloc);
+    let mut operations = Vec::with_capacity(alloc, order.len())?;
     for name in order {
         if let Some(operation) = operation_at(harts, *name) {
             operations.push(operation)?;

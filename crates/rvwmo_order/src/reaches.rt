@@ -26,7 +26,7 @@ pub(crate) fn reaches_in(alloc: Global, order: &[Operation]) -> Result<Vec<usize
     ensures { IfOk result (λ reaches. reaches.items ≡ reaches_of order.now) }
 {
     let mut lowest = BTreeMap::new(alloc);
-    let mut reaches = Vec::new(alloc);
+    let mut reaches = Vec::with_capacity(alloc, order.len())?;
     for position in (0..order.len()).rev() {
         let b = &order[position];
         let behind = reaches.len();

@@ -79,7 +79,7 @@ fn first_behind(
 fn weights_behind(alloc: Global, count: usize, place: usize) -> Result<Vec<usize>, AllocError>
     ensures { IfOk result (λ weights. (k : ℕ) → place < k → k < count → slice_index_or weights.items k 0 ≡ count - k) }
 {
-    let mut weights = Vec::new(alloc);
+    let mut weights = Vec::with_capacity(alloc, count)?;
     for other in 0..count {
         weights.push(if other > place { count - other } else { 0 })?;
     }

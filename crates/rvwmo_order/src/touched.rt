@@ -1,15 +1,16 @@
 //! The bytes that a walk along a hart's list has touched: for each the greatest weight of its accesses, and
 //! of its loads since the last store to it, by where they return it from.
-ghost use Rattle.std.specs.Prelude.{◌≡◌, ◌≤◌, ◌+◌, ◌*◌, ◌/◌, ◌%◌, ◌<◌, ◌&&◌, ℕ, [], OnOk, if◌then◌else◌, nat_eq, nat_le, nat_lt, replicate, slice_index_or, unwrap_or};
+ghost use Rattle.std.specs.Prelude.{◌≡◌, ◌≤◌, ◌+◌, ◌*◌, ◌/◌, ◌%◌, ◌<◌, ◌&&◌, ℕ, [], OnOk, if◌then◌else◌, nat_eq, nat_le, nat_lt, replicate, slice_index_or, true, unwrap_or};
 ghost use Rattle.std.specs.HashMap as hash;
 ghost use Rattle.memory_model.specs.Operations as operations;
 ghost use Rattle.memory_model.specs.Order as orders;
+ghost use Rattle.rvwmo_order.specs.Bounds.{AreDistinctOperations};
+ghost use Rattle.rvwmo_order.specs.Indexed.{GivesRanks};
 ghost use Rattle.rvwmo_order.specs.Touched as spec;
 ghost use Rattle.rvwmo_order.specs.Touched.{touch_in};
 
 use crate::accesses::{end_of, reads, writes};
 use crate::index::Index;
-use crate::sources::is_same_source;
 use memory_model::Operation;
 use std::alloc::{AllocError, Global};
 use std::collections::HashMap;
@@ -20,8 +21,8 @@ pub(crate) struct Touch {
     all: usize,
     /// Of the loads since the last store to it.
     loads: usize,
-    /// Where the load of that weight returns it from.
-    source: Option<Operation>,
+    /// The rank of the store that the load of that weight returns it from.
+    source: usize,
     /// Of those loads that return it from elsewhere.
     others: usize,
 }
@@ -33,7 +34,7 @@ impl Touch {
         Touch {
             all: 0,
             loads: 0,
-            source: None,
+            source: 0,
             others: 0,
         }
     }
@@ -44,11 +45,11 @@ impl Touch {
         self.all
     }
 
-    /// Of the loads since the last store that return it from elsewhere.
-    pub(crate) fn but(&self, source: Option<Operation>) -> usize
+    /// Of the loads since the last store that return it from elsewhere than the store of this rank.
+    pub(crate) fn but(&self, source: usize) -> usize
         ensures { result ≡ spec.but source self.now }
     {
-        if is_same_source(self.source, source) {
+        if self.source == source {
             self.others
         } else {
             self.loads
@@ -56,25 +57,35 @@ impl Touch {
     }
 
     // Goes past an operation that touches the byte `x`, and stands at this place of the order.
-    fn pass(&mut self, index: &Index, position: usize, x: u64, a: &Operation, own: usize)
-        requires { position ≡ orders.position_in index.now a.now }
+    fn pass(
+        &mut self,
+        index: &Index,
+        ranks: &[usize; 4],
+        position: usize,
+        x: u64,
+        a: &Operation,
+        own: usize,
+    )
+        requires position { position ≡ orders.position_in index.now a.now }
+        requires ranks { operations.reads a.now.kind ≡ true → GivesRanks index.now a.now ranks.now }
+        requires distinct { AreDistinctOperations index.now }
         ensures { self.new ≡ spec.touched index.now x own a.now self.old }
     {
         if writes(a.kind) {
             self.loads = 0;
-            self.source = None;
+            self.source = 0;
             self.others = 0;
         }
         if reads(a.kind) {
-            self.load(index.source_at(position, a, x), own);
+            self.load(index.source_rank(ranks, position, a, x), own);
         }
         self.all = self.all.max(own);
     }
 
-    fn load(&mut self, source: Option<Operation>, own: usize)
+    fn load(&mut self, source: usize, own: usize)
         ensures { self.new ≡ spec.loaded source own self.old }
     {
-        if is_same_source(self.source, source) {
+        if self.source == source {
             self.loads = self.loads.max(own);
         } else if self.loads < own {
             self.others = self.loads;
@@ -131,20 +142,34 @@ pub(crate) fn pass_bytes(
     a: &Operation,
     own: usize,
 ) -> Result<(), AllocError>
-    requires { position ≡ orders.position_in index.now a.now }
+    requires position { position ≡ orders.position_in index.now a.now }
+    requires distinct { AreDistinctOperations index.now }
     ensures { OnOk result ((x : ℕ) → touch_in touches.new x
         ≡ (if operations.touches x a.now then spec.touched index.now x own a.now (touch_in touches.old x) else touch_in touches.old x)) }
 {
+    let ranks = ranks_read(index, position, a);
     let end = end_of(a);
     let mut x = u64::from(a.address);
     while x < end {
         let behind = behind_in_word(x, end);
         let mut word = kept_word(touches, x / 4);
-        pass_word(&mut word, index, position, x, behind, a, own);
+        pass_word(&mut word, index, &ranks, position, x, behind, a, own);
         touches.insert(x / 4, word)?;
         x = behind;
     }
     Ok(())
+}
+
+// The ranks of the stores that the first bytes of an operation come from, where it is a load.
+fn ranks_read(index: &Index, position: usize, a: &Operation) -> [usize; 4]
+    requires { position ≡ orders.position_in index.now a.now }
+    ensures { operations.reads a.now.kind ≡ true → GivesRanks index.now a.now result }
+{
+    if reads(a.kind) {
+        index.ranks_of(position, a)
+    } else {
+        [0; 4]
+    }
 }
 
 // The byte behind those from one on, and before another, that are in its word.
@@ -171,6 +196,7 @@ fn kept_word(touches: &HashMap<u64, [Touch; 4]>, number: u64) -> [Touch; 4]
 fn pass_word(
     word: &mut [Touch; 4],
     index: &Index,
+    ranks: &[usize; 4],
     position: usize,
     first: u64,
     end: u64,
@@ -178,12 +204,14 @@ fn pass_word(
     own: usize,
 )
     requires position { position ≡ orders.position_in index.now a.now }
+    requires ranks { operations.reads a.now.kind ≡ true → GivesRanks index.now a.now ranks.now }
+    requires distinct { AreDistinctOperations index.now }
     requires ordered { first ≤ end }
     requires within { end ≤ first / 4 * 4 + 4 }
     ensures { (x : ℕ) → x / 4 ≡ first / 4 → slice_index_or word.new (x % 4) spec.untouched
         ≡ (if nat_le first x && nat_lt x end then spec.touched index.now x own a.now (slice_index_or word.old (x % 4) spec.untouched) else slice_index_or word.old (x % 4) spec.untouched) }
 {
     for x in first..end {
-        word[(x % 4) as usize].pass(index, position, x, a, own);
+        word[(x % 4) as usize].pass(index, ranks, position, x, a, own);
     }
 }

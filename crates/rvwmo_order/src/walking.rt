@@ -1,6 +1,6 @@
 //! A walk along a hart's list: what it carries, what it has passed and the bytes that it has touched bound,
 //! for each rule, the weights of the operations that must come before the one at hand.
-ghost use Rattle.std.specs.Prelude.{◌≡◌, ◌≤◌, ◌||◌, ℕ, max, true, List, OnOk, Some, slice_index_or};
+ghost use Rattle.std.specs.Prelude.{◌≡◌, ◌≤◌, ◌-◌, ◌||◌, ℕ, max, true, List, OnOk, Some, slice_index_or};
 ghost use Rattle.memory_model.specs.declared.operation.Operation.{Operation as OperationValue};
 ghost use Rattle.memory_model.specs.Items.{Item as ItemValue};
 ghost use Rattle.memory_model.specs.Dependencies.{uses_in};
@@ -9,7 +9,8 @@ ghost use Rattle.memory_model.specs.Order as orders;
 ghost use Rattle.rvwmo_order.specs.Carried.{carried_after, greatest};
 ghost use Rattle.rvwmo_order.specs.Passed.{passed_after};
 ghost use Rattle.rvwmo_order.specs.Bounds as spec;
-ghost use Rattle.rvwmo_order.specs.Bounds.{HasCome, IsBoundsRow, IsSource};
+ghost use Rattle.rvwmo_order.specs.Bounds.{AreDistinctOperations, HasCome, IsBoundsRow, IsSource};
+ghost use Rattle.rvwmo_order.specs.Indexed.{rank_of, ranked};
 ghost use Rattle.rvwmo_order.specs.Touched.{but, touch_after, touch_in};
 
 use crate::accesses::{end_of, has_rcsc, has_release, is_amo, is_sc, reads, writes};
@@ -56,6 +57,7 @@ impl Walk {
         own: usize,
     ) -> Result<(), AllocError>
         requires placed { (a : OperationValue) → item.now.operation ≡ Some a → position ≡ orders.position_in index.now a }
+        requires distinct { AreDistinctOperations index.now }
         ensures model { OnOk result (self.new.model ≡ self.old.model) }
         ensures carried { OnOk result (self.new.carried ≡ carried_after own item.now.instr self.old.carried) }
         ensures passed { OnOk result (self.new.passed ≡ passed_after self.old.model own item.now self.old.passed) }
@@ -79,7 +81,8 @@ impl Walk {
         b: &Operation,
         instr: Option<Instr>,
     ) -> Row
-        requires { position ≡ orders.position_in index.now b.now }
+        requires position { position ≡ orders.position_in index.now b.now }
+        requires distinct { AreDistinctOperations index.now }
         ensures { IsBoundsRow index.now weights.now rows.now b.now (uses_in instr) self.now result }
     {
         let (address, data_stored) = self.in_sources(instr);
@@ -141,8 +144,9 @@ impl Walk {
         position: usize,
         b: &Operation,
     ) -> Sourced
-        requires { position ≡ orders.position_in index.now b.now }
-        ensures loads { operations.reads b.now.kind ≡ true → (x : ℕ) → operations.touches x b.now ≡ true → but (orders.source index.now b.now x) (touch_in self.now.touches x) ≤ result.loads }
+        requires position { position ≡ orders.position_in index.now b.now }
+        requires distinct { AreDistinctOperations index.now }
+        ensures loads { operations.reads b.now.kind ≡ true → (x : ℕ) → operations.touches x b.now ≡ true → but (rank_of index.now (orders.source index.now b.now x)) (touch_in self.now.touches x) ≤ result.loads }
         ensures atomics { operations.reads b.now.kind ≡ true → (x : ℕ) (s : OperationValue) → IsSource index.now b.now x s → (operations.is_amo s.kind || operations.is_sc s.kind) ≡ true → spec.weight_of weights.now index.now s ≤ result.atomics }
         ensures passed_on { operations.reads b.now.kind ≡ true → (x : ℕ) (s : OperationValue) → IsSource index.now b.now x s → max (slice_index_or rows.now (orders.position_in index.now s) spec.unbounded).address (slice_index_or rows.now (orders.position_in index.now s) spec.unbounded).data_stored ≤ result.passed_on }
     {
@@ -154,10 +158,11 @@ impl Walk {
         if !reads(b.kind) {
             return most;
         }
+        let ranks = index.ranks_of(position, b);
         let number = u64::from(b.address) / 4;
         let word = word_of(&self.touches, number);
         for x in u64::from(b.address)..end_of(b) {
-            let source = index.source_at(position, b, x);
+            let source = index.source_rank(&ranks, position, b, x);
             let touch = touch_near(&self.touches, number, word, x);
             most = Sourced {
                 loads: most.loads.max(touch.but(source)),
@@ -187,44 +192,32 @@ fn only_if(test: bool, weight: usize) -> usize
     if test { weight } else { 0 }
 }
 
-// The weight of a byte's source, where that is an AMO or an SC of its hart.
-fn atomic_source(
-    index: &Index,
-    weights: &[usize],
-    b: &Operation,
-    source: Option<Operation>,
-) -> usize
-    ensures { (s : OperationValue) → source ≡ Some s → s.hart ≡ b.now.hart → (operations.is_amo s.kind || operations.is_sc s.kind) ≡ true → spec.weight_of weights.now index.now s ≤ result }
+// The weight of the store of a rank, where that is an AMO or an SC of the hart.
+fn atomic_source(index: &Index, weights: &[usize], b: &Operation, rank: usize) -> usize
+    ensures { (s : OperationValue) → ranked index.now rank ≡ Some s → s.hart ≡ b.now.hart → (operations.is_amo s.kind || operations.is_sc s.kind) ≡ true → slice_index_or weights.now (rank - 1) 0 ≤ result }
 {
-    let Some(s) = source else {
+    let Some(s) = index.ranked(rank) else {
         return 0;
     };
     if s.hart == b.hart && (is_amo(s.kind) || is_sc(s.kind)) {
-        weight_of(index, weights, &s)
+        weight_at(weights, rank.saturating_sub(1))
     } else {
         0
     }
 }
 
-// What came into a byte's source, where that is of its hart.
-fn dependent_store(index: &Index, rows: &[Row], b: &Operation, source: Option<Operation>) -> usize
-    ensures { (s : OperationValue) → source ≡ Some s → s.hart ≡ b.now.hart → max (slice_index_or rows.now (orders.position_in index.now s) spec.unbounded).address (slice_index_or rows.now (orders.position_in index.now s) spec.unbounded).data_stored ≤ result }
+// What came into the store of a rank, where that is of the hart.
+fn dependent_store(index: &Index, rows: &[Row], b: &Operation, rank: usize) -> usize
+    ensures { (s : OperationValue) → ranked index.now rank ≡ Some s → s.hart ≡ b.now.hart → max (slice_index_or rows.now (rank - 1) spec.unbounded).address (slice_index_or rows.now (rank - 1) spec.unbounded).data_stored ≤ result }
 {
-    let Some(s) = source else {
+    let Some(s) = index.ranked(rank) else {
         return 0;
     };
     if s.hart != b.hart {
         return 0;
     }
-    let row = row_at(rows, index.position_of(&s));
+    let row = row_at(rows, rank.saturating_sub(1));
     row.address.max(row.data_stored)
-}
-
-// The weight at an operation's place in the order.
-fn weight_of(index: &Index, weights: &[usize], a: &Operation) -> usize
-    ensures { result ≡ spec.weight_of weights.now index.now a.now }
-{
-    weight_at(weights, index.position_of(a))
 }
 
 /// The weight at a place of the order.

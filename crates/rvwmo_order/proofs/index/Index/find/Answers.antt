@@ -1,18 +1,21 @@
-use Rattle.std.proofs.Common.{◌≡◌, ◌∙◌, [], ap, arith, length, refl, sym}
+use Rattle.std.proofs.Common.{◌≡◌, ◌∙◌, ℕ, [], ap, arith, length, refl, sym}
 use Rattle.std.specs.Prelude.{filter}
-use Rattle.std.specs.Option.{option_copied}
+use Rattle.std.specs.Option.{option_copied, option_map}
+use Rattle.memory_model.specs.declared.operation.Operation.{Operation}
 use Rattle.memory_model.specs.Operations.{stores_to}
 use Rattle.memory_model.specs.Order.{position_in, source}
 use Rattle.rvwmo_order.specs.Indexed.{stored_from}
-use Rattle.rvwmo_order.proofs.Indexed.{bucket_missing, bucket_there, length-stored_from, source_seen}
+use Rattle.rvwmo_order.proofs.Indexed.{bucket_missing, bucket_there, length-stored_from, source_seen, stores_only}
 use Rattle.rvwmo_order.proofs.index.Index.find.Goals as goal
 
 pub returns-in-Some-clause-source : goal.returns-in-Some-clause-source
 returns-in-Some-clause-source g c = λ a e.
     let stores : c.deref.result.now ≡ stored_from 0 c.args.x c.self.inside.order.items = c.deref.ensures.value ∙ bucket_there _ _ _ _ (c.self.invariant.2 c.args.x) (sym c.get.ensures.value ∙ ap option_copied c.in-Some.is) in
-    c.last_seen.ensures.seen
+    c.store_of.ensures
+    ∙ (ap (option_map (λ (p : ℕ × Operation). p.1)) c.last_seen.ensures.seen
+    ∙ (stores_only _
     ∙ (source_seen c.self.inside.order.items a c.args.x c.args.load c.position-position.result c.deref.result.now e (c.position-position.ensures a e ∙ ap (λ o. position_in o a) (sym c.self.view_is)) stores
-    ∙ ap (λ o. source o a c.args.x) c.self.view_is)
+    ∙ ap (λ o. source o a c.args.x) c.self.view_is)))
 
 pub returns-in-Some-clause-looks : goal.returns-in-Some-clause-looks
 returns-in-Some-clause-looks g c =
