@@ -10,7 +10,7 @@ use crate::architecture::Architecture;
 use crate::beyond::{beyond, search_model};
 use crate::outcome::{Outcome, Way};
 use elf_loader::Image;
-use explorer::{Exploration, Found, explore};
+use explorer::{Exploration, Exploring, Found, explore};
 use machine_types::Config;
 use state_search::{Extent, Unwatched};
 use std::alloc::{AllocError, Global};
@@ -46,12 +46,16 @@ pub fn explore_architecture(
     ensures model { IfOk result (λ a. a.model ≡ config.model) }
     ensures window { IfOk result (λ a. a.window ≡ window) }
 {
+    let exploring = Exploring {
+        limit,
+        shortened: false,
+    };
     let Exploration {
         outcomes: found,
         extent,
         states: machine_states,
         ..
-    } = explore(alloc, image, config, limit, &Unwatched)?;
+    } = explore(alloc, image, config, exploring, &Unwatched)?;
     let Allowed {
         witnesses,
         reach,

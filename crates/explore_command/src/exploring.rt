@@ -11,7 +11,7 @@ use crate::judging::{Judgement, judge};
 use crate::keeping::keep;
 use command_files::{Fault, Files};
 use command_settings::Explore;
-use explorer::explore;
+use explorer::{Exploring, explore};
 use progress_line::{Progress, Stage};
 use state_search::Watch;
 use std::alloc::Global;
@@ -51,7 +51,11 @@ pub fn explore_files<'a, F: Files, O: Write, E: Write, P: Progress>(
 {
     let asked = Asked::read(alloc, files, wanted)?;
     let watch = Telling { progress };
-    let Ok(found) = explore(alloc, &asked.image, asked.config, wanted.states, &watch) else {
+    let exploring = Exploring {
+        limit: wanted.states,
+        shortened: wanted.scripts.is_some(),
+    };
+    let Ok(found) = explore(alloc, &asked.image, asked.config, exploring, &watch) else {
         progress.end();
         return Err(Fault::OutOfMemory);
     };

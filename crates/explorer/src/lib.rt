@@ -1,6 +1,7 @@
 //! All ends that the machine can bring a program to, each with the events that lead to it.
 #![tactic(auto)]
 
+mod effort;
 mod exploration;
 mod exploring;
 mod found;
@@ -9,6 +10,7 @@ mod ranks;
 mod scripts;
 mod stuck;
 
+pub use effort::{Exploring, most_played};
 pub use exploration::{Exploration, Stuck};
 pub use exploring::{States, explore};
 pub use found::{Found, Script};

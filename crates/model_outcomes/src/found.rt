@@ -2,7 +2,7 @@
 
 use anyhow::{Result, ensure};
 use elf_loader::Image;
-use explorer::{compare, explore};
+use explorer::{Exploring, compare, explore};
 use flat_model::HartResult;
 use machine_model::MemoryModel;
 use machine_parts::is_within_limits;
@@ -40,7 +40,11 @@ pub fn allowed(alloc: Global, image: &Image, config: Config) -> Result<Vec<Witne
     ensure!(is_within_limits(&config), "no configuration");
     let found = search(alloc, image, config, WINDOW, STATES)?;
     ensure!(found.reach == Reach::Whole, "a bound is met");
-    let machine = explore(alloc, image, config, STATES, &Unwatched)?;
+    let exploring = Exploring {
+        limit: STATES,
+        shortened: false,
+    };
+    let machine = explore(alloc, image, config, exploring, &Unwatched)?;
     ensure!(machine.extent.is_complete(), "the machine's limit is met");
     for end in machine.outcomes.as_slice() {
         ensure!(

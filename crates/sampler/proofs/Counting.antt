@@ -101,7 +101,7 @@ end_counted image config counted after unended runs n end told are reached alike
         ap (λ o. unwrap_or o 0) (updates found) ∙ (times_behind test (n + 1) _ ∙ ap (λ m. cond test (m + 1) (times_of found counted)) times)
 
     go : (script : Script) → LeadsToEnd image config (outcome_of told) script → AreCounted image config after unended (runs + 1)
-    go (Events events) leads = one_ended image config events.items leads.replays counted unended runs are told after (ap have_ended leads.same ∙ reached.0) leads.same step
+    go (Events events) leads = one_ended image config events.items leads.replays counted unended runs are told after (ap have_ended leads.there ∙ reached.0) leads.there step
     go NoMemory leads = absurd leads
     go Limit leads = absurd leads
     go Unrealised leads = absurd leads

@@ -8,7 +8,7 @@ use Rattle.elf_loader.specs.Image.{Initial}
 use Rattle.explorer.specs.declared.found.Found.{Found}
 use Rattle.explorer.specs.declared.found.Script.{Script}
 use Rattle.explorer.specs.declared.found.Script.TheVariants.{Events}
-use Rattle.explorer.specs.Ends.{BringsAbout, outcome_of}
+use Rattle.explorer.specs.Ends.{outcome_of}
 use Rattle.explorer.specs.Ranks.{outcome_cmp}
 use Rattle.flat_model.specs.Shown.{Result, results}
 use Rattle.hart.specs.Run.{is_running}
@@ -16,7 +16,7 @@ use Rattle.machine_types.specs.declared.config.Config.{Config}
 use Rattle.machine_types.specs.declared.event.Event.{Event}
 use Rattle.sampler.specs.declared.sampled.Sampled.{Sampled}
 use Rattle.sampler.specs.declared.tally.Tally.{Tally}
-use Rattle.schedules.specs.Schedules.{Replays, led}
+use Rattle.schedules.specs.Schedules.{HasResults, LeadsThere, Replays, led}
 
 -- ---- ends
 
@@ -26,7 +26,7 @@ have_ended [] = true
 have_ended (r ∷ rs) = not (is_running r.status) && have_ended rs
 
 abbrev pub LeadsToEnd : Initial → Config → List Result → Script → Type 0
-LeadsToEnd image config outcome (Events events) = BringsAbout image config outcome events.items
+LeadsToEnd image config outcome (Events events) = LeadsThere image config (HasResults outcome) events.items
 LeadsToEnd image config outcome _ = ⊥
 
 -- it is an end, and its script leads there

@@ -10,6 +10,7 @@ use crate::sampled::Sampled;
 use crate::tally::Tally;
 use coherent_machine::NewError;
 use elf_loader::Image;
+use explorer::{Program, most_played};
 use machine_types::Config;
 use rand_core::{Rng, SeedableRng};
 use rand_xoshiro::SplitMix64;
@@ -47,12 +48,12 @@ pub fn sample_ends(
         alloc,
         image,
         config,
-        shortened: sampling.shortened,
+        most_played: most_played(sampling.shortened, 1),
     };
     let mut generator = SplitMix64::seed_from_u64(sampling.seed);
     let mut tally = Tally::new(alloc);
     while tally.runs < sampling.runs {
-        let Ok(schedule) = program.run(generator.next_u64()) else {
+        let Ok(schedule) = run(&program, generator.next_u64()) else {
             break;
         };
         if tally.count(&program, schedule).is_err() {
@@ -62,23 +63,13 @@ pub fn sample_ends(
     tally.into_sampled(&program)
 }
 
-/// The program that is sampled, and its machine.
-#[derive(Clone, Copy)]
-pub(crate) struct Program<'a> {
-    pub alloc: Global,
-    pub image: &'a Image,
-    pub config: Config,
-    pub shortened: bool,
-}
-
-impl Program<'_> {
-    fn run(&self, seed: u64) -> Result<Schedule, NewError>
-        ensures real { IfOk result (λ schedule. schedule.machine ≡ led self.now.image.now self.now.config schedule.events.items) }
-        ensures replays { IfOk result (λ schedule. Replays self.now.image.now self.now.config schedule.events.items) }
-        ensures moves { IfOk result (λ schedule. EachMoves self.now.image.now self.now.config schedule.events.items) }
-        ensures results { IfOk result (λ schedule. told schedule.results.items ≡ results schedule.machine) }
-    {
-        let image = self.image.try_copy(self.alloc)?;
-        sample(self.alloc, image, self.config, seed, MOST_EVENTS)
-    }
+/// A random schedule, played from reset.
+fn run(program: &Program<'_>, seed: u64) -> Result<Schedule, NewError>
+    ensures real { IfOk result (λ schedule. schedule.machine ≡ led program.now.image.now program.now.config schedule.events.items) }
+    ensures replays { IfOk result (λ schedule. Replays program.now.image.now program.now.config schedule.events.items) }
+    ensures moves { IfOk result (λ schedule. EachMoves program.now.image.now program.now.config schedule.events.items) }
+    ensures results { IfOk result (λ schedule. told schedule.results.items ≡ results schedule.machine) }
+{
+    let image = program.image.try_copy(program.alloc)?;
+    sample(program.alloc, image, program.config, seed, MOST_EVENTS)
 }

@@ -7,15 +7,11 @@ ghost use Rattle.sampler.specs.Sampled.{IsRealEnd, IsSampled, IsTally, have_ende
 ghost use Rattle.schedules.specs.Schedules.{EachMoves, Replays, led};
 
 use crate::sampled::Sampled;
-use crate::sampling::Program;
-use explorer::{Found, Script};
+use explorer::{Found, Program, Script};
 use flat_model::HartResult;
-use schedules::{Schedule, shorten};
+use schedules::{HartResults, Schedule};
 use std::alloc::{AllocError, Global};
 use std::collections::BTreeMap;
-
-/// How many events are played to shorten a script.
-const MOST_PLAYED: u64 = 1_000_000;
 
 /// The ends of the runs so far.
 #[derive(Drop)]
@@ -81,7 +77,7 @@ impl Tally {
         ensures err { OnErr result (self.new.runs ≡ self.old.runs) }
     {
         let times = self.ends.get(&end).copied().unwrap_or(0);
-        let end = program.kept(end, times == 0);
+        let end = kept(program, end, times == 0);
         if self.ends.insert(end, times + 1).is_err() {
             return Err(AllocError);
         }
@@ -129,30 +125,20 @@ fn have_ended(harts: &[HartResult]) -> bool
     true
 }
 
-impl Program<'_> {
-    /// The end as it is told: where it is new, with fewer events that lead there, if that was asked for and
-    /// memory lasts.
-    fn kept(&self, end: Found, is_new: bool) -> Found
-        requires reached { IsRealEnd self.now.image.now self.now.config end }
-        ensures reached { IsRealEnd self.now.image.now self.now.config result }
-        ensures outcome { outcome_of result ≡ outcome_of end }
-    {
-        if !is_new || !self.shortened {
-            return end;
+/// The end as it is told: where it is new, with fewer events that lead there, if that was asked for and memory
+/// lasts.
+fn kept(program: &Program<'_>, end: Found, is_new: bool) -> Found
+    requires reached { IsRealEnd program.now.image.now program.now.config end }
+    ensures reached { IsRealEnd program.now.image.now program.now.config result }
+    ensures outcome { outcome_of result ≡ outcome_of end }
+{
+    let Found { harts, script } = end;
+    let script = match script {
+        Script::Events(events) if is_new => {
+            let goal = HartResults { harts: &harts };
+            Script::Events(program.shortened(events, &goal))
         }
-        let Found { harts, script } = end;
-        let Script::Events(events) = script else {
-            return Found { harts, script };
-        };
-        match shorten(self.alloc, self.image, self.config, &events, MOST_PLAYED) {
-            Ok(short) => Found {
-                harts,
-                script: Script::Events(short),
-            },
-            Err(_) => Found {
-                harts,
-                script: Script::Events(events),
-            },
-        }
-    }
+        script => script,
+    };
+    Found { harts, script }
 }

@@ -10,3 +10,5 @@ mod exploring;
 mod realising;
 #[cfg(test)]
 mod searching;
+#[cfg(test)]
+mod shortening;

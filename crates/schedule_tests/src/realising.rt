@@ -5,7 +5,7 @@ use flat_model::{FlatEvent, HartResult};
 use hart::Status;
 use machine_model::MemoryModel;
 use machine_types::{Config, Event};
-use schedules::{RealiseError, Schedule, realise, sample, shorten};
+use schedules::{RealiseError, Schedule, realise, sample};
 use std::alloc::Global;
 use std::test::Fail;
 use tl_types::Channel;
@@ -14,7 +14,7 @@ use tl_types::Channel;
 const LOAD: [u32; 2] = [0x8000_0637, 0x0006_2703];
 
 /// Hart 0 stores 1 to X and exits with Y, hart 1 stores 1 to Y and exits with X.
-const STORE_BUFFERING: [u32; 9] = [
+pub(crate) const STORE_BUFFERING: [u32; 9] = [
     0x8000_0637, // lui a2, 0x80000
     0x0010_0293, // li t0, 1
     0x0005_1863, // bnez a0, the second half
@@ -42,7 +42,7 @@ const STORE_BUFFERING_FENCED: [u32; 11] = [
 ];
 
 /// Exits with 0 where the store conditional succeeds, else with 1.
-const RESERVED: [u32; 5] = [
+pub(crate) const RESERVED: [u32; 5] = [
     0x8000_0637, // lui a2, 0x80000
     0x1006_0613, // addi a2, a2, 0x100
     0x1006_22af, // lr.w t0, (a2)
@@ -72,7 +72,7 @@ const TWO_LINES: [u32; 6] = [
 ];
 
 /// Stores 5 and then 0 to one word.
-const TWICE: [u32; 5] = [
+pub(crate) const TWICE: [u32; 5] = [
     0x8000_0637, // lui a2, 0x80000
     0x0050_0293, // li t0, 5
     0x1056_2023, // sw t0, 0x100(a2)
@@ -81,7 +81,7 @@ const TWICE: [u32; 5] = [
 ];
 
 /// Hart 0 stores 7, the others load the word twice and exit with the second.
-const READERS: [u32; 8] = [
+pub(crate) const READERS: [u32; 8] = [
     0x8000_0637, // lui a2, 0x80000
     0x0005_1863, // bnez a0, the loads
     0x0070_0293, // li t0, 7
@@ -105,7 +105,7 @@ const COUNT: [u32; 8] = [
 ];
 
 /// Hart 0 exits with 0, the others run in a circle.
-const CIRCLE: [u32; 2] = [
+pub(crate) const CIRCLE: [u32; 2] = [
     0x0005_1063, // bnez a0, itself
     0x0000_0073, // ecall
 ];
@@ -153,7 +153,7 @@ const SPIN_LOCK: [u32; 16] = [
 ];
 
 /// The program `dekker` of the examples.
-const DEKKER: [u32; 34] = [
+pub(crate) const DEKKER: [u32; 34] = [
     0x8000_02b7, // lui t0, 0x80000
     0x1002_8293, // addi t0, t0, 0x100
     0x8000_0337, // lui t1, 0x80000
@@ -190,11 +190,11 @@ const DEKKER: [u32; 34] = [
     0x0000_0073, // ecall
 ];
 
-const X: u32 = 0x8000_0100;
+pub(crate) const X: u32 = 0x8000_0100;
 
 const Y: u32 = 0x8000_0200;
 
-fn image_of(alloc: Global, words: &[u32]) -> Result<Image, Fail> {
+pub(crate) fn image_of(alloc: Global, words: &[u32]) -> Result<Image, Fail> {
     let size = size_of_kib(4).ok_or("a size")?;
     let mut bytes = Vec::new(alloc);
     for word in words {
@@ -203,7 +203,7 @@ fn image_of(alloc: Global, words: &[u32]) -> Result<Image, Fail> {
     Ok(raw(alloc, &bytes, size)?)
 }
 
-fn config_of(harts: u32, ways: u32) -> Config {
+pub(crate) fn config_of(harts: u32, ways: u32) -> Config {
     Config {
         harts,
         sets: 1,
@@ -213,7 +213,7 @@ fn config_of(harts: u32, ways: u32) -> Config {
     }
 }
 
-fn realised(
+pub(crate) fn realised(
     alloc: Global,
     words: &[u32],
     config: Config,
@@ -237,15 +237,15 @@ fn ended(results: &[HartResult], outputs: &[&[u32]]) -> bool {
         })
 }
 
-fn step(hart: u8) -> FlatEvent {
+pub(crate) fn step(hart: u8) -> FlatEvent {
     FlatEvent::Step { hart }
 }
 
-fn drain(hart: u8, word: u32) -> FlatEvent {
+pub(crate) fn drain(hart: u8, word: u32) -> FlatEvent {
     FlatEvent::Drain { hart, word }
 }
 
-fn deliver(channel: Channel, hart: u8) -> Event {
+pub(crate) fn deliver(channel: Channel, hart: u8) -> Event {
     Event::Deliver { channel, hart }
 }
 
@@ -479,52 +479,5 @@ fn sample_stops_after_its_tries(rt: HostRuntime) -> Result<(), Fail> {
     // Until hart 0 has exited each try is a step of either hart, and then of hart 1.
     assert!(rt; schedule.events.len() == 50);
     assert!(rt; schedule.results.len() == 2 && schedule.results[1].status == Status::Running);
-    Ok(())
-}
-
-#[test]
-fn what_changes_no_result_is_left_out(rt: HostRuntime) -> Result<(), Fail> {
-    let alloc = rt.alloc();
-    let image = image_of(alloc, &CIRCLE)?;
-    let config = config_of(2, 2);
-    let [first, second] = [Event::Step { hart: 0 }, Event::Step { hart: 1 }];
-    let events = [
-        first,
-        second,
-        deliver(Channel::A, 0),
-        second,
-        Event::Drain { hart: 1, word: X },
-        second,
-        first,
-        second,
-    ];
-    let short = shorten(alloc, &image, config, &events, 1000)?;
-    assert!(rt; short.as_slice() == [first, first].as_slice());
-    let untried = shorten(alloc, &image, config, &events, 0)?;
-    // Neither the delivery nor the drain changes anything.
-    let changing = [first, second, second, second, first, second];
-    assert!(rt; untried.as_slice() == changing.as_slice());
-    Ok(())
-}
-
-#[test]
-fn acknowledgement_is_left_out(rt: HostRuntime) -> Result<(), Fail> {
-    let alloc = rt.alloc();
-    let image = image_of(alloc, &RESERVED)?;
-    let config = config_of(1, 2);
-    let long = realised(alloc, &RESERVED, config, &[step(0), step(0)])?;
-    let short = shorten(alloc, &image, config, &long.events, 1000)?;
-    // The load reserves its word as soon as the Grant is there.
-    let step = Event::Step { hart: 0 };
-    let events = [
-        Event::Local { hart: 0, count: 2 },
-        step,
-        deliver(Channel::A, 0),
-        deliver(Channel::D, 0),
-        step,
-        step,
-        step,
-    ];
-    assert!(rt; short.as_slice() == events.as_slice());
     Ok(())
 }

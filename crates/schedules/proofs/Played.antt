@@ -1,8 +1,6 @@
 -- A machine with the events that changed it stays where they lead.
 use Rattle.std.proofs.Common.{◌≡◌, ◌≢◌, ◌∙◌, refl, sym, ap, subst, ℕ, ◌+◌, List, [], ◌∷◌, ◌++◌, Option, Ok, inl, inr, IsTrue, arith, true, Result as Answer}
 use Rattle.elf_loader.specs.Image.{Initial}
-use Rattle.flat_model.specs.declared.results.HartResult.{HartResult}
-use Rattle.flat_model.specs.Shown.{results, told}
 use Rattle.coherent_machine.specs.Machine.{Replayed, replayed_from, unless_refused}
 use Rattle.machine_types.specs.declared.config.Config.{Config}
 use Rattle.machine_types.specs.declared.event.Event.{Event}
@@ -14,7 +12,7 @@ use Rattle.machine_model.specs.Laws.{ChangesAreCounted, KeepsImageAndConfig}
 use Rattle.machine_model.specs.Views.{State, opening}
 use Rattle.machine_parts.specs.Applying.{Answers}
 use Rattle.schedules.specs.declared.errors.Fault.{Fault}
-use Rattle.schedules.specs.Schedules.{AnswersAs, EachMovesFrom, IsPlayed, ComesTo, does_move}
+use Rattle.schedules.specs.Schedules.{AnswersAs, EachMovesFrom, IsPlayed, LeadsThere, does_move}
 
 -- where the number of changes stays, the machine does
 pub still : ChangesAreCounted → (old : State) (e : Event) (new : State) → new ≡ happens old e → new.views.changes ≡ old.views.changes → new ≡ old
@@ -117,12 +115,12 @@ pub leads_to : (s t : State) (i : ℕ) (events : List Event) → replayed_from i
 leads_to s t i [] p = cc p
 leads_to s t i (e ∷ events) p = leads_to (happens s e) t (i + 1) events (goes_on (verdict s e) i (replayed_from (i + 1) (happens s e) events) t p)
 
--- what is kept of a machine's events shows what the machine does
-pub comes_to : (image : Initial) (config : Config) (start machine : State) (events : List Event) (goal : List HartResult) → start ≡ opening image config
-    → after_events start events ≡ machine → replayed_from 0 start events ≡ Replayed.Reached machine → EachMovesFrom start events → told goal ≡ results machine
-    → ComesTo image config goal events
-comes_to image config start machine events goal same leads replays each goal_is = record {
+-- what is kept of a machine's events leads where the machine is
+pub leads_there : (image : Initial) (config : Config) (start machine : State) (events : List Event) (Holds : State → Type 0) → start ≡ opening image config
+    → after_events start events ≡ machine → replayed_from 0 start events ≡ Replayed.Reached machine → EachMovesFrom start events → Holds machine
+    → LeadsThere image config Holds events
+leads_there image config start machine events Holds same leads replays each there = record {
   replays = replays_at (opening image config) start machine events same leads replays;
   moves = moves_at (opening image config) start events same each;
-  same = goal_is ∙ ap results (real_at (opening image config) start machine events same leads);
+  there = subst Holds (real_at (opening image config) start machine events same leads) there;
 }

@@ -3,8 +3,7 @@ use Rattle.std.specs.Prelude.{◌≡◌, ◌⊎◌, Bool, true, false, List, [],
 use Rattle.std.specs.declared.result.Result.{Result}
 use Rattle.elf_loader.specs.Image.{Initial}
 use Rattle.coherent_machine.specs.Machine.{Replayed, replayed_from}
-use Rattle.flat_model.specs.declared.results.HartResult.{HartResult}
-use Rattle.flat_model.specs.Shown.{results, told}
+use Rattle.flat_model.specs.Shown.{Result as HartEnd, results}
 use Rattle.machine_types.specs.declared.config.Config.{Config}
 use Rattle.machine_types.specs.declared.event.Event.{Event}
 use Rattle.machine_types.specs.Config.{is_within_limits}
@@ -40,11 +39,15 @@ EachMovesFrom s (e ∷ events) = (does_move (verdict s e) ≡ true) × EachMoves
 abbrev pub EachMoves : Initial → Config → List Event → Type 0
 EachMoves image config events = EachMovesFrom (opening image config) events
 
--- events of which none is refused and each changes the machine lead to these results
-pub record ComesTo (image : Initial) (config : Config) (goal : List HartResult) (events : List Event) : Type 0 where
+-- none of the events is refused, each changes the machine, and they lead it from reset to where this holds
+pub record LeadsThere (image : Initial) (config : Config) (Holds : State → Type 0) (events : List Event) : Type 0 where
   pub replays : Replays image config events
   pub moves : EachMoves image config events
-  pub same : told goal ≡ results (led image config events)
+  pub there : Holds (led image config events)
+
+-- the machine's harts stand so, and put out the same
+abbrev pub HasResults : List HartEnd → State → Type 0
+HasResults outcome s = results s ≡ outcome
 
 -- ---- a machine with the events that changed it
 

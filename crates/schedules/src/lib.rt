@@ -2,6 +2,7 @@
 #![tactic(auto)]
 
 mod errors;
+mod goal;
 mod player;
 mod quiet;
 mod realising;
@@ -13,6 +14,7 @@ mod spare;
 mod transactions;
 
 pub use errors::RealiseError;
+pub use goal::{Goal, HartResults};
 pub use realising::realise;
 pub use results::results_of;
 pub use sampling::sample;

@@ -105,6 +105,12 @@ impl Player {
         Ok(())
     }
 
+    pub(crate) fn machine(&self) -> &Machine
+        ensures { result.now ≡ self.now.machine }
+    {
+        &self.machine
+    }
+
     /// The machine as it stands.
     pub(crate) fn views(&self) -> Views<'_>
         ensures now { result ≡ self.now.machine }

@@ -26,7 +26,7 @@ pub fn results_of(alloc: Global, views: &Views<'_>) -> Result<Vec<HartResult>, A
 
 /// Whether the harts stand as these results say, and put out the same.
 pub(crate) fn are_results(views: &Views<'_>, goal: &[HartResult]) -> bool
-    ensures { IsTrue result → told goal.now ≡ results views.now }
+    ensures { IsTrue result → results views.now ≡ told goal.now }
 {
     if goal.len() != views.harts() {
         return false;

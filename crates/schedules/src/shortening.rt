@@ -1,37 +1,41 @@
-//! Fewer events that leave the same results.
+//! Fewer events that lead to the same goal.
 
-ghost use Rattle.std.specs.Prelude.{◌≡◌, ◌≢◌, ◌↔◌, ◌<◌, [], Err, IfErr, IfOk, IfSome, IsTrue, OnOk, length, false};
+ghost use Rattle.std.specs.Prelude.{◌≡◌, ◌≢◌, ◌↔◌, ◌<◌, [], Err, IfErr, IfOk, IfSome, IsTrue, Ok, OnOk, length, false, true};
 ghost use Rattle.coherent_machine.specs.Machine.{IsFirstRefusal};
 ghost use Rattle.coherent_machine.specs.declared.errors.NewError.TheVariants as making;
 ghost use Rattle.coherent_machine.specs.declared.errors.ReplayError.TheVariants as replaying;
-ghost use Rattle.flat_model.specs.Shown.{results, told};
 ghost use Rattle.machine_types.specs.Config as limits;
 ghost use Rattle.machine_model.specs.Views.{opening};
-ghost use Rattle.schedules.specs.Schedules.{ComesTo, EachMoves, Replays, led, start_of};
+ghost use Rattle.schedules.specs.Schedules.{EachMoves, LeadsThere, Replays, led, start_of};
 ghost use Rattle.schedules.specs.Sublists.{IsSublist};
 
 use crate::errors::Fault;
+use crate::goal::Goal;
 use crate::player::Player;
-use crate::results::{are_results, results_of};
-use coherent_machine::{NewError, ReplayError, Views};
+use coherent_machine::{Machine, NewError, ReplayError};
 use elf_loader::Image;
-use flat_model::HartResult;
 use machine_parts::is_within_limits;
 use machine_types::{Config, Event};
 use std::alloc::Global;
 
-/// Some of the events, in their order, that leave the same results. Left out are first those that change
-/// nothing, and then pieces of halving length, each where the results stay. Each attempt at a piece plays
-/// what is left from reset; there is none that would pass `most_played` events played. It errs as
-/// `coherent_machine::replay` of the events does, but that want of memory has no index.
-pub fn shorten(
+/// A machine's reset takes as long as an event for every so many bytes of its memory.
+const BYTES_AS_AN_EVENT: u32 = 256;
+
+/// Some of the events, in their order, that lead to the goal too, where these do. Left out are first those that
+/// change nothing, and then pieces of halving length, down to single events, for as long as one of them can be.
+/// Each attempt at a piece plays what is left from reset, which counts as an event for every 256 bytes of memory;
+/// there is none that would pass `most_played` events played. It errs as `coherent_machine::replay` of the events
+/// does, but that want of memory has no index.
+pub fn shorten<G: Goal>(
     alloc: Global,
     image: &Image,
     config: Config,
     events: &[Event],
+    goal: &G,
     most_played: u64,
 ) -> Result<Vec<Event>, ReplayError>
-    ensures same { IfOk result (λ short. results (led image.now config short.items) ≡ results (led image.now config events.now)) }
+    requires asked { G.CanBeAsked goal.now }
+    ensures there { G.Holds goal.now (led image.now config events.now) → IfOk result (λ short. G.Holds goal.now (led image.now config short.items)) }
     ensures replays { IfOk result (λ short. Replays image.now config short.items) }
     ensures moves { IfOk result (λ short. EachMoves image.now config short.items) }
     ensures sublist { IfOk result (λ short. IsSublist short.items events.now) }
@@ -43,14 +47,18 @@ pub fn shorten(
     }
     let mut player = Player::new(alloc, copy_of(alloc, image)?, config)?;
     player.replay(events)?;
-    let goal = goal_of(alloc, &player.views())?;
+    let is_there = has_met(goal, player.machine())?;
+    let changing = player.into_events();
+    if !is_there {
+        return Ok(changing);
+    }
     let script = Script {
         alloc,
         image,
         config,
-        goal: &goal,
+        goal,
     };
-    Ok(script.shortened(player.into_events(), most_played)?)
+    Ok(script.shortened(changing, most_played)?)
 }
 
 fn copy_of(alloc: Global, image: &Image) -> Result<Image, NewError>
@@ -60,62 +68,76 @@ fn copy_of(alloc: Global, image: &Image) -> Result<Image, NewError>
     Ok(image.try_copy(alloc)?)
 }
 
-fn goal_of(alloc: Global, views: &Views<'_>) -> Result<Vec<HartResult>, NewError>
-    ensures goal { IfOk result (λ goal. told goal.items ≡ results views.now) }
+fn has_met<G: Goal>(goal: &G, machine: &Machine) -> Result<bool, NewError>
+    requires asked { G.CanBeAsked goal.now }
+    ensures met { result ≡ Ok true → G.Holds goal.now machine.now }
     ensures config { result ≢ Err making.Config }
 {
-    Ok(results_of(alloc, views)?)
+    Ok(goal.is_met(machine)?)
 }
 
-/// What a shorter list is to lead to, and from where.
+/// Where a shorter list is to lead, and from where.
 #[derive(Drop)]
-struct Script<'a> {
+struct Script<'a, G> {
     alloc: Global,
     image: &'a Image,
     config: Config,
-    goal: &'a [HartResult],
+    goal: &'a G,
 }
 
-impl<'a> Script<'a> {
+impl<G: Goal> Script<'_, G> {
     // Leaves out what it can of the events.
     fn shortened(&self, events: Vec<Event>, most_played: u64) -> Result<Vec<Event>, NewError>
+        requires asked { G.CanBeAsked self.now.goal.now }
         requires limits { IsTrue (limits.is_within_limits self.now.config) }
-        requires good { ComesTo self.now.image.now self.now.config self.now.goal.now events.items }
-        ensures good { IfOk result (λ short. ComesTo self.now.image.now self.now.config self.now.goal.now short.items) }
+        requires good { LeadsThere self.now.image.now self.now.config (G.Holds self.now.goal.now) events.items }
+        ensures good { IfOk result (λ short. LeadsThere self.now.image.now self.now.config (G.Holds self.now.goal.now) short.items) }
         ensures sublist { IfOk result (λ short. IsSublist short.items events.items) }
         ensures config { result ≢ Err making.Config }
     {
         let mut short = events;
         let mut left = most_played;
         let mut size = short.len() / 2;
-        while size > 0 {
+        while size > 1 {
             self.leave_out(&mut short, size, &mut left)?;
             size /= 2;
         }
+        // What was needed by an event that has gone may go next.
+        while self.leave_out(&mut short, 1, &mut left)? {}
         Ok(short)
     }
 
-    // Leaves out what it can of all pieces of this size.
-    fn leave_out(&self, short: &mut Vec<Event>, size: usize, left: &mut u64) -> Result<(), NewError>
+    // Leaves out what it can of all pieces of this size. Whether there was any.
+    fn leave_out(
+        &self,
+        short: &mut Vec<Event>,
+        size: usize,
+        left: &mut u64,
+    ) -> Result<bool, NewError>
+        requires asked { G.CanBeAsked self.now.goal.now }
         requires limits { IsTrue (limits.is_within_limits self.now.config) }
         requires some { 0 < size }
-        requires good { ComesTo self.now.image.now self.now.config self.now.goal.now short.old.items }
-        ensures good { ComesTo self.now.image.now self.now.config self.now.goal.now short.new.items }
+        requires good { LeadsThere self.now.image.now self.now.config (G.Holds self.now.goal.now) short.old.items }
+        ensures good { LeadsThere self.now.image.now self.now.config (G.Holds self.now.goal.now) short.new.items }
         ensures sublist { IsSublist short.new.items short.old.items }
+        ensures left { result ≡ Ok true → left.new < left.old }
         ensures config { result ≢ Err making.Config }
     {
+        let mut has_left_out = false;
         let mut start = 0;
         while start < short.len() && *left > 0 {
             let end = start + size.min(short.len() - start);
-            if !self.try_without(short, start, end, left)? {
+            if self.try_without(short, start, end, left)? {
+                has_left_out = true;
+            } else {
                 start = end;
             }
         }
-        Ok(())
+        Ok(has_left_out)
     }
 
-    // Leaves out the events from one index to before another, and those that then change nothing, where
-    // the results stay and as many events are left to be played. Whether it did.
+    // Leaves out the events from one index to before another, and those that then change nothing, where that
+    // leads there and as many events are left to be played. Whether it did.
     fn try_without(
         &self,
         short: &mut Vec<Event>,
@@ -123,19 +145,21 @@ impl<'a> Script<'a> {
         to: usize,
         left: &mut u64,
     ) -> Result<bool, NewError>
+        requires asked { G.CanBeAsked self.now.goal.now }
         requires limits { IsTrue (limits.is_within_limits self.now.config) }
-        requires good { ComesTo self.now.image.now self.now.config self.now.goal.now short.old.items }
-        ensures good { ComesTo self.now.image.now self.now.config self.now.goal.now short.new.items }
+        requires good { LeadsThere self.now.image.now self.now.config (G.Holds self.now.goal.now) short.old.items }
+        ensures good { LeadsThere self.now.image.now self.now.config (G.Holds self.now.goal.now) short.new.items }
         ensures sublist { IsSublist short.new.items short.old.items }
         ensures left { 0 < length short.old.items → 0 < left.old → left.new < left.old }
         ensures config { result ≢ Err making.Config }
     {
-        let cost = short.len() as u64;
-        if cost > *left {
+        let events = short.len() as u64;
+        let reset = u64::from(self.image.size() / BYTES_AS_AN_EVENT);
+        if *left < events || *left - events < reset {
             *left = 0;
             return Ok(false);
         }
-        *left -= cost;
+        *left -= events + reset;
         match self.played_without(short, from, to)? {
             Some(shorter) => {
                 *short = shorter;
@@ -145,15 +169,16 @@ impl<'a> Script<'a> {
         }
     }
 
-    // What changes the machine of the events outside the indices, where the results stay.
+    // What changes the machine of the events outside the indices, where that leads there.
     fn played_without(
         &self,
         events: &[Event],
         from: usize,
         to: usize,
     ) -> Result<Option<Vec<Event>>, NewError>
+        requires asked { G.CanBeAsked self.now.goal.now }
         requires limits { IsTrue (limits.is_within_limits self.now.config) }
-        ensures good { IfOk result (λ found. IfSome found (λ short. ComesTo self.now.image.now self.now.config self.now.goal.now short.items)) }
+        ensures good { IfOk result (λ found. IfSome found (λ short. LeadsThere self.now.image.now self.now.config (G.Holds self.now.goal.now) short.items)) }
         ensures sublist { IfOk result (λ found. IfSome found (λ short. IsSublist short.items events.now)) }
         ensures config { result ≢ Err making.Config }
     {
@@ -164,7 +189,7 @@ impl<'a> Script<'a> {
             Err(Fault::NoMemory) => return Err(NewError::NoMemory),
             Err(Fault::Limit) => return Ok(None),
         }
-        if !are_results(&player.views(), self.goal) {
+        if !has_met(self.goal, player.machine())? {
             return Ok(None);
         }
         Ok(Some(player.into_events()))

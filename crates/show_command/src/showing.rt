@@ -15,6 +15,7 @@ use command_files::{Fault, Files, Unshown, named_config};
 use command_settings::Show;
 use explain_command::named_image_in;
 use explore_command::{Judgement, Telling, allow_file, judge, print};
+use explorer::Exploring;
 use progress_line::Progress;
 use std::alloc::Global;
 use std::io::Write;
@@ -57,12 +58,16 @@ pub fn show_files<'a, F: Files, O: Write, E: Write, P: Progress>(
     )?;
     let targets = targets_of(alloc, &named.image, &named.names, &wanted.words)?;
     let watch = Telling { progress };
+    let exploring = Exploring {
+        limit: explore.states,
+        shortened: explore.scripts.is_some(),
+    };
     let Ok(exploration) = explore_words(
         alloc,
         &named.image,
         config,
         &targets.addresses,
-        explore.states,
+        exploring,
         &watch,
     ) else {
         progress.end();

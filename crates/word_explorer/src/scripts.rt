@@ -1,14 +1,14 @@
-//! The events that lead to an end that was found.
+//! Where the script to an end leads.
 ghost use Rattle.std.specs.Prelude.{◌≡◌, IsTrue, Ok, true};
 ghost use Rattle.flat_machine.specs.Onward.{are_aligned};
-ghost use Rattle.flat_model.specs.Shown.{results, told};
-ghost use Rattle.word_explorer.specs.Ends.{IsScriptTo, ShowsWords, ending_with};
+ghost use Rattle.word_explorer.specs.Ends.{ShowsWords, ending_with};
 
-use explorer::{Program, Script, compare};
+use coherent_machine::Machine;
+use explorer::Program;
 use final_words::{has_drained, words_of};
-use flat_model::{FlatEvent, HartResult};
-use schedules::Schedule;
-use std::alloc::AllocError;
+use flat_model::HartResult;
+use schedules::{Goal, HartResults};
+use std::alloc::{AllocError, Global};
 
 /// The program that is explored, its machine, and the addresses of the words that an end shows.
 #[derive(Clone, Copy)]
@@ -17,45 +17,29 @@ pub(crate) struct WordProgram<'a> {
     pub addresses: &'a [u32],
 }
 
-impl WordProgram<'_> {
-    /// Whether the machine has come to where no hart runs and no store waits, with these results and these words.
-    fn shows(
-        &self,
-        schedule: &Schedule,
-        harts: &[HartResult],
-        words: &[u32],
-    ) -> Result<bool, AllocError>
-        requires aligned { IsTrue (are_aligned self.now.addresses.now) }
-        requires results { told schedule.now.results.items ≡ results schedule.now.machine }
-        ensures { result ≡ Ok true → ShowsWords self.now.addresses.now schedule.now.machine (ending_with harts.now words.now) }
-    {
-        if !has_drained(&schedule.machine.views()) {
-            return Ok(false);
-        }
-        if !compare(&schedule.results, harts).is_eq() {
-            return Ok(false);
-        }
-        let shown = words_of(self.program.alloc, schedule.machine.trace(), self.addresses)?;
-        Ok(shown.as_slice() == words)
-    }
+/// No hart runs and no store waits, with these results and these words at the addresses.
+#[derive(Clone, Copy)]
+pub(crate) struct Drained<'a> {
+    pub alloc: Global,
+    pub addresses: &'a [u32],
+    pub harts: &'a [HartResult],
+    pub words: &'a [u32],
+}
 
-    /// Events by which a machine does what these flat events do, and which lead to these results and words.
-    pub(crate) fn script_to(
-        &self,
-        steps: &[FlatEvent],
-        harts: &[HartResult],
-        words: &[u32],
-    ) -> Script
-        requires aligned { IsTrue (are_aligned self.now.addresses.now) }
-        ensures { IsScriptTo self.now.program.image.now self.now.program.config self.now.addresses.now (ending_with harts.now words.now) result }
-    {
-        match self.program.schedule_of(steps) {
-            Ok(schedule) => match self.shows(&schedule, harts, words) {
-                Ok(true) => Script::Events(schedule.events),
-                Ok(false) => Script::Unrealised,
-                Err(_) => Script::NoMemory,
-            },
-            Err(error) => Script::from(error),
+impl Goal for Drained<'_> {
+    ghost CanBeAsked = { λ goal. IsTrue (are_aligned goal.addresses.now) };
+
+    ghost Holds = { λ goal s. ShowsWords goal.addresses.now s (ending_with goal.harts.now goal.words.now) };
+
+    fn is_met(&self, machine: &Machine) -> Result<bool, AllocError> {
+        if !has_drained(&machine.views()) {
+            return Ok(false);
         }
+        let results = HartResults { harts: self.harts };
+        if !results.is_met(machine)? {
+            return Ok(false);
+        }
+        let shown = words_of(self.alloc, machine.trace(), self.addresses)?;
+        Ok(shown.as_slice() == self.words)
     }
 }

@@ -124,6 +124,13 @@ fn a_script_leads_to_its_outcome(rt: HostRuntime) -> Result<(), Fail> {
         b"hart 0: exit 0 output 0\nhart 1: exit 0 output 0\n".as_slice(),
     );
     same(&rt, again.status, 0);
+    // A hart's private instructions before its store, the store, its load that misses, the Acquire, the Grant, the
+    // load, and then what puts its number out and exits: `li`, `ecall`, two `li` and `ecall`.
+    same(
+        &rt,
+        written.iter().filter(|byte| **byte == b'\n').count(),
+        1 + 2 * 10,
+    );
     Ok(())
 }
 

@@ -3,7 +3,10 @@
 use super::memory::{File, MemoryFiles};
 use super::{line, line_over};
 use crate::same::{same, same_of};
+use std::alloc::Global;
+use std::sync::Wait;
 use std::test::Fail;
+use std::thread::Threads;
 
 /// Each hart loads a counter, adds 1 and stores it: `examples/lost_update.elf`, with the symbol `counter` at
 /// 0x80000040.
@@ -97,7 +100,43 @@ fn an_allowed_line_is_the_whole_line(rt: HostRuntime) -> Result<(), Fail> {
     Ok(())
 }
 
-/// The last script to be written is that of the first outcome: no store waits behind it.
+/// Whether the script brings both harts to their ends, behind which both stores have left, and both loads read 0.
+fn loses_an_update<R: Threads + Wait + Sync + AllocGlobal>(
+    rt: &R,
+    script: &[u8],
+) -> Result<bool, Fail> {
+    let files = [
+        File::whole("image", LOST_UPDATE),
+        File::whole("script", script),
+    ];
+    let ran = line(rt, &["rvtl", "replay", "image", "script"], &files);
+    if ran.err.as_slice() != b"hart 0: exit 0\nhart 1: exit 0\n".as_slice() {
+        return Ok(false);
+    }
+    let Ok(trace) = std::str::from_utf8(ran.out.as_slice()) else {
+        return Ok(false);
+    };
+    let performed = trace.lines().filter(|row| row.starts_with("P ")).count();
+    let zeros = trace
+        .lines()
+        .filter(|row| row.contains(" 0x0002a303 0x00000000 "))
+        .count();
+    Ok(performed == 4 && zeros == 2)
+}
+
+/// The script's lines but for one.
+fn without(alloc: Global, script: &str, left_out: usize) -> Result<Vec<u8>, Fail> {
+    let mut rest = Vec::new(alloc);
+    for (index, event) in script.lines().enumerate() {
+        if index != left_out {
+            rest.extend_from_slice(event.as_bytes())?;
+            rest.push(b'\n')?;
+        }
+    }
+    Ok(rest)
+}
+
+/// The last script to be written is that of the first outcome: no store waits behind it, and it needs each event.
 #[test]
 fn a_script_leads_to_where_no_store_waits(rt: HostRuntime) -> Result<(), Fail> {
     let files = [File::whole("image", LOST_UPDATE)];
@@ -116,17 +155,14 @@ fn a_script_leads_to_where_no_store_waits(rt: HostRuntime) -> Result<(), Fail> {
     let ran = line_over(&rt, &words, &mut files);
     assert!(rt; ran.out.starts_with(OUTCOMES.as_bytes()));
     same(&rt, ran.status, 0);
-    let again = [
-        File::whole("image", LOST_UPDATE),
-        File::whole("script", &files.written),
-    ];
-    let ran = line(&rt, &["rvtl", "replay", "image", "script"], &again);
-    same(
-        &rt,
-        ran.err.as_slice(),
-        b"hart 0: exit 0\nhart 1: exit 0\n".as_slice(),
-    );
-    same(&rt, ran.status, 0);
+    assert!(rt; loses_an_update(&rt, &files.written)?);
+    let Ok(script) = std::str::from_utf8(files.written.as_slice()) else {
+        return Err(Fail::from("a script"));
+    };
+    for index in 1..script.lines().count() {
+        let fewer = without(rt.alloc(), script, index)?;
+        assert!(rt; !loses_an_update(&rt, &fewer)?, "{index}");
+    }
     Ok(())
 }
 
