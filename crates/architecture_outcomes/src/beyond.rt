@@ -31,7 +31,7 @@ pub(crate) fn search_model(
     requires limits { IsTrue (is_within_limits config) }
     ensures witnessed { All (IsWitness image.now config) result.witnesses.items }
 {
-    match search(alloc, image, config, window as usize, limit) {
+    match search(alloc, image, config, &[], window as usize, limit) {
         Ok(allowed) => allowed,
         Err(AllocError) => Allowed {
             witnesses: Vec::new(alloc),
