@@ -8,20 +8,19 @@ ghost use Rattle.explore_command.specs.Exploring.{LeavesPart};
 ghost use Rattle.explore_command.specs.Keeping.{IsScriptFile, SparesOthers};
 ghost use Rattle.show_command.specs.Showing.{IsElsewhere, IsShowFault, AreWordsShown, WordsHave};
 
+use crate::asked::AskedWords;
 use crate::keeping::keep;
-use crate::targets::targets_of;
 use crate::words::Shown;
-use command_files::{Fault, Files, Unshown, named_config};
+use command_files::{Fault, Files, Unshown};
 use command_settings::Show;
-use explain_command::named_image_in;
-use explore_command::{Judgement, Telling, allow_file, judge, print};
+use explore_command::{Judgement, Telling, judge, print};
 use progress_line::Progress;
 use std::alloc::Global;
 use std::io::Write;
 use word_explorer::explore_words;
 
 /// Does what `explore_files` does, where words of memory are to be shown: each is judged behind the image. Random runs
-/// and a search under the memory model show none.
+/// show none.
 pub fn show_files<'a, F: Files, O: Write, E: Write, P: Progress>(
     alloc: Global,
     files: &mut F,
@@ -44,22 +43,16 @@ pub fn show_files<'a, F: Files, O: Write, E: Write, P: Progress>(
         let cause = Unshown::Elsewhere;
         return Err(Fault::CannotShow { word, cause });
     }
-    let Some(config) = named_config(explore.machine) else {
-        return Err(Fault::Configuration);
-    };
-    let allowed = allow_file(alloc, files, explore.allow)?;
-    let named = named_image_in(
-        alloc,
-        files,
-        explore.raw,
-        explore.image,
-        explore.machine.memory,
-    )?;
-    let targets = targets_of(alloc, &named.image, &named.names, &wanted.words)?;
+    let AskedWords {
+        config,
+        image,
+        allowed,
+        targets,
+    } = AskedWords::read(alloc, files, explore, &wanted.words)?;
     let watch = Telling { progress };
     let Ok(exploration) = explore_words(
         alloc,
-        &named.image,
+        &image,
         config,
         &targets.addresses,
         explore.states,
@@ -79,13 +72,12 @@ pub fn show_files<'a, F: Files, O: Write, E: Write, P: Progress>(
     judgement
 }
 
-/// The first of the words that are to be shown, where random runs are asked for or what the memory model allows.
+/// The first of the words that are to be shown, where random runs are asked for.
 fn sought_elsewhere<'a>(wanted: &Show<'a>) -> Option<&'a str>
     ensures sought { IfSome result (λ _. IsElsewhere wanted.now.explore) }
     ensures none { IsNone result → IsElsewhere wanted.now.explore → ⊥ }
 {
-    let explore = wanted.explore;
-    if !explore.architecture && explore.sample == 0 {
+    if wanted.explore.sample == 0 {
         return None;
     }
     match wanted.words.as_slice() {

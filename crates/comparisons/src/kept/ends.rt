@@ -55,7 +55,7 @@ const EXPLORED: [&str; 40] = [
 
 /// What stands behind `rvtl explore` where the architecture is asked: of what is told the last line is left
 /// out, since nobody else has counted the states.
-const ALLOWED: [&str; 18] = [
+const ALLOWED: [&str; 22] = [
     "--architecture --harts 2 store_buffering.elf",
     "--architecture --harts 2 message_passing_fenced.elf",
     "--architecture --harts 2 message_passing_unacquired.elf",
@@ -74,6 +74,10 @@ const ALLOWED: [&str; 18] = [
     "--architecture --harts 2 --window 5 seqlock_unacquired.elf",
     "--architecture --harts 2 barrier.elf",
     "--architecture --harts 2 barrier_unacquired.elf",
+    "--architecture --harts 2 --show counter lost_update.elf",
+    "--architecture --harts 2 --show word early_store.elf",
+    "--architecture --harts 2 --model ztso --show word early_store.elf",
+    "--architecture --harts 2 --show word early_store_fenced.elf",
 ];
 
 /// What a command printed, and its status.
