@@ -130,11 +130,11 @@ module _ (image : Initial) (config : Config) (loaded : IsImage image) (within : 
       placed : (name : OpId) → NamesPlace t name → IsOperation (length t.statuses) name
       placed name at = let few = few_at t.entries short name.hart in let below = at.1 in (subst (λ n. name.hart < n) lists at.0, omega (arith, few, below))
 
-  way_has_text : (o : Outcome) (way : Way) → IsWitnessedBy image config o way → HasText way
-  way_has_text o (Machine script) is = tt
-  way_has_text o (ModelAlone trace) is = has_text (record { harts = o.harts; trace = trace }) is.0
-  way_has_text o (Model trace) is = has_text (record { harts = o.harts; trace = trace }) is
+  way_has_text : (addresses : List ℕ) (o : Outcome) (way : Way) → IsWitnessedBy image config addresses o way → HasText way
+  way_has_text addresses o (Machine script) is = tt
+  way_has_text addresses o (ModelAlone trace) is = has_text (record { harts = o.harts; trace = trace }) is.0.witness
+  way_has_text addresses o (Model trace) is = has_text (record { harts = o.harts; trace = trace }) is.witness
 
   -- each trace that shows an outcome has one
-  pub each_has_text : (outcomes : List Outcome) → All (IsWitnessed image config) outcomes → All (λ o. HasText o.way) outcomes
-  each_has_text outcomes = All-weaker (IsWitnessed image config) (λ o. HasText o.way) (λ o is. way_has_text o o.way is) outcomes
+  pub each_has_text : (addresses : List ℕ) (outcomes : List Outcome) → All (IsWitnessed image config addresses) outcomes → All (λ o. HasText o.way) outcomes
+  each_has_text addresses outcomes = All-weaker (IsWitnessed image config addresses) (λ o. HasText o.way) (λ o is. way_has_text addresses o o.way is) outcomes

@@ -1,44 +1,53 @@
 -- What is known of a search, and what it leaves.
-use Rattle.std.proofs.Common.{◌≡◌, ◌≢◌, ℕ, IfSome, List, Option, subst}
+use Rattle.std.proofs.Common.{◌≡◌, ◌≢◌, ◌∙◌, ℕ, IfSome, List, Option, map, subst}
 use Rattle.std.specs.Io.KnownBytes.{Appends}
 use Rattle.architecture_command.specs.Keeping.{AreWaysKept, IsWayFile}
-use Rattle.architecture_command.specs.Searching.{IsFoundUnder, IsSearched, SearchHas}
+use Rattle.architecture_command.specs.Searching.{IsFoundUnder, IsOfFile, IsSearched, SearchHas}
 use Rattle.architecture_outcomes.specs.declared.architecture.Architecture.{Architecture}
-use Rattle.architecture_outcomes.specs.Outcomes.{outcomes_of}
+use Rattle.architecture_outcomes.specs.Outcomes.{outcome_of, outcomes_of}
 use Rattle.architecture_outcomes.specs.Text.{architecture_text}
-use Rattle.command_files.specs.Files.{HoldsImage}
+use Rattle.command_files.specs.Faults.{Name}
 use Rattle.command_files.specs.Held.{Held}
 use Rattle.command_files.specs.Sizes.{config_named}
 use Rattle.command_settings.specs.declared.wanted.Explore.{Explore}
 use Rattle.elf_loader.specs.Image.{Initial}
-use Rattle.explore_command.specs.Allowing.{IsJudged}
+use Rattle.exploration_text.specs.declared.wording.WordName.{WordName}
+use Rattle.exploration_text.specs.Words.{end_text}
+use Rattle.explore_command.specs.Exploring.{IsAllowFile}
+use Rattle.explore_command.specs.Judging.{judgement_of_lines}
 use Rattle.explore_command.specs.Keeping.{IsInNamed, SparesOthers}
 use Rattle.explore_command.specs.declared.judging.Judgement.{Judgement}
 use Rattle.explore_command.specs.declared.judging.Judgement.TheVariants.{Allowed}
 use Rattle.machine_types.specs.declared.config.Config.{Config}
+use Rattle.show_command.proofs.Shown.{judged_of, judged_words}
+use Rattle.show_command.specs.Asking.{HasProgram}
+use Rattle.show_command.specs.Targets.{names_of}
 use Rattle.state_search.specs.declared.findings.Extent.TheVariants as extent
 use Rattle.window_machine.specs.declared.allowed.Reach.TheVariants as reach
 
-module _ (held : Held) (wanted : Explore) (window : ℕ) (config : Config) (image : Initial) (found : Architecture)
-    (config_is : config ≡ config_named wanted.machine) (file : HoldsImage held wanted.raw wanted.image.now wanted.machine.memory image) (is : IsFoundUnder image config window wanted.states found) where
-  is_found : IsFoundUnder image (config_named wanted.machine) window wanted.states found
-  is_found = subst (λ (c : Config). IsFoundUnder image c window wanted.states found) config_is is
-
-  pub has : (P : List ℕ → Type 0) → P (architecture_text found) → SearchHas held wanted window P
-  has P so = record { image = image; architecture = found; image_file = file; found = is_found; of_text = so }
-
-  pub whole : (old new : Option (List ℕ)) (left : Held) (judgement : Judgement) → Appends old new (architecture_text found) → IfSome wanted.scripts (λ folder. AreWaysKept left wanted.machine folder.now 1 found.outcomes.items)
-      → SparesOthers (IsInNamed wanted.scripts (IsWayFile 1 found.outcomes.items)) held left
-      → IsJudged held wanted.allow (outcomes_of found.outcomes.items) judgement
-      → (judgement ≡ Allowed → (found.machine ≢ extent.OutOfMemory) × (found.reach ≢ reach.OutOfMemory)) → IsSearched held left wanted window judgement old new
-  whole old new left judgement printed kept spares by memory = record {
+module _ (held : Held) (wanted : Explore) (words : List Name) (window : ℕ) (config : Config) (image : Initial) (addresses : List ℕ) (names : List WordName) (found : Architecture)
+    (config_is : config ≡ config_named wanted.machine) (program : HasProgram held wanted words image addresses) (named : names ≡ names_of words) (is : IsFoundUnder image config addresses window wanted.states found) where
+  of_file : IsOfFile held wanted words window found
+  of_file = record {
     image = image;
+    addresses = addresses;
+    program = program;
+    found = subst (λ (c : Config). IsFoundUnder image c addresses window wanted.states found) config_is is;
+  }
+
+  pub has : (P : List ℕ → Type 0) → P (architecture_text names found) → SearchHas held wanted words window P
+  has P so = record { architecture = found; of_file = of_file; of_text = subst (λ (n : List WordName). P (architecture_text n found)) named so }
+
+  pub whole : (old new : Option (List ℕ)) (left : Held) (judgement : Judgement) (text : Option (List ℕ)) → Appends old new (architecture_text names found) → IfSome wanted.scripts (λ folder. AreWaysKept left wanted.machine folder.now 1 found.outcomes.items)
+      → SparesOthers (IsInNamed wanted.scripts (IsWayFile 1 found.outcomes.items)) held left
+      → IsAllowFile held wanted.allow text → judgement ≡ judgement_of_lines text (map (λ o. end_text names (outcome_of o)) found.outcomes.items)
+      → (judgement ≡ Allowed → (found.machine ≢ extent.OutOfMemory) × (found.reach ≢ reach.OutOfMemory)) → IsSearched held left wanted words window judgement old new
+  whole old new left judgement text printed kept spares read by memory = record {
     architecture = found;
-    image_file = file;
-    found = is_found;
-    printed = printed;
+    of_file = of_file;
+    printed = subst (λ (n : List WordName). Appends old new (architecture_text n found)) named printed;
     kept = kept;
     spared = spares;
-    judged = by;
+    judged = judged_of held wanted.allow text names (names_of words) (outcomes_of found.outcomes.items) judgement named read (by ∙ judged_words outcome_of names text found.outcomes.items);
     whole = memory;
   }

@@ -4,38 +4,39 @@ ghost use Rattle.std.specs.Prelude.{◌≢◌, All};
 ghost use Rattle.architecture_command.specs.Keeping.{AreWaysKept, HasText, IsWayFile};
 ghost use Rattle.architecture_outcomes.specs.Outcomes.{outcome_of};
 ghost use Rattle.architecture_outcomes.specs.Text.{architecture_text};
-ghost use Rattle.exploration_text.specs.Text.{harts_text};
+ghost use Rattle.exploration_text.specs.Words.{end_text};
 ghost use Rattle.state_search.specs.declared.findings.Extent.TheVariants as extent;
 ghost use Rattle.window_machine.specs.declared.allowed.Reach.TheVariants as reach;
 
 use crate::keeping::keep_outcomes;
 use architecture_outcomes::{Architecture, Outcome, text_of};
 use command_files::{Fault, Files};
-use exploration_text::harts_text;
+use exploration_text::{WordName, end_text};
 use explore_command::{Findings, Folder, Keepable};
 use state_search::Extent;
 use std::alloc::{AllocError, Global};
 use window_machine::Reach;
 
-/// What a search under a memory model found.
+/// What a search under a memory model found, and what lines call the words of memory.
 #[derive(Drop)]
-pub(crate) struct Searched {
+pub(crate) struct Searched<'a> {
+    pub(crate) names: Vec<WordName<'a>>,
     pub(crate) architecture: Architecture,
 }
 
-impl Findings for Searched {
+impl Findings for Searched<'_> {
     type Outcome = Outcome;
 
-    ghost text = { λ s. architecture_text s.architecture };
+    ghost text = { λ s. architecture_text s.names.items s.architecture };
 
     ghost outcomes = { λ s. s.architecture.outcomes.items };
 
-    ghost line = { λ s o. harts_text 0 (outcome_of o) };
+    ghost line = { λ s o. end_text s.names.items (outcome_of o) };
 
     ghost IsWhole = { λ s. (s.architecture.machine ≢ extent.OutOfMemory) × (s.architecture.reach ≢ reach.OutOfMemory) };
 
     fn text(&self, alloc: Global) -> Result<Vec<u8>, AllocError> {
-        text_of(alloc, &self.architecture)
+        text_of(alloc, &self.names, &self.architecture)
     }
 
     fn outcomes(&self) -> &[Outcome] {
@@ -43,7 +44,7 @@ impl Findings for Searched {
     }
 
     fn line(&self, alloc: Global, outcome: &Outcome) -> Result<Vec<u8>, AllocError> {
-        harts_text(alloc, &outcome.harts)
+        end_text(alloc, &self.names, &outcome.harts, &outcome.words)
     }
 
     fn is_whole(&self) -> bool {
@@ -52,7 +53,7 @@ impl Findings for Searched {
     }
 }
 
-impl Keepable for Searched {
+impl Keepable for Searched<'_> {
     ghost HasTexts = { λ s. All (λ o. HasText o.way) s.architecture.outcomes.items };
 
     ghost AreKept = { λ s left machine folder. AreWaysKept left machine folder 1 s.architecture.outcomes.items };

@@ -2,9 +2,9 @@
 
 ghost use Rattle.std.specs.Prelude.{◌≡◌, ◌<◌, Err, IfErr, IfOk};
 ghost use Rattle.architecture_command.specs.Keeping.{IsFileOf};
-ghost use Rattle.architecture_command.specs.Searching.{IsSearched, SearchHas};
+ghost use Rattle.architecture_command.specs.Searching.{IsSearchFault, IsSearched, SearchHas};
 ghost use Rattle.command_files.specs.Sizes.{IsOutside};
-ghost use Rattle.explore_command.specs.Exploring.{IsExploreFault, LeavesPart};
+ghost use Rattle.explore_command.specs.Exploring.{LeavesPart};
 ghost use Rattle.explore_command.specs.Keeping.{SparesOthers};
 
 use crate::allowed::Searched;
@@ -12,47 +12,64 @@ use crate::telling::tell_overtakings;
 use architecture_outcomes::{Outcome, explore_architecture};
 use command_files::{Fault, Files};
 use command_settings::Explore;
-use explore_command::{Asked, Judgement, judge, keep, print};
+use explore_command::{Judgement, judge, keep, print};
+use explorer::Exploring;
+use show_command::AskedWords;
 use std::alloc::Global;
 use std::io::Write;
 
-/// Judges the machine's size, reads what is allowed, then the image, searches for what the memory model allows it with
-/// at most `window` operations of a hart waiting at a time, prints what is found on `out`, writes scripts and traces,
-/// and judges the outcomes: `err` tells how the traces that are written leave program order, and which outcomes aren't
-/// allowed. Where memory ends, what was found is printed, written and judged all the same.
+/// Judges the machine's size, reads what is allowed, then the image, looks for the words of memory that are to be shown,
+/// of which there need be none, searches for what the memory model allows with at most `window` operations of a hart
+/// waiting at a time, prints what is found on `out`, writes scripts and traces, and judges the outcomes: `err` tells how
+/// the traces that are written leave program order, and which outcomes aren't allowed. Where memory ends, what was found
+/// is printed, written and judged all the same.
 pub fn architecture_files<'a, F: Files, O: Write, E: Write>(
     alloc: Global,
     files: &mut F,
     wanted: Explore<'a>,
+    words: &[&'a str],
     window: u32,
     out: &mut O,
     err: &mut E,
 ) -> Result<Judgement, Fault<'a>>
     requires room { 0 < wanted.states }
-    ensures searched { IfOk result (λ judgement. IsSearched (F.held files.old) (F.held files.new) wanted.entry window judgement (O.contents out.old) (O.contents out.new)) }
+    ensures searched { IfOk result (λ judgement. IsSearched (F.held files.old) (F.held files.new) wanted.entry words.now window judgement (O.contents out.old) (O.contents out.new)) }
     ensures outside { IsOutside wanted.entry.machine → result ≡ Err Fault.Configuration }
-    ensures told { IfErr result (IsExploreFault (F.held files.old) wanted.entry) }
+    ensures told { IfErr result (IsSearchFault (F.held files.old) wanted.entry words.now) }
     ensures unfinished { IfErr result (λ fault. LeavesPart fault (O.contents out.old) (O.contents out.new)
-        (SearchHas (F.held files.old) wanted.entry window)) }
+        (SearchHas (F.held files.old) wanted.entry words.now window)) }
     ensures spared { SparesOthers (IsFileOf wanted.entry.scripts) (F.held files.old) (F.held files.new) }
 {
-    let asked = Asked::read(alloc, files, wanted)?;
+    let AskedWords {
+        config,
+        image,
+        allowed,
+        targets,
+    } = AskedWords::read(alloc, files, wanted, words)?;
+    let exploring = Exploring {
+        limit: wanted.states,
+        shortened: wanted.scripts.is_some(),
+    };
     let Ok(architecture) = explore_architecture(
         alloc,
-        &asked.image,
-        asked.config,
+        &image,
+        config,
+        &targets.addresses,
         window,
-        wanted.states,
+        exploring,
     ) else {
         return Err(Fault::OutOfMemory);
     };
-    let found = Searched { architecture };
+    let found = Searched {
+        names: targets.names,
+        architecture,
+    };
     // Called for its clause that the bytes are an image's.
-    let _entry = asked.image.entry();
+    let _entry = image.entry();
     print(alloc, &found, out)?;
     keep(alloc, files, wanted, &found)?;
     tell(alloc, wanted, &found.architecture.outcomes, err)?;
-    judge(alloc, &asked.allowed, &found, err)
+    judge(alloc, &allowed, &found, err)
 }
 
 /// Tells what the traces show, where they were written.

@@ -1,3 +1,5 @@
+mod Aligned
+mod Ends
 mod NeverEnds
 mod Once
 mod Pieces

@@ -1,44 +1,54 @@
 -- What the machine's outcomes and those beyond them are together.
-use Rattle.std.proofs.Common.{◌≡◌, ◌∙◌, ◌<◌, List, [], ◌∷◌, ◌++◌, Option, Some, All, Contains, IsPermutation, ap, map, refl, subst, sym}
+use Rattle.std.proofs.Common.{◌≡◌, ◌∙◌, ◌<◌, ℕ, List, [], ◌∷◌, ◌++◌, Option, Some, All, Contains, IsPermutation, ap, ap₂, map, refl, subst, sym}
+use Rattle.std.specs.List.{AllByRecursion}
 use Rattle.std.proofs.lemmas.List.{get_or-map, length-map, map-append}
-use Rattle.std.proofs.lemmas.List.Elements.{All-append, All-map, Contains-append_right}
+use Rattle.std.proofs.lemmas.List.Elements.{All-append, All-weaker, Contains-append_right, recursion_from_All}
 use Rattle.std.proofs.lemmas.List.Sorted.{All-permutation, Contains-permutation, IsPermutation-map}
 use Rattle.architecture_outcomes.specs.declared.outcome.Outcome.{Outcome}
-use Rattle.architecture_outcomes.specs.Outcomes.{IsDecided, IsWitnessed, TellsEachEnd, machine_end, of_found}
+use Rattle.architecture_outcomes.specs.declared.outcome.Way.{Way}
+use Rattle.architecture_outcomes.specs.declared.outcome.Way.TheVariants.{Machine, Model, ModelAlone}
+use Rattle.architecture_outcomes.specs.Outcomes.{HasEachEnd, IsDecided, IsMachine, IsWitnessed, TellsEachEnd, end_by, machine_end, outcome_of, outcomes_of}
 use Rattle.elf_loader.specs.Image.{Initial}
-use Rattle.explorer.specs.declared.found.Found.{Found}
-use Rattle.explorer.specs.Ends.{IsRealIn, outcomes_of}
-use Rattle.explorer.specs.Outcomes.{HasEachEnd}
-use Rattle.flat_model.specs.Shown.{Result, results}
+use Rattle.flat_exploration.specs.Drained.{Ending, machine_ending}
 use Rattle.machine_types.specs.declared.config.Config.{Config}
 use Rattle.schedules.specs.Schedules.{led}
 
-Contains-map : {X Y : Type 0} (f : X → Y) (xs : List X) (x : X) → Contains xs x → Contains (map f xs) (f x)
+pub Contains-map : {X Y : Type 0} (f : X → Y) (xs : List X) (x : X) → Contains xs x → Contains (map f xs) (f x)
 Contains-map f xs x (k, l, e) = (k, subst (λ n. k < n) (sym (length-map xs f)) l, get_or-map f xs k x (f x) l ∙ ap f e)
 
-told_ends : (found : List Found) → map machine_end (map of_found found) ≡ map Some (outcomes_of found)
-told_ends [] = refl
-told_ends (f ∷ fs) = ap (λ (os : List (Option (List Result))). machine_end (of_found f) ∷ os) (told_ends fs)
+end_is : (o : Ending) (way : Way) → IsMachine way → end_by o way ≡ Some o
+end_is o (Machine script) is = refl
+end_is o (ModelAlone trace) is = absurd is
+end_is o (Model trace) is = absurd is
 
--- all that was found is told as the machine's, whatever stands before it
-told_found : (beyond : List Outcome) (found : List Found) (o : List Result) → Contains (outcomes_of found) o → Contains (map machine_end (beyond ++ map of_found found)) (Some o)
-told_found beyond found o has =
-    subst (λ (os : List (Option (List Result))). Contains os (Some o)) (sym (map-append machine_end beyond (map of_found found)))
-    (Contains-append_right (map machine_end beyond) (map machine_end (map of_found found)) (Some o)
-    (subst (λ (os : List (Option (List Result))). Contains os (Some o)) (sym (told_ends found)) (Contains-map Some (outcomes_of found) o has)))
+decided : (way : Way) → IsMachine way → IsDecided way
+decided (Machine script) is = tt
+decided (ModelAlone trace) is = absurd is
+decided (Model trace) is = absurd is
 
-module _ (image : Initial) (config : Config) (beyond joined sorted : List Outcome) (found : List Found) (joined_is : joined ≡ beyond ++ map of_found found) (moved : IsPermutation joined sorted) where
-  pub all_shown : All (IsWitnessed image config) beyond → All (IsRealIn image config) found → All (IsWitnessed image config) sorted
-  all_shown first second =
-      All-permutation (IsWitnessed image config) joined sorted moved
-      (subst (All (IsWitnessed image config)) (sym joined_is) (All-append (IsWitnessed image config) beyond (map of_found found) first (All-map (IsWitnessed image config) of_found found second)))
+told_ends : (found : List Outcome) → AllByRecursion (λ o. IsMachine o.way) found → map machine_end found ≡ map Some (outcomes_of found)
+told_ends [] all = refl
+told_ends (o ∷ os) all = ap₂ (λ (e : Option Ending) (es : List (Option Ending)). e ∷ es) (end_is (outcome_of o) o.way all.0) (told_ends os all.1)
 
-  pub all_decided : All (λ o. IsDecided o.way) beyond → All (λ o. IsDecided o.way) sorted
-  all_decided first =
-      All-permutation (λ o. IsDecided o.way) joined sorted moved
-      (subst (All (λ o. IsDecided o.way)) (sym joined_is) (All-append (λ o. IsDecided o.way) beyond (map of_found found) first (All-map (λ o. IsDecided o.way) of_found found (λ k d l. tt))))
+module _ (image : Initial) (config : Config) (addresses : List ℕ) (beyond joined sorted found : List Outcome) (joined_is : joined ≡ beyond ++ found) (moved : IsPermutation joined sorted) where
+  both : (P : Outcome → Type 0) → All P beyond → All P found → All P sorted
+  both P first second = All-permutation P joined sorted moved (subst (All P) (sym joined_is) (All-append P beyond found first second))
 
-  pub each_told : HasEachEnd image config (outcomes_of found) → TellsEachEnd image config sorted
-  each_told each events ended =
-      Contains-permutation (map machine_end joined) (map machine_end sorted) (Some (results (led image config events))) (IsPermutation-map machine_end joined sorted moved)
-      (subst (λ (os : List Outcome). Contains (map machine_end os) (Some (results (led image config events)))) (sym joined_is) (told_found beyond found _ (each events ended)))
+  pub all_shown : All (IsWitnessed image config addresses) beyond → All (IsWitnessed image config addresses) found → All (IsWitnessed image config addresses) sorted
+  all_shown = both (IsWitnessed image config addresses)
+
+  pub all_decided : All (λ o. IsDecided o.way) beyond → All (λ o. IsMachine o.way) found → All (λ o. IsDecided o.way) sorted
+  all_decided first second = both (λ o. IsDecided o.way) first (All-weaker (λ o. IsMachine o.way) (λ o. IsDecided o.way) (λ o is. decided o.way is) found second)
+
+  -- all that was found is told as the machine's, whatever stands before it
+  told_found : All (λ o. IsMachine o.way) found → (o : Ending) → Contains (outcomes_of found) o → Contains (map machine_end (beyond ++ found)) (Some o)
+  told_found machine o has =
+      subst (λ (os : List (Option Ending)). Contains os (Some o)) (sym (map-append machine_end beyond found))
+      (Contains-append_right (map machine_end beyond) (map machine_end found) (Some o)
+      (subst (λ (os : List (Option Ending)). Contains os (Some o)) (sym (told_ends found (recursion_from_All (λ o. IsMachine o.way) found machine))) (Contains-map Some (outcomes_of found) o has)))
+
+  pub each_told : All (λ o. IsMachine o.way) found → HasEachEnd image config addresses (outcomes_of found) → TellsEachEnd image config addresses sorted
+  each_told machine each events ended =
+      let ending : Ending = machine_ending addresses (led image config events) in
+      Contains-permutation (map machine_end joined) (map machine_end sorted) (Some ending) (IsPermutation-map machine_end joined sorted moved)
+      (subst (λ (os : List Outcome). Contains (map machine_end os) (Some ending)) (sym joined_is) (told_found machine ending (each events ended)))

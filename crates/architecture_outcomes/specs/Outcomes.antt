@@ -1,5 +1,5 @@
 -- What shows that a memory model allows an outcome, and when none of the machine's is missing.
-use Rattle.std.specs.Prelude.{◌≡◌, ◌+◌, ◌≤◌, true, Bool, List, None, Option, Some, Contains, if◌then◌else◌, map}
+use Rattle.std.specs.Prelude.{◌≡◌, ◌+◌, ◌≤◌, ℕ, true, Bool, [], ◌∷◌, List, None, Option, Some, Contains, if◌then◌else◌, map}
 use Rattle.std.specs.List.{count_by}
 use Rattle.std.specs.Ordering.{is_eq}
 use Rattle.architecture_outcomes.specs.declared.outcome.Outcome.{Outcome}
@@ -7,37 +7,64 @@ use Rattle.architecture_outcomes.specs.declared.outcome.Way.{Way}
 use Rattle.architecture_outcomes.specs.declared.outcome.Way.TheVariants.{Machine, Model, ModelAlone}
 use Rattle.elf_loader.specs.Image.{Initial}
 use Rattle.explorer.specs.declared.found.Found.{Found}
-use Rattle.explorer.specs.Ends.{IsRealIn}
-use Rattle.explorer.specs.Ends.{outcome_of as found_outcome}
-use Rattle.explorer.specs.Ranks.{outcome_cmp}
+use Rattle.explorer.specs.declared.found.Script.{Script}
+use Rattle.explorer.specs.Ends.{IsRealIn as IsRealEnd}
+use Rattle.flat_exploration.specs.Drained.{Ending, HasDrained, machine_ending, performed_word}
 use Rattle.flat_exploration.specs.Laws.{none_runs}
-use Rattle.flat_model.specs.Shown.{Result, results, told}
+use Rattle.machine_model.specs.Views.{State}
 use Rattle.machine_types.specs.declared.config.Config.{Config}
 use Rattle.machine_types.specs.declared.event.Event.{Event}
 use Rattle.schedules.specs.Schedules.{led}
+use Rattle.std.specs.Global.{Vec}
+use Rattle.trace_recorder.specs.declared.trace.Trace.{Trace}
 use Rattle.witnesses.specs.declared.witness.Witness.{Witness}
 use Rattle.witnesses.specs.Witnesses.{IsWitness}
+use Rattle.word_explorer.specs.declared.found.WordFound.{WordFound}
+use Rattle.word_explorer.specs.Ends.{IsRealIn, ending_with}
+use Rattle.word_explorer.specs.Orders.{ending_cmp}
 
-abbrev pub outcome_of : Outcome → List Result
-outcome_of o = told o.harts.items
+abbrev pub outcome_of : Outcome → Ending
+outcome_of o = ending_with o.harts.items o.words.items
 
-abbrev pub outcomes_of : List Outcome → List (List Result)
+abbrev pub outcomes_of : List Outcome → List Ending
 outcomes_of = map outcome_of
+
+-- ---- the machine's ends
+
+-- no hart runs, and where words of memory are shown no store waits
+abbrev pub HasEnded : (addresses : List ℕ) → State → Type 0
+HasEnded [] s = none_runs s.views.nodes ≡ true
+HasEnded (address ∷ rest) s = HasDrained s
+
+-- whatever events come in whatever order, where they lead to an end, its results and words are among these
+abbrev pub HasEachEnd : Initial → Config → (addresses : List ℕ) → List Ending → Type 0
+HasEachEnd image config addresses endings =
+    (events : List Event) → HasEnded addresses (led image config events) → Contains endings (machine_ending addresses (led image config events))
+
+-- no list of events leads to an end with these results and words
+abbrev pub NeverEnds : Initial → Config → (addresses : List ℕ) → Ending → Type 0
+NeverEnds image config addresses ending = (events : List Event) → HasEnded addresses (led image config events) → machine_ending addresses (led image config events) ≡ ending → ⊥
 
 -- ---- what shows an outcome
 
--- no list of events ends all harts of the machine so
-abbrev pub NeverEnds : Initial → Config → List Result → Type 0
-NeverEnds image config outcome = (events : List Event) → none_runs (led image config events).views.nodes ≡ true → results (led image config events) ≡ outcome → ⊥
+-- flat events lead to such an end, and the machine's script does
+abbrev pub IsScripted : Initial → Config → (addresses : List ℕ) → Outcome → Script → Type 0
+IsScripted image config [] o script = IsRealEnd image config (record { harts = o.harts; script = script }) × (o.words.items ≡ [])
+IsScripted image config (address ∷ rest) o script = IsRealIn image config (address ∷ rest) (record { harts = o.harts; words = o.words; script = script })
 
--- the machine's script leads there; or lists that are runs of the image from reset to their ends have a legal order, and the outcome is read off them; where it is the model's alone, the machine never ends so
-abbrev pub IsWitnessedBy : Initial → Config → Outcome → Way → Type 0
-IsWitnessedBy image config o (Machine script) = IsRealIn image config (record { harts = o.harts; script = script })
-IsWitnessedBy image config o (ModelAlone trace) = IsWitness image config (record { harts = o.harts; trace = trace }) × NeverEnds image config (outcome_of o)
-IsWitnessedBy image config o (Model trace) = IsWitness image config (record { harts = o.harts; trace = trace })
+-- lists that are runs of the image from reset to their ends have a legal order, and the results are read off them; the words are what loads read behind that order, which has all operations
+pub record IsTraced (image : Initial) (config : Config) (addresses : List ℕ) (o : Outcome) (trace : Trace) : Type 0 where
+  pub witness : IsWitness image config (record { harts = o.harts; trace = trace })
+  pub words : o.words.items ≡ map (performed_word trace.history) addresses
 
-abbrev pub IsWitnessed : Initial → Config → Outcome → Type 0
-IsWitnessed image config o = IsWitnessedBy image config o o.way
+-- where it is the model's alone, the machine never ends so
+abbrev pub IsWitnessedBy : Initial → Config → (addresses : List ℕ) → Outcome → Way → Type 0
+IsWitnessedBy image config addresses o (Machine script) = IsScripted image config addresses o script
+IsWitnessedBy image config addresses o (ModelAlone trace) = IsTraced image config addresses o trace × NeverEnds image config addresses (outcome_of o)
+IsWitnessedBy image config addresses o (Model trace) = IsTraced image config addresses o trace
+
+abbrev pub IsWitnessed : Initial → Config → (addresses : List ℕ) → Outcome → Type 0
+IsWitnessed image config addresses o = IsWitnessedBy image config addresses o o.way
 
 -- it says whether the machine comes to the outcome
 abbrev pub IsDecided : Way → Type 0
@@ -45,37 +72,46 @@ IsDecided (Machine script) = Unit {0}
 IsDecided (ModelAlone trace) = Unit {0}
 IsDecided (Model trace) = ⊥
 
+-- it says that the machine comes to the outcome
+abbrev pub IsMachine : Way → Type 0
+IsMachine (Machine script) = Unit {0}
+IsMachine (ModelAlone trace) = ⊥
+IsMachine (Model trace) = ⊥
+
 -- ---- where outcomes come from
 
-abbrev pub of_found : Found → Outcome
-of_found f = record { harts = f.harts; way = Machine f.script }
+abbrev pub of_found : WordFound → Outcome
+of_found f = record { harts = f.harts; words = f.words; way = Machine f.script }
 
-abbrev pub of_witness : Bool → Witness → Outcome
-of_witness is_complete w = record { harts = w.harts; way = if is_complete then ModelAlone w.trace else Model w.trace }
+-- it is this end of the machine, and shows no words
+pub record IsOf (found : Found) (o : Outcome) : Type 0 where
+  pub harts : o.harts ≡ found.harts
+  pub words : o.words.items ≡ []
+  pub way : o.way ≡ Machine found.script
 
--- ---- the machine's outcomes
+abbrev pub of_witness : Bool → Vec ℕ → Witness → Outcome
+of_witness is_complete words w = record { harts = w.harts; words = words; way = if is_complete then ModelAlone w.trace else Model w.trace }
 
--- the harts end so
-abbrev pub is_end : List Result → Found → Bool
-is_end outcome f = is_eq (outcome_cmp (found_outcome f) outcome)
+-- ---- how often outcomes are told
 
 -- it is this outcome
-abbrev pub tells : List Result → Outcome → Bool
-tells outcome o = is_eq (outcome_cmp (outcome_of o) outcome)
+abbrev pub tells : Ending → Outcome → Bool
+tells outcome o = is_eq (ending_cmp (outcome_of o) outcome)
 
 -- no outcome is told twice by what was found of the machine and these
-abbrev pub TellOnce : List Found → List Outcome → Type 0
-TellOnce found outcomes = (outcome : List Result) → count_by (is_end outcome) found + count_by (tells outcome) outcomes ≤ 1
+abbrev pub TellOnce : (found outcomes : List Outcome) → Type 0
+TellOnce found outcomes = (outcome : Ending) → count_by (tells outcome) found + count_by (tells outcome) outcomes ≤ 1
 
 -- the outcome, where it is told as the machine's
-abbrev pub end_by : List Result → Way → Option (List Result)
+abbrev pub end_by : Ending → Way → Option Ending
 end_by outcome (Machine script) = Some outcome
 end_by outcome (ModelAlone trace) = None
 end_by outcome (Model trace) = None
 
-abbrev pub machine_end : Outcome → Option (List Result)
+abbrev pub machine_end : Outcome → Option Ending
 machine_end o = end_by (outcome_of o) o.way
 
--- whatever events come in whatever order, where all harts have ended, their outcome is told as the machine's
-abbrev pub TellsEachEnd : Initial → Config → List Outcome → Type 0
-TellsEachEnd image config outcomes = (events : List Event) → none_runs (led image config events).views.nodes ≡ true → Contains (map machine_end outcomes) (Some (results (led image config events)))
+-- whatever events come in whatever order, where they lead to an end, its results and words are told as the machine's
+abbrev pub TellsEachEnd : Initial → Config → (addresses : List ℕ) → List Outcome → Type 0
+TellsEachEnd image config addresses outcomes =
+    (events : List Event) → HasEnded addresses (led image config events) → Contains (map machine_end outcomes) (Some (machine_ending addresses (led image config events)))

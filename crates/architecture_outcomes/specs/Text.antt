@@ -5,7 +5,8 @@ use Rattle.architecture_outcomes.specs.declared.outcome.Outcome.{Outcome}
 use Rattle.architecture_outcomes.specs.declared.outcome.Way.{Way}
 use Rattle.architecture_outcomes.specs.declared.outcome.Way.TheVariants as way
 use Rattle.architecture_outcomes.specs.Outcomes.{outcome_of}
-use Rattle.exploration_text.specs.Text.{harts_text}
+use Rattle.exploration_text.specs.declared.wording.WordName.{WordName}
+use Rattle.exploration_text.specs.Words.{end_text}
 use Rattle.explorer.specs.declared.found.Script.TheVariants.{Events, Limit, NoMemory, Unrealised}
 use Rattle.memory_model.specs.declared.MemoryModel.{MemoryModel}
 use Rattle.memory_model.specs.declared.MemoryModel.TheVariants.{Rvwmo, Ztso}
@@ -29,13 +30,14 @@ way_text model (way.Machine Unrealised) = codes "without a script"
 way_text model (way.ModelAlone trace) = model_text model ++ codes " alone"
 way_text model (way.Model trace) = model_text model
 
-abbrev pub outcome_line : MemoryModel → ℕ → Outcome → List ℕ
-outcome_line model number o = decimal number ++ (harts_text 0 (outcome_of o) ++ (codes "   " ++ (way_text model o.way ++ codes "\n")))
+-- the harts, the words behind them, and who comes to it
+abbrev pub outcome_line : MemoryModel → List WordName → ℕ → Outcome → List ℕ
+outcome_line model names number o = decimal number ++ (end_text names (outcome_of o) ++ (codes "   " ++ (way_text model o.way ++ codes "\n")))
 
 -- counted from a number on
-abbrev pub outcome_lines : MemoryModel → ℕ → List Outcome → List ℕ
-outcome_lines model number [] = []
-outcome_lines model number (o ∷ os) = outcome_line model number o ++ outcome_lines model (number + 1) os
+abbrev pub outcome_lines : MemoryModel → List WordName → ℕ → List Outcome → List ℕ
+outcome_lines model names number [] = []
+outcome_lines model names number (o ∷ os) = outcome_line model names number o ++ outcome_lines model names (number + 1) os
 
 -- ---- the last line
 
@@ -69,5 +71,6 @@ line_by _ _ a = partial_line a
 abbrev pub last_line : Architecture → List ℕ
 last_line a = line_by a.reach a.machine a
 
-abbrev pub architecture_text : Architecture → List ℕ
-architecture_text a = outcome_lines a.model 1 a.outcomes.items ++ last_line a
+-- where words of memory are called so
+abbrev pub architecture_text : List WordName → Architecture → List ℕ
+architecture_text names a = outcome_lines a.model names 1 a.outcomes.items ++ last_line a

@@ -8,7 +8,7 @@ use window_machine::Reach;
 /// What is found of a program under a memory model. What is known of it stands at `explore_architecture`.
 #[derive(Drop)]
 pub struct Architecture {
-    /// By hart: status first, then the numbers that were put out.
+    /// By hart, status first, then the numbers that were put out; and those of the same results by their words.
     pub outcomes: Vec<Outcome>,
     /// The model under which they are allowed.
     pub model: MemoryModel,

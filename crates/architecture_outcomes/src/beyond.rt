@@ -3,18 +3,15 @@ ghost use Rattle.std.specs.Prelude.{◌≡◌, All, IfOk, IsTrue};
 ghost use Rattle.std.specs.List.{list_any};
 ghost use Rattle.std.specs.List.Sorted.{IsStrictlySortedBy};
 ghost use Rattle.std.specs.Ordering.{on};
-ghost use Rattle.architecture_outcomes.specs.Outcomes.{IsDecided, IsWitnessed, TellOnce, is_end};
-ghost use Rattle.explorer.specs.Ends.{outcome_of, outcomes_of};
-ghost use Rattle.explorer.specs.Outcomes.{HasEachEnd};
-ghost use Rattle.explorer.specs.Ranks.{outcome_cmp};
-ghost use Rattle.flat_model.specs.Shown.{told};
+ghost use Rattle.architecture_outcomes.specs.Outcomes.{HasEachEnd, IsDecided, IsWitnessed, TellOnce, outcome_of, outcomes_of, tells};
+ghost use Rattle.flat_machine.specs.Onward.{are_aligned};
 ghost use Rattle.machine_types.specs.Config.{is_within_limits};
 ghost use Rattle.witnesses.specs.Witnesses.{IsWitness};
+ghost use Rattle.word_explorer.specs.Orders.{ending_cmp};
 
 use crate::outcome::Outcome;
 use elf_loader::Image;
-use explorer::{Found, compare};
-use flat_model::HartResult;
+use final_words::words_of;
 use machine_types::Config;
 use std::alloc::{AllocError, Global};
 use window_machine::{Allowed, Reach, search};
@@ -25,13 +22,14 @@ pub(crate) fn search_model(
     alloc: Global,
     image: &Image,
     config: Config,
+    addresses: &[u32],
     window: u32,
     limit: u32,
 ) -> Allowed
     requires limits { IsTrue (is_within_limits config) }
     ensures witnessed { All (IsWitness image.now config) result.witnesses.items }
 {
-    match search(alloc, image, config, window as usize, limit) {
+    match search(alloc, image, config, addresses, window as usize, limit) {
         Ok(allowed) => allowed,
         Err(AllocError) => Allowed {
             witnesses: Vec::new(alloc),
@@ -42,41 +40,39 @@ pub(crate) fn search_model(
 }
 
 /// Whether the machine comes to this outcome.
-fn is_found(found: &[Found], harts: &[HartResult]) -> bool
-    requires once { IsStrictlySortedBy (on outcome_of outcome_cmp) found.now }
-    ensures { result ≡ list_any (is_end (told harts.now)) found.now }
+fn is_found(found: &[Outcome], outcome: &Outcome) -> bool
+    requires once { IsStrictlySortedBy (on outcome_of ending_cmp) found.now }
+    ensures { result ≡ list_any (tells (outcome_of outcome.now)) found.now }
 {
-    found
-        .binary_search_by(
-            |end|
-                ensures { result ≡ outcome_cmp (outcome_of end.now) (told harts.entry.now) }
-            { compare(&end.harts, harts) },
-        )
-        .is_ok()
+    found.binary_search(outcome).is_ok()
 }
 
-/// The outcomes of the witnesses to which the machine doesn't come, each once. Where its own search isn't complete it
-/// may yet.
+/// The outcomes of the witnesses to which the machine doesn't come, each once with the same words at these addresses.
+/// Where its own search isn't complete it may yet.
 pub(crate) fn beyond(
     alloc: Global,
     image: &Image,
     config: Config,
-    found: &[Found],
+    addresses: &[u32],
+    found: &[Outcome],
     is_complete: bool,
     witnesses: Vec<Witness>,
 ) -> Result<Vec<Outcome>, AllocError>
+    requires aligned { IsTrue (are_aligned addresses.now) }
     requires witnessed { All (IsWitness image.now config) witnesses.items }
-    requires complete { IsTrue is_complete → HasEachEnd image.now config (outcomes_of found.now) }
-    requires once { IsStrictlySortedBy (on outcome_of outcome_cmp) found.now }
-    ensures shown { IfOk result (λ outcomes. All (IsWitnessed image.now config) outcomes.items) }
+    requires complete { IsTrue is_complete → HasEachEnd image.now config addresses.now (outcomes_of found.now) }
+    requires once { IsStrictlySortedBy (on outcome_of ending_cmp) found.now }
+    ensures shown { IfOk result (λ outcomes. All (IsWitnessed image.now config addresses.now) outcomes.items) }
     ensures once { IfOk result (λ outcomes. TellOnce found.now outcomes.items) }
     ensures alone { IfOk result (λ outcomes. IsTrue is_complete → All (λ o. IsDecided o.way) outcomes.items) }
 {
     let mut outcomes = Vec::new(alloc);
     let mut left = witnesses;
     while let Some(witness) = left.pop() {
-        if !is_found(found, &witness.harts) {
-            outcomes.push(Outcome::beyond(witness, is_complete))?;
+        let words = words_of(alloc, &witness.trace, addresses)?;
+        let outcome = Outcome::beyond(witness, words, is_complete);
+        if !is_found(found, &outcome) {
+            outcomes.push(outcome)?;
         }
     }
     outcomes.sort_unstable();

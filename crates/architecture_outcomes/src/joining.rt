@@ -1,75 +1,82 @@
 //! The outcomes of the machine and those of the memory model, joined.
-ghost use Rattle.std.specs.Prelude.{◌≡◌, ◌<◌, ◌++◌, All, IfOk, IsTrue, OnOk, map};
+ghost use Rattle.std.specs.Prelude.{◌≡◌, ◌<◌, All, IfOk, IsTrue};
 ghost use Rattle.std.specs.List.Sorted.{IsStrictlySortedBy};
 ghost use Rattle.std.specs.Ordering.{on};
-ghost use Rattle.architecture_outcomes.specs.Outcomes.{IsDecided, IsWitnessed, TellsEachEnd, of_found, outcome_of};
-ghost use Rattle.explorer.specs.Ranks.{outcome_cmp};
+ghost use Rattle.architecture_outcomes.specs.Outcomes.{IsDecided, IsWitnessed, TellsEachEnd, outcome_of};
 ghost use Rattle.machine_types.specs.Config.{is_within_limits};
+ghost use Rattle.word_explorer.specs.Orders.{ending_cmp};
+ghost use Rattle.word_explorer.specs.Words.{CanShowEach};
 
 use crate::architecture::Architecture;
 use crate::beyond::{beyond, search_model};
-use crate::outcome::{Outcome, Way};
+use crate::machine::{Machine, search_machine};
 use elf_loader::Image;
-use explorer::{Exploration, Exploring, Found, explore};
+use explorer::Exploring;
 use machine_types::Config;
-use state_search::{Extent, Unwatched};
+use state_search::Extent;
 use std::alloc::{AllocError, Global};
 use window_machine::Allowed;
 
 /// Finds the outcomes that the machine comes to, and searches for those that its memory model allows, with at most
-/// `window` operations of a hart waiting at a time (64 where that is more), until either search has found `limit`
-/// states or memory ends. What was found then stands. Nothing is known of outcomes that the model allows and that
-/// aren't told. The error is that there was no memory to begin with, or none for the list of what was found.
+/// `window` operations of a hart waiting at a time (64 where that is more), until either search has found as many
+/// states as the limit, or memory ends. An outcome shows the words of memory at these addresses, in their order, behind all
+/// operations. What was found then stands. Nothing is known of outcomes that the model allows and that aren't told. The
+/// error is that there was no memory to begin with, or none for the list of what was found.
 pub fn explore_architecture(
     alloc: Global,
     image: &Image,
     config: Config,
+    addresses: &[u32],
     window: u32,
-    limit: u32,
+    exploring: Exploring,
 ) -> Result<Architecture, AllocError>
     requires limits { IsTrue (is_within_limits config) }
-    requires room { 0 < limit }
+    requires room { 0 < exploring.limit }
+    requires words { CanShowEach image.now addresses.now }
 
     // What is said to show an outcome does.
-    ensures shown { IfOk result (λ a. All (IsWitnessed image.now config) a.outcomes.items) }
+    ensures shown { IfOk result (λ a. All (IsWitnessed image.now config addresses.now) a.outcomes.items) }
 
     // Where the machine's own search is complete, each of its outcomes is told as one of the machine.
-    ensures machine { IfOk result (λ a. a.machine ≡ Extent.Complete → TellsEachEnd image.now config a.outcomes.items) }
+    ensures machine { IfOk result (λ a. a.machine ≡ Extent.Complete → TellsEachEnd image.now config addresses.now a.outcomes.items) }
 
     // And each other is told as the model's alone.
     ensures alone { IfOk result (λ a. a.machine ≡ Extent.Complete → All (λ o. IsDecided o.way) a.outcomes.items) }
 
     // No outcome is told twice.
-    ensures order { IfOk result (λ a. IsStrictlySortedBy (on outcome_of outcome_cmp) a.outcomes.items) }
+    ensures order { IfOk result (λ a. IsStrictlySortedBy (on outcome_of ending_cmp) a.outcomes.items) }
 
-    ensures full { IfOk result (λ a. a.machine ≡ Extent.LimitMet → a.machine_states ≡ limit) }
+    ensures full { IfOk result (λ a. a.machine ≡ Extent.LimitMet → a.machine_states ≡ exploring.limit) }
     ensures model { IfOk result (λ a. a.model ≡ config.model) }
     ensures window { IfOk result (λ a. a.window ≡ window) }
 {
-    let exploring = Exploring {
-        limit,
-        shortened: false,
-    };
-    let Exploration {
-        outcomes: found,
+    let Machine {
+        outcomes: mut found,
         extent,
         states: machine_states,
-        ..
-    } = explore(alloc, image, config, exploring, &Unwatched)?;
+    } = search_machine(alloc, image, config, addresses, exploring)?;
     let Allowed {
         witnesses,
         reach,
         states,
-    } = search_model(alloc, image, config, window, limit);
+    } = search_model(
+        alloc,
+        image,
+        config,
+        addresses,
+        window,
+        exploring.limit,
+    );
     let mut outcomes = beyond(
         alloc,
         image,
         config,
+        addresses,
         &found,
         extent.is_complete(),
         witnesses,
     )?;
-    add_found(&mut outcomes, found)?;
+    outcomes.append(&mut found)?;
     outcomes.sort_unstable();
     Ok(Architecture {
         outcomes,
@@ -80,17 +87,4 @@ pub fn explore_architecture(
         machine: extent,
         machine_states,
     })
-}
-
-/// Adds the outcomes to which the machine comes.
-fn add_found(outcomes: &mut Vec<Outcome>, found: Vec<Found>) -> Result<(), AllocError>
-    ensures { OnOk result (outcomes.new.items ≡ outcomes.old.items ++ map of_found found.items) }
-{
-    for Found { harts, script } in found {
-        outcomes.push(Outcome {
-            harts,
-            way: Way::Machine(script),
-        })?;
-    }
-    Ok(())
 }

@@ -5,6 +5,7 @@
 mod architecture;
 mod beyond;
 mod joining;
+mod machine;
 mod orders;
 mod outcome;
 mod spelling;

@@ -23,13 +23,15 @@ pub enum Way {
 pub struct Outcome {
     /// Each hart's status and the numbers that it put out, by hart.
     pub harts: Vec<HartResult>,
+    /// The words of memory, in the order of their asking.
+    pub words: Vec<u32>,
     pub way: Way,
 }
 
 impl Outcome {
-    /// The outcome of a witness, to which the machine doesn't come as far as it was searched.
-    pub(crate) fn beyond(witness: Witness, is_complete: bool) -> Outcome
-        ensures { result ≡ of_witness is_complete witness }
+    /// The outcome of a witness, to which the machine doesn't come as far as it was searched, with these words.
+    pub(crate) fn beyond(witness: Witness, words: Vec<u32>, is_complete: bool) -> Outcome
+        ensures { result ≡ of_witness is_complete words witness }
     {
         let Witness { harts, trace } = witness;
         let way = if is_complete {
@@ -37,6 +39,6 @@ impl Outcome {
         } else {
             Way::Model(trace)
         };
-        Outcome { harts, way }
+        Outcome { harts, words, way }
     }
 }

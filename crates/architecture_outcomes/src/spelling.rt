@@ -1,14 +1,13 @@
 //! The lines.
 ghost use Rattle.std.specs.Prelude.{◌≡◌, ◌++◌, IfOk, OnOk, decimal, length};
+ghost use Rattle.architecture_outcomes.specs.Outcomes.{outcome_of};
 ghost use Rattle.architecture_outcomes.specs.Text as text;
-ghost use Rattle.exploration_text.specs.Text.{harts_text};
-ghost use Rattle.flat_model.specs.Shown.{told};
+ghost use Rattle.exploration_text.specs.Words.{end_text};
 
 use crate::architecture::Architecture;
 use crate::outcome::{Outcome, Way};
-use exploration_text::harts_text;
+use exploration_text::{WordName, end_text};
 use explorer::Script;
-use flat_model::HartResult;
 use itoa::Buffer;
 use machine_model::MemoryModel;
 use state_search::Extent;
@@ -23,10 +22,15 @@ fn spell_number(into: &mut Vec<u8>, number: u64) -> Result<(), AllocError>
     Ok(())
 }
 
-fn spell_harts(alloc: Global, into: &mut Vec<u8>, harts: &[HartResult]) -> Result<(), AllocError>
-    ensures { OnOk result (into.new.items ≡ into.old.items ++ harts_text 0 (told harts.now)) }
+fn spell_end(
+    alloc: Global,
+    into: &mut Vec<u8>,
+    names: &[WordName<'_>],
+    outcome: &Outcome,
+) -> Result<(), AllocError>
+    ensures { OnOk result (into.new.items ≡ into.old.items ++ end_text names.now (outcome_of outcome.now)) }
 {
-    let line = harts_text(alloc, harts)?;
+    let line = end_text(alloc, names, &outcome.harts, &outcome.words)?;
     into.extend_from_slice(&line)?;
     Ok(())
 }
@@ -62,13 +66,14 @@ fn spell_outcome(
     alloc: Global,
     into: &mut Vec<u8>,
     model: MemoryModel,
+    names: &[WordName<'_>],
     number: usize,
     outcome: &Outcome,
 ) -> Result<(), AllocError>
-    ensures { OnOk result (into.new.items ≡ into.old.items ++ text.outcome_line model number outcome.now) }
+    ensures { OnOk result (into.new.items ≡ into.old.items ++ text.outcome_line model names.now number outcome.now) }
 {
     spell_number(into, number as u64)?;
-    spell_harts(alloc, into, &outcome.harts)?;
+    spell_end(alloc, into, names, outcome)?;
     into.extend_from_slice(b"   ")?;
     spell_way(into, model, &outcome.way)?;
     into.extend_from_slice(b"\n")?;
@@ -79,14 +84,15 @@ fn spell_outcomes(
     alloc: Global,
     into: &mut Vec<u8>,
     model: MemoryModel,
+    names: &[WordName<'_>],
     outcomes: &[Outcome],
 ) -> Result<(), AllocError>
-    ensures { OnOk result (into.new.items ≡ into.old.items ++ text.outcome_lines model 1 outcomes.now) }
+    ensures { OnOk result (into.new.items ≡ into.old.items ++ text.outcome_lines model names.now 1 outcomes.now) }
 {
     let mut rest = outcomes;
     let mut number = 1;
     while let [first, tail @ ..] = rest {
-        spell_outcome(alloc, into, model, number, first)?;
+        spell_outcome(alloc, into, model, names, number, first)?;
         rest = tail;
         number += 1;
     }
@@ -167,13 +173,17 @@ fn spell_last(into: &mut Vec<u8>, found: &Architecture) -> Result<(), AllocError
     }
 }
 
-/// A line for each outcome, in order and counted from 1, and who comes to it; and one that says how far the searches
-/// came.
-pub fn text_of(alloc: Global, found: &Architecture) -> Result<Vec<u8>, AllocError>
-    ensures { IfOk result (λ bytes. bytes.items ≡ text.architecture_text found.now) }
+/// A line for each outcome, in order and counted from 1, with the words by these names, and who comes to it; and one that
+/// says how far the searches came.
+pub fn text_of(
+    alloc: Global,
+    names: &[WordName<'_>],
+    found: &Architecture,
+) -> Result<Vec<u8>, AllocError>
+    ensures { IfOk result (λ bytes. bytes.items ≡ text.architecture_text names.now found.now) }
 {
     let mut bytes = Vec::new(alloc);
-    spell_outcomes(alloc, &mut bytes, found.model, &found.outcomes)?;
+    spell_outcomes(alloc, &mut bytes, found.model, names, &found.outcomes)?;
     spell_last(&mut bytes, found)?;
     Ok(bytes)
 }

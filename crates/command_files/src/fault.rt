@@ -18,8 +18,8 @@ use trace_text::{TextCode, TextError};
 /// Why a word of memory can't be shown.
 #[derive(Clone, Copy, Debug, PartialEq, Eq, Error)]
 pub enum Unshown {
-    /// Random runs, or a search under the memory model, show none.
-    #[error("not with --sample or --architecture: leave out one of them")]
+    /// Random runs show none.
+    #[error("not with --sample: leave out one of them")]
     Elsewhere,
     /// It is no number below 2^32, and the image has no such symbol.
     #[error("no such symbol in IMAGE: name another (nm lists them) or give an address")]

@@ -6,7 +6,7 @@ use Rattle.command_files.specs.Held.{Held}
 use Rattle.command_files.specs.Status.{status_of}
 use Rattle.command_files.specs.declared.fault.Fault.{Fault}
 use Rattle.command_line.proofs.Meant.{beyond_explore, beyond_show, written}
-use Rattle.command_line.specs.Running.{Came, CheckCame, ExploreCame, IsOutOfRange, IsDone, IsExploreFile, IsFaulty, IsWritten, strictness_of}
+use Rattle.command_line.specs.Running.{Came, CheckCame, ExploreCame, IsOutOfRange, IsDone, IsExploreFile, IsFaulty, IsWritten, ShowCame, strictness_of}
 use Rattle.command_settings.specs.declared.wanted.Check.{Check as Judging}
 use Rattle.command_settings.specs.declared.wanted.Explain.{Explain as Telling}
 use Rattle.command_settings.specs.declared.wanted.Explore.{Explore as Sought}
@@ -14,11 +14,10 @@ use Rattle.command_settings.specs.declared.wanted.Settings.{Settings}
 use Rattle.command_settings.specs.declared.wanted.Show.{Show as Shown}
 use Rattle.command_settings.specs.declared.wanted.Settings.TheVariants.{Check, Explain, Explore, Show}
 use Rattle.event_stream.specs.declared.strictness.Strictness.{Strictness}
-use Rattle.command_line.specs.Telling.{IsFaultOfCommand}
+use Rattle.command_line.specs.Telling.{IsFaultOfCommand, IsShowingFault}
 use Rattle.explain_command.specs.Explaining.{IsExplainFault, IsExplained}
 use Rattle.explore_command.specs.Exploring.{IsExploreFault, LeavesPart}
-use Rattle.explore_command.specs.Keeping.{IsScriptFile, SparesOthers}
-use Rattle.show_command.specs.Showing.{IsShowFault, AreWordsShown}
+use Rattle.explore_command.specs.Keeping.{SparesOthers}
 use Rattle.explore_command.specs.declared.judging.Judgement.{Judgement}
 use Rattle.explore_command.specs.declared.judging.Judgement.TheVariants.{Allowed, NotAllowed}
 
@@ -34,7 +33,8 @@ module _ (held left : Held) (old new : Option (List ℕ)) (wanted : Settings) wh
   explore_came explore (Ok NotAllowed) is so = subst (IsFaulty held left old new) (sym is) so
   explore_came explore (Err fault) is so = tt
 
-  pub show_came : (show : Shown) (r : Result Judgement Fault) → wanted ≡ Show show → IfOk r (λ judgement. AreWordsShown held left show judgement old new) → IfOk r (Came held left old new wanted)
+  pub show_came : (show : Shown) (r : Result Judgement Fault) → wanted ≡ Show show → IfOk r (λ judgement. ShowCame show.explore.architecture judgement held left show old new)
+      → IfOk r (Came held left old new wanted)
   show_came show (Ok Allowed) is so = subst (IsDone held left old new) (sym is) so
   show_came show (Ok NotAllowed) is so = subst (IsFaulty held left old new) (sym is) so
   show_came show (Err fault) is so = tt
@@ -62,13 +62,13 @@ explore_beyond held old new wanted explore Has (Ok judgement) is told leaves = t
 explore_beyond held old new wanted explore Has (Err fault) is told leaves = λ two.
     let it = beyond_explore held old new explore Has fault told leaves two in (subst IsOutOfRange (sym is) it.0, it.1)
 
-pub show_beyond : (held : Held) (old new : Option (List ℕ)) (wanted : Settings) (show : Shown) (Has : (List ℕ → Type 0) → Type 0) (r : Result Judgement Fault) → wanted ≡ Show show → IfErr r (IsShowFault held show)
+pub show_beyond : (held : Held) (old new : Option (List ℕ)) (wanted : Settings) (show : Shown) (Has : (List ℕ → Type 0) → Type 0) (r : Result Judgement Fault) → wanted ≡ Show show → IfErr r (IsShowingFault show.explore.architecture held show)
     → IfErr r (λ fault. LeavesPart fault old new Has) → IfErr r (λ fault. status_of fault ≡ 2 → IsOutOfRange wanted × (new ≡ old))
 show_beyond held old new wanted show Has (Ok judgement) is told leaves = tt
 show_beyond held old new wanted show Has (Err fault) is told leaves = λ two.
-    let it = beyond_show held old new show Has fault told leaves two in (subst IsOutOfRange (sym is) it.0, it.1)
+    let it = beyond_show show.explore.architecture held old new show Has fault told leaves two in (subst IsOutOfRange (sym is) it.0, it.1)
 
-pub show_written : (held left : Held) (wanted : Settings) (show : Shown) → wanted ≡ Show show → SparesOthers (IsScriptFile show.explore.scripts) held left
+pub show_written : (held left : Held) (wanted : Settings) (show : Shown) → wanted ≡ Show show → SparesOthers (IsExploreFile show.explore.architecture show.explore) held left
     → (name : Text) → left name ≢ held name → IsWritten name wanted
 show_written held left wanted show is spares = λ name changed. subst (IsWritten name) (sym is) (written held left _ spares name changed)
 

@@ -13,7 +13,7 @@ use Rattle.command_files.specs.declared.fault.Fault.{Fault}
 use Rattle.command_files.specs.declared.fault.Fault.TheVariants.{BadAddress, CannotShow, Configuration}
 use Rattle.command_files.specs.declared.fault.Unshown.TheVariants.{Elsewhere}
 use Rattle.command_line.proofs.StreamLeft.{stream_either}
-use Rattle.command_line.specs.Running.{ExploreHas, IsHalfPrinted, IsOutOfRange, strictness_of}
+use Rattle.command_line.specs.Running.{ExploreHas, IsHalfPrinted, IsOutOfRange, ShowHas, ShowsElsewhere, strictness_of}
 use Rattle.command_line.specs.Telling.{LeavesOf}
 use Rattle.command_settings.specs.declared.wanted.Check.{Check as Judging}
 use Rattle.command_settings.specs.declared.wanted.Explain.{Explain as Telling}
@@ -26,7 +26,6 @@ use Rattle.explain_command.specs.Explaining.{IsStreamCutOff, LeavesOfStream}
 use Rattle.explore_command.proofs.Explored.{all_of}
 use Rattle.explore_command.proofs.Faults.{some_part}
 use Rattle.explore_command.specs.declared.judging.Judgement.{Judgement}
-use Rattle.show_command.specs.Showing.{IsElsewhere, WordsHave}
 use Rattle.text_fields.specs.Writing.{Begins}
 
 -- ---- what is left
@@ -46,12 +45,13 @@ module _ (held left : Held) (old new : Option (List ℕ)) where
 
   -- all of a text is a beginning of it
   search_begins : (architecture sampled : Bool) (explore : Sought) → ExploreHas architecture sampled held explore (Appends old new) → ExploreHas architecture sampled held explore (Begins old new)
-  search_begins true sampled explore so = record { image = so.image; architecture = so.architecture; image_file = so.image_file; found = so.found; of_text = all_of old new _ so.of_text }
+  search_begins true sampled explore so = record { architecture = so.architecture; of_file = so.of_file; of_text = all_of old new _ so.of_text }
   search_begins false true explore so = record { image = so.image; found = so.found; image_file = so.image_file; runs_made = so.runs_made; of_text = all_of old new _ so.of_text }
   search_begins false false explore so = record { image = so.image; exploration = so.exploration; image_file = so.image_file; found = so.found; of_text = all_of old new _ so.of_text }
 
-  words_begin : (show : Shown) → WordsHave held show (Appends old new) → WordsHave held show (Begins old new)
-  words_begin show so = record { exploration = so.exploration; of_file = so.of_file; of_text = all_of old new _ so.of_text }
+  words_begin : (architecture : Bool) (show : Shown) → ShowHas architecture held show (Appends old new) → ShowHas architecture held show (Begins old new)
+  words_begin true show so = record { architecture = so.architecture; of_file = so.of_file; of_text = all_of old new _ so.of_text }
+  words_begin false show so = record { exploration = so.exploration; of_file = so.of_file; of_text = all_of old new _ so.of_text }
 
   -- that is nothing, or no more than a beginning
   pub either_of : (wanted : Settings) (fault : Fault) → LeavesOf held left old new wanted fault → (new ≡ old) ⊎ IsHalfPrinted held left old new wanted
@@ -59,7 +59,7 @@ module _ (held left : Held) (old new : Option (List ℕ)) where
   either_of (Explain explain) fault so = stream_either old new _ fault so
   either_of (Run run) fault so = either old new _ fault so
   either_of (Explore explore) fault so = some_part old new (ExploreHas explore.architecture (nat_lt 0 explore.sample) held explore) fault (search_begins explore.architecture (nat_lt 0 explore.sample) explore) so
-  either_of (Show show) fault so = some_part old new (WordsHave held show) fault (words_begin show) so
+  either_of (Show show) fault so = some_part old new (ShowHas show.explore.architecture held show) fault (words_begin show.explore.architecture show) so
   either_of (Chart chart) fault so = either old new _ fault so
   either_of (Check check) fault so = either old new _ fault so
 
@@ -89,8 +89,8 @@ pub explore_outside : (wanted : Settings) (explore : Sought) (r : Result Judgeme
 explore_outside wanted explore (Ok judgement) is outside = tt
 explore_outside wanted explore (Err fault) is outside = λ out. as_told fault Configuration (outside (subst IsOutOfRange is out)) refl
 
-pub show_outside : (wanted : Settings) (show : Shown) (r : Result Judgement Fault) → wanted ≡ Show show → (IsOutside show.explore.machine → (r ≡ Err Configuration) ⊎ IsElsewhere show.explore)
-    → (IsElsewhere show.explore → (word : Name) × (r ≡ Err (CannotShow word Elsewhere))) → IfErr r (λ fault. IsOutOfRange wanted → status_of fault ≡ 2)
+pub show_outside : (wanted : Settings) (show : Shown) (r : Result Judgement Fault) → wanted ≡ Show show → (IsOutside show.explore.machine → (r ≡ Err Configuration) ⊎ ShowsElsewhere show.explore.architecture show.explore)
+    → (ShowsElsewhere show.explore.architecture show.explore → (word : Name) × (r ≡ Err (CannotShow word Elsewhere))) → IfErr r (λ fault. IsOutOfRange wanted → status_of fault ≡ 2)
 show_outside wanted show (Ok judgement) is outside elsewhere = tt
 show_outside wanted show (Err fault) is outside elsewhere = λ out. elim (subst IsOutOfRange is out) [
   | inl far ↦ elim (outside far) [
@@ -100,7 +100,7 @@ show_outside wanted show (Err fault) is outside elsewhere = λ out. elim (subst 
   | inr other ↦ at other
 ]
   where
-    at : IsElsewhere show.explore → status_of fault ≡ 2
+    at : ShowsElsewhere show.explore.architecture show.explore → status_of fault ≡ 2
     at other = let it = elsewhere other in as_told fault (CannotShow it.0 Elsewhere) it.1 refl
 
 -- ---- what is done is in range

@@ -1,8 +1,9 @@
 -- What the words' settings allow to be done, and what faults say of them.
-use Rattle.std.proofs.Common.{◌≡◌, ◌≢◌, ◌∙◌, ◌⊎◌, ℕ, Bool, IsSomeAnd, List, None, Option, Some, arith, false, true, inl, inr, subst, sym, ap, refl}
+use Rattle.std.proofs.Common.{◌≡◌, ◌≢◌, ◌∙◌, ◌⊎◌, ℕ, [], Bool, Contains, IsSomeAnd, List, None, Option, Some, arith, false, true, inl, inr, subst, sym, ap, refl}
 use Rattle.std.proofs.lemmas.Bool.{false≢true}
 use Rattle.std.proofs.lemmas.Slice.Eq.{bytes_eq-Decides}
 use Rattle.std.specs.Str.{bytes_eq}
+use Rattle.architecture_command.specs.Searching.{IsSearchFault}
 use Rattle.chart_command.specs.Addresses.{address}
 use Rattle.chart_command.specs.Charting.{IsNoAddress}
 use Rattle.clap.specs.Words.{Text}
@@ -12,7 +13,8 @@ use Rattle.command_files.specs.Held.{Held}
 use Rattle.command_files.specs.Sizes.{IsOutside}
 use Rattle.command_files.specs.Status.{status_of}
 use Rattle.command_files.specs.declared.fault.Fault.{Fault}
-use Rattle.command_line.specs.Running.{MeetsSomeState}
+use Rattle.command_line.specs.Running.{MeetsSomeState, ShowsElsewhere}
+use Rattle.command_line.specs.Telling.{IsShowingFault}
 use Rattle.command_settings.specs.Settings.{IsNamed}
 use Rattle.command_settings.specs.declared.wanted.Explore.{Explore as Sought}
 use Rattle.command_settings.specs.declared.wanted.Run.{Run as Asked}
@@ -22,7 +24,7 @@ use Rattle.command_settings.specs.declared.wanted.Settings.TheVariants.{Chart, C
 use Rattle.explore_command.specs.Exploring.{IsExploreFault, LeavesPart}
 use Rattle.explore_command.specs.Keeping.{SparesOthers}
 use Rattle.run_command.specs.Running.{IsRunFault}
-use Rattle.show_command.specs.Showing.{HasUnshown, IsElsewhere, IsShowFault}
+use Rattle.show_command.specs.Asking.{HasUnshown}
 
 -- the words give an exploration a state at least
 pub some_states : (words : List Text) (wanted : Settings) → IsNamed words wanted → MeetsSomeState wanted
@@ -52,18 +54,29 @@ one_is_not_two : (fault other : Fault) → fault ≡ other → status_of other �
 one_is_not_two fault other is one two =
     let bad : 1 ≡ 2 = sym one ∙ (ap status_of (sym is) ∙ two) in cc
 
-unshown_once : (held : Held) (show : Shown) (fault : Fault) → HasUnshown held show fault → status_of fault ≡ 2 → ⊥
-unshown_once held show fault unshown two = elim unshown.unplaced [
+unshown_once : (held : Held) (explore : Sought) (words : List Name) (fault : Fault) → HasUnshown held explore words fault → status_of fault ≡ 2 → ⊥
+unshown_once held explore words fault unshown two = elim unshown.unplaced [
   | inl at ↦ one_is_not_two fault _ at.1 refl two
   | inr at ↦ one_is_not_two fault _ at.3 refl two
 ]
 
-pub beyond_show : (held : Held) (old new : Option (List ℕ)) (show : Shown) (Has : (List ℕ → Type 0) → Type 0) (fault : Fault) → IsShowFault held show fault → LeavesPart fault old new Has → status_of fault ≡ 2
-    → (IsOutside show.explore.machine ⊎ IsElsewhere show.explore) × (new ≡ old)
-beyond_show held old new show Has fault (inl told) leaves two =
+-- where no words are to be shown, none can't be
+pub none_unshown : (held : Held) (explore : Sought) (words : List Name) (fault : Fault) → words ≡ [] → IsSearchFault held explore words fault → IsExploreFault held explore fault
+none_unshown held explore words fault none (inl so) = so
+none_unshown held explore words fault none (inr unshown) =
+    let given = subst (λ (ws : List Name). Contains ws unshown.word) none unshown.given in
+    let inside = given.1 in
+    absurd (omega (arith, inside))
+
+pub beyond_show : (architecture : Bool) (held : Held) (old new : Option (List ℕ)) (show : Shown) (Has : (List ℕ → Type 0) → Type 0) (fault : Fault) → IsShowingFault architecture held show fault → LeavesPart fault old new Has → status_of fault ≡ 2
+    → (IsOutside show.explore.machine ⊎ ShowsElsewhere architecture show.explore) × (new ≡ old)
+beyond_show true held old new show Has fault (inl told) leaves two =
     let it = beyond_explore held old new show.explore Has fault told leaves two in (inl it.0, it.1)
-beyond_show held old new show Has fault (inr (inl unshown)) leaves two = absurd (unshown_once held show fault unshown two)
-beyond_show held old new show Has fault (inr (inr (word, is, elsewhere))) leaves two = (inr elsewhere, subst (λ f. LeavesPart f old new Has) is leaves)
+beyond_show true held old new show Has fault (inr unshown) leaves two = absurd (unshown_once held show.explore show.words.items fault unshown two)
+beyond_show false held old new show Has fault (inl told) leaves two =
+    let it = beyond_explore held old new show.explore Has fault told leaves two in (inl it.0, it.1)
+beyond_show false held old new show Has fault (inr (inl unshown)) leaves two = absurd (unshown_once held show.explore show.words.items fault unshown two)
+beyond_show false held old new show Has fault (inr (inr (word, is, elsewhere))) leaves two = (inr elsewhere, subst (λ f. LeavesPart f old new Has) is leaves)
 
 -- the word names no address
 pub no_address : (line : Option Name) (fault : Fault) → IsNoAddress line fault → IsSomeAnd line (λ word. address word.now ≡ None)

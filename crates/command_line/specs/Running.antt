@@ -1,5 +1,5 @@
 -- What a run of the program has done, by its status.
-use Rattle.std.specs.Prelude.{◌≡◌, ◌≢◌, ◌⊎◌, ◌<◌, ℕ, Bool, false, true, nat_lt, IsSomeAnd, List, None, Option}
+use Rattle.std.specs.Prelude.{◌≡◌, ◌≢◌, ◌⊎◌, ◌<◌, ℕ, [], Bool, false, true, nat_lt, IsSomeAnd, List, None, Option}
 use Rattle.clap.specs.Words.{Text}
 use Rattle.command_files.specs.Held.{Held}
 use Rattle.replay_command.specs.Replaying.{IsCutOff, IsReplayed}
@@ -24,6 +24,7 @@ use Rattle.command_settings.specs.declared.wanted.Check.{Check as Judging}
 use Rattle.command_settings.specs.declared.wanted.Explore.{Explore as Seeking}
 use Rattle.command_settings.specs.declared.wanted.Settings.{Settings}
 use Rattle.command_settings.specs.declared.wanted.Settings.TheVariants.{Chart, Check, Explain, Explore, Replay, Run, Show}
+use Rattle.command_settings.specs.declared.wanted.Show.{Show as Showing}
 use Rattle.event_stream.specs.declared.strictness.Strictness.{Strictness}
 use Rattle.event_stream.specs.declared.strictness.Strictness.TheVariants.{Lenient, Strict}
 use Rattle.lawful_log.specs.declared.rule.LogRule.{LogRule}
@@ -64,15 +65,29 @@ CheckCame NotAllowed = IsUnclean
 
 -- what is found of a program's ends, under the memory model, by random runs or by a search of all that the machine does, was told and judged
 abbrev pub ExploreCame : (architecture sampled : Bool) → Judgement → Held → Held → Seeking → Option (List ℕ) → Option (List ℕ) → Type 0
-ExploreCame true sampled judgement held left explore old new = IsSearched held left explore explore.window judgement old new
+ExploreCame true sampled judgement held left explore old new = IsSearched held left explore [] explore.window judgement old new
 ExploreCame false true judgement held left explore old new = IsSampleTold held left explore explore.sample judgement old new
 ExploreCame false false judgement held left explore old new = IsExplorationTold held left explore judgement old new
 
 -- P holds of the text of it
 abbrev pub ExploreHas : (architecture sampled : Bool) → Held → Seeking → (List ℕ → Type 0) → Type 0
-ExploreHas true sampled held explore = SearchHas held explore explore.window
+ExploreHas true sampled held explore = SearchHas held explore [] explore.window
 ExploreHas false true held explore = SampleHas held explore explore.sample
 ExploreHas false false held explore = ExplorationHas held explore
+
+-- the same with words of memory
+abbrev pub ShowCame : (architecture : Bool) → Judgement → Held → Held → Showing → Option (List ℕ) → Option (List ℕ) → Type 0
+ShowCame true judgement held left show old new = IsSearched held left show.explore show.words.items show.explore.window judgement old new
+ShowCame false judgement held left show old new = AreWordsShown held left show judgement old new
+
+abbrev pub ShowHas : (architecture : Bool) → Held → Showing → (List ℕ → Type 0) → Type 0
+ShowHas true held show = SearchHas held show.explore show.words.items show.explore.window
+ShowHas false held show = WordsHave held show
+
+-- words of memory are to be shown where none are
+abbrev pub ShowsElsewhere : (architecture : Bool) → Seeking → Type 0
+ShowsElsewhere true explore = ⊥
+ShowsElsewhere false explore = IsElsewhere explore
 
 -- the file is one that shows an outcome
 abbrev pub IsExploreFile : (architecture : Bool) → Seeking → Text → Type 0
@@ -85,7 +100,7 @@ IsDone held left old new (Replay replay) = IsReplayed held replay old new
 IsDone held left old new (Explain explain) = IsExplained held explain.replay (strictness_of explain.strict) explain.state old new
 IsDone held left old new (Run run) = IsRun held left run old new
 IsDone held left old new (Explore explore) = ExploreCame explore.architecture (nat_lt 0 explore.sample) Allowed held left explore old new
-IsDone held left old new (Show show) = AreWordsShown held left show Allowed old new
+IsDone held left old new (Show show) = ShowCame show.explore.architecture Allowed held left show old new
 IsDone held left old new (Chart chart) = IsCharted held chart.replay chart.line old new
 IsDone held left old new (Check check) = IsClean check.messages held check old new
 
@@ -95,7 +110,7 @@ IsFaulty held left old new (Replay replay) = ⊥
 IsFaulty held left old new (Explain explain) = ⊥
 IsFaulty held left old new (Run run) = ⊥
 IsFaulty held left old new (Explore explore) = ExploreCame explore.architecture (nat_lt 0 explore.sample) NotAllowed held left explore old new
-IsFaulty held left old new (Show show) = AreWordsShown held left show NotAllowed old new
+IsFaulty held left old new (Show show) = ShowCame show.explore.architecture NotAllowed held left show old new
 IsFaulty held left old new (Chart chart) = ⊥
 IsFaulty held left old new (Check check) = IsUnclean check.messages held check old new
 
@@ -110,7 +125,7 @@ IsHalfPrinted held left old new (Replay replay) = IsCutOff held replay old new
 IsHalfPrinted held left old new (Explain explain) = IsStreamCutOff held explain.replay (strictness_of explain.strict) explain.state old new
 IsHalfPrinted held left old new (Run run) = IsRunCutOff held left run old new
 IsHalfPrinted held left old new (Explore explore) = ExploreHas explore.architecture (nat_lt 0 explore.sample) held explore (Begins old new)
-IsHalfPrinted held left old new (Show show) = WordsHave held show (Begins old new)
+IsHalfPrinted held left old new (Show show) = ShowHas show.explore.architecture held show (Begins old new)
 IsHalfPrinted held left old new (Chart chart) = IsHalfCharted held chart.replay chart.line old new
 IsHalfPrinted held left old new (Check check) = IsCheckBroken check.messages held check old new
 
@@ -122,7 +137,7 @@ IsUnprinted words held left old new = (new ≡ old) ⊎ (IsForHelp words ⊎ Has
 abbrev pub IsOutOfRange : Settings → Type 0
 IsOutOfRange (Run run) = IsOutside run.machine
 IsOutOfRange (Explore explore) = IsOutside explore.machine
-IsOutOfRange (Show show) = IsOutside show.explore.machine ⊎ IsElsewhere show.explore
+IsOutOfRange (Show show) = IsOutside show.explore.machine ⊎ ShowsElsewhere show.explore.architecture show.explore
 IsOutOfRange (Chart chart) = IsSomeAnd chart.line (λ word. address word.now ≡ None)
 IsOutOfRange _ = ⊥
 
@@ -148,7 +163,7 @@ MeetsSomeState _ = Unit {0}
 abbrev pub IsWritten : Text → Settings → Type 0
 IsWritten name (Run run) = name ≡ run.journal.now
 IsWritten name (Explore explore) = IsExploreFile explore.architecture explore name
-IsWritten name (Show show) = IsScriptFile show.explore.scripts name
+IsWritten name (Show show) = IsExploreFile show.explore.architecture show.explore name
 IsWritten name _ = ⊥
 
 -- no file but the journal or the scripts of what the words name is another than before

@@ -1,6 +1,7 @@
 -- Which fault tells why what the words ask for was not done.
 use Rattle.std.specs.Prelude.{◌≡◌, ◌⊎◌, ℕ, Bool, true, false, nat_lt, List, Option}
 use Rattle.clap.specs.Words.{Text}
+use Rattle.architecture_command.specs.Searching.{IsSearchFault}
 use Rattle.chart_command.specs.Charting.{IsChartFault}
 use Rattle.check_command.specs.Checking.{IsCheckFault}
 use Rattle.check_command.specs.Messages.{IsLogFault}
@@ -8,20 +9,26 @@ use Rattle.command_files.specs.Faults.{IsReplayFault, LeavesAtFault}
 use Rattle.command_files.specs.Held.{Held}
 use Rattle.command_files.specs.Status.{status_of}
 use Rattle.command_files.specs.declared.fault.Fault.{Fault}
-use Rattle.command_line.specs.Running.{ExploreHas, HasNamed, IsHalfPrinted, IsOutOfRange, strictness_of}
+use Rattle.command_line.specs.Running.{ExploreHas, HasNamed, ShowHas, IsHalfPrinted, IsOutOfRange, strictness_of}
 use Rattle.command_settings.specs.Refusals.{IsForHelp}
 use Rattle.command_settings.specs.declared.wanted.Check.{Check as Judging}
 use Rattle.command_settings.specs.declared.wanted.Settings.{Settings}
 use Rattle.command_settings.specs.declared.wanted.Settings.TheVariants.{Chart, Check, Explain, Explore, Replay, Run, Show}
+use Rattle.command_settings.specs.declared.wanted.Show.{Show as Showing}
 use Rattle.explain_command.specs.Explaining.{IsExplainFault, LeavesOfStream}
 use Rattle.explore_command.specs.Exploring.{IsExploreFault, LeavesPart}
 use Rattle.run_command.specs.Running.{IsRunFault}
-use Rattle.show_command.specs.Showing.{IsShowFault, WordsHave}
+use Rattle.show_command.specs.Showing.{IsShowFault}
 
 -- the messages of a trace can't be judged, or its order
 abbrev pub IsJudgingFault : (of_messages : Bool) → Held → Judging → Fault → Type 0
 IsJudgingFault true held check = IsLogFault held check.trace
 IsJudgingFault false held check = IsCheckFault held check.trace
+
+-- words of memory can't be shown, or what the memory model allows can't be told
+abbrev pub IsShowingFault : (architecture : Bool) → Held → Showing → Fault → Type 0
+IsShowingFault true held show = IsSearchFault held show.explore show.words.items
+IsShowingFault false held show = IsShowFault held show
 
 -- each command says which faults it has, of which file, and what that file then holds
 abbrev pub IsFaultOfCommand : Held → Option (List ℕ) → Option (List ℕ) → Settings → Fault → Type 0
@@ -29,7 +36,7 @@ IsFaultOfCommand held old new (Replay replay) = IsReplayFault held replay
 IsFaultOfCommand held old new (Explain explain) = IsExplainFault held explain.replay (strictness_of explain.strict) old new
 IsFaultOfCommand held old new (Run run) = IsRunFault held run
 IsFaultOfCommand held old new (Explore explore) = IsExploreFault held explore
-IsFaultOfCommand held old new (Show show) = IsShowFault held show
+IsFaultOfCommand held old new (Show show) = IsShowingFault show.explore.architecture held show
 IsFaultOfCommand held old new (Chart chart) = IsChartFault held chart.replay chart.line
 IsFaultOfCommand held old new (Check check) = IsJudgingFault check.messages held check
 
@@ -37,7 +44,7 @@ IsFaultOfCommand held old new (Check check) = IsJudgingFault check.messages held
 abbrev pub LeavesOf : Held → Held → Option (List ℕ) → Option (List ℕ) → Settings → Fault → Type 0
 LeavesOf held left old new (Explain explain) fault = LeavesOfStream fault old new (IsHalfPrinted held left old new (Explain explain))
 LeavesOf held left old new (Explore explore) fault = LeavesPart fault old new (ExploreHas explore.architecture (nat_lt 0 explore.sample) held explore)
-LeavesOf held left old new (Show show) fault = LeavesPart fault old new (WordsHave held show)
+LeavesOf held left old new (Show show) fault = LeavesPart fault old new (ShowHas show.explore.architecture held show)
 LeavesOf held left old new (Replay replay) fault = LeavesAtFault fault old new (IsHalfPrinted held left old new (Replay replay))
 LeavesOf held left old new (Run run) fault = LeavesAtFault fault old new (IsHalfPrinted held left old new (Run run))
 LeavesOf held left old new (Chart chart) fault = LeavesAtFault fault old new (IsHalfPrinted held left old new (Chart chart))

@@ -1,20 +1,20 @@
 //! What the words ask for is carried out, command by command.
 
-ghost use Rattle.std.specs.Prelude.{◌≡◌, ◌≢◌, ◌<◌, Err, IfErr, IfOk, nat_lt};
+ghost use Rattle.std.specs.Prelude.{◌≡◌, ◌≢◌, ◌⊎◌, ◌<◌, Err, IfErr, IfOk, nat_lt};
 ghost use Rattle.clap.specs.Words.{Text};
-ghost use Rattle.command_files.specs.Faults.{LeavesAtFault};
+ghost use Rattle.command_files.specs.Faults.{LeavesAtFault, Name};
 ghost use Rattle.command_files.specs.Sizes.{IsOutside};
 ghost use Rattle.command_files.specs.Status.{status_of};
-ghost use Rattle.command_line.specs.Telling.{IsFaultOfCommand, IsJudgingFault, LeavesOf};
-ghost use Rattle.command_line.specs.Running.{Came, CheckCame, ExploreCame, ExploreHas, MeetsSomeState, IsOutOfRange, IsCheckBroken, IsExploreFile, IsWritten, strictness_of};
+ghost use Rattle.command_line.specs.Telling.{IsFaultOfCommand, IsJudgingFault, IsShowingFault, LeavesOf};
+ghost use Rattle.command_line.specs.Running.{Came, CheckCame, ExploreCame, ExploreHas, MeetsSomeState, IsOutOfRange, IsCheckBroken, IsExploreFile, IsWritten, ShowCame, ShowHas, ShowsElsewhere, strictness_of};
 ghost use Rattle.explore_command.specs.Exploring.{IsExploreFault, LeavesPart};
 ghost use Rattle.explore_command.specs.Keeping.{SparesOthers};
 
 use architecture_command::architecture_files;
 use chart_command::chart_files;
 use check_command::{check_file, check_messages};
-use command_files::{Fault, Files};
-use command_settings::{Check, Explore, Settings};
+use command_files::{Fault, Files, Unshown};
+use command_settings::{Check, Explore, Settings, Show};
 use event_stream::Strictness;
 use explain_command::explain_files;
 use explore_command::{Judgement, explore_files};
@@ -76,7 +76,7 @@ pub(crate) fn carry_out<
             Ok(Judgement::Allowed)
         }
         Settings::Explore(explore) => explored(alloc, files, explore, out, err, progress),
-        Settings::Show(show) => show_files(alloc, files, &show, out, err, progress),
+        Settings::Show(show) => shown(alloc, files, &show, out, err, progress),
         Settings::Check(check) => checked(alloc, files, check, out, err),
     }
 }
@@ -100,12 +100,46 @@ fn explored<'a, F: Files, O: Write, E: Write, P: Progress>(
     ensures spared { SparesOthers (IsExploreFile wanted.entry.architecture wanted.entry) (F.held files.old) (F.held files.new) }
 {
     if wanted.architecture {
-        return architecture_files(alloc, files, wanted, wanted.window, out, err);
+        return architecture_files(alloc, files, wanted, &[], wanted.window, out, err);
     }
     if 0 < wanted.sample {
         return sample_files(alloc, files, wanted, wanted.sample, wanted.seed, out, err);
     }
     explore_files(alloc, files, wanted, out, err, progress)
+}
+
+/// The program's ends are looked for with words of memory: all of them, or under the memory model.
+fn shown<'a, F: Files, O: Write, E: Write, P: Progress>(
+    alloc: Global,
+    files: &mut F,
+    wanted: &Show<'a>,
+    out: &mut O,
+    err: &mut E,
+    progress: &P,
+) -> Result<Judgement, Fault<'a>>
+    requires room { 0 < wanted.now.explore.states }
+    ensures came { IfOk result (λ judgement. ShowCame wanted.now.explore.architecture judgement
+        (F.held files.old) (F.held files.new) wanted.now (O.contents out.old) (O.contents out.new)) }
+    ensures elsewhere { ShowsElsewhere wanted.now.explore.architecture wanted.now.explore → (word : Name) × (result ≡ Err (Fault.CannotShow word Unshown.Elsewhere)) }
+    ensures outside { IsOutside wanted.now.explore.machine → (result ≡ Err Fault.Configuration) ⊎ ShowsElsewhere wanted.now.explore.architecture wanted.now.explore }
+    ensures told { IfErr result (IsShowingFault wanted.now.explore.architecture (F.held files.old) wanted.now) }
+    ensures unfinished { IfErr result (λ fault. LeavesPart fault (O.contents out.old) (O.contents out.new)
+        (ShowHas wanted.now.explore.architecture (F.held files.old) wanted.now)) }
+    ensures spared { SparesOthers (IsExploreFile wanted.now.explore.architecture wanted.now.explore) (F.held files.old) (F.held files.new) }
+{
+    let explore = wanted.explore;
+    if explore.architecture {
+        return architecture_files(
+            alloc,
+            files,
+            explore,
+            &wanted.words,
+            explore.window,
+            out,
+            err,
+        );
+    }
+    show_files(alloc, files, wanted, out, err, progress)
 }
 
 /// The order of a trace is judged, or its messages.

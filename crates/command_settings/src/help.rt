@@ -119,7 +119,7 @@ With --scripts, events that an outcome doesn't need are left out of its script. 
 are played to find them, and 40,000,000 for all outcomes; with --architecture scripts stay as found.
 The machine carries loads out as they retire, so that what a missing fence between two loads allows is
 not among the outcomes. With --architecture it is: behind each outcome stands whether this machine shows
-it, or the memory model alone allows it, and the last line is
+it, or the memory model alone allows it; its words are those behind all operations. The last line is
   searched: N outcomes, M states, no window over W (not proved complete)
 or incomplete: and the limit that was met. With --sample, random runs are made and counted instead, and
 the last line is sampled: RUNS runs, not complete. With both, --architecture alone counts.

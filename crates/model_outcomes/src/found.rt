@@ -38,7 +38,7 @@ pub fn is_among(witnesses: &[Witness], harts: &[HartResult]) -> bool {
 /// The outcomes that are found under a model, which are to have all those among them to which the machine comes.
 pub fn allowed(alloc: Global, image: &Image, config: Config) -> Result<Vec<Witness>> {
     ensure!(is_within_limits(&config), "no configuration");
-    let found = search(alloc, image, config, WINDOW, STATES)?;
+    let found = search(alloc, image, config, &[], WINDOW, STATES)?;
     ensure!(found.reach == Reach::Whole, "a bound is met");
     let exploring = Exploring {
         limit: STATES,

@@ -1,1 +1,2 @@
-mod Shown
+pub mod Asking
+pub mod Shown

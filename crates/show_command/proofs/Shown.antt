@@ -1,25 +1,22 @@
 -- What is known of an exploration that shows words, and what its faults say and leave.
-use Rattle.std.proofs.Common.{◌≡◌, ◌∙◌, ◌⊎◌, ◌≤◌, ◌-◌, ℕ, suc, [], ◌∷◌, ◌++◌, arith, Bool, Contains, IfSome, List, None, Option, Some, ap, drop, get_or, if◌then◌else◌, inl, inr, length, map, refl, reverse, subst, sym, take}
+use Rattle.std.proofs.Common.{◌≡◌, ◌≢◌, ◌∙◌, ◌⊎◌, ◌≤◌, ◌-◌, ℕ, suc, [], ◌∷◌, ◌++◌, arith, Bool, Contains, IfSome, List, None, Option, Some, ap, drop, get_or, if◌then◌else◌, inl, inr, length, map, refl, reverse, subst, sym, take}
 use Rattle.std.proofs.lemmas.List.{append_assoc, length-drop, length-map, map-append, reverse-append, take_all}
+use Rattle.std.specs.Io.KnownBytes.{Appends}
 use Rattle.command_files.specs.Faults.{Name}
 use Rattle.command_files.specs.Held.{Held}
 use Rattle.command_files.specs.Sizes.{config_named}
 use Rattle.command_files.specs.declared.fault.Fault.{Fault}
-use Rattle.command_files.specs.declared.fault.Fault.TheVariants.{CannotShow, OutOfMemory}
-use Rattle.command_files.specs.declared.fault.Unshown.{Unshown}
 use Rattle.command_settings.specs.declared.wanted.MachineOptions.{MachineOptions}
 use Rattle.command_settings.specs.declared.wanted.Show.{Show}
 use Rattle.elf_loader.specs.Image.{Initial}
 use Rattle.elf_symbols.specs.Named.{Named}
-use Rattle.explain_command.specs.Named.{HoldsNamedImage}
 use Rattle.exploration_text.specs.declared.wording.WordName.{WordName}
-use Rattle.exploration_text.specs.Words.{end_text}
-use Rattle.explore_command.proofs.Explored.{memory_told}
+use Rattle.exploration_text.specs.Words.{end_text, words_text}
 use Rattle.explore_command.proofs.Judged.{all_told}
 use Rattle.explore_command.specs.Allowing.{is_allowed_line, without_number}
-use Rattle.explore_command.specs.Exploring.{IsAllowFile, LeavesPart}
+use Rattle.explore_command.specs.Exploring.{IsAllowFile, IsExploreFault}
 use Rattle.explore_command.specs.Judging.{judgement_of_lines}
-use Rattle.explore_command.specs.Keeping.{AreKept, AreKeptFrom, IsKeptAt, IsScriptOf, SparesOthers, stuck_path}
+use Rattle.explore_command.specs.Keeping.{AreKept, AreKeptFrom, IsInNamed, IsKeptAt, IsScriptOf, SparesOthers, stuck_path}
 use Rattle.explore_command.specs.declared.judging.Judgement.{Judgement}
 use Rattle.explore_command.specs.declared.judging.Judgement.TheVariants.{Allowed, NotAllowed}
 use Rattle.explorer.specs.declared.exploration.Exploration.{Exploration}
@@ -27,44 +24,17 @@ use Rattle.explorer.specs.declared.exploration.Stuck.{Stuck}
 use Rattle.explorer.specs.declared.found.Found.{Found}
 use Rattle.flat_exploration.specs.Drained.{Ending}
 use Rattle.machine_types.specs.declared.config.Config.{Config}
+use Rattle.show_command.specs.Asking.{HasProgram, HasUnshown}
 use Rattle.show_command.specs.Judging.{AreWordsJudged, judgement_on}
 use Rattle.show_command.specs.Keeping.{AreWordsKept, bare_of}
-use Rattle.show_command.specs.Showing.{IsFoundIn, IsOfFile, IsShowFault}
-use Rattle.show_command.specs.Targets.{AreAddressesOf, IsUnplaced, IsUnshown, name_of, place_of}
+use Rattle.show_command.specs.Showing.{AreWordsShown, IsFoundIn, IsOfFile, IsShowFault, WordsHave}
+use Rattle.show_command.specs.Targets.{name_of, names_of, place_of}
+use Rattle.state_search.specs.declared.findings.Extent.TheVariants as extent
 use Rattle.word_explorer.specs.declared.exploration.WordExploration.{WordExploration}
 use Rattle.word_explorer.specs.declared.found.WordFound.{WordFound}
 use Rattle.word_explorer.specs.Ends.{ending_of, endings_of}
 
--- ---- what was found
-
-module _ (held first : Held) (show : Show) (config : Config) (image : Initial) (symbols : List Named) (config_is : config ≡ config_named show.explore.machine) (same : first ≡ held)
-    (file : HoldsNamedImage first show.explore.raw show.explore.image.now show.explore.machine.memory image symbols) where
-  pub image_file : HoldsNamedImage held show.explore.raw show.explore.image.now show.explore.machine.memory image symbols
-  image_file = subst (λ (h : Held). HoldsNamedImage h show.explore.raw show.explore.image.now show.explore.machine.memory image symbols) same file
-
-  pub of_file : (addresses : List ℕ) (found : WordExploration) → AreAddressesOf symbols show.words.items addresses → IsFoundIn image config addresses show.explore.states found → IsOfFile held show found
-  of_file addresses found placed is = record {
-    image = image;
-    symbols = symbols;
-    addresses = addresses;
-    image_file = image_file;
-    placed = placed;
-    found = subst (λ (c : Config). IsFoundIn image c addresses show.explore.states found) config_is is;
-  }
-
-  -- a word that can't be shown is told
-  pub unshown_told : (fault : Fault) → IsUnshown image symbols show.words.items fault → IsShowFault held show fault
-  unshown_told fault (inl (word, given, unplaced)) = inr (inl (record { image = image; symbols = symbols; image_file = image_file; word = word; given = given; unplaced = unplaced }))
-  unshown_told fault (inr memory) = inl (memory_told held show.explore fault memory)
-
-unplaced_is : (image : Initial) (symbols : List Named) (word : Name) (fault : Fault) → IsUnplaced image symbols word fault → (cause : Unshown) × (fault ≡ CannotShow word cause)
-unplaced_is image symbols word fault (inl (none, is)) = (_, is)
-unplaced_is image symbols word fault (inr (place, at, never, is)) = (_, is)
-
-pub unshown_left : (image : Initial) (symbols : List Named) (words : List Name) (fault : Fault) (old new : Option (List ℕ)) (Has : (List ℕ → Type 0) → Type 0) → IsUnshown image symbols words fault → new ≡ old → LeavesPart fault old new Has
-unshown_left image symbols words fault old new Has (inl (word, given, unplaced)) same =
-    let is = unplaced_is image symbols word fault unplaced in subst (λ f. LeavesPart f old new Has) (sym is.1) same
-unshown_left image symbols words fault old new Has (inr memory) same = subst (λ f. LeavesPart f old new Has) (sym memory) (inl same)
+-- ---- what is allowed
 
 -- what one file's bytes say of the outcomes, all files say
 judged : (held : Held) (allow : Option Name) (text : Option (List ℕ)) (names : List WordName) (endings : List Ending) (judgement : Judgement) → IsAllowFile held allow text → judgement ≡ judgement_on text names endings → AreWordsJudged held allow names endings judgement
@@ -77,11 +47,48 @@ pub judged_of : (held : Held) (allow : Option Name) (text : Option (List ℕ)) (
 judged_of held allow text names told endings judgement same read is = judged held allow text told endings judgement read (is ∙ ap (λ (n : List WordName). judgement_on text n endings) same)
 
 -- a judgement on lines is one on the outcomes that they tell
-pub judged_words : (names : List WordName) (text : Option (List ℕ)) (xs : List WordFound) → judgement_of_lines text (map (λ f. end_text names (ending_of f)) xs) ≡ judgement_on text names (endings_of xs)
-judged_words names None xs = refl
-judged_words names (Some text) xs =
+pub judged_words : {X : Type 0} (ending : X → Ending) (names : List WordName) (text : Option (List ℕ)) (xs : List X) → judgement_of_lines text (map (λ x. end_text names (ending x)) xs) ≡ judgement_on text names (map ending xs)
+judged_words ending names None xs = refl
+judged_words ending names (Some text) xs =
     ap (λ (b : Bool). if b then Allowed else NotAllowed)
-    (all_told (λ e. is_allowed_line text (without_number (end_text names e))) (λ line. is_allowed_line text (without_number line)) ending_of (λ f. end_text names (ending_of f)) (λ f. refl) xs)
+    (all_told (λ e. is_allowed_line text (without_number (end_text names e))) (λ line. is_allowed_line text (without_number line)) ending (λ x. end_text names (ending x)) (λ x. refl) xs)
+
+-- ---- what was found
+
+module _ (held : Held) (show : Show) (config : Config) (image : Initial) (addresses : List ℕ) (words : List Name) (names : List WordName) (found : WordExploration) (config_is : config ≡ config_named show.explore.machine)
+    (words_are : words ≡ show.words.items) (program : HasProgram held show.explore words image addresses) (named : names ≡ names_of words) (is : IsFoundIn image config addresses show.explore.states found) where
+  pub of_file : IsOfFile held show found
+  of_file = record {
+    image = image;
+    addresses = addresses;
+    program = subst (λ (w : List Name). HasProgram held show.explore w image addresses) words_are program;
+    found = subst (λ (c : Config). IsFoundIn image c addresses show.explore.states found) config_is is;
+  }
+
+  pub names_are : names ≡ names_of show.words.items
+  names_are = named ∙ ap names_of words_are
+
+  -- what holds of the text that these names make, holds of what was found
+  pub has : (P : List ℕ → Type 0) → P (words_text names found) → WordsHave held show P
+  has P so = record { exploration = found; of_file = of_file; of_text = subst (λ (n : List WordName). P (words_text n found)) names_are so }
+
+  -- all of it was done
+  pub shown : (old new : Option (List ℕ)) (left : Held) (judgement : Judgement) (text : Option (List ℕ)) → Appends old new (words_text names found) → IfSome show.explore.scripts (λ folder. AreWordsKept left show.explore.machine folder.now found)
+      → SparesOthers (IsInNamed show.explore.scripts (IsScriptOf (length found.outcomes.items) found.stuck)) held left → IsAllowFile held show.explore.allow text
+      → judgement ≡ judgement_of_lines text (map (λ f. end_text names (ending_of f)) found.outcomes.items) → (judgement ≡ Allowed → found.extent ≢ extent.OutOfMemory) → AreWordsShown held left show judgement old new
+  shown old new left judgement text printed kept spares read by whole = record {
+    exploration = found;
+    of_file = of_file;
+    printed = subst (λ (n : List WordName). Appends old new (words_text n found)) names_are printed;
+    kept = kept;
+    spared = spares;
+    judged = judged_of held show.explore.allow text names (names_of show.words.items) (endings_of found.outcomes.items) judgement names_are read (by ∙ judged_words ending_of names text found.outcomes.items);
+    whole = whole;
+  }
+
+pub show_told : (held : Held) (show : Show) (fault : Fault) → IsExploreFault held show.explore fault ⊎ HasUnshown held show.explore show.words.items fault → IsShowFault held show fault
+show_told held show fault (inl so) = inl so
+show_told held show fault (inr so) = inr (inl so)
 
 -- ---- scripts
 

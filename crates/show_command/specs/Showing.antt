@@ -1,5 +1,5 @@
 -- What an exploration that shows words of memory has told, written and judged, and which faults it tells.
-use Rattle.std.specs.Prelude.{◌≡◌, ◌≢◌, ◌<◌, ◌≤◌, ◌⊎◌, ℕ, [], All, Contains, IfSome, List, None, Option, length, true}
+use Rattle.std.specs.Prelude.{◌≡◌, ◌≢◌, ◌<◌, ◌≤◌, ◌⊎◌, ℕ, [], All, IfSome, List, None, Option, length}
 use Rattle.std.specs.Io.KnownBytes.{Appends}
 use Rattle.std.specs.List.Sorted.{IsStrictlySortedBy}
 use Rattle.std.specs.Ordering.{on}
@@ -12,8 +12,6 @@ use Rattle.command_files.specs.declared.fault.Unshown.TheVariants.{Elsewhere}
 use Rattle.command_settings.specs.declared.wanted.Explore.{Explore}
 use Rattle.command_settings.specs.declared.wanted.Show.{Show}
 use Rattle.elf_loader.specs.Image.{Initial}
-use Rattle.elf_symbols.specs.Named.{Named}
-use Rattle.explain_command.specs.Named.{HoldsNamedImage}
 use Rattle.exploration_text.specs.Words.{words_text}
 use Rattle.explore_command.specs.Exploring.{IsExploreFault}
 use Rattle.explore_command.specs.Keeping.{IsInNamed, IsScriptOf, SparesOthers}
@@ -21,9 +19,10 @@ use Rattle.explore_command.specs.declared.judging.Judgement.{Judgement}
 use Rattle.explore_command.specs.declared.judging.Judgement.TheVariants.{Allowed}
 use Rattle.flat_model.specs.Flat.{Flat}
 use Rattle.machine_types.specs.declared.config.Config.{Config}
+use Rattle.show_command.specs.Asking.{HasProgram, HasUnshown}
 use Rattle.show_command.specs.Judging.{AreWordsJudged}
 use Rattle.show_command.specs.Keeping.{AreWordsKept}
-use Rattle.show_command.specs.Targets.{AreAddressesOf, IsUnplaced, names_of}
+use Rattle.show_command.specs.Targets.{names_of}
 use Rattle.state_search.specs.declared.findings.Extent.TheVariants.{Complete, LimitMet}
 use Rattle.state_search.specs.declared.findings.Extent.TheVariants as extent
 use Rattle.word_explorer.specs.declared.exploration.WordExploration.{WordExploration}
@@ -50,10 +49,8 @@ pub record IsFoundIn (image : Initial) (config : Config) (addresses : List ℕ) 
 -- the exploration is of the image in the file, and the words lie where its symbols say
 pub record IsOfFile (held : Held) (show : Show) (exploration : WordExploration) : Type 0 where
   pub image : Initial
-  pub symbols : List Named
   pub addresses : List ℕ
-  pub image_file : HoldsNamedImage held show.explore.raw show.explore.image.now show.explore.machine.memory image symbols
-  pub placed : AreAddressesOf symbols show.words.items addresses
+  pub program : HasProgram held show.explore show.words.items image addresses
   pub found : IsFoundIn image (config_named show.explore.machine) addresses show.explore.states exploration
 
 -- what was found was printed, its scripts are in the folder, if one was named, and each other file is as before, and it was judged by the file that says what is allowed; it is allowed only where memory sufficed for all states, or for as many as were asked for
@@ -74,22 +71,13 @@ pub record WordsHave (held : Held) (show : Show) (P : List ℕ → Type 0) : Typ
 
 -- ---- faults
 
--- random runs are asked for, or what the memory model allows
+-- random runs are asked for
 abbrev pub IsElsewhere : Explore → Type 0
-IsElsewhere explore = (explore.architecture ≡ true) ⊎ (0 < explore.sample)
-
--- one of the words can't be shown, by the image in the file
-pub record HasUnshown (held : Held) (show : Show) (fault : Fault) : Type 0 where
-  pub image : Initial
-  pub symbols : List Named
-  pub image_file : HoldsNamedImage held show.explore.raw show.explore.image.now show.explore.machine.memory image symbols
-  pub word : Name
-  pub given : Contains show.words.items word
-  pub unplaced : IsUnplaced image symbols word fault
+IsElsewhere explore = 0 < explore.sample
 
 -- as an exploration has them; or words can't be shown
 abbrev pub IsShowFault : Held → Show → Fault → Type 0
 IsShowFault held show fault =
     IsExploreFault held show.explore fault
-    ⊎ (HasUnshown held show fault
+    ⊎ (HasUnshown held show.explore show.words.items fault
     ⊎ ((word : Name) × (fault ≡ CannotShow word Elsewhere) × IsElsewhere show.explore))

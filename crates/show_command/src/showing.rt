@@ -8,13 +8,12 @@ ghost use Rattle.explore_command.specs.Exploring.{LeavesPart};
 ghost use Rattle.explore_command.specs.Keeping.{IsScriptFile, SparesOthers};
 ghost use Rattle.show_command.specs.Showing.{IsElsewhere, IsShowFault, AreWordsShown, WordsHave};
 
+use crate::asked::AskedWords;
 use crate::keeping::keep;
-use crate::targets::targets_of;
 use crate::words::Shown;
-use command_files::{Fault, Files, Unshown, named_config};
+use command_files::{Fault, Files, Unshown};
 use command_settings::Show;
-use explain_command::named_image_in;
-use explore_command::{Judgement, Telling, allow_file, judge, print};
+use explore_command::{Judgement, Telling, judge, print};
 use explorer::Exploring;
 use progress_line::Progress;
 use std::alloc::Global;
@@ -22,7 +21,7 @@ use std::io::Write;
 use word_explorer::explore_words;
 
 /// Does what `explore_files` does, where words of memory are to be shown: each is judged behind the image. Random runs
-/// and a search under the memory model show none.
+/// show none.
 pub fn show_files<'a, F: Files, O: Write, E: Write, P: Progress>(
     alloc: Global,
     files: &mut F,
@@ -45,18 +44,12 @@ pub fn show_files<'a, F: Files, O: Write, E: Write, P: Progress>(
         let cause = Unshown::Elsewhere;
         return Err(Fault::CannotShow { word, cause });
     }
-    let Some(config) = named_config(explore.machine) else {
-        return Err(Fault::Configuration);
-    };
-    let allowed = allow_file(alloc, files, explore.allow)?;
-    let named = named_image_in(
-        alloc,
-        files,
-        explore.raw,
-        explore.image,
-        explore.machine.memory,
-    )?;
-    let targets = targets_of(alloc, &named.image, &named.names, &wanted.words)?;
+    let AskedWords {
+        config,
+        image,
+        allowed,
+        targets,
+    } = AskedWords::read(alloc, files, explore, &wanted.words)?;
     let watch = Telling { progress };
     let exploring = Exploring {
         limit: explore.states,
@@ -64,7 +57,7 @@ pub fn show_files<'a, F: Files, O: Write, E: Write, P: Progress>(
     };
     let Ok(exploration) = explore_words(
         alloc,
-        &named.image,
+        &image,
         config,
         &targets.addresses,
         exploring,
@@ -84,13 +77,12 @@ pub fn show_files<'a, F: Files, O: Write, E: Write, P: Progress>(
     judgement
 }
 
-/// The first of the words that are to be shown, where random runs are asked for or what the memory model allows.
+/// The first of the words that are to be shown, where random runs are asked for.
 fn sought_elsewhere<'a>(wanted: &Show<'a>) -> Option<&'a str>
     ensures sought { IfSome result (λ _. IsElsewhere wanted.now.explore) }
     ensures none { IsNone result → IsElsewhere wanted.now.explore → ⊥ }
 {
-    let explore = wanted.explore;
-    if !explore.architecture && explore.sample == 0 {
+    if wanted.explore.sample == 0 {
         return None;
     }
     match wanted.words.as_slice() {

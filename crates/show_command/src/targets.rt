@@ -14,7 +14,7 @@ use word_explorer::can_show;
 
 /// What lines call the words, and where they lie, both in the order of their asking.
 #[derive(Drop)]
-pub(crate) struct Targets<'a> {
+pub struct Targets<'a> {
     pub names: Vec<WordName<'a>>,
     pub addresses: Vec<u32>,
 }

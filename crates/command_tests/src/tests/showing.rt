@@ -45,6 +45,35 @@ fn a_lost_update_shows_in_the_counter(rt: HostRuntime) -> Result<(), Fail> {
     Ok(())
 }
 
+/// RVWMO allows no other number in the counter.
+#[test]
+fn words_stand_before_who_comes_to_an_outcome(rt: HostRuntime) -> Result<(), Fail> {
+    let told = "1  hart 0: exit 0   hart 1: exit 0   counter = 0x00000001   this machine
+2  hart 0: exit 0   hart 1: exit 0   counter = 0x00000002   this machine
+searched: 2 outcomes, ";
+    let files = [
+        File::whole("image", LOST_UPDATE),
+        File::whole("allowed", told.as_bytes()),
+    ];
+    let words = [
+        "rvtl",
+        "explore",
+        "--architecture",
+        "--harts",
+        "2",
+        "--allow",
+        "allowed",
+        "--show",
+        "counter",
+        "image",
+    ];
+    let ran = line(&rt, &words, &files);
+    assert!(rt; ran.err.is_empty());
+    assert!(rt; ran.out.starts_with(told.as_bytes()));
+    same(&rt, ran.status, 0);
+    Ok(())
+}
+
 /// The second word is the program's fourth instruction, which nothing changes.
 #[test]
 fn words_stand_in_the_order_of_their_asking(rt: HostRuntime) -> Result<(), Fail> {
@@ -167,7 +196,7 @@ fn a_script_leads_to_where_no_store_waits(rt: HostRuntime) -> Result<(), Fail> {
 }
 
 /// Words of a command line that are refused, what standard error tells, and the status.
-const REFUSED: [(&[&str], &str, u8); 7] = [
+const REFUSED: [(&[&str], &str, u8); 8] = [
     (
         &["--show", "counter", "--show", "nowhere", "image"],
         "rvtl: --show nowhere: no such symbol in IMAGE: name another (nm lists them) or give an address\n",
@@ -185,12 +214,24 @@ const REFUSED: [(&[&str], &str, u8); 7] = [
     ),
     (
         &["--show", "counter", "--sample", "3", "image"],
-        "rvtl: --show counter: not with --sample or --architecture: leave out one of them\n",
+        "rvtl: --show counter: not with --sample: leave out one of them\n",
         2,
     ),
     (
-        &["--show", "counter", "--architecture", "image"],
-        "rvtl: --show counter: not with --sample or --architecture: leave out one of them\n",
+        &["--architecture", "--show", "nowhere", "image"],
+        "rvtl: --show nowhere: no such symbol in IMAGE: name another (nm lists them) or give an address\n",
+        1,
+    ),
+    (
+        &[
+            "--architecture",
+            "--show",
+            "counter",
+            "--harts",
+            "9",
+            "image",
+        ],
+        "rvtl: bad configuration\n",
         2,
     ),
     (

@@ -101,7 +101,7 @@ const EXPLORED: [&str; 86] = [
 
 /// What stands behind `rvtl explore` where the architecture is asked: of what is told the last line is left
 /// out, since nobody else has counted the states.
-const ALLOWED: [&str; 23] = [
+const ALLOWED: [&str; 27] = [
     "--architecture --harts 2 store_buffering.elf",
     "--architecture --harts 2 message_passing_fenced.elf",
     "--architecture --harts 2 message_passing_unacquired.elf",
@@ -125,6 +125,10 @@ const ALLOWED: [&str; 23] = [
     "--architecture --harts 2 message_passing_relaxed.elf",
     "--architecture --harts 2 message_passing_release.elf",
     "--architecture --harts 2 compare_lock.elf",
+    "--architecture --harts 2 --show counter lost_update.elf",
+    "--architecture --harts 2 --show word early_store.elf",
+    "--architecture --harts 2 --model ztso --show word early_store.elf",
+    "--architecture --harts 2 --show word early_store_fenced.elf",
 ];
 
 /// What a command printed, and its status.

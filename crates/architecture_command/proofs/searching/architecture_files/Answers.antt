@@ -1,98 +1,116 @@
-use Rattle.std.proofs.Common.{◌≡◌, ◌∙◌, inl, inr, refl, subst, true}
+use Rattle.std.proofs.Common.{◌≡◌, ◌∙◌, List, inl, refl, subst, sym, true, ℕ}
 use Rattle.command_files.proofs.Left.{handed_up}
 use Rattle.architecture_command.proofs.Kept.{way_file}
 use Rattle.architecture_command.proofs.Readable.{each_has_text}
 use Rattle.architecture_command.proofs.Searched.{has, whole}
-use Rattle.architecture_outcomes.specs.Outcomes.{outcome_of}
-use Rattle.explore_command.proofs.Explored.{all_of, err_more, judged, memory_left, memory_told, ok_both, ok_more, spared, spared_after}
-use Rattle.explore_command.proofs.Faults.{first_left, first_told, folder_left, folder_told, output_left, output_told}
-use Rattle.explore_command.proofs.Judged.{judged_on}
+use Rattle.explore_command.proofs.Explored.{all_of, err_more, memory_left, memory_told, ok_both, ok_more, spared, spared_after}
+use Rattle.explore_command.proofs.Faults.{folder_left, folder_told, output_left, output_told}
 use Rattle.explore_command.proofs.Kept.{spares_wider}
 use Rattle.machine_types.specs.Config.{is_within_limits}
 use Rattle.machine_types.specs.declared.config.Config.{Config}
+use Rattle.show_command.proofs.Asking.{asking_left, asking_told}
+use Rattle.show_command.specs.Asking.{HasProgram}
 use Rattle.architecture_command.proofs.searching.architecture_files.Goals as goal
 
-pub returns-in_err-asked-clause-told : goal.returns-in_err-asked-clause-told
-returns-in_err-asked-clause-told g c = handed_up _ c.from_residual.result _ c.from_residual.ensures.1 (first_told (g.F.Files.held c.args.files.now) c.args.wanted _ c.in_err-asked.ensures.told)
+pub returns-in_err-config-clause-told : goal.returns-in_err-config-clause-told
+returns-in_err-config-clause-told g c =
+    handed_up _ c.from_residual.result _ c.from_residual.ensures.1 (asking_told (g.F.Files.held c.args.files.now) c.args.wanted c.args.words.now _ c.in_err-config.ensures.told)
 
-pub returns-in_err-asked-clause-unfinished : goal.returns-in_err-asked-clause-unfinished
-returns-in_err-asked-clause-unfinished g c = handed_up _ c.from_residual.result _ c.from_residual.ensures.1 (first_left (g.F.Files.held c.args.files.now) c.args.wanted _ _ _ _ c.in_err-asked.ensures.told refl)
+pub returns-in_err-config-clause-unfinished : goal.returns-in_err-config-clause-unfinished
+returns-in_err-config-clause-unfinished g c = handed_up _ c.from_residual.result _ c.from_residual.ensures.1 (asking_left _ _ _ _ _ _ _ c.in_err-config.ensures.told refl)
 
-pub returns-in_err-asked-clause-spared : goal.returns-in_err-asked-clause-spared
-returns-in_err-asked-clause-spared g c = spared _ _ _ c.read.ensures.stays
+pub returns-in_err-config-clause-spared : goal.returns-in_err-config-clause-spared
+returns-in_err-config-clause-spared g c = spared _ _ _ c.read.ensures.stays
 
 pub keep-requires-clause-within : goal.keep-requires-clause-within
-keep-requires-clause-within g c = subst (λ (k : Config). is_within_limits k ≡ true) c.in_ok-asked.ensures.config c.in_ok-asked.ensures.within
+keep-requires-clause-within g c = subst (λ (k : Config). is_within_limits k ≡ true) c.in_ok-config.ensures.config c.in_ok-config.ensures.within
 
 pub keep-requires-clause-readable : goal.keep-requires-clause-readable
-keep-requires-clause-readable g c = each_has_text c.in_ok-asked.asked.image c.in_ok-asked.asked.config c.entry-entry.ensures.image c.in_ok-asked.ensures.within c.in-Ok.architecture.outcomes.items c.in-Ok.ensures.shown
+keep-requires-clause-readable g c =
+    let asked = c.in_ok-config.field-0 in
+    each_has_text asked.image asked.config c.entry-entry.ensures.image c.in_ok-config.ensures.within _ c.in-Ok.architecture.outcomes.items c.in-Ok.ensures.shown
 
 pub returns-in_err-print-clause-told : goal.returns-in_err-print-clause-told
-returns-in_err-print-clause-told g c = handed_up _ c.from_residual-in_err-print.result _ c.from_residual-in_err-print.ensures.1 (output_told _ c.args.wanted _ c.in_err-print.ensures.told)
+returns-in_err-print-clause-told g c = handed_up _ c.from_residual-in_err-print.result _ c.from_residual-in_err-print.ensures.1 (inl (output_told _ c.args.wanted _ c.in_err-print.ensures.told))
 
 pub returns-in_err-print-clause-unfinished : goal.returns-in_err-print-clause-unfinished
 returns-in_err-print-clause-unfinished g c =
+    let held = g.F.Files.held c.args.files.now in
+    let asked = c.in_ok-config.field-0 in
     let found = c.in-Ok.ensures in
+    let program = subst (λ (a : List ℕ). HasProgram held c.args.wanted c.args.words.now asked.image a) (sym c.deref.ensures.value) c.in_ok-config.ensures.program in
     handed_up _ c.from_residual-in_err-print.result _ c.from_residual-in_err-print.ensures.1
     (output_left _ _ _ _ c.in_err-print.ensures.told
-    (has (g.F.Files.held c.args.files.now) c.args.wanted c.args.window c.in_ok-asked.asked.config c.in_ok-asked.asked.image c.in-Ok.architecture c.in_ok-asked.ensures.config c.in_ok-asked.ensures.image
+    (has held c.args.wanted c.args.words.now c.args.window asked.config asked.image c.deref.result.now _ c.in-Ok.architecture c.in_ok-config.ensures.config program c.in_ok-config.ensures.names
     (record { shown = found.shown; machine = found.machine; alone = found.alone; order = found.order; full = found.full; model = found.model; window_is = found.window })
     _ c.in_err-print.ensures.begun))
 
 pub returns-in_err-print-clause-spared : goal.returns-in_err-print-clause-spared
-returns-in_err-print-clause-spared g c = spared _ _ _ c.in_ok-asked.ensures.stays
+returns-in_err-print-clause-spared g c = spared _ _ _ c.in_ok-config.ensures.stays
 
 pub returns-in_err-keep-clause-told : goal.returns-in_err-keep-clause-told
-returns-in_err-keep-clause-told g c = handed_up _ c.from_residual-in_err-keep.result _ c.from_residual-in_err-keep.ensures.1 (folder_told _ c.args.wanted _ c.in_err-keep.ensures.told)
+returns-in_err-keep-clause-told g c = handed_up _ c.from_residual-in_err-keep.result _ c.from_residual-in_err-keep.ensures.1 (inl (folder_told _ c.args.wanted _ c.in_err-keep.ensures.told))
 
 pub returns-in_err-keep-clause-unfinished : goal.returns-in_err-keep-clause-unfinished
 returns-in_err-keep-clause-unfinished g c =
+    let held = g.F.Files.held c.args.files.now in
+    let asked = c.in_ok-config.field-0 in
     let found = c.in-Ok.ensures in
-    let has_text = has (g.F.Files.held c.args.files.now) c.args.wanted c.args.window c.in_ok-asked.asked.config c.in_ok-asked.asked.image c.in-Ok.architecture c.in_ok-asked.ensures.config c.in_ok-asked.ensures.image (record { shown = found.shown; machine = found.machine; alone = found.alone; order = found.order; full = found.full; model = found.model; window_is = found.window }) in
+    let program = subst (λ (a : List ℕ). HasProgram held c.args.wanted c.args.words.now asked.image a) (sym c.deref.ensures.value) c.in_ok-config.ensures.program in
+    let has_text = has held c.args.wanted c.args.words.now c.args.window asked.config asked.image c.deref.result.now _ c.in-Ok.architecture c.in_ok-config.ensures.config program c.in_ok-config.ensures.names
+        (record { shown = found.shown; machine = found.machine; alone = found.alone; order = found.order; full = found.full; model = found.model; window_is = found.window }) in
     handed_up _ c.from_residual-in_err-keep.result _ c.from_residual-in_err-keep.ensures.1
     (folder_left c.args.wanted _ _ _ _ c.in_err-keep.ensures.told (has_text _ (all_of _ _ _ c.in_ok-print.ensures.printed)) (has_text _ c.in_ok-print.ensures.printed))
 
 pub returns-in_err-keep-clause-spared : goal.returns-in_err-keep-clause-spared
-returns-in_err-keep-clause-spared g c = spared_after _ _ _ _ c.in_ok-asked.ensures.stays (spares_wider _ _ _ _ (way_file _ c.args.wanted.scripts) c.keep.ensures.spared)
+returns-in_err-keep-clause-spared g c = spared_after _ _ _ _ c.in_ok-config.ensures.stays (spares_wider _ _ _ _ (way_file _ c.args.wanted.scripts) c.keep.ensures.spared)
 
 pub returns-in_err-tell-clause-told : goal.returns-in_err-tell-clause-told
-returns-in_err-tell-clause-told g c = handed_up _ c.from_residual-in_err-tell.result _ c.from_residual-in_err-tell.ensures.1 (memory_told _ c.args.wanted _ c.in_err-tell.ensures.told)
+returns-in_err-tell-clause-told g c = handed_up _ c.from_residual-in_err-tell.result _ c.from_residual-in_err-tell.ensures.1 (inl (memory_told _ c.args.wanted _ c.in_err-tell.ensures.told))
 
 pub returns-in_err-tell-clause-unfinished : goal.returns-in_err-tell-clause-unfinished
 returns-in_err-tell-clause-unfinished g c =
+    let held = g.F.Files.held c.args.files.now in
+    let asked = c.in_ok-config.field-0 in
     let found = c.in-Ok.ensures in
+    let program = subst (λ (a : List ℕ). HasProgram held c.args.wanted c.args.words.now asked.image a) (sym c.deref.ensures.value) c.in_ok-config.ensures.program in
     handed_up _ c.from_residual-in_err-tell.result _ c.from_residual-in_err-tell.ensures.1
     (memory_left _ _ _ _ c.in_err-tell.ensures.told
-    (has (g.F.Files.held c.args.files.now) c.args.wanted c.args.window c.in_ok-asked.asked.config c.in_ok-asked.asked.image c.in-Ok.architecture c.in_ok-asked.ensures.config c.in_ok-asked.ensures.image
+    (has held c.args.wanted c.args.words.now c.args.window asked.config asked.image c.deref.result.now _ c.in-Ok.architecture c.in_ok-config.ensures.config program c.in_ok-config.ensures.names
     (record { shown = found.shown; machine = found.machine; alone = found.alone; order = found.order; full = found.full; model = found.model; window_is = found.window })
     _ (all_of _ _ _ c.in_ok-print.ensures.printed)))
 
 pub returns-in_err-tell-clause-spared : goal.returns-in_err-tell-clause-spared
-returns-in_err-tell-clause-spared g c = spared_after _ _ _ _ c.in_ok-asked.ensures.stays (spares_wider _ _ _ _ (way_file _ c.args.wanted.scripts) c.keep.ensures.spared)
+returns-in_err-tell-clause-spared g c = spared_after _ _ _ _ c.in_ok-config.ensures.stays (spares_wider _ _ _ _ (way_file _ c.args.wanted.scripts) c.keep.ensures.spared)
 
 pub returns-clause-searched : goal.returns-clause-searched
 returns-clause-searched g c =
+    let held = g.F.Files.held c.args.files.now in
+    let asked = c.in_ok-config.field-0 in
     let found = c.in-Ok.ensures in
+    let program = subst (λ (a : List ℕ). HasProgram held c.args.wanted c.args.words.now asked.image a) (sym c.deref.ensures.value) c.in_ok-config.ensures.program in
     ok_more _ _ c.judge.result
     (λ judgement is.
-    whole (g.F.Files.held c.args.files.now) c.args.wanted c.args.window c.in_ok-asked.asked.config c.in_ok-asked.asked.image c.in-Ok.architecture c.in_ok-asked.ensures.config c.in_ok-asked.ensures.image
+    whole held c.args.wanted c.args.words.now c.args.window asked.config asked.image c.deref.result.now _ c.in-Ok.architecture c.in_ok-config.ensures.config program c.in_ok-config.ensures.names
     (record { shown = found.shown; machine = found.machine; alone = found.alone; order = found.order; full = found.full; model = found.model; window_is = found.window })
-    _ _ (g.F.Files.held c.keep.new.files) judgement c.in_ok-print.ensures.printed c.in_ok-keep.ensures.kept (spared_after _ _ _ _ c.in_ok-asked.ensures.stays c.keep.ensures.spared) (judged _ c.args.wanted.allow _ _ judgement c.in_ok-asked.ensures.allowed (is.0 ∙ judged_on outcome_of _ c.in-Ok.architecture.outcomes.items)) is.1)
+    _ _ (g.F.Files.held c.keep.new.files) judgement _ c.in_ok-print.ensures.printed c.in_ok-keep.ensures.kept (spared_after _ _ _ _ c.in_ok-config.ensures.stays c.keep.ensures.spared) c.in_ok-config.ensures.allowed is.0 is.1)
     (ok_both _ _ c.judge.result c.judge.ensures.judged c.judge.ensures.whole)
 
 pub returns-clause-told : goal.returns-clause-told
-returns-clause-told g c = err_more _ _ c.judge.result (λ fault is. memory_told _ c.args.wanted fault is) c.judge.ensures.told
+returns-clause-told g c = err_more _ _ c.judge.result (λ fault is. inl (memory_told _ c.args.wanted fault is)) c.judge.ensures.told
 
 pub returns-clause-unfinished : goal.returns-clause-unfinished
 returns-clause-unfinished g c =
+    let held = g.F.Files.held c.args.files.now in
+    let asked = c.in_ok-config.field-0 in
     let found = c.in-Ok.ensures in
+    let program = subst (λ (a : List ℕ). HasProgram held c.args.wanted c.args.words.now asked.image a) (sym c.deref.ensures.value) c.in_ok-config.ensures.program in
     err_more _ _ c.judge.result
-    (λ fault is.
-    memory_left fault _ _ _ is
-    (has (g.F.Files.held c.args.files.now) c.args.wanted c.args.window c.in_ok-asked.asked.config c.in_ok-asked.asked.image c.in-Ok.architecture c.in_ok-asked.ensures.config c.in_ok-asked.ensures.image
+    (λ fault is. memory_left fault _ _ _ is
+    (has held c.args.wanted c.args.words.now c.args.window asked.config asked.image c.deref.result.now _ c.in-Ok.architecture c.in_ok-config.ensures.config program c.in_ok-config.ensures.names
     (record { shown = found.shown; machine = found.machine; alone = found.alone; order = found.order; full = found.full; model = found.model; window_is = found.window })
     _ (all_of _ _ _ c.in_ok-print.ensures.printed)))
     c.judge.ensures.told
 
 pub returns-clause-spared : goal.returns-clause-spared
-returns-clause-spared g c = spared_after _ _ _ _ c.in_ok-asked.ensures.stays (spares_wider _ _ _ _ (way_file _ c.args.wanted.scripts) c.keep.ensures.spared)
+returns-clause-spared g c = spared_after _ _ _ _ c.in_ok-config.ensures.stays (spares_wider _ _ _ _ (way_file _ c.args.wanted.scripts) c.keep.ensures.spared)

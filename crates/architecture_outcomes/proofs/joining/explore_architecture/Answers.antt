@@ -1,27 +1,39 @@
-use Rattle.std.proofs.Common.{List, rules, subst}
+use Rattle.std.proofs.Common.{◌≡◌, ◌++◌, List, rules, subst}
+use Rattle.architecture_outcomes.specs.declared.outcome.Outcome.{Outcome}
 use Rattle.architecture_outcomes.specs.Outcomes.{TellOnce}
-use Rattle.explorer.specs.declared.found.Found.{Found}
 use Rattle.architecture_outcomes.proofs.Once.{rises}
 use Rattle.architecture_outcomes.proofs.Together.{all_decided, all_shown, each_told}
+use Rattle.architecture_outcomes.proofs.Aligned.{aligned}
 use Rattle.architecture_outcomes.proofs.joining.explore_architecture.Goals as goal
+
+pub beyond-requires-clause-aligned : goal.beyond-requires-clause-aligned
+beyond-requires-clause-aligned c = aligned c.args.image.now c.args.addresses.now c.requires.words
 
 pub returns-clause-shown : goal.returns-clause-shown
 returns-clause-shown c =
-    all_shown c.args.image.now c.args.config c.in_ok-outcomes.outcomes.items c.add_found.new.outcomes.items c.sort_unstable.new.self.items c.in_ok-found.field-0.outcomes.items
-    c.in_ok-add_found.ensures c.sort_unstable.ensures.permutation c.in_ok-outcomes.ensures.shown c.in_ok-found.ensures.real
+    let found = c.in_ok-found.field-0.outcomes.items in
+    let joined : c.append.new.self.items ≡ c.in_ok-outcomes.outcomes.items ++ found = search rules in
+    all_shown c.args.image.now c.args.config c.args.addresses.now c.in_ok-outcomes.outcomes.items c.append.new.self.items c.sort_unstable.new.self.items found
+    joined c.sort_unstable.ensures.permutation c.in_ok-outcomes.ensures.shown c.in_ok-found.ensures.shown
 
 pub returns-clause-machine : goal.returns-clause-machine
 returns-clause-machine c all =
-    each_told c.args.image.now c.args.config c.in_ok-outcomes.outcomes.items c.add_found.new.outcomes.items c.sort_unstable.new.self.items c.in_ok-found.field-0.outcomes.items
-    c.in_ok-add_found.ensures c.sort_unstable.ensures.permutation (c.in_ok-found.ensures.complete all)
+    let found = c.in_ok-found.field-0.outcomes.items in
+    let joined : c.append.new.self.items ≡ c.in_ok-outcomes.outcomes.items ++ found = search rules in
+    each_told c.args.image.now c.args.config c.args.addresses.now c.in_ok-outcomes.outcomes.items c.append.new.self.items c.sort_unstable.new.self.items found
+    joined c.sort_unstable.ensures.permutation c.in_ok-found.ensures.machine (c.in_ok-found.ensures.complete all)
 
 pub returns-clause-order : goal.returns-clause-order
 returns-clause-order c =
-    rises c.in_ok-outcomes.outcomes.items c.add_found.new.outcomes.items c.sort_unstable.new.self.items c.in_ok-found.field-0.outcomes.items
-    c.in_ok-add_found.ensures c.sort_unstable.ensures.permutation (search rules)
-    (subst (λ (fs : List Found). TellOnce fs c.in_ok-outcomes.outcomes.items) c.deref.ensures.value c.in_ok-outcomes.ensures.once)
+    let found = c.in_ok-found.field-0.outcomes.items in
+    let joined : c.append.new.self.items ≡ c.in_ok-outcomes.outcomes.items ++ found = search rules in
+    rises c.in_ok-outcomes.outcomes.items c.append.new.self.items c.sort_unstable.new.self.items found
+    joined c.sort_unstable.ensures.permutation (search rules)
+    (subst (λ (fs : List Outcome). TellOnce fs c.in_ok-outcomes.outcomes.items) c.deref.ensures.value c.in_ok-outcomes.ensures.once)
 
 pub returns-clause-alone : goal.returns-clause-alone
 returns-clause-alone c all =
-    all_decided c.args.image.now c.args.config c.in_ok-outcomes.outcomes.items c.add_found.new.outcomes.items c.sort_unstable.new.self.items c.in_ok-found.field-0.outcomes.items
-    c.in_ok-add_found.ensures c.sort_unstable.ensures.permutation (c.in_ok-outcomes.ensures.alone (c.is_complete.ensures.1 all))
+    let found = c.in_ok-found.field-0.outcomes.items in
+    let joined : c.append.new.self.items ≡ c.in_ok-outcomes.outcomes.items ++ found = search rules in
+    all_decided c.args.image.now c.args.config c.args.addresses.now c.in_ok-outcomes.outcomes.items c.append.new.self.items c.sort_unstable.new.self.items found
+    joined c.sort_unstable.ensures.permutation (c.in_ok-outcomes.ensures.alone (c.is_complete.ensures.1 all)) c.in_ok-found.ensures.machine

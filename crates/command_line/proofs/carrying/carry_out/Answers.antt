@@ -130,22 +130,22 @@ pub returns-in-Check-clause-told : goal.returns-in-Check-clause-told
 returns-in-Check-clause-told g c = all_told_of _ _ _ _ _ c.checked.result c.in-Check.is c.checked.ensures.told
 
 pub returns-in-Show-clause-came : goal.returns-in-Show-clause-came
-returns-in-Show-clause-came g c = show_came _ _ _ _ _ c.in-Show.show c.show_files.result c.in-Show.is c.show_files.ensures.shown
+returns-in-Show-clause-came g c = show_came _ _ _ _ _ c.in-Show.show c.shown.result c.in-Show.is c.shown.ensures.came
 
 pub returns-in-Show-clause-leaves : goal.returns-in-Show-clause-leaves
-returns-in-Show-clause-leaves g c = all_left_of _ _ _ _ _ _ c.show_files.result c.in-Show.is c.show_files.ensures.unfinished
+returns-in-Show-clause-leaves g c = all_left_of _ _ _ _ _ _ c.shown.result c.in-Show.is c.shown.ensures.unfinished
 
 pub returns-in-Show-clause-outside : goal.returns-in-Show-clause-outside
-returns-in-Show-clause-outside g c = show_outside _ c.in-Show.show c.show_files.result c.in-Show.is c.show_files.ensures.outside c.show_files.ensures.elsewhere
+returns-in-Show-clause-outside g c = show_outside _ c.in-Show.show c.shown.result c.in-Show.is c.shown.ensures.outside c.shown.ensures.elsewhere
 
 pub returns-in-Show-clause-beyond : goal.returns-in-Show-clause-beyond
-returns-in-Show-clause-beyond g c = show_beyond _ _ _ _ c.in-Show.show _ c.show_files.result c.in-Show.is c.show_files.ensures.told c.show_files.ensures.unfinished
+returns-in-Show-clause-beyond g c = show_beyond _ _ _ _ c.in-Show.show _ c.shown.result c.in-Show.is c.shown.ensures.told c.shown.ensures.unfinished
 
 pub returns-in-Show-clause-spared : goal.returns-in-Show-clause-spared
-returns-in-Show-clause-spared g c = show_written _ _ _ c.in-Show.show c.in-Show.is c.show_files.ensures.spared
+returns-in-Show-clause-spared g c = show_written _ _ _ c.in-Show.show c.in-Show.is c.shown.ensures.spared
 
 pub returns-in-Show-clause-told : goal.returns-in-Show-clause-told
-returns-in-Show-clause-told g c = all_told_of _ _ _ _ _ c.show_files.result c.in-Show.is c.show_files.ensures.told
+returns-in-Show-clause-told g c = all_told_of _ _ _ _ _ c.shown.result c.in-Show.is c.shown.ensures.told
 
 -- what is done is in range
 pub returns-in_ok-replay_files-in-Replay-clause-inside : goal.returns-in_ok-replay_files-in-Replay-clause-inside
@@ -164,7 +164,7 @@ pub returns-in-Explore-clause-inside : goal.returns-in-Explore-clause-inside
 returns-in-Explore-clause-inside g c = explore_inside _ c.in-Explore.explore c.explored.result c.in-Explore.is c.explored.ensures.outside
 
 pub returns-in-Show-clause-inside : goal.returns-in-Show-clause-inside
-returns-in-Show-clause-inside g c = show_inside _ c.in-Show.show c.show_files.result c.in-Show.is c.show_files.ensures.outside c.show_files.ensures.elsewhere
+returns-in-Show-clause-inside g c = show_inside _ c.in-Show.show c.shown.result c.in-Show.is c.shown.ensures.outside c.shown.ensures.elsewhere
 
 pub returns-in-Check-clause-inside : goal.returns-in-Check-clause-inside
 returns-in-Check-clause-inside g c = check_inside _ c.in-Check.check c.checked.result c.in-Check.is

@@ -1,0 +1,119 @@
+//! What the machine comes to.
+ghost use Rattle.std.specs.Prelude.{◌≡◌, ◌<◌, [], All, IfOk, IsTrue, map};
+ghost use Rattle.std.specs.List.{AllZip};
+ghost use Rattle.std.specs.List.Sorted.{IsStrictlySortedBy};
+ghost use Rattle.std.specs.Ordering.{on};
+ghost use Rattle.architecture_outcomes.specs.Outcomes.{HasEachEnd, IsMachine, IsOf, IsWitnessed, of_found, outcome_of, outcomes_of};
+ghost use Rattle.machine_types.specs.Config.{is_within_limits};
+ghost use Rattle.word_explorer.specs.Orders.{ending_cmp};
+ghost use Rattle.word_explorer.specs.Words.{CanShowEach};
+
+use crate::outcome::{Outcome, Way};
+use elf_loader::Image;
+use explorer::{Exploration, Exploring, Found, explore};
+use machine_types::Config;
+use state_search::{Extent, Unwatched};
+use std::alloc::{AllocError, Global};
+use word_explorer::{WordExploration, WordFound, explore_words};
+
+/// The outcomes to which the machine comes, and how far it was searched.
+#[derive(Drop)]
+pub(crate) struct Machine {
+    pub outcomes: Vec<Outcome>,
+    pub extent: Extent,
+    pub states: usize,
+}
+
+/// What the machine comes to, with the words of memory at these addresses.
+pub(crate) fn search_machine(
+    alloc: Global,
+    image: &Image,
+    config: Config,
+    addresses: &[u32],
+    exploring: Exploring,
+) -> Result<Machine, AllocError>
+    requires limits { IsTrue (is_within_limits config) }
+    requires room { 0 < exploring.limit }
+    requires words { CanShowEach image.now addresses.now }
+    ensures shown { IfOk result (λ m. All (IsWitnessed image.now config addresses.now) m.outcomes.items) }
+    ensures machine { IfOk result (λ m. All (λ o. IsMachine o.way) m.outcomes.items) }
+    ensures complete { IfOk result (λ m. m.extent ≡ Extent.Complete → HasEachEnd image.now config addresses.now (outcomes_of m.outcomes.items)) }
+    ensures once { IfOk result (λ m. IsStrictlySortedBy (on outcome_of ending_cmp) m.outcomes.items) }
+    ensures full { IfOk result (λ m. m.extent ≡ Extent.LimitMet → m.states ≡ exploring.limit) }
+{
+    // Without words an end is sooner: stores may wait at it.
+    if addresses.is_empty() {
+        return search_results(alloc, image, config, exploring);
+    }
+    let WordExploration {
+        outcomes,
+        extent,
+        states,
+        ..
+    } = explore_words(alloc, image, config, addresses, exploring, &Unwatched)?;
+    Ok(Machine {
+        outcomes: with_words(alloc, outcomes)?,
+        extent,
+        states,
+    })
+}
+
+/// What the machine comes to, where no words are shown.
+fn search_results(
+    alloc: Global,
+    image: &Image,
+    config: Config,
+    exploring: Exploring,
+) -> Result<Machine, AllocError>
+    requires limits { IsTrue (is_within_limits config) }
+    requires room { 0 < exploring.limit }
+    ensures shown { IfOk result (λ m. All (IsWitnessed image.now config []) m.outcomes.items) }
+    ensures machine { IfOk result (λ m. All (λ o. IsMachine o.way) m.outcomes.items) }
+    ensures complete { IfOk result (λ m. m.extent ≡ Extent.Complete → HasEachEnd image.now config [] (outcomes_of m.outcomes.items)) }
+    ensures once { IfOk result (λ m. IsStrictlySortedBy (on outcome_of ending_cmp) m.outcomes.items) }
+    ensures full { IfOk result (λ m. m.extent ≡ Extent.LimitMet → m.states ≡ exploring.limit) }
+{
+    let Exploration {
+        outcomes,
+        extent,
+        states,
+        ..
+    } = explore(alloc, image, config, exploring, &Unwatched)?;
+    Ok(Machine {
+        outcomes: without_words(alloc, outcomes)?,
+        extent,
+        states,
+    })
+}
+
+fn with_words(alloc: Global, found: Vec<WordFound>) -> Result<Vec<Outcome>, AllocError>
+    ensures { IfOk result (λ outcomes. outcomes.items ≡ map of_found found.items) }
+{
+    let mut outcomes = Vec::new(alloc);
+    for WordFound {
+        harts,
+        words,
+        script,
+    } in found {
+        outcomes.push(Outcome {
+            harts,
+            words,
+            way: Way::Machine(script),
+        })?;
+    }
+    Ok(outcomes)
+}
+
+fn without_words(alloc: Global, found: Vec<Found>) -> Result<Vec<Outcome>, AllocError>
+    ensures { IfOk result (λ outcomes. AllZip IsOf found.items outcomes.items) }
+{
+    let mut outcomes = Vec::new(alloc);
+    for Found { harts, script } in found {
+        outcomes.push(Outcome {
+            harts,
+            words: Vec::new(alloc),
+            way: Way::Machine(script),
+        })?;
+    }
+    Ok(outcomes)
+}
