@@ -44,13 +44,13 @@ returns-in-Err-clause-unfinished g c =
     (subst (λ (held : Held). HoldsImage held c.args.wanted.raw c.args.wanted.image.now c.in_ok-script.script.kib c.in_ok-image.image) c.in_ok-script.ensures.stays c.in_ok-image.ensures.image)
     c.in_ok-address.ensures.named
     (undrawn_at _ _ _ _ _ _ _ _ _ c.in-Err.error c.config_of-config.ensures c.as_slice-events.ensures c.in-Err.ensures.undrawn)
-    c.fault_of.ensures
+    c.fault_of-fault.ensures
 
 pub returns-in-Err-clause-misused : goal.returns-in-Err-clause-misused
 returns-in-Err-clause-misused g c = λ two.
     absurd (drawing_never_misused _ c.in-Err.error _
     (λ at. false≢true (sym (c.write_chart-drawn.ensures.limits.0 (c.in-Err.is ∙ ap Err at)) ∙ (ap is_within_limits c.config_of-config.ensures ∙ machine_within c.in_ok-script.script c.args.wanted.model c.in_ok-script.ensures.script.is_script)))
-    c.fault_of.ensures two)
+    c.fault_of-fault.ensures two)
 
 pub returns-in-Err-clause-told : goal.returns-in-Err-clause-told
 returns-in-Err-clause-told g c =
@@ -59,7 +59,7 @@ returns-in-Err-clause-told g c =
     c.in_ok-address.ensures.named
     (λ at. false≢true (sym (c.write_chart-drawn.ensures.limits.0 (c.in-Err.is ∙ ap Err at)) ∙ (ap is_within_limits c.config_of-config.ensures ∙ machine_within c.in_ok-script.script c.args.wanted.model c.in_ok-script.ensures.script.is_script)))
     (undrawn_at _ _ _ _ _ _ _ _ _ c.in-Err.error c.config_of-config.ensures c.as_slice-events.ensures c.in-Err.ensures.undrawn)
-    c.fault_of.ensures
+    c.fault_of-fault.ensures
 
 pub returns-in-Ok-clause-charted : goal.returns-in-Ok-clause-charted
 returns-in-Ok-clause-charted g c = record {

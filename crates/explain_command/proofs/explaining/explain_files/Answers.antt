@@ -66,7 +66,7 @@ pub returns-in-Err-clause-told : goal.returns-in-Err-clause-told
 returns-in-Err-clause-told g c = lost_told _ c.args.wanted _ _ _ _ c.writing.ensures.told
 
 pub returns-clause-unfinished : goal.returns-clause-unfinished
-returns-clause-unfinished g c = cut_left _ _ _ _ c.in-Err-told.error _ (λ at. false≢true (sym (c.in-Err-told.ensures.limits at) ∙ (ap is_within_limits c.config_of-config.ensures ∙ machine_within c.in_ok-script.script c.args.wanted.model c.in_ok-script.ensures.script.is_script))) c.explaining.ensures (record {
+returns-clause-unfinished g c = cut_left _ _ _ _ c.in-Err-told.error _ (λ at. false≢true (sym (c.in-Err-told.ensures.limits at) ∙ (ap is_within_limits c.config_of-config.ensures ∙ machine_within c.in_ok-script.script c.args.wanted.model c.in_ok-script.ensures.script.is_script))) c.explaining-fault.ensures (record {
   script = c.in_ok-script.script;
   image = c.in_ok-named.named.image;
   names = c.in_ok-named.named.names;
@@ -88,4 +88,4 @@ returns-clause-told g c =
     (part_at c.in_ok-named.named.names _ _ _ _ _ _ _ _ _ _ c.config_of-config.ensures c.as_slice-events.ensures
     (part_on c.in_ok-named.named.names c.args.strictness c.args.with_state c.in_ok-named.named.image c.config_of-config.result c.as_slice-events.result.now (g.O.Write.contents c.args.out.now) (g.O.Write.contents c.tell-told.new.out)
     (g.O.Write.contents c.flush.new.self) c.in-Err-told.error c.flush.ensures.bytes c.in-Err-told.ensures.unfinished))
-    c.explaining.ensures
+    c.explaining-fault.ensures

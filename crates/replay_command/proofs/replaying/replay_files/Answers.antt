@@ -114,14 +114,14 @@ returns-in_err-image-clause-told g c =
 
 pub returns-in-Err-Replay-clause-unfinished : goal.returns-in-Err-Replay-clause-unfinished
 returns-in-Err-Replay-clause-unfinished g c =
-    left _ _ _ _ (no_write c.args.wanted c.in-Err-Replay.error _ c.replay.ensures.told) (rw c.in-Err-Replay.field-0-is at c.in-Err-Replay.ensures.unfinished).0
+    left _ _ _ _ (no_write c.args.wanted c.in-Err-Replay.error _ c.replay-fault.ensures.told) (rw c.in-Err-Replay.field-0-is at c.in-Err-Replay.ensures.unfinished).0
 
 pub returns-in-Err-Replay-clause-told : goal.returns-in-Err-Replay-clause-told
 returns-in-Err-Replay-clause-told g c =
     told_of _ c.args.wanted c.in_ok-script.script c.in_ok-image.image c.replay_and_write.result c.in-Err-Replay.error _ c.in_ok-script.ensures.script
     (subst (λ (held : Held). HoldsImage held c.args.wanted.raw c.args.wanted.image.now c.in_ok-script.script.kib c.in_ok-image.image) c.in_ok-script.ensures.stays c.in_ok-image.ensures.image)
     c.replay_and_write.ensures.limits.0 (c.in-Err-Replay.is ∙ ap Err c.in-Err-Replay.field-0-is) (rw c.in-Err-Replay.field-0-is at c.in-Err-Replay.ensures.unfinished).1
-    c.replay.ensures.told c.replay.ensures.configuration
+    c.replay-fault.ensures.told c.replay-fault.ensures.configuration
 
 pub returns-in-Err-clause-unfinished : goal.returns-in-Err-clause-unfinished
 returns-in-Err-clause-unfinished g c =
