@@ -59,14 +59,7 @@ pub fn explore_architecture(
         witnesses,
         reach,
         states,
-    } = search_model(
-        alloc,
-        image,
-        config,
-        addresses,
-        window,
-        exploring.limit,
-    );
+    } = search_model(alloc, image, config, addresses, window, exploring.limit);
     let mut outcomes = beyond(
         alloc,
         image,

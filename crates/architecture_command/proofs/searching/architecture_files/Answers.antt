@@ -58,7 +58,7 @@ returns-in_err-keep-clause-unfinished g c =
     let found = c.in-Ok.ensures in
     let program = subst (λ (a : List ℕ). HasProgram held c.args.wanted c.args.words.now asked.image a) (sym c.deref.ensures.value) c.in_ok-config.ensures.program in
     let has_text = has held c.args.wanted c.args.words.now c.args.window asked.config asked.image c.deref.result.now _ c.in-Ok.architecture c.in_ok-config.ensures.config program c.in_ok-config.ensures.names
-        (record { shown = found.shown; machine = found.machine; alone = found.alone; order = found.order; full = found.full; model = found.model; window_is = found.window }) in
+    (record { shown = found.shown; machine = found.machine; alone = found.alone; order = found.order; full = found.full; model = found.model; window_is = found.window }) in
     handed_up _ c.from_residual-in_err-keep.result _ c.from_residual-in_err-keep.ensures.1
     (folder_left c.args.wanted _ _ _ _ c.in_err-keep.ensures.told (has_text _ (all_of _ _ _ c.in_ok-print.ensures.printed)) (has_text _ c.in_ok-print.ensures.printed))
 

@@ -14,7 +14,7 @@ returns-in_err-config-clause-told g c =
     let show = c.args.wanted.now in
     let held = g.F.Files.held c.args.files.now in
     handed_up _ c.from_residual.result _ c.from_residual.ensures.1
-    (show_told held show _ (asking_told held show.explore show.words.items _ (subst (λ (w : List Name). IsAskingFault held show.explore w _) c.deref.ensures.value c.in_err-config.ensures.told)))
+    (show_told held show _ (asking_told held show.explore show.words.items _ (subst (λ (w : List Name). IsAskingFault held show.explore w c.in_err-config.field-0.0) c.deref.ensures.value c.in_err-config.ensures.told)))
 
 pub returns-in_err-config-clause-unfinished : goal.returns-in_err-config-clause-unfinished
 returns-in_err-config-clause-unfinished g c = handed_up _ c.from_residual.result _ c.from_residual.ensures.1 (asking_left _ _ _ _ _ _ _ c.in_err-config.ensures.told refl)
@@ -48,7 +48,7 @@ returns-in_err-keep-clause-unfinished g c =
     let found = c.in-Ok.ensures in
     let program = subst (λ (a : List ℕ). HasProgram held show.explore c.deref.result.now asked.image a) (sym c.deref-2.ensures.value) c.in_ok-config.ensures.program in
     let told = has held show asked.config asked.image c.deref-2.result.now _ _ c.in-Ok.exploration c.in_ok-config.ensures.config c.deref.ensures.value program c.in_ok-config.ensures.names
-        (record { real = found.real; complete = found.complete; none_stuck = found.none_stuck; some = found.some; stuck = found.stuck; order = found.strict; within = found.within; full = found.full; visited = found.visited }) in
+    (record { real = found.real; complete = found.complete; none_stuck = found.none_stuck; some = found.some; stuck = found.stuck; order = found.strict; within = found.within; full = found.full; visited = found.visited }) in
     handed_up _ c.from_residual-in_err-keep.result _ c.from_residual-in_err-keep.ensures.1
     (folder_left show.explore _ _ _ _ c.in_err-keep.ensures.told (told _ (all_of _ _ _ c.in_ok-print.ensures.printed)) (told _ c.in_ok-print.ensures.printed))
 
