@@ -1,9 +1,8 @@
 -- What a command's fault leaves, and its status, are those of a fault of the settings that name the command.
-use Rattle.std.proofs.Common.{◌≡◌, ◌∙◌, ◌⊎◌, ℕ, Bool, true, false, Err, IfErr, IfOk, IfSome, IsSomeAnd, List, None, Ok, Option, Result, Some, ap, inl, inr, refl, subst, sym}
+use Rattle.std.proofs.Common.{◌≡◌, ◌∙◌, ◌⊎◌, ℕ, Bool, true, false, Err, IfErr, IfSome, IsSomeAnd, List, None, Ok, Option, Result, Some, ap, inl, inr, refl, subst, sym}
 use Rattle.std.specs.Io.KnownBytes.{Appends}
 use Rattle.std.specs.Prelude.{nat_lt}
 use Rattle.chart_command.specs.Addresses.{address}
-use Rattle.chart_command.specs.Charting.{IsAddress}
 use Rattle.command_files.proofs.Left.{either}
 use Rattle.command_files.specs.Faults.{LeavesAtFault, Name}
 use Rattle.command_files.specs.Held.{Held}
@@ -102,34 +101,6 @@ show_outside wanted show (Err fault) is outside elsewhere = λ out. elim (subst 
   where
     at : ShowsElsewhere show.explore.architecture show.explore → status_of fault ≡ 2
     at other = let it = elsewhere other in as_told fault (CannotShow it.0 Elsewhere) it.1 refl
-
--- ---- what is done is in range
-
-pub chart_inside : (line : Option Name) (place : Option ℕ) → IsAddress line place → IsSomeAnd line (λ word. address word.now ≡ None) → ⊥
-chart_inside None place named out = out
-chart_inside (Some word) place named none = let bad : Some named.0 ≡ None = sym named.1 ∙ none in cc
-
-pub explore_inside : (wanted : Settings) (explore : Sought) (r : Result Judgement Fault) → wanted ≡ Explore explore → (IsOutside explore.machine → r ≡ Err Configuration) → IfOk r (λ _. ¬ IsOutOfRange wanted)
-explore_inside wanted explore (Ok judgement) is outside = λ out. let bad = outside (subst IsOutOfRange is out) in cc
-explore_inside wanted explore (Err fault) is outside = tt
-
-pub show_inside : (wanted : Settings) (show : Shown) (r : Result Judgement Fault) → wanted ≡ Show show → (IsOutside show.explore.machine → (r ≡ Err Configuration) ⊎ IsElsewhere show.explore)
-    → (IsElsewhere show.explore → (word : Name) × (r ≡ Err (CannotShow word Elsewhere))) → IfOk r (λ _. ¬ IsOutOfRange wanted)
-show_inside wanted show (Ok judgement) is outside elsewhere = λ out. elim (subst IsOutOfRange is out) [
-  | inl far ↦ elim (outside far) [
-    | inl bad ↦ cc
-    | inr other ↦ never other
-  ]
-  | inr other ↦ never other
-]
-  where
-    never : IsElsewhere show.explore → ⊥
-    never other = let it = elsewhere other in let bad = it.1 in cc
-show_inside wanted show (Err fault) is outside elsewhere = tt
-
-pub check_inside : (wanted : Settings) (check : Judging) (r : Result Judgement Fault) → wanted ≡ Check check → IfOk r (λ _. ¬ IsOutOfRange wanted)
-check_inside wanted check (Ok judgement) is = λ out. absurd (subst IsOutOfRange is out)
-check_inside wanted check (Err fault) is = tt
 
 pub check_outside : (wanted : Settings) (check : Judging) (r : Result Judgement Fault) → wanted ≡ Check check → IfErr r (λ fault. IsOutOfRange wanted → status_of fault ≡ 2)
 check_outside wanted check (Ok judgement) is = tt

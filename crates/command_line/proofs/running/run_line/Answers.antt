@@ -34,12 +34,12 @@ carry_out-requires g c = (search rules, (search rules, some_states _ c.in-Ok.wan
 pub returns-in-Ok-Allowed-clause-carried_out : goal.returns-in-Ok-Allowed-clause-carried_out
 unfolding IsCarriedOut
 returns-in-Ok-Allowed-clause-carried_out g c =
-    λ _. inr (c.in-Ok.wanted, c.in-Ok.ensures.named, c.in-Ok.ensures.fitting, c.in-Ok-Allowed.ensures.inside, subst (Came _ _ _ _ c.in-Ok.wanted) c.in-Ok-Allowed.field-0-is c.in-Ok-Allowed.ensures.came)
+    λ _. inr (c.in-Ok.wanted, c.in-Ok.ensures.named, c.in-Ok.ensures.fitting, subst (Came _ _ _ _ c.in-Ok.wanted) c.in-Ok-Allowed.field-0-is c.in-Ok-Allowed.ensures.came)
 
 pub returns-in-Ok-NotAllowed-clause-not_legal : goal.returns-in-Ok-NotAllowed-clause-not_legal
 unfolding IsNotLegal
 returns-in-Ok-NotAllowed-clause-not_legal g c =
-    λ _. (c.in-Ok.wanted, c.in-Ok.ensures.named, c.in-Ok.ensures.fitting, c.in-Ok-NotAllowed.ensures.inside, subst (Came _ _ _ _ c.in-Ok.wanted) c.in-Ok-NotAllowed.field-0-is c.in-Ok-NotAllowed.ensures.came)
+    λ _. (c.in-Ok.wanted, c.in-Ok.ensures.named, c.in-Ok.ensures.fitting, subst (Came _ _ _ _ c.in-Ok.wanted) c.in-Ok-NotAllowed.field-0-is c.in-Ok-NotAllowed.ensures.came)
 
 -- what isn't allowed has not the status 0, and what is allowed not 3
 pub returns-in-Ok-NotAllowed-clause-carried_out : goal.returns-in-Ok-NotAllowed-clause-carried_out
