@@ -58,12 +58,11 @@ pub fn check_file<'a, F: Files, O: Write>(
         }
     };
     if let Verdict::Fault(code, first, second) = verdict {
-        let trace = &trace;
         remark(
             alloc,
             files,
             OrderRemark {
-                trace,
+                trace: &trace,
                 code,
                 first,
                 second,
