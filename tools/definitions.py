@@ -61,6 +61,7 @@ PROGRAM = [
 
 NAME = r"[A-Za-z_][\w']*(?:-[\w'≤≡]+)*"
 HEAD = re.compile(rf"(?:abbrev |unfoldable )?(?:pub )?(?:record |data )?({NAME})")
+CONSTANT = re.compile(r"^(?:pub )?const (\w+): [^=]+ = .*?;$", re.M | re.S)
 IMPORT = re.compile(r"^(?:pub )?use Rattle\.(\w+)\.specs\.([\w.]+)(?:\.\{([^}]*)\}| as (\w+))", re.M)
 
 
@@ -94,6 +95,18 @@ def modules():
             if current and not line.lstrip().startswith("--"):
                 definitions[current] += line + "\n"
         found[crate, module] = (definitions, names, aliases)
+    return found | constants()
+
+
+def constants():
+    """The same of the constants of the code, which definitions import from `declared`."""
+    found = {}
+    for path in sorted(Path("crates").glob("*/src/**/*.rt")):
+        inner = [part for part in path.with_suffix("").parts[3:] if part not in ("lib", "main")]
+        module = ".".join(["declared", *inner, "TheConstants"])
+        definitions = {match[1]: match[0] + "\n" for match in CONSTANT.finditer(path.read_text(encoding="utf-8"))}
+        if definitions:
+            found[path.parts[1], module] = (definitions, {}, {})
     return found
 
 

@@ -1,11 +1,12 @@
 #!/usr/bin/env python3
 """Measures runs by threads against plain Rust.
 
-measure.py PROVED PLAIN [--runs N] [--harts 1,2,4]
+measure.py PROVED PLAIN [--runs N] [--harts 1,2,4] [--asleep]
 
 PROVED and PLAIN are the two programs (README.md). Builds private.c, amo.c and spin.c in a folder of its own, runs both
 programs on each of them in turn, N times (15), and prints for each number of harts the medians of the wall times
-in milliseconds, and how many times plain Rust's the proved one's is. The machine is to be quiet: with other
+in milliseconds, and how many times plain Rust's the proved one's is; with --asleep also the median of plain Rust
+whose threads sleep where the lock is held. The machine is to be quiet: with other
 work beside it, medians of one program differ by a third. It takes about a minute."""
 import argparse
 import os
@@ -27,9 +28,9 @@ def built(folder, name, rounds):
     return f"{folder}/{name}.elf"
 
 
-def seconds(program, harts, elf):
+def seconds(program, harts, elf, *words):
     began = time.perf_counter()
-    run = subprocess.run([program, str(harts), "rvwmo", LIMIT, elf], stdout=subprocess.PIPE, check=True, text=True)
+    run = subprocess.run([program, str(harts), "rvwmo", LIMIT, elf, *words], stdout=subprocess.PIPE, check=True, text=True)
     took = time.perf_counter() - began
     if run.stdout.count("Exited(0)") != harts:
         raise SystemExit(f"{program} {harts} {elf}: not all harts have ended")
@@ -42,16 +43,19 @@ def main():
     parser.add_argument("plain")
     parser.add_argument("--runs", type=int, default=15)
     parser.add_argument("--harts", default="1,2,4")
+    parser.add_argument("--asleep", action="store_true")
     wanted = parser.parse_args()
-    pair = [os.path.realpath(it) for it in (wanted.proved, wanted.plain)]
-    print(f"{'':10}{'harts':>6}{'proved':>9}{'plain':>9}{'ratio':>7}")
+    proved, plain = (os.path.realpath(it) for it in (wanted.proved, wanted.plain))
+    runs = [(proved,), (plain,)] + [(plain, "asleep")] * wanted.asleep
+    print(f"{'':10}{'harts':>6}{'proved':>9}{'plain':>9}{'ratio':>7}" + f"{'asleep':>9}" * wanted.asleep)
     with tempfile.TemporaryDirectory() as folder:
         for name, rounds in PROGRAMS:
             elf = built(folder, name, rounds)
             for harts in map(int, wanted.harts.split(",")):
-                runs = [[seconds(it, harts, elf) for it in pair] for _ in range(wanted.runs)]
-                proved, plain = (statistics.median(it) * 1000 for it in zip(*runs))
-                print(f"{name:10}{harts:6}{proved:9.1f}{plain:9.1f}{proved / plain:7.2f}", flush=True)
+                took = [[seconds(program, harts, elf, *words) for program, *words in runs] for _ in range(wanted.runs)]
+                medians = [statistics.median(it) * 1000 for it in zip(*took)]
+                told = f"{name:10}{harts:6}{medians[0]:9.1f}{medians[1]:9.1f}{medians[0] / medians[1]:7.2f}"
+                print(told + "".join(f"{it:9.1f}" for it in medians[2:]), flush=True)
 
 
 main()

@@ -1,6 +1,7 @@
 //! A run by threads in plain Rust: the machine behind one `std::sync::Mutex`, a `std::thread` a hart, and what
 //! they draw and publish in atomics. `plain_threads HARTS MODEL LIMIT ELF` prints how many events changed the
-//! machine and how many were drawn, and how each hart ended.
+//! machine and how many were drawn, and how each hart ended. With a word `asleep` behind it the threads wait for
+//! the lock as the Mutex has them wait, and not as those of `host_threads` do.
 
 use coherent_machine::{AdoptError, ApplyError, Machine, Views};
 use elf_loader::{BASE, Image, load};
@@ -10,12 +11,17 @@ use machine_model::MemoryModel;
 use machine_types::{Config, Event, Outcome};
 use rv32_decode::decode;
 use rv32_exec::{Action, plan};
-use std::sync::Mutex;
 use std::sync::atomic::{AtomicBool, AtomicU64, Ordering};
+use std::sync::{Mutex, MutexGuard};
 use tl_types::Channel;
 
 const MOST_ALONE: u32 = 256;
 const MOST_HARTS: usize = 8;
+const TRIES: u32 = 16;
+const SHORTEST: u32 = 8;
+const DOUBLINGS: u32 = 10;
+const SHORTEST_REST: u32 = 64;
+const REST_DOUBLINGS: u32 = 10;
 
 // ---- what the threads share
 
@@ -191,19 +197,30 @@ fn is_change(outcome: Outcome) -> bool {
     )
 }
 
-/// For how long a worker has found nothing to do: it spins a little longer each time, and then yields.
-struct Idle(u32);
-
-impl Idle {
-    fn snooze(&mut self) {
-        if self.0 > 6 {
-            return std::thread::yield_now();
-        }
-        for _ in 0..1 << self.0 {
-            std::hint::spin_loop();
-        }
-        self.0 += 1;
+// Takes the lock.
+#[inline(always)]
+fn held(lock: &Mutex<Fabric>, is_asleep: bool) -> MutexGuard<'_, Fabric> {
+    match lock.try_lock() {
+        Ok(guard) => guard,
+        Err(_) if is_asleep => lock.lock().unwrap(),
+        Err(_) => awaited(lock),
     }
+}
+
+// Takes a lock that another worker holds.
+#[cold]
+fn awaited(lock: &Mutex<Fabric>) -> MutexGuard<'_, Fabric> {
+    let ticks = AtomicU64::new(0);
+    let ticks = std::hint::black_box(&ticks);
+    for attempt in 0..TRIES {
+        for _ in 0..SHORTEST << attempt.min(DOUBLINGS) {
+            ticks.fetch_add(1, Ordering::SeqCst);
+        }
+        if let Ok(guard) = lock.try_lock() {
+            return guard;
+        }
+    }
+    lock.lock().unwrap()
 }
 
 /// What a turn came to while the lock was held.
@@ -227,7 +244,8 @@ struct Worker<'a> {
     last: Option<Outcome>,
     has_halted: bool,
     receipts: u64,
-    idle: Idle,
+    rests: u32,
+    is_asleep: bool,
 }
 
 impl Worker<'_> {
@@ -271,7 +289,7 @@ impl Worker<'_> {
         self.last = Some(outcome);
         if is_change(outcome) {
             self.receipts += 1;
-            self.idle = Idle(0);
+            self.rests = 0;
             self.board.lengths[usize::from(self.hart)].fetch_max(self.seen.0, Ordering::SeqCst);
             self.halt_at_end();
         } else {
@@ -282,7 +300,7 @@ impl Worker<'_> {
 
     fn take(&mut self) -> Taken {
         let lock = self.lock;
-        let mut fabric = lock.lock().unwrap();
+        let mut fabric = held(lock, self.is_asleep);
         let taken = self.take_on(&mut fabric);
         self.see(&fabric);
         taken
@@ -307,7 +325,7 @@ impl Worker<'_> {
     fn go_alone(&mut self, event: Event) -> Result<Outcome, Fault> {
         let batch = run_local(Global, self.image, &self.state, MOST_ALONE).map_err(|_| Fault::NoMemory)?;
         let lock = self.lock;
-        let mut fabric = lock.lock().unwrap();
+        let mut fabric = held(lock, self.is_asleep);
         let came = match fabric.commit(&batch) {
             Err(Fault::Stale) => fabric.apply(event),
             answer => answer,
@@ -324,7 +342,15 @@ impl Worker<'_> {
 
     fn rest(&mut self) {
         self.halt_at_end();
-        self.idle.snooze();
+        if self.rests > REST_DOUBLINGS {
+            return std::thread::yield_now();
+        }
+        for _ in 0..SHORTEST_REST << self.rests {
+            if self.board.stop.load(Ordering::SeqCst) {
+                break;
+            }
+        }
+        self.rests += 1;
     }
 
     fn halt_at_end(&mut self) {
@@ -343,8 +369,12 @@ impl Worker<'_> {
 
 fn main() {
     let words: Vec<String> = std::env::args().collect();
-    let [_, harts, model, limit, file] = words.as_slice() else {
-        panic!("plain_threads HARTS MODEL LIMIT ELF");
+    let (words, is_asleep) = match words.as_slice() {
+        [words @ .., last] if last == "asleep" => (words, true),
+        words => (words, false),
+    };
+    let [_, harts, model, limit, file] = words else {
+        panic!("plain_threads HARTS MODEL LIMIT ELF [asleep]");
     };
     let harts: u32 = harts.parse().unwrap();
     let model = if model == "ztso" { MemoryModel::Ztso } else { MemoryModel::Rvwmo };
@@ -377,7 +407,8 @@ fn main() {
                     last: None,
                     has_halted: false,
                     receipts: 0,
-                    idle: Idle(0),
+                    rests: 0,
+                    is_asleep,
                 };
                 scope.spawn(move || worker.run())
             })

@@ -4,6 +4,7 @@ use Rattle.std.specs.Prelude.{◌&&◌, nat_le, slice_index}
 use Rattle.std.specs.List.{AllByRecursion}
 use Rattle.std.proofs.lemmas.Bool.{and_parts, false≢true, leb-true}
 use Rattle.std.proofs.lemmas.List.Elements.{All-weaker, recursion_from_All}
+use Rattle.machine_limits.specs.declared.TheConstants.{MAX_ENTRIES, MAX_HARTS}
 use Rattle.architecture_command.specs.Keeping.{HasText}
 use Rattle.architecture_outcomes.specs.Outcomes.{IsWitnessed, IsWitnessedBy}
 use Rattle.architecture_outcomes.specs.declared.outcome.Outcome.{Outcome}
@@ -16,6 +17,7 @@ use Rattle.hart.specs.declared.status.Status.{Status}
 use Rattle.hart.specs.declared.status.Status.TheVariants.{Running, Stopped, Exited}
 use Rattle.hart.specs.Run.{is_run}
 use Rattle.machine_types.specs.Config.{is_within_limits}
+use Rattle.machine_types.proofs.Limits.{limits_of}
 use Rattle.machine_types.specs.declared.config.Config.{Config}
 use Rattle.machine_model.specs.Ranges.{HasCode, HasWords, NamesPlace}
 use Rattle.machine_model.proofs.ranges.Runs.{named_in_range, runs_in_range}
@@ -41,7 +43,7 @@ loaded_fits (Some n) few = few n refl
 retired_fits : (r : Retired) → HasWords r → IsRetired r
 retired_fits r w = record { pc = w.pc; word = w.word; loaded = loaded_fits r.loaded w.loaded }
 
-harts_fit : (lists : List (List Retired)) → AllByRecursion (AllByRecursion HasWords) lists → AllByRecursion (λ list. length list ≤ 1000000) lists → AllByRecursion IsHart lists
+harts_fit : (lists : List (List Retired)) → AllByRecursion (AllByRecursion HasWords) lists → AllByRecursion (λ list. length list ≤ MAX_ENTRIES) lists → AllByRecursion IsHart lists
 harts_fit [] all few = tt
 harts_fit (list ∷ lists) all few = ((all_more HasWords IsRetired retired_fits list all.0, few.0), harts_fit lists all.1 few.1)
 
@@ -58,7 +60,7 @@ as_many image harts id (list ∷ lists) (status ∷ statuses) e =
     let rest = as_many image harts (id + 1) lists statuses (and_parts (is_run image id harts list status) (are_runs_from image harts (id + 1) lists statuses) e).1 in
     ap suc rest
 
-few_at : (lists : List (List Retired)) → AllByRecursion (λ list. length list ≤ 1000000) lists → (h : ℕ) → length (slice_index_or lists h []) ≤ 1000000
+few_at : (lists : List (List Retired)) → AllByRecursion (λ list. length list ≤ MAX_ENTRIES) lists → (h : ℕ) → length (slice_index_or lists h []) ≤ MAX_ENTRIES
 few_at [] all h = omega arith
 few_at (list ∷ lists) all zero = all.0
 few_at (list ∷ lists) all (suc h) = few_at lists all.1 h
@@ -79,22 +81,17 @@ memory_kib size is =
     let high = is.at_most in
     record { whole_pages = omega (arith, pages); at_least = omega (arith, low); at_most = omega (arith, high) }
 
-hart_limits : (a b c d e f : Bool) → a && b && c && d && e && f ≡ true → (a ≡ true) × (b ≡ true)
-hart_limits true true c d e f is = (refl, refl)
-hart_limits true false c d e f is = cc is
-hart_limits false b c d e f is = cc is
-
 module _ (image : Initial) (config : Config) (loaded : IsImage image) (within : IsTrue (is_within_limits config)) where
   head_fits : (t : History) → IsImage t.image → length t.statuses ≡ config.harts → IsTraceHead (head_of t)
   head_fits t is count =
-      let limits = hart_limits (nat_le 1 config.harts) (nat_le config.harts 8) _ _ _ _ within in
-      let some : 1 ≤ config.harts = leb-true _ _ limits.0 in
-      let few : config.harts ≤ 8 = leb-true _ _ limits.1 in
+      let limits = limits_of config within in
+      let some = limits.some_harts in
+      let few = limits.few_harts in
       let size = whole_kib (length t.image.bytes) is.legal_size in
       let high = is.entry_inside.1 in
       record {
         some_hart = omega (arith, some, count);
-        at_most_8 = omega (arith, few, count);
+        few_harts = omega (arith, few, count);
         memory = memory_kib (length t.image.bytes) is.legal_size;
         aligned = is.aligned_entry;
         from = is.entry_inside.0;
@@ -121,8 +118,8 @@ module _ (image : Initial) (config : Config) (loaded : IsImage image) (within : 
       lists : length t.entries ≡ length t.statuses
       lists = as_many t.image (length t.entries) 0 t.entries t.statuses is.allowed.runs
 
-      short : AllByRecursion (λ list. length list ≤ 1000000) t.entries
-      short = recursion_from_All (λ (list : List Retired). length list ≤ 1000000) t.entries is.limits.places
+      short : AllByRecursion (λ list. length list ≤ MAX_ENTRIES) t.entries
+      short = recursion_from_All (λ (list : List Retired). length list ≤ MAX_ENTRIES) t.entries is.limits.places
 
       ranges : AllByRecursion (AllByRecursion HasWords) t.entries × AllByRecursion HasCode t.statuses
       ranges = runs_in_range t.image (length t.entries) 0 t.entries t.statuses here is.allowed.runs

@@ -1,5 +1,5 @@
 -- What a search under a memory model has told, written and judged.
-use Rattle.std.specs.Prelude.{◌≡◌, ◌≢◌, ◌⊎◌, ℕ, All, IfSome, List, Option}
+use Rattle.std.specs.Prelude.{◌≡◌, ◌≢◌, ◌⊎◌, ℕ, All, IfSome, List, Option, min}
 use Rattle.std.specs.Io.KnownBytes.{Appends}
 use Rattle.std.specs.List.Sorted.{IsStrictlySortedBy}
 use Rattle.std.specs.Ordering.{on}
@@ -7,6 +7,7 @@ use Rattle.architecture_command.specs.Keeping.{AreWaysKept, IsWayFile}
 use Rattle.architecture_outcomes.specs.declared.architecture.Architecture.{Architecture}
 use Rattle.architecture_outcomes.specs.Outcomes.{IsDecided, IsWitnessed, TellsEachEnd, outcome_of, outcomes_of}
 use Rattle.architecture_outcomes.specs.Text.{architecture_text}
+use Rattle.architecture_outcomes.specs.Visited.{AreMachineStates, TellsEnd}
 use Rattle.command_files.specs.Faults.{Name}
 use Rattle.command_files.specs.Held.{Held}
 use Rattle.command_files.specs.Sizes.{config_named}
@@ -17,6 +18,7 @@ use Rattle.explore_command.specs.Exploring.{IsExploreFault}
 use Rattle.explore_command.specs.Keeping.{IsInNamed, SparesOthers}
 use Rattle.explore_command.specs.declared.judging.Judgement.{Judgement}
 use Rattle.explore_command.specs.declared.judging.Judgement.TheVariants.{Allowed}
+use Rattle.flat_model.specs.Flat.{Flat}
 use Rattle.machine_types.specs.declared.config.Config.{Config}
 use Rattle.show_command.specs.Asking.{HasProgram, HasUnshown}
 use Rattle.show_command.specs.Judging.{AreWordsJudged}
@@ -26,7 +28,7 @@ use Rattle.state_search.specs.declared.findings.Extent.TheVariants as extent
 use Rattle.window_machine.specs.declared.allowed.Reach.TheVariants as reach
 use Rattle.word_explorer.specs.Orders.{ending_cmp}
 
--- what is said to show an outcome does; where the machine's own search is complete, each of its outcomes is told as one of the machine, and each other as the model's alone; the outcomes stand in their order, each once; where that search met its limit it found as many states
+-- what is said to show an outcome does; where the machine's own search is complete, each of its outcomes is told as one of the machine, and each other as the model's alone; the outcomes stand in their order, each once; where that search met its limit it found as many states, and each end among them is told as the machine's; no window is wider than 64
 pub record IsFoundUnder (image : Initial) (config : Config) (addresses : List ℕ) (window limit : ℕ) (found : Architecture) : Type 0 where
   pub shown : All (IsWitnessed image config addresses) found.outcomes.items
   pub machine : found.machine ≡ Complete → TellsEachEnd image config addresses found.outcomes.items
@@ -34,7 +36,8 @@ pub record IsFoundUnder (image : Initial) (config : Config) (addresses : List �
   pub order : IsStrictlySortedBy (on outcome_of ending_cmp) found.outcomes.items
   pub full : found.machine ≡ LimitMet → found.machine_states ≡ limit
   pub model : found.model ≡ config.model
-  pub window_is : found.window ≡ window
+  pub visited : (states : List Flat) × AreMachineStates image config addresses found.machine found.machine_states (TellsEnd found.outcomes.items) states
+  pub window_is : found.window ≡ min window 64
 
 -- it was found of the image in the file, with the words where its symbols say
 pub record IsOfFile (held : Held) (wanted : Explore) (words : List Name) (window : ℕ) (architecture : Architecture) : Type 0 where

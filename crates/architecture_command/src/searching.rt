@@ -4,7 +4,7 @@ ghost use Rattle.std.specs.Prelude.{◌≡◌, ◌<◌, Err, IfErr, IfOk};
 ghost use Rattle.architecture_command.specs.Keeping.{IsFileOf};
 ghost use Rattle.architecture_command.specs.Searching.{IsSearchFault, IsSearched, SearchHas};
 ghost use Rattle.command_files.specs.Sizes.{IsOutside};
-ghost use Rattle.explore_command.specs.Exploring.{LeavesPart};
+ghost use Rattle.explore_command.specs.Exploring.{ComesBeforeScripts, LeavesPart};
 ghost use Rattle.explore_command.specs.Keeping.{SparesOthers};
 
 use crate::allowed::Searched;
@@ -12,8 +12,9 @@ use crate::telling::tell_overtakings;
 use architecture_outcomes::{Outcome, explore_architecture};
 use command_files::{Fault, Files};
 use command_settings::Explore;
-use explore_command::{Judgement, judge, keep, print};
+use explore_command::{Judgement, Telling, judge, keep, print};
 use explorer::Exploring;
+use progress_line::Progress;
 use show_command::AskedWords;
 use std::alloc::Global;
 use std::io::Write;
@@ -22,8 +23,8 @@ use std::io::Write;
 /// of which there need be none, searches for what the memory model allows with at most `window` operations of a hart
 /// waiting at a time, prints what is found on `out`, writes scripts and traces, and judges the outcomes: `err` tells how
 /// the traces that are written leave program order, and which outcomes aren't allowed. Where memory ends, what was found
-/// is printed, written and judged all the same.
-pub fn architecture_files<'a, F: Files, O: Write, E: Write>(
+/// is printed, written and judged all the same. While it searches, `progress` is told how far it is.
+pub fn architecture_files<'a, F: Files, O: Write, E: Write, P: Progress>(
     alloc: Global,
     files: &mut F,
     wanted: Explore<'a>,
@@ -31,6 +32,7 @@ pub fn architecture_files<'a, F: Files, O: Write, E: Write>(
     window: u32,
     out: &mut O,
     err: &mut E,
+    progress: &P,
 ) -> Result<Judgement, Fault<'a>>
     requires room { 0 < wanted.states }
     ensures searched { IfOk result (λ judgement. IsSearched (F.held files.old) (F.held files.new) wanted.entry words.now window judgement (O.contents out.old) (O.contents out.new)) }
@@ -39,6 +41,7 @@ pub fn architecture_files<'a, F: Files, O: Write, E: Write>(
     ensures unfinished { IfErr result (λ fault. LeavesPart fault (O.contents out.old) (O.contents out.new)
         (SearchHas (F.held files.old) wanted.entry words.now window)) }
     ensures spared { SparesOthers (IsFileOf wanted.entry.scripts) (F.held files.old) (F.held files.new) }
+    ensures untouched { IfErr result (λ fault. ComesBeforeScripts fault → F.held files.new ≡ F.held files.old) }
 {
     let AskedWords {
         config,
@@ -46,6 +49,7 @@ pub fn architecture_files<'a, F: Files, O: Write, E: Write>(
         allowed,
         targets,
     } = AskedWords::read(alloc, files, wanted, words)?;
+    let watch = Telling { progress };
     let exploring = Exploring {
         limit: wanted.states,
         shortened: wanted.scripts.is_some(),
@@ -57,9 +61,12 @@ pub fn architecture_files<'a, F: Files, O: Write, E: Write>(
         &targets.addresses,
         window,
         exploring,
+        &watch,
     ) else {
+        progress.end();
         return Err(Fault::OutOfMemory);
     };
+    progress.end();
     let found = Searched {
         names: targets.names,
         architecture,

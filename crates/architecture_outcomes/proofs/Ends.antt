@@ -9,6 +9,7 @@ use Rattle.std.proofs.lemmas.List.Elements.{All-from_recursion, All-map, recursi
 use Rattle.architecture_outcomes.proofs.Together.{Contains-map}
 use Rattle.architecture_outcomes.specs.declared.outcome.Outcome.{Outcome}
 use Rattle.architecture_outcomes.specs.Outcomes.{HasEachEnd, IsMachine, IsOf, IsWitnessed, IsWitnessedBy, of_found, outcome_of, outcomes_of}
+use Rattle.architecture_outcomes.specs.Visited.{wordless}
 use Rattle.elf_loader.specs.Image.{Initial}
 use Rattle.explorer.specs.declared.found.Found.{Found}
 use Rattle.explorer.specs.Ends.{IsRealIn as IsRealEnd}
@@ -18,7 +19,7 @@ use Rattle.explorer.specs.Outcomes.{HasEachEnd as HasEachResult}
 use Rattle.explorer.specs.Ranks.{outcome_cmp}
 use Rattle.flat_exploration.specs.Drained.{Ending}
 use Rattle.flat_model.specs.declared.results.HartResult.{HartResult}
-use Rattle.flat_model.specs.Shown.{Result, results, told}
+use Rattle.flat_model.specs.Shown.{results, told}
 use Rattle.machine_types.specs.declared.config.Config.{Config}
 use Rattle.schedules.specs.Schedules.{led}
 use Rattle.std.specs.Global.{Vec}
@@ -27,10 +28,6 @@ use Rattle.word_explorer.specs.Ends.{HasEachEnding, IsRealIn, ending_of, endings
 use Rattle.word_explorer.specs.Orders.{ending_cmp}
 
 -- ---- without words
-
--- results that show no words
-abbrev wordless : List Result → Ending
-wordless results = record { results = results; words = [] }
 
 pub one_more : (fs : List Found) (os : List Outcome) (f : Found) (o : Outcome) → AllZip IsOf fs os → IsOf f o → AllZip IsOf (fs ++ f ∷ []) (os ++ o ∷ [])
 one_more [] [] f o are is = (is, tt)
@@ -44,7 +41,7 @@ ending_is f o is =
     let none = is.words in
     λ i. record { results = same i; words = none i }
 
-endings_are : (fs : List Found) (os : List Outcome) → AllZip IsOf fs os → outcomes_of os ≡ map wordless (all_results_of fs)
+pub endings_are : (fs : List Found) (os : List Outcome) → AllZip IsOf fs os → outcomes_of os ≡ map wordless (all_results_of fs)
 endings_are [] [] are = refl
 endings_are [] (o ∷ os) are = absurd are
 endings_are (f ∷ fs) [] are = absurd are
@@ -114,7 +111,7 @@ module _ (image : Initial) (config : Config) where
   all_shown [] fs some real = absurd (true≢false some)
   all_shown (address ∷ rest) fs some real = All-map (IsWitnessed image config (address ∷ rest)) of_found fs real
 
-  same_endings : (fs : List WordFound) → endings_of fs ≡ outcomes_of (map of_found fs)
+  pub same_endings : (fs : List WordFound) → endings_of fs ≡ outcomes_of (map of_found fs)
   same_endings [] = refl
   same_endings (f ∷ fs) = ap (λ (es : List Ending). ending_of f ∷ es) (same_endings fs)
 

@@ -5,3 +5,4 @@ mod Once
 mod Pieces
 mod Searched
 mod Together
+mod Visited

@@ -8,6 +8,7 @@ use Rattle.architecture_outcomes.specs.declared.outcome.Outcome.{Outcome}
 use Rattle.architecture_outcomes.specs.declared.outcome.Way.{Way}
 use Rattle.architecture_outcomes.specs.declared.outcome.Way.TheVariants.{Machine, Model, ModelAlone}
 use Rattle.architecture_outcomes.specs.Outcomes.{HasEachEnd, IsDecided, IsMachine, IsWitnessed, TellsEachEnd, end_by, machine_end, outcome_of, outcomes_of}
+use Rattle.architecture_outcomes.specs.Visited.{TellsEnd}
 use Rattle.elf_loader.specs.Image.{Initial}
 use Rattle.flat_exploration.specs.Drained.{Ending, machine_ending}
 use Rattle.machine_types.specs.declared.config.Config.{Config}
@@ -47,8 +48,10 @@ module _ (image : Initial) (config : Config) (addresses : List ℕ) (beyond join
       (Contains-append_right (map machine_end beyond) (map machine_end found) (Some o)
       (subst (λ (os : List (Option Ending)). Contains os (Some o)) (sym (told_ends found (recursion_from_All (λ o. IsMachine o.way) found machine))) (Contains-map Some (outcomes_of found) o has)))
 
+  pub end_told : All (λ o. IsMachine o.way) found → (end : Ending) → Contains (outcomes_of found) end → TellsEnd sorted end
+  end_told machine end has =
+      Contains-permutation (map machine_end joined) (map machine_end sorted) (Some end) (IsPermutation-map machine_end joined sorted moved)
+      (subst (λ (os : List Outcome). Contains (map machine_end os) (Some end)) (sym joined_is) (told_found machine end has))
+
   pub each_told : All (λ o. IsMachine o.way) found → HasEachEnd image config addresses (outcomes_of found) → TellsEachEnd image config addresses sorted
-  each_told machine each events ended =
-      let ending : Ending = machine_ending addresses (led image config events) in
-      Contains-permutation (map machine_end joined) (map machine_end sorted) (Some ending) (IsPermutation-map machine_end joined sorted moved)
-      (subst (λ (os : List Outcome). Contains (map machine_end os) (Some ending)) (sym joined_is) (told_found machine ending (each events ended)))
+  each_told machine each events ended = end_told machine (machine_ending addresses (led image config events)) (each events ended)

@@ -1,2 +1,3 @@
 pub mod Outcomes
 pub mod Text
+pub mod Visited

@@ -13,23 +13,26 @@ use crate::outcome::Outcome;
 use elf_loader::Image;
 use final_words::words_of;
 use machine_types::Config;
+use state_search::Watch;
 use std::alloc::{AllocError, Global};
 use window_machine::{Allowed, Reach, search};
 use witnesses::Witness;
 
 /// What a search under the memory model finds; nothing, where memory ends in it.
-pub(crate) fn search_model(
+pub(crate) fn search_model<W: Watch>(
     alloc: Global,
     image: &Image,
     config: Config,
     addresses: &[u32],
     window: u32,
     limit: u32,
+    watch: &W,
 ) -> Allowed
     requires limits { IsTrue (is_within_limits config) }
     ensures witnessed { All (IsWitness image.now config) result.witnesses.items }
 {
-    match search(alloc, image, config, addresses, window as usize, limit) {
+    let window = window as usize;
+    match search(alloc, image, config, addresses, window, limit, watch) {
         Ok(allowed) => allowed,
         Err(AllocError) => Allowed {
             witnesses: Vec::new(alloc),

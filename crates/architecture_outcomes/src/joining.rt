@@ -1,8 +1,10 @@
 //! The outcomes of the machine and those of the memory model, joined.
-ghost use Rattle.std.specs.Prelude.{◌≡◌, ◌<◌, All, IfOk, IsTrue};
+ghost use Rattle.std.specs.Prelude.{◌≡◌, ◌<◌, All, IfOk, IsTrue, List, min};
 ghost use Rattle.std.specs.List.Sorted.{IsStrictlySortedBy};
 ghost use Rattle.std.specs.Ordering.{on};
 ghost use Rattle.architecture_outcomes.specs.Outcomes.{IsDecided, IsWitnessed, TellsEachEnd, outcome_of};
+ghost use Rattle.architecture_outcomes.specs.Visited.{AreMachineStates, TellsEnd};
+ghost use Rattle.flat_model.specs.Flat.{Flat};
 ghost use Rattle.machine_types.specs.Config.{is_within_limits};
 ghost use Rattle.word_explorer.specs.Orders.{ending_cmp};
 ghost use Rattle.word_explorer.specs.Words.{CanShowEach};
@@ -13,22 +15,49 @@ use crate::machine::{Machine, search_machine};
 use elf_loader::Image;
 use explorer::Exploring;
 use machine_types::Config;
-use state_search::Extent;
+use state_search::{Extent, Watch};
 use std::alloc::{AllocError, Global};
-use window_machine::Allowed;
+use window_machine::{Allowed, WIDEST};
+
+/// Tells of a search behind another one what both found.
+#[derive(Drop)]
+struct Behind<'w, W> {
+    watch: &'w W,
+    states: u64,
+    outcomes: u64,
+}
+
+impl<'w, W> Behind<'w, W> {
+    fn new(watch: &'w W, states: usize, outcomes: usize) -> Behind<'w, W> {
+        Behind {
+            watch,
+            states: states as u64,
+            outcomes: outcomes as u64,
+        }
+    }
+}
+
+impl<W: Watch> Watch for Behind<'_, W> {
+    fn found(&self, states: u64, outcomes: u64) {
+        let states = states.saturating_add(self.states);
+        let outcomes = outcomes.saturating_add(self.outcomes);
+        self.watch.found(states, outcomes);
+    }
+}
 
 /// Finds the outcomes that the machine comes to, and searches for those that its memory model allows, with at most
 /// `window` operations of a hart waiting at a time (64 where that is more), until either search has found as many
-/// states as the limit, or memory ends. An outcome shows the words of memory at these addresses, in their order, behind all
+/// states as the limit, or memory ends. Meanwhile `watch` is told how far they are. An outcome shows the words of memory at these addresses, in their order, behind all
 /// operations. What was found then stands. Nothing is known of outcomes that the model allows and that aren't told. The
 /// error is that there was no memory to begin with, or none for the list of what was found.
-pub fn explore_architecture(
+pub fn explore_architecture<W: Watch>(
     alloc: Global,
     image: &Image,
     config: Config,
     addresses: &[u32],
     window: u32,
     exploring: Exploring,
+    watch: &W,
 ) -> Result<Architecture, AllocError>
     requires limits { IsTrue (is_within_limits config) }
     requires room { 0 < exploring.limit }
@@ -36,6 +65,9 @@ pub fn explore_architecture(
 
     // What is said to show an outcome does.
     ensures shown { IfOk result (λ a. All (IsWitnessed image.now config addresses.now) a.outcomes.items) }
+
+    // It tells how many states of the machine it found; at the limit what they show is told as the machine's.
+    ensures visited { IfOk result (λ a. (states : List Flat) × AreMachineStates image.now config addresses.now a.machine a.machine_states (TellsEnd a.outcomes.items) states) }
 
     // Where the machine's own search is complete, each of its outcomes is told as one of the machine.
     ensures machine { IfOk result (λ a. a.machine ≡ Extent.Complete → TellsEachEnd image.now config addresses.now a.outcomes.items) }
@@ -48,18 +80,21 @@ pub fn explore_architecture(
 
     ensures full { IfOk result (λ a. a.machine ≡ Extent.LimitMet → a.machine_states ≡ exploring.limit) }
     ensures model { IfOk result (λ a. a.model ≡ config.model) }
-    ensures window { IfOk result (λ a. a.window ≡ window) }
+    ensures window { IfOk result (λ a. a.window ≡ min window 64) }
 {
+    let window = window.min(WIDEST as u32);
     let Machine {
         outcomes: mut found,
         extent,
         states: machine_states,
-    } = search_machine(alloc, image, config, addresses, exploring)?;
+    } = search_machine(alloc, image, config, addresses, exploring, watch)?;
+    let behind = Behind::new(watch, machine_states, found.len());
+    let limit = exploring.limit;
     let Allowed {
         witnesses,
         reach,
         states,
-    } = search_model(alloc, image, config, addresses, window, exploring.limit);
+    } = search_model(alloc, image, config, addresses, window, limit, &behind);
     let mut outcomes = beyond(
         alloc,
         image,

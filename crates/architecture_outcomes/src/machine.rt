@@ -1,9 +1,11 @@
 //! What the machine comes to.
-ghost use Rattle.std.specs.Prelude.{◌≡◌, ◌<◌, [], All, IfOk, IsTrue, map};
+ghost use Rattle.std.specs.Prelude.{◌≡◌, ◌<◌, [], All, Contains, IfOk, IsTrue, List, map};
 ghost use Rattle.std.specs.List.{AllZip};
 ghost use Rattle.std.specs.List.Sorted.{IsStrictlySortedBy};
 ghost use Rattle.std.specs.Ordering.{on};
 ghost use Rattle.architecture_outcomes.specs.Outcomes.{HasEachEnd, IsMachine, IsOf, IsWitnessed, of_found, outcome_of, outcomes_of};
+ghost use Rattle.architecture_outcomes.specs.Visited.{AreMachineStates};
+ghost use Rattle.flat_model.specs.Flat.{Flat};
 ghost use Rattle.machine_types.specs.Config.{is_within_limits};
 ghost use Rattle.word_explorer.specs.Orders.{ending_cmp};
 ghost use Rattle.word_explorer.specs.Words.{CanShowEach};
@@ -12,7 +14,7 @@ use crate::outcome::{Outcome, Way};
 use elf_loader::Image;
 use explorer::{Exploration, Exploring, Found, explore};
 use machine_types::Config;
-use state_search::{Extent, Unwatched};
+use state_search::{Extent, Watch};
 use std::alloc::{AllocError, Global};
 use word_explorer::{WordExploration, WordFound, explore_words};
 
@@ -25,12 +27,13 @@ pub(crate) struct Machine {
 }
 
 /// What the machine comes to, with the words of memory at these addresses.
-pub(crate) fn search_machine(
+pub(crate) fn search_machine<W: Watch>(
     alloc: Global,
     image: &Image,
     config: Config,
     addresses: &[u32],
     exploring: Exploring,
+    watch: &W,
 ) -> Result<Machine, AllocError>
     requires limits { IsTrue (is_within_limits config) }
     requires room { 0 < exploring.limit }
@@ -40,17 +43,18 @@ pub(crate) fn search_machine(
     ensures complete { IfOk result (λ m. m.extent ≡ Extent.Complete → HasEachEnd image.now config addresses.now (outcomes_of m.outcomes.items)) }
     ensures once { IfOk result (λ m. IsStrictlySortedBy (on outcome_of ending_cmp) m.outcomes.items) }
     ensures full { IfOk result (λ m. m.extent ≡ Extent.LimitMet → m.states ≡ exploring.limit) }
+    ensures visited { IfOk result (λ m. (states : List Flat) × AreMachineStates image.now config addresses.now m.extent m.states (Contains (outcomes_of m.outcomes.items)) states) }
 {
     // Without words an end is sooner: stores may wait at it.
     if addresses.is_empty() {
-        return search_results(alloc, image, config, exploring);
+        return search_results(alloc, image, config, exploring, watch);
     }
     let WordExploration {
         outcomes,
         extent,
         states,
         ..
-    } = explore_words(alloc, image, config, addresses, exploring, &Unwatched)?;
+    } = explore_words(alloc, image, config, addresses, exploring, watch)?;
     Ok(Machine {
         outcomes: with_words(alloc, outcomes)?,
         extent,
@@ -59,11 +63,12 @@ pub(crate) fn search_machine(
 }
 
 /// What the machine comes to, where no words are shown.
-fn search_results(
+fn search_results<W: Watch>(
     alloc: Global,
     image: &Image,
     config: Config,
     exploring: Exploring,
+    watch: &W,
 ) -> Result<Machine, AllocError>
     requires limits { IsTrue (is_within_limits config) }
     requires room { 0 < exploring.limit }
@@ -72,13 +77,14 @@ fn search_results(
     ensures complete { IfOk result (λ m. m.extent ≡ Extent.Complete → HasEachEnd image.now config [] (outcomes_of m.outcomes.items)) }
     ensures once { IfOk result (λ m. IsStrictlySortedBy (on outcome_of ending_cmp) m.outcomes.items) }
     ensures full { IfOk result (λ m. m.extent ≡ Extent.LimitMet → m.states ≡ exploring.limit) }
+    ensures visited { IfOk result (λ m. (states : List Flat) × AreMachineStates image.now config [] m.extent m.states (Contains (outcomes_of m.outcomes.items)) states) }
 {
     let Exploration {
         outcomes,
         extent,
         states,
         ..
-    } = explore(alloc, image, config, exploring, &Unwatched)?;
+    } = explore(alloc, image, config, exploring, watch)?;
     Ok(Machine {
         outcomes: without_words(alloc, outcomes)?,
         extent,

@@ -1,5 +1,6 @@
 //! What a chart shows of a run. Lines are lines of text of the picture, counted from 0 downward.
 ghost use Rattle.std.specs.Prelude.{◌≤◌, vec_len};
+ghost use Rattle.machine_limits.specs.declared.TheConstants.{MAX_HARTS};
 
 use chart_drawing::Hold;
 use hart::Retired;
@@ -72,6 +73,6 @@ pub struct Story {
     pub harts: u8,
     pub columns: Vec<u32>,
     pub rows: Vec<Row>,
-    ghost few_harts: { harts ≤ 8 },
+    ghost few_harts: { harts ≤ MAX_HARTS },
     ghost few_columns: { vec_len columns ≤ 1048576 },
 }

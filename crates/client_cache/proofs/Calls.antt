@@ -2,6 +2,7 @@
 use Rattle.std.proofs.Common.{◌≡◌, ℕ, true, false, nat_le, Some, None, refl}
 use Rattle.std.specs.FinMap as map
 use Rattle.std.specs.FinSet as fset
+use Rattle.machine_limits.specs.declared.TheConstants.{TRACKERS}
 use Rattle.tl_types.specs.declared.permission.Cap.{Cap}
 use Rattle.tl_types.specs.declared.permission.Perm.TheVariants.{Nothing}
 use Rattle.tl_types.specs.Shrink.{shrunk_by}
@@ -17,10 +18,10 @@ evicted_none c line none = rw none refl
 pub evicted_pending : (c : Cache) (line : ℕ) (h : Held) → copy_at c line ≡ Some h → fset.contains c.acquiring line ≡ true → evicted c line ≡ (AcquirePending, c)
 evicted_pending c line h is a = rw (is, a) refl
 
-pub evicted_full : (c : Cache) (line : ℕ) (h : Held) → copy_at c line ≡ Some h → fset.contains c.acquiring line ≡ false → nat_le 4 (fset.len c.releasing) ≡ true → evicted c line ≡ (ReleaseFull, c)
+pub evicted_full : (c : Cache) (line : ℕ) (h : Held) → copy_at c line ≡ Some h → fset.contains c.acquiring line ≡ false → nat_le TRACKERS (fset.len c.releasing) ≡ true → evicted c line ≡ (ReleaseFull, c)
 evicted_full c line h is a t = rw (is, a, t) refl
 
-pub evicted_held : (c : Cache) (line : ℕ) (h : Held) → copy_at c line ≡ Some h → fset.contains c.acquiring line ≡ false → nat_le 4 (fset.len c.releasing) ≡ false
+pub evicted_held : (c : Cache) (line : ℕ) (h : Held) → copy_at c line ≡ Some h → fset.contains c.acquiring line ≡ false → nat_le TRACKERS (fset.len c.releasing) ≡ false
     → evicted c line ≡ (eviction_of h, record c { copies = map.remove c.copies line; releasing = fset.insert c.releasing line })
 evicted_held c line h is a t = rw (is, a, t) refl
 

@@ -4,6 +4,7 @@ use Rattle.std.specs.Prelude.{is_some}
 use Rattle.std.specs.Ordering.{nat_cmp}
 use Rattle.std.specs.FinSet as fset
 use Rattle.std.specs.FinSet.{FinSet}
+use Rattle.machine_limits.specs.declared.TheConstants.{TRACKERS}
 use Rattle.tl_types.specs.declared.permission.Grow.{Grow}
 use Rattle.client_cache.specs.declared.held.Held.{Held}
 use Rattle.client_cache.specs.declared.slot.Place.{Place}
@@ -128,21 +129,21 @@ is_set_full-room s h line way copy r none = go (place_of s.array.shape s.array.s
 record IsFree (x : Cache) (line : ℕ) : Type 0 where
   released : fset.contains x.releasing line ≡ false
   granted : fset.contains x.acquiring line ≡ false
-  tracker : nat_le 4 (fset.len x.acquiring) ≡ false
+  tracker : nat_le TRACKERS (fset.len x.acquiring) ≡ false
 
-free_by : (x : Cache) (line : ℕ) → fset.contains x.releasing line ≡ false → fset.contains x.acquiring line ≡ false → fset.len x.acquiring < 4 → IsFree x line
+free_by : (x : Cache) (line : ℕ) → fset.contains x.releasing line ≡ false → fset.contains x.acquiring line ≡ false → fset.len x.acquiring < TRACKERS → IsFree x line
 free_by x line released granted tracker = record { released = released; granted = granted; tracker = grind (arith, tracker) }
 
 wanted-free : (x : Cache) (line : ℕ) (grow : Grow) (full : Bool) → IsFree x line → is_set_full x line ≡ full
     → wanted x line grow ≡ cond full (SetFull, x) (Missed grow, record x { acquiring = fset.insert x.acquiring line })
 wanted-free x line grow full f is = let a = f.released in let b = f.granted in let d = f.tracker in rw (a, b, d, is) refl
 
-pub wanted-full : (s : Inside) → IsOrdered s → (x : Cache) → seen s ≡ x → (line : ℕ) (grow : Grow) → fset.contains x.releasing line ≡ false → fset.contains x.acquiring line ≡ false → fset.len x.acquiring < 4
+pub wanted-full : (s : Inside) → IsOrdered s → (x : Cache) → seen s ≡ x → (line : ℕ) (grow : Grow) → fset.contains x.releasing line ≡ false → fset.contains x.acquiring line ≡ false → fset.len x.acquiring < TRACKERS
     → IsFull s.array.shape s.array.slots.items line → wanted x line grow ≡ (SetFull, x)
 wanted-full s h x e line grow a b d full =
     wanted-free x line grow true (free_by x line a b d) (ap (λ (y : Cache). is_set_full y line) (sym e) ∙ is_set_full-full s h line full)
 
-pub wanted-room : (s : Inside) → IsOrdered s → (x : Cache) → seen s ≡ x → (line : ℕ) (grow : Grow) → fset.contains x.releasing line ≡ false → fset.contains x.acquiring line ≡ false → fset.len x.acquiring < 4
+pub wanted-room : (s : Inside) → IsOrdered s → (x : Cache) → seen s ≡ x → (line : ℕ) (grow : Grow) → fset.contains x.releasing line ≡ false → fset.contains x.acquiring line ≡ false → fset.len x.acquiring < TRACKERS
     → (way : ℕ) (copy : Option Held) → IsRoom s.array.shape s.array.slots.items line way copy → wanted x line grow ≡ (Missed grow, record x { acquiring = fset.insert x.acquiring line })
 wanted-room s h x e line grow a b d way copy room =
     wanted-free x line grow false (free_by x line a b d)

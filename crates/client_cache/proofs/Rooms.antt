@@ -9,6 +9,7 @@ use Rattle.std.specs.FinSet as fset
 use Rattle.std.specs.FinSet.{FinSet, contains-insert, contains-remove, contains-empty}
 use Rattle.std.proofs.lemmas.Bool.{cases_eq}
 use Rattle.std.proofs.lemmas.List.{drop-replicate, take-replicate, length-replicate}
+use Rattle.machine_limits.specs.declared.TheConstants.{MAX_SETS, MAX_WAYS}
 use Rattle.client_cache.specs.declared.held.Held.{Held}
 use Rattle.client_cache.specs.declared.shape.Shape.{Shape}
 use Rattle.client_cache.specs.declared.slot.Place.{Place}
@@ -99,7 +100,7 @@ row_of-free shape s l =
 place_of-free : (shape : Shape) → 0 < shape.sets → (q : ℕ) → place_of shape (replicate (shape.sets * shape.ways) free_slot) q ≡ None
 place_of-free shape low q = ap (place_at q) (row_of-free shape (set_of shape q) (omega arith)) ∙ place_at-free q shape.ways
 
-pub IsPlaced-free : (shape : Shape) → 0 < shape.sets → shape.sets ≤ 64 → 0 < shape.ways → shape.ways ≤ 4 → IsLaidOut shape (replicate (shape.sets * shape.ways) free_slot) fset.empty
+pub IsPlaced-free : (shape : Shape) → 0 < shape.sets → shape.sets ≤ MAX_SETS → 0 < shape.ways → shape.ways ≤ MAX_WAYS → IsLaidOut shape (replicate (shape.sets * shape.ways) free_slot) fset.empty
 IsPlaced-free shape a b c d = record {
   sets_low = a;
   sets_high = b;
@@ -110,7 +111,7 @@ IsPlaced-free shape a b c d = record {
   tracked = λ q. contains-empty nat_cmp q ∙ sym (ap acquiring_in (place_of-free shape a q));
 }
 
-pub copies_of-free : (shape : Shape) → 0 < shape.sets → shape.sets ≤ 64 → 0 < shape.ways → shape.ways ≤ 4 → copies_of shape (replicate (shape.sets * shape.ways) free_slot) ≡ map.empty
+pub copies_of-free : (shape : Shape) → 0 < shape.sets → shape.sets ≤ MAX_SETS → 0 < shape.ways → shape.ways ≤ MAX_WAYS → copies_of shape (replicate (shape.sets * shape.ways) free_slot) ≡ map.empty
 copies_of-free shape a b c d = same_copies _ _ (λ q.
     get-copies_of shape (replicate (shape.sets * shape.ways) free_slot) fset.empty (IsPlaced-free shape a b c d) q
     ∙ ap copy_in (place_of-free shape a q)

@@ -5,6 +5,7 @@ use Rattle.std.specs.FinMap as map
 use Rattle.std.specs.FinMap.{FinMap}
 use Rattle.std.specs.FinSet as set
 use Rattle.std.specs.FinSet.{FinSet}
+use Rattle.machine_limits.specs.declared.TheConstants.{MAX_SETS, MAX_WAYS}
 use Rattle.client_cache.specs.declared.held.Held.{Held}
 use Rattle.client_cache.specs.declared.shape.Shape.{Shape}
 use Rattle.client_cache.specs.declared.slot.Place.{Place}
@@ -52,9 +53,9 @@ IsSetRow shape s (x ∷ xs) = (is_used x.place ≡ true → set_of shape x.place
 
 pub record IsLaidOut (shape : Shape) (slots : List Slot) (acquiring : FinSet nat_cmp) : Type 0 where
   pub sets_low : 0 < shape.sets
-  pub sets_high : shape.sets ≤ 64
+  pub sets_high : shape.sets ≤ MAX_SETS
   pub ways_low : 0 < shape.ways
-  pub ways_high : shape.ways ≤ 4
+  pub ways_high : shape.ways ≤ MAX_WAYS
   pub room : length slots ≡ shape.sets * shape.ways
   pub rows : (s : ℕ) → s < shape.sets → IsSetRow shape s (row_of shape slots s)
   pub tracked : (line : ℕ) → set.contains acquiring line ≡ acquiring_in (place_of shape slots line)

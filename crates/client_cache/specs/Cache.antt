@@ -8,6 +8,7 @@ use Rattle.std.specs.FinSet as set
 use Rattle.std.specs.FinSet.{FinSet}
 use Rattle.std.specs.Coded.{Coded, code_by, coded×}
 use Rattle.std.specs.Coded.{coded_ℕ}
+use Rattle.machine_limits.specs.declared.TheConstants.{TRACKERS}
 use Rattle.tl_types.specs.declared.line.LineData.{LineData}
 use Rattle.tl_types.specs.declared.line.LineSize.{LineSize}
 use Rattle.tl_types.specs.declared.permission.Perm.TheVariants.{Nothing}
@@ -63,7 +64,7 @@ abbrev pub wanted : Cache → ℕ → Grow → Want × Cache
 wanted c line grow =
     if set.contains c.releasing line then (WaitRelease, c)
     else if set.contains c.acquiring line then (WaitGrant, c)
-    else if nat_le 4 (set.len c.acquiring) then (NoTracker, c)
+    else if nat_le TRACKERS (set.len c.acquiring) then (NoTracker, c)
     else if is_set_full c line then (SetFull, c)
     else (Missed grow, record c { acquiring = set.insert c.acquiring line })
 
@@ -87,7 +88,7 @@ abbrev pub evicted_copy : Cache → ℕ → Option Held → Evict × Cache
 evicted_copy c line None = (NotHeld, c)
 evicted_copy c line (Some h) =
     if set.contains c.acquiring line then (AcquirePending, c)
-    else if nat_le 4 (set.len c.releasing) then (ReleaseFull, c)
+    else if nat_le TRACKERS (set.len c.releasing) then (ReleaseFull, c)
     else (eviction_of h, record c { copies = map.remove c.copies line; releasing = set.insert c.releasing line })
 
 abbrev pub evicted : Cache → ℕ → Evict × Cache

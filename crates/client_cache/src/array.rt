@@ -1,5 +1,6 @@
 //! The slots of a cache, sets by ways: a set's row after the other.
 ghost use Rattle.std.specs.Prelude.{◌≡◌, ◌<◌, ◌≤◌, ◌+◌, ◌*◌, length, IfSome, IfNone, IfOk, None, slice_set, replicate};
+ghost use Rattle.machine_limits.specs.declared.TheConstants.{MAX_SETS, MAX_WAYS};
 ghost use Rattle.client_cache.specs.Row.{IsAt, free_slot};
 ghost use Rattle.client_cache.specs.Shape.{set_of};
 ghost use Rattle.client_cache.specs.Array.{row_of, place_of, copy_in, IsSetRow, IsRoom, IsFull};
@@ -16,16 +17,16 @@ pub struct Array {
     pub shape: Shape,
     pub slots: Vec<Slot>,
     ghost some_sets: { 0 < shape.sets },
-    ghost few_sets: { shape.sets ≤ 64 },
-    ghost few_ways: { shape.ways ≤ 4 },
+    ghost few_sets: { shape.sets ≤ MAX_SETS },
+    ghost few_ways: { shape.ways ≤ MAX_WAYS },
     ghost room: { length slots.items ≡ shape.sets * shape.ways },
 }
 
 impl Array {
     pub fn new(alloc: Global, shape: Shape) -> Result<Self, AllocError>
         requires some_sets { 0 < shape.sets }
-        requires few_sets { shape.sets ≤ 64 }
-        requires few_ways { shape.ways ≤ 4 }
+        requires few_sets { shape.sets ≤ MAX_SETS }
+        requires few_ways { shape.ways ≤ MAX_WAYS }
         ensures shape { IfOk result (λ a. a.shape ≡ shape) }
         ensures slots { IfOk result (λ a. a.slots.items ≡ replicate (shape.sets * shape.ways) free_slot) }
     {

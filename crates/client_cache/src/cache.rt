@@ -1,6 +1,7 @@
 //! The cache, over its array and its trackers.
 ghost use Rattle.std.specs.Prelude.{◌≡◌, ◌<◌, ◌≤◌, ◌+◌, ◌*◌, ◌%◌, false, IfOk, IfSome, IfNone, IsTrue, None};
 ghost use Rattle.std.specs.FinSet as set;
+ghost use Rattle.machine_limits.specs.declared.TheConstants.{MAX_SETS, MAX_WAYS, TRACKERS};
 ghost use Rattle.tl_types.specs.declared.permission.Perm.TheVariants as perms;
 ghost use Rattle.tl_types.specs.declared.permission.Grow.{Grow};
 ghost use Rattle.client_cache.specs.Held.{perm_of};
@@ -53,13 +54,13 @@ impl Model for ClientCache {
 }
 
 impl ClientCache {
-    /// An empty cache of 1 to 64 sets (a machine has a power of two of them) by 1 to 4 ways, for lines
+    /// An empty cache of some sets (a machine has a power of two of them) by some ways, for lines
     /// of one size. The slots are the only memory that it ever takes.
     pub fn new(alloc: Global, sets: u32, ways: u32, size: LineSize) -> Result<Self, AllocError>
         requires some_sets { 0 < sets }
-        requires few_sets { sets ≤ 64 }
+        requires few_sets { sets ≤ MAX_SETS }
         requires some_ways { 0 < ways }
-        requires few_ways { ways ≤ 4 }
+        requires few_ways { ways ≤ MAX_WAYS }
         ensures { IfOk result (λ c. c ≡ opening sets ways size) }
     {
         Ok(ClientCache {
@@ -158,7 +159,7 @@ impl ClientCache {
         ensures stalls { IfSome result (λ stall. (grow : Grow) → wanted self.now line grow ≡ (stall, self.now)) }
         ensures released { IfNone result (set.contains self.now.releasing line ≡ false) }
         ensures granted { IfNone result (set.contains self.now.acquiring line ≡ false) }
-        ensures tracker { IfNone result (set.len self.now.acquiring < 4) }
+        ensures tracker { IfNone result (set.len self.now.acquiring < TRACKERS) }
     {
         if self.releasing.contains(line) {
             return Some(Want::WaitRelease);

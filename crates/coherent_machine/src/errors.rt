@@ -59,7 +59,7 @@ pub enum AdoptError {
     /// The batch has no instruction.
     #[error("Empty")]
     Empty = 2,
-    /// 4,000,000 events changed the machine, or the hart's list would pass 1,000,000 retired instructions.
+    /// `MAX_CHANGES` events changed the machine, or the hart's list would pass `MAX_ENTRIES` retired instructions.
     #[error("Limit")]
     Limit = 3,
     /// Memory was refused; nothing has changed.

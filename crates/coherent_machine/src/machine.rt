@@ -21,7 +21,7 @@ use machine_model::{
     headline, image_and_config_stay, log_lawful_always, nothing_is_rewritten, ready_always,
     sound_always,
 };
-use machine_parts::{ApplyError, Parts, is_within_limits};
+use machine_parts::{ApplyError, Parts};
 use machine_types::{Config, Event, Outcome};
 use std::alloc::Global;
 use std::marker::Model;
@@ -52,8 +52,7 @@ impl Model for Machine {
 }
 
 impl Machine {
-    /// A machine at reset: 1 to 8 harts, caches of 1 to 64 sets (a power of two) of 1 to 4 lines, lines of
-    /// 16 or 64 bytes.
+    /// A machine at reset, of a configuration within the limits.
     pub fn new(alloc: Global, image: Image, config: Config) -> Result<Machine, NewError>
         ensures ok { IfOk result (λ machine. machine ≡ opening image config) }
         ensures config { (result ≡ Err NewError.Config) ↔ (limits.is_within_limits config ≡ false) }
@@ -64,7 +63,7 @@ impl Machine {
         headline();
         log_lawful_always();
         image_and_config_stay();
-        if !is_within_limits(&config) {
+        if !config.is_within_limits() {
             return Err(NewError::Config);
         }
         let outputs = Outputs::new(alloc)?;

@@ -2,6 +2,7 @@
 
 ghost use Rattle.std.specs.Prelude.{◌≡◌, ◌≤◌, [], IfOk, length, map};
 ghost use Rattle.std.specs.Vec.{vec_capacity};
+ghost use Rattle.machine_limits.specs.declared.TheConstants.{MAX_HARTS};
 
 use machine_parts::Node;
 use std::alloc::{AllocError, Global};
@@ -26,7 +27,7 @@ impl Outputs {
 
     /// The numbers that each hart put out, by hart.
     pub(crate) fn of(self, nodes: Vec<Node>) -> Vec<Vec<u32>>
-        requires { length nodes.items ≤ 8 }
+        requires { length nodes.items ≤ MAX_HARTS }
         ensures { map (λ output. output.items) result.items ≡ map (λ node. node.output) nodes.items }
     {
         let Outputs { mut lists } = self;

@@ -8,9 +8,8 @@ ghost use Rattle.machine_types.specs.Config.{is_within_limits as is_within};
 ghost use Rattle.trace_text.specs.Scripts.{IsEvent};
 
 use command_settings::MachineOptions;
-use elf_loader::size_of_kib;
+use elf_loader::is_memory_kib;
 use machine_model::MemoryModel;
-use machine_parts::is_within_limits;
 use machine_types::{Config, Event};
 use trace_text::{Events, Script};
 
@@ -39,7 +38,7 @@ pub fn named_config(wanted: MachineOptions) -> Option<Config>
         line: wanted.line,
         model: wanted.model,
     };
-    if is_within_limits(&config) && size_of_kib(wanted.memory).is_some() {
+    if config.is_within_limits() && is_memory_kib(wanted.memory) {
         Some(config)
     } else {
         None

@@ -14,7 +14,7 @@ use Rattle.command_settings.specs.declared.wanted.Settings.{Settings}
 use Rattle.command_settings.specs.declared.wanted.Show.{Show as Shown}
 use Rattle.command_settings.specs.declared.wanted.Settings.TheVariants.{Check, Explain, Explore, Show}
 use Rattle.event_stream.specs.declared.strictness.Strictness.{Strictness}
-use Rattle.command_line.specs.Telling.{IsFaultOfCommand, IsShowingFault}
+use Rattle.command_line.specs.Telling.{ComesBeforeFiles, IsFaultOfCommand, IsShowingFault}
 use Rattle.explain_command.specs.Explaining.{IsExplainFault, IsExplained}
 use Rattle.explore_command.specs.Exploring.{IsExploreFault, LeavesPart}
 use Rattle.explore_command.specs.Keeping.{SparesOthers}
@@ -75,6 +75,15 @@ show_written held left wanted show is spares = λ name changed. subst (IsWritten
 pub explore_written : (held left : Held) (wanted : Settings) (explore : Sought) → wanted ≡ Explore explore → SparesOthers (IsExploreFile explore.architecture explore) held left
     → (name : Text) → left name ≢ held name → IsWritten name wanted
 explore_written held left wanted explore is spares = λ name changed. subst (IsWritten name) (sym is) (written held left _ spares name changed)
+
+-- what a command says of its files is said of the settings that name it
+pub stay_of : (held left : Held) (wanted meant : Settings) (r : Result Judgement Fault) → wanted ≡ meant → IfErr r (λ fault. ComesBeforeFiles meant fault → left ≡ held) → IfErr r (λ fault. ComesBeforeFiles wanted fault → left ≡ held)
+stay_of held left wanted meant (Ok judgement) is so = tt
+stay_of held left wanted meant (Err fault) is so = λ early. so (subst (λ w. ComesBeforeFiles w fault) is early)
+
+pub all_stay : (held left : Held) (wanted : Settings) (r : Result Judgement Fault) → left ≡ held → IfErr r (λ fault. ComesBeforeFiles wanted fault → left ≡ held)
+all_stay held left wanted (Ok judgement) same = tt
+all_stay held left wanted (Err fault) same = λ early. same
 
 pub check_beyond : (old new : Option (List ℕ)) (wanted : Settings) (r : Result Judgement Fault) → IfErr r (λ fault. status_of fault ≢ 2) → IfErr r (λ fault. status_of fault ≡ 2 → IsOutOfRange wanted × (new ≡ old))
 check_beyond old new wanted (Ok judgement) never = tt

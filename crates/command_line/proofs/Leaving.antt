@@ -1,10 +1,11 @@
 -- What a command's fault leaves, and its status, are those of a fault of the settings that name the command.
-use Rattle.std.proofs.Common.{◌≡◌, ◌∙◌, ◌⊎◌, ℕ, Bool, true, false, Err, IfErr, IfSome, IsSomeAnd, List, None, Ok, Option, Result, Some, ap, inl, inr, refl, subst, sym}
+use Rattle.std.proofs.Common.{◌≡◌, ◌∙◌, ◌⊎◌, ℕ, Bool, true, false, Err, IfErr, IfOk, IfSome, IsSomeAnd, List, None, Ok, Option, Result, Some, ap, inl, inr, refl, subst, sym}
 use Rattle.std.specs.Io.KnownBytes.{Appends}
 use Rattle.std.specs.Prelude.{nat_lt}
 use Rattle.chart_command.specs.Addresses.{address}
+use Rattle.chart_command.specs.Charting.{IsAddress}
 use Rattle.command_files.proofs.Left.{either}
-use Rattle.command_files.specs.Faults.{LeavesAtFault, Name}
+use Rattle.command_files.specs.Faults.{Name}
 use Rattle.command_files.specs.Held.{Held}
 use Rattle.command_files.specs.Sizes.{IsOutside}
 use Rattle.command_files.specs.Status.{status_of}
@@ -25,6 +26,7 @@ use Rattle.explain_command.specs.Explaining.{IsStreamCutOff, LeavesOfStream}
 use Rattle.explore_command.proofs.Explored.{all_of}
 use Rattle.explore_command.proofs.Faults.{some_part}
 use Rattle.explore_command.specs.declared.judging.Judgement.{Judgement}
+use Rattle.show_command.specs.Showing.{IsFirstOf}
 use Rattle.text_fields.specs.Writing.{Begins}
 
 -- ---- what is left
@@ -89,7 +91,7 @@ explore_outside wanted explore (Ok judgement) is outside = tt
 explore_outside wanted explore (Err fault) is outside = λ out. as_told fault Configuration (outside (subst IsOutOfRange is out)) refl
 
 pub show_outside : (wanted : Settings) (show : Shown) (r : Result Judgement Fault) → wanted ≡ Show show → (IsOutside show.explore.machine → (r ≡ Err Configuration) ⊎ ShowsElsewhere show.explore.architecture show.explore)
-    → (ShowsElsewhere show.explore.architecture show.explore → (word : Name) × (r ≡ Err (CannotShow word Elsewhere))) → IfErr r (λ fault. IsOutOfRange wanted → status_of fault ≡ 2)
+    → (ShowsElsewhere show.explore.architecture show.explore → (word : Name) × IsFirstOf show.words.items word × (r ≡ Err (CannotShow word Elsewhere))) → IfErr r (λ fault. IsOutOfRange wanted → status_of fault ≡ 2)
 show_outside wanted show (Ok judgement) is outside elsewhere = tt
 show_outside wanted show (Err fault) is outside elsewhere = λ out. elim (subst IsOutOfRange is out) [
   | inl far ↦ elim (outside far) [
@@ -100,7 +102,35 @@ show_outside wanted show (Err fault) is outside elsewhere = λ out. elim (subst 
 ]
   where
     at : ShowsElsewhere show.explore.architecture show.explore → status_of fault ≡ 2
-    at other = let it = elsewhere other in as_told fault (CannotShow it.0 Elsewhere) it.1 refl
+    at other = let it = elsewhere other in as_told fault (CannotShow it.0 Elsewhere) it.2 refl
+
+-- ---- what is done is in range
+
+pub chart_inside : (line : Option Name) (place : Option ℕ) → IsAddress line place → IsSomeAnd line (λ word. address word.now ≡ None) → ⊥
+chart_inside None place named out = out
+chart_inside (Some word) place named none = let bad : Some named.0 ≡ None = sym named.1.0 ∙ none in cc
+
+pub explore_inside : (wanted : Settings) (explore : Sought) (r : Result Judgement Fault) → wanted ≡ Explore explore → (IsOutside explore.machine → r ≡ Err Configuration) → IfOk r (λ _. ¬ IsOutOfRange wanted)
+explore_inside wanted explore (Ok judgement) is outside = λ out. let bad = outside (subst IsOutOfRange is out) in cc
+explore_inside wanted explore (Err fault) is outside = tt
+
+pub show_inside : (wanted : Settings) (show : Shown) (r : Result Judgement Fault) → wanted ≡ Show show → (IsOutside show.explore.machine → (r ≡ Err Configuration) ⊎ ShowsElsewhere show.explore.architecture show.explore)
+    → (ShowsElsewhere show.explore.architecture show.explore → (word : Name) × IsFirstOf show.words.items word × (r ≡ Err (CannotShow word Elsewhere))) → IfOk r (λ _. ¬ IsOutOfRange wanted)
+show_inside wanted show (Ok judgement) is outside elsewhere = λ out. elim (subst IsOutOfRange is out) [
+  | inl far ↦ elim (outside far) [
+    | inl bad ↦ cc
+    | inr other ↦ never other
+  ]
+  | inr other ↦ never other
+]
+  where
+    never : ShowsElsewhere show.explore.architecture show.explore → ⊥
+    never other = let it = elsewhere other in let bad = it.2 in cc
+show_inside wanted show (Err fault) is outside elsewhere = tt
+
+pub check_inside : (wanted : Settings) (check : Judging) (r : Result Judgement Fault) → wanted ≡ Check check → IfOk r (λ _. ¬ IsOutOfRange wanted)
+check_inside wanted check (Ok judgement) is = λ out. absurd (subst IsOutOfRange is out)
+check_inside wanted check (Err fault) is = tt
 
 pub check_outside : (wanted : Settings) (check : Judging) (r : Result Judgement Fault) → wanted ≡ Check check → IfErr r (λ fault. IsOutOfRange wanted → status_of fault ≡ 2)
 check_outside wanted check (Ok judgement) is = tt

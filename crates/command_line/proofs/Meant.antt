@@ -1,5 +1,5 @@
 -- What the words' settings allow to be done, and what faults say of them.
-use Rattle.std.proofs.Common.{◌≡◌, ◌≢◌, ◌∙◌, ◌⊎◌, ℕ, [], Bool, Contains, IsSomeAnd, List, None, Option, Some, arith, false, true, inl, inr, subst, sym, ap, refl}
+use Rattle.std.proofs.Common.{Err, IfErr, Ok, Result, ◌≡◌, ◌≢◌, ◌∙◌, ◌⊎◌, ◌∷◌, ◌++◌, ℕ, [], Bool, IsSomeAnd, List, None, Option, Some, arith, false, true, inl, inr, subst, sym, ap, refl}
 use Rattle.std.proofs.lemmas.Bool.{false≢true}
 use Rattle.std.proofs.lemmas.Slice.Eq.{bytes_eq-Decides}
 use Rattle.std.specs.Str.{bytes_eq}
@@ -13,8 +13,10 @@ use Rattle.command_files.specs.Held.{Held}
 use Rattle.command_files.specs.Sizes.{IsOutside}
 use Rattle.command_files.specs.Status.{status_of}
 use Rattle.command_files.specs.declared.fault.Fault.{Fault}
+use Rattle.command_files.specs.declared.fault.Fault.TheVariants.{BadAddress, BadEvent, BytesAfterTrace, CannotMake, CannotRead, CannotShow, CannotWrite, Check as NoOrder, Configuration, Event, Image, Mismatch, NoThread, NothingHappens, OutOfMemory, Text as NoText, TooManyRows}
+use Rattle.command_files.specs.declared.fault.Unshown.{Unshown}
 use Rattle.command_line.specs.Running.{MeetsSomeState, ShowsElsewhere}
-use Rattle.command_line.specs.Telling.{IsShowingFault}
+use Rattle.command_line.specs.Telling.{ComesBeforeFiles, IsShowingFault}
 use Rattle.command_settings.specs.Settings.{IsNamed}
 use Rattle.command_settings.specs.declared.wanted.Explore.{Explore as Sought}
 use Rattle.command_settings.specs.declared.wanted.Run.{Run as Asked}
@@ -63,10 +65,15 @@ unshown_once held explore words fault unshown two = elim unshown.unplaced [
 -- where no words are to be shown, none can't be
 pub none_unshown : (held : Held) (explore : Sought) (words : List Name) (fault : Fault) → words ≡ [] → IsSearchFault held explore words fault → IsExploreFault held explore fault
 none_unshown held explore words fault none (inl so) = so
-none_unshown held explore words fault none (inr unshown) =
-    let given = subst (λ (ws : List Name). Contains ws unshown.word) none unshown.given in
-    let inside = given.1 in
-    absurd (omega (arith, inside))
+none_unshown held explore words fault none (inr unshown) = absurd (behind_none unshown.first.before (unshown.first.whole ∙ none))
+  where
+    behind_none : (before : List Name) → before ++ unshown.word ∷ unshown.first.later ≡ [] → ⊥
+    behind_none [] is = cc
+    behind_none (x ∷ xs) is = cc
+
+pub told_alone : {T : Type 0} (r : Result T Fault) (held : Held) (explore : Sought) (words : List Name) → words ≡ [] → IfErr r (IsSearchFault held explore words) → IfErr r (IsExploreFault held explore)
+told_alone (Ok done) held explore words none told = tt
+told_alone (Err fault) held explore words none told = none_unshown held explore words fault none told
 
 pub beyond_show : (architecture : Bool) (held : Held) (old new : Option (List ℕ)) (show : Shown) (Has : (List ℕ → Type 0) → Type 0) (fault : Fault) → IsShowingFault architecture held show fault → LeavesPart fault old new Has → status_of fault ≡ 2
     → (IsOutside show.explore.machine ⊎ ShowsElsewhere architecture show.explore) × (new ≡ old)
@@ -76,12 +83,42 @@ beyond_show true held old new show Has fault (inr unshown) leaves two = absurd (
 beyond_show false held old new show Has fault (inl told) leaves two =
     let it = beyond_explore held old new show.explore Has fault told leaves two in (inl it.0, it.1)
 beyond_show false held old new show Has fault (inr (inl unshown)) leaves two = absurd (unshown_once held show.explore show.words.items fault unshown two)
-beyond_show false held old new show Has fault (inr (inr (word, is, elsewhere))) leaves two = (inr elsewhere, subst (λ f. LeavesPart f old new Has) is leaves)
+beyond_show false held old new show Has fault (inr (inr (word, first, is, elsewhere))) leaves two = (inr elsewhere, subst (λ f. LeavesPart f old new Has) is leaves)
 
 -- the word names no address
 pub no_address : (line : Option Name) (fault : Fault) → IsNoAddress line fault → IsSomeAnd line (λ word. address word.now ≡ None)
 no_address None fault is = absurd is
 no_address (Some word) fault is = is.0
+
+-- P holds of each fault of status 2
+misused_so : (P : Fault → Type 0) → P Configuration → ((word : Name) → P (BadAddress word)) → ((word : Name) (cause : Unshown) → P (CannotShow word cause)) → (fault : Fault) → status_of fault ≡ 2 → P fault
+misused_so P size address shown Configuration two = size
+misused_so P size address shown (BadAddress word) two = address word
+misused_so P size address shown (CannotShow word cause) two = shown word cause
+misused_so P size address shown CannotWrite two = cc
+misused_so P size address shown OutOfMemory two = cc
+misused_so P size address shown (CannotRead file) two = cc
+misused_so P size address shown (CannotMake file) two = cc
+misused_so P size address shown (Image file error) two = cc
+misused_so P size address shown (NoText file error) two = cc
+misused_so P size address shown (Event file line error) two = cc
+misused_so P size address shown (BytesAfterTrace file) two = cc
+misused_so P size address shown (NothingHappens file line outcome) two = cc
+misused_so P size address shown (NoOrder file error) two = cc
+misused_so P size address shown (TooManyRows file) two = cc
+misused_so P size address shown NoThread two = cc
+misused_so P size address shown Mismatch two = cc
+misused_so P size address shown BadEvent two = cc
+
+-- it comes before any file is written
+pub misused_early : (wanted : Settings) (fault : Fault) → status_of fault ≡ 2 → ComesBeforeFiles wanted fault
+misused_early (Run run) fault two = misused_so (ComesBeforeFiles (Run run)) tt (λ _. tt) (λ _ _. tt) fault two
+misused_early (Explore explore) fault two = misused_so (ComesBeforeFiles (Explore explore)) tt (λ _. tt) (λ _ _. tt) fault two
+misused_early (Show show) fault two = misused_so (ComesBeforeFiles (Show show)) tt (λ _. tt) (λ _ _. tt) fault two
+misused_early (Replay replay) fault two = tt
+misused_early (Explain explain) fault two = tt
+misused_early (Chart chart) fault two = tt
+misused_early (Check check) fault two = tt
 
 -- a file that changed is one of those that are written
 pub written : (held left : Held) (IsWritten : Text → Type 0) → SparesOthers IsWritten held left → (name : Text) → left name ≢ held name → IsWritten name

@@ -18,7 +18,7 @@ use Rattle.check_command.specs.Checking.{IsVerdictTold, IsVerdictCutOff}
 use Rattle.check_command.specs.Messages.{IsLogCutOff, IsLogJudged}
 use Rattle.run_command.specs.Running.{IsRun, IsRunCutOff}
 use Rattle.command_settings.specs.Refusals.{IsFitting, IsForHelp}
-use Rattle.command_settings.specs.Settings.{IsNamed}
+use Rattle.command_settings.specs.Settings.{AreConflicting, IsNamed}
 use Rattle.command_files.specs.Sizes.{IsOutside}
 use Rattle.command_settings.specs.declared.wanted.Check.{Check as Judging}
 use Rattle.command_settings.specs.declared.wanted.Explore.{Explore as Seeking}
@@ -104,10 +104,6 @@ IsDone held left old new (Show show) = ShowCame show.explore.architecture Allowe
 IsDone held left old new (Chart chart) = IsCharted held chart.replay chart.line old new
 IsDone held left old new (Check check) = IsClean check.messages held check old new
 
--- the words ask for help, or what they name was done
-unfoldable pub IsCarriedOut : List Text → Held → Held → Option (List ℕ) → Option (List ℕ) → Type 0
-IsCarriedOut words held left old new = IsForHelp words ⊎ HasNamed words (IsDone held left old new)
-
 -- the trace's order, or its messages, are not legal, and the fault that shows it was printed; or the program was explored and an outcome is not allowed
 abbrev pub IsFaulty : Held → Held → Option (List ℕ) → Option (List ℕ) → Settings → Type 0
 IsFaulty held left old new (Replay replay) = ⊥
@@ -122,9 +118,6 @@ IsFaulty held left old new (Check check) = IsUnclean check.messages held check o
 abbrev pub Came : Held → Held → Option (List ℕ) → Option (List ℕ) → Settings → Judgement → Type 0
 Came held left old new wanted Allowed = IsDone held left old new wanted
 Came held left old new wanted NotAllowed = IsFaulty held left old new wanted
-
-unfoldable pub IsNotLegal : List Text → Held → Held → Option (List ℕ) → Option (List ℕ) → Type 0
-IsNotLegal words held left old new = HasNamed words (IsFaulty held left old new)
 
 -- no more than a beginning of what was to be printed went out: of a stream, all that stands before the event at which it ends
 abbrev pub IsHalfPrinted : Held → Held → Option (List ℕ) → Option (List ℕ) → Settings → Type 0
@@ -147,6 +140,22 @@ IsOutOfRange (Explore explore) = IsOutside explore.machine
 IsOutOfRange (Show show) = IsOutside show.explore.machine ⊎ ShowsElsewhere show.explore.architecture show.explore
 IsOutOfRange (Chart chart) = IsSomeAnd chart.line (λ word. address word.now ≡ None)
 IsOutOfRange _ = ⊥
+
+-- that, or settings that don't go together
+abbrev pub AreMisused : Settings → Type 0
+AreMisused wanted = AreConflicting wanted ⊎ IsOutOfRange wanted
+
+-- the words fit the usage, the settings that they name go together and are in range, and P holds of them
+abbrev pub HasInRange : List Text → (Settings → Type 0) → Type 0
+HasInRange words P = HasNamed words (λ wanted. (¬ AreMisused wanted) × P wanted)
+
+-- the words ask for help, or what they name was done
+unfoldable pub IsCarriedOut : List Text → Held → Held → Option (List ℕ) → Option (List ℕ) → Type 0
+IsCarriedOut words held left old new = IsForHelp words ⊎ HasInRange words (IsDone held left old new)
+
+-- what they name was judged, and it isn't legal, or not allowed
+unfoldable pub IsNotLegal : List Text → Held → Held → Option (List ℕ) → Option (List ℕ) → Type 0
+IsNotLegal words held left old new = HasInRange words (IsFaulty held left old new)
 
 -- an exploration may meet a state at least
 abbrev pub MeetsSomeState : Settings → Type 0

@@ -9,15 +9,15 @@ use Rattle.command_files.specs.Faults.{IsReplayFault, LeavesAtFault}
 use Rattle.command_files.specs.Held.{Held}
 use Rattle.command_files.specs.Status.{status_of}
 use Rattle.command_files.specs.declared.fault.Fault.{Fault}
-use Rattle.command_line.specs.Running.{ExploreHas, HasNamed, ShowHas, IsHalfPrinted, IsOutOfRange, strictness_of}
+use Rattle.command_line.specs.Running.{AreMisused, ExploreHas, HasNamed, ShowHas, IsHalfPrinted, strictness_of}
 use Rattle.command_settings.specs.Refusals.{IsForHelp}
 use Rattle.command_settings.specs.declared.wanted.Check.{Check as Judging}
 use Rattle.command_settings.specs.declared.wanted.Settings.{Settings}
 use Rattle.command_settings.specs.declared.wanted.Settings.TheVariants.{Chart, Check, Explain, Explore, Replay, Run, Show}
 use Rattle.command_settings.specs.declared.wanted.Show.{Show as Showing}
 use Rattle.explain_command.specs.Explaining.{IsExplainFault, LeavesOfStream}
-use Rattle.explore_command.specs.Exploring.{IsExploreFault, LeavesPart}
-use Rattle.run_command.specs.Running.{IsRunFault}
+use Rattle.explore_command.specs.Exploring.{ComesBeforeScripts, IsExploreFault, LeavesPart}
+use Rattle.run_command.specs.Running.{ComesBeforeJournal, IsRunFault}
 use Rattle.show_command.specs.Showing.{IsShowFault}
 
 -- the messages of a trace can't be judged, or its order
@@ -50,13 +50,21 @@ LeavesOf held left old new (Run run) fault = LeavesAtFault fault old new (IsHalf
 LeavesOf held left old new (Chart chart) fault = LeavesAtFault fault old new (IsHalfPrinted held left old new (Chart chart))
 LeavesOf held left old new (Check check) fault = LeavesAtFault fault old new (IsHalfPrinted held left old new (Check check))
 
--- such a fault, of this status, that left this; a machine out of limits and a word out of place have another status
+-- it is told before the command writes a file: before the journal, or before scripts; the others write none
+abbrev pub ComesBeforeFiles : Settings → Fault → Type 0
+ComesBeforeFiles (Run run) fault = ComesBeforeJournal fault
+ComesBeforeFiles (Explore explore) fault = ComesBeforeScripts fault
+ComesBeforeFiles (Show show) fault = ComesBeforeScripts fault
+ComesBeforeFiles _ fault = Unit {0}
+
+-- such a fault, of this status, that left this on standard output, and files as they were where it comes before them; settings that don't go together, a machine out of limits and a word out of place have another status
 pub record HasFault (held left : Held) (old new : Option (List ℕ)) (status : ℕ) (wanted : Settings) : Type 0 where
   pub fault : Fault
   pub told : IsFaultOfCommand held old new wanted fault
   pub leaves : LeavesOf held left old new wanted fault
+  pub untouched : ComesBeforeFiles wanted fault → left ≡ held
   pub of_status : status_of fault ≡ status
-  pub inside : ¬ IsOutOfRange wanted
+  pub inside : ¬ AreMisused wanted
 
 -- what the words name has a fault of status 1, or there was help to print
 unfoldable pub HasToldFault : List Text → Held → Held → Option (List ℕ) → Option (List ℕ) → Type 0

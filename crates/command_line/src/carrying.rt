@@ -5,10 +5,11 @@ ghost use Rattle.clap.specs.Words.{Text};
 ghost use Rattle.command_files.specs.Faults.{LeavesAtFault, Name};
 ghost use Rattle.command_files.specs.Sizes.{IsOutside};
 ghost use Rattle.command_files.specs.Status.{status_of};
-ghost use Rattle.command_line.specs.Telling.{IsFaultOfCommand, IsJudgingFault, IsShowingFault, LeavesOf};
+ghost use Rattle.command_line.specs.Telling.{ComesBeforeFiles, IsFaultOfCommand, IsJudgingFault, IsShowingFault, LeavesOf};
 ghost use Rattle.command_line.specs.Running.{Came, CheckCame, ExploreCame, ExploreHas, MeetsSomeState, IsOutOfRange, IsCheckBroken, IsExploreFile, IsWritten, ShowCame, ShowHas, ShowsElsewhere, strictness_of};
-ghost use Rattle.explore_command.specs.Exploring.{IsExploreFault, LeavesPart};
+ghost use Rattle.explore_command.specs.Exploring.{ComesBeforeScripts, IsExploreFault, LeavesPart};
 ghost use Rattle.explore_command.specs.Keeping.{SparesOthers};
+ghost use Rattle.show_command.specs.Showing.{IsFirstOf};
 
 use architecture_command::architecture_files;
 use chart_command::chart_files;
@@ -50,11 +51,13 @@ pub(crate) fn carry_out<
 ) -> Result<Judgement, Fault<'a>>
     requires room { MeetsSomeState wanted }
     ensures came { IfOk result (Came (F.held files.old) (F.held files.new) (O.contents out.old) (O.contents out.new) wanted.entry) }
+    ensures inside { IfOk result (λ _. ¬ IsOutOfRange wanted.entry) }
     ensures leaves { IfErr result (LeavesOf (F.held files.old) (F.held files.new) (O.contents out.old) (O.contents out.new) wanted.entry) }
     ensures outside { IfErr result (λ fault. IsOutOfRange wanted.entry → status_of fault ≡ 2) }
     ensures beyond { IfErr result (λ fault. status_of fault ≡ 2 → IsOutOfRange wanted.entry × (O.contents out.new ≡ O.contents out.old)) }
     ensures told { IfErr result (IsFaultOfCommand (F.held files.old) (O.contents out.old) (O.contents out.new) wanted.entry) }
     ensures spared { (name : Text) → F.held files.new name ≢ F.held files.old name → IsWritten name wanted.entry }
+    ensures untouched { IfErr result (λ fault. ComesBeforeFiles wanted.entry fault → F.held files.new ≡ F.held files.old) }
 {
     match wanted {
         Settings::Replay(replay) => {
@@ -97,12 +100,15 @@ fn explored<'a, F: Files, O: Write, E: Write, P: Progress>(
     ensures unfinished { IfErr result (λ fault. LeavesPart fault (O.contents out.old) (O.contents out.new)
         (ExploreHas wanted.entry.architecture (nat_lt 0 wanted.entry.sample) (F.held files.old) wanted.entry)) }
     ensures spared { SparesOthers (IsExploreFile wanted.entry.architecture wanted.entry) (F.held files.old) (F.held files.new) }
+    ensures untouched { IfErr result (λ fault. ComesBeforeScripts fault → F.held files.new ≡ F.held files.old) }
 {
     if wanted.architecture {
-        return architecture_files(alloc, files, wanted, &[], wanted.window, out, err);
+        let window = wanted.window;
+        return architecture_files(alloc, files, wanted, &[], window, out, err, progress);
     }
     if 0 < wanted.sample {
-        return sample_files(alloc, files, wanted, wanted.sample, wanted.seed, out, err);
+        let (runs, seed) = (wanted.sample, wanted.seed);
+        return sample_files(alloc, files, wanted, runs, seed, out, err, progress);
     }
     explore_files(alloc, files, wanted, out, err, progress)
 }
@@ -119,12 +125,13 @@ fn shown<'a, F: Files, O: Write, E: Write, P: Progress>(
     requires room { 0 < wanted.now.explore.states }
     ensures came { IfOk result (λ judgement. ShowCame wanted.now.explore.architecture judgement
         (F.held files.old) (F.held files.new) wanted.now (O.contents out.old) (O.contents out.new)) }
-    ensures elsewhere { ShowsElsewhere wanted.now.explore.architecture wanted.now.explore → (word : Name) × (result ≡ Err (Fault.CannotShow word Unshown.Elsewhere)) }
+    ensures elsewhere { ShowsElsewhere wanted.now.explore.architecture wanted.now.explore → (word : Name) × IsFirstOf wanted.now.words.items word × (result ≡ Err (Fault.CannotShow word Unshown.Elsewhere)) }
     ensures outside { IsOutside wanted.now.explore.machine → (result ≡ Err Fault.Configuration) ⊎ ShowsElsewhere wanted.now.explore.architecture wanted.now.explore }
     ensures told { IfErr result (IsShowingFault wanted.now.explore.architecture (F.held files.old) wanted.now) }
     ensures unfinished { IfErr result (λ fault. LeavesPart fault (O.contents out.old) (O.contents out.new)
         (ShowHas wanted.now.explore.architecture (F.held files.old) wanted.now)) }
     ensures spared { SparesOthers (IsExploreFile wanted.now.explore.architecture wanted.now.explore) (F.held files.old) (F.held files.new) }
+    ensures untouched { IfErr result (λ fault. ComesBeforeScripts fault → F.held files.new ≡ F.held files.old) }
 {
     let explore = wanted.explore;
     if explore.architecture {
@@ -136,6 +143,7 @@ fn shown<'a, F: Files, O: Write, E: Write, P: Progress>(
             explore.window,
             out,
             err,
+            progress,
         );
     }
     show_files(alloc, files, wanted, out, err, progress)

@@ -3,7 +3,7 @@
 ghost use Rattle.std.specs.Prelude.{◌≡◌, ◌≢◌, ◌⊎◌, ◌≤◌, ◌<◌, map};
 ghost use Rattle.clap.specs.Words.{kind_of};
 ghost use Rattle.command_settings.specs.Refusals.{IsFitting, IsForHelp, IsHelp, IsUnfit};
-ghost use Rattle.command_line.specs.Running.{HasNamed, IsOutOfRange, IsCarriedOut, IsNotLegal, IsUnprinted, Spares};
+ghost use Rattle.command_line.specs.Running.{AreMisused, HasNamed, IsCarriedOut, IsNotLegal, IsUnprinted, Spares};
 ghost use Rattle.command_line.specs.Telling.{HasToldFault};
 
 use crate::carrying::carry_out;
@@ -22,7 +22,7 @@ const NOT_LEGAL: u8 = 3;
 
 /// Does what the words ask for, the first of which is the program's name, and answers the exit status:
 /// 0 done or legal, 1 for files, streams, threads and what files hold, 2 for words that don't fit the usage
-/// and for a machine that can't be, 3 for an order or messages that are not legal, or an outcome that is not allowed,
+/// or don't go together and for a machine that can't be, 3 for an order or messages that are not legal, or an outcome that is not allowed,
 /// 4 out of memory. A message that standard error does not take is lost. A command that takes long tells
 /// `progress` how far it is. It may wait for threads.
 pub fn run_line<
@@ -38,9 +38,10 @@ pub fn run_line<
     ensures not_legal { result ≡ 3 → IsNotLegal (map S.text words.now) (F.held files.old) (F.held files.new) (O.contents out.old) (O.contents out.new) }
     ensures unprinted { 0 < result → result ≢ 3 → IsUnprinted (map S.text words.now) (F.held files.old) (F.held files.new) (O.contents out.old) (O.contents out.new) }
     ensures faulted { result ≡ 1 → HasToldFault (map S.text words.now) (F.held files.old) (F.held files.new) (O.contents out.old) (O.contents out.new) }
-    ensures misused { result ≡ 2 → (IsUnfit (map S.text words.now) ⊎ HasNamed (map S.text words.now) IsOutOfRange) × (O.contents out.new ≡ O.contents out.old) }
+    ensures misused { result ≡ 2 → (IsUnfit (map S.text words.now) ⊎ HasNamed (map S.text words.now) AreMisused) × (O.contents out.new ≡ O.contents out.old) }
     ensures unfit { ¬ IsFitting (map S.text words.now) → ¬ IsForHelp (map S.text words.now) → (result ≡ 2) ⊎ (result ≡ 4) }
     ensures spared { Spares (map S.text words.now) (F.held files.old) (F.held files.new) }
+    ensures untouched { result ≡ 2 → F.held files.new ≡ F.held files.old }
 {
     let fault = match settings(alloc, words) {
         Ok(wanted) => match carry_out(rt, alloc, wanted, files, out, err, progress) {

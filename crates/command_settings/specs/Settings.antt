@@ -1,5 +1,5 @@
 -- What the program's words ask for, as the kit reads the words for the program's usage.
-use Rattle.std.specs.Prelude.{ℕ, ◌≡◌, ◌≢◌, ◌≤◌, ◌∷◌, [], Bool, true, false, List, None, Option, Some, codes, if◌then◌else◌, map, option_map, unwrap_or}
+use Rattle.std.specs.Prelude.{ℕ, ◌≡◌, ◌≢◌, ◌<◌, ◌≤◌, ◌∷◌, [], Bool, true, false, List, None, Option, Some, codes, if◌then◌else◌, map, option_map, unwrap_or}
 use Rattle.std.specs.Borrow.{Bor}
 use Rattle.std.specs.Str.{bytes_eq}
 use Rattle.std.specs.Str.Parse.{IsNumeral, digits_value, without_leading_plus}
@@ -140,6 +140,15 @@ IsAsked name rows (settings.Run run) = IsMeant name rows (settings.Run run)
 IsAsked name rows (settings.Explore explore) = IsMeant name rows (settings.Explore explore) × (shown_in rows ≡ [])
 IsAsked name rows (settings.Show show) = (name ≡ codes "explore") × IsShowMeant rows show
 IsAsked name rows (settings.Check check) = IsMeant name rows (settings.Check check)
+
+-- random runs of the machine are asked for, and what the memory model allows: one of them has to be left out
+abbrev pub HasConflict : Explore → Type 0
+HasConflict explore = (explore.architecture ≡ true) × (0 < explore.sample)
+
+abbrev pub AreConflicting : Settings → Type 0
+AreConflicting (settings.Explore explore) = HasConflict explore
+AreConflicting (settings.Show show) = HasConflict show.explore
+AreConflicting _ = ⊥
 
 -- the settings are what the words, the first of which is the program's name, say by the usage
 abbrev pub IsNamed : List Text → Settings → Type 0

@@ -116,13 +116,13 @@ With --show, the final word at an address or symbol stands behind the harts, and
 no store waits:
   1  hart 0: exit 0   hart 1: exit 0   counter = 0x00000002
 With --scripts, events that an outcome doesn't need are left out of its script. At most 1,000,000 events
-are played to find them, and 40,000,000 for all outcomes; with --architecture scripts stay as found.
+are played to find them, and 40,000,000 for all outcomes.
 The machine carries loads out as they retire, so that what a missing fence between two loads allows is
 not among the outcomes. With --architecture it is: behind each outcome stands whether this machine shows
 it, or the memory model alone allows it; its words are those behind all operations. The last line is
   searched: N outcomes, M states, no window over W (not proved complete)
 or incomplete: and the limit that was met. With --sample, random runs are made and counted instead, and
-the last line is sampled: RUNS runs, not complete. With both, --architecture alone counts.
+the last line is sampled: RUNS runs, not complete; --architecture or --show don't go with it.
 
 Example: rvtl explore --harts 2 examples/dekker.elf";
 

@@ -2,8 +2,8 @@
 
 ghost use Rattle.std.specs.Prelude.{ℕ, ◌≡◌, ◌≢◌, ◌<◌, ◌^◌, IfErr, IfOk, IfSome, IsNone, List, OnOk, Some, map};
 ghost use Rattle.clap.specs.Words.{Row, Text, app_of, found_of, rows_of, subcommand_rows_of};
-ghost use Rattle.command_settings.specs.Refusals.{IsFitting, IsRefused};
-ghost use Rattle.command_settings.specs.Settings.{HasAll, HasNumber, IsChartMeant, IsCheckMeant, IsComplete, IsExplainMeant, IsExploreMeant, IsMachineMeant, IsMeant, IsNamed, IsNumberIn, IsReplayMeant, IsRunMeant, IsAsked, name_of, shown_in};
+ghost use Rattle.command_settings.specs.Refusals.{IsFitting, IsRefused, TellsConflict};
+ghost use Rattle.command_settings.specs.Settings.{AreConflicting, HasAll, HasNumber, IsChartMeant, IsCheckMeant, IsComplete, IsExplainMeant, IsExploreMeant, IsMachineMeant, IsMeant, IsNamed, IsNumberIn, IsReplayMeant, IsRunMeant, IsAsked, name_of, shown_in};
 ghost use Rattle.command_settings.specs.Usage.{IsUsage, chart_arguments, check_arguments, explain_arguments, explore_arguments, machine_arguments, replay_arguments, run_arguments};
 
 use crate::commands::command;
@@ -16,10 +16,15 @@ use memory_model::MemoryModel;
 use std::alloc::{AllocError, Global};
 use std::convert::AsStr;
 
+/// What to do where random runs are to be made, and the memory model searched.
+const CONFLICT: &str =
+    "--sample makes random runs of the machine, --architecture searches the memory model: leave out one of them";
+
 /// What the words ask for, of which the first is the program's name.
 pub fn settings<'a, S: AsStr>(alloc: Global, words: &'a [S]) -> Result<Settings<'a>, SettingsError>
     ensures named { IfOk result (IsNamed (map S.text words.entry.now)) }
     ensures fitting { OnOk result (IsFitting (map S.text words.entry.now)) }
+    ensures agreeing { IfOk result (λ settings. AreConflicting settings → ⊥) }
     ensures refused { IfErr result (IsRefused (map S.text words.entry.now)) }
 {
     let mut command = command(alloc)?;
@@ -34,11 +39,15 @@ fn settings_by<'a, S: AsStr>(
 ) -> Result<Settings<'a>, SettingsError>
     ensures named { IsUsage (app_of command.old) → IfOk result (IsNamed (map S.text words.entry.now)) }
     ensures fitting { IsUsage (app_of command.old) → OnOk result (IsFitting (map S.text words.entry.now)) }
+    ensures agreeing { IfOk result (λ settings. AreConflicting settings → ⊥) }
     ensures refused { IsUsage (app_of command.old) → IfErr result (IsRefused (map S.text words.entry.now)) }
 {
     let matches = command.try_get_matches_from_mut(words)?;
     match settings_of(&matches) {
-        Some(settings) => Ok(with_shown(alloc, &matches, settings)?),
+        Some(settings) => {
+            let settings = with_shown(alloc, &matches, settings)?;
+            agreeing(command, settings)
+        }
         // The usage asks for a subcommand and its files, so that the parse has refused such words.
         None => {
             let missing = command.error(
@@ -48,6 +57,22 @@ fn settings_by<'a, S: AsStr>(
             Err(SettingsError::Usage(missing))
         }
     }
+}
+
+/// The settings, unless they don't go together.
+fn agreeing<'a>(
+    command: &mut Command<'a>,
+    settings: Settings<'a>,
+) -> Result<Settings<'a>, SettingsError>
+    ensures same { IfOk result (λ agreed. agreed ≡ settings.entry) }
+    ensures agreeing { IfOk result (λ agreed. AreConflicting agreed → ⊥) }
+    ensures told { IfErr result (TellsConflict settings.entry) }
+{
+    if settings.have_conflict() {
+        let conflict = command.error(ErrorKind::ArgumentConflict, CONFLICT)?;
+        return Err(SettingsError::Usage(conflict));
+    }
+    Ok(settings)
 }
 
 /// The settings with the words of memory that are to be shown, if any are.

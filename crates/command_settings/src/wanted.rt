@@ -1,5 +1,8 @@
 //! What the words of the command line ask for.
 
+ghost use Rattle.std.specs.Prelude.{◌↔◌, IsTrue};
+ghost use Rattle.command_settings.specs.Settings.{AreConflicting, HasConflict};
+
 use clap::error::ErrorKind;
 use memory_model::MemoryModel;
 use std::alloc::AllocError;
@@ -86,6 +89,14 @@ pub struct Explore<'a> {
     pub image: &'a str,
 }
 
+impl Explore<'_> {
+    fn has_conflict(&self) -> bool
+        ensures { IsTrue result ↔ HasConflict self.now }
+    {
+        self.architecture && 0 < self.sample
+    }
+}
+
 /// Explore until no store waits, and show words of memory at the ends.
 #[derive(Debug, Drop)]
 pub struct Show<'a> {
@@ -114,6 +125,23 @@ pub enum Settings<'a> {
     Explore(Explore<'a>),
     Show(Show<'a>),
     Check(Check<'a>),
+}
+
+impl Settings<'_> {
+    /// Whether random runs of the machine are asked for, and what the memory model allows.
+    pub(crate) fn have_conflict(&self) -> bool
+        ensures { IsTrue result ↔ AreConflicting self.now }
+    {
+        match self {
+            Settings::Explore(explore) => explore.has_conflict(),
+            Settings::Show(show) => show.explore.has_conflict(),
+            Settings::Replay(_)
+            | Settings::Run(_)
+            | Settings::Explain(_)
+            | Settings::Chart(_)
+            | Settings::Check(_) => false,
+        }
+    }
 }
 
 /// Why the words ask for nothing that the program can do.

@@ -2,4 +2,5 @@ pub mod Faults
 pub mod Loaded
 pub mod Overlap
 pub mod Placing
+pub mod Sizes
 pub mod Table

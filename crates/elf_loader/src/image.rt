@@ -5,8 +5,8 @@ ghost use Rattle.elf_loader.specs.Raw.{raw_answer};
 ghost use Rattle.elf_loader.specs.Size.{IsMemorySize, base};
 
 use crate::error::LoadError;
-use crate::size::BASE;
 use byteorder::{ByteOrder, LittleEndian};
+use machine_limits::BASE;
 use std::alloc::{AllocError, Global};
 use std::marker::Model;
 

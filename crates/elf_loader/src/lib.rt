@@ -13,4 +13,5 @@ pub use error::LoadError;
 pub use image::{Image, raw};
 pub use laws::{each_segment_is_loaded, overlap_is_a_common_address};
 pub use loader::load;
-pub use size::{BASE, size_of_kib};
+pub use machine_limits::BASE;
+pub use size::{is_memory_kib, size_of_kib};

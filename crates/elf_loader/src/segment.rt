@@ -6,8 +6,8 @@ ghost use Rattle.elf_loader.specs.Placed.{byte_after};
 ghost use Rattle.elf_loader.specs.Header.{HasHeader};
 
 use crate::header::{E_PHNUM, E_PHOFF, half, long};
-use crate::size::BASE;
 use arrayvec::ArrayVec;
+use machine_limits::BASE;
 
 /// The most entries that a program header table may have.
 pub const MAX_ENTRIES: usize = 16;

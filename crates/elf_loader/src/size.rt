@@ -1,16 +1,23 @@
-//! Main memory's place and size.
-ghost use Rattle.std.specs.Prelude.{◌≡◌, ◌*◌, MatchOption};
-ghost use Rattle.elf_loader.specs.Size.{IsMemoryKib, IsMemorySize};
+//! Main memory's size.
+ghost use Rattle.std.specs.Prelude.{◌≡◌, ◌↔◌, ◌*◌, IsTrue, MatchOption};
+ghost use Rattle.elf_loader.specs.Size.{IsMemoryKib, IsMemorySize, is_memory_kib};
 
-/// The first address of main memory.
-pub const BASE: u32 = 0x8000_0000;
+use machine_limits::{KIB_STEP, MAX_KIB, MIN_KIB};
 
-/// The bytes in `kib` KiB, where memory may have that size: for a multiple of 4 from 4 to 1024.
+/// Whether memory may have `kib` KiB.
+pub fn is_memory_kib(kib: u32) -> bool
+    ensures test { result ≡ is_memory_kib kib }
+    ensures meaning { IsTrue result ↔ IsMemoryKib kib }
+{
+    (MIN_KIB..=MAX_KIB).contains(&kib) && kib % KIB_STEP == 0
+}
+
+/// The bytes in `kib` KiB, where memory may have that size.
 pub fn size_of_kib(kib: u32) -> Option<u32>
     ensures exact { MatchOption result (¬ IsMemoryKib kib) (λ size. IsMemoryKib kib × (size ≡ 1024 * kib)) }
     ensures legal { MatchOption result (¬ IsMemoryKib kib) (λ size. IsMemorySize size) }
 {
-    if kib % 4 == 0 && kib >= 4 && kib <= 1024 {
+    if is_memory_kib(kib) {
         Some(kib * 1024)
     } else {
         None

@@ -2,13 +2,15 @@
 use Rattle.std.proofs.Common.{◌≡◌, ℕ, zero, suc, ◌<◌, ◌≤◌, List, [], ◌∷◌, ◌++◌, length, true, sym, ap, subst, ◌∙◌, append_assoc, arith}
 use Rattle.std.proofs.lemmas.Bool.{and_parts, false≢true, leb-true}
 use Rattle.std.specs.Prelude.{codes, decimal}
+use Rattle.machine_limits.specs.declared.TheConstants.{MAX_HARTS}
 use Rattle.coherent_machine.specs.Machine.{IsReached}
 use Rattle.coherent_machine.proofs.Reached.{law_of}
 use Rattle.elf_symbols.specs.Named.{Named}
 use Rattle.hart.specs.declared.status.Status.{Status}
 use Rattle.hart.specs.declared.status.Status.TheVariants.{Running, Stopped, Exited}
 use Rattle.machine_types.specs.declared.config.Config.{Config}
-use Rattle.machine_types.specs.Config.{is_power_to_64, is_within_limits}
+use Rattle.machine_types.specs.Config.{is_within_limits}
+use Rattle.machine_types.proofs.Limits.{limits_of}
 use Rattle.machine_model.specs.Ready.{IsSound, SoundAlways}
 use Rattle.machine_model.specs.Views.{State}
 use Rattle.text_fields.specs.Fields.{number}
@@ -53,20 +55,10 @@ exited_line names s h code = sym (status_as h (Exited code) 10)
 
 -- ---- numbers
 
-positive : (n : ℕ) → is_power_to_64 n ≡ true → 0 < n
-positive zero e = absurd (false≢true e)
-positive (suc n) e = omega arith
-
-some_sets : (c : Config) → is_within_limits c ≡ true → 0 < c.sets
-some_sets c e = positive c.sets (and_parts _ _ (and_parts _ _ (and_parts _ _ (and_parts _ _ e).0).0).0).1
-
-few_harts : (c : Config) → is_within_limits c ≡ true → c.harts ≤ 8
-few_harts c e = leb-true c.harts 8 (and_parts _ _ (and_parts _ _ (and_parts _ _ (and_parts _ _ (and_parts _ _ e).0).0).0).0).1
-
--- as many statuses as nodes, at most 8, and some sets
+-- as many statuses as nodes, no more than a machine has harts, and some sets
 pub record Sized (s : State) : Type 0 where
   pub statuses : length s.trace.statuses ≡ length s.views.nodes
-  pub few : length s.trace.statuses ≤ 8
+  pub few : length s.trace.statuses ≤ MAX_HARTS
   pub sets : 0 < s.views.config.sets
 
 pub sized : SoundAlways → (s : State) → IsReached s → Sized s
@@ -74,6 +66,6 @@ sized law s r =
     let sound : IsSound s = law_of (λ image config t. IsSound t) law s r in
     record {
       statuses = sound.statuses ∙ sym sound.nodes;
-      few = subst (λ (n : ℕ). n ≤ 8) (sym sound.statuses) (few_harts s.views.config r.within);
-      sets = some_sets s.views.config r.within;
+      few = subst (λ (n : ℕ). n ≤ MAX_HARTS) (sym sound.statuses) (limits_of s.views.config r.within).few_harts;
+      sets = (limits_of s.views.config r.within).some_sets;
     }

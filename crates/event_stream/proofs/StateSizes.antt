@@ -1,5 +1,6 @@
 -- How many harts a machine has, and of how many lines it has notes and data.
 use Rattle.std.proofs.Common.{◌≡◌, ◌≤◌, arith, length, sym, ◌∙◌}
+use Rattle.machine_limits.specs.declared.TheConstants.{MAX_HARTS}
 use Rattle.coherent_machine.specs.Machine.{IsReached}
 use Rattle.machine_model.specs.Ready.{IsSound, SoundAlways, line_count}
 use Rattle.machine_model.specs.Views.{State}
@@ -10,7 +11,7 @@ module _ (law : SoundAlways) (s : State) (reached : IsReached s) where
   sound : IsSound s
   sound = law_of (λ image config t. IsSound t) law s reached
 
-  pub few_nodes : length s.views.nodes ≤ 8
+  pub few_nodes : length s.views.nodes ≤ MAX_HARTS
   few_nodes =
       let z : Sized s = sized law s reached in
       omega (arith, z.statuses, z.few)

@@ -2,6 +2,7 @@
 ghost use Rattle.std.specs.Prelude.{◌≡◌, ◌+◌, ◌<◌, ◌≤◌, ◌++◌, length, slice_get};
 ghost use Rattle.std.specs.List.{flat_map, range_with_len};
 ghost use Rattle.event_stream.specs.Holding as holding;
+ghost use Rattle.machine_limits.specs.declared.TheConstants.{MAX_HARTS};
 ghost use Rattle.machine_model.specs.Views.{node_at};
 ghost use Rattle.text_fields.specs.Pages.{HasLineRoom, Spells, size};
 ghost use Rattle.tilelink_channels.specs.Queues.{queue_of};
@@ -374,7 +375,7 @@ fn put_hart<W: Write>(page: &mut Page, out: &mut W, machine: &Machine, hart: u8)
 
 /// What the harts of a machine hold. What has no room on the page is handed on.
 pub(crate) fn put_held<W: Write>(page: &mut Page, out: &mut W, machine: &Machine) -> Result<()>
-    requires { length machine.now.views.nodes ≤ 8 }
+    requires { length machine.now.views.nodes ≤ MAX_HARTS }
     ensures { Spells (W.contents out.old) (W.contents out.new) page.old page.new (holding.held_lines machine.now) result }
 {
     let count = machine.views().harts();

@@ -3,6 +3,7 @@ ghost use Rattle.std.specs.Prelude.{◌≡◌, ◌+◌, ◌<◌, ◌≤◌, ◌+
 ghost use Rattle.directory.specs.Directory.{line_at};
 ghost use Rattle.directory.specs.Lines.{known_at};
 ghost use Rattle.event_stream.specs.Noted as noted;
+ghost use Rattle.machine_limits.specs.declared.TheConstants.{MAX_HARTS};
 ghost use Rattle.text_fields.specs.Pages.{HasLineRoom, Spells, size};
 ghost use Rattle.trace_text.specs.Words as words;
 
@@ -15,7 +16,7 @@ use tl_types::{Grow, Perm};
 
 fn perm_name(perm: Perm) -> &'static [u8]
     ensures value { result.now ≡ noted.perm_name perm }
-    ensures len { length result.now ≤ 8 }
+    ensures len { length result.now ≤ MAX_HARTS }
 {
     match perm {
         Perm::Nothing => b" Nothing",

@@ -1,5 +1,11 @@
 //! The numbers that say how large a machine is.
 
+use elf_loader::is_memory_kib;
+use machine_limits::{KIB_STEP, MAX_HARTS, MAX_KIB, MAX_SETS, MAX_WAYS, MIN_KIB};
+use machine_types::is_set_count;
+use std::fmt::{self, Display, Formatter};
+use tl_types::LineSize;
+
 /// A number of a machine's size.
 #[derive(Clone, Copy, Debug)]
 pub(crate) enum Field {
@@ -13,11 +19,11 @@ pub(crate) enum Field {
 impl Field {
     pub(crate) fn takes(self, number: u32) -> bool {
         match self {
-            Field::Harts => (1..=8).contains(&number),
-            Field::Kib => (4..=1024).contains(&number) && number % 4 == 0,
-            Field::Sets => number <= 64 && number.is_power_of_two(),
-            Field::Ways => (1..=4).contains(&number),
-            Field::Line => number == 16 || number == 64,
+            Field::Harts => (1..=MAX_HARTS).contains(&number),
+            Field::Kib => is_memory_kib(number),
+            Field::Sets => is_set_count(number),
+            Field::Ways => (1..=MAX_WAYS).contains(&number),
+            Field::Line => LineSize::of_bytes(number).is_some(),
         }
     }
 
@@ -43,13 +49,24 @@ impl Field {
         }
     }
 
-    pub(crate) fn limits(self) -> &'static str {
-        match self {
-            Field::Harts => "1 to 8",
-            Field::Kib => "a multiple of 4 from 4 to 1024",
-            Field::Sets => "a power of two to 64",
-            Field::Ways => "1 to 4",
-            Field::Line => "16 or 64",
+    /// Which numbers it takes.
+    pub(crate) fn limits(self) -> Limits {
+        Limits(self)
+    }
+}
+
+/// Which numbers a field takes, in words.
+#[derive(Clone, Copy, Debug)]
+pub(crate) struct Limits(Field);
+
+impl Display for Limits {
+    fn fmt<W: fmt::Write>(&self, f: &mut Formatter<W>) -> fmt::Result {
+        match self.0 {
+            Field::Harts => write!(f, "1 to {MAX_HARTS}"),
+            Field::Kib => write!(f, "a multiple of {KIB_STEP} from {MIN_KIB} to {MAX_KIB}"),
+            Field::Sets => write!(f, "a power of two to {MAX_SETS}"),
+            Field::Ways => write!(f, "1 to {MAX_WAYS}"),
+            Field::Line => f.write_str("16 or 64"),
         }
     }
 }

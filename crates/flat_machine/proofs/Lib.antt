@@ -1,6 +1,5 @@
 mod FoundPlans
 mod Patches
-mod Limits
 mod Reservations
 mod Changes
 mod QuietSteps

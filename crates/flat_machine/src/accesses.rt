@@ -15,8 +15,8 @@ use hart::Retired;
 use machine_model::{Deed, MemoryModel};
 use machine_parts::{marks_of, orders_after_stores, read_from, store_of, word_of};
 use machine_types::Outcome;
-use rv32_decode::{AmoOp, Instr, Register};
-use rv32_exec::Width;
+use rv32_decode::{AmoOp, Instr};
+use rv32_exec::{Call, Width};
 use store_buffer::StoreBuffer;
 
 /// An instruction that a hart is about to retire.
@@ -221,9 +221,8 @@ pub(crate) fn plan_fence(node: &Node, fetched: &Fetched) -> Plan
 pub(crate) fn plan_call(node: &Node, fetched: &Fetched) -> Plan
     ensures { meant result ≡ spec.plan_call node.now (fetched_of fetched.now) (slice_index node.now.hart.regs 17) (slice_index node.now.hart.regs 10) }
 {
-    let number = node.hart.regs.get(Register::new(17));
-    let argument = node.hart.regs.get(Register::new(10));
-    let deed = if number == 0 {
+    let Call { number, argument } = Call::in_registers(&node.hart.regs);
+    let deed = if number == Call::EXIT {
         Deed::Private
     } else {
         Deed::Output(argument)

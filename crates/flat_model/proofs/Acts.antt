@@ -3,6 +3,7 @@ use Rattle.std.proofs.Common.{◌≡◌, ℕ, ◌+◌, ◌%◌, ◌<◌, List, [
 use Rattle.std.specs.Prelude.{nat_eq, nat_le, slice_index}
 use Rattle.std.proofs.lemmas.Bool.{eqb-true, lt-ltb}
 use Rattle.std.proofs.lemmas.List.{length-set}
+use Rattle.machine_limits.specs.declared.TheConstants.{TRACKERS}
 use Rattle.client_cache.specs.Cache.{evicted, probed}
 use Rattle.client_cache.specs.declared.answers.Evict.{Evict}
 use Rattle.client_cache.specs.declared.answers.Evict.TheVariants as evict
@@ -319,7 +320,7 @@ module _ (s : State) (f : Flat) (is : Base s) (v : Shows s f) (h : ℕ) (in_h : 
   releasing_goal (probe.Answered change bytes) m = deliver m
 
   full_goal : (m : Msg) → Goal (unless_acks_full n (Changes (act.Deliver m)))
-  full_goal m = either Goal (nat_le 4 (length n.queues.e)) (Stays outcome.AckFull) (Changes (act.Deliver m)) (λ e. tt) (λ e. deliver m)
+  full_goal m = either Goal (nat_le TRACKERS (length n.queues.e)) (Stays outcome.AckFull) (Changes (act.Deliver m)) (λ e. tt) (λ e. deliver m)
 
   body_goal : (line : ℕ) (body : Body) (m : Msg) → Goal (plan_body s h n line body (Changes (act.Deliver m)))
   body_goal line (AcquireBlock grow) m = busy_goal (acquired s.views.notes (place_of (line_size s) line) h grow).0 m

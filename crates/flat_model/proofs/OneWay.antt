@@ -11,6 +11,7 @@ use Rattle.std.specs.Ordering.{nat_cmp}
 use Rattle.std.specs.Cmp.{nat_cmp_total}
 use Rattle.std.proofs.lemmas.Bool.{leb-false, eq-eqb}
 use Rattle.std.proofs.lemmas.Bool.Decides.{eqb_tells}
+use Rattle.machine_limits.specs.declared.TheConstants.{TRACKERS}
 use Rattle.client_cache.proofs.AtLines.{insert_other, put_other, remove_other}
 use Rattle.client_cache.proofs.Counts.{keys-get}
 use Rattle.client_cache.specs.Cache.{Cache, copy_at, evicted, evicted_copy, granted, opening as cache_opening, probed, probed_copy, put, lines_in_set as taken_ways, wanted, word_written, word_written_in}
@@ -110,8 +111,8 @@ evicted_within c line = go (copy_at c line) refl
     go None e = within_not c
     go (Some h) e =
         let gone : Evict × Cache = (eviction_of h, record c { copies = map.remove c.copies line; releasing = set.insert c.releasing line }) in
-        either (Within c) (set.contains c.acquiring line) (evict.AcquirePending, c) (choice (nat_le 4 (set.len c.releasing)) (evict.ReleaseFull, c) gone) (within_not c)
-        (either (Within c) (nat_le 4 (set.len c.releasing)) (evict.ReleaseFull, c) gone (within_not c) (put_within c line None c.acquiring (set.insert c.releasing line) (holds_uses c line h e) (λ q ne. refl)))
+        either (Within c) (set.contains c.acquiring line) (evict.AcquirePending, c) (choice (nat_le TRACKERS (set.len c.releasing)) (evict.ReleaseFull, c) gone) (within_not c)
+        (either (Within c) (nat_le TRACKERS (set.len c.releasing)) (evict.ReleaseFull, c) gone (within_not c) (put_within c line None c.acquiring (set.insert c.releasing line) (holds_uses c line h e) (λ q ne. refl)))
 
 probed_within : (c : Cache) (line : ℕ) (cap : Cap) → Within c (probed c line cap).1
 probed_within c line cap = either (Within c) (set.contains c.releasing line) (probe.Releasing, c) (probed_copy c line cap (copy_at c line)) (within_not c) (go (copy_at c line) refl)
@@ -146,7 +147,7 @@ wanted_alone : (c : Cache) (line : ℕ) (grow : Grow) → IsAlone c → IsAlone 
 wanted_alone c line grow i =
     either IsAlone (set.contains c.releasing line) (want.WaitRelease, c) _ i
     (either IsAlone (set.contains c.acquiring line) (want.WaitGrant, c) _ i
-    (either IsAlone (nat_le 4 (set.len c.acquiring)) (want.NoTracker, c) _ i (by_room (is_some (copy_at c line)) refl (nat_le c.shape.ways (set.len (taken_ways c line))) refl)))
+    (either IsAlone (nat_le TRACKERS (set.len c.acquiring)) (want.NoTracker, c) _ i (by_room (is_some (copy_at c line)) refl (nat_le c.shape.ways (set.len (taken_ways c line))) refl)))
   where
     asked : Cache
     asked = record c { acquiring = set.insert c.acquiring line }

@@ -1,8 +1,8 @@
 -- A round that began anywhere has come to each place once it has taken as many steps as there are places; and what a place asks for is due.
 use Rattle.std.proofs.Common.{◌≡◌, ℕ, ◌+◌, ◌-◌, ◌%◌, ◌<◌, Option, None, Some, [], length, refl, slice_index_or, subst, sym, arith}
 use Rattle.std.proofs.Math.Nat.{mod-lt}
-use Rattle.host_threads.specs.Asked.{Asks, AsksVictim, IsFirst, IsPickOf, behind, place_at, remembered, round, told}
-use Rattle.host_threads.specs.Due.{IsDue, IsIdle}
+use Rattle.host_threads.specs.Asked.{Asks, AsksVictim, IsFirst, IsIdle, IsPickOf, behind, place_at, remembered, round, told}
+use Rattle.host_threads.specs.Due.{IsDue}
 use Rattle.host_threads.specs.Route.{Route}
 use Rattle.host_threads.specs.declared.rounds.Place.{Place}
 use Rattle.host_threads.specs.declared.rounds.Place.TheVariants as stop
@@ -22,11 +22,12 @@ at_place : (r : Route) (n : Node) → r.place < 8 → ((k : ℕ) → k < 8 → A
 at_place r n inside nothing k below =
     subst (λ (q : ℕ). Asks r n (slice_index_or round q stop.Step) None) (turned r.place k inside below) (nothing ((k + 8 - r.place) % 8) (mod-lt (k + 8 - r.place) (omega arith)))
 
-pub idle : (r : Route) (n : Node) → r.place < 8 → ((k : ℕ) → k < 8 → Asks r n (place_at (r.place + k)) None) → IsIdle n
+pub idle : (r : Route) (n : Node) → r.place < 8 → ((k : ℕ) → k < 8 → Asks r n (place_at (r.place + k)) None) → IsIdle r n
 idle r n inside nothing = record {
   ended = at_place r n inside nothing 1 (omega arith);
   stores = at_place r n inside nothing 2 (omega arith);
   messages = waiting;
+  victims = at_place r n inside nothing 3 (omega arith);
 }
   where
     waiting : (channel : Channel) → queue_of n.queues channel ≡ []

@@ -1,54 +1,80 @@
 -- The lines that lie in one set of a cache.
-use Rattle.std.proofs.Common.{◌≡◌, ◌∙◌, ◌⊎◌, inl, inr, refl, sym, ap, subst, ℕ, suc, ◌+◌, ◌*◌, ◌/◌, ◌%◌, ◌<◌, ◌≤◌, Bool, true, false, ◌||◌, arith}
-use Rattle.std.proofs.lemmas.Bool.{and_parts, eqb-true}
+use Rattle.std.proofs.Common.{◌≡◌, ◌∙◌, ◌⊎◌, inl, inr, refl, sym, ap, subst, ℕ, zero, suc, ◌+◌, ◌*◌, ◌/◌, ◌%◌, ◌<◌, ◌≤◌, Bool, true, false, not, ◌&&◌, ◌||◌, arith}
+use Rattle.std.proofs.lemmas.Bool.{and_parts, eqb-true, false≢true}
 use Rattle.std.proofs.lemmas.Nat.{div-add-mod', mod-mul-add, mul-add-lt, mul-le}
 use Rattle.std.proofs.Math.Dec.{eqb}
 use Rattle.std.proofs.Math.Nat.{eq-or-lt_of_le, lt_of_not-le, mod-lt, mul-div_cancel, mul-mod_left}
+use Rattle.machine_limits.specs.declared.TheConstants.{MAX_SETS}
+use lib.Count.{ones}
 use Rattle.client_cache.specs.Cache.{Cache}
 use Rattle.elf_loader.specs.Size.{base}
 use Rattle.host_threads.specs.Due.{HasNoVictim, IsLine, IsLowestSpare, IsSpare, set_at}
 use Rattle.machine_types.specs.declared.config.Config.{Config}
-use Rattle.machine_types.specs.Config.{is_power_to_64, is_within_limits}
+use Rattle.machine_types.specs.Config.{is_set_count, is_within_limits}
+use Rattle.machine_types.proofs.Limits.{limits_of}
+use Rattle.tl_types.specs.Line.{length_of}
+use Rattle.tl_types.specs.declared.line.LineSize.{LineSize}
+use Rattle.tl_types.specs.declared.line.LineSize.TheVariants.{Bytes16, Bytes64}
+use Rattle.tl_types.proofs.Sizes.{of_each_size}
 
 -- ---- the numbers of a configuration within the limits
 
-either : (P : ℕ → Type 0) (n k : ℕ) (before : Bool) → (before ≡ true → P n) → P k → (before || eqb n k) ≡ true → P n
-either P n k true below at e = below refl
-either P n k false below at e = subst P (sym (eqb-true n k e)) at
+-- memory begins with a whole number of times so many lines of this size
+abbrev is_whole : LineSize → ℕ → Bool
+is_whole size n = eqb (base / length_of size / n * n * length_of size) base
 
-by_sets : (P : ℕ → Type 0) (n : ℕ) → P 1 → P 2 → P 4 → P 8 → P 16 → P 32 → P 64 → is_power_to_64 n ≡ true → P n
-by_sets P n p1 p2 p4 p8 p16 p32 p64 =
-    either P n 64 _ (either P n 32 _ (either P n 16 _ (either P n 8 _ (either P n 4 _ (either P n 2 _ (λ e. subst P (sym (eqb-true n 1 e)) p1) p2) p4) p8) p16) p32) p64
+-- so it is with each number of sets below
+abbrev are_whole : LineSize → ℕ → Bool
+are_whole size zero = true
+are_whole size (suc n) = (not (is_set_count n) || is_whole size n) && are_whole size n
 
-by_line : (P : ℕ → Type 0) (n : ℕ) → P 16 → P 64 → (eqb n 16 || eqb n 64) ≡ true → P n
-by_line P n p16 p64 = either P n 64 _ (λ e. subst P (sym (eqb-true n 16 e)) p16) p64
+all_whole : (size : LineSize) → are_whole size (suc MAX_SETS) ≡ true
+unfolding ones
+all_whole Bytes16 = refl
+all_whole Bytes64 = refl
 
-of_line : (config : Config) → is_within_limits config ≡ true → (eqb config.line 16 || eqb config.line 64) ≡ true
-of_line config within = (and_parts _ _ within).1
+passes : (a b : Bool) → (not a || b) ≡ true → a ≡ true → b ≡ true
+passes true b e c = e
+passes false b e c = absurd (false≢true c)
 
-of_sets : (config : Config) → is_within_limits config ≡ true → is_power_to_64 config.sets ≡ true
-of_sets config within = (and_parts _ _ (and_parts _ _ (and_parts _ _ (and_parts _ _ within).0).0).0).1
+whole_below : (size : LineSize) (n m : ℕ) → are_whole size n ≡ true → m < n → is_set_count m ≡ true → is_whole size m ≡ true
+whole_below size zero m e below count = absurd (omega arith)
+whole_below size (suc n) m e below count =
+    let both = and_parts (not (is_set_count n) || is_whole size n) (are_whole size n) e in
+    elim (eq-or-lt_of_le (let le : m ≤ n = omega arith in le)) [
+      | inl same ↦ subst (λ k. is_whole size k ≡ true) (sym same) (passes (is_set_count n) (is_whole size n) both.0 (subst (λ k. is_set_count k ≡ true) same count))
+      | inr less ↦ whole_below size n m both.1 less count
+    ]
 
 -- memory begins with a line of set 0
 pub record Sized (config : Config) : Type 0 where
   pub some_bytes : 0 < config.line
   pub few_bytes : config.line ≤ 64
   pub some_sets : 0 < config.sets
-  pub few_sets : config.sets ≤ 64
+  pub few_sets : config.sets ≤ MAX_SETS
   pub whole : base / config.line / config.sets * config.sets * config.line ≡ base
 
+some_length : (size : LineSize) → 0 < length_of size
+some_length Bytes16 = omega arith
+some_length Bytes64 = omega arith
+
+short_length : (size : LineSize) → length_of size ≤ 64
+short_length Bytes16 = omega arith
+short_length Bytes64 = omega arith
+
 pub sized : (config : Config) → is_within_limits config ≡ true → Sized config
-sized config within = record {
-  some_bytes = by_line (λ n. 0 < n) config.line (omega arith) (omega arith) (of_line config within);
-  few_bytes = by_line (λ n. n ≤ 64) config.line (omega arith) (omega arith) (of_line config within);
-  some_sets = by_sets (λ n. 0 < n) config.sets (omega arith) (omega arith) (omega arith) (omega arith) (omega arith) (omega arith) (omega arith) (of_sets config within);
-  few_sets = by_sets (λ n. n ≤ 64) config.sets (omega arith) (omega arith) (omega arith) (omega arith) (omega arith) (omega arith) (omega arith) (of_sets config within);
-  whole =
-      by_line (λ n. base / n / config.sets * config.sets * n ≡ base) config.line
-      (by_sets (λ m. base / 16 / m * m * 16 ≡ base) config.sets refl refl refl refl refl refl refl (of_sets config within))
-      (by_sets (λ m. base / 64 / m * m * 64 ≡ base) config.sets refl refl refl refl refl refl refl (of_sets config within))
-      (of_line config within);
-}
+sized config within =
+    let limits = limits_of config within in
+    record {
+      some_bytes = of_each_size (λ n. 0 < n) some_length config.line limits.line;
+      few_bytes = of_each_size (λ n. n ≤ 64) short_length config.line limits.line;
+      some_sets = limits.some_sets;
+      few_sets = limits.few_sets;
+      whole =
+          of_each_size (λ n. base / n / config.sets * config.sets * n ≡ base)
+          (λ size. eqb-true _ base (whole_below size (suc MAX_SETS) config.sets (all_whole size) (let few = limits.few_sets in omega arith) limits.sets))
+          config.line limits.line;
+    }
 
 -- ---- the lines of a set
 

@@ -22,6 +22,7 @@ use Rattle.rv32_exec.specs.declared.actions.Action.{Action}
 use Rattle.rv32_exec.specs.declared.actions.Action.TheVariants as action
 use Rattle.store_buffer.specs.Groups.{Groups, drainable, oldest}
 use Rattle.tilelink_channels.specs.Queues.{queue_of}
+use Rattle.tl_types.specs.declared.message.Channel.{Channel}
 use Rattle.tl_types.specs.declared.message.Channel.TheVariants.{A, B, C, D, E}
 
 -- ---- the round
@@ -119,3 +120,10 @@ passing r s last = record (told r s last) { picked = None }
 
 abbrev pub first_round : (hart : ℕ) → Initial → Config → Route
 first_round hart image config = record { hart = hart; image = image; config = config; place = 0; picked = None; full = None }
+
+-- nothing there is to pick: the hart has ended, no store and no message waits, and of a set that was found full no line may be evicted
+pub record IsIdle (r : Route) (n : Node) : Type 0 where
+  pub ended : is_running n.hart.status ≡ false
+  pub stores : oldest n.buffer ≡ []
+  pub messages : (channel : Channel) → queue_of n.queues channel ≡ []
+  pub victims : AsksVictim r n.cache r.full None

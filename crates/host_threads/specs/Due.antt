@@ -11,7 +11,6 @@ use Rattle.machine_model.specs.Events.{hart_of}
 use Rattle.machine_model.specs.Views.{Node, State, node_at}
 use Rattle.store_buffer.specs.Groups.{drainable, oldest}
 use Rattle.tilelink_channels.specs.Queues.{queue_of}
-use Rattle.tl_types.specs.declared.message.Channel.{Channel}
 
 -- the set of a cache in which an address lies
 abbrev pub set_at : Config → ℕ → ℕ
@@ -54,9 +53,3 @@ pub record IsDue (config : Config) (s : State) (hart : ℕ) (e : Event) : Type 0
   pub own : hart_of e ≡ hart
   pub inside : hart < length s.views.nodes
   pub there : IsThere config (node_at s hart) e
-
--- but for evictions there is no event for the hart
-pub record IsIdle (n : Node) : Type 0 where
-  pub ended : is_running n.hart.status ≡ false
-  pub stores : oldest n.buffer ≡ []
-  pub messages : (channel : Channel) → queue_of n.queues channel ≡ []

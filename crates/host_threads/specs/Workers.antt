@@ -1,5 +1,10 @@
 -- What contracts see of a worker, and what its thread hands back.
+use Rattle.std.specs.Prelude.{◌≡◌, List, [], ◌∷◌, Option, Some, None}
+use Rattle.std.specs.Option.{option_or}
+use Rattle.host_threads.specs.Errors.{of_fault}
 use Rattle.host_threads.specs.Pace.{IsPaced}
+use Rattle.host_threads.specs.declared.report.Fault.{Fault}
+use Rattle.host_threads.specs.declared.report.RunError.{RunError}
 use Rattle.host_threads.specs.declared.worker.Common.{Common}
 use Rattle.host_threads.specs.declared.worker.Done.{Done}
 use Rattle.host_threads.specs.declared.worker.Worker.{Worker}
@@ -14,3 +19,12 @@ common_of worker = worker.common.now
 pub record HandsBack {L : Type 0} (common : Common) (done : Done L) : Type 0 where
   pub seat : IsSeatOf common.board done.seat
   pub paced : IsPaced common.limit (view done.seat) done.share
+
+-- the fault of the first of these threads that ended at one
+abbrev pub first_fault : {L : Type 0} → List (Done L) → Option Fault
+first_fault [] = None
+first_fault (one ∷ done) = option_or one.fault (first_fault done)
+
+-- the error is that fault
+abbrev pub IsFirstFault : {L : Type 0} → List (Done L) → RunError → Type 0
+IsFirstFault done error = (fault : Fault) × (first_fault done ≡ Some fault) × (error ≡ of_fault fault)

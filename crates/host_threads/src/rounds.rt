@@ -2,8 +2,8 @@
 
 ghost use Rattle.std.specs.Prelude.{◌≡◌, ◌<◌, ◌≤◌, IfNone, IfSome, IsTrue, length};
 ghost use Rattle.host_threads.specs.Asked as spec;
-ghost use Rattle.host_threads.specs.Asked.{Asks, AsksVictim, IsFirst, IsPickOf, behind, first_round, passing, told_at, wanted_by_event, wanted_by_hart};
-ghost use Rattle.host_threads.specs.Due.{IsDue, IsIdle};
+ghost use Rattle.host_threads.specs.Asked.{Asks, AsksVictim, IsFirst, IsIdle, IsPickOf, behind, first_round, passing, told, told_at, wanted_by_event, wanted_by_hart};
+ghost use Rattle.host_threads.specs.Due.{IsDue};
 ghost use Rattle.host_threads.specs.Route.{Route};
 ghost use Rattle.machine_types.specs.Config.{is_within_limits};
 ghost use Rattle.machine_model.specs.Views.{node_at};
@@ -159,7 +159,7 @@ impl<'a> Rounds<'a> {
     fn next_event(&self, views: &Views<'_>) -> Option<(usize, Event)>
         requires { self.now.hart < length views.now.views.nodes }
         ensures first { IfSome result (λ found. IsFirst self.now (node_at views.now self.now.hart) found.0 found.1) }
-        ensures idle { IfNone result (IsIdle (node_at views.now self.now.hart)) }
+        ensures idle { IfNone result (IsIdle self.now (node_at views.now self.now.hart)) }
     {
         let next = self.next;
         for steps in 0..ROUND.len() {
@@ -173,12 +173,12 @@ impl<'a> Rounds<'a> {
 }
 
 impl<'a> Turn for Rounds<'a> {
-    /// The next event of the round that there is, or `None` where the hart has ended, and neither stores
-    /// nor messages wait.
+    /// The next event of the round that there is, or `None` where the hart has ended, neither stores nor
+    /// messages wait, and no line is to be evicted.
     fn pick(&mut self, views: &Views<'_>, last: Option<Outcome>) -> Option<Event>
         ensures picks { IfSome result (λ event. IsPickOf self.old views.now last event self.new) }
         ensures due { IfSome result (IsDue self.old.config views.now self.old.hart) }
-        ensures idle { IfNone result (self.old.hart < length views.now.views.nodes → IsIdle (node_at views.now self.old.hart)) }
+        ensures idle { IfNone result (self.old.hart < length views.now.views.nodes → IsIdle (told self.old views.now last) (node_at views.now self.old.hart)) }
         ensures passes { IfNone result (self.old.hart < length views.now.views.nodes → self.new ≡ passing self.old views.now last) }
         ensures outside { length views.now.views.nodes ≤ self.old.hart → self.new ≡ self.old }
     {

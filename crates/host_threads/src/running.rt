@@ -1,9 +1,10 @@
 //! A whole run.
 
-ghost use Rattle.std.specs.Prelude.{◌≡◌, ◌≢◌, ◌↔◌, ◌⊎◌, Err, IfOk, IsTrue, false, map, vec_len};
+ghost use Rattle.std.specs.Prelude.{◌≡◌, ◌≢◌, ◌↔◌, ◌⊎◌, Err, IfErr, IfOk, IsTrue, None, false, map, vec_len};
 ghost use Rattle.std.specs.List.{All};
 ghost use Rattle.coherent_machine.specs.Machine.{IsReached};
 ghost use Rattle.host_threads.specs.Replays.{IsOf, IsWithinLimit, JournalMoves, JournalReplays, end_of_journal};
+ghost use Rattle.host_threads.specs.Workers.{IsFirstFault, first_fault};
 ghost use Rattle.machine_types.specs.Config as limits;
 ghost use Rattle.machine_model.specs.LawfulLog.{IsLawfulLog};
 ghost use Rattle.machine_model.specs.Laws.{IsHeadline};
@@ -17,7 +18,6 @@ use crate::same::is_of;
 use crate::worker::{Common, Done};
 use elf_loader::Image;
 use locked_fabric::{Fabric, Share, Turn};
-use machine_parts::is_within_limits;
 use machine_types::Config;
 use progress_board::{Board, Seat};
 use std::alloc::{AllocError, Global};
@@ -46,7 +46,7 @@ pub fn run<G: Gate + Sync, R: Threads + Wait + Sync>(
     ensures limit { IfOk result (λ report. IsWithinLimit limit report) }
     ensures config { (result ≡ Err RunError.Config) ↔ (limits.is_within_limits config ≡ false) }
 {
-    if !is_within_limits(&config) {
+    if !config.is_within_limits() {
         return Err(RunError::Config);
     }
     let own = image.try_copy(alloc)?;
@@ -85,7 +85,7 @@ pub fn run_with<G: Gate + Sync, T: Turn + Drop + Send, R: Threads + Wait + Sync>
     ensures limit { IfOk result (λ report. IsWithinLimit limit report) }
     ensures config { (result ≡ Err RunError.Config) ↔ ((limits.is_within_limits config ≡ false) ⊎ (vec_len turns ≢ config.harts)) }
 {
-    if !is_within_limits(&config) || turns.len() != config.harts as usize {
+    if !config.is_within_limits() || turns.len() != config.harts as usize {
         return Err(RunError::Config);
     }
     let own = image.try_copy(alloc)?;
@@ -163,6 +163,8 @@ fn handed_back<L: Ledger>(
 ) -> Result<(Vec<Seat>, Vec<Share<L>>), RunError>
     ensures seats { IfOk result (λ back. back.0.items ≡ map (λ one. one.seat) done.items) }
     ensures shares { IfOk result (λ back. back.1.items ≡ map (λ one. one.share) done.items) }
+    ensures sound { IfOk result (λ _. first_fault done.items ≡ None) }
+    ensures fault { IfErr result (λ error. (error ≡ RunError.NoMemory) ⊎ IsFirstFault done.items error) }
     ensures config { result ≢ Err RunError.Config }
 {
     let mut seats = Vec::with_capacity(alloc, done.len())?;

@@ -3,7 +3,6 @@
 ghost use Rattle.std.specs.Prelude.{◌≡◌, ◌<◌, ◌↔◌, IsTrue, Some, length, true};
 ghost use Rattle.elf_loader.specs.Size.{IsMemorySize};
 ghost use Rattle.hart.specs.Local.{can_go_alone, is_done_alone};
-ghost use Rattle.locked_fabric.specs.Port.{seen_in};
 ghost use Rattle.machine_types.specs.declared.event.Event.TheVariants as TheEvents;
 ghost use Rattle.machine_model.specs.Views.{node_at};
 
@@ -62,20 +61,19 @@ impl<'a, T: Turn + Drop> Turn for Watched<'a, T> {
 }
 
 impl<'a, T: Turn + Drop> Visit for Watched<'a, T> {
+    ghost use Rattle.std.specs.Prelude.{◌≡◌};
+    ghost use Rattle.locked_fabric.specs.Port.{seen_in};
+
+    ghost withholds = { λ watched answer. answer ≡ watched.is_stepping };
+
+    ghost sees = { λ before s after. after ≡ record before { seen = seen_in s.trace before.hart } };
+
     /// A private step is held back: the hart goes on alone.
-    fn holds_back(&self) -> bool
-        ensures { result ≡ self.now.is_stepping }
-    {
+    fn holds_back(&self) -> bool {
         self.is_stepping
     }
 
-    fn see(&mut self, machine: &Machine)
-        ensures seen { self.new.seen ≡ seen_in machine.now.trace self.old.hart }
-        ensures hart { self.new.hart ≡ self.old.hart }
-        ensures image { self.new.image ≡ self.old.image }
-        ensures stepping { self.new.is_stepping ≡ self.old.is_stepping }
-        ensures stood { self.new.stood ≡ self.old.stood }
-    {
+    fn see(&mut self, machine: &Machine) {
         let trace = machine.trace();
         let hart = usize::from(self.hart);
         self.seen = None;

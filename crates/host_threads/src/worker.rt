@@ -3,6 +3,7 @@
 ghost use Rattle.std.specs.Prelude.{◌≡◌, ◌+◌, OnErr, OnOk};
 ghost use Rattle.coherent_machine.specs.Adopting.{local_of};
 ghost use Rattle.hart.specs.Local.{row_of};
+ghost use Rattle.host_threads.specs.Errors.{goes_on};
 ghost use Rattle.host_threads.specs.Pace.{IsPaced};
 ghost use Rattle.locked_fabric.specs.Port.{IsLast, Left, seat_of, share_of};
 ghost use Rattle.progress_board.specs.Seat.{IsSeatOf, view};
@@ -11,7 +12,6 @@ use crate::gate::Gate;
 use crate::report::Fault;
 use crate::watched::Watched;
 use coherent_machine::{AdoptError, ApplyError};
-use crossbeam_utils::Backoff;
 use elf_loader::Image;
 use hart::{Hart, run_local};
 use locked_fabric::{Numbers, Port, Share, Taken, Turn};
@@ -21,11 +21,19 @@ use std::alloc::Global;
 use std::sync::Wait;
 use std::sync::atomic::{AtomicBool, Ordering};
 use std::sync::ledger::Ledger;
+use std::thread;
 
 /// How many instructions a batch has at most.
 const MOST_ALONE: u32 = 256;
 
 const MOST_HARTS: usize = 8;
+
+/// How long a worker rests that found nothing to do, in looks at whether the run has stopped: some 50
+/// nanoseconds.
+const SHORTEST_REST: u32 = 64;
+
+/// How often the rest doubles: it gets no longer than some 50 microseconds.
+const DOUBLINGS: u32 = 10;
 
 /// What the threads of a run share beside the fabric.
 #[derive(Drop)]
@@ -49,8 +57,8 @@ pub(crate) struct Worker<'a, L: Ledger, T: Turn + Drop> {
     hart: u8,
     last: Option<Outcome>,
     has_halted: bool,
-    // How long it waits where it finds nothing that changes the machine.
-    backoff: Backoff,
+    // How many turns in a row changed nothing.
+    rests: u32,
     ghost seated: { IsSeatOf common.now.board port.seat },
     ghost paced: { IsPaced common.now.limit (view (seat_of port)) (share_of port) },
 }
@@ -86,7 +94,7 @@ impl<'a, L: Ledger, T: Turn + Drop> Worker<'a, L, T> {
             hart,
             last: None,
             has_halted: false,
-            backoff: Backoff::new(),
+            rests: 0,
         }
     }
 
@@ -141,16 +149,15 @@ impl<'a, L: Ledger, T: Turn + Drop> Worker<'a, L, T> {
             board,
             limit: self.common.limit,
         };
-        match self.port.take(rt, &numbers, &mut self.turn, self.last) {
+        let came = match self.port.take(rt, &numbers, &mut self.turn, self.last) {
             Taken::Nothing => {
                 self.rest();
-                Ok(true)
+                return Ok(true);
             }
-            Taken::Over => Ok(false),
+            Taken::Over => return Ok(false),
             Taken::HeldBack { number, event } => {
                 gate.draw(self.hart, number);
-                let came = self.go_alone(rt, event);
-                self.go_on(came)
+                self.go_alone(rt, event)
             }
             Taken::Tried {
                 number,
@@ -158,9 +165,10 @@ impl<'a, L: Ledger, T: Turn + Drop> Worker<'a, L, T> {
                 came,
             } => {
                 gate.draw(self.hart, number);
-                self.go_on(came)
+                came
             }
-        }
+        };
+        self.go_on(came)
     }
 
     // Commits what the hart does next alone; where the hart stands there no more, applies its step.
@@ -195,7 +203,8 @@ impl<'a, L: Ledger, T: Turn + Drop> Worker<'a, L, T> {
 
     // Whether another turn follows one with this outcome.
     fn go_on(&mut self, came: Result<Outcome, ApplyError>) -> Result<bool, Fault>
-        ensures { self.new.common ≡ self.old.common }
+        ensures common { self.new.common ≡ self.old.common }
+        ensures goes { result ≡ goes_on came }
     {
         let outcome = match came {
             Ok(outcome) => outcome,
@@ -205,7 +214,7 @@ impl<'a, L: Ledger, T: Turn + Drop> Worker<'a, L, T> {
         };
         self.last = Some(outcome);
         if is_change(outcome) {
-            self.backoff.reset();
+            self.rests = 0;
             self.publish();
             self.halt_at_end();
         } else {
@@ -223,12 +232,21 @@ impl<'a, L: Ledger, T: Turn + Drop> Worker<'a, L, T> {
         }
     }
 
-    // Waits a little.
+    // Waits a little: twice as long as before, until it is long enough to leave the processor to others.
     fn rest(&mut self)
         ensures { self.new.common ≡ self.old.common }
     {
         self.halt_at_end();
-        self.backoff.snooze();
+        if self.rests > DOUBLINGS {
+            thread::yield_now();
+            return;
+        }
+        for _look in 0..SHORTEST_REST << self.rests {
+            if self.common.stop.load(Ordering::SeqCst) {
+                break;
+            }
+        }
+        self.rests += 1;
     }
 
     // Sets the hart's halted bit where the hart isn't running.

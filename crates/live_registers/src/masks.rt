@@ -3,6 +3,7 @@ ghost use Rattle.std.specs.Prelude.{◌≡◌};
 ghost use Rattle.live_registers.specs.Live as spec;
 
 use rv32_decode::{Instr, Register, SystemOp};
+use rv32_exec::Call;
 
 pub(crate) const EVERYTHING: u32 = u32::MAX;
 
@@ -40,7 +41,7 @@ pub(crate) fn reads(instr: &Instr) -> u32
         | Instr::Register { rs1, rs2, .. }
         | Instr::Amo { rs1, rs2, .. } => two(rs1, rs2),
         Instr::Sc { rs1, rs2, .. } => RESERVATION | two(rs1, rs2),
-        Instr::System(SystemOp::Ecall) => two(Register::new(10), Register::new(17)),
+        Instr::System(SystemOp::Ecall) => two(Register::new(Call::ARGUMENT), Register::new(Call::NUMBER)),
         Instr::Upper { .. }
         | Instr::Jal { .. }
         | Instr::Fence(_)

@@ -5,13 +5,14 @@ use Rattle.elf_loader.specs.Image.{Initial}
 use Rattle.machine_types.specs.declared.config.Config.{Config}
 use Rattle.machine_types.specs.declared.event.Event.{Event}
 use Rattle.machine_types.specs.declared.outcome.Outcome.{Outcome}
-use Rattle.machine_model.specs.Events.{Verdict, verdict, after_events, happens}
+use Rattle.machine_model.specs.Events.{Verdict, verdict, after_events}
 use Rattle.machine_model.specs.Events.Verdict.{IsBad, Keeps, IsLimited, Moves}
 use Rattle.machine_model.specs.LawfulLog.{IsLawfulLog}
 use Rattle.machine_model.specs.Views.{State, opening}
 use Rattle.machine_parts.specs.declared.errors.ApplyError.{ApplyError}
 use Rattle.machine_parts.specs.declared.errors.ApplyError.TheVariants.{BadEvent, Limit, NoMemory}
 use Rattle.coherent_machine.specs.Machine.{KeepsHeadline}
+pub use Rattle.coherent_machine.specs.Moves.{AreMoves, IsMove}
 
 -- a machine, the events that changed it since its reset, the first one first, and how many events all shares together count
 pub record Held : Type 0 where
@@ -22,15 +23,6 @@ pub record Held : Type 0 where
 -- the machine is where its journal leads from reset of its image and configuration
 abbrev pub IsReplay : Held → Type 0
 IsReplay held = after_events (opening held.machine.trace.image held.machine.views.config) held.journal ≡ held.machine
-
--- the event changes this machine
-abbrev pub IsMove : State → Event → Type 0
-IsMove s e = (o : Outcome) × (new : State) × (verdict s e ≡ Moves o new)
-
--- each event changes the machine to which those before it lead
-abbrev pub AreMoves : State → List Event → Type 0
-AreMoves s [] = Unit {0}
-AreMoves s (e ∷ events) = IsMove s e × AreMoves (happens s e) events
 
 -- the machine as it was reset
 abbrev pub reset_of : Held → State

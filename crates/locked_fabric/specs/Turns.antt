@@ -1,5 +1,5 @@
 -- What a turn that is taken under one lock does to the fabric, and to a worker's seat and share.
-use Rattle.std.specs.Prelude.{◌≡◌, ◌+◌, ◌⊎◌, ◌^◌, ◌<◌, ◌≤◌, ℕ, [], ◌∷◌, ◌++◌, length, Option, Some, None}
+use Rattle.std.specs.Prelude.{◌≡◌, ◌+◌, ◌⊎◌, ◌^◌, ◌<◌, ◌≤◌, ℕ, Bool, true, false, [], ◌∷◌, ◌++◌, length, Option, Some, None}
 use Rattle.std.specs.List.{All}
 use Rattle.machine_types.specs.declared.event.Event.{Event}
 use Rattle.machine_model.specs.Views.{State}
@@ -29,6 +29,12 @@ IsPick Picks Over found = (event : Event) × Picks found (Some event)
 IsPick Picks (HeldBack number event) found = Picks found (Some event)
 IsPick Picks (Tried number event came) found = Picks found (Some event)
 
+-- it is held back exactly where the turn's answer is that it is
+abbrev pub IsHeldAsAnswered : (Answers : Bool → Type 0) → Taken → Type 0
+IsHeldAsAnswered Answers (HeldBack number event) = Answers true
+IsHeldAsAnswered Answers (Tried number event came) = Answers false
+IsHeldAsAnswered Answers _ = Unit {0}
+
 -- an event that is tried is applied, and nothing else is
 abbrev pub Leaves : Taken → (old new : Held) → Type 0
 Leaves (Tried number event came) old new = Answered old event came new
@@ -42,8 +48,9 @@ Draws limit (HeldBack number event) old new = DrewNumber limit number old new
 Draws limit (Tried number event came) old new = DrewNumber limit number old new
 
 -- a turn came to this: it found a fabric and left one, drew from a seat, and a share that counted so many events counts so many
-pub record Takes (Picks : State → Option Event → Type 0) (limit : ℕ) (taken : Taken) (old new : Held) (before after : View) (count counted : ℕ) : Type 0 where
+pub record Takes (Picks : State → Option Event → Type 0) (Answers : Bool → Type 0) (limit : ℕ) (taken : Taken) (old new : Held) (before after : View) (count counted : ℕ) : Type 0 where
   pub pick : IsPick Picks taken old.machine
+  pub held : IsHeldAsAnswered Answers taken
   pub leaves : Leaves taken old new
   pub draws : Draws limit taken before after
   pub counts : counted + old.book ≡ count + new.book

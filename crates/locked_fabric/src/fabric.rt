@@ -134,7 +134,7 @@ impl<L: Ledger> Fabric<L> {
     ) -> Taken
         requires { IsSeatOf numbers.now.board.now seat.old }
         ensures seat { IsSeatOf numbers.now.board.now seat.new }
-        ensures takes { Takes (λ machine picked. (after : T) × T.picks turn.old machine last picked after) numbers.now.limit result
+        ensures takes { Takes (λ machine picked. T.picks turn.old machine last picked turn.new) (λ held. T.withholds turn.new held) numbers.now.limit result
             self.old self.new (view seat.old) (view seat.new) share.old share.new }
         ensures found { IsKept self.old }
         ensures left { IsKept self.new }

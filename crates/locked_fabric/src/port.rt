@@ -13,8 +13,20 @@ use coherent_machine::{AdoptError, ApplyError};
 use hart::{Batch, Hart, Status};
 use machine_types::{Event, Outcome};
 use progress_board::Seat;
+use std::sync::atomic::{AtomicU64, Ordering};
 use std::sync::ledger::Ledger;
-use std::sync::{Mutex, Wait};
+use std::sync::{Mutex, MutexGuard, Wait};
+
+/// How often a worker tries a lock that another holds before it sleeps. A turn is shorter than it takes to
+/// wake a thread.
+const TRIES: u32 = 16;
+
+/// How long it pauses before the first of these tries: some 50 nanoseconds, in additions to a word of its
+/// own, as `std::hint::spin_loop` takes no time.
+const SHORTEST: u32 = 8;
+
+/// How often the pause doubles: it gets no longer than some 50 microseconds.
+const DOUBLINGS: u32 = 10;
 
 /// The lock of a fabric, with one worker's share of it and that worker's seat of the board. The share is one
 /// that was made with the fabric. Each call takes the lock and gives it back; `new`, `seat` and `end` alone
@@ -50,7 +62,7 @@ impl<'a, L: Ledger> Port<'a, L> {
         ensures picks { Left (λ held. T.picks turn.old held.machine last result turn.new) }
         ensures same { self.new ≡ self.old }
     {
-        let fabric = self.lock.lock(rt);
+        let fabric = held(self.lock, rt);
         turn.pick(&fabric.machine().views(), last)
     }
 
@@ -65,12 +77,12 @@ impl<'a, L: Ledger> Port<'a, L> {
     ) -> Taken
         requires { IsSeatOf numbers.now.board.now (seat_of self.old) }
         ensures seat { IsSeatOf numbers.now.board.now (seat_of self.new) }
-        ensures takes { Left (λ left. (found : Held) × IsKept found
-            × Takes (λ machine picked. (after : T) × T.picks turn.old machine last picked after) numbers.now.limit result
+        ensures takes { Left (λ left. (found : Held) × IsKept found × (picked : T) × T.sees picked left.machine turn.new
+            × Takes (λ machine event. T.picks turn.old machine last event picked) (λ held. T.withholds picked held) numbers.now.limit result
             found left (view (seat_of self.old)) (view (seat_of self.new)) (share_of self.old) (share_of self.new)) }
     {
         let Port { lock, seat, share } = self;
-        let mut fabric = lock.lock(rt);
+        let mut fabric = held(lock, rt);
         let taken = fabric.take(numbers, seat, share, turn, last);
         turn.see(fabric.machine());
         taken
@@ -85,10 +97,10 @@ impl<'a, L: Ledger> Port<'a, L> {
         turn: &mut T,
     ) -> Result<Outcome, ApplyError>
         ensures seat { seat_of self.new ≡ seat_of self.old }
-        ensures answers { Left (Applied event result (share_of self.old) (share_of self.new)) }
+        ensures answers { Left (λ left. Applied event result (share_of self.old) (share_of self.new) left × T.sees turn.old left.machine turn.new) }
         ensures err { OnErr result (share_of self.new ≡ share_of self.old) }
     {
-        let mut fabric = self.lock.lock(rt);
+        let mut fabric = held(self.lock, rt);
         let applied = fabric.apply(event, &mut self.share);
         turn.see(fabric.machine());
         applied
@@ -103,13 +115,13 @@ impl<'a, L: Ledger> Port<'a, L> {
         turn: &mut T,
     ) -> Result<Outcome, AdoptError>
         ensures seat { seat_of self.new ≡ seat_of self.old }
-        ensures answers { Left (Committed batch.now result (share_of self.old) (share_of self.new)) }
+        ensures answers { Left (λ left. Committed batch.now result (share_of self.old) (share_of self.new) left × T.sees turn.old left.machine turn.new) }
         ensures retired { IfOk result (λ outcome. outcome ≡ Outcome.Retired) }
         ensures journalled { OnOk result (Left (IsLast (local_of batch.now.first.id batch.now))) }
         ensures ok { OnOk result (share_of self.new ≡ share_of self.old + 1) }
         ensures err { OnErr result (share_of self.new ≡ share_of self.old) }
     {
-        let mut fabric = self.lock.lock(rt);
+        let mut fabric = held(self.lock, rt);
         let committed = fabric.commit(batch, &mut self.share);
         turn.see(fabric.machine());
         committed
@@ -121,7 +133,7 @@ impl<'a, L: Ledger> Port<'a, L> {
         ensures seen { Left (λ held. result ≡ seen_in held.machine.trace hart) }
         ensures same { self.new ≡ self.old }
     {
-        let fabric = self.lock.lock(rt);
+        let fabric = held(self.lock, rt);
         let trace = fabric.machine().trace();
         let hart = usize::from(hart);
         if hart < trace.harts() {
@@ -136,7 +148,7 @@ impl<'a, L: Ledger> Port<'a, L> {
         ensures copy { Left (λ held. result ≡ hart_at held.machine hart) }
         ensures same { self.new ≡ self.old }
     {
-        let fabric = self.lock.lock(rt);
+        let fabric = held(self.lock, rt);
         let views = fabric.machine().views();
         let hart = usize::from(hart);
         if hart < views.harts() {
@@ -166,4 +178,31 @@ impl<'a, L: Ledger> Port<'a, L> {
         } = self;
         (seat, share)
     }
+}
+
+// Takes the lock. It waits for the lock.
+#[inline(always)]
+fn held<'a, L: Ledger, R: Wait>(lock: &'a Mutex<Fabric<L>>, rt: &R) -> MutexGuard<'a, Fabric<L>> {
+    match lock.try_lock() {
+        Some(guard) => guard,
+        None => awaited(lock, rt),
+    }
+}
+
+// Takes a lock that another worker holds.
+#[cold]
+fn awaited<'a, L: Ledger, R: Wait>(
+    lock: &'a Mutex<Fabric<L>>,
+    rt: &R,
+) -> MutexGuard<'a, Fabric<L>> {
+    let ticks = AtomicU64::new(0);
+    for attempt in 0..TRIES {
+        for _tick in 0..SHORTEST << attempt.min(DOUBLINGS) {
+            ticks.fetch_add(1, Ordering::SeqCst);
+        }
+        if let Some(guard) = lock.try_lock() {
+            return guard;
+        }
+    }
+    lock.lock(rt)
 }

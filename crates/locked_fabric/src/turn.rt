@@ -1,6 +1,6 @@
 //! What a worker asks for its next event.
 
-ghost use Rattle.std.specs.Prelude.{Option, ⊤};
+ghost use Rattle.std.specs.Prelude.{Bool, Option, ⊤};
 ghost use Rattle.machine_types.specs.declared.event.Event.{Event};
 ghost use Rattle.machine_types.specs.declared.outcome.Outcome.{Outcome};
 ghost use Rattle.machine_model.specs.Views.{State};
@@ -22,9 +22,17 @@ pub trait Turn {
 
 /// A turn that is taken while the worker holds the lock.
 pub trait Visit: Turn {
+    /// Which answer there may be to whether the event picked last is held back.
+    ghost withholds: { Self → Bool → Type 0 } = { λ _ _. ⊤ };
+
+    /// What becomes of the turn where it sees this machine.
+    ghost sees: { Self → State → Self → Type 0 } = { λ _ _ _. ⊤ };
+
     /// Whether the event picked last is held back: a number is drawn for it, and it isn't applied.
-    fn holds_back(&self) -> bool;
+    fn holds_back(&self) -> bool
+        ensures { withholds self.now result };
 
     /// Sees the machine that the worker leaves, before the lock is free again.
-    fn see(&mut self, machine: &Machine);
+    fn see(&mut self, machine: &Machine)
+        ensures { sees self.old machine.now self.new };
 }

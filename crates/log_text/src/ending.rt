@@ -5,11 +5,9 @@ ghost use Rattle.text_fields.specs.Fields.{numbered};
 ghost use Rattle.trace_text.specs.Traces.{status};
 ghost use Rattle.log_text.specs.Ending.{ended, first_of_last, first_of_line, harts_told, harts_unended};
 
+use machine_limits::MAX_HARTS;
 use std::alloc::AllocError;
 use text_fields::{after, number_at};
-
-/// The most harts that a trace has.
-const MAX_HARTS: u32 = 8;
 
 /// Ends a trace's text whose last line doesn't say how a hart ended: with a line for each of its harts, that
 /// it still runs. Any other text stays. The only error is want of memory; then the text has a beginning of
@@ -26,7 +24,7 @@ pub fn end_text(bytes: &mut Vec<u8>) -> Result<(), AllocError>
 /// How many harts the text has, if it doesn't say how they ended.
 fn harts_unended(bytes: &[u8]) -> u32
     ensures value { result ≡ harts_unended bytes.now }
-    ensures few { result ≤ 8 }
+    ensures few { result ≤ MAX_HARTS }
 {
     match first_of_last(bytes) {
         None | Some(b'H') => 0,
@@ -56,7 +54,7 @@ fn first_of_last(bytes: &[u8]) -> Option<u8>
 /// The number of harts in a trace's second line; 0 where there is no such line.
 fn harts_told(bytes: &[u8]) -> u32
     ensures value { result ≡ harts_told bytes.now }
-    ensures few { result ≤ 8 }
+    ensures few { result ≤ MAX_HARTS }
 {
     let fields = match after(b"rvtl-trace 1\nT ", bytes) {
         Some(fields) => Some(fields),

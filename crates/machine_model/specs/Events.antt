@@ -1,5 +1,6 @@
 -- The event meaning: which events are good, what each comes to and changes, and what a list of events leads to.
 use Rattle.std.specs.Prelude.{ℕ, ◌+◌, ◌%◌, ◌==◌, Bool, true, not, ◌&&◌, ◌||◌, if◌then◌else◌, List, [], ◌∷◌, length, nat_le, nat_lt}
+use Rattle.machine_limits.specs.declared.TheConstants.{MAX_CHANGES, MAX_ENTRIES}
 use Rattle.client_cache.specs.Cache.{evicted}
 use Rattle.client_cache.specs.declared.answers.Evict.{Evict}
 use Rattle.client_cache.specs.declared.answers.Evict.TheVariants.{NotHeld, AcquirePending, ReleaseFull, Evicted}
@@ -89,15 +90,9 @@ entries_by (act.Retire entry i d) = 1
 entries_by (act.Local count) = count
 entries_by _ = 0
 
-abbrev pub most_changes : ℕ
-most_changes = 4000000
-
-abbrev pub most_entries : ℕ
-most_entries = 1000000
-
 -- so many events have changed the machine, or the hart's list would pass its length
 abbrev pub is_limited : State → ℕ → Act → Bool
-is_limited s h a = nat_le most_changes s.views.changes || nat_lt most_entries (place_at s h + entries_by a)
+is_limited s h a = nat_le MAX_CHANGES s.views.changes || nat_lt MAX_ENTRIES (place_at s h + entries_by a)
 
 -- ---- the meaning
 

@@ -1,6 +1,7 @@
 -- What a machine of numbers of fixed widths and queues of fixed rooms rests on: how large everything is, and what the act of an event finds.
 use Rattle.std.specs.Prelude.{ℕ, ◌≡◌, ◌≢◌, ◌<◌, ◌≤◌, ◌/◌, ◌%◌, Bool, false, List, length, Contains, IsTrue, Some}
 use Rattle.std.specs.FinSet as set
+use Rattle.machine_limits.specs.declared.TheConstants.{MAX_CHANGES, MAX_ENTRIES}
 use Rattle.backing_memory.specs.Memory.{line_at}
 use Rattle.client_cache.specs.declared.shape.Shape.{Shape}
 use Rattle.elf_loader.specs.Image.{IsImage}
@@ -14,7 +15,7 @@ use Rattle.machine_types.specs.declared.event.Event.{Event}
 use Rattle.machine_model.specs.Changing.{acted}
 use Rattle.machine_model.specs.Coherent.{perm_at}
 use Rattle.machine_types.specs.Config.{is_within_limits}
-use Rattle.machine_model.specs.Events.{hart_of, is_good, is_limited, is_piece, most_changes, most_entries, plan_of}
+use Rattle.machine_model.specs.Events.{hart_of, is_good, is_limited, is_piece, plan_of}
 use Rattle.machine_model.specs.Laws.{Always, QueuesFit}
 use Rattle.machine_model.specs.Views.{State, line_of, line_size, node_at}
 use Rattle.store_buffer.specs.Groups.{drainable, fits}
@@ -50,8 +51,8 @@ pub record IsSound (s : State) : Type 0 where
   pub sizes : (i : ℕ) → i < length s.views.memory → size_of (line_at s.views.memory i) ≡ line_size s
   pub shapes : (h : ℕ) → (node_at s h).cache.shape ≡ shape_of s
   pub queued : (h : ℕ) (channel : Channel) (m : Msg) → Contains (queue_of (node_at s h).queues channel) m → IsTrue (is_piece s.trace.image m.line (length_of (line_size s)))
-  pub changes : s.views.changes ≤ most_changes
-  pub places : (h : ℕ) → length (entries_of s.trace h) ≤ most_entries
+  pub changes : s.views.changes ≤ MAX_CHANGES
+  pub places : (h : ℕ) → length (entries_of s.trace h) ≤ MAX_ENTRIES
 
 abbrev pub SoundAlways : Type 0
 SoundAlways = Always (λ image config s. IsSound s)

@@ -1,5 +1,5 @@
 -- What a machine is at a moment: its views, and the trace of what happened.
-use Rattle.std.specs.Prelude.{ℕ, ◌-◌, ◌/◌, ◌%◌, ◌==◌, List, [], length, Option, None, map, slice_set, slice_index_or, if◌then◌else◌}
+use Rattle.std.specs.Prelude.{ℕ, ◌-◌, ◌/◌, ◌%◌, List, [], length, Option, None, map, slice_set, slice_index_or, unwrap_or}
 use Rattle.std.specs.List.{range_with_len}
 use Rattle.backing_memory.specs.Memory.{lines_of}
 use Rattle.client_cache.specs.Cache as cache
@@ -13,7 +13,7 @@ use Rattle.hart.specs.Run.{at_reset}
 use Rattle.machine_types.specs.declared.config.Config.{Config}
 use Rattle.store_buffer.specs.Groups.{Groups, no_groups}
 use Rattle.tilelink_channels.specs.Queues.{Waiting, none_waiting, pushed}
-use Rattle.tl_types.specs.Line.{length_of}
+use Rattle.tl_types.specs.Line.{length_of, size_of_bytes}
 use Rattle.tl_types.specs.declared.line.LineData.{LineData}
 use Rattle.tl_types.specs.declared.line.LineSize.{LineSize}
 use Rattle.tl_types.specs.declared.line.LineSize.TheVariants.{Bytes16, Bytes64}
@@ -46,7 +46,7 @@ pub record State : Type 0 where
 -- ---- lines
 
 abbrev pub size_of_config : Config → LineSize
-size_of_config config = if config.line == 64 then Bytes64 else Bytes16
+size_of_config config = unwrap_or (size_of_bytes config.line) Bytes16
 
 abbrev pub line_size : State → LineSize
 line_size s = size_of_config s.views.config

@@ -7,7 +7,7 @@ use Rattle.machine_model.specs.Laws.{QueuesFit}
 use Rattle.machine_model.specs.Views.{State, line_size, node_at, place_of, sent}
 use Rattle.machine_parts.specs.Handled.{written_back}
 use Rattle.machine_parts.proofs.Rooms.{had_room}
-use Rattle.tilelink_channels.specs.Queues.{queue_of}
+use Rattle.tilelink_channels.specs.Queues.{queue_of, room_of}
 use Rattle.tl_types.specs.declared.line.LineData.{LineData}
 use Rattle.tl_types.specs.declared.message.Body.TheVariants.{ReleaseAck}
 use Rattle.tl_types.specs.declared.message.Channel.TheVariants.{D}
@@ -17,7 +17,7 @@ abbrev with_parts : Notes → List LineData → State → State
 with_parts notes memory s = record s { views = record s.views { memory = memory; notes = notes } }
 
 -- the ReleaseAck had room
-pub had_room_released : (h line : ℕ) (bytes : Option LineData) (s : State) → h < length s.views.nodes → QueuesFit (on_release h line bytes s) → length (queue_of (node_at s h).queues D) < 8
+pub had_room_released : (h line : ℕ) (bytes : Option LineData) (s : State) → h < length s.views.nodes → QueuesFit (on_release h line bytes s) → length (queue_of (node_at s h).queues D) < room_of D
 had_room_released h line bytes s in_h fit = had_room h (record { line = line; body = ReleaseAck }) (with_parts (released s.views.notes place h) (written_back place bytes s.views.memory) s) in_h (go bytes fit)
   where
     place : ℕ

@@ -18,6 +18,7 @@ use Rattle.machine_model.specs.Laws.{QueuesFit}
 use Rattle.machine_model.specs.Views.{Node, State, line_size, node_at, place_of, sent}
 use Rattle.machine_parts.specs.Handled.{count_of}
 use Rattle.machine_parts.proofs.Rooms.{had_room_in}
+use Rattle.tilelink_channels.specs.Queues.{room_of}
 use Rattle.tl_types.specs.declared.message.Body.TheVariants.{ProbeBlock}
 use Rattle.tl_types.specs.declared.message.Channel.TheVariants.{B}
 use Rattle.tl_types.specs.declared.message.Msg.{Msg}
@@ -44,9 +45,9 @@ probes_grow [] k line cap s = omega arith
 probes_grow (h ∷ harts) k line cap s = omega (arith, probe_grows h k line cap s, probes_grow harts k line cap (sent h (probe_of line cap) s))
 
 -- the first Probe has room
-pub had_room_for_probe : (h : ℕ) (harts : List ℕ) (line : ℕ) (cap : Cap) (s : State) → h < length s.views.nodes → QueuesFit (sent_probes (h ∷ harts) line cap s) → length (node_at s h).queues.b < 28
+pub had_room_for_probe : (h : ℕ) (harts : List ℕ) (line : ℕ) (cap : Cap) (s : State) → h < length s.views.nodes → QueuesFit (sent_probes (h ∷ harts) line cap s) → length (node_at s h).queues.b < room_of B
 had_room_for_probe h harts line cap s in_h fit =
-    let all : length (node_at (sent_probes harts line cap (sent h (probe_of line cap) s)) h).queues.b ≤ 28 = fit h B in
+    let all : length (node_at (sent_probes harts line cap (sent h (probe_of line cap) s)) h).queues.b ≤ room_of B = fit h B in
     had_room_in h (probe_of line cap) s in_h (omega (arith, all, probes_grow harts h line cap (sent h (probe_of line cap) s)))
 
 -- ---- there are no more Probes than harts

@@ -1,6 +1,7 @@
 -- How a row of private instructions goes on, and where it ends.
 use Rattle.std.proofs.Common.{◌≡◌, ℕ, zero, suc, ◌+◌, ◌-◌, ◌<◌, ◌≤◌, List, [], ◌∷◌, ◌++◌, length, Bool, true, false, Option, Some, None, slice_index, slice_set, cond, refl, sym, ap, ◌∙◌, subst, arith}
 use Rattle.std.proofs.lemmas.List.{get_or-set_same, length-append}
+use Rattle.machine_limits.specs.declared.TheConstants.{MAX_ENTRIES}
 use Rattle.elf_loader.specs.Image.{Initial}
 use Rattle.hart.specs.Local.{can_go_alone, next_entry, next_step, private_row}
 use Rattle.hart.specs.Run.{after, reached}
@@ -66,7 +67,7 @@ row_leads image last room entry next end g e =
     ap (λ (h : Hart). reached h (private_row image next (room - 1))) g.leads ∙ (sym (ap (reached last) g.row) ∙ e)
 
 -- one entry more in a hart's list, and one less to come
-pub place_left : (h left : ℕ) (t : History) (entry : Retired) → h < length t.entries → 0 < left → length (entries_of t h) + left ≤ 1000000 → length (entries_of (with_entry h entry t) h) + (left - 1) ≤ 1000000
+pub place_left : (h left : ℕ) (t : History) (entry : Retired) → h < length t.entries → 0 < left → length (entries_of t h) + left ≤ MAX_ENTRIES → length (entries_of (with_entry h entry t) h) + (left - 1) ≤ MAX_ENTRIES
 place_left h left t entry there l few =
     let one : length (entries_of (with_entry h entry t) h) ≡ length (entries_of t h) + 1 =
     ap (λ (es : List Retired). length es) (get_or-set_same t.entries h (entries_of t h ++ entry ∷ []) [] there) ∙ length-append (entries_of t h) (entry ∷ []) in

@@ -12,8 +12,8 @@ pub enum ApplyError {
     /// The event names a hart, word, line or count that the machine hasn't.
     #[error("BadEvent")]
     BadEvent = 1,
-    /// The event would change the machine, but 4,000,000 events did, or the hart's list would pass
-    /// 1,000,000 retired instructions.
+    /// The event would change the machine, but `MAX_CHANGES` events did, or the hart's list would pass
+    /// `MAX_ENTRIES` retired instructions.
     #[error("Limit")]
     Limit = 2,
     /// Memory was refused; nothing has changed.

@@ -13,6 +13,6 @@ mod words;
 
 pub use errors::ApplyError;
 pub use node::Node;
-pub use parts::{Parts, is_within_limits, line_size};
+pub use parts::{Parts, line_size};
 pub use plan::orders_after_stores;
 pub use words::{marks_of, read_from, store_of, word_of};

@@ -14,23 +14,20 @@ ghost use Rattle.store_buffer.specs.Groups.{drainable, oldest};
 
 use crate::parts::Parts;
 use hart::Status;
+use machine_limits::{MAX_CHANGES, MAX_ENTRIES};
 use machine_model::Act;
 use machine_types::Outcome;
 use std::alloc::AllocError;
-use trace_recorder::MAX_ENTRIES;
-
-/// How many events may change a machine.
-const MOST_CHANGES: u32 = 4_000_000;
 
 /// Whether a limit is met.
 pub(crate) fn is_limited(parts: &Parts, hart: u8, act: &Act) -> bool
     requires sound { IsSound (state_of parts.now) }
     requires hart { hart < length parts.now.nodes.items }
     ensures exact { result ≡ spec_is_limited (state_of parts.now) hart act.now }
-    ensures fits { result ≡ false → place_at (state_of parts.now) hart + spec_entries_by act.now ≤ 1000000 }
+    ensures fits { result ≡ false → place_at (state_of parts.now) hart + spec_entries_by act.now ≤ MAX_ENTRIES }
 {
     let entries = parts.trace.entries(hart as usize).len();
-    parts.changes >= MOST_CHANGES || entries + entries_by(act) > MAX_ENTRIES
+    parts.changes >= MAX_CHANGES || entries + entries_by(act) > MAX_ENTRIES
 }
 
 // How many entries an act adds to its hart's list.

@@ -3,6 +3,8 @@ use Rattle.std.proofs.Common.{ℕ, suc, ◌*◌, ◌/◌, ◌%◌, ◌^◌, ◌<
 use Rattle.std.specs.Prelude.{◌&&◌, nat_le, slice_index}
 use Rattle.std.specs.List.{AllByRecursion}
 use Rattle.std.proofs.lemmas.Bool.{leb-true}
+use Rattle.machine_types.proofs.Limits.{limits_of}
+use Rattle.machine_limits.specs.declared.TheConstants.{MAX_ENTRIES, MAX_HARTS}
 use native.Mathlib.Omega.{arith}
 use Rattle.elf_loader.specs.Size.{IsMemoryKib, IsMemorySize}
 use Rattle.hart.specs.declared.retired.Retired.{Retired}
@@ -43,7 +45,7 @@ loaded_fits (Some n) few = few n refl
 retired_fits : (r : Retired) → HasWords r → IsRetired r
 retired_fits r w = record { pc = w.pc; word = w.word; loaded = loaded_fits r.loaded w.loaded }
 
-harts_fit : (lists : List (List Retired)) → AllByRecursion (AllByRecursion HasWords) lists → ((h : ℕ) → length (slice_index_or lists h []) ≤ 1000000) → AllByRecursion IsHart lists
+harts_fit : (lists : List (List Retired)) → AllByRecursion (AllByRecursion HasWords) lists → ((h : ℕ) → length (slice_index_or lists h []) ≤ MAX_ENTRIES) → AllByRecursion IsHart lists
 harts_fit [] all few = tt
 harts_fit (list ∷ lists) all few = ((all_map HasWords IsRetired retired_fits list all.0, few 0), harts_fit lists all.1 (λ h. few (suc h)))
 
@@ -103,23 +105,17 @@ memory_kib size is =
     let high = is.at_most in
     record { whole_pages = omega (arith, pages); at_least = omega (arith, low); at_most = omega (arith, high) }
 
--- how many harts a machine may have
-hart_limits : (a b c d e f : Bool) → a && b && c && d && e && f ≡ true → (a ≡ true) × (b ≡ true)
-hart_limits true true c d e f is = (refl, refl)
-hart_limits true false c d e f is = cc is
-hart_limits false b c d e f is = cc is
-
 head_fits : (s : State) → IsSound s → IsTraceHead (head_of s.trace)
 head_fits s k =
-    let limits = hart_limits (nat_le 1 s.views.config.harts) (nat_le s.views.config.harts 8) _ _ _ _ k.limits in
-    let some : 1 ≤ s.views.config.harts = leb-true _ _ limits.0 in
-    let few : s.views.config.harts ≤ 8 = leb-true _ _ limits.1 in
+    let limits = limits_of s.views.config k.limits in
+    let some = limits.some_harts in
+    let few = limits.few_harts in
     let count = k.statuses in
     let size = whole_kib (length s.trace.image.bytes) k.image.legal_size in
     let high = k.image.entry_inside.1 in
     record {
       some_hart = omega (arith, some, count);
-      at_most_8 = omega (arith, few, count);
+      few_harts = omega (arith, few, count);
       memory = memory_kib (length s.trace.image.bytes) k.image.legal_size;
       aligned = k.image.aligned_entry;
       from = k.image.entry_inside.0;

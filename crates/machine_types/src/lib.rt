@@ -5,6 +5,6 @@ mod config;
 mod event;
 mod outcome;
 
-pub use config::Config;
+pub use config::{Config, is_set_count};
 pub use event::Event;
 pub use outcome::Outcome;

@@ -21,7 +21,7 @@ pub enum Outcome {
     WaitRelease,
     /// The cache's Acquire of the line is outstanding.
     WaitGrant,
-    /// Four Acquires are outstanding.
+    /// As many Acquires are outstanding as there are trackers.
     NoTracker,
     /// The line's set has no room for it.
     SetFull,
@@ -39,13 +39,13 @@ pub enum Outcome {
     Busy,
     /// The probed cache's Release of the line is unanswered.
     Releasing,
-    /// Four GrantAcks wait.
+    /// As many GrantAcks wait as the queue has room for.
     AckFull,
     /// The line isn't held.
     NotHeld,
     /// An Acquire of the line to be given up is outstanding.
     AcquirePending,
-    /// Four Releases are unanswered.
+    /// As many Releases are unanswered as there are trackers.
     ReleaseFull,
     /// One of the next instructions isn't private, or stops.
     NotLocal,

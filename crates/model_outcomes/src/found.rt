@@ -5,7 +5,6 @@ use elf_loader::Image;
 use explorer::{Exploring, compare, explore};
 use flat_model::HartResult;
 use machine_model::MemoryModel;
-use machine_parts::is_within_limits;
 use machine_types::Config;
 use state_search::Unwatched;
 use std::alloc::Global;
@@ -37,8 +36,8 @@ pub fn is_among(witnesses: &[Witness], harts: &[HartResult]) -> bool {
 
 /// The outcomes that are found under a model, which are to have all those among them to which the machine comes.
 pub fn allowed(alloc: Global, image: &Image, config: Config) -> Result<Vec<Witness>> {
-    ensure!(is_within_limits(&config), "no configuration");
-    let found = search(alloc, image, config, &[], WINDOW, STATES)?;
+    ensure!(config.is_within_limits(), "no configuration");
+    let found = search(alloc, image, config, &[], WINDOW, STATES, &Unwatched)?;
     ensure!(found.reach == Reach::Whole, "a bound is met");
     let exploring = Exploring {
         limit: STATES,

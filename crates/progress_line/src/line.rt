@@ -98,6 +98,15 @@ impl Display for Line<'_> {
                     Rounded(rate)
                 )?;
             }
+            Stage::Sample { runs, ends } => {
+                let rate = runs / self.seconds.max(1);
+                write!(
+                    f,
+                    "{} runs ({} a second), {ends} ends",
+                    Rounded(runs),
+                    Rounded(rate)
+                )?;
+            }
         }
         write!(f, "{ERASE}\r")
     }

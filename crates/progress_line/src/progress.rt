@@ -7,6 +7,8 @@ pub enum Stage<'a> {
     Run { events: u64, retired: &'a [u64] },
     /// The states and the outcomes that were found.
     Explore { states: u64, outcomes: u64 },
+    /// The random runs that were made, and the ends that they came to.
+    Sample { runs: u64, ends: u64 },
 }
 
 /// Is told how far a command is, as often as the command likes.

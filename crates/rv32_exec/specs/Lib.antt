@@ -1,4 +1,5 @@
 pub mod Arithmetic
+pub mod Calls
 pub mod Laws
 pub mod Meaning
 pub mod Memory

@@ -1,5 +1,6 @@
 -- The instruction meaning: what an instruction does, at a pc, with given registers (RISC-V Unprivileged ISA 20191213, chapters 2, 7 and 8), over whole numbers modulo 2^32.
 use Rattle.std.specs.Prelude.{ℕ, ◌+◌, ◌-◌, ◌*◌, ◌%◌, ◌^◌, Bool, ◌||◌, ◌==◌, nat_lt, if◌then◌else◌, List, Option, Some, None, slice_index}
+use Rattle.machine_limits.specs.declared.TheConstants.{BASE}
 use Rattle.rv32_decode.specs.Amo.{combined}
 use Rattle.rv32_decode.specs.Rows.{decoded}
 use Rattle.rv32_decode.specs.declared.instruction.AmoOp.{AmoOp}
@@ -93,7 +94,7 @@ access_of (Amo op rd rs1 rs2 bits) x = DoesAmo (slice_index x rs1) op (slice_ind
 
 -- memory has `size` bytes from 0x80000000 on
 abbrev pub is_outside : (size address bytes : ℕ) → Bool
-is_outside size address bytes = nat_lt address 0x80000000 || nat_lt (0x80000000 + size) (address + bytes)
+is_outside size address bytes = nat_lt address BASE || nat_lt (BASE + size) (address + bytes)
 
 -- the first code where the address isn't a multiple of the bytes, else the second where a byte is outside memory
 abbrev pub access_stop : (misaligned outside size address bytes : ℕ) → Option ℕ

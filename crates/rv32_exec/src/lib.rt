@@ -4,6 +4,7 @@
 
 mod actions;
 mod arithmetic;
+mod call;
 mod finishing;
 mod laws;
 mod planning;
@@ -11,6 +12,7 @@ mod registers;
 pub mod stop;
 
 pub use actions::{Action, Width};
+pub use call::Call;
 pub use finishing::finish;
 pub use laws::{reads_are_as_named, stops_are_decided_first, writes_are_as_named};
 pub use planning::plan;

@@ -10,15 +10,11 @@ ghost use Rattle.rv32_exec.specs.Width.{bytes_of};
 
 use crate::actions::{Action, Width};
 use crate::arithmetic::is_taken;
+use crate::call::Call;
 use crate::registers::Regs;
 use crate::stop;
-use rv32_decode::{Instr, LoadOp, Register, StoreOp, SystemOp};
-
-/// The first address of memory.
-const MEMORY: u32 = 0x8000_0000;
-
-/// The number of an ECALL stands in x17.
-const CALL_NUMBER: u8 = 17;
+use machine_limits::BASE;
+use rv32_decode::{Instr, LoadOp, StoreOp, SystemOp};
 
 /// What an instruction at `pc` will do, where memory has `size` bytes from 0x80000000 on.
 #[rattlefmt::skip]
@@ -48,7 +44,7 @@ pub fn plan(instr: &Instr, pc: u32, regs: &Regs, size: u32) -> Action
             plan_store(op, regs.get(rs1).wrapping_add(offset.value()), regs.get(rs2), size)
         }
         Instr::Fence(_) | Instr::FenceTso => Action::Fence,
-        Instr::System(SystemOp::Ecall) => plan_call(regs.get(Register::new(CALL_NUMBER))),
+        Instr::System(SystemOp::Ecall) => plan_call(Call::in_registers(regs)),
         Instr::System(SystemOp::Ebreak) => Action::Stop(stop::BREAKPOINT),
         Instr::Lr { rs1, .. } => {
             let addr = regs.get(rs1);
@@ -75,13 +71,12 @@ fn plan_jump(target: u32) -> Action
     }
 }
 
-fn plan_call(number: u32) -> Action
-    ensures { result ≡ stop_or (if nat_lt number 2 then None else Some 8) Action.Call }
+fn plan_call(call: Call) -> Action
+    ensures { result ≡ stop_or (if nat_lt call.number 2 then None else Some 8) Action.Call }
 {
-    if number < 2 {
-        Action::Call
-    } else {
-        Action::Stop(stop::UNKNOWN_CALL)
+    match call.number {
+        Call::EXIT | Call::OUTPUT => Action::Call,
+        _ => Action::Stop(stop::UNKNOWN_CALL),
     }
 }
 
@@ -141,7 +136,7 @@ fn is_outside(addr: u32, memory_size: u32) -> bool
     requires { IsMemorySize memory_size }
     ensures { (size : Width) → addr % bytes_of size ≡ 0 → result ≡ spec.is_outside memory_size addr (bytes_of size) }
 {
-    addr.wrapping_sub(MEMORY) >= memory_size
+    addr.wrapping_sub(BASE) >= memory_size
 }
 
 fn load_width(op: LoadOp) -> Width

@@ -4,6 +4,7 @@ use Rattle.std.proofs.lemmas.Bool.{lt-ltb}
 use Rattle.std.proofs.lemmas.List.{at_drop_more, length-append}
 use Rattle.std.proofs.lemmas.List.Sums.{count_by-le-length, length-filter}
 use Rattle.std.specs.Prelude.{nat_lt}
+use Rattle.machine_limits.specs.declared.TheConstants.{MAX_ENTRIES}
 use Rattle.hart.specs.declared.retired.Retired.{Retired}
 use Rattle.memory_model.specs.Items.{has_operation}
 use Rattle.memory_model.specs.Traces.{names_from, names_of_harts}
@@ -26,7 +27,7 @@ hart_counted id es h =
     ∙ ap (λ (n : ℕ). n + length (names_of_harts (id + 1) (drop (id + 1) es))) (named_as_given id 0 (get_or es id [])))
 
 -- no more operations than instructions
-pub few_given : (es : List Retired) → length es ≤ 1000000 → length (filter has_operation es) ≤ 1000000
+pub few_given : (es : List Retired) → length es ≤ MAX_ENTRIES → length (filter has_operation es) ≤ MAX_ENTRIES
 few_given es few =
     let a = count_by-le-length has_operation es in
     let e = length-filter has_operation es in

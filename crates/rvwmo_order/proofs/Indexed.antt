@@ -4,7 +4,6 @@ use Rattle.std.specs.Prelude.{filter, is_some, nat_eq, nat_lt, unwrap_or}
 use Rattle.std.specs.List.{last_or, list_any}
 use Rattle.std.specs.Option.{option_map, option_map_or, option_or}
 use Rattle.std.proofs.lemmas.Bool.{eqb-true, le-ltb, lt-ltb, and_parts, true≢false}
-use Rattle.std.proofs.lemmas.Grind.{common_steps}
 use Rattle.std.proofs.lemmas.List.{drop_all, length-drop, take_all, take_more}
 use Rattle.memory_model.specs.declared.operation.Operation.{Operation}
 use Rattle.memory_model.specs.Items.{Item}
@@ -16,7 +15,7 @@ use Rattle.memory_model.specs.Order.{candidates, position_in, source}
 use Rattle.memory_model.specs.Verdict.{name_of}
 use Rattle.memory_model.proofs.Forms.{same-swap}
 use Rattle.trace_recorder.specs.declared.operation.OpId.{OpId}
-use Rattle.rvwmo_order.specs.Indexed.{is_lr_of, is_seen, name_eq, place_from, stored_from}
+use Rattle.rvwmo_order.specs.Indexed.{is_lr_of, is_seen, place_from, stored_from}
 use Rattle.rvwmo_order.specs.Scans.{is_broken_pair}
 use Rattle.rvwmo_order.specs.declared.stored.Stored.{Stored}
 use Rattle.rvwmo_order.proofs.Judged.{place_head, place_tail}
@@ -163,18 +162,15 @@ place_missing order a name get all e f =
 abbrev pub key_of : Operation → ℕ × ℕ
 key_of a = (a.hart, a.place)
 
-eq_turned : (m n p q : ℕ) → (nat_eq m n && nat_eq p q) ≡ (nat_eq n m && nat_eq q p)
-eq_turned m n p q = grind (arith, common_steps)
-
 same_key : (a b : Operation) → same b a ≡ true → key_of b ≡ key_of a
 same_key a b e =
     let p = and_parts (nat_eq b.hart a.hart) (nat_eq b.place a.place) e in
     let f = eqb-true b.hart a.hart p.0 in
     let g = eqb-true b.place a.place p.1 in rw (f, g) refl
 
-pub put_there : (old new : ℕ × ℕ → Option ℕ) (a b : Operation) (position : ℕ) → ((q : ℕ × ℕ) → new q ≡ cond (name_eq (key_of a) q) (Some position) (old q)) → is_some (old (key_of a)) ≡ false
+pub put_there : (old new : ℕ × ℕ → Option ℕ) (a b : Operation) (position : ℕ) → new (key_of b) ≡ cond (same b a) (Some position) (old (key_of b)) → is_some (old (key_of a)) ≡ false
     → new (key_of b) ≡ option_or (old (key_of b)) (cond (same b a) (Some position) None)
-put_there old new a b position all missing = all (key_of b) ∙ ap (λ (c : Bool). cond c (Some position) (old (key_of b))) (eq_turned a.hart b.hart a.place b.place) ∙ go (same b a) refl
+put_there old new a b position put missing = put ∙ go (same b a) refl
   where
     none : (o : Option ℕ) → is_some o ≡ false → o ≡ None
     none None e = refl

@@ -63,28 +63,20 @@ gives_more order kept ranks k a g count there own p b other h f r =
 pub byte_ranked : (order : List Operation) (load : Operation) (ranks : List ℕ) (offset x : ℕ) → GivesRanks order load ranks → offset < 4 → offset < load.size → x ≡ load.address + offset → HasRank order (source order load x) (slice_index_or ranks offset 0)
 byte_ranked order load ranks offset x g few within at = subst (λ (y : ℕ). HasRank order (source order load y) (slice_index_or ranks offset 0)) (sym at) (g.each offset few within)
 
--- ---- one more byte of a load
+-- ---- one more byte of four
 
--- of a byte of the load
-abbrev pub IsFound : List Operation → Operation → ℕ → ℕ → Type 0
-IsFound order a i rank = HasRank order (source order a (a.address + i)) rank
-
-pub sources_next : (order : List Operation) (a : Operation) (sources new : List ℕ) (k x found : ℕ) → length sources ≡ 4 → k < 4 → new ≡ set sources k found → x ≡ a.address + k → HasRank order (source order a x) found
-    → ((i : ℕ) → i < k → i < a.size → IsFound order a i (slice_index_or sources i 0)) → (i : ℕ) → i < k + 1 → i < a.size → IsFound order a i (slice_index_or new i 0)
-sources_next order a sources new k x found long few e at is inv i h within = ⊎_elim here other (cases_eq i k)
+pub ranks_next : (p : ℕ → ℕ → Type 0) (size : ℕ) (old new : List ℕ) (k found : ℕ) → length old ≡ 4 → k < 4 → new ≡ set old k found → p k found → ((i : ℕ) → i < k → i < size → p i (slice_index_or old i 0)) → (i : ℕ) → i < k + 1 → i < size → p i (slice_index_or new i 0)
+ranks_next p size old new k found long few e is inv i h within = ⊎_elim here other (cases_eq i k)
   where
-    here : i ≡ k → IsFound order a i (slice_index_or new i 0)
+    here : i ≡ k → p i (slice_index_or new i 0)
     here same =
-        let value : slice_index_or new i 0 ≡ found = ap (λ (xs : List ℕ). slice_index_or xs i 0) e ∙ get_or-set_at sources k i found 0 same (omega (arith, long, few)) in
-        let byte : x ≡ a.address + i = omega (arith, at, same) in
-        subst (IsFound order a i) (sym value) (subst (λ (y : ℕ). HasRank order (source order a y) found) byte is)
+        let value : slice_index_or new i 0 ≡ found = ap (λ (xs : List ℕ). slice_index_or xs i 0) e ∙ get_or-set_at old k i found 0 same (omega (arith, long, few)) in
+        subst (p i) (sym value) (subst (λ (j : ℕ). p j found) (sym same) is)
 
-    other : (i ≡ k → ⊥) → IsFound order a i (slice_index_or new i 0)
+    other : (i ≡ k → ⊥) → p i (slice_index_or new i 0)
     other apart =
-        let value : slice_index_or new i 0 ≡ slice_index_or sources i 0 = ap (λ (xs : List ℕ). slice_index_or xs i 0) e ∙ get_or-set_other sources k i found 0 apart in
-        subst (IsFound order a i) (sym value) (inv i (omega (arith, h, apart)) within)
+        let value : slice_index_or new i 0 ≡ slice_index_or old i 0 = ap (λ (xs : List ℕ). slice_index_or xs i 0) e ∙ get_or-set_other old k i found 0 apart in
+        subst (p i) (sym value) (inv i (omega (arith, h, apart)) within)
 
-pub sources_same : (order : List Operation) (a : Operation) (sources new : List ℕ) (k : ℕ) → new ≡ sources → a.size ≤ k
-    → ((i : ℕ) → i < k → i < a.size → IsFound order a i (slice_index_or sources i 0)) → (i : ℕ) → i < k + 1 → i < a.size → IsFound order a i (slice_index_or new i 0)
-sources_same order a sources new k e past inv i h within =
-    subst (λ (xs : List ℕ). IsFound order a i (slice_index_or xs i 0)) (sym e) (inv i (omega (arith, past, within)) within)
+pub ranks_same : (p : ℕ → ℕ → Type 0) (size : ℕ) (old new : List ℕ) (k : ℕ) → new ≡ old → size ≤ k → ((i : ℕ) → i < k → i < size → p i (slice_index_or old i 0)) → (i : ℕ) → i < k + 1 → i < size → p i (slice_index_or new i 0)
+ranks_same p size old new k e past inv i h within = subst (λ (xs : List ℕ). p i (slice_index_or xs i 0)) (sym e) (inv i (omega (arith, past, within)) within)

@@ -13,8 +13,9 @@ pub mod Harts
 pub mod Indexed
 pub mod Judged
 pub mod Kept
+pub mod LastStores
+pub mod ListedNames
 pub mod Listing
-pub mod Lowest
 pub mod Marks
 pub mod Noted
 pub mod Opcodes
@@ -26,6 +27,7 @@ pub mod Ranks
 pub mod Seen
 pub mod Steps
 pub mod Sweeps
+pub mod Tables
 pub mod Touches
 pub mod Verdicts
 pub mod Within

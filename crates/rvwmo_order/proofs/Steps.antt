@@ -2,7 +2,7 @@
 use Rattle.std.proofs.Common.{◌≡◌, ◌+◌, ◌-◌, ◌<◌, ◌≤◌, ◌&&◌, ℕ, Bool, true, false, List, [], ◌∷◌, ◌++◌, Option, Some, None, length, drop, take, get_or, cond, sym, ap, ◌∙◌, ◌⊎◌, inl, inr, arith}
 use Rattle.std.specs.List.{cons_option, filter, filter_map}
 use Rattle.std.proofs.lemmas.Bool.{cases_lt}
-use Rattle.std.proofs.lemmas.List.{append_assoc, at_drop_more, get_or_append_left, get_or_push, take_rest}
+use Rattle.std.proofs.lemmas.List.{append_assoc, at_drop_all, at_drop_more, get_or_append_left, get_or_push, take_rest}
 use Rattle.hart.specs.declared.retired.Retired.{Retired}
 use Rattle.hart.specs.declared.state.Hart.{Hart}
 use Rattle.elf_loader.specs.Image.{Initial}
@@ -86,6 +86,21 @@ pub run_next : (image : Initial) (status : Status) (hart next : Hart) (rest : Li
 run_next image status hart next rest d step h e f g =
     rest_next (fits image status hart) (fits image status next) rest d h
     (λ r. ap (λ (b : Bool). (b && are_steps image (after hart (get_or rest 0 d)) r) && status_fits image (reached (after hart (get_or rest 0 d)) r) status) (sym e ∙ f) ∙ ap (λ (n : Hart). fits image status n r) (sym g))
+
+-- the same of what is behind a place of the list
+pub run_further : (image : Initial) (status : Status) (hart next : Hart) (es : List Retired) (place : ℕ) (d : Retired) (step : Bool) → place < length es → step ≡ is_step image hart (get_or es place d) → step ≡ true → next ≡ after hart (get_or es place d)
+    → fits image status hart (drop place es) ≡ fits image status next (drop (place + 1) es)
+run_further image status hart next es place d step h e f g =
+    at_drop_more (fits image status hart) es place d h
+    ∙ (ap (λ (b : Bool). (b && are_steps image (after hart (get_or es place d)) (drop (place + 1) es)) && status_fits image (reached (after hart (get_or es place d)) (drop (place + 1) es)) status) (sym e ∙ f) ∙ ap (λ (n : Hart). fits image status n (drop (place + 1) es)) (sym g))
+
+pub run_stopped : (image : Initial) (status : Status) (hart : Hart) (es : List Retired) (place : ℕ) (d : Retired) (step : Bool) → place < length es → step ≡ is_step image hart (get_or es place d) → step ≡ false → fits image status hart (drop place es) ≡ false
+run_stopped image status hart es place d step h e f =
+    at_drop_more (fits image status hart) es place d h
+    ∙ ap (λ (b : Bool). (b && are_steps image (after hart (get_or es place d)) (drop (place + 1) es)) && status_fits image (reached (after hart (get_or es place d)) (drop (place + 1) es)) status) (sym e ∙ f)
+
+pub run_ended : (image : Initial) (status : Status) (hart : Hart) (es : List Retired) (place : ℕ) → length es ≤ place → fits image status hart (drop place es) ≡ status_fits image hart status
+run_ended image status hart es place h = at_drop_all (fits image status hart) es place h
 
 -- ---- the stores that a load may return, where an order goes on behind its first
 

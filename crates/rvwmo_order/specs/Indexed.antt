@@ -1,14 +1,32 @@
 -- What an index keeps of an order: where each operation stands, and the stores to each byte.
-use Rattle.std.specs.Prelude.{◌≡◌, ◌≤◌, ◌<◌, ◌-◌, ℕ, ◌+◌, Bool, true, false, slice_get, slice_index_or, ◌&&◌, ◌||◌, ◌==◌, nat_eq, nat_lt, if◌then◌else◌, List, [], ◌∷◌, Option, Some, None, filter, length}
+use Rattle.std.specs.Prelude.{◌≡◌, ◌≤◌, ◌<◌, ◌-◌, ℕ, ◌+◌, Bool, true, slice_get, slice_index_or, ◌&&◌, ◌||◌, ◌==◌, nat_lt, if◌then◌else◌, List, [], ◌∷◌, Option, Some, None, filter, length}
+use Rattle.std.specs.Option.{option_map_or}
 use Rattle.memory_model.specs.declared.operation.Operation.{Operation}
-use Rattle.memory_model.specs.Operations.{is_lr, precedes, reads, same, stores_to}
+use Rattle.memory_model.specs.Operations.{is_lr, reads, same, stores_to}
 use Rattle.memory_model.specs.Order.{position_in, source}
+use Rattle.trace_recorder.specs.History.{History, entries_of}
 use Rattle.trace_recorder.specs.declared.operation.OpId.{OpId}
+use Rattle.rvwmo_order.specs.declared.places.Numbers.{Numbers}
+use Rattle.rvwmo_order.specs.declared.places.Places.{Places}
 use Rattle.rvwmo_order.specs.declared.stored.Stored.{Stored}
 
--- the same hart and the same place
-abbrev pub name_eq : ℕ × ℕ → ℕ × ℕ → Bool
-name_eq a b = nat_eq a.0 b.0 && nat_eq a.1 b.1
+-- the number of a name, by hart and by place; 0 where it has none
+abbrev pub number_of : ℕ → ℕ → List Numbers → ℕ
+number_of hart place lists = option_map_or (λ (l : Numbers). slice_index_or l.numbers.items place 0) (slice_get lists hart) 0
+
+abbrev pub number_in : ℕ → ℕ → Places → ℕ
+number_in hart place p = number_of hart place p.lists.items
+
+-- the place that is one less than a number, where that isn't 0
+abbrev pub known : ℕ → Option ℕ
+known number = if number == 0 then None else Some (number - 1)
+
+abbrev pub has_name : Places → OpId → Bool
+has_name names n = nat_lt 0 (number_in n.hart n.place names)
+
+-- the hart has retired an instruction at this place
+abbrev pub is_listed : History → OpId → Bool
+is_listed t n = nat_lt n.place (length (entries_of t n.hart))
 
 -- the place of the first of these operations that is a, counted from a number
 abbrev pub place_from : ℕ → Operation → List Operation → Option ℕ
@@ -28,31 +46,9 @@ stored_from position x order = filter (λ (s : Stored). stores_to x s.store) (nu
 abbrev pub is_seen : ℕ → OpId → Stored → Bool
 is_seen position load s = nat_lt s.position position || (s.store.hart == load.hart && nat_lt s.store.place load.place)
 
--- how many operations there are up to the last that precedes b in program order, with so many counted and so many reached
-abbrev pub reach_from : ℕ → ℕ → Operation → List Operation → ℕ
-reach_from count reach b [] = reach
-reach_from count reach b (a ∷ rest) = reach_from (count + 1) (if precedes a b then count + 1 else reach) b rest
-
--- that of each operation, among those behind it
-abbrev pub reaches_of : List Operation → List ℕ
-reaches_of [] = []
-reaches_of (b ∷ rest) = reach_from 0 0 b rest ∷ reaches_of rest
-
 -- a is an LR of a hart
 abbrev pub is_lr_of : ℕ → Operation → Bool
 is_lr_of hart a = is_lr a.kind && a.hart == hart
-
--- none of these stands before an earlier one of them
-abbrev pub AreRisingStores : List Stored → Type 0
-AreRisingStores stores = (i j : ℕ) (s t : Stored) → i ≤ j → slice_get stores i ≡ Some s → slice_get stores j ≡ Some t → s.position ≤ t.position
-
--- those from a number on stand further behind a place than so much
-abbrev pub IsBeyond : ℕ → ℕ → ℕ → List Stored → Type 0
-IsBeyond position reach count stores = (k : ℕ) (s : Stored) → count ≤ k → slice_get stores k ≡ Some s → reach < s.position - position
-
--- a load sees none of these that stands further behind its place than so much
-abbrev pub SeesWithin : ℕ → ℕ → OpId → List Stored → Type 0
-SeesWithin position reach load stores = (k : ℕ) (s : Stored) → slice_get stores k ≡ Some s → reach < s.position - position → is_seen position load s ≡ false
 
 -- ---- ranks in an order: one more than a place, and 0 where there is no operation
 

@@ -6,7 +6,7 @@ pub mod Placed
 pub mod Listed
 pub mod Sweeps
 pub mod Marks
-pub mod Lowest
+pub mod Sourcing
 pub mod Carried
 pub mod Passed
 pub mod Touched

@@ -1,5 +1,5 @@
 //! Operations and their bytes (chapter 14.1, "Memory Model Primitives").
-ghost use Rattle.std.specs.Prelude.{◌≡◌, ◌+◌, ◌/◌, ◌%◌, ◌^◌};
+ghost use Rattle.std.specs.Prelude.{◌≡◌, ◌≤◌, ◌<◌, ◌+◌, ◌*◌, ◌/◌, ◌%◌, ◌^◌};
 ghost use Rattle.memory_model.specs.Operations as spec;
 ghost use Rattle.memory_model.specs.Verdict as verdict;
 ghost use Rattle.elf_loader.specs.Image as images;
@@ -160,4 +160,14 @@ pub(crate) fn is_sc(kind: Kind) -> bool
         Kind::Sc => true,
         Kind::Load | Kind::Store | Kind::Lr | Kind::Amo => false,
     }
+}
+
+/// The byte behind those from one on, and before another, that are in its word.
+pub(crate) fn behind_in_word(x: u64, end: u64) -> u64
+    requires { x < end }
+    ensures further { x < result }
+    ensures up_to { result ≤ end }
+    ensures within { result ≤ x / 4 * 4 + 4 }
+{
+    end.min((x / 4 * 4).saturating_add(4))
 }

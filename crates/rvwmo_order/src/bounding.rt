@@ -7,9 +7,9 @@ ghost use Rattle.rvwmo_order.specs.Bounds as spec;
 ghost use Rattle.rvwmo_order.specs.Bounds.{AreDistinctOperations, BoundsEach, GivesEach, HasCome, RanksEach};
 ghost use Rattle.rvwmo_order.specs.Placed.{GivesOwn, IsPlaced};
 
-use crate::index::Index;
 use crate::items::Harts;
 use crate::listed::Item;
+use crate::ranking::Ranking;
 use crate::rows::{Row, UNBOUNDED};
 use crate::walking::{Walk, weight_at};
 use memory_model::MemoryModel;
@@ -20,7 +20,7 @@ pub(crate) fn ranked_rows(
     alloc: Global,
     model: MemoryModel,
     harts: &Harts,
-    index: &Index,
+    index: &Ranking,
 ) -> Result<Vec<Row>, AllocError>
     requires gives { GivesEach harts.now index.now }
     requires distinct { AreDistinctOperations index.now }
@@ -46,7 +46,7 @@ pub(crate) fn rows_of(
     alloc: Global,
     model: MemoryModel,
     harts: &Harts,
-    index: &Index,
+    index: &Ranking,
     weights: &[usize],
 ) -> Result<Vec<Row>, AllocError>
     requires gives { GivesEach harts.now index.now }
@@ -81,7 +81,7 @@ fn bound_hart(
     model: MemoryModel,
     harts: &Harts,
     hart: u8,
-    index: &Index,
+    index: &Ranking,
     weights: &[usize],
 ) -> Result<(), AllocError>
     requires gives { GivesEach harts.now index.now }
@@ -114,7 +114,7 @@ fn bound_item(
     walk: &Walk,
     harts: &Harts,
     hart: u8,
-    index: &Index,
+    index: &Ranking,
     weights: &[usize],
     item: &Item,
 ) -> Standing

@@ -1,5 +1,5 @@
 //! The checker: a trace and an order in, a verdict out.
-ghost use Rattle.std.specs.Prelude.{◌≡◌, ◌↔◌, ◌<◌, true, false, length, Err, IfOk, IsErrOf};
+ghost use Rattle.std.specs.Prelude.{◌≡◌, ◌↔◌, ◌<◌, true, false, length, Err, IfOk, IsErrOf, if◌then◌else◌};
 ghost use Rattle.memory_model.specs.Traces as traces;
 ghost use Rattle.memory_model.specs.Traces.{IsLegalOrder};
 ghost use Rattle.memory_model.specs.Verdict.{fault_in};
@@ -7,10 +7,10 @@ ghost use Rattle.rvwmo_order.specs.Answers.{IsSoundVerdict, fault_told, refusal,
 ghost use Rattle.rvwmo_order.specs.Scans.{judged};
 
 use crate::error::CheckError;
-use crate::index::Index;
 use crate::items::Harts;
 use crate::judging::judge;
 use crate::orders::{has_too_many, is_order, names_in, operations_at};
+use crate::ranking::Ranking;
 use crate::runs::are_runs;
 use crate::verdict::Verdict;
 use memory_model::MemoryModel;
@@ -43,18 +43,32 @@ pub fn check_model(
     ensures sound { IfOk result (λ v. IsSoundVerdict model trace.now.history order.now v) }
     ensures first { IfOk result (λ v. fault_told v ≡ fault_in model trace.now.history order.now) }
 {
-    if !are_runs(trace) {
-        return Err(CheckError::NotARun);
-    }
     if has_too_many(trace) {
-        return Err(CheckError::TooLong);
+        return Err(unless_no_run(trace, CheckError::TooLong));
     }
+    let found = match Harts::of_runs(alloc, trace) {
+        Ok(found) => found,
+        Err(_) => return Err(unless_no_run(trace, CheckError::NoMemory)),
+    };
+    let Some(harts) = found else {
+        return Err(CheckError::NotARun);
+    };
     let names = names_in(alloc, trace)?;
-    let harts = Harts::of(alloc, trace)?;
-    if !is_order(alloc, &harts, &names, order)? {
+    if !is_order(alloc, trace, &harts, &names, order)? {
         return Err(CheckError::NotAnOrder);
     }
     Ok(verdict_on(alloc, trace, &harts, order, model)?)
+}
+
+// Why an order isn't judged, where it is for this cause unless a list is no run, which takes no memory to find.
+fn unless_no_run(trace: &Trace, cause: CheckError) -> CheckError
+    ensures { result ≡ (if traces.are_runs trace.now.history then cause else CheckError.NotARun) }
+{
+    if are_runs(trace) {
+        cause
+    } else {
+        CheckError::NotARun
+    }
 }
 
 // The verdict on an order of the operations.
@@ -69,6 +83,6 @@ fn verdict_on(
     requires distinct { traces.is_distinct order.now ≡ true }
     ensures { IfOk result (λ v. v ≡ judged model (traces.image_of trace.now.history) (traces.instructions trace.now.history) (traces.operations_at (traces.instructions trace.now.history) order.now)) }
 {
-    let index = Index::of(alloc, operations_at(alloc, harts, order)?)?;
+    let index = Ranking::of(alloc, trace, operations_at(alloc, harts, order)?)?;
     judge(alloc, model, trace.image(), harts, &index)
 }

@@ -13,7 +13,7 @@ pub fn completed(alloc: Global, trace: &Trace) -> Result<Vec<OpId>, AllocError>
     ensures { IfOk result (λ order. order.items ≡ spec.completed trace.now.history) }
 {
     let names = names_in(alloc, trace)?;
-    let performed = names_of(alloc, trace.performed())?;
+    let performed = names_of(alloc, trace, trace.performed())?;
     let mut order = trace.performed().to_vec(alloc)?;
     for name in &names {
         if !has(&performed, *name) {

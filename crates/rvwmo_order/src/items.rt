@@ -1,7 +1,8 @@
 //! Each hart's retired instructions, with the memory operations that they gave (chapter 14.1, "Memory Model
 //! Primitives").
-ghost use Rattle.std.specs.Prelude.{◌≡◌, ◌≤◌, ◌*◌, ◌%◌, ◌^◌, Bool, IfOk, Option, Some, false, length, slice_get, slice_index};
-ghost use Rattle.std.specs.Option.{option_copied, option_map_or};
+ghost use Rattle.std.specs.Prelude.{◌≡◌, ◌≤◌, ◌*◌, ◌%◌, ◌^◌, ◌&&◌, Bool, IfOk, Option, Some, false, is_some, length, slice_get, slice_index};
+ghost use Rattle.std.specs.Option.{IfSome, option_copied, option_map_or};
+ghost use Rattle.machine_limits.specs.declared.TheConstants.{MAX_ENTRIES};
 ghost use Rattle.memory_model.specs.Rules as rules;
 ghost use Rattle.hart.specs.Run as run;
 ghost use Rattle.rv32_decode.specs.Rows.{decoded};
@@ -12,9 +13,10 @@ ghost use Rattle.memory_model.specs.Traces as traces;
 ghost use Rattle.rvwmo_order.specs.Placed.{GivesOwn};
 
 use crate::listed::Items;
-use crate::runs::retire;
+use crate::runs::{is_step, retire, status_fits};
 use amo_unit::combine;
-use hart::{Hart, Retired};
+use elf_loader::Image;
+use hart::{Hart, Retired, Status};
 use memory_model::{Kind, Operation};
 use rv32_decode::{Annotations, Instr, LoadOp, Register, StoreOp, decode};
 use std::alloc::{AllocError, Global};
@@ -23,7 +25,7 @@ use trace_recorder::Trace;
 
 // The instructions of a hart's list.
 fn items_of(alloc: Global, reset: &Hart, entries: &[Retired]) -> Result<Items, AllocError>
-    requires { length entries.now ≤ 1000000 }
+    requires { length entries.now ≤ MAX_ENTRIES }
     ensures { IfOk result (λ items. items ≡ spec.items_from 0 reset.now entries.now) }
 {
     let mut hart = *reset;
@@ -34,6 +36,36 @@ fn items_of(alloc: Global, reset: &Hart, entries: &[Retired]) -> Result<Items, A
         retire(&mut hart, entry, &instr);
     }
     Ok(items)
+}
+
+// The instructions of a hart's list, where its entries and status are those of a run from where it stands.
+fn run_of(
+    alloc: Global,
+    image: &Image,
+    reset: &Hart,
+    entries: &[Retired],
+    status: Status,
+) -> Result<Option<Items>, AllocError>
+    requires { length entries.now ≤ MAX_ENTRIES }
+    ensures runs { IfOk result (λ found. is_some found
+        ≡ (run.are_steps image.now reset.now entries.now
+        && run.status_fits image.now (run.reached reset.now entries.now) status)) }
+    ensures items { IfOk result (λ found. IfSome found (λ items. items ≡ spec.items_from 0 reset.now entries.now)) }
+{
+    let mut hart = *reset;
+    let mut items = Items::with_capacity(alloc, entries.len())?;
+    for (place, entry) in entries.iter().enumerate() {
+        let instr = decode(entry.word);
+        if !is_step(image, &hart, entry, &instr) {
+            return Ok(None);
+        }
+        items.push(entry.word, operation_in(place as u32, &hart, entry, &instr))?;
+        retire(&mut hart, entry, &instr);
+    }
+    if !status_fits(image, &hart, status) {
+        return Ok(None);
+    }
+    Ok(Some(items))
 }
 
 // The operation of an entry, where it has one, its hart standing before it.
@@ -82,6 +114,20 @@ impl Harts {
         })
     }
 
+    /// Those of a trace, where its lists are runs.
+    pub(crate) fn of_runs(alloc: Global, trace: &Trace) -> Result<Option<Harts>, AllocError>
+        ensures runs { IfOk result (λ found. is_some found ≡ traces.are_runs trace.now.history) }
+        ensures all { IfOk result (λ found. IfSome found (λ harts. harts ≡ traces.instructions trace.now.history)) }
+    {
+        let Some(lists) = run_lists(alloc, trace)? else {
+            return Ok(None);
+        };
+        Ok(Some(Harts {
+            lists,
+            none: Items::none(alloc),
+        }))
+    }
+
     pub(crate) fn get(&self, hart: u8) -> Option<&Items>
         ensures { option_copied result ≡ slice_get self.now hart }
     {
@@ -110,6 +156,23 @@ fn instructions(alloc: Global, trace: &Trace) -> Result<Vec<Items>, AllocError>
         lists.push(items_of(alloc, &reset, trace.entries(id))?)?;
     }
     Ok(lists)
+}
+
+fn run_lists(alloc: Global, trace: &Trace) -> Result<Option<Vec<Items>>, AllocError>
+    ensures runs { IfOk result (λ found. is_some found ≡ traces.are_runs trace.now.history) }
+    ensures all { IfOk result (λ found. IfSome found (λ lists. lists.items ≡ traces.instructions trace.now.history)) }
+{
+    let count = trace.harts();
+    let mut lists = Vec::new(alloc);
+    for id in 0..count {
+        let reset = Hart::at_reset(id as u8, trace.image().entry(), count as u32);
+        let status = trace.statuses()[id];
+        let Some(items) = run_of(alloc, trace.image(), &reset, trace.entries(id), status)? else {
+            return Ok(None);
+        };
+        lists.push(items)?;
+    }
+    Ok(Some(lists))
 }
 
 /// Whether an entry has a memory operation.

@@ -14,8 +14,8 @@ ghost use Rattle.rvwmo_order.specs.Scans.{all_rules, first_broken_pair, first_br
 
 use crate::accesses::{end_of, is_same, is_sc, name_of, read_at, reads, stores_to};
 use crate::bounding::ranked_rows;
-use crate::index::Index;
 use crate::items::Harts;
+use crate::ranking::Ranking;
 use crate::rows::{Row, are_clear};
 use crate::rules::{are_paired, earliest_pair};
 use crate::searching::first_broken_by;
@@ -31,7 +31,7 @@ pub(crate) fn judge(
     model: MemoryModel,
     image: &Image,
     harts: &Harts,
-    index: &Index,
+    index: &Ranking,
 ) -> Result<Verdict, AllocError>
     requires gives { GivesEach harts.now index.now }
     requires distinct { AreDistinctOperations index.now }
@@ -55,7 +55,7 @@ fn broken_rule(
     alloc: Global,
     model: MemoryModel,
     harts: &Harts,
-    index: &Index,
+    index: &Ranking,
     rows: &[Row],
 ) -> Result<Option<(Rule, Operation, Operation)>, AllocError>
     requires gives { GivesEach harts.now index.now }
@@ -77,7 +77,7 @@ fn broken_rule(
 }
 
 // The first load that returns another byte than its source's.
-fn wrong_load(image: &Image, index: &Index) -> Option<Operation>
+fn wrong_load(image: &Image, index: &Ranking) -> Option<Operation>
     ensures { result ≡ scans.wrong_load (byte_at image.now) index.now }
 {
     let mut rest = index.order();
@@ -90,13 +90,13 @@ fn wrong_load(image: &Image, index: &Index) -> Option<Operation>
     None
 }
 
-fn returns_sources(image: &Image, index: &Index, a: &Operation) -> bool
+fn returns_sources(image: &Image, index: &Ranking, a: &Operation) -> bool
     ensures { result ≡ legal.returns_sources (byte_at image.now) index.now a.now }
 {
     !reads(a.kind) || has_source_bytes(image, index, a)
 }
 
-fn has_source_bytes(image: &Image, index: &Index, a: &Operation) -> bool
+fn has_source_bytes(image: &Image, index: &Ranking, a: &Operation) -> bool
     ensures { result
         ≡ list_all (λ x. operations.read_at a.now x == orders.byte_from (byte_at image.now) x (orders.source index.now a.now x)) (operations.bytes_of a.now) }
 {
@@ -107,7 +107,7 @@ fn has_source_bytes(image: &Image, index: &Index, a: &Operation) -> bool
 }
 
 // The first LR and SC that are paired and not atomic.
-fn broken_pair(harts: &Harts, index: &Index) -> Option<(Operation, Operation)>
+fn broken_pair(harts: &Harts, index: &Ranking) -> Option<(Operation, Operation)>
     ensures { result ≡ first_broken_pair harts.now index.now index.now }
 {
     let mut rest = index.order();
@@ -121,7 +121,7 @@ fn broken_pair(harts: &Harts, index: &Index) -> Option<(Operation, Operation)>
 }
 
 // The first LR that is paired with this SC and not atomic with it.
-fn first_broken_with(harts: &Harts, index: &Index, w: &Operation) -> Option<Operation>
+fn first_broken_with(harts: &Harts, index: &Ranking, w: &Operation) -> Option<Operation>
     ensures { result
         ≡ find (λ r. scans.is_broken_pair harts.now index.now r w.now) index.now }
 {
@@ -141,7 +141,7 @@ fn first_broken_with(harts: &Harts, index: &Index, w: &Operation) -> Option<Oper
 
 // Whether the LR and the SC are paired and not atomic, where no LR before this place is paired with it.
 #[tactic(auto, using(crate::proofs::Pairs::none_broken_before))]
-fn is_broken_from(first: u32, harts: &Harts, index: &Index, r: &Operation, w: &Operation) -> bool
+fn is_broken_from(first: u32, harts: &Harts, index: &Ranking, r: &Operation, w: &Operation) -> bool
     requires { (a : OperationValue) → a.place < first → rules.paired (rules.items_of harts.now w.now.hart) a w.now ≡ false }
     ensures { result ≡ scans.is_broken_pair harts.now index.now r.now w.now }
 {
@@ -152,13 +152,13 @@ fn is_broken_from(first: u32, harts: &Harts, index: &Index, r: &Operation, w: &O
 }
 
 // Whether the LR and the SC are paired and not atomic.
-fn is_broken_pair(harts: &Harts, index: &Index, r: &Operation, w: &Operation) -> bool
+fn is_broken_pair(harts: &Harts, index: &Ranking, r: &Operation, w: &Operation) -> bool
     ensures { result ≡ scans.is_broken_pair harts.now index.now r.now w.now }
 {
     are_paired(harts.items_of(r.hart), r, w) && !is_atomic(index, r, w)
 }
 
-fn is_atomic(index: &Index, r: &Operation, w: &Operation) -> bool
+fn is_atomic(index: &Ranking, r: &Operation, w: &Operation) -> bool
     ensures { result ≡ legal.is_atomic index.now r.now w.now }
 {
     (u64::from(r.address)..end_of(r)).all(|x| is_atomic_at(index, r, w, x))
@@ -166,7 +166,7 @@ fn is_atomic(index: &Index, r: &Operation, w: &Operation) -> bool
 
 // Whether the SC `w` stands behind the source of byte `x` of the LR `r`, with no other hart's store to it
 // between.
-fn is_atomic_at(index: &Index, r: &Operation, w: &Operation, x: u64) -> bool
+fn is_atomic_at(index: &Ranking, r: &Operation, w: &Operation, x: u64) -> bool
     ensures { result ≡ legal.is_atomic_at index.now r.now w.now x }
 {
     let mut rest = behind(index.source_of(r, x), index);
@@ -183,7 +183,7 @@ fn is_atomic_at(index: &Index, r: &Operation, w: &Operation, x: u64) -> bool
 }
 
 // What stands behind a source; the image stands before everything.
-fn behind(source: Option<Operation>, index: &Index) -> &[Operation]
+fn behind(source: Option<Operation>, index: &Ranking) -> &[Operation]
     ensures { result.now ≡ legal.behind source index.now }
 {
     match source {

@@ -72,6 +72,7 @@ fn count_of(entries: &[Retired]) -> usize
 /// Whether a list has each of these names exactly once, and no other, where they are those of all operations.
 pub(crate) fn is_order(
     alloc: Global,
+    trace: &Trace,
     harts: &Harts,
     names: &[OpId],
     order: &[OpId],
@@ -85,7 +86,7 @@ pub(crate) fn is_order(
     if !have_operations(harts, order) {
         return Ok(false);
     }
-    match distinct_names(alloc, order)? {
+    match distinct_names(alloc, trace, order)? {
         Some(known) => Ok(has_all(&known, names)),
         None => Ok(false),
     }

@@ -16,8 +16,8 @@ use crate::accesses::{
     end_of, has_acquire, has_rcsc, has_release, is_amo, is_lr, is_sc, overlap, precedes, reads,
     stores_to, touches, writes,
 };
-use crate::index::Index;
 use crate::listed::Items;
+use crate::ranking::Ranking;
 use crate::sources::{is_same_source, returns_from};
 use crate::sweeping::Sweep;
 use crate::verdict::Rule;
@@ -30,7 +30,7 @@ pub(crate) fn asks(
     sweep: &Sweep,
     model: MemoryModel,
     items: &Items,
-    index: &Index,
+    index: &Ranking,
     a: &Operation,
     b: &Operation,
 ) -> bool
@@ -57,19 +57,19 @@ pub(crate) fn asks(
 }
 
 // Rule 2: both are loads and return a byte of both from different writes, with no store to it between.
-fn are_same_byte_loads(items: &Items, index: &Index, a: &Operation, b: &Operation) -> bool
+fn are_same_byte_loads(items: &Items, index: &Ranking, a: &Operation, b: &Operation) -> bool
     ensures { result ≡ spec.rule_2 items.now index.now a.now b.now }
 {
     reads(a.kind) && reads(b.kind) && return_differently(items, index, a, b)
 }
 
-fn return_differently(items: &Items, index: &Index, a: &Operation, b: &Operation) -> bool
+fn return_differently(items: &Items, index: &Ranking, a: &Operation, b: &Operation) -> bool
     ensures { result ≡ list_any (λ x. scans.returns_differently x items.now index.now a.now b.now) (bytes_of a.now) }
 {
     (u64::from(a.address)..end_of(a)).any(|x| returns_differently(x, items, index, a, b))
 }
 
-fn returns_differently(x: u64, items: &Items, index: &Index, a: &Operation, b: &Operation) -> bool
+fn returns_differently(x: u64, items: &Items, index: &Ranking, a: &Operation, b: &Operation) -> bool
     ensures { result ≡ scans.returns_differently x items.now index.now a.now b.now }
 {
     touches(x, b)

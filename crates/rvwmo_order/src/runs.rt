@@ -52,8 +52,8 @@ fn is_run(image: &Image, reset: &Hart, entries: &[Retired], status: Status) -> b
     status_fits(image, &hart, status)
 }
 
-// Whether a hart can retire this entry, of this instruction.
-fn is_step(image: &Image, hart: &Hart, entry: &Retired, instr: &Option<Instr>) -> bool
+/// Whether a hart can retire this entry, of this instruction.
+pub(crate) fn is_step(image: &Image, hart: &Hart, entry: &Retired, instr: &Option<Instr>) -> bool
     requires { instr.now ≡ decoded entry.now.word }
     ensures { result ≡ spec.is_step image.now hart.now entry.now }
 {
@@ -142,8 +142,8 @@ pub(crate) fn retire(hart: &mut Hart, entry: &Retired, instr: &Option<Instr>)
     }
 }
 
-// Whether a hart whose entries lead here may have this status.
-fn status_fits(image: &Image, hart: &Hart, status: Status) -> bool
+/// Whether a hart whose entries lead here may have this status.
+pub(crate) fn status_fits(image: &Image, hart: &Hart, status: Status) -> bool
     ensures { result ≡ spec.status_fits image.now hart.now status }
 {
     match status {

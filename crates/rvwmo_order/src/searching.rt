@@ -10,8 +10,8 @@ ghost use Rattle.rvwmo_order.specs.Scans as scans;
 
 use crate::accesses::precedes;
 use crate::bounding::rows_of;
-use crate::index::Index;
 use crate::items::Harts;
+use crate::ranking::Ranking;
 use crate::rows::{Row, bound_at};
 use crate::rules::asks;
 use crate::sweeping::Sweep;
@@ -26,7 +26,7 @@ pub(crate) fn first_broken_by(
     rule: Rule,
     model: MemoryModel,
     harts: &Harts,
-    index: &Index,
+    index: &Ranking,
     rows: &[Row],
 ) -> Result<Option<(Operation, Operation)>, AllocError>
     requires gives { GivesEach harts.now index.now }
@@ -55,7 +55,7 @@ fn first_behind(
     rule: Rule,
     model: MemoryModel,
     harts: &Harts,
-    index: &Index,
+    index: &Ranking,
     place: usize,
     b: &Operation,
 ) -> Result<Option<Operation>, AllocError>
@@ -103,7 +103,7 @@ fn first_asked(
     sweep: &Sweep,
     model: MemoryModel,
     harts: &Harts,
-    index: &Index,
+    index: &Ranking,
     among: &[Operation],
     b: &Operation,
 ) -> Option<Operation>
@@ -124,7 +124,7 @@ fn is_asked(
     sweep: &Sweep,
     model: MemoryModel,
     harts: &Harts,
-    index: &Index,
+    index: &Ranking,
     a: &Operation,
     b: &Operation,
 ) -> bool

@@ -5,7 +5,7 @@ ghost use Rattle.memory_model.specs.Rules as rules;
 ghost use Rattle.elf_loader.specs.Image.{byte_at};
 
 use crate::accesses::{end_of, image_byte, is_same, written_at};
-use crate::index::Index;
+use crate::ranking::Ranking;
 use elf_loader::Image;
 use memory_model::Operation;
 
@@ -30,7 +30,7 @@ pub(crate) fn byte_from(image: &Image, x: u64, source: Option<Operation>) -> u32
 }
 
 /// Whether a byte of `b` comes from the store `a`.
-pub(crate) fn returns_from(index: &Index, b: &Operation, a: &Operation) -> bool
+pub(crate) fn returns_from(index: &Ranking, b: &Operation, a: &Operation) -> bool
     ensures { result ≡ rules.returns_from index.now b.now a.now }
 {
     (u64::from(b.address)..end_of(b)).any(|x| is_same_source(index.source_of(b, x), Some(*a)))

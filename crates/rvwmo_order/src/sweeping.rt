@@ -13,8 +13,8 @@ ghost use Rattle.rvwmo_order.specs.Placed.{GivesOwn};
 ghost use Rattle.rvwmo_order.specs.Scans.{registers_in};
 
 use crate::accesses::{end_of, precedes, reads, writes};
-use crate::index::Index;
 use crate::listed::{Item, Items, Stretch};
+use crate::ranking::Ranking;
 use crate::sources::is_same_source;
 use crate::uses::{
     address_register, destination, instr_at, is_steering, other_registers, stored_register,
@@ -58,7 +58,7 @@ impl Sweep {
     pub(crate) fn mark(
         &mut self,
         items: &Items,
-        index: &Index,
+        index: &Ranking,
         among: &[Operation],
         b: &Operation,
     ) -> Result<(), AllocError>
@@ -109,7 +109,7 @@ fn is_swept(rule: Rule, b: &Operation) -> bool
 fn find_sources(
     sources: &mut Vec<Option<Operation>>,
     rule: Rule,
-    index: &Index,
+    index: &Ranking,
     b: &Operation,
 ) -> Result<(), AllocError>
     ensures { OnOk result (sources.new.items ≡ spec.sources_of rule index.now b.now) }

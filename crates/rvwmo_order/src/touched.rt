@@ -9,8 +9,8 @@ ghost use Rattle.rvwmo_order.specs.Indexed.{GivesRanks};
 ghost use Rattle.rvwmo_order.specs.Touched as spec;
 ghost use Rattle.rvwmo_order.specs.Touched.{touch_in};
 
-use crate::accesses::{end_of, reads, writes};
-use crate::index::Index;
+use crate::accesses::{behind_in_word, end_of, reads, writes};
+use crate::ranking::Ranking;
 use memory_model::Operation;
 use std::alloc::{AllocError, Global};
 use std::collections::HashMap;
@@ -59,7 +59,7 @@ impl Touch {
     // Goes past an operation that touches the byte `x`, and stands at this place of the order.
     fn pass(
         &mut self,
-        index: &Index,
+        index: &Ranking,
         ranks: &[usize; 4],
         position: usize,
         x: u64,
@@ -137,7 +137,7 @@ fn touch_at(word: &[Touch], x: u64) -> Touch
 /// Goes past an operation that stands at this place of the order.
 pub(crate) fn pass_bytes(
     touches: &mut HashMap<u64, [Touch; 4]>,
-    index: &Index,
+    index: &Ranking,
     position: usize,
     a: &Operation,
     own: usize,
@@ -152,16 +152,21 @@ pub(crate) fn pass_bytes(
     let mut x = u64::from(a.address);
     while x < end {
         let behind = behind_in_word(x, end);
-        let mut word = kept_word(touches, x / 4);
-        pass_word(&mut word, index, &ranks, position, x, behind, a, own);
-        touches.insert(x / 4, word)?;
+        match touches.get_mut(&(x / 4)) {
+            Some(word) => pass_word(word, index, &ranks, position, x, behind, a, own),
+            None => {
+                let mut word = [Touch::none(); 4];
+                pass_word(&mut word, index, &ranks, position, x, behind, a, own);
+                touches.insert(x / 4, word)?;
+            }
+        }
         x = behind;
     }
     Ok(())
 }
 
 // The ranks of the stores that the first bytes of an operation come from, where it is a load.
-fn ranks_read(index: &Index, position: usize, a: &Operation) -> [usize; 4]
+fn ranks_read(index: &Ranking, position: usize, a: &Operation) -> [usize; 4]
     requires { position ≡ orders.position_in index.now a.now }
     ensures { operations.reads a.now.kind ≡ true → GivesRanks index.now a.now result }
 {
@@ -172,30 +177,10 @@ fn ranks_read(index: &Index, position: usize, a: &Operation) -> [usize; 4]
     }
 }
 
-// The byte behind those from one on, and before another, that are in its word.
-fn behind_in_word(x: u64, end: u64) -> u64
-    requires { x < end }
-    ensures further { x < result }
-    ensures up_to { result ≤ end }
-    ensures within { result ≤ x / 4 * 4 + 4 }
-{
-    end.min((x / 4 * 4).saturating_add(4))
-}
-
-// What was kept of the bytes of a word, for each of the four.
-fn kept_word(touches: &HashMap<u64, [Touch; 4]>, number: u64) -> [Touch; 4]
-    ensures { result ≡ unwrap_or (hash.get nat_eq touches.now number) (replicate 4 spec.untouched) }
-{
-    match touches.get(&number) {
-        Some(word) => *word,
-        None => [Touch::none(); 4],
-    }
-}
-
 // Goes past it at the bytes of a word from one on, up to another.
 fn pass_word(
     word: &mut [Touch; 4],
-    index: &Index,
+    index: &Ranking,
     ranks: &[usize; 4],
     position: usize,
     first: u64,

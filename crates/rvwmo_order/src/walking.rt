@@ -15,9 +15,9 @@ ghost use Rattle.rvwmo_order.specs.Touched.{but, touch_after, touch_in};
 
 use crate::accesses::{end_of, has_rcsc, has_release, is_amo, is_sc, reads, writes};
 use crate::carried::Carried;
-use crate::index::Index;
 use crate::listed::Item;
 use crate::passed::Passed;
+use crate::ranking::Ranking;
 use crate::rows::{Row, row_at};
 use crate::touched::{Touch, pass_bytes, touch_near, word_of};
 use memory_model::{MemoryModel, Operation};
@@ -51,7 +51,7 @@ impl Walk {
     /// this weight.
     pub(crate) fn pass(
         &mut self,
-        index: &Index,
+        index: &Ranking,
         item: &Item,
         position: usize,
         own: usize,
@@ -74,7 +74,7 @@ impl Walk {
     /// The bounds of an operation and its instruction, with the rows of the operations before.
     pub(crate) fn row(
         &self,
-        index: &Index,
+        index: &Ranking,
         weights: &[usize],
         rows: &[Row],
         position: usize,
@@ -138,7 +138,7 @@ impl Walk {
     // By the stores that the bytes of a load come from.
     fn sourced(
         &self,
-        index: &Index,
+        index: &Ranking,
         weights: &[usize],
         rows: &[Row],
         position: usize,
@@ -193,7 +193,7 @@ fn only_if(test: bool, weight: usize) -> usize
 }
 
 // The weight of the store of a rank, where that is an AMO or an SC of the hart.
-fn atomic_source(index: &Index, weights: &[usize], b: &Operation, rank: usize) -> usize
+fn atomic_source(index: &Ranking, weights: &[usize], b: &Operation, rank: usize) -> usize
     ensures { (s : OperationValue) → ranked index.now rank ≡ Some s → s.hart ≡ b.now.hart → (operations.is_amo s.kind || operations.is_sc s.kind) ≡ true → slice_index_or weights.now (rank - 1) 0 ≤ result }
 {
     let Some(s) = index.ranked(rank) else {
@@ -207,7 +207,7 @@ fn atomic_source(index: &Index, weights: &[usize], b: &Operation, rank: usize) -
 }
 
 // What came into the store of a rank, where that is of the hart.
-fn dependent_store(index: &Index, rows: &[Row], b: &Operation, rank: usize) -> usize
+fn dependent_store(index: &Ranking, rows: &[Row], b: &Operation, rank: usize) -> usize
     ensures { (s : OperationValue) → ranked index.now rank ≡ Some s → s.hart ≡ b.now.hart → max (slice_index_or rows.now (rank - 1) spec.unbounded).address (slice_index_or rows.now (rank - 1) spec.unbounded).data_stored ≤ result }
 {
     let Some(s) = index.ranked(rank) else {

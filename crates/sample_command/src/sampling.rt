@@ -10,15 +10,28 @@ use crate::random_runs::Runs;
 use command_files::{Fault, Files};
 use command_settings::Explore;
 use explore_command::{Asked, Judgement, judge, keep, print};
-use sampler::{Sampling, sample_ends};
+use progress_line::{Progress, Stage};
+use sampler::{Sampling, Watch, sample_ends};
 use std::alloc::Global;
 use std::io::Write;
+
+/// Tells a command's progress how far its runs are.
+#[derive(Drop)]
+struct Telling<'p, P> {
+    progress: &'p P,
+}
+
+impl<P: Progress> Watch for Telling<'_, P> {
+    fn made(&self, runs: u64, ends: u64) {
+        self.progress.tell(Stage::Sample { runs, ends });
+    }
+}
 
 /// Judges the machine's size, reads what is allowed, then the image, makes `runs` random runs that `seed`
 /// determines, prints the ends they came to on `out`, writes their scripts, shortened, and judges them: `err`
 /// tells which ones aren't allowed. Where memory ends, the runs before are printed, written and judged all the
-/// same.
-pub fn sample_files<'a, F: Files, O: Write, E: Write>(
+/// same. While they are made, `progress` is told how far they are.
+pub fn sample_files<'a, F: Files, O: Write, E: Write, P: Progress>(
     alloc: Global,
     files: &mut F,
     wanted: Explore<'a>,
@@ -26,6 +39,7 @@ pub fn sample_files<'a, F: Files, O: Write, E: Write>(
     seed: u32,
     out: &mut O,
     err: &mut E,
+    progress: &P,
 ) -> Result<Judgement, Fault<'a>>
     ensures sampled { IfOk result (λ judgement. IsSampleTold (F.held files.old) (F.held files.new) wanted.entry runs judgement (O.contents out.old) (O.contents out.new)) }
     ensures outside { IsOutside wanted.entry.machine → result ≡ Err Fault.Configuration }
@@ -41,9 +55,12 @@ pub fn sample_files<'a, F: Files, O: Write, E: Write>(
         seed: u64::from(seed),
         shortened: wanted.scripts.is_some(),
     };
-    let Ok(sampled) = sample_ends(alloc, &asked.image, asked.config, sampling) else {
+    let watch = Telling { progress };
+    let Ok(sampled) = sample_ends(alloc, &asked.image, asked.config, sampling, &watch) else {
+        progress.end();
         return Err(Fault::OutOfMemory);
     };
+    progress.end();
     let found = Runs {
         sampled,
         asked: runs,

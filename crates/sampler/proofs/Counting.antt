@@ -13,8 +13,8 @@ use Rattle.explorer.specs.Ranks.{outcome_cmp}
 use Rattle.flat_model.specs.Shown.{Result, results}
 use Rattle.machine_types.specs.declared.config.Config.{Config}
 use Rattle.machine_types.specs.declared.event.Event.{Event}
-use Rattle.sampler.specs.Sampled.{AreCounted, IsRealEnd, LeadsToEnd, ends_led, have_ended, is_outcome_of, numbered, times_of}
-use Rattle.schedules.specs.Schedules.{Replays, led}
+use Rattle.sampler.specs.Sampled.{AreCounted, IsRealEnd, IsRun, IsShort, LeadsToEnd, ends_led, have_ended, is_outcome_of, numbered, times_of}
+use Rattle.schedules.specs.Schedules.{led}
 
 -- equal as code finds it
 same : (a b : List Result) → is_eq (outcome_cmp a b) ≡ true → a ≡ b
@@ -35,7 +35,7 @@ plus_one n = omega arith
 pub room : (image : Initial) (config : Config) (counted : List (Found × ℕ)) (unended runs : ℕ) → AreCounted image config counted unended runs → (found : Found) → times_of found counted ≤ runs
 room image config counted unended runs are found = let few = count_by-le-length (is_outcome_of found) (ends_led image config are.schedules) in omega (arith, few, are.times found, are.others)
 
-module _ (image : Initial) (config : Config) (events : List Event) (replays : Replays image config events) where
+module _ (image : Initial) (config : Config) (events : List Event) (run : IsRun image config events) where
   abbrev pub outcome : List Result
   outcome = results (led image config events)
 
@@ -48,7 +48,7 @@ module _ (image : Initial) (config : Config) (events : List Event) (replays : Re
     one_unended is = let more = led_more false are.schedules is in record {
       schedules = events ∷ are.schedules;
       count = omega (arith, are.count);
-      replays = (replays, are.replays);
+      each = (run, are.each);
       times = λ found. are.times found ∙ ap (count_by (is_outcome_of found)) (sym more);
       others = let n = ap length more in omega (arith, n, are.others);
     }
@@ -60,7 +60,7 @@ module _ (image : Initial) (config : Config) (events : List Event) (replays : Re
     one_ended end after is of_end times = record {
       schedules = events ∷ are.schedules;
       count = omega (arith, are.count);
-      replays = (replays, are.replays);
+      each = (run, are.each);
       times = λ found. times found ∙ (step found (is_eq (outcome_cmp (outcome_of end) (outcome_of found))) refl ∙ ap (count_by (is_outcome_of found)) (sym more));
       others = let n = ap length more in omega (arith, n, are.others);
     }
@@ -85,12 +85,12 @@ module _ (image : Initial) (config : Config) (events : List Event) (replays : Re
         step found false e = are.times found ∙ sym (split found ∙ (ap (λ x. cond x 1 0 + count_by (is_outcome_of found) ends) (asked found false e) ∙ none_more (count_by (is_outcome_of found) ends)))
 
 -- an end that was told with a script counts as one
-pub end_counted : (image : Initial) (config : Config) (counted after : List (Found × ℕ)) (unended runs n : ℕ) (end told : Found) → AreCounted image config counted unended runs → IsRealEnd image config told
-    → outcome_of told ≡ outcome_of end → n ≡ times_of end counted
+pub end_counted : (image : Initial) (config : Config) (counted after : List (Found × ℕ)) (unended runs n : ℕ) (end told : Found) → AreCounted image config counted unended runs → IsRealEnd image config end
+    → IsShort end.script → outcome_of told ≡ outcome_of end → n ≡ times_of end counted
     → ((found : Found) → lookup (λ other. is_eq (outcome_cmp (outcome_of found) (outcome_of other))) after
     ≡ cond (is_eq (outcome_cmp (outcome_of told) (outcome_of found))) (Some (n + 1)) (lookup (λ other. is_eq (outcome_cmp (outcome_of found) (outcome_of other))) counted))
     → AreCounted image config after unended (runs + 1)
-end_counted image config counted after unended runs n end told are reached alike count updates = go told.script reached.1
+end_counted image config counted after unended runs n end told are reached short alike count updates = go end.script reached.1 short
   where
     times : n ≡ times_of told counted
     times = count ∙ ap (λ o. unwrap_or (lookup (λ other. is_eq (outcome_cmp o (outcome_of other))) counted) 0) (sym alike)
@@ -100,11 +100,13 @@ end_counted image config counted after unended runs n end told are reached alike
         let test = is_eq (outcome_cmp (outcome_of told) (outcome_of found)) in
         ap (λ o. unwrap_or o 0) (updates found) ∙ (times_behind test (n + 1) _ ∙ ap (λ m. cond test (m + 1) (times_of found counted)) times)
 
-    go : (script : Script) → LeadsToEnd image config (outcome_of told) script → AreCounted image config after unended (runs + 1)
-    go (Events events) leads = one_ended image config events.items leads.replays counted unended runs are told after (ap have_ended leads.there ∙ reached.0) leads.there step
-    go NoMemory leads = absurd leads
-    go Limit leads = absurd leads
-    go Unrealised leads = absurd leads
+    -- the run's own events are counted, and not those of the script that is told
+    go : (script : Script) → LeadsToEnd image config (outcome_of end) script → IsShort script → AreCounted image config after unended (runs + 1)
+    go (Events events) leads few =
+        one_ended image config events.items (record { replays = leads.replays; moves = leads.moves; within = few }) counted unended runs are told after (ap have_ended leads.there ∙ reached.0) (leads.there ∙ sym alike) step
+    go NoMemory leads few = absurd leads
+    go Limit leads few = absurd leads
+    go Unrealised leads few = absurd leads
 
 -- what holds of a result that isn't an error
 pub on_ok : {T E : Type 0} (P : Type 0) (r : Answer T E) → is_err r ≡ false → OnOk r P → P

@@ -1,5 +1,5 @@
 -- What random runs come to, and how often.
-use Rattle.std.specs.Prelude.{◌≡◌, ℕ, ◌+◌, ◌<◌, ◌&&◌, Bool, true, not, List, [], ◌∷◌, All, count_by, filter, length, map, unwrap_or}
+use Rattle.std.specs.Prelude.{◌≡◌, ℕ, ◌+◌, ◌<◌, ◌≤◌, ◌&&◌, Bool, true, not, List, [], ◌∷◌, All, count_by, filter, length, map, unwrap_or}
 use Rattle.std.specs.List.{AllByRecursion}
 use Rattle.std.specs.List.Sorted.{IsStrictlySortedBy}
 use Rattle.std.specs.Map.{keys_of, lookup, values_of}
@@ -16,7 +16,7 @@ use Rattle.machine_types.specs.declared.config.Config.{Config}
 use Rattle.machine_types.specs.declared.event.Event.{Event}
 use Rattle.sampler.specs.declared.sampled.Sampled.{Sampled}
 use Rattle.sampler.specs.declared.tally.Tally.{Tally}
-use Rattle.schedules.specs.Schedules.{HasResults, LeadsThere, Replays, led}
+use Rattle.schedules.specs.Schedules.{EachMoves, HasResults, LeadsThere, Replays, led}
 
 -- ---- ends
 
@@ -49,6 +49,21 @@ numbered (f ∷ fs) (n ∷ ns) = (f, n) ∷ numbered fs ns
 abbrev pub times_of : Found → List (Found × ℕ) → ℕ
 times_of found counted = unwrap_or (lookup (λ other. is_eq (outcome_cmp (outcome_of found) (outcome_of other))) counted) 0
 
+-- how many events a run tries at most
+abbrev pub most_events : ℕ
+most_events = 1000000
+
+-- none of the events is refused from reset on, each changes the machine, and there are no more than a run tries
+pub record IsRun (image : Initial) (config : Config) (events : List Event) : Type 0 where
+  pub replays : Replays image config events
+  pub moves : EachMoves image config events
+  pub within : length events ≤ most_events
+
+-- the script has no more events than a run tries
+abbrev pub IsShort : Script → Type 0
+IsShort (Events events) = length events.items ≤ most_events
+IsShort _ = ⊥
+
 -- what those of the lists of events lead to that end all harts
 abbrev pub ends_led : Initial → Config → List (List Event) → List (List Result)
 ends_led image config schedules = filter have_ended (map (λ events. results (led image config events)) schedules)
@@ -57,7 +72,7 @@ ends_led image config schedules = filter have_ended (map (λ events. results (le
 pub record AreCounted (image : Initial) (config : Config) (counted : List (Found × ℕ)) (to_none runs : ℕ) : Type 0 where
   pub schedules : List (List Event)
   pub count : length schedules ≡ runs
-  pub replays : AllByRecursion (Replays image config) schedules
+  pub each : AllByRecursion (IsRun image config) schedules
   pub times : (found : Found) → times_of found counted ≡ count_by (is_outcome_of found) (ends_led image config schedules)
   pub others : to_none + length (ends_led image config schedules) ≡ runs
 

@@ -6,4 +6,4 @@ mod sampling;
 mod tally;
 
 pub use sampled::Sampled;
-pub use sampling::{Sampling, sample_ends};
+pub use sampling::{Sampling, Watch, sample_ends};

@@ -1,9 +1,9 @@
 //! Random runs.
 
-ghost use Rattle.std.specs.Prelude.{◌≡◌, ◌≤◌, IfOk, IsTrue};
+ghost use Rattle.std.specs.Prelude.{◌≡◌, ◌≤◌, IfOk, IsTrue, length};
 ghost use Rattle.flat_model.specs.Shown.{results, told};
 ghost use Rattle.machine_types.specs.Config.{is_within_limits};
-ghost use Rattle.sampler.specs.Sampled.{IsSampled, IsTally};
+ghost use Rattle.sampler.specs.Sampled.{IsSampled, IsTally, most_events};
 ghost use Rattle.schedules.specs.Schedules.{EachMoves, Replays, led};
 
 use crate::sampled::Sampled;
@@ -20,6 +20,12 @@ use std::alloc::{AllocError, Global};
 /// How many events a run tries at most, those that stall among them.
 const MOST_EVENTS: u64 = 1_000_000;
 
+/// Is told how far random runs are.
+pub trait Watch {
+    /// So many runs were made so far, and came to so many ends.
+    fn made(&self, runs: u64, ends: u64);
+}
+
 /// How a program is sampled.
 #[derive(Clone, Copy, Debug, PartialEq, Eq)]
 pub struct Sampling {
@@ -33,12 +39,13 @@ pub struct Sampling {
 /// Plays random schedules of the machine, each from reset, and counts how often they come to each end. A
 /// run whose harts haven't all ended after 1,000,000 tried events, or where a limit of the machine is met,
 /// counts as unended. Where memory ends, the runs before are told; the error is that there was none for
-/// the list of their ends.
-pub fn sample_ends(
+/// the list of their ends. Behind each run `watch` is told how many there were.
+pub fn sample_ends<W: Watch>(
     alloc: Global,
     image: &Image,
     config: Config,
     sampling: Sampling,
+    watch: &W,
 ) -> Result<Sampled, AllocError>
     requires limits { IsTrue (is_within_limits config) }
     ensures sampled { IfOk result (IsSampled image.now config) }
@@ -59,6 +66,7 @@ pub fn sample_ends(
         if tally.count(&program, schedule).is_err() {
             break;
         }
+        watch.made(tally.runs, tally.ends());
     }
     tally.into_sampled(&program)
 }
@@ -68,6 +76,7 @@ fn run(program: &Program<'_>, seed: u64) -> Result<Schedule, NewError>
     ensures real { IfOk result (λ schedule. schedule.machine ≡ led program.now.image.now program.now.config schedule.events.items) }
     ensures replays { IfOk result (λ schedule. Replays program.now.image.now program.now.config schedule.events.items) }
     ensures moves { IfOk result (λ schedule. EachMoves program.now.image.now program.now.config schedule.events.items) }
+    ensures within { IfOk result (λ schedule. length schedule.events.items ≤ most_events) }
     ensures results { IfOk result (λ schedule. told schedule.results.items ≡ results schedule.machine) }
 {
     let image = program.image.try_copy(program.alloc)?;

@@ -1,9 +1,9 @@
 //! How often runs came to each end.
 
-ghost use Rattle.std.specs.Prelude.{◌≡◌, ◌+◌, ◌^◌, ◌<◌, [], IfOk, OnErr, OnOk};
+ghost use Rattle.std.specs.Prelude.{◌≡◌, ◌+◌, ◌^◌, ◌<◌, ◌≤◌, [], IfOk, OnErr, OnOk, length};
 ghost use Rattle.explorer.specs.Ends.{outcome_of};
 ghost use Rattle.flat_model.specs.Shown.{results, told};
-ghost use Rattle.sampler.specs.Sampled.{IsRealEnd, IsSampled, IsTally, have_ended};
+ghost use Rattle.sampler.specs.Sampled.{IsRealEnd, IsSampled, IsShort, IsTally, have_ended, most_events};
 ghost use Rattle.schedules.specs.Schedules.{EachMoves, Replays, led};
 
 use crate::sampled::Sampled;
@@ -34,6 +34,11 @@ impl Tally {
         }
     }
 
+    /// How many ends the runs came to.
+    pub(crate) fn ends(&self) -> u64 {
+        self.ends.len() as u64
+    }
+
     /// Counts one more run.
     pub(crate) fn count(
         &mut self,
@@ -45,6 +50,7 @@ impl Tally {
         requires real { schedule.machine ≡ led program.now.image.now program.now.config schedule.events.items }
         requires replays { Replays program.now.image.now program.now.config schedule.events.items }
         requires moves { EachMoves program.now.image.now program.now.config schedule.events.items }
+        requires within { length schedule.events.items ≤ most_events }
         requires results { told schedule.results.items ≡ results schedule.machine }
         ensures tally { IsTally program.now.image.now program.now.config self.new }
         ensures ok { OnOk result (self.new.runs ≡ self.old.runs + 1) }
@@ -72,6 +78,7 @@ impl Tally {
         requires room { self.old.runs + 1 < 2 ^ 64 }
         requires tally { IsTally program.now.image.now program.now.config self.old }
         requires reached { IsRealEnd program.now.image.now program.now.config end }
+        requires short { IsShort end.script }
         ensures tally { IsTally program.now.image.now program.now.config self.new }
         ensures ok { OnOk result (self.new.runs ≡ self.old.runs + 1) }
         ensures err { OnErr result (self.new.runs ≡ self.old.runs) }

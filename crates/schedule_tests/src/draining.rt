@@ -90,7 +90,7 @@ fn explored(alloc: Global, words: &[u32], harts: u32, model: MemoryModel) -> Res
         line: 16,
         model,
     };
-    if !machine_parts::is_within_limits(&config) {
+    if !config.is_within_limits() {
         return Err("limits".into());
     }
     let machine = DrainingMachine::new(alloc, &image, config, &[X, Y])?;

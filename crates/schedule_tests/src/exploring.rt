@@ -120,7 +120,7 @@ fn explored(alloc: Global, words: &[u32], harts: u32, ways: u32) -> Result<Found
         line: 16,
         model: MemoryModel::Rvwmo,
     };
-    if !machine_parts::is_within_limits(&config) {
+    if !config.is_within_limits() {
         return Err("limits".into());
     }
     let machine = FlatMachine::new(alloc, &image, config)?;

@@ -1,7 +1,8 @@
 -- A machine with the events that changed it stays where they lead.
-use Rattle.std.proofs.Common.{◌≡◌, ◌≢◌, ◌∙◌, refl, sym, ap, subst, ℕ, ◌+◌, List, [], ◌∷◌, ◌++◌, Option, Ok, inl, inr, IsTrue, arith, true, Result as Answer}
+use Rattle.std.proofs.Common.{◌≡◌, ◌≢◌, ◌∙◌, refl, sym, ap, subst, ℕ, ◌+◌, List, [], ◌∷◌, ◌++◌, Option, Ok, inl, inr, IsTrue, arith, Result as Answer}
 use Rattle.elf_loader.specs.Image.{Initial}
 use Rattle.coherent_machine.specs.Machine.{Replayed, replayed_from, unless_refused}
+use Rattle.coherent_machine.specs.Moves.{AreMoves, IsMove}
 use Rattle.machine_types.specs.declared.config.Config.{Config}
 use Rattle.machine_types.specs.declared.event.Event.{Event}
 use Rattle.machine_types.specs.declared.outcome.Outcome.{Outcome}
@@ -12,7 +13,7 @@ use Rattle.machine_model.specs.Laws.{ChangesAreCounted, KeepsImageAndConfig}
 use Rattle.machine_model.specs.Views.{State, opening}
 use Rattle.machine_parts.specs.Applying.{Answers}
 use Rattle.schedules.specs.declared.errors.Fault.{Fault}
-use Rattle.schedules.specs.Schedules.{AnswersAs, EachMovesFrom, IsPlayed, LeadsThere, does_move}
+use Rattle.schedules.specs.Schedules.{AnswersAs, IsPlayed, LeadsThere}
 
 -- where the number of changes stays, the machine does
 pub still : ChangesAreCounted → (old : State) (e : Event) (new : State) → new ≡ happens old e → new.views.changes ≡ old.views.changes → new ≡ old
@@ -63,7 +64,7 @@ replays_more i s (x ∷ events) e o t new is p = by_verdict (verdict s x) (repla
     by_verdict (Moves k moved) more q = more q
 
 -- and where each of the list changes the machine, so does the one behind it
-moves_more : (s : State) (events : List Event) (e : Event) → does_move (verdict (after_events s events) e) ≡ true → EachMovesFrom s events → EachMovesFrom s (events ++ e ∷ [])
+moves_more : (s : State) (events : List Event) (e : Event) → IsMove (after_events s events) e → AreMoves s events → AreMoves s (events ++ e ∷ [])
 moves_more s [] e last each = (last, tt)
 moves_more s (x ∷ events) e last each = (each.0, moves_more (happens s x) events e last each.1)
 
@@ -83,8 +84,8 @@ played_moved machine events e o new is stays was = record {
       ap (λ (s : State). replayed_from 0 s (events ++ e ∷ [])) (opens_alike machine new stays)
       ∙ replays_more 0 (opening machine.trace.image machine.views.config) events e o machine new is was.replays;
   moves =
-      subst (λ (s : State). EachMovesFrom s (events ++ e ∷ [])) (sym (opens_alike machine new stays))
-      (moves_more (opening machine.trace.image machine.views.config) events e (ap (λ (s : State). does_move (verdict s e)) was.leads ∙ ap does_move is) was.moves);
+      subst (λ (s : State). AreMoves s (events ++ e ∷ [])) (sym (opens_alike machine new stays))
+      (moves_more (opening machine.trace.image machine.views.config) events e (subst (λ (s : State). IsMove s e) (sym was.leads) (o, new, is)) was.moves);
   within = subst (λ (c : Config). IsTrue (is_within_limits c)) (sym stays.config) was.within;
 }
 
@@ -101,8 +102,8 @@ pub replays_at : (reset start machine : State) (events : List Event) → start �
 replays_at reset start machine events same leads replays =
     ap (λ (s : State). replayed_from 0 s events) (sym same) ∙ replays ∙ ap Replayed.Reached (real_at reset start machine events same leads)
 
-pub moves_at : (reset start : State) (events : List Event) → start ≡ reset → EachMovesFrom start events → EachMovesFrom reset events
-moves_at reset start events same each = subst (λ (s : State). EachMovesFrom s events) same each
+pub moves_at : (reset start : State) (events : List Event) → start ≡ reset → AreMoves start events → AreMoves reset events
+moves_at reset start events same each = subst (λ (s : State). AreMoves s events) same each
 
 -- a replay that refuses nothing leads where its events lead
 goes_on : (v : Verdict) (i : ℕ) (rest : Replayed) (t : State) → unless_refused v i rest ≡ Replayed.Reached t → rest ≡ Replayed.Reached t
@@ -117,7 +118,7 @@ leads_to s t i (e ∷ events) p = leads_to (happens s e) t (i + 1) events (goes_
 
 -- what is kept of a machine's events leads where the machine is
 pub leads_there : (image : Initial) (config : Config) (start machine : State) (events : List Event) (Holds : State → Type 0) → start ≡ opening image config
-    → after_events start events ≡ machine → replayed_from 0 start events ≡ Replayed.Reached machine → EachMovesFrom start events → Holds machine
+    → after_events start events ≡ machine → replayed_from 0 start events ≡ Replayed.Reached machine → AreMoves start events → Holds machine
     → LeadsThere image config Holds events
 leads_there image config start machine events Holds same leads replays each there = record {
   replays = replays_at (opening image config) start machine events same leads replays;

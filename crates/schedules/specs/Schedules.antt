@@ -1,15 +1,15 @@
 -- What lists of events lead to, and what is told of it.
-use Rattle.std.specs.Prelude.{◌≡◌, ◌⊎◌, Bool, true, false, List, [], ◌∷◌, ◌++◌, IsTrue, Option, Some, None, Ok, Err}
+use Rattle.std.specs.Prelude.{◌≡◌, ◌⊎◌, List, [], ◌∷◌, ◌++◌, IsTrue, Option, Some, None, Ok, Err}
 use Rattle.std.specs.declared.result.Result.{Result}
 use Rattle.elf_loader.specs.Image.{Initial}
 use Rattle.coherent_machine.specs.Machine.{Replayed, replayed_from}
+use Rattle.coherent_machine.specs.Moves.{AreMoves}
 use Rattle.flat_model.specs.Shown.{Result as HartEnd, results}
 use Rattle.machine_types.specs.declared.config.Config.{Config}
 use Rattle.machine_types.specs.declared.event.Event.{Event}
 use Rattle.machine_types.specs.Config.{is_within_limits}
 use Rattle.machine_types.specs.declared.outcome.Outcome.{Outcome}
-use Rattle.machine_model.specs.Events.{Verdict, after_events, happens, verdict}
-use Rattle.machine_model.specs.Events.Verdict.{IsBad, Keeps, IsLimited, Moves}
+use Rattle.machine_model.specs.Events.{Verdict, after_events}
 use Rattle.machine_model.specs.Views.{State, opening}
 use Rattle.machine_parts.specs.Applying.{Answers}
 use Rattle.machine_parts.specs.declared.errors.ApplyError.TheVariants.{BadEvent, Limit}
@@ -24,20 +24,9 @@ led image config events = after_events (opening image config) events
 abbrev pub Replays : Initial → Config → List Event → Type 0
 Replays image config events = replayed_from 0 (opening image config) events ≡ Replayed.Reached (led image config events)
 
--- an event changes the machine: it is not refused, and comes to something
-abbrev pub does_move : Verdict → Bool
-does_move IsBad = false
-does_move (Keeps o) = false
-does_move IsLimited = false
-does_move (Moves o new) = true
-
--- each of the events changes the machine to which those before it lead
-abbrev pub EachMovesFrom : State → List Event → Type 0
-EachMovesFrom s [] = Unit {0}
-EachMovesFrom s (e ∷ events) = (does_move (verdict s e) ≡ true) × EachMovesFrom (happens s e) events
-
+-- each of the events changes the machine on the way there
 abbrev pub EachMoves : Initial → Config → List Event → Type 0
-EachMoves image config events = EachMovesFrom (opening image config) events
+EachMoves image config events = AreMoves (opening image config) events
 
 -- none of the events is refused, each changes the machine, and they lead it from reset to where this holds
 pub record LeadsThere (image : Initial) (config : Config) (Holds : State → Type 0) (events : List Event) : Type 0 where
@@ -63,7 +52,7 @@ start_of p = opening p.machine.trace.image p.machine.views.config
 pub record IsPlayed (p : Played) : Type 0 where
   pub leads : after_events (start_of p) p.events ≡ p.machine
   pub replays : replayed_from 0 (start_of p) p.events ≡ Replayed.Reached p.machine
-  pub moves : EachMovesFrom (start_of p) p.events
+  pub moves : AreMoves (start_of p) p.events
   pub within : IsTrue (is_within_limits p.machine.views.config)
 
 -- the event is kept behind the others, or left out

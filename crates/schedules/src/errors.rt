@@ -15,7 +15,7 @@ pub enum RealiseError {
     /// Memory was refused.
     #[error("out of memory")]
     NoMemory,
-    /// 4,000,000 events changed the machine, or a hart's list would pass 1,000,000 retired instructions.
+    /// `MAX_CHANGES` events changed the machine, or a hart's list would pass `MAX_ENTRIES` retired instructions.
     #[error("limit")]
     Limit,
     /// The machine wasn't brought to the flat event at this index, from 0.

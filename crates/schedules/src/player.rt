@@ -6,9 +6,10 @@ ghost use Rattle.machine_types.specs.Config.{is_within_limits};
 ghost use Rattle.machine_model.specs.Events.{after_events, verdict};
 ghost use Rattle.machine_model.specs.Views.{opening};
 ghost use Rattle.coherent_machine.specs.Machine.{IsFirstRefusal, Replayed, replayed_from};
+ghost use Rattle.coherent_machine.specs.Moves.{AreMoves};
 ghost use Rattle.coherent_machine.specs.declared.errors.NewError.TheVariants as making;
 ghost use Rattle.coherent_machine.specs.declared.errors.ReplayError.TheVariants as replaying;
-ghost use Rattle.schedules.specs.Schedules.{AnswersAs, EachMovesFrom, MayAdd, Played, start_of};
+ghost use Rattle.schedules.specs.Schedules.{AnswersAs, MayAdd, Played, start_of};
 ghost use Rattle.schedules.specs.Sublists.{IsSublist};
 
 use crate::errors::Fault;
@@ -129,7 +130,7 @@ impl Player {
     pub(crate) fn into_schedule(self, alloc: Global) -> Result<Schedule, AllocError>
         ensures leads { IfOk result (λ schedule. after_events (start_of self) schedule.events.items ≡ schedule.machine) }
         ensures replays { IfOk result (λ schedule. replayed_from 0 (start_of self) schedule.events.items ≡ Replayed.Reached schedule.machine) }
-        ensures moves { IfOk result (λ schedule. EachMovesFrom (start_of self) schedule.events.items) }
+        ensures moves { IfOk result (λ schedule. AreMoves (start_of self) schedule.events.items) }
         ensures results { IfOk result (λ schedule. told schedule.results.items ≡ results schedule.machine) }
         ensures events { IfOk result (λ schedule. schedule.events.items ≡ self.events) }
     {
@@ -146,7 +147,7 @@ impl Player {
     pub(crate) fn into_events(self) -> Vec<Event>
         ensures leads { after_events (start_of self) result.items ≡ self.machine }
         ensures replays { replayed_from 0 (start_of self) result.items ≡ Replayed.Reached self.machine }
-        ensures moves { EachMovesFrom (start_of self) result.items }
+        ensures moves { AreMoves (start_of self) result.items }
         ensures events { result.items ≡ self.events }
     {
         let Player { machine: _, events } = self;

@@ -1,6 +1,6 @@
 //! One random schedule.
 
-ghost use Rattle.std.specs.Prelude.{◌≡◌, ◌↔◌, Err, IfOk, false};
+ghost use Rattle.std.specs.Prelude.{◌≡◌, ◌↔◌, ◌+◌, ◌≤◌, Err, IfOk, false, length};
 ghost use Rattle.coherent_machine.specs.declared.errors.NewError.TheVariants as making;
 ghost use Rattle.flat_model.specs.Shown.{results, told};
 ghost use Rattle.machine_types.specs.Config.{is_within_limits};
@@ -36,6 +36,7 @@ pub fn sample(
     ensures replays { IfOk result (λ schedule. Replays image config schedule.events.items) }
     ensures moves { IfOk result (λ schedule. EachMoves image config schedule.events.items) }
     ensures results { IfOk result (λ schedule. told schedule.results.items ≡ results schedule.machine) }
+    ensures within { IfOk result (λ schedule. length schedule.events.items ≤ most_events) }
     ensures config { (result ≡ Err making.Config) ↔ (is_within_limits config ≡ false) }
 {
     let mut player = Player::new(alloc, image, config)?;
@@ -49,9 +50,12 @@ pub fn sample(
 impl Player {
     // Plays what is picked, so many tries at most, while there is anything left to happen.
     fn play_at_random(&mut self, picker: &mut Picker, most_events: u64) -> Result<(), Fault>
-        ensures { start_of self.new ≡ start_of self.old }
+        ensures start { start_of self.new ≡ start_of self.old }
+        ensures within { length self.new.events ≤ length self.old.events + most_events }
     {
-        for _try in 0..most_events {
+        let mut left = most_events;
+        while left > 0 {
+            left -= 1;
             let Some(event) = picker.pick(&self.views())? else {
                 return Ok(());
             };

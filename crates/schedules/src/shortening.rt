@@ -14,7 +14,6 @@ use crate::goal::Goal;
 use crate::player::Player;
 use coherent_machine::{Machine, NewError, ReplayError};
 use elf_loader::Image;
-use machine_parts::is_within_limits;
 use machine_types::{Config, Event};
 use std::alloc::Global;
 
@@ -42,7 +41,7 @@ pub fn shorten<G: Goal>(
     ensures config { (result ≡ Err (replaying.New making.Config)) ↔ (limits.is_within_limits config ≡ false) }
     ensures refused { IfErr result (λ error. IsFirstRefusal (opening image.now config) events.now error) }
 {
-    if !is_within_limits(&config) {
+    if !config.is_within_limits() {
         return Err(ReplayError::New(NewError::Config));
     }
     let mut player = Player::new(alloc, copy_of(alloc, image)?, config)?;

@@ -13,18 +13,19 @@ use Rattle.explore_command.proofs.Faults.{first_left, first_told}
 use Rattle.explore_command.specs.Exploring.{IsExploreFault, IsFirstFault, LeavesPart}
 use Rattle.show_command.specs.Asking.{HasProgram, HasUnshown, IsAskingFault}
 use Rattle.show_command.specs.Targets.{AreAddressesOf, IsUnplaced, IsUnshown}
+use Rattle.word_explorer.specs.Words.{CanShowEach}
 
 module _ (held first : Held) (explore : Explore) (words : List Name) (image : Initial) (symbols : List Named) (same : first ≡ held)
     (file : HoldsNamedImage first explore.raw explore.image.now explore.machine.memory image symbols) where
   image_file : HoldsNamedImage held explore.raw explore.image.now explore.machine.memory image symbols
   image_file = subst (λ (h : Held). HoldsNamedImage h explore.raw explore.image.now explore.machine.memory image symbols) same file
 
-  pub program : (addresses : List ℕ) → AreAddressesOf symbols words addresses → HasProgram held explore words image addresses
-  program addresses placed = record { symbols = symbols; image_file = image_file; placed = placed }
+  pub program : (addresses : List ℕ) → AreAddressesOf symbols words addresses → CanShowEach image addresses → HasProgram held explore words image addresses
+  program addresses placed inside = record { symbols = symbols; image_file = image_file; placed = placed; inside = inside }
 
   -- a word that can't be shown is told
   pub unshown_told : (fault : Fault) → IsUnshown image symbols words fault → IsAskingFault held explore words fault
-  unshown_told fault (inl (word, given, unplaced)) = inr (record { image = image; symbols = symbols; image_file = image_file; word = word; given = given; unplaced = unplaced })
+  unshown_told fault (inl (word, first, unplaced)) = inr (record { image = image; symbols = symbols; image_file = image_file; word = word; first = first; unplaced = unplaced })
   unshown_told fault (inr memory) = inl (subst (IsFirstFault held explore) (sym memory) (inr (inr tt)))
 
 unplaced_is : (image : Initial) (symbols : List Named) (word : Name) (fault : Fault) → IsUnplaced image symbols word fault → (cause : Unshown) × (fault ≡ CannotShow word cause)

@@ -1,6 +1,7 @@
 -- What is known of an exploration that shows words, and what its faults say and leave.
-use Rattle.std.proofs.Common.{◌≡◌, ◌≢◌, ◌∙◌, ◌⊎◌, ◌≤◌, ◌-◌, ℕ, suc, [], ◌∷◌, ◌++◌, arith, Bool, Contains, IfSome, List, None, Option, Some, ap, drop, get_or, if◌then◌else◌, inl, inr, length, map, refl, reverse, subst, sym, take}
+use Rattle.std.proofs.Common.{◌≡◌, ◌≢◌, ◌∙◌, ◌⊎◌, ◌≤◌, ◌-◌, ℕ, [], ◌∷◌, ◌++◌, All, arith, Bool, IfSome, List, None, Option, Some, ap, drop, get_or, if◌then◌else◌, inl, inr, length, map, refl, reverse, subst, sym, take}
 use Rattle.std.proofs.lemmas.List.{append_assoc, length-drop, length-map, map-append, reverse-append, take_all}
+use Rattle.std.proofs.lemmas.List.Elements.{All-nil, All-push}
 use Rattle.std.specs.Io.KnownBytes.{Appends}
 use Rattle.command_files.specs.Faults.{Name}
 use Rattle.command_files.specs.Held.{Held}
@@ -27,12 +28,13 @@ use Rattle.machine_types.specs.declared.config.Config.{Config}
 use Rattle.show_command.specs.Asking.{HasProgram, HasUnshown}
 use Rattle.show_command.specs.Judging.{AreWordsJudged, judgement_on}
 use Rattle.show_command.specs.Keeping.{AreWordsKept, bare_of}
-use Rattle.show_command.specs.Showing.{AreWordsShown, IsFoundIn, IsOfFile, IsShowFault, WordsHave}
-use Rattle.show_command.specs.Targets.{name_of, names_of, place_of}
+use Rattle.show_command.specs.Showing.{AreWordsShown, IsFirstOf, IsFoundIn, IsOfFile, IsShowFault, WordsHave}
+use Rattle.show_command.specs.Targets.{IsPlaced, IsUnplaced, IsUnshown, name_of, names_of, place_of}
 use Rattle.state_search.specs.declared.findings.Extent.TheVariants as extent
 use Rattle.word_explorer.specs.declared.exploration.WordExploration.{WordExploration}
 use Rattle.word_explorer.specs.declared.found.WordFound.{WordFound}
 use Rattle.word_explorer.specs.Ends.{ending_of, endings_of}
+use Rattle.word_explorer.specs.Words.{CanShow}
 
 -- ---- what is allowed
 
@@ -122,6 +124,10 @@ pub first_is : {A : Type 0} (xs : List A) (d : A) → 1 ≤ length xs → xs ≡
 first_is [] d some = absurd (omega (arith, some))
 first_is {A} (x ∷ xs) d some = ap (λ (r : List A). x ∷ r) (sym (take_all (length (x ∷ xs) - 1) (drop 1 (x ∷ xs)) (omega (arith, length-drop 1 (x ∷ xs)))))
 
+pub is_first : (words : List Name) (word d : Name) → 1 ≤ length words → word ≡ get_or words 0 d → IsFirstOf words word
+is_first [] word d some is = tt
+is_first (first ∷ rest) word d some is = is
+
 pub one_placed : (symbols : List Named) (words rest tail : List Name) (word : Name) (addresses new : List ℕ) (place : ℕ) → rest ≡ word ∷ tail → new ≡ addresses ++ place ∷ [] → place_of symbols (name_of word) ≡ Some place
     → map Some addresses ++ map (λ w. place_of symbols (name_of w)) rest ≡ map (λ w. place_of symbols (name_of w)) words
     → map Some new ++ map (λ w. place_of symbols (name_of w)) tail ≡ map (λ w. place_of symbols (name_of w)) words
@@ -131,6 +137,26 @@ one_placed symbols words rest tail word addresses new place first pushed at so =
     let before : map Some new ≡ map Some addresses ++ Some place ∷ [] = ap (map Some) pushed ∙ map-append Some addresses (place ∷ []) in
     ap (λ (xs : List (Option ℕ)). xs ++ map f tail) before ∙ (append_assoc (map Some addresses) (Some place ∷ []) (map f tail) ∙ (ap (λ (xs : List (Option ℕ)). map Some addresses ++ xs) (sym behind) ∙ so))
 
-pub among_rest : (words rest : List Name) → 1 ≤ length rest → ((w : Name) → Contains rest w → Contains words w) → (w : Name) → Contains (take (length rest - 1) (drop 1 rest)) w → Contains words w
-among_rest words [] some among w has = absurd (omega (arith, some))
-among_rest words (x ∷ xs) some among w (k, inside, is) = among w (subst (λ (ys : List Name). Contains ys w) (sym (first_is (x ∷ xs) x some)) (suc k, omega (arith, inside), is))
+module _ (image : Initial) (symbols : List Named) where
+  -- the words end with these, and each before them can be shown
+  pub record HasShown (rest words : List Name) : Type 0 where
+    pub before : List Name
+    pub whole : before ++ rest ≡ words
+    pub shown : All (IsPlaced image symbols) before
+
+  pub none_shown : (words : List Name) → HasShown words words
+  none_shown words = record { before = []; whole = refl; shown = All-nil (IsPlaced image symbols) }
+
+  pub one_shown : (words rest tail : List Name) (word : Name) (place : ℕ) → rest ≡ word ∷ tail → place_of symbols (name_of word) ≡ Some place → CanShow image place → HasShown rest words → HasShown tail words
+  one_shown words rest tail word place first at inside has = record {
+    before = has.before ++ word ∷ [];
+    whole = append_assoc has.before (word ∷ []) tail ∙ (ap (λ (xs : List Name). has.before ++ xs) (sym first) ∙ has.whole);
+    shown = All-push (IsPlaced image symbols) has.before word has.shown (place, at, inside);
+  }
+
+  pub first_unshown : (words rest tail : List Name) (word : Name) (fault : Fault) → rest ≡ word ∷ tail → HasShown rest words → IsUnplaced image symbols word fault → IsUnshown image symbols words fault
+  first_unshown words rest tail word fault first has unplaced = inl (
+    word,
+    record { before = has.before; later = tail; whole = ap (λ (xs : List Name). has.before ++ xs) (sym first) ∙ has.whole; shown = has.shown },
+    unplaced,
+  )

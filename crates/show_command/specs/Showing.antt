@@ -1,5 +1,5 @@
 -- What an exploration that shows words of memory has told, written and judged, and which faults it tells.
-use Rattle.std.specs.Prelude.{◌≡◌, ◌≢◌, ◌<◌, ◌≤◌, ◌⊎◌, ℕ, [], All, IfSome, List, None, Option, length}
+use Rattle.std.specs.Prelude.{◌≡◌, ◌≢◌, ◌<◌, ◌≤◌, ◌⊎◌, ℕ, [], ◌∷◌, All, IfSome, List, None, Option, length}
 use Rattle.std.specs.Io.KnownBytes.{Appends}
 use Rattle.std.specs.List.Sorted.{IsStrictlySortedBy}
 use Rattle.std.specs.Ordering.{on}
@@ -75,9 +75,14 @@ pub record WordsHave (held : Held) (show : Show) (P : List ℕ → Type 0) : Typ
 abbrev pub IsElsewhere : Explore → Type 0
 IsElsewhere explore = 0 < explore.sample
 
--- as an exploration has them; or words can't be shown
+-- the word is the first of these, if there are any
+abbrev pub IsFirstOf : List Name → Name → Type 0
+IsFirstOf [] word = Unit {0}
+IsFirstOf (first ∷ rest) word = word ≡ first
+
+-- as an exploration has them; or words can't be shown, the first of which is told
 abbrev pub IsShowFault : Held → Show → Fault → Type 0
 IsShowFault held show fault =
     IsExploreFault held show.explore fault
     ⊎ (HasUnshown held show.explore show.words.items fault
-    ⊎ ((word : Name) × (fault ≡ CannotShow word Elsewhere) × IsElsewhere show.explore))
+    ⊎ ((word : Name) × IsFirstOf show.words.items word × (fault ≡ CannotShow word Elsewhere) × IsElsewhere show.explore))

@@ -1,5 +1,5 @@
 -- The words of memory that are to be shown: what they are called, and where they lie.
-use Rattle.std.specs.Prelude.{ℕ, ◌≡◌, ◌⊎◌, Contains, List, None, Option, Some, map}
+use Rattle.std.specs.Prelude.{ℕ, ◌≡◌, ◌⊎◌, ◌∷◌, ◌++◌, All, List, None, Option, Some, map}
 use Rattle.chart_command.specs.Addresses.{address}
 use Rattle.command_files.specs.Faults.{Name}
 use Rattle.command_files.specs.declared.fault.Fault.{Fault}
@@ -38,6 +38,17 @@ IsUnplaced image symbols word fault =
     ((place_of symbols (name_of word) ≡ None) × (fault ≡ CannotShow word NoSymbol))
     ⊎ ((place : ℕ) × (place_of symbols (name_of word) ≡ Some place) × (CanShow image place → ⊥) × (fault ≡ CannotShow word NoWord))
 
--- so it is with one of the words, or memory ran out
+-- an aligned word of memory lies where the word does
+abbrev pub IsPlaced : Initial → List Named → Name → Type 0
+IsPlaced image symbols word = (place : ℕ) × (place_of symbols (name_of word) ≡ Some place) × CanShow image place
+
+-- the word is one of these, and each before it can be shown
+pub record ComesBehindShown (image : Initial) (symbols : List Named) (words : List Name) (word : Name) : Type 0 where
+  pub before : List Name
+  pub later : List Name
+  pub whole : before ++ word ∷ later ≡ words
+  pub shown : All (IsPlaced image symbols) before
+
+-- the first of the words that can't be shown is told, or memory ran out
 abbrev pub IsUnshown : Initial → List Named → List Name → Fault → Type 0
-IsUnshown image symbols words fault = ((word : Name) × Contains words word × IsUnplaced image symbols word fault) ⊎ (fault ≡ OutOfMemory)
+IsUnshown image symbols words fault = ((word : Name) × ComesBehindShown image symbols words word × IsUnplaced image symbols word fault) ⊎ (fault ≡ OutOfMemory)

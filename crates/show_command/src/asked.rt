@@ -10,7 +10,7 @@ ghost use Rattle.show_command.specs.Targets.{names_of};
 ghost use Rattle.word_explorer.specs.Words.{CanShowEach};
 
 use crate::targets::{Targets, targets_of};
-use command_files::{Fault, Files, named_config};
+use command_files::{Fault, Files, named_config, out_of_limits};
 use command_settings::Explore;
 use elf_loader::Image;
 use explain_command::named_image_in;
@@ -49,7 +49,7 @@ impl<'a> AskedWords<'a> {
         ensures stays { F.held files.new ≡ F.held files.old }
     {
         let Some(config) = named_config(wanted.machine) else {
-            return Err(Fault::Configuration);
+            return Err(out_of_limits(alloc, files, wanted.machine));
         };
         let allowed = allow_file(alloc, files, wanted.allow)?;
         let named = named_image_in(

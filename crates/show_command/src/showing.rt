@@ -4,9 +4,9 @@
 ghost use Rattle.std.specs.Prelude.{◌≡◌, ◌⊎◌, ◌<◌, Err, IfErr, IfOk, IfSome, IsNone};
 ghost use Rattle.command_files.specs.Faults.{Name};
 ghost use Rattle.command_files.specs.Sizes.{IsOutside};
-ghost use Rattle.explore_command.specs.Exploring.{LeavesPart};
+ghost use Rattle.explore_command.specs.Exploring.{ComesBeforeScripts, LeavesPart};
 ghost use Rattle.explore_command.specs.Keeping.{IsScriptFile, SparesOthers};
-ghost use Rattle.show_command.specs.Showing.{IsElsewhere, IsShowFault, AreWordsShown, WordsHave};
+ghost use Rattle.show_command.specs.Showing.{IsElsewhere, IsFirstOf, IsShowFault, AreWordsShown, WordsHave};
 
 use crate::asked::AskedWords;
 use crate::keeping::keep;
@@ -32,12 +32,13 @@ pub fn show_files<'a, F: Files, O: Write, E: Write, P: Progress>(
 ) -> Result<Judgement, Fault<'a>>
     requires room { 0 < wanted.now.explore.states }
     ensures shown { IfOk result (λ judgement. AreWordsShown (F.held files.old) (F.held files.new) wanted.now judgement (O.contents out.old) (O.contents out.new)) }
-    ensures elsewhere { IsElsewhere wanted.now.explore → (word : Name) × (result ≡ Err (Fault.CannotShow word Unshown.Elsewhere)) }
+    ensures elsewhere { IsElsewhere wanted.now.explore → (word : Name) × IsFirstOf wanted.now.words.items word × (result ≡ Err (Fault.CannotShow word Unshown.Elsewhere)) }
     ensures outside { IsOutside wanted.now.explore.machine → (result ≡ Err Fault.Configuration) ⊎ IsElsewhere wanted.now.explore }
     ensures told { IfErr result (IsShowFault (F.held files.old) wanted.now) }
     ensures unfinished { IfErr result (λ fault. LeavesPart fault (O.contents out.old) (O.contents out.new)
         (WordsHave (F.held files.old) wanted.now)) }
     ensures spared { SparesOthers (IsScriptFile wanted.now.explore.scripts) (F.held files.old) (F.held files.new) }
+    ensures untouched { IfErr result (λ fault. ComesBeforeScripts fault → F.held files.new ≡ F.held files.old) }
 {
     let explore = wanted.explore;
     if let Some(word) = sought_elsewhere(wanted) {
@@ -80,6 +81,7 @@ pub fn show_files<'a, F: Files, O: Write, E: Write, P: Progress>(
 /// The first of the words that are to be shown, where random runs are asked for.
 fn sought_elsewhere<'a>(wanted: &Show<'a>) -> Option<&'a str>
     ensures sought { IfSome result (λ _. IsElsewhere wanted.now.explore) }
+    ensures first { IfSome result (IsFirstOf wanted.now.words.items) }
     ensures none { IsNone result → IsElsewhere wanted.now.explore → ⊥ }
 {
     if wanted.explore.sample == 0 {

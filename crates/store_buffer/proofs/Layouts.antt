@@ -6,6 +6,7 @@ use Rattle.std.proofs.lemmas.List.{take_at, drop_at, drop-drop, take-append-le, 
 use Rattle.std.proofs.lemmas.Bool.{false≢true, eqb-true, ne_eqb, lt-ltb, ltb-true}
 use Rattle.std.proofs.lemmas.Bool.Decides.{nat_tests}
 use Rattle.std.proofs.lemmas.List.Sums.{sum_by-cons, sum_by-append, sum_by-take-le}
+use Rattle.machine_limits.specs.declared.TheConstants.{BUFFER_ENTRIES}
 use Rattle.store_buffer.specs.declared.entry.Entry.{Entry}
 use Rattle.store_buffer.specs.declared.entry.Store.{Store}
 use Rattle.store_buffer.specs.Entry.{blank_entry, joined, byte_at, has_word, entry_of, with_store, without}
@@ -154,7 +155,7 @@ pub same_groups : {a c : List (List Entry)} {b d : List Entry} → a ≡ c → b
 same_groups e f = λ i. record { sealed = e i; current = f i }
 
 -- a list of entries that stands for groups without a word twice
-pub laid_out : (ns : List ℕ) (es : List Entry) (b : Groups) → groups_in ns es ≡ b → Each (λ n. 0 < n) ns → sum ns ≤ length es → length es ≤ 8
+pub laid_out : (ns : List ℕ) (es : List Entry) (b : Groups) → groups_in ns es ≡ b → Each (λ n. 0 < n) ns → sum ns ≤ length es → length es ≤ BUFFER_ENTRIES
     → Each HaveDistinctWords b.sealed → HaveDistinctWords b.current → AreGroupsLaidOut ns es
 laid_out ns es b e some within few d dc =
     record {
@@ -188,17 +189,17 @@ put_length-new s start es h none =
 
 -- the buffer has the word in its open group, or not all of its entries are used
 abbrev pub HasRoom : Store → ℕ → List Entry → Type 0
-HasRoom s start es = ((has_word s.word (drop start es) ≡ false) × (length es ≡ 8)) → ⊥
+HasRoom s start es = ((has_word s.word (drop start es) ≡ false) × (length es ≡ BUFFER_ENTRIES)) → ⊥
 
-pub put_length : (s : Store) (start : ℕ) (es : List Entry) → start ≤ length es → length es ≤ 8 → HasRoom s start es
-    → (length es ≤ length (put_list s start es)) × (length (put_list s start es) ≤ 8)
+pub put_length : (s : Store) (start : ℕ) (es : List Entry) → start ≤ length es → length es ≤ BUFFER_ENTRIES → HasRoom s start es
+    → (length es ≤ length (put_list s start es)) × (length (put_list s start es) ≤ BUFFER_ENTRIES)
 put_length s start es h few room = go (has_word s.word (drop start es)) refl
   where
-    go : (b : Bool) → has_word s.word (drop start es) ≡ b → (length es ≤ length (put_list s start es)) × (length (put_list s start es) ≤ 8)
+    go : (b : Bool) → has_word s.word (drop start es) ≡ b → (length es ≤ length (put_list s start es)) × (length (put_list s start es) ≤ BUFFER_ENTRIES)
     go true e = let l = put_length-old s start es h e in (omega arith, omega arith)
     go false e =
         let l = put_length-new s start es h e in
-        let other : length es ≢ 8 = λ all. room (e, all) in
+        let other : length es ≢ BUFFER_ENTRIES = λ all. room (e, all) in
         (omega arith, omega arith)
 
 pub put_keeps : (s : Store) (ns : List ℕ) (es : List Entry) → AreGroupsLaidOut ns es → HasRoom s (sum ns) es → AreGroupsLaidOut ns (put_list s (sum ns) es)
@@ -240,7 +241,7 @@ seal_nothing ns es h =
     let none : drop (sum ns) es ≡ [] = drop_all (sum ns) es h in
     same_groups (ap (λ g. sealed_in ns es ++ kept g) none ∙ append-nil (sealed_in ns es)) (sym none)
 
-pub few_groups : (ns : List ℕ) (es : List Entry) → AreGroupsLaidOut ns es → sum ns < length es → length ns < 8
+pub few_groups : (ns : List ℕ) (es : List Entry) → AreGroupsLaidOut ns es → sum ns < length es → length ns < BUFFER_ENTRIES
 few_groups ns es h more = let few = h.few in omega (arith, length-le-sum ns h.some)
 
 -- ---- a store under total store order
@@ -397,21 +398,21 @@ take_keeps word ns es h e =
 
 -- ---- full
 
-pub fits-groups_in : (word : ℕ) (ns : List ℕ) (es : List Entry) → AreGroupsLaidOut ns es → fits word (groups_in ns es) ≡ (has_word word (drop (sum ns) es) || ltb (length es) 8)
-fits-groups_in word ns es h = ap (λ n. has_word word (drop (sum ns) es) || ltb n 8) (entry_count-groups_in ns es h.within)
+pub fits-groups_in : (word : ℕ) (ns : List ℕ) (es : List Entry) → AreGroupsLaidOut ns es → fits word (groups_in ns es) ≡ (has_word word (drop (sum ns) es) || ltb (length es) BUFFER_ENTRIES)
+fits-groups_in word ns es h = ap (λ n. has_word word (drop (sum ns) es) || ltb n BUFFER_ENTRIES) (entry_count-groups_in ns es h.within)
 
-full_from : (a : Bool) (n : ℕ) → n ≤ 8 → (a || ltb n 8) ≡ false → (a ≡ false) × (n ≡ 8)
+full_from : (a : Bool) (n : ℕ) → n ≤ BUFFER_ENTRIES → (a || ltb n BUFFER_ENTRIES) ≡ false → (a ≡ false) × (n ≡ BUFFER_ENTRIES)
 full_from true n few h = absurd (cc)
-full_from false n few h = (refl, (let at : (n < 8) → ⊥ = λ below. false≢true (sym h ∙ lt-ltb n 8 below) in omega arith))
+full_from false n few h = (refl, (let at : (n < BUFFER_ENTRIES) → ⊥ = λ below. false≢true (sym h ∙ lt-ltb n BUFFER_ENTRIES below) in omega arith))
 
-full_to : (a : Bool) (n : ℕ) → (a ≡ false) × (n ≡ 8) → (a || ltb n 8) ≡ false
+full_to : (a : Bool) (n : ℕ) → (a ≡ false) × (n ≡ BUFFER_ENTRIES) → (a || ltb n BUFFER_ENTRIES) ≡ false
 full_to a n h = rw (h.0, h.1) refl
 
 -- a store finds no entry exactly where its word is not in the open group and all entries are used
 pub full_is : (word : ℕ) (ns : List ℕ) (es : List Entry) (b : Groups) → groups_in ns es ≡ b → AreGroupsLaidOut ns es
-    → ((has_word word (drop (sum ns) es) ≡ false) × (length es ≡ 8) → fits word b ≡ false) × (fits word b ≡ false → (has_word word (drop (sum ns) es) ≡ false) × (length es ≡ 8))
+    → ((has_word word (drop (sum ns) es) ≡ false) × (length es ≡ BUFFER_ENTRIES) → fits word b ≡ false) × (fits word b ≡ false → (has_word word (drop (sum ns) es) ≡ false) × (length es ≡ BUFFER_ENTRIES))
 full_is word ns es b view h =
-    let same : fits word b ≡ (has_word word (drop (sum ns) es) || ltb (length es) 8) = ap (fits word) (sym view) ∙ fits-groups_in word ns es h in (
+    let same : fits word b ≡ (has_word word (drop (sum ns) es) || ltb (length es) BUFFER_ENTRIES) = ap (fits word) (sym view) ∙ fits-groups_in word ns es h in (
       λ full. same ∙ full_to (has_word word (drop (sum ns) es)) (length es) full,
       λ none. full_from (has_word word (drop (sum ns) es)) (length es) h.few (sym same ∙ none),
     )

@@ -1,6 +1,7 @@
 -- What both puts answer.
 use Rattle.std.proofs.Common.{◌≡◌, ℕ, false, Ok, Err, List, length, drop, sym, ap, subst, ◌∙◌}
 use Rattle.std.specs.Prelude.{Result, sum}
+use Rattle.machine_limits.specs.declared.TheConstants.{BUFFER_ENTRIES}
 use Rattle.store_buffer.specs.declared.buffer.PutError.{PutError}
 use Rattle.store_buffer.specs.declared.buffer.PutError.TheVariants.{Full}
 use Rattle.store_buffer.specs.declared.entry.Entry.{Entry}
@@ -15,7 +16,7 @@ clash x e = cc
 
 -- the word is not in the open group, and every entry is used
 abbrev pub IsFull : ℕ → ℕ → List Entry → Type 0
-IsFull word start es = (has_word word (drop start es) ≡ false) × (length es ≡ 8)
+IsFull word start es = (has_word word (drop start es) ≡ false) × (length es ≡ BUFFER_ENTRIES)
 
 pub room : (s : Store) (start : ℕ) (ns : List ℕ) (es : List Entry) (x : Unit {0}) → start ≡ sum ns
     → (IsFull s.word start es → Path (Result (Unit {0}) PutError) (Ok x) (Err Full)) → HasRoom s (sum ns) es

@@ -3,6 +3,7 @@
 -- Program Order", rules 1 and 4).
 use Rattle.std.specs.Prelude.{◌≡◌, ℕ, ◌+◌, ◌≤◌, Bool, true, false, ◌&&◌, ◌||◌, not, List, [], ◌∷◌, ◌++◌, length, Option, Some, None, is_some, unwrap_or, nat_lt, if◌then◌else◌}
 use Rattle.std.specs.List.{AllByRecursion as Each}
+use Rattle.machine_limits.specs.declared.TheConstants.{BUFFER_ENTRIES}
 use Rattle.store_buffer.specs.ByteMask.{each_place}
 use Rattle.store_buffer.specs.Entry.{byte_at, has_word, entry_of, with_store, without}
 use Rattle.store_buffer.specs.declared.entry.Entry.{Entry}
@@ -47,9 +48,9 @@ has word b = any_has_word word (groups_of b)
 
 -- ---- stores
 
--- a store to the word finds an entry: the open group's, or a free one of the eight
+-- a store to the word finds an entry: the open group's, or a free one
 abbrev pub fits : ℕ → Groups → Bool
-fits word b = has_word word b.current || nat_lt (entry_count b) 8
+fits word b = has_word word b.current || nat_lt (entry_count b) BUFFER_ENTRIES
 
 -- a store merges in the open group alone
 abbrev pub after_put : Store → Groups → Groups
@@ -115,4 +116,4 @@ HaveDistinctWords (e ∷ es) = (has_word e.word es ≡ false) × HaveDistinctWor
 pub record IsLawful (b : Groups) : Type 0 where
   pub kept : Each (λ g. is_nil g ≡ false) b.sealed
   pub distinct : Each HaveDistinctWords (groups_of b)
-  pub few : entry_count b ≤ 8
+  pub few : entry_count b ≤ BUFFER_ENTRIES

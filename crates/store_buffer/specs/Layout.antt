@@ -1,6 +1,7 @@
 -- How a list of entries, and how many of them each sealed group has, stand for groups.
 use Rattle.std.specs.Prelude.{ℕ, ◌-◌, ◌<◌, ◌≤◌, ◌==◌, nat_lt, Bool, List, [], ◌∷◌, Option, None, length, sum, take, drop, position, is_some, unwrap_or, if◌then◌else◌}
 use Rattle.std.specs.List.{AllByRecursion as Each}
+use Rattle.machine_limits.specs.declared.TheConstants.{BUFFER_ENTRIES}
 use Rattle.store_buffer.specs.ByteMask.{each_place}
 use Rattle.store_buffer.specs.Entry.{byte_at}
 use Rattle.store_buffer.specs.Groups.{Groups, HaveDistinctWords, or_else}
@@ -16,7 +17,7 @@ groups_in sizes entries = record { sealed = sealed_in sizes entries; current = d
 pub record AreGroupsLaidOut (sizes : List ℕ) (entries : List Entry) : Type 0 where
   pub some : Each (λ n. 0 < n) sizes
   pub within : sum sizes ≤ length entries
-  pub few : length entries ≤ 8
+  pub few : length entries ≤ BUFFER_ENTRIES
   pub distinct : Each HaveDistinctWords (sealed_in sizes entries)
   pub current_distinct : HaveDistinctWords (drop (sum sizes) entries)
 

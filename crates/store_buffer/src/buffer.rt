@@ -1,4 +1,4 @@
-//! The buffer: at most eight entries, in groups.
+//! The buffer: a few entries, in groups.
 ghost use Rattle.std.specs.Prelude.{◌≡◌, ◌↔◌, ◌<◌, ◌≤◌, ◌+◌, true, false, Err, length, OnOk, OnErr, IfOk, IfSome, IfNone, IsNone, IsTrue, slice_index_or, [], ◌∷◌, ◌++◌, All, Any, sum, take, drop, ◌^◌};
 ghost use Rattle.store_buffer.specs.Entry.{blank_entry, joined, has_word, entry_of, with_store};
 ghost use Rattle.store_buffer.specs.Groups.{Groups, IsLawful, no_groups, groups_of, has_sealed, is_empty, entry_count, has, fits, after_put, after_put_single, after_seal, forwarded, oldest, drainable, after_take};
@@ -6,16 +6,14 @@ ghost use Rattle.store_buffer.specs.Layout.{place_of, overlaid, one_less};
 
 use crate::{ByteMask, Entry, Ops, Store};
 use arrayvec::ArrayVec;
+use machine_limits::BUFFER_ENTRIES;
 use std::alloc::{AllocError, Global};
 use std::marker::Model;
-
-/// How many entries a buffer has.
-const ENTRIES: usize = 8;
 
 /// Why a store isn't taken in.
 #[derive(Clone, Copy, Debug, PartialEq, Eq)]
 pub enum PutError {
-    /// It needs a ninth entry.
+    /// It needs a further entry, and each is used.
     Full = 1,
     /// An entry's list of stores can't grow.
     NoMemory = 2,
@@ -37,11 +35,11 @@ impl From<AllocError> for PutError {
 pub struct StoreBuffer {
     alloc: Global,
     // oldest group first, and a group's entries in the order of their first stores
-    entries: ArrayVec<Entry, ENTRIES, Global>,
+    entries: ArrayVec<Entry, BUFFER_ENTRIES, Global>,
     // how many entries each sealed group has; those behind are the open group's
-    sealed: ArrayVec<usize, ENTRIES>,
+    sealed: ArrayVec<usize, BUFFER_ENTRIES>,
     // lists that entries had that are gone, so that those to come take no memory for theirs
-    spare: ArrayVec<Ops, ENTRIES, Global>,
+    spare: ArrayVec<Ops, BUFFER_ENTRIES, Global>,
 }
 
 impl Model for StoreBuffer {
@@ -101,7 +99,7 @@ fn overlaid(entries: &[Entry], word: u32) -> (ByteMask, [u8; 4])
 }
 
 /// An empty list: a spare one, or a new one, which takes no memory.
-fn empty_list(alloc: Global, spare: &mut ArrayVec<Ops, ENTRIES, Global>) -> Ops
+fn empty_list(alloc: Global, spare: &mut ArrayVec<Ops, BUFFER_ENTRIES, Global>) -> Ops
     ensures { result ≡ [] }
 {
     match spare.pop() {
@@ -116,15 +114,15 @@ fn empty_list(alloc: Global, spare: &mut ArrayVec<Ops, ENTRIES, Global>) -> Ops
 /// Takes a store into the entries from `start` on.
 fn put_behind(
     alloc: Global,
-    entries: &mut ArrayVec<Entry, ENTRIES, Global>,
-    spare: &mut ArrayVec<Ops, ENTRIES, Global>,
+    entries: &mut ArrayVec<Entry, BUFFER_ENTRIES, Global>,
+    spare: &mut ArrayVec<Ops, BUFFER_ENTRIES, Global>,
     start: usize,
     store: Store,
 ) -> Result<(), PutError>
     requires { start ≤ length entries.old.items }
     ensures ok { OnOk result (entries.new.items ≡ take start entries.old.items ++ with_store store (drop start entries.old.items)) }
     ensures err { OnErr result (entries.new ≡ entries.old) }
-    ensures full { (result ≡ Err PutError.Full) ↔ ((has_word store.word (drop start entries.old.items) ≡ false) × (length entries.old.items ≡ 8)) }
+    ensures full { (result ≡ Err PutError.Full) ↔ ((has_word store.word (drop start entries.old.items) ≡ false) × (length entries.old.items ≡ BUFFER_ENTRIES)) }
 {
     match place_of(&entries[start..], store.word) {
         Some(place) => entries[start + place].join(store)?,
@@ -140,7 +138,7 @@ fn put_behind(
 }
 
 /// Counts one entry of the oldest sealed group less. A group without entries is none.
-fn forget_one(sealed: &mut ArrayVec<usize, ENTRIES>)
+fn forget_one(sealed: &mut ArrayVec<usize, BUFFER_ENTRIES>)
     ensures { sealed.new.items ≡ one_less sealed.old.items }
 {
     if sealed.is_empty() {
@@ -187,7 +185,7 @@ impl StoreBuffer {
         !self.sealed.is_empty()
     }
 
-    /// How many of the eight entries are used.
+    /// How many entries are used.
     pub fn entry_count(&self) -> usize
         ensures count { result ≡ entry_count self.now }
         ensures lawful { IsLawful self.now }

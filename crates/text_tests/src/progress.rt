@@ -98,6 +98,13 @@ fn lines_are_short(rt: HostRuntime) -> Result<(), Fail> {
     });
     assert!(rt; desk.holds("20 s, 1000k states (50k a second), 3 outcomes\x1b[K\r")?);
     desk.written.try_borrow_mut()?.clear();
+    desk.millis.set(25_000);
+    progress.tell(Stage::Sample {
+        runs: 50_000,
+        ends: 4,
+    });
+    assert!(rt; desk.holds("25 s, 50k runs (2000 a second), 4 ends\x1b[K\r")?);
+    desk.written.try_borrow_mut()?.clear();
     progress.end();
     assert!(rt; desk.holds("\x1b[K")?);
     Silent.tell(RUN);

@@ -1,6 +1,7 @@
 -- The messages that wait between one hart's cache and the manager: a list for each channel, the first sent in front
 -- (TileLink 1.8.1, "Channels": messages of one channel arrive in the order in which they were sent).
-use Rattle.std.specs.Prelude.{ℕ, List, [], ◌∷◌, ◌++◌, Option, Some, None}
+use Rattle.std.specs.Prelude.{ℕ, ◌+◌, ◌-◌, ◌*◌, List, [], ◌∷◌, ◌++◌, Option, Some, None}
+use Rattle.machine_limits.specs.declared.TheConstants.{MAX_HARTS, TRACKERS}
 use Rattle.tl_types.specs.declared.message.Channel.{Channel}
 use Rattle.tl_types.specs.declared.message.Channel.TheVariants.{A, B, C, D, E}
 use Rattle.tl_types.specs.declared.message.Msg.{Msg}
@@ -16,14 +17,14 @@ pub record Waiting : Type 0 where
 abbrev pub none_waiting : Waiting
 none_waiting = record { a = []; b = []; c = []; d = []; e = [] }
 
--- how many messages a queue has room for: A one for each of 4 Acquires, B 4 for each of 7 other harts, C as many answers
--- and 4 Releases, D an answer for each of 4 Acquires and 4 Releases, E 4
+-- how many messages a queue has room for: A each Acquire, B a Probe for each Acquire of each other hart, C the answers to
+-- them and each Release, D an answer to each Acquire and Release, E a GrantAck for each Acquire
 abbrev pub room_of : Channel → ℕ
-room_of A = 4
-room_of B = 28
-room_of C = 32
-room_of D = 8
-room_of E = 4
+room_of A = TRACKERS
+room_of B = TRACKERS * (MAX_HARTS - 1)
+room_of C = TRACKERS * (MAX_HARTS - 1) + TRACKERS
+room_of D = TRACKERS + TRACKERS
+room_of E = TRACKERS
 
 abbrev pub queue_of : Waiting → Channel → List Msg
 queue_of w A = w.a

@@ -3,21 +3,24 @@ ghost use Rattle.std.specs.Prelude.{◌≡◌, ◌<◌, ◌↔◌, length, slice
 ghost use Rattle.tl_types.specs.Message.{channel_of};
 ghost use Rattle.tilelink_channels.specs.Queues.{none_waiting, room_of, queue_of, front_of, pushed, popped};
 
+use machine_limits::{MAX_HARTS, TRACKERS};
 use std::alloc::{AllocError, Global};
 use std::collections::VecDeque;
 use std::marker::Model;
 use tl_types::{Channel, Msg};
+
+/// A Probe for each Acquire of each other hart.
+const PROBES: usize = TRACKERS * (MAX_HARTS as usize - 1);
 
 /// How many messages a queue of this channel has room for.
 pub fn room(channel: Channel) -> usize
     ensures { result ≡ room_of channel }
 {
     match channel {
-        Channel::A => 4,
-        Channel::B => 28,
-        Channel::C => 32,
-        Channel::D => 8,
-        Channel::E => 4,
+        Channel::A | Channel::E => TRACKERS,
+        Channel::B => PROBES,
+        Channel::C => PROBES + TRACKERS,
+        Channel::D => TRACKERS + TRACKERS,
     }
 }
 
@@ -34,13 +37,14 @@ pub struct Queues {
 impl Model for Queues {
     ghost use Rattle.std.specs.Prelude.{◌≤◌};
     ghost use Rattle.std.specs.VecDeque.{deque_capacity};
-    ghost use Rattle.tilelink_channels.specs.Queues.{Waiting};
+    ghost use Rattle.tilelink_channels.specs.Queues.{Waiting, room_of};
+    ghost use Rattle.tl_types.specs.declared.message.Channel.TheVariants.{A, B, C, D, E};
 
     ghost Value = { Waiting };
 
     ghost view = { λ q. record { a = q.a.items; b = q.b.items; c = q.c.items; d = q.d.items; e = q.e.items } };
 
-    ghost invariant = { λ q. (4 ≤ deque_capacity q.a) × (28 ≤ deque_capacity q.b) × (32 ≤ deque_capacity q.c) × (8 ≤ deque_capacity q.d) × (4 ≤ deque_capacity q.e) };
+    ghost invariant = { λ q. (room_of A ≤ deque_capacity q.a) × (room_of B ≤ deque_capacity q.b) × (room_of C ≤ deque_capacity q.c) × (room_of D ≤ deque_capacity q.d) × (room_of E ≤ deque_capacity q.e) };
 }
 
 impl Queues {

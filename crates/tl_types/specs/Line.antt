@@ -1,5 +1,5 @@
 -- A line's size and bytes.
-use Rattle.std.specs.Prelude.{ℕ, List}
+use Rattle.std.specs.Prelude.{ℕ, List, Option, Some, None, ◌==◌, if◌then◌else◌}
 use Rattle.tl_types.specs.declared.line.LineData.{LineData}
 use Rattle.tl_types.specs.declared.line.LineData.TheVariants as data_of
 use Rattle.tl_types.specs.declared.line.LineSize.{LineSize}
@@ -9,6 +9,10 @@ use Rattle.tl_types.specs.declared.line.LineSize.TheVariants as size
 abbrev pub length_of : LineSize → ℕ
 length_of size.Bytes16 = 16
 length_of size.Bytes64 = 64
+
+-- the size of a line of so many bytes, where a line may have as many
+abbrev pub size_of_bytes : ℕ → Option LineSize
+size_of_bytes n = if n == length_of size.Bytes16 then Some size.Bytes16 else (if n == length_of size.Bytes64 then Some size.Bytes64 else None)
 
 abbrev pub size_of : LineData → LineSize
 size_of (data_of.Bytes16 bytes) = size.Bytes16

@@ -1,6 +1,6 @@
 //! Lines of memory: their size and their bytes.
-ghost use Rattle.std.specs.Prelude.{◌≡◌, length};
-ghost use Rattle.tl_types.specs.Line.{bytes_of, size_of, length_of};
+ghost use Rattle.std.specs.Prelude.{◌≡◌, IfSome, length};
+ghost use Rattle.tl_types.specs.Line.{bytes_of, size_of, size_of_bytes, length_of};
 
 /// How many bytes a line has.
 #[derive(Clone, Copy, Debug, PartialEq, Eq)]
@@ -10,6 +10,18 @@ pub enum LineSize {
 }
 
 impl LineSize {
+    /// The size of a line of so many bytes, where a line may have as many.
+    pub fn of_bytes(bytes: u32) -> Option<LineSize>
+        ensures size { result ≡ size_of_bytes bytes }
+        ensures bytes { IfSome result (λ size. length_of size ≡ bytes) }
+    {
+        match bytes {
+            16 => Some(LineSize::Bytes16),
+            64 => Some(LineSize::Bytes64),
+            _ => None,
+        }
+    }
+
     /// 16 or 64.
     pub fn bytes(self) -> u32
         ensures { result ≡ length_of self }

@@ -5,6 +5,7 @@ use Rattle.std.specs.List.{All}
 use Rattle.std.proofs.lemmas.List.Elements.{All-map, All-set}
 use Rattle.std.proofs.lemmas.Grind.{common_steps}
 use Rattle.std.proofs.Math.Seq.{map-set_same}
+use Rattle.machine_limits.specs.declared.TheConstants.{MAX_ENTRIES}
 use Rattle.hart.specs.declared.retired.Retired.{Retired}
 use Rattle.trace_recorder.specs.History.{History}
 use Rattle.trace_recorder.specs.Limits.{AreWithinLimits, IsWithinLimits}
@@ -38,13 +39,13 @@ room-pushed vs i old new h at less = map-set room_of vs i new ∙ ap (λ (n : �
 
 -- ---- the limits stay: a list has the same items, or one more where it may have one
 
-set_within : (vs : List (Vec Retired Global)) (i : ℕ) (v : Vec Retired Global) → length v.items ≤ 1000000 → AreWithinLimits vs → AreWithinLimits (slice_set vs i v)
+set_within : (vs : List (Vec Retired Global)) (i : ℕ) (v : Vec Retired Global) → length v.items ≤ MAX_ENTRIES → AreWithinLimits vs → AreWithinLimits (slice_set vs i v)
 set_within vs i v short w = record {
   harts = let same = length-set vs i v in omega (arith, same, w.harts);
-  places = All-set (λ (u : Vec Retired Global). length u.items ≤ 1000000) vs i v short w.places;
+  places = All-set (λ (u : Vec Retired Global). length u.items ≤ MAX_ENTRIES) vs i v short w.places;
 }
 
-pub pushed_within : (vs : List (Vec Retired Global)) (i : ℕ) (old new : Vec Retired Global) (entry : Retired) → i < length vs → old ≡ slice_index_or vs i old → new.items ≡ old.items ++ entry ∷ [] → length (slice_index_or (map items_of vs) i []) < 1000000 → AreWithinLimits vs → AreWithinLimits (slice_set vs i new)
+pub pushed_within : (vs : List (Vec Retired Global)) (i : ℕ) (old new : Vec Retired Global) (entry : Retired) → i < length vs → old ≡ slice_index_or vs i old → new.items ≡ old.items ++ entry ∷ [] → length (slice_index_or (map items_of vs) i []) < MAX_ENTRIES → AreWithinLimits vs → AreWithinLimits (slice_set vs i new)
 pushed_within vs i old new entry h at push few w =
     let was = ap (λ (r : List Retired). length r) (list_at vs i old at h) in
     let one_more = ap (λ (r : List Retired). length r) push ∙ length-append old.items (entry ∷ []) in
@@ -53,5 +54,5 @@ pushed_within vs i old new entry h at push few w =
 pub history_within : (t : History) (vs : List (Vec Retired Global)) → map items_of vs ≡ t.entries → AreWithinLimits vs → IsWithinLimits t
 history_within t vs same w = record {
   harts = let count : length (map items_of vs) ≡ length vs = length-map _ _ in let lists = ap (λ (ls : List (List Retired)). length ls) same in omega (arith, count, lists, w.harts);
-  places = subst (All (λ (es : List Retired). length es ≤ 1000000)) same (All-map (λ (es : List Retired). length es ≤ 1000000) items_of vs w.places);
+  places = subst (All (λ (es : List Retired). length es ≤ MAX_ENTRIES)) same (All-map (λ (es : List Retired). length es ≤ MAX_ENTRIES) items_of vs w.places);
 }

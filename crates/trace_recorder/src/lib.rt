@@ -6,7 +6,7 @@ mod logged;
 mod operation;
 mod trace;
 
-pub use limits::{MAX_ENTRIES, MAX_HARTS, are_within_limits};
+pub use limits::are_within_limits;
 pub use logged::{Direction, Logged};
 pub use operation::OpId;
 pub use trace::Trace;

@@ -1,6 +1,7 @@
 //! The trace of a run. Its lists only grow.
 ghost use Rattle.std.specs.Prelude.{◌≡◌, ◌+◌, ◌-◌, ◌<◌, ◌≤◌, [], ◌∷◌, ◌++◌, All, length, map, replicate, IfOk, OnOk, IsOk, slice_get, slice_index, Some};
 ghost use Rattle.elf_loader.specs.Image.{Initial};
+ghost use Rattle.machine_limits.specs.declared.TheConstants.{MAX_ENTRIES, MAX_HARTS};
 ghost use Rattle.trace_recorder.specs.History.{Recorded, opening, listed, performed, logged, halted, entries_of};
 ghost use Rattle.trace_recorder.specs.Limits.{AreWithinLimits, IsWithinLimits};
 
@@ -13,8 +14,8 @@ use std::marker::Model;
 use tl_types::{LineSize, Msg};
 
 /// What is kept of a run: its image, its line size, and by hart the retired instructions and the status,
-/// then the performed operations and the messages in the order in which they came. It has at most 8 harts, each
-/// with at most 1,000,000 retired instructions.
+/// then the performed operations and the messages in the order in which they came. It has at most `MAX_HARTS`
+/// harts, each with at most `MAX_ENTRIES` retired instructions.
 #[derive(Debug, Drop)]
 pub struct Trace {
     image: Image,
@@ -47,7 +48,7 @@ impl Trace {
         line: LineSize,
         harts: usize,
     ) -> Result<Trace, AllocError>
-        requires { harts ≤ 8 }
+        requires { harts ≤ MAX_HARTS }
         ensures { IfOk result (λ t. t.history ≡ opening image line harts) }
     {
         Ok(Trace {
@@ -102,7 +103,7 @@ impl Trace {
     pub fn harts(&self) -> usize
         ensures entries { result ≡ length self.now.history.entries }
         ensures statuses { result ≡ length self.now.history.statuses }
-        ensures few { result ≤ 8 }
+        ensures few { result ≤ MAX_HARTS }
         ensures within { IsWithinLimits self.now.history }
     {
         self.statuses.len()
@@ -112,7 +113,7 @@ impl Trace {
     pub fn entries(&self, hart: usize) -> &[Retired]
         requires { hart < length self.now.history.entries }
         ensures list { result.now ≡ entries_of self.now.history hart }
-        ensures few { length result.now ≤ 1000000 }
+        ensures few { length result.now ≤ MAX_ENTRIES }
     {
         &self.entries[hart]
     }
@@ -160,10 +161,10 @@ impl Trace {
         Ok(())
     }
 
-    /// One more retired instruction, for which there is room, of a hart that has fewer than 1,000,000.
+    /// One more retired instruction, for which there is room, of a hart that has fewer than `MAX_ENTRIES`.
     pub fn retire(&mut self, hart: usize, entry: Retired)
         requires hart { hart < length self.old.history.entries }
-        requires few { length (entries_of self.old.history hart) < 1000000 }
+        requires few { length (entries_of self.old.history hart) < MAX_ENTRIES }
         requires room { 0 < slice_index self.old.room.entries hart }
         ensures { self.new ≡ listed hart entry self.old }
     {

@@ -6,20 +6,21 @@ use Rattle.std.proofs.lemmas.Option.{none-some, same_Some}
 use Rattle.text_fields.specs.Fields.{number, word}
 use Rattle.text_fields.specs.Reading.{◌>>=◌, led_at, after, number_at}
 use Rattle.text_fields.proofs.Laws.{Reads, bind_some, some_is, pair_reads, seen_reads, led_reads, ended_reads, guard_reads, number_reads, word_reads, after_takes, behind_takes, chosen, both_true, refit}
-use Rattle.tl_types.specs.Line.{length_of}
+use Rattle.tl_types.specs.Line.{length_of, size_of_bytes}
 use Rattle.tl_types.specs.declared.line.LineSize.{LineSize}
 use Rattle.tl_types.specs.declared.line.LineSize.TheVariants.{Bytes16, Bytes64}
+use Rattle.elf_loader.proofs.Sizes.{kib_passes}
 use Rattle.trace_text.specs.declared.head.TraceHead.{TraceHead}
 use Rattle.trace_text.specs.Scripts.{is_first_version}
 use Rattle.trace_text.specs.TraceHeads.{IsTraceHead}
 use Rattle.trace_text.specs.Traces.{head}
-use Rattle.trace_text.specs.ScriptReading.{word_line_at}
-use Rattle.trace_text.specs.TraceLines.{is_trace_head, first_fields_at, first_numbers_at, size_of, size_at, word_field_at, second_fields_at, second_numbers_at, head_at}
+use Rattle.trace_text.specs.ScriptReading.{most, word_line_at}
+use Rattle.trace_text.specs.TraceLines.{is_trace_head, first_fields_at, first_numbers_at, size_at, word_field_at, second_fields_at, second_numbers_at, head_at}
 use Rattle.trace_text.proofs.TraceHeads.{trace_head_bounds}
 
 head_passes : (h : TraceHead) → IsTraceHead h → is_trace_head h ≡ true
 head_passes h t =
-    rw (le-leb _ _ t.some_hart, le-leb _ _ t.at_most_8, le-leb _ _ t.memory.at_least, le-leb _ _ t.memory.at_most, t.memory.whole_pages, t.aligned, le-leb _ _ t.from, le-leb _ _ t.inside) refl
+    rw (le-leb _ _ t.some_hart, le-leb _ _ t.few_harts, kib_passes h.kib t.memory, t.aligned, le-leb _ _ t.from, le-leb _ _ t.inside) refl
 
 not_true : (b : Bool) → not b ≡ true → b ≡ false
 not_true true e = absurd cc
@@ -28,8 +29,8 @@ not_true false e = refl
 both_are : (a b : Bool) → a ≡ true → b ≡ true → (a && b) ≡ true
 both_are a b e f = rw (e, f) refl
 
-number_law : (end : ℕ) → end < 48 → Reads (number end) (λ n. n ≤ 1024) (number_at end 1024)
-number_law end lt = number_reads end 1024 lt (omega arith)
+number_law : (end : ℕ) → end < 48 → Reads (number end) (λ n. n ≤ most) (number_at end most)
+number_law end lt = number_reads end most lt (omega arith)
 
 entry_small : (h : TraceHead) → IsTraceHead h → h.entry < 2 ^ 32
 entry_small h t = omega (arith, t.inside, t.memory.at_most)
@@ -50,7 +51,7 @@ abbrev IsFirst : TraceHead → Type 0
 IsFirst h = IsTraceHead h × (first h ≡ true)
 
 abbrev FirstFields : TraceHead → Type 0
-FirstFields h = (h.line ≡ Bytes16) × ((h.harts ≤ 1024) × ((h.kib ≤ 1024) × (h.entry < 2 ^ 32)))
+FirstFields h = (h.line ≡ Bytes16) × ((h.harts ≤ most) × ((h.kib ≤ most) × (h.entry < 2 ^ 32)))
 
 first_to : (h : TraceHead) → FirstFields h × ((is_trace_head h && is_first_version h.harts 16) ≡ true) → IsFirst h
 first_to h f =
@@ -61,7 +62,7 @@ first_fro : (h : TraceHead) → IsFirst h → FirstFields h × ((is_trace_head h
 first_fro h f =
     let v = both_true (eqb (length_of h.line) 16) (leb h.harts 4) f.1 in
     let line = size_16 h.line v.0 in (
-      (line, (omega (arith, f.0.at_most_8), (f.0.memory.at_most, entry_small h f.0))),
+      (line, (omega (arith, f.0.few_harts), (f.0.memory.at_most, entry_small h f.0))),
       both_are (is_trace_head h) (is_first_version h.harts 16) (head_passes h f.0) (ap (λ s. is_first_version h.harts (length_of s)) (sym line) ∙ f.1),
     )
 
@@ -79,7 +80,7 @@ first_reads =
 
 -- ---- version 2
 
-size_is : (n : ℕ) (s : LineSize) → size_of n ≡ Some s → n ≡ length_of s
+size_is : (n : ℕ) (s : LineSize) → size_of_bytes n ≡ Some s → n ≡ length_of s
 size_is n s e =
     elim (chosen (eqb n 16) (Some Bytes16) _ (Some s) e) [
       | inl y ↦ eqb-true n 16 y.0 ∙ ap length_of (same_Some Bytes16 s y.1)
@@ -92,8 +93,8 @@ size_is n s e =
 size_takes : (bytes : List ℕ) (s : LineSize) (rest : List ℕ) → size_at bytes ≡ Some (s, rest) → (bytes ≡ number 10 (length_of s) ++ rest) × Unit {0}
 unfolding size_at
 size_takes bytes s rest e =
-    let p = bind_some (number_at 10 1024 bytes) (λ n. size_of n.0 >>= λ s. Some (s, n.1)) (s, rest) e in
-    let q = bind_some (size_of p.0.0) (λ s. Some (s, p.0.1)) (s, rest) p.2 in
+    let p = bind_some (number_at 10 most bytes) (λ n. size_of_bytes n.0 >>= λ s. Some (s, n.1)) (s, rest) e in
+    let q = bind_some (size_of_bytes p.0.0) (λ s. Some (s, p.0.1)) (s, rest) p.2 in
     let t = (number_law 10 (omega arith)).takes bytes p.0.0 p.0.1 p.1 in
     let made : LineSize × List ℕ = (q.0, p.0.1) in
     subst (λ (y : LineSize × List ℕ). (bytes ≡ number 10 (length_of y.0) ++ y.1) × Unit {0}) (some_is made (s, rest) q.2) (t.0 ∙ ap (λ n. number 10 n ++ p.0.1) (size_is p.0.0 q.0 q.1), tt)
@@ -113,13 +114,13 @@ abbrev IsSecond : TraceHead → Type 0
 IsSecond h = IsTraceHead h × (first h ≡ false)
 
 abbrev SecondFields : TraceHead → Type 0
-SecondFields h = (h.harts ≤ 1024) × ((h.kib ≤ 1024) × ((h.entry < 2 ^ 32) × Unit {0}))
+SecondFields h = (h.harts ≤ most) × ((h.kib ≤ most) × ((h.entry < 2 ^ 32) × Unit {0}))
 
 second_to : (h : TraceHead) → SecondFields h × ((is_trace_head h && not (first h)) ≡ true) → IsSecond h
 second_to h f = let b = both_true (is_trace_head h) (not (first h)) f.1 in (trace_head_bounds h b.0, not_true (first h) b.1)
 
 second_fro : (h : TraceHead) → IsSecond h → SecondFields h × ((is_trace_head h && not (first h)) ≡ true)
-second_fro h f = ((omega (arith, f.0.at_most_8), (f.0.memory.at_most, (entry_small h f.0, tt))), both_are (is_trace_head h) (not (first h)) (head_passes h f.0) (ap not f.1))
+second_fro h f = ((omega (arith, f.0.few_harts), (f.0.memory.at_most, (entry_small h f.0, tt))), both_are (is_trace_head h) (not (first h)) (head_passes h f.0) (ap not f.1))
 
 second_reads : Reads second_numbers IsSecond second_numbers_at
 unfolding second_numbers_at second_fields_at word_field_at

@@ -12,10 +12,17 @@ use Rattle.tl_types.specs.declared.message.Channel.{Channel}
 use Rattle.tl_types.specs.declared.message.Channel.TheVariants.{A, B, C, D, E}
 use Rattle.machine_types.specs.declared.event.Event.{Event}
 use Rattle.machine_types.specs.declared.event.Event.TheVariants.{Step, Drain, Evict, Deliver, Local}
-use Rattle.machine_types.specs.Config.{is_power_to_64}
+use Rattle.elf_loader.specs.Size.{is_memory_kib}
+use Rattle.elf_loader.proofs.Sizes.{memory_kib}
+use Rattle.machine_types.specs.Config.{is_within_limits}
+use Rattle.machine_types.proofs.Limits.{limits_of}
+use Rattle.tl_types.specs.Line.{length_of}
+use Rattle.tl_types.specs.declared.line.LineSize.{LineSize}
+use Rattle.tl_types.specs.declared.line.LineSize.TheVariants.{Bytes16, Bytes64}
+use Rattle.tl_types.proofs.Sizes.{of_each_size}
 use Rattle.trace_text.specs.declared.script.Head.{Head}
 use Rattle.trace_text.specs.Words.{channel}
-use Rattle.trace_text.specs.Scripts.{event, IsEvent, is_first_version, head, is_head, head_of, text, IsScript}
+use Rattle.trace_text.specs.Scripts.{event, IsEvent, is_first_version, head, config_in, is_head, head_of, text, IsScript}
 use Rattle.trace_text.specs.declared.script.Script.{Script}
 use Rattle.trace_text.specs.declared.fault.TextError.{TextError}
 use Rattle.std.specs.Prelude.{IfOk}
@@ -195,9 +202,6 @@ head_takes bytes h rest e =
       | inr n ↦ second_takes bytes h rest n.1
     ]
 
-power_le : (n : ℕ) → is_power_to_64 n ≡ true → n ≤ 64
-power_le n e = grind (arith, nat_tests)
-
 record Bounds (h : Head) : Type 0 where
   harts : h.harts ≤ most
   kib : h.kib ≤ most
@@ -205,25 +209,20 @@ record Bounds (h : Head) : Type 0 where
   ways : h.ways ≤ most
   line : h.line ≤ most
 
-line_le : (n : ℕ) → (eqb n 16 || eqb n 64) ≡ true → n ≤ 64
-line_le n e = grind (arith, nat_tests)
+short_line : (size : LineSize) → length_of size ≤ most
+short_line Bytes16 = omega arith
+short_line Bytes64 = omega arith
 
 bounds : (h : Head) → is_head h ≡ true → Bounds h
 bounds h e =
-    let kib = leb 4 h.kib && leb h.kib 1024 && eqb (h.kib % 4) 0 in
-    let ways = leb 1 h.ways && leb h.ways 4 in
-    let line = eqb h.line 16 || eqb h.line 64 in
-    let a = both_true (leb 1 h.harts && leb h.harts 8 && kib && is_power_to_64 h.sets && ways) line e in
-    let b = both_true (leb 1 h.harts && leb h.harts 8 && kib && is_power_to_64 h.sets) ways a.0 in
-    let c = both_true (leb 1 h.harts && leb h.harts 8 && kib) (is_power_to_64 h.sets) b.0 in
-    let d = both_true (leb 1 h.harts && leb h.harts 8) kib c.0 in
-    let k = both_true (leb 4 h.kib && leb h.kib 1024) (eqb (h.kib % 4) 0) d.1 in
+    let both = both_true (is_within_limits (config_in h)) (is_memory_kib h.kib) e in
+    let limits = limits_of (config_in h) both.0 in
     record {
-      harts = omega (arith, leb-true h.harts 8 (both_true (leb 1 h.harts) (leb h.harts 8) d.0).1);
-      kib = leb-true h.kib 1024 (both_true (leb 4 h.kib) (leb h.kib 1024) k.0).1;
-      sets = omega (arith, power_le h.sets c.1);
-      ways = omega (arith, leb-true h.ways 4 (both_true (leb 1 h.ways) (leb h.ways 4) b.1).1);
-      line = omega (arith, line_le h.line a.1);
+      harts = omega (arith, limits.few_harts);
+      kib = (memory_kib h.kib both.1).at_most;
+      sets = omega (arith, limits.few_sets);
+      ways = omega (arith, limits.few_ways);
+      line = of_each_size (λ n. n ≤ most) short_line h.line limits.line;
     }
 
 guard_passes : (k : Head → Bool) (m h : Head) (rest : List ℕ) → m ≡ h → k h ≡ true → guarded {A = Head × List ℕ} (k m) (m, rest) ≡ Some (h, rest)

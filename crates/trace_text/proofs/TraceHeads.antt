@@ -1,7 +1,9 @@
 -- What the test of a header shows.
 use Rattle.std.proofs.Common.{◌≡◌, ◌∙◌, ℕ, ◌+◌, ◌-◌, ◌*◌, ◌^◌, refl, ◌%◌, ◌<◌, ◌≤◌, ◌&&◌, true, eqb, leb, sym, subst, inl, inr, arith}
 use Rattle.std.proofs.lemmas.Bool.{eqb-true, leb-true}
-use Rattle.elf_loader.specs.Size.{base, IsMemoryKib, IsMemorySize}
+use Rattle.machine_limits.specs.declared.TheConstants.{MAX_HARTS}
+use Rattle.elf_loader.specs.Size.{base, IsMemoryKib, IsMemorySize, is_memory_kib}
+use Rattle.elf_loader.proofs.Sizes.{memory_kib}
 use Rattle.text_fields.proofs.Laws.{both_true}
 use Rattle.trace_text.specs.declared.head.TraceHead.{TraceHead}
 use Rattle.trace_text.specs.TraceHeads.{IsTraceHead}
@@ -10,20 +12,18 @@ use Rattle.trace_text.specs.Widths.{IsWidth}
 
 pub trace_head_bounds : (h : TraceHead) → is_trace_head h ≡ true → IsTraceHead h
 trace_head_bounds h e =
-    let harts = leb 1 h.harts && leb h.harts 8 in
-    let kib = leb 4 h.kib && leb h.kib 1024 && eqb (h.kib % 4) 0 in
+    let harts = leb 1 h.harts && leb h.harts MAX_HARTS in
+    let kib = is_memory_kib h.kib in
     let entry = eqb (h.entry % 4) 0 && leb base h.entry && leb (h.entry + 4) (base + h.kib * 1024) in
     let a = both_true (harts && kib) entry e in
     let b = both_true harts kib a.0 in
-    let c = both_true (leb 1 h.harts) (leb h.harts 8) b.0 in
-    let k = both_true (leb 4 h.kib && leb h.kib 1024) (eqb (h.kib % 4) 0) b.1 in
-    let m = both_true (leb 4 h.kib) (leb h.kib 1024) k.0 in
+    let c = both_true (leb 1 h.harts) (leb h.harts MAX_HARTS) b.0 in
     let n = both_true (eqb (h.entry % 4) 0 && leb base h.entry) (leb (h.entry + 4) (base + h.kib * 1024)) a.1 in
     let p = both_true (eqb (h.entry % 4) 0) (leb base h.entry) n.0 in
     record {
       some_hart = leb-true 1 h.harts c.0;
-      at_most_8 = leb-true h.harts 8 c.1;
-      memory = record { whole_pages = eqb-true (h.kib % 4) 0 k.1; at_least = leb-true 4 h.kib m.0; at_most = leb-true h.kib 1024 m.1 };
+      few_harts = leb-true h.harts MAX_HARTS c.1;
+      memory = memory_kib h.kib b.1;
       aligned = eqb-true (h.entry % 4) 0 p.0;
       from = leb-true base h.entry p.1;
       inside = leb-true (h.entry + 4) (base + h.kib * 1024) n.1;
@@ -41,7 +41,7 @@ next_line start width (inl e) whole = let w : start % 16 ≡ 0 = subst (λ n. st
 next_line start width (inr e) whole = let w : start % 64 ≡ 0 = subst (λ n. start % n ≡ 0) e whole in subst (λ n. (start + n) % n ≡ 0) (sym e) (omega (arith, w))
 
 pub harts_small : (h : TraceHead) → IsTraceHead h → h.harts < 2 ^ 8
-harts_small h t = omega (arith, t.at_most_8)
+harts_small h t = omega (arith, t.few_harts)
 
 pub some_hart : (h : TraceHead) → IsTraceHead h → 0 < h.harts
 some_hart h t = omega (arith, t.some_hart)

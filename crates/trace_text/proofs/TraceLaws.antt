@@ -2,6 +2,7 @@
 use Rattle.std.proofs.Common.{◌≡◌, ℕ, ◌+◌, ◌-◌, ◌*◌, ◌%◌, ◌^◌, ◌<◌, ◌≤◌, Bool, ◌&&◌, true, false, eqb, leb, ltb, List, [], ◌∷◌, ◌++◌, Option, Some, None, refl, sym, ap, subst, ◌∙◌, arith, inl, inr}
 use Rattle.std.specs.Prelude.{codes}
 use Rattle.std.proofs.lemmas.Bool.{eqb-true, eq-eqb, leb-true, le-leb, ltb-true, lt-ltb}
+use Rattle.machine_limits.specs.declared.TheConstants.{MAX_ENTRIES, MAX_HARTS, MAX_KIB}
 use Rattle.elf_loader.specs.Size.{base}
 use Rattle.text_fields.specs.Fields.{number, word, hex, IsBytes}
 use Rattle.text_fields.specs.Reading.{◌>>=◌, seen_at, led_at, table_at, after, number_at, word_at, either}
@@ -118,11 +119,11 @@ retired_reads =
 abbrev pub op : OpId → List ℕ
 op o = number 32 o.hart ++ number 10 o.place
 
-pub operation_reads : (harts : ℕ) → 0 < harts → harts ≤ 8 → Reads op (IsOperation harts) (operation_at harts)
+pub operation_reads : (harts : ℕ) → 0 < harts → harts ≤ MAX_HARTS → Reads op (IsOperation harts) (operation_at harts)
 unfolding operation_at
 operation_reads harts some le =
     seen_reads op (IsOperation harts) (λ p. record { hart = p.0; place = p.1 }) (λ o. (o.hart, o.place)) (λ x h. (refl, (omega (arith, h.0), omega (arith, h.1)))) (λ y h. (refl, (omega (arith, h.0), omega (arith, h.1))))
-    (pair_reads (number_reads 32 (harts - 1) (omega arith) (omega arith)) (number_reads 10 999999 (omega arith) (omega arith)))
+    (pair_reads (number_reads 32 (harts - 1) (omega arith) (omega arith)) (number_reads 10 (MAX_ENTRIES - 1) (omega arith) (omega arith)))
 
 -- ---- data and messages
 
@@ -314,7 +315,7 @@ logged_forth h some x f e =
       },
     )
 
-logged_back : (h : TraceHead) → 0 < h.harts → h.kib ≤ 1024 → (l : Logged) → IsLogged h l → (logged_from (fields_of l) ≡ l) × (AreFields h (fields_of l) × (is_logged h.kib h.line (letter_of (channel_of l.message)) l.message ≡ true))
+logged_back : (h : TraceHead) → 0 < h.harts → h.kib ≤ MAX_KIB → (l : Logged) → IsLogged h l → (logged_from (fields_of l) ≡ l) × (AreFields h (fields_of l) × (is_logged h.kib h.line (letter_of (channel_of l.message)) l.message ≡ true))
 logged_back h some small l f = (
   refl,
   (
@@ -323,7 +324,7 @@ logged_back h some small l f = (
   ),
 )
 
-pub logged_reads : (h : TraceHead) → 0 < h.harts → h.harts ≤ 8 → h.kib ≤ 1024 → Reads logged_fields (IsLogged h) (logged_at h.harts h.kib h.line)
+pub logged_reads : (h : TraceHead) → 0 < h.harts → h.harts ≤ MAX_HARTS → h.kib ≤ MAX_KIB → Reads logged_fields (IsLogged h) (logged_at h.harts h.kib h.line)
 unfolding logged_at
 logged_reads h some le small =
     checked_reads (λ x. is_logged h.kib h.line x.1.0 x.1.1.1) logged_fields (IsLogged h) logged_from fields_of (logged_forth h some) (logged_back h some small)

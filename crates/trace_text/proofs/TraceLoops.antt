@@ -4,6 +4,7 @@ use Rattle.std.specs.Prelude.{codes, decimal}
 use Rattle.std.proofs.lemmas.Bool.{le-leb, lt-leb}
 use Rattle.std.proofs.lemmas.Fmt.{decimal_digit}
 use Rattle.std.proofs.lemmas.List.{length-append}
+use Rattle.machine_limits.specs.declared.TheConstants.{MAX_ENTRIES, MAX_HARTS}
 use Rattle.hart.specs.declared.retired.Retired.{Retired}
 use Rattle.text_fields.specs.Fields.{number}
 use Rattle.text_fields.specs.Reading.{◌>>=◌, after, guarded, section_at}
@@ -34,7 +35,7 @@ fails_passed (stops.Bytes left) a b h f = f h
 op_long : (o : OpId) → 0 < length (op o)
 op_long o = omega (arith, length-append (number 32 o.hart) (number 10 o.place), length-append (decimal o.hart) (32 ∷ []))
 
-pub operation_shortens : (harts : ℕ) → 0 < harts → harts ≤ 8 → (bytes : List ℕ) (x : OpId) (rest : List ℕ) → operation_at harts bytes ≡ Some (x, rest) → length rest < length bytes
+pub operation_shortens : (harts : ℕ) → 0 < harts → harts ≤ MAX_HARTS → (bytes : List ℕ) (x : OpId) (rest : List ℕ) → operation_at harts bytes ≡ Some (x, rest) → length rest < length bytes
 operation_shortens harts some le bytes x rest e = omega (arith, ap length ((operation_reads harts some le).takes bytes x rest e).0, length-append (op x) rest, op_long x)
 
 pub retired_shortens : (bytes : List ℕ) (x : Retired) (rest : List ℕ) → retired_at bytes ≡ Some (x, rest) → length rest < length bytes
@@ -46,7 +47,7 @@ logged_long l =
     omega (arith, length-append (words.direction l.direction) (words.channel (channel_of l.message) ++ hart), length-append (words.channel (channel_of l.message)) hart, length-append (number 32 l.hart) (words.message l.message ++ 10 ∷ []), length-append (words.message l.message) (10 ∷ []))
 
 pub logged_shortens : (h : TraceHead) → IsTraceHead h → (bytes : List ℕ) (x : Logged) (rest : List ℕ) → logged_at h.harts h.kib h.line bytes ≡ Some (x, rest) → length rest < length bytes
-logged_shortens h t bytes x rest e = omega (arith, ap length ((logged_reads h t.some_hart t.at_most_8 t.memory.at_most).takes bytes x rest e).0, length-append (logged_fields x) rest, logged_long x)
+logged_shortens h t bytes x rest e = omega (arith, ap length ((logged_reads h t.some_hart t.few_harts t.memory.at_most).takes bytes x rest e).0, length-append (logged_fields x) rest, logged_long x)
 
 -- ---- sections
 
@@ -61,17 +62,17 @@ log_starts h bytes = section_starts (codes "M ") (logged_at h.harts h.kib h.line
 -- a hart's entries so far, and those still to be read, are all that stand there
 pub record Entries (hart : ℕ) (front : List Retired) (rest bytes : List ℕ) : Type 0 where
   pub lines : Sections (retired_lead hart) retired_at front rest (section_at (retired_lead hart) retired_at (length bytes) bytes)
-  pub few : length front ≤ 1000000
+  pub few : length front ≤ MAX_ENTRIES
 
 pub entries_start : (hart : ℕ) (bytes : List ℕ) → Entries hart [] bytes bytes
 entries_start hart bytes = record { lines = section_starts (retired_lead hart) retired_at bytes; few = omega arith }
 
-pub entries_more : (hart : ℕ) (front : List Retired) (rest fields later bytes : List ℕ) (x : Retired) → length front < 1000000 → Some fields ≡ after (retired_lead hart) rest → Some (x, later) ≡ retired_at fields → Entries hart front rest bytes → Entries hart (front ++ x ∷ []) later bytes
+pub entries_more : (hart : ℕ) (front : List Retired) (rest fields later bytes : List ℕ) (x : Retired) → length front < MAX_ENTRIES → Some fields ≡ after (retired_lead hart) rest → Some (x, later) ≡ retired_at fields → Entries hart front rest bytes → Entries hart (front ++ x ∷ []) later bytes
 entries_more hart front rest fields later bytes x room led read h =
     record { lines = section_more (retired_lead hart) retired_at retired_shortens front rest fields later x _ led read h.lines; few = omega (arith, length-append front (x ∷ [])) }
 
 abbrev tested : Option (List Retired × List ℕ) → Option (List Retired × List ℕ)
-tested r = r >>= λ x. guarded (leb (length x.0) 1000000) x
+tested r = r >>= λ x. guarded (leb (length x.0) MAX_ENTRIES) x
 
 entries_are : (hart : ℕ) (bytes : List ℕ) → entries_at hart bytes ≡ tested (section_at (retired_lead hart) retired_at (length bytes) bytes)
 unfolding entries_at
@@ -85,12 +86,12 @@ pub entries_end : (hart : ℕ) (front : List Retired) (rest bytes : List ℕ) �
 entries_end hart front rest bytes led h =
     entries_are hart bytes ∙ ap tested (section_ends (retired_lead hart) retired_at front rest _ led h.lines) ∙ rw (le-leb _ _ h.few) refl
 
-too_long : (front : List Retired) (r total : Option (List Retired × List ℕ)) → 1000000 < length front → fronted front r ≡ total → tested total ≡ None
+too_long : (front : List Retired) (r total : Option (List Retired × List ℕ)) → MAX_ENTRIES < length front → fronted front r ≡ total → tested total ≡ None
 too_long front None total long e = ap tested (sym e)
-too_long front (Some x) total long e = let more : 1000000 < length (front ++ x.0) = omega (arith, length-append front x.0) in ap tested (sym e) ∙ rw (lt-leb _ _ more) refl
+too_long front (Some x) total long e = let more : MAX_ENTRIES < length (front ++ x.0) = omega (arith, length-append front x.0) in ap tested (sym e) ∙ rw (lt-leb _ _ more) refl
 
 -- a line more than a hart may have
-pub entries_full : (hart : ℕ) (front : List Retired) (rest fields later bytes : List ℕ) (x : Retired) → length front ≡ 1000000 → Some fields ≡ after (retired_lead hart) rest → Some (x, later) ≡ retired_at fields → Entries hart front rest bytes → entries_at hart bytes ≡ None
+pub entries_full : (hart : ℕ) (front : List Retired) (rest fields later bytes : List ℕ) (x : Retired) → length front ≡ MAX_ENTRIES → Some fields ≡ after (retired_lead hart) rest → Some (x, later) ≡ retired_at fields → Entries hart front rest bytes → entries_at hart bytes ≡ None
 entries_full hart front rest fields later bytes x full led read h =
     let more = section_more (retired_lead hart) retired_at retired_shortens front rest fields later x _ led read h.lines in
     entries_are hart bytes ∙ too_long (front ++ x ∷ []) (section_at (retired_lead hart) retired_at more.fuel later) _ (omega (arith, length-append front (x ∷ []))) more.same

@@ -7,6 +7,7 @@ use Rattle.std.proofs.lemmas.List.{length-append, length-map, take_at}
 use Rattle.std.proofs.lemmas.List.Elements.{All-cons, All-nil}
 use Rattle.std.proofs.lemmas.List.Concat.{flat_map-cons}
 use Rattle.std.proofs.lemmas.Option.{some_pair_parts}
+use Rattle.machine_limits.specs.declared.TheConstants.{MAX_ENTRIES, MAX_HARTS, MAX_KIB}
 use Rattle.elf_loader.specs.Size.{base}
 use Rattle.hart.specs.declared.retired.Retired.{Retired}
 use Rattle.hart.specs.declared.status.Status.{Status}
@@ -38,8 +39,8 @@ use Rattle.trace_text.proofs.ImageLaws.{lines_take, lines_again}
 entries_take : (h : ℕ) (bytes : List ℕ) (xs : List Retired) (rest : List ℕ) → entries_at h bytes ≡ Some (xs, rest) → (bytes ≡ entries h xs ++ rest) × IsHart xs
 unfolding entries_at
 entries_take h bytes xs rest e =
-    let p = bind_some (section_at (retired_lead h) retired_at (length bytes) bytes) (λ x. guarded (leb (length x.0) 1000000) x) (xs, rest) e in
-    let g = guarded_takes (leb (length p.0.0) 1000000) p.0 (xs, rest) p.2 in
+    let p = bind_some (section_at (retired_lead h) retired_at (length bytes) bytes) (λ x. guarded (leb (length x.0) MAX_ENTRIES) x) (xs, rest) e in
+    let g = guarded_takes (leb (length p.0.0) MAX_ENTRIES) p.0 (xs, rest) p.2 in
     let t = section_takes (retired_lead h) retired_reads (length bytes) bytes p.0.0 p.0.1 p.1 in
     subst (λ (y : List Retired × List ℕ). (bytes ≡ entries h y.0 ++ y.1) × IsHart y.0) g.1 (t.0, (t.1, leb-true _ _ g.0))
 
@@ -56,7 +57,7 @@ starts_entries c h (xs ∷ more) rest e f =
     ∙ starts_section c 82 (32 ∷ number 32 h) retired_text xs (numbered entries (suc h) more ++ rest) e (starts_entries c (suc h) more rest e f)
 
 -- no later hart's lines are this one's
-later_entries : (k h : ℕ) (es : List (List Retired)) (rest : List ℕ) → k < h → h + length es ≤ 8 → starts 82 rest ≡ false → after (retired_lead k) (numbered entries h es ++ rest) ≡ None
+later_entries : (k h : ℕ) (es : List (List Retired)) (rest : List ℕ) → k < h → h + length es ≤ MAX_HARTS → starts 82 rest ≡ false → after (retired_lead k) (numbered entries h es ++ rest) ≡ None
 later_entries k h [] rest lt le f = after_not 82 (32 ∷ number 32 k) rest f
 later_entries k h ([] ∷ more) rest lt le f = later_entries k (suc h) more rest (omega arith) (omega arith) f
 later_entries k h ((x ∷ xs) ∷ more) rest lt le f =
@@ -75,29 +76,29 @@ items_of v = v.items
 lists_take : (n : ℕ) (bytes : List ℕ) (es : List (List Retired)) (rest : List ℕ) → numbered_at entries_at n 0 bytes ≡ Some (es, rest) → (bytes ≡ numbered entries 0 es ++ rest) × ((length es ≡ n) × AllByRecursion IsHart es)
 lists_take n bytes es rest e = numbered_takes entries IsHart entries_at entries_take n 0 bytes es rest e
 
-lists_again : (n : ℕ) (es : List (List Retired)) (rest : List ℕ) → length es ≡ n → n ≤ 8 → AllByRecursion IsHart es → starts 82 rest ≡ false → numbered_at entries_at n 0 (numbered entries 0 es ++ rest) ≡ Some (es, rest)
+lists_again : (n : ℕ) (es : List (List Retired)) (rest : List ℕ) → length es ≡ n → n ≤ MAX_HARTS → AllByRecursion IsHart es → starts 82 rest ≡ false → numbered_at entries_at n 0 (numbered entries 0 es ++ rest) ≡ Some (es, rest)
 lists_again n es rest len le fits off =
     numbered_again entries IsHart entries_at 8 rest (λ h x more small f. entries_again h x (numbered entries (suc h) more ++ rest) f (later_entries h (suc h) more rest (omega arith) small off)) n 0 es len (omega arith) fits
 
 -- ---- operations, messages
 
-performed_take : (harts : ℕ) → 0 < harts → harts ≤ 8 → (bytes : List ℕ) (xs : List OpId) (rest : List ℕ) → performed_at harts bytes ≡ Some (xs, rest) → (bytes ≡ flat_map operation xs ++ rest) × AllByRecursion (IsOperation harts) xs
+performed_take : (harts : ℕ) → 0 < harts → harts ≤ MAX_HARTS → (bytes : List ℕ) (xs : List OpId) (rest : List ℕ) → performed_at harts bytes ≡ Some (xs, rest) → (bytes ≡ flat_map operation xs ++ rest) × AllByRecursion (IsOperation harts) xs
 unfolding performed_at
 performed_take harts some le bytes xs rest e = section_takes (codes "P ") (operation_reads harts some le) (length bytes) bytes xs rest e
 
-performed_again : (harts : ℕ) → 0 < harts → harts ≤ 8 → (xs : List OpId) (rest : List ℕ) → AllByRecursion (IsOperation harts) xs → starts 80 rest ≡ false → performed_at harts (flat_map operation xs ++ rest) ≡ Some (xs, rest)
+performed_again : (harts : ℕ) → 0 < harts → harts ≤ MAX_HARTS → (xs : List OpId) (rest : List ℕ) → AllByRecursion (IsOperation harts) xs → starts 80 rest ≡ false → performed_at harts (flat_map operation xs ++ rest) ≡ Some (xs, rest)
 unfolding performed_at
 performed_again harts some le xs rest fits off =
     section_again (codes "P ") (operation_reads harts some le) (omega arith) (length (flat_map operation xs ++ rest)) xs rest fits (after_not 80 (32 ∷ []) rest off) (omega (arith, length-append (flat_map operation xs) rest))
 
 log_take : (h : TraceHead) → IsTraceHead h → (bytes : List ℕ) (xs : List Logged) (rest : List ℕ) → log_at h bytes ≡ Some (xs, rest) → (bytes ≡ flat_map logged xs ++ rest) × AllByRecursion (IsLogged h) xs
 unfolding log_at
-log_take h t bytes xs rest e = section_takes (codes "M ") (logged_reads h t.some_hart t.at_most_8 t.memory.at_most) (length bytes) bytes xs rest e
+log_take h t bytes xs rest e = section_takes (codes "M ") (logged_reads h t.some_hart t.few_harts t.memory.at_most) (length bytes) bytes xs rest e
 
 log_again : (h : TraceHead) → IsTraceHead h → (xs : List Logged) (rest : List ℕ) → AllByRecursion (IsLogged h) xs → starts 77 rest ≡ false → log_at h (flat_map logged xs ++ rest) ≡ Some (xs, rest)
 unfolding log_at
 log_again h t xs rest fits off =
-    section_again (codes "M ") (logged_reads h t.some_hart t.at_most_8 t.memory.at_most) (omega arith) (length (flat_map logged xs ++ rest)) xs rest fits (after_not 77 (32 ∷ []) rest off) (omega (arith, length-append (flat_map logged xs) rest))
+    section_again (codes "M ") (logged_reads h t.some_hart t.few_harts t.memory.at_most) (omega arith) (length (flat_map logged xs ++ rest)) xs rest fits (after_not 77 (32 ∷ []) rest off) (omega (arith, length-append (flat_map logged xs) rest))
 
 -- ---- statuses
 
@@ -108,7 +109,7 @@ status_line_reads h = led_reads (status_lead h) status_reads
 statuses_take : (n : ℕ) (bytes : List ℕ) (xs : List Status) (rest : List ℕ) → numbered_at status_line_at n 0 bytes ≡ Some (xs, rest) → (bytes ≡ numbered status 0 xs ++ rest) × ((length xs ≡ n) × AllByRecursion IsStatus xs)
 statuses_take n bytes xs rest e = numbered_takes status IsStatus status_line_at (λ h bytes x rest e. (status_line_reads h).takes bytes x rest e) n 0 bytes xs rest e
 
-statuses_again : (n : ℕ) (xs : List Status) (rest : List ℕ) → length xs ≡ n → n ≤ 8 → AllByRecursion IsStatus xs → numbered_at status_line_at n 0 (numbered status 0 xs ++ rest) ≡ Some (xs, rest)
+statuses_again : (n : ℕ) (xs : List Status) (rest : List ℕ) → length xs ≡ n → n ≤ MAX_HARTS → AllByRecursion IsStatus xs → numbered_at status_line_at n 0 (numbered status 0 xs ++ rest) ≡ Some (xs, rest)
 statuses_again n xs rest len le fits = numbered_again status IsStatus status_line_at 8 rest (λ h x more small f. (status_line_reads h).again x (numbered status (suc h) more ++ rest) f) n 0 xs len (omega arith) fits
 
 starts_statuses : (c : ℕ) (xs : List Status) (rest : List ℕ) → 0 < length xs → eqb 72 c ≡ false → starts c (numbered status 0 xs ++ rest) ≡ false
@@ -131,7 +132,7 @@ image_take s kib bytes m rest e =
     let fits : IsBytes (kib * 1024) m = subst (λ n. IsBytes n m) (lines_fill s kib) t.1 in
     (t.0 ∙ ap (λ n. image_lines (length_of s) (n / length_of s) base m ++ rest) (sym fits.len), fits)
 
-image_again : (s : LineSize) (kib : ℕ) (m rest : List ℕ) → kib ≤ 1024 → IsBytes (kib * 1024) m → starts 73 rest ≡ false → image_lines_at (length_of s) (kib * 1024 / length_of s) base (image s m ++ rest) ≡ Some (m, rest)
+image_again : (s : LineSize) (kib : ℕ) (m rest : List ℕ) → kib ≤ MAX_KIB → IsBytes (kib * 1024) m → starts 73 rest ≡ false → image_lines_at (length_of s) (kib * 1024 / length_of s) base (image s m ++ rest) ≡ Some (m, rest)
 image_again s kib m rest small fits off =
     let count : kib * 1024 / length_of s * length_of s ≡ kib * 1024 = lines_fill s kib in
     ap (λ n. image_lines_at (length_of s) (kib * 1024 / length_of s) base (image_lines (length_of s) (n / length_of s) base m ++ rest)) fits.len
@@ -146,11 +147,11 @@ pub lists_count : (n : ℕ) (bytes : List ℕ) (es : List (List Retired)) (rest 
 lists_count n bytes es rest e = (lists_take n bytes es rest e).1.0
 
 -- no list is longer than a hart's can be
-short_lists : (vs : List (Vec Retired Global)) → AllByRecursion IsHart (map items_of vs) → All (λ (v : Vec Retired Global). length v.items ≤ 1000000) vs
-short_lists [] all = All-nil (λ (v : Vec Retired Global). length v.items ≤ 1000000)
-short_lists (v ∷ vs) all = All-cons (λ (v : Vec Retired Global). length v.items ≤ 1000000) v vs all.0.1 (short_lists vs all.1)
+short_lists : (vs : List (Vec Retired Global)) → AllByRecursion IsHart (map items_of vs) → All (λ (v : Vec Retired Global). length v.items ≤ MAX_ENTRIES) vs
+short_lists [] all = All-nil (λ (v : Vec Retired Global). length v.items ≤ MAX_ENTRIES)
+short_lists (v ∷ vs) all = All-cons (λ (v : Vec Retired Global). length v.items ≤ MAX_ENTRIES) v vs all.0.1 (short_lists vs all.1)
 
-pub lists_within : (n : ℕ) (bytes : List ℕ) (vs : List (Vec Retired Global)) (rest : List ℕ) → n ≤ 8 → numbered_at entries_at n 0 bytes ≡ Some (map items_of vs, rest) → AreWithinLimits vs
+pub lists_within : (n : ℕ) (bytes : List ℕ) (vs : List (Vec Retired Global)) (rest : List ℕ) → n ≤ MAX_HARTS → numbered_at entries_at n 0 bytes ≡ Some (map items_of vs, rest) → AreWithinLimits vs
 lists_within n bytes vs rest few e =
     let t = lists_take n bytes (map items_of vs) rest e in
     let same : length (map items_of vs) ≡ length vs = length-map _ _ in
@@ -197,7 +198,7 @@ made_takes h m e p l s bytes r1 r2 r3 r4 r5 rest eh em ee ep el es =
     let th = head_reads.takes bytes h r1 eh in
     let tm = image_take h.line h.kib r1 m r2 em in
     let te = lists_take h.harts r2 e r3 ee in
-    let tp = performed_take h.harts th.1.some_hart th.1.at_most_8 r3 p r4 ep in
+    let tp = performed_take h.harts th.1.some_hart th.1.few_harts r3 p r4 ep in
     let tl = log_take h th.1 r4 l r5 el in
     let ts = statuses_take h.harts r5 s rest es in
     let same = same_head h m e p l s tm.1.len ts.1.0 in
@@ -253,10 +254,10 @@ trace_again t rest fits =
     ∙ rw (
       head_reads.again h (image t.line t.image.bytes ++ n) fits.head,
       image_again t.line (length t.image.bytes / 1024) t.image.bytes n fits.head.memory.at_most fits.memory at_n,
-      lists_again (length t.statuses) t.entries p fits.lists fits.head.at_most_8 fits.entries at_p,
-      performed_again (length t.statuses) fits.head.some_hart fits.head.at_most_8 t.performed l fits.performed at_l,
+      lists_again (length t.statuses) t.entries p fits.lists fits.head.few_harts fits.entries at_p,
+      performed_again (length t.statuses) fits.head.some_hart fits.head.few_harts t.performed l fits.performed at_l,
       log_again h fits.head t.log s fits.log (starts_statuses 77 t.statuses rest some refl),
-      statuses_again (length t.statuses) t.statuses rest refl fits.head.at_most_8 fits.statuses,
+      statuses_again (length t.statuses) t.statuses rest refl fits.head.few_harts fits.statuses,
     ) refl
 
 pub trace_shortens : (bytes : List ℕ) (t : History) (rest : List ℕ) → trace_at bytes ≡ Some (t, rest) → length rest ≤ length bytes

@@ -1,5 +1,6 @@
 -- Reading a script from left to right. The clauses of read_script don't rest on these words: they are what its parts answer.
 use Rattle.std.specs.Prelude.{ℕ, List, [], ◌∷◌, Option, Some, length, ◌&&◌, not, codes}
+use Rattle.machine_limits.specs.declared.TheConstants.{MAX_KIB}
 use Rattle.text_fields.specs.Reading.{◌>>=◌, pair_at, seen_at, led_at, ended_at, table_at, number_at, word_at, either, guarded, all_at}
 use Rattle.machine_types.specs.declared.event.Event.{Event}
 use Rattle.machine_types.specs.declared.event.Event.TheVariants.{Step, Drain, Evict, Deliver, Local}
@@ -39,7 +40,7 @@ event_at bytes = either (step_at bytes) (either (drain_at bytes) (either (evict_
 
 -- no number of a header is more
 abbrev pub most : ℕ
-most = 1024
+most = MAX_KIB
 
 -- the last two numbers of a header
 unfoldable pub last_two_at : List ℕ → Option ((ℕ × ℕ) × List ℕ)

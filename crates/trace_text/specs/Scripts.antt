@@ -1,10 +1,13 @@
 -- What a script is, and its one spelling.
-use Rattle.std.specs.Prelude.{◌≡◌, ℕ, ◌%◌, ◌<◌, ◌≤◌, ◌^◌, Bool, true, List, [], ◌∷◌, ◌++◌, ◌&&◌, ◌||◌, ◌==◌, nat_le, if◌then◌else◌, codes}
+use Rattle.std.specs.Prelude.{◌≡◌, ℕ, ◌<◌, ◌≤◌, ◌^◌, Bool, true, List, [], ◌∷◌, ◌++◌, ◌&&◌, ◌==◌, nat_le, if◌then◌else◌, codes}
 use Rattle.std.specs.List.{flat_map, AllByRecursion}
 use Rattle.text_fields.specs.Fields.{number, word}
-use Rattle.machine_types.specs.Config.{is_power_to_64}
+use Rattle.elf_loader.specs.Size.{is_memory_kib}
+use Rattle.machine_types.specs.Config.{is_within_limits}
+use Rattle.machine_types.specs.declared.config.Config.{Config}
 use Rattle.machine_types.specs.declared.event.Event.{Event}
 use Rattle.machine_types.specs.declared.event.Event.TheVariants.{Step, Drain, Evict, Deliver, Local}
+use Rattle.memory_model.specs.declared.MemoryModel.TheVariants.{Rvwmo}
 use Rattle.trace_text.specs.declared.script.Head.{Head}
 use Rattle.trace_text.specs.declared.script.Script.{Script}
 use Rattle.trace_text.specs.Words.{channel}
@@ -39,11 +42,13 @@ head h =
     if is_first_version h.harts h.line then codes "rvtl-script 1 " ++ (number 32 h.harts ++ (number 32 h.kib ++ (number 32 h.sets ++ number 10 h.ways)))
     else codes "rvtl-script 2 " ++ (number 32 h.harts ++ (number 32 h.kib ++ (number 32 h.sets ++ (number 32 h.ways ++ number 10 h.line))))
 
--- the limits of a machine
+-- a machine of these numbers; the limits are the same under each memory model
+abbrev pub config_in : Head → Config
+config_in h = record { harts = h.harts; sets = h.sets; ways = h.ways; line = h.line; model = Rvwmo }
+
+-- the limits of a machine and of its memory
 abbrev pub is_head : Head → Bool
-is_head h =
-    nat_le 1 h.harts && nat_le h.harts 8 && (nat_le 4 h.kib && nat_le h.kib 1024 && h.kib % 4 == 0)
-    && is_power_to_64 h.sets && (nat_le 1 h.ways && nat_le h.ways 4) && (h.line == 16 || h.line == 64)
+is_head h = is_within_limits (config_in h) && is_memory_kib h.kib
 
 abbrev pub head_of : Script → Head
 head_of s = record { harts = s.harts; kib = s.kib; sets = s.sets; ways = s.ways; line = s.line }

@@ -1,12 +1,13 @@
 -- The limits of a trace's header.
 use Rattle.std.specs.Prelude.{◌≡◌, ◌+◌, ◌*◌, ◌%◌, ◌≤◌}
+use Rattle.machine_limits.specs.declared.TheConstants.{MAX_HARTS}
 use Rattle.elf_loader.specs.Size.{base, IsMemoryKib}
 use Rattle.trace_text.specs.declared.head.TraceHead.{TraceHead}
 
--- 1 to 8 harts, memory of a size that it may have, and a word of it at the entry
+-- as many harts as a machine has, memory of a size that it may have, and a word of it at the entry
 pub record IsTraceHead (h : TraceHead) : Type 0 where
   pub some_hart : 1 ≤ h.harts
-  pub at_most_8 : h.harts ≤ 8
+  pub few_harts : h.harts ≤ MAX_HARTS
   pub memory : IsMemoryKib h.kib
   pub aligned : h.entry % 4 ≡ 0
   pub from : base ≤ h.entry

@@ -1,6 +1,7 @@
 -- The values that a trace may have in its text.
 use Rattle.std.specs.Prelude.{◌≡◌, ℕ, ◌+◌, ◌*◌, ◌/◌, ◌%◌, ◌^◌, ◌<◌, ◌≤◌, List, Option, Some, None, Result, Ok, Err, length, ◌++◌}
 use Rattle.std.specs.List.{AllByRecursion}
+use Rattle.machine_limits.specs.declared.TheConstants.{MAX_ENTRIES}
 use Rattle.text_fields.specs.Fields.{IsBytes}
 use Rattle.elf_loader.specs.Size.{base}
 use Rattle.hart.specs.declared.retired.Retired.{Retired}
@@ -30,13 +31,13 @@ pub record IsRetired (r : Retired) : Type 0 where
   pub word : r.word < 2 ^ 32
   pub loaded : IsLoaded r.loaded
 
--- what one hart has retired: places are below 1000000
+-- what one hart has retired: places are below its length
 abbrev pub IsHart : List Retired → Type 0
-IsHart rs = AllByRecursion IsRetired rs × (length rs ≤ 1000000)
+IsHart rs = AllByRecursion IsRetired rs × (length rs ≤ MAX_ENTRIES)
 
 -- a place of one of so many harts
 abbrev pub IsOperation : ℕ → OpId → Type 0
-IsOperation harts o = (o.hart < harts) × (o.place < 1000000)
+IsOperation harts o = (o.hart < harts) × (o.place < MAX_ENTRIES)
 
 -- a whole line of this size
 abbrev pub IsData : LineSize → LineData → Type 0

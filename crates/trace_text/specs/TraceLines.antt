@@ -1,22 +1,23 @@
 -- Reading the lines of a trace from left to right.
 use Rattle.std.specs.Prelude.{ℕ, ◌+◌, ◌-◌, ◌*◌, ◌%◌, Bool, List, [], ◌∷◌, ◌++◌, Option, Some, None, length, codes, nat_le, nat_lt, ◌==◌, ◌&&◌, not, if◌then◌else◌}
+use Rattle.machine_limits.specs.declared.TheConstants.{MAX_HARTS, MAX_ENTRIES}
 use Rattle.text_fields.specs.Fields.{word}
 use Rattle.text_fields.specs.Reading.{◌>>=◌, pair_at, seen_at, led_at, ended_at, after, number_at, word_at, hex_at, either, behind, guarded}
-use Rattle.elf_loader.specs.Size.{base}
+use Rattle.elf_loader.specs.Size.{base, is_memory_kib}
 use Rattle.hart.specs.declared.retired.Retired.{Retired}
 use Rattle.hart.specs.declared.status.Status.{Status}
 use Rattle.hart.specs.declared.status.Status.TheVariants.{Running, Stopped, Exited}
-use Rattle.tl_types.specs.Line.{length_of}
+use Rattle.tl_types.specs.Line.{length_of, size_of_bytes}
 use Rattle.tl_types.specs.Message.{channel_of}
 use Rattle.tl_types.specs.declared.line.LineSize.{LineSize}
-use Rattle.tl_types.specs.declared.line.LineSize.TheVariants.{Bytes16, Bytes64}
+use Rattle.tl_types.specs.declared.line.LineSize.TheVariants.{Bytes16}
 use Rattle.tl_types.specs.declared.message.Channel.{Channel}
 use Rattle.tl_types.specs.declared.message.Channel.TheVariants.{A, B, C, D, E}
 use Rattle.tl_types.specs.declared.message.Msg.{Msg}
 use Rattle.trace_recorder.specs.declared.operation.OpId.{OpId}
 use Rattle.trace_recorder.specs.declared.logged.Logged.{Logged}
 use Rattle.trace_text.specs.declared.head.TraceHead.{TraceHead}
-use Rattle.trace_text.specs.ScriptReading.{word_line_at}
+use Rattle.trace_text.specs.ScriptReading.{most, word_line_at}
 use Rattle.trace_text.specs.Scripts.{is_first_version}
 use Rattle.trace_text.specs.Traces.{any_set}
 use Rattle.trace_text.specs.TraceReading.{direction_at, message_at, loaded_at, answer_at}
@@ -26,21 +27,18 @@ use Rattle.trace_text.specs.TraceReading.{direction_at, message_at, loaded_at, a
 -- the limits of a machine
 abbrev pub is_trace_head : TraceHead → Bool
 is_trace_head h =
-    (nat_le 1 h.harts && nat_le h.harts 8) && (nat_le 4 h.kib && nat_le h.kib 1024 && h.kib % 4 == 0)
+    (nat_le 1 h.harts && nat_le h.harts MAX_HARTS) && is_memory_kib h.kib
     && (h.entry % 4 == 0 && nat_le base h.entry && nat_le (h.entry + 4) (base + h.kib * 1024))
 
 unfoldable pub first_fields_at : List ℕ → Option (TraceHead × List ℕ)
-first_fields_at bytes = seen_at (λ p. record { harts = p.0; kib = p.1.0; entry = p.1.1; line = Bytes16 }) (pair_at (number_at 32 1024) (pair_at (number_at 32 1024) word_line_at)) bytes
+first_fields_at bytes = seen_at (λ p. record { harts = p.0; kib = p.1.0; entry = p.1.1; line = Bytes16 }) (pair_at (number_at 32 most) (pair_at (number_at 32 most) word_line_at)) bytes
 
 unfoldable pub first_numbers_at : List ℕ → Option (TraceHead × List ℕ)
 first_numbers_at bytes = first_fields_at bytes >>= λ x. guarded (is_trace_head x.0 && is_first_version x.0.harts 16) x
 
-abbrev pub size_of : ℕ → Option LineSize
-size_of line = if line == 16 then Some Bytes16 else (if line == 64 then Some Bytes64 else None)
-
 -- a line's size, which ends the line
 unfoldable pub size_at : List ℕ → Option (LineSize × List ℕ)
-size_at bytes = number_at 10 1024 bytes >>= λ n. size_of n.0 >>= λ s. Some (s, n.1)
+size_at bytes = number_at 10 most bytes >>= λ n. size_of_bytes n.0 >>= λ s. Some (s, n.1)
 
 -- a word, and the space behind it
 unfoldable pub word_field_at : List ℕ → Option (ℕ × List ℕ)
@@ -48,7 +46,7 @@ word_field_at bytes = ended_at 32 word_at bytes
 
 unfoldable pub second_fields_at : List ℕ → Option (TraceHead × List ℕ)
 second_fields_at bytes =
-    seen_at (λ p. record { harts = p.0; kib = p.1.0; entry = p.1.1.0; line = p.1.1.1 }) (pair_at (number_at 32 1024) (pair_at (number_at 32 1024) (pair_at word_field_at size_at))) bytes
+    seen_at (λ p. record { harts = p.0; kib = p.1.0; entry = p.1.1.0; line = p.1.1.1 }) (pair_at (number_at 32 most) (pair_at (number_at 32 most) (pair_at word_field_at size_at))) bytes
 
 unfoldable pub second_numbers_at : List ℕ → Option (TraceHead × List ℕ)
 second_numbers_at bytes = second_fields_at bytes >>= λ x. guarded (is_trace_head x.0 && not (is_first_version x.0.harts (length_of x.0.line))) x
@@ -82,7 +80,7 @@ retired_at bytes =
     (pair_at word_field_at (pair_at word_field_at (pair_at loaded_field_at answer_line_at))) bytes
 
 unfoldable pub operation_at : ℕ → List ℕ → Option (OpId × List ℕ)
-operation_at harts bytes = seen_at (λ p. record { hart = p.0; place = p.1 }) (pair_at (number_at 32 (harts - 1)) (number_at 10 999999)) bytes
+operation_at harts bytes = seen_at (λ p. record { hart = p.0; place = p.1 }) (pair_at (number_at 32 (harts - 1)) (number_at 10 (MAX_ENTRIES - 1))) bytes
 
 unfoldable pub stop_at : List ℕ → Option (Status × List ℕ)
 stop_at bytes = seen_at (λ c. Stopped c) (led_at (codes "stop ") (number_at 10 8)) bytes

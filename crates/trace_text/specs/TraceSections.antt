@@ -1,5 +1,6 @@
 -- Reading the sections of a trace from left to right. The clauses of read_trace don't rest on these words: they are what its parts answer.
 use Rattle.std.specs.Prelude.{ℕ, zero, suc, ◌+◌, ◌-◌, ◌*◌, ◌/◌, List, [], ◌++◌, Option, Some, None, length, codes, nat_le, replicate}
+use Rattle.machine_limits.specs.declared.TheConstants.{MAX_ENTRIES}
 use Rattle.text_fields.specs.Fields.{number}
 use Rattle.text_fields.specs.Reading.{◌>>=◌, led_at, guarded, section_at, numbered_at}
 use Rattle.elf_loader.specs.Size.{base}
@@ -20,7 +21,7 @@ image_lines_at width (suc n) address bytes = image_line_at (replicate width 0) a
 
 -- what a hart has retired
 unfoldable pub entries_at : ℕ → List ℕ → Option (List Retired × List ℕ)
-entries_at hart bytes = section_at (retired_lead hart) retired_at (length bytes) bytes >>= λ x. guarded (nat_le (length x.0) 1000000) x
+entries_at hart bytes = section_at (retired_lead hart) retired_at (length bytes) bytes >>= λ x. guarded (nat_le (length x.0) MAX_ENTRIES) x
 
 unfoldable pub performed_at : ℕ → List ℕ → Option (List OpId × List ℕ)
 performed_at harts bytes = section_at (codes "P ") (operation_at harts) (length bytes) bytes

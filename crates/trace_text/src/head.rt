@@ -8,9 +8,9 @@ use trace_recorder::Trace;
 /// What the first two lines of a trace say.
 #[derive(Clone, Copy, Debug)]
 pub(crate) struct TraceHead {
-    /// How many harts: 1 to 8.
+    /// How many harts: 1 to `MAX_HARTS`.
     pub harts: usize,
-    /// Memory's size in KiB: a multiple of 4 from 4 to 1024.
+    /// Memory's size in KiB.
     pub kib: u32,
     /// The address of the first instruction: a multiple of 4, of a word of memory.
     pub entry: u32,

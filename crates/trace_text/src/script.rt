@@ -43,18 +43,15 @@ impl Events {
     }
 }
 
-/// What a machine is made of, and what happens to it.
+/// What a machine is made of, within the limits of a `Config` and of memory, and what happens to it.
 #[derive(Debug, Drop)]
 pub struct Script {
-    /// How many harts: 1 to 8.
     pub harts: u32,
-    /// Main memory's size in KiB: a multiple of 4 from 4 to 1024.
+    /// Main memory's size in KiB.
     pub kib: u32,
-    /// How many sets each cache has: a power of two from 1 to 64.
     pub sets: u32,
-    /// How many lines a set holds: 1 to 4.
     pub ways: u32,
-    /// How many bytes a line has: 16 or 64.
+    /// How many bytes a line has.
     pub line: u32,
     pub events: Events,
 }

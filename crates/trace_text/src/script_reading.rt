@@ -3,17 +3,22 @@ ghost use Rattle.std.specs.Prelude.{◌≡◌, length, IfOk};
 ghost use Rattle.std.specs.Option.{option_map};
 ghost use Rattle.text_fields.specs.Reading.{all_at};
 ghost use Rattle.trace_text.specs.Scripts.{is_head, text, IsScript};
-ghost use Rattle.machine_types.specs.Config.{is_power_to_64};
 ghost use Rattle.trace_text.specs.ScriptReading as reads;
 ghost use Rattle.trace_text.specs.Reading.{Gives, IsReadOrRefused, IsNoMemory};
 
 use crate::fault::{Stop, TextError};
 use crate::script::{Events, Head, Script, is_first_version};
 use crate::script_faults::script_fault;
-use machine_types::Event;
+use elf_loader::is_memory_kib;
+use machine_limits::MAX_KIB;
+use machine_types::{Config, Event};
+use memory_model::MemoryModel;
 use std::alloc::Global;
 use text_fields::{after, number_at, word_at};
 use tl_types::Channel;
+
+/// No number of a header is more.
+pub(crate) const MOST: u32 = MAX_KIB;
 
 #[tactic(auto, unfolding(crate::specs::ScriptReading::word_line_at))]
 pub(crate) fn word_line_at(bytes: &[u8]) -> Option<(u32, &[u8])>
@@ -116,27 +121,26 @@ fn event_at(bytes: &[u8]) -> Option<(Event, &[u8])>
     local_at(bytes)
 }
 
-fn is_power_to_64(n: u32) -> bool
-    ensures { result ≡ is_power_to_64 n }
-{
-    n == 1 || n == 2 || n == 4 || n == 8 || n == 16 || n == 32 || n == 64
-}
-
 fn is_head(head: &Head) -> bool
     ensures { result ≡ is_head head.now }
 {
-    let harts = 1 <= head.harts && head.harts <= 8;
-    let kib = 4 <= head.kib && head.kib <= 1024 && head.kib % 4 == 0;
-    let ways = 1 <= head.ways && head.ways <= 4;
-    harts && kib && is_power_to_64(head.sets) && ways && (head.line == 16 || head.line == 64)
+    let config = Config {
+        harts: head.harts,
+        sets: head.sets,
+        ways: head.ways,
+        line: head.line,
+        // The limits are the same under each model.
+        model: MemoryModel::Rvwmo,
+    };
+    config.is_within_limits() && is_memory_kib(head.kib)
 }
 
 #[tactic(auto, unfolding(crate::specs::ScriptReading::last_two_at))]
 fn last_two_at(bytes: &[u8]) -> Option<((u32, u32), &[u8])>
     ensures { option_map (λ x. (x.0, x.1.now)) result ≡ reads.last_two_at bytes.now }
 {
-    let (first, rest) = number_at(bytes, b' ', 1024)?;
-    let (last, rest) = number_at(rest, b'\n', 1024)?;
+    let (first, rest) = number_at(bytes, b' ', MOST)?;
+    let (last, rest) = number_at(rest, b'\n', MOST)?;
     Some(((first, last), rest))
 }
 
@@ -145,8 +149,8 @@ fn first_fields_at(bytes: &[u8]) -> Option<(Head, &[u8])>
     ensures { option_map (λ x. (x.0, x.1.now)) result ≡ reads.first_fields_at bytes.now }
 {
     let rest = after(b"rvtl-script 1 ", bytes)?;
-    let (harts, rest) = number_at(rest, b' ', 1024)?;
-    let (kib, rest) = number_at(rest, b' ', 1024)?;
+    let (harts, rest) = number_at(rest, b' ', MOST)?;
+    let (kib, rest) = number_at(rest, b' ', MOST)?;
     let ((sets, ways), rest) = last_two_at(rest)?;
     let head = Head {
         harts,
@@ -175,9 +179,9 @@ fn second_fields_at(bytes: &[u8]) -> Option<(Head, &[u8])>
     ensures { option_map (λ x. (x.0, x.1.now)) result ≡ reads.second_fields_at bytes.now }
 {
     let rest = after(b"rvtl-script 2 ", bytes)?;
-    let (harts, rest) = number_at(rest, b' ', 1024)?;
-    let (kib, rest) = number_at(rest, b' ', 1024)?;
-    let (sets, rest) = number_at(rest, b' ', 1024)?;
+    let (harts, rest) = number_at(rest, b' ', MOST)?;
+    let (kib, rest) = number_at(rest, b' ', MOST)?;
+    let (sets, rest) = number_at(rest, b' ', MOST)?;
     let ((ways, line), rest) = last_two_at(rest)?;
     let head = Head {
         harts,

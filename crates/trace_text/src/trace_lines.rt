@@ -9,31 +9,31 @@ ghost use Rattle.trace_text.specs.TraceReading as words_at;
 use crate::head::TraceHead;
 use crate::message_reading::{direction_at, message_at};
 use crate::script::is_first_version;
-use crate::script_reading::word_line_at;
+use crate::script_reading::{MOST, word_line_at};
 use crate::trace_writing::any_set;
-use elf_loader::BASE;
+use elf_loader::{BASE, is_memory_kib};
 use hart::{Retired, Status};
+use machine_limits::{MAX_ENTRIES, MAX_HARTS};
 use text_fields::{after, hex_into, number_at, word_at, word_text};
 use tl_types::{Channel, LineSize};
-use trace_recorder::{Logged, MAX_ENTRIES, OpId};
+use trace_recorder::{Logged, OpId};
 
 /// Whether a machine can have such a header.
 fn is_trace_head(head: &TraceHead) -> bool
     ensures { result ≡ reads.is_trace_head head.now }
 {
-    let harts = 1 <= head.harts && head.harts <= 8;
-    let kib = 4 <= head.kib && head.kib <= 1024 && head.kib % 4 == 0;
+    let harts = (1..=MAX_HARTS as usize).contains(&head.harts);
     let end = BASE as u64 + head.kib as u64 * 1024;
     let entry = head.entry % 4 == 0 && BASE <= head.entry && head.entry as u64 + 4 <= end;
-    harts && kib && entry
+    harts && is_memory_kib(head.kib) && entry
 }
 
 #[tactic(auto, unfolding(crate::specs::TraceLines::first_fields_at))]
 fn first_fields_at(bytes: &[u8]) -> Option<(TraceHead, &[u8])>
     ensures { option_map (λ x. (x.0, x.1.now)) result ≡ reads.first_fields_at bytes.now }
 {
-    let (harts, rest) = number_at(bytes, b' ', 1024)?;
-    let (kib, rest) = number_at(rest, b' ', 1024)?;
+    let (harts, rest) = number_at(bytes, b' ', MOST)?;
+    let (kib, rest) = number_at(rest, b' ', MOST)?;
     let (entry, rest) = word_line_at(rest)?;
     let head = TraceHead {
         harts: harts as usize,
@@ -58,23 +58,13 @@ pub(crate) fn first_numbers_at(bytes: &[u8]) -> Option<(TraceHead, &[u8])>
     }
 }
 
-fn size_of(line: u32) -> Option<LineSize>
-    ensures { result ≡ reads.size_of line }
-{
-    match line {
-        16 => Some(LineSize::Bytes16),
-        64 => Some(LineSize::Bytes64),
-        _ => None,
-    }
-}
-
 /// A line's size, which ends the line.
 #[tactic(auto, unfolding(crate::specs::TraceLines::size_at))]
 fn size_at(bytes: &[u8]) -> Option<(LineSize, &[u8])>
     ensures { option_map (λ x. (x.0, x.1.now)) result ≡ reads.size_at bytes.now }
 {
-    let (width, rest) = number_at(bytes, b'\n', 1024)?;
-    let size = size_of(width)?;
+    let (width, rest) = number_at(bytes, b'\n', MOST)?;
+    let size = LineSize::of_bytes(width)?;
     Some((size, rest))
 }
 
@@ -93,8 +83,8 @@ fn word_field_at(bytes: &[u8]) -> Option<(u32, &[u8])>
 fn second_fields_at(bytes: &[u8]) -> Option<(TraceHead, &[u8])>
     ensures { option_map (λ x. (x.0, x.1.now)) result ≡ reads.second_fields_at bytes.now }
 {
-    let (harts, rest) = number_at(bytes, b' ', 1024)?;
-    let (kib, rest) = number_at(rest, b' ', 1024)?;
+    let (harts, rest) = number_at(bytes, b' ', MOST)?;
+    let (kib, rest) = number_at(rest, b' ', MOST)?;
     let (entry, rest) = word_field_at(rest)?;
     let (line, rest) = size_at(rest)?;
     let head = TraceHead {

@@ -20,9 +20,10 @@ use crate::trace_lines::{
 };
 use elf_loader::{BASE, Image};
 use hart::{Retired, Status};
+use machine_limits::{MAX_ENTRIES, MAX_HARTS};
 use std::alloc::Global;
 use text_fields::after;
-use trace_recorder::{Logged, MAX_ENTRIES, OpId, Trace};
+use trace_recorder::{Logged, OpId, Trace};
 
 /// Memory at reset, line by line.
 #[tactic(auto, using(crate::proofs::TraceHeads::first_line, crate::proofs::TraceHeads::line_inside, crate::proofs::TraceHeads::line_fits, crate::proofs::TraceHeads::line_small, crate::proofs::TraceHeads::address_small, crate::proofs::TraceHeads::line_nearer, crate::proofs::TraceHeads::next_line))]
@@ -80,7 +81,7 @@ fn retired_of(alloc: Global, bytes: &[u8], hart: u8) -> Result<(Vec<Retired>, &[
 
 /// Each hart's retired instructions.
 fn entries_of(alloc: Global, bytes: &[u8], harts: u8) -> Result<(Vec<Vec<Retired>>, &[u8]), Stop>
-    requires { harts ≤ 8 }
+    requires { harts ≤ MAX_HARTS }
     ensures { Gives (λ x. (map (λ v. v.items) x.0.items, x.1.now)) result (numbered_at reads.entries_at harts 0 bytes.now) }
 {
     let mut lists = Vec::new(alloc);
@@ -100,7 +101,7 @@ fn entries_of(alloc: Global, bytes: &[u8], harts: u8) -> Result<(Vec<Vec<Retired
 /// The performed operations.
 fn performed_of(alloc: Global, bytes: &[u8], harts: u8) -> Result<(Vec<OpId>, &[u8]), Stop>
     requires some { 0 < harts }
-    requires few { harts ≤ 8 }
+    requires few { harts ≤ MAX_HARTS }
     ensures { Gives (λ x. (x.0.items, x.1.now)) result (reads.performed_at harts bytes.now) }
 {
     let mut performed = Vec::new(alloc);
@@ -154,7 +155,7 @@ fn status_line_at(bytes: &[u8], hart: u8) -> Option<(Status, &[u8])>
 
 /// Each hart's status.
 fn statuses_of(alloc: Global, bytes: &[u8], harts: u8) -> Result<(Vec<Status>, &[u8]), Stop>
-    requires { harts ≤ 8 }
+    requires { harts ≤ MAX_HARTS }
     ensures { Gives (λ x. (x.0.items, x.1.now)) result (numbered_at reads.status_line_at harts 0 bytes.now) }
 {
     let mut statuses = Vec::new(alloc);

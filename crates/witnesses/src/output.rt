@@ -4,45 +4,22 @@ ghost use Rattle.rv32_exec.specs.Meaning.{access_of};
 ghost use Rattle.witnesses.specs.Outcomes.{number_out, numbers_in, output_from};
 
 use hart::{Hart, Retired};
-use rv32_decode::{Instr, Register, SystemOp, decode};
-use rv32_exec::Regs;
+use rv32_decode::{Instr, decode};
+use rv32_exec::{Call, Regs};
 use std::alloc::{AllocError, Global};
-
-/// The number of an ECALL stands in x17, and its argument in x10.
-const CALL_NUMBER: u8 = 17;
-
-const CALL_ARGUMENT: u8 = 10;
-
-/// The call that puts its argument out.
-const PUT_OUT: u32 = 1;
 
 /// The number that an instruction puts out.
 fn put_out(instr: &Instr, regs: &Regs) -> Option<u32>
     ensures { numbers_in result ≡ number_out (access_of instr.now regs.now) }
 {
-    match *instr {
-        Instr::System(SystemOp::Ecall) => {
-            if regs.get(Register::new(CALL_NUMBER)) == PUT_OUT {
-                Some(regs.get(Register::new(CALL_ARGUMENT)))
-            } else {
-                None
-            }
-        }
-        Instr::System(SystemOp::Ebreak)
-        | Instr::Load { .. }
-        | Instr::Lr { .. }
-        | Instr::Amo { .. }
-        | Instr::Sc { .. }
-        | Instr::Store { .. }
-        | Instr::Upper { .. }
-        | Instr::Jal { .. }
-        | Instr::Jalr { .. }
-        | Instr::Branch { .. }
-        | Instr::Immediate { .. }
-        | Instr::Shift { .. }
-        | Instr::Register { .. }
-        | Instr::Fence(_)
-        | Instr::FenceTso => None,
+    match Call::of(instr, regs) {
+        Some(
+            Call {
+                number: Call::OUTPUT,
+                argument,
+            },
+        ) => Some(argument),
+        _ => None,
     }
 }
 

@@ -1,6 +1,7 @@
 //! How harts ended and what they put out, read off their lists.
 ghost use Rattle.std.specs.Prelude.{◌≡◌, ◌≤◌, IfOk, length, map};
 ghost use Rattle.flat_model.specs.Shown.{told};
+ghost use Rattle.machine_limits.specs.declared.TheConstants.{MAX_HARTS};
 ghost use Rattle.witnesses.specs.Outcomes.{results_from};
 
 use crate::output::output_of;
@@ -16,7 +17,7 @@ pub(crate) fn results_of(
     entries: &[Vec<Retired>],
     statuses: &[Status],
 ) -> Result<Vec<HartResult>, AllocError>
-    requires few { length entries.now ≤ 8 }
+    requires few { length entries.now ≤ MAX_HARTS }
     ensures { IfOk result (λ harts. told harts.items ≡ results_from image.now (length entries.now) 0 (map (λ list. list.items) entries.now) statuses.now) }
 {
     let harts = entries.len() as u32;

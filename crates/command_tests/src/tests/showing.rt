@@ -3,6 +3,9 @@
 use super::memory::{File, MemoryFiles};
 use super::{line, line_over};
 use crate::same::{same, same_of};
+use command_files::Remarked;
+use command_line::run_line;
+use progress_line::Silent;
 use std::alloc::Global;
 use std::sync::Wait;
 use std::test::Fail;
@@ -259,4 +262,62 @@ fn words_that_cannot_be_shown(rt: HostRuntime) -> Result<(), Fail> {
         assert!(rt; ran.out.is_empty(), "{message}");
     }
     Ok(())
+}
+
+/// Searches of a machine that has too many harts.
+const OUTSIDE: [&[&str]; 4] = [
+    &["rvtl", "explore", "--harts", "9", "image"],
+    &["rvtl", "explore", "--harts", "9", "--sample", "3", "image"],
+    &[
+        "rvtl", "explore", "--harts", "9", "--show", "counter", "image",
+    ],
+    &["rvtl", "explore", "--harts", "9", "--architecture", "image"],
+];
+
+#[test]
+fn a_size_out_of_limits_is_remarked(rt: HostRuntime) {
+    for words in OUTSIDE {
+        let mut files = Remarked::new(MemoryFiles::new(rt.alloc(), &[]));
+        let mut out = Vec::new(rt.alloc());
+        let mut err = Vec::new(rt.alloc());
+        let alloc = rt.alloc();
+        let status = run_line(&rt, alloc, words, &mut files, &mut out, &mut err, &Silent);
+        same(&rt, status, 2);
+        same(&rt, files.last(), Some("--harts is 1 to 8, not 9"));
+    }
+}
+
+/// Random runs are of the machine: with a search of the memory model they don't go, whatever is shown.
+const BOTH: [&[&str]; 2] = [
+    &[
+        "rvtl",
+        "explore",
+        "--architecture",
+        "--sample",
+        "3",
+        "image",
+    ],
+    &[
+        "rvtl",
+        "explore",
+        "--architecture",
+        "--show",
+        "counter",
+        "--sample",
+        "3",
+        "image",
+    ],
+];
+
+#[test]
+fn random_runs_beside_the_model(rt: HostRuntime) {
+    let files = [File::whole("image", LOST_UPDATE)];
+    for words in BOTH {
+        let ran = line(&rt, words, &files);
+        let told =
+            b"error: --sample makes random runs of the machine, --architecture searches the memory model: leave out one of them\n";
+        assert!(rt; ran.err.starts_with(told));
+        assert!(rt; ran.out.is_empty());
+        same(&rt, ran.status, 2);
+    }
 }

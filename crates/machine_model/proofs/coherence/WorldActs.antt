@@ -3,6 +3,7 @@ use Rattle.std.proofs.Common.{ℕ, Bool, true, false, List, [], ◌∷◌, ◌�
 use Rattle.std.specs.Prelude.{◌≢◌, if◌then◌else◌, nat_le}
 use Rattle.std.specs.FinSet as set
 use Rattle.std.specs.FinMap as map
+use Rattle.machine_limits.specs.declared.TheConstants.{TRACKERS}
 use Rattle.client_cache.specs.Cache.{Cache, copy_at, wanted, probed, probed_copy, granted, answered, evicted, evicted_copy, is_set_full}
 use Rattle.client_cache.specs.Held.{eviction_of}
 use Rattle.client_cache.proofs.AtLines.{probed_other, evicted_other}
@@ -56,7 +57,7 @@ evicted_shape c l = inner (copy_at c l)
     inner None = refl
     inner (Some h) =
         either (λ (d : Cache). d.shape ≡ c.shape) (set.contains c.acquiring l) (AcquirePending, c) _ refl
-        (either (λ (d : Cache). d.shape ≡ c.shape) (nat_le 4 (set.len c.releasing)) (ReleaseFull, c) (eviction_of h, record c { copies = map.remove c.copies l; releasing = set.insert c.releasing l }) refl refl)
+        (either (λ (d : Cache). d.shape ≡ c.shape) (nat_le TRACKERS (set.len c.releasing)) (ReleaseFull, c) (eviction_of h, record c { copies = map.remove c.copies l; releasing = set.insert c.releasing l }) refl refl)
 
 -- a miss leaves shape and copies
 wanted_keeps : (c : Cache) (l : ℕ) (grow : Grow) → ((wanted c l grow).1.shape ≡ c.shape) × ((wanted c l grow).1.copies ≡ c.copies)
@@ -64,7 +65,7 @@ wanted_keeps c l grow =
     let P : Cache → Type 0 = λ d. (d.shape ≡ c.shape) × (d.copies ≡ c.copies) in
     either P (set.contains c.releasing l) (WaitRelease, c) _ (refl, refl)
     (either P (set.contains c.acquiring l) (WaitGrant, c) _ (refl, refl)
-    (either P (nat_le 4 (set.len c.acquiring)) (NoTracker, c) _ (refl, refl)
+    (either P (nat_le TRACKERS (set.len c.acquiring)) (NoTracker, c) _ (refl, refl)
     (either P (is_set_full c l) (SetFull, c) (Missed grow, record c { acquiring = set.insert c.acquiring l }) (refl, refl) (refl, refl))))
 
 module _ (s : State) (last : ℕ → LineData) (i : IsFit s last) (h : ℕ) (in_h : h < length s.views.nodes) where

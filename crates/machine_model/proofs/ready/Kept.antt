@@ -5,6 +5,7 @@ use Rattle.std.proofs.lemmas.Bool.{and_parts, cases_lt, leb-false, ltb-false, lt
 use Rattle.std.proofs.lemmas.Bool.Decides.{eqb_tells}
 use Rattle.std.proofs.lemmas.List.{get_or-replicate, get_or_past, length-replicate}
 use Rattle.std.proofs.lemmas.List.FromFn.{length-map-range_with_len}
+use Rattle.machine_limits.specs.declared.TheConstants.{MAX_CHANGES, MAX_ENTRIES}
 use mathlib.Core.Logic.{◌⊎◌, inl, inr}
 use native.Mathlib.Omega.{arith}
 use Rattle.backing_memory.specs.Memory.{lines_of, pieces_of}
@@ -12,7 +13,7 @@ use Rattle.client_cache.specs.Word.{with_word}
 use Rattle.elf_loader.specs.Image.{Initial}
 use Rattle.hart.specs.declared.retired.Retired.{Retired}
 use Rattle.machine_model.specs.Changing.{acted, place_at}
-use Rattle.machine_model.specs.Events.{after_events, counted, entries_by, happens, hart_of, is_good, is_limited, is_piece, most_changes, most_entries, names_well, plan_of}
+use Rattle.machine_model.specs.Events.{after_events, counted, entries_by, happens, hart_of, is_good, is_limited, is_piece, names_well, plan_of}
 use Rattle.machine_model.specs.Laws.{KeepsImageAndConfig}
 use Rattle.machine_model.specs.Ready.{IsReadyAct, IsReadyBody, shape_of}
 use Rattle.machine_model.specs.Views.{Node, State, line_of, line_size, no_node, node_at, opening, opening_node, place_of, size_of_config}
@@ -59,8 +60,8 @@ pub record IsSized (s : State) : Type 0 where
   pub cells : AllSized (line_size s) s.views.memory
   pub shapes : (h : ℕ) → (node_at s h).cache.shape ≡ shape_of s
   pub harts : s.views.notes.harts ≡ s.views.config.harts
-  pub changes : s.views.changes ≤ most_changes
-  pub places : (h : ℕ) → length (entries_of s.trace h) ≤ most_entries
+  pub changes : s.views.changes ≤ MAX_CHANGES
+  pub places : (h : ℕ) → length (entries_of s.trace h) ≤ MAX_ENTRIES
 
 -- ---- lines' last writes
 
@@ -85,16 +86,16 @@ last_size s h _ last q = refl
 
 -- the limits were tested
 record IsUnlimited (s : State) (h : ℕ) (a : Act) : Type 0 where
-  few_changes : s.views.changes < most_changes
-  few_entries : place_at s h + entries_by a ≤ most_entries
+  few_changes : s.views.changes < MAX_CHANGES
+  few_entries : place_at s h + entries_by a ≤ MAX_ENTRIES
 
 unlimited : (s : State) (h : ℕ) (a : Act) → is_limited s h a ≡ false → IsUnlimited s h a
-unlimited s h a e = go (nat_le most_changes s.views.changes) refl (nat_lt most_entries (place_at s h + entries_by a)) refl e
+unlimited s h a e = go (nat_le MAX_CHANGES s.views.changes) refl (nat_lt MAX_ENTRIES (place_at s h + entries_by a)) refl e
   where
-    go : (t : Bool) → nat_le most_changes s.views.changes ≡ t → (u : Bool) → nat_lt most_entries (place_at s h + entries_by a) ≡ u → t || u ≡ false → IsUnlimited s h a
+    go : (t : Bool) → nat_le MAX_CHANGES s.views.changes ≡ t → (u : Bool) → nat_lt MAX_ENTRIES (place_at s h + entries_by a) ≡ u → t || u ≡ false → IsUnlimited s h a
     go true f u g e = cc e
     go false f true g e = cc e
-    go false f false g e = record { few_changes = leb-false most_changes s.views.changes f; few_entries = ltb-false most_entries (place_at s h + entries_by a) g }
+    go false f false g e = record { few_changes = leb-false MAX_CHANGES s.views.changes f; few_entries = ltb-false MAX_ENTRIES (place_at s h + entries_by a) g }
 
 -- an event that changes the machine
 module _ (s : State) (k : IsSized s) (e : Event) (a : Act) (good : is_good s e ≡ true) (planned : plan_of s e ≡ Changes a) where
@@ -176,9 +177,9 @@ module _ (s : State) (k : IsSized s) (e : Event) (a : Act) (good : is_good s e �
             ∙ (ap (λ (d : Node). (slice_index_or s.views.nodes j d).cache.shape) blank
             ∙ (k.shapes j ∙ ap (λ (c : Config). record { sets = c.sets; ways = c.ways; size = size_of_config c }) (sym stays.config)))
 
-        places : (j : ℕ) → (((j == hart) ≡ true) × (j ≡ hart)) ⊎ (((j == hart) ≡ false) × (j ≡ hart → ⊥)) → length (entries_of (counted (acted hart a s)).trace j) ≤ most_entries
-        places j (inl is) = subst (λ i. length (entries_of (counted (acted hart a s)).trace i) ≤ most_entries) (sym is.1) (omega (arith, longer.here, few.few_entries))
-        places j (inr is) = subst (λ (row : List Retired). length row ≤ most_entries) (sym (longer.there j is.1)) (k.places j)
+        places : (j : ℕ) → (((j == hart) ≡ true) × (j ≡ hart)) ⊎ (((j == hart) ≡ false) × (j ≡ hart → ⊥)) → length (entries_of (counted (acted hart a s)).trace j) ≤ MAX_ENTRIES
+        places j (inl is) = subst (λ i. length (entries_of (counted (acted hart a s)).trace i) ≤ MAX_ENTRIES) (sym is.1) (omega (arith, longer.here, few.few_entries))
+        places j (inr is) = subst (λ (row : List Retired). length row ≤ MAX_ENTRIES) (sym (longer.there j is.1)) (k.places j)
 
 -- ---- any event
 
@@ -253,9 +254,9 @@ opening_sized image config pages = record {
     shapes h (inl lt) = ap (λ (n : Node). n.cache.shape) (fresh image config h lt)
     shapes h (inr past) = ap (λ (n : Node). n.cache.shape) (get_or_past (opening image config).views.nodes h (no_node (opening image config)) (rw (length-map-range_with_len (opening_node image config) 0 config.harts) past))
 
-    none : (row : List Retired) → row ≡ [] → length row ≤ most_entries
+    none : (row : List Retired) → row ≡ [] → length row ≤ MAX_ENTRIES
     none row e = rw e (omega arith)
 
-    places : (h : ℕ) → (h < config.harts) ⊎ (config.harts ≤ h) → length (entries_of (opening image config).trace h) ≤ most_entries
+    places : (h : ℕ) → (h < config.harts) ⊎ (config.harts ≤ h) → length (entries_of (opening image config).trace h) ≤ MAX_ENTRIES
     places h (inl lt) = none (entries_of (opening image config).trace h) (get_or-replicate config.harts h [] [] lt)
     places h (inr past) = none (entries_of (opening image config).trace h) (get_or_past (opening image config).trace.entries h [] (rw (length-replicate {A = List Retired} config.harts []) past))

@@ -3,6 +3,7 @@ use Rattle.std.proofs.Common.{ℕ, zero, suc, ◌<◌, Bool, true, false, List, 
 use Rattle.std.specs.Prelude.{if◌then◌else◌, nat_le}
 use Rattle.std.specs.FinMap as map
 use Rattle.std.specs.FinSet as set
+use Rattle.machine_limits.specs.declared.TheConstants.{TRACKERS}
 use native.Mathlib.Omega.{arith}
 use Rattle.backing_memory.specs.Memory.{line_at}
 use Rattle.client_cache.specs.Cache.{Cache, copy_at, wanted, probed, probed_copy, granted, answered, evicted, evicted_copy, is_set_full, word_written, word_written_in}
@@ -63,10 +64,10 @@ module _ (c : Cache) (l : ℕ) where
   wanted_shape grow =
       let asked = record c { acquiring = set.insert c.acquiring l } in
       let roomy = choice (is_set_full c l) (want.SetFull, c) (want.Missed grow, asked) in
-      let tracked = choice (nat_le 4 (set.len c.acquiring)) (want.NoTracker, c) roomy in
+      let tracked = choice (nat_le TRACKERS (set.len c.acquiring)) (want.NoTracker, c) roomy in
       either IsShaped (set.contains c.releasing l) (want.WaitRelease, c) (choice (set.contains c.acquiring l) (want.WaitGrant, c) tracked) refl
       (either IsShaped (set.contains c.acquiring l) (want.WaitGrant, c) tracked refl
-      (either IsShaped (nat_le 4 (set.len c.acquiring)) (want.NoTracker, c) roomy refl
+      (either IsShaped (nat_le TRACKERS (set.len c.acquiring)) (want.NoTracker, c) roomy refl
       (either IsShaped (is_set_full c l) (want.SetFull, c) (want.Missed grow, asked) refl refl)))
 
   evicted_shape : IsShaped (evicted c l).1
@@ -76,9 +77,9 @@ module _ (c : Cache) (l : ℕ) where
       go None = refl
       go (Some h) =
           let gone = record c { copies = map.remove c.copies l; releasing = set.insert c.releasing l } in
-          let tracked = choice (nat_le 4 (set.len c.releasing)) (evict.ReleaseFull, c) (eviction_of h, gone) in
+          let tracked = choice (nat_le TRACKERS (set.len c.releasing)) (evict.ReleaseFull, c) (eviction_of h, gone) in
           either IsShaped (set.contains c.acquiring l) (evict.AcquirePending, c) tracked refl
-          (either IsShaped (nat_le 4 (set.len c.releasing)) (evict.ReleaseFull, c) (eviction_of h, gone) refl refl)
+          (either IsShaped (nat_le TRACKERS (set.len c.releasing)) (evict.ReleaseFull, c) (eviction_of h, gone) refl refl)
 
   probed_shape : (cap : Cap) → IsShaped (probed c l cap).1
   probed_shape cap = either IsShaped (set.contains c.releasing l) (probe.Releasing, c) (probed_copy c l cap (copy_at c l)) refl (go (copy_at c l))

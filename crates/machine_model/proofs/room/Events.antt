@@ -4,6 +4,7 @@ use Rattle.std.specs.Prelude.{◌==◌, ◌&&◌, not, if◌then◌else◌, map,
 use Rattle.std.specs.List.{range_with_len}
 use Rattle.std.proofs.lemmas.Bool.{and_parts, leb-false, leb-true, ltb-true}
 use Rattle.std.proofs.lemmas.List.FromFn.{length-map-range_with_len}
+use Rattle.machine_limits.specs.declared.TheConstants.{TRACKERS}
 use Rattle.client_cache.specs.Cache.{Cache, copy_at, evicted, probed, wanted}
 use Rattle.client_cache.specs.declared.answers.Evict.{Evict}
 use Rattle.client_cache.specs.declared.answers.Evict.TheVariants as evict
@@ -21,6 +22,7 @@ use Rattle.hart.specs.Local.{private_row}
 use Rattle.hart.specs.Run.{is_running}
 use Rattle.machine_model.specs.Changing.{acted, outcome_of, place_at}
 use Rattle.machine_types.specs.Config.{is_within_limits}
+use Rattle.machine_types.proofs.Limits.{limits_of}
 use Rattle.machine_model.specs.Deciding.{miss_by, writing_by}
 use Rattle.machine_model.specs.Deliveries.{plan_body, plan_front, unless_acks_full, unless_busy, unless_releasing}
 use Rattle.machine_model.specs.Events.{IsBad, IsLimited, Moves, after_events, counted, evict_by, happens, hart_of, is_limited, names_well, plan_drain, plan_of, state_by, verdict_by}
@@ -103,11 +105,11 @@ module _ (s : State) (h : ℕ) (m : Msg) where
   releasing_leaves (probe.Answered change bytes) e = no_grant e
 
   grant_leaves : PlanLeavesRoom s h (unless_acks_full (node_at s h) (Changes (act.Deliver m)))
-  grant_leaves = go (nat_le 4 (length (node_at s h).queues.e)) refl
+  grant_leaves = go (nat_le TRACKERS (length (node_at s h).queues.e)) refl
     where
-      go : (t : Bool) → nat_le 4 (length (node_at s h).queues.e) ≡ t → PlanLeavesRoom s h (if t then Stays outcome.AckFull else Changes (act.Deliver m))
+      go : (t : Bool) → nat_le TRACKERS (length (node_at s h).queues.e) ≡ t → PlanLeavesRoom s h (if t then Stays outcome.AckFull else Changes (act.Deliver m))
       go true e = tt
-      go false e = λ g. leb-false 4 (length (node_at s h).queues.e) e
+      go false e = λ g. leb-false TRACKERS (length (node_at s h).queues.e) e
 
   body_leaves : (line : ℕ) (body : Body) → m.body ≡ body → PlanLeavesRoom s h (plan_body s h (node_at s h) line body (Changes (act.Deliver m)))
   body_leaves line (AcquireBlock grow) e = busy_leaves (acquired s.views.notes (place_of (line_size s) line) h grow).0 (ap is_grant e)
@@ -159,12 +161,9 @@ after_events_small (e ∷ events) s k = after_events_small events (happens s e) 
 
 -- ---- from reset
 
-few_harts : (config : Config) → is_within_limits config ≡ true → config.harts ≤ 8
-few_harts config within = leb-true config.harts 8 (and_parts _ _ (and_parts _ _ (and_parts _ _ (and_parts _ _ (and_parts _ _ within).0).0).0).0).1
-
 pub opening_small : (image : Initial) (config : Config) → is_within_limits config ≡ true → IsSmallState (opening image config)
 opening_small image config within = record {
-  few = rw (length-map-range_with_len (opening_node image config) 0 config.harts) (few_harts config within);
+  few = rw (length-map-range_with_len (opening_node image config) 0 config.harts) (limits_of config within).few_harts;
   each = fresh (range_with_len 0 config.harts);
 }
   where

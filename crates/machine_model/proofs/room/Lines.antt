@@ -6,6 +6,7 @@ use Rattle.std.specs.FinSet as set
 use Rattle.std.specs.FinSet.{FinSet}
 use Rattle.std.proofs.lemmas.Bool.{eq-eqb}
 use Rattle.std.proofs.lemmas.Bool.Decides.{eqb_tells}
+use Rattle.machine_limits.specs.declared.TheConstants.{TRACKERS}
 use mathlib.Core.Logic.{◌⊎◌, inl, inr}
 use native.Mathlib.Omega.{arith}
 use Rattle.directory.specs.Directory.{line_at}
@@ -81,14 +82,14 @@ asked_but [] h = []
 asked_but (n ∷ ns) zero = asked_by ns
 asked_but (n ∷ ns) (suc h) = n.cache.acquiring ∷ asked_but ns h
 
-few_asked : (ns : List Node) → AllSmall ns → sizes (asked_by ns) ≤ 4 * length ns
+few_asked : (ns : List Node) → AllSmall ns → sizes (asked_by ns) ≤ TRACKERS * length ns
 few_asked [] all = omega arith
-few_asked (n ∷ ns) all = let own : set.len n.cache.acquiring ≤ 4 = all.0.few_acquires in let rest : sizes (asked_by ns) ≤ 4 * length ns = few_asked ns all.1 in omega (arith, own, rest)
+few_asked (n ∷ ns) all = let own : set.len n.cache.acquiring ≤ TRACKERS = all.0.few_acquires in let rest : sizes (asked_by ns) ≤ TRACKERS * length ns = few_asked ns all.1 in omega (arith, own, rest)
 
-pub few_others : (ns : List Node) (h : ℕ) → AllSmall ns → h < length ns → sizes (asked_but ns h) + 4 ≤ 4 * length ns
+pub few_others : (ns : List Node) (h : ℕ) → AllSmall ns → h < length ns → sizes (asked_but ns h) + TRACKERS ≤ TRACKERS * length ns
 few_others [] h all lt = absurd (omega (arith, lt))
-few_others (n ∷ ns) zero all lt = let rest : sizes (asked_by ns) ≤ 4 * length ns = few_asked ns all.1 in omega (arith, rest)
-few_others (n ∷ ns) (suc h) all lt = let own : set.len n.cache.acquiring ≤ 4 = all.0.few_acquires in let rest : sizes (asked_but ns h) + 4 ≤ 4 * length ns = few_others ns h all.1 (omega (arith, lt)) in omega (arith, own, rest)
+few_others (n ∷ ns) zero all lt = let rest : sizes (asked_by ns) ≤ TRACKERS * length ns = few_asked ns all.1 in omega (arith, rest)
+few_others (n ∷ ns) (suc h) all lt = let own : set.len n.cache.acquiring ≤ TRACKERS = all.0.few_acquires in let rest : sizes (asked_but ns h) + TRACKERS ≤ TRACKERS * length ns = few_others ns h all.1 (omega (arith, lt)) in omega (arith, own, rest)
 
 in_asked_by : (ns : List Node) (r l : ℕ) (d : Node) → r < length ns → set.contains (slice_index_or ns r d).cache.acquiring l ≡ true → 1 ≤ times l (asked_by ns)
 in_asked_by [] r l d lt e = absurd (omega (arith, lt))

@@ -41,23 +41,23 @@ module _ (s : State) (fit : Fits s) (k : IsSmallState s) (h : ℕ) where
   line = line_few s fit.0 fit.1 h
 
   -- an Acquire on A is outstanding
-  a_fits : length n.queues.a ≤ 4
+  a_fits : length n.queues.a ≤ room_of A
   a_fits = let le : length n.queues.a ≤ sizes (n.cache.acquiring ∷ []) = no_more n.queues.a (n.cache.acquiring ∷ []) (λ q. omega (arith, (line q).line_a)) in omega (arith, le, small.few_acquires)
 
-  -- the 7 other harts have at most 28 Acquires outstanding
-  others_ask : h < length s.views.nodes → sizes others ≤ 28
+  -- what the other harts have outstanding
+  others_ask : h < length s.views.nodes → sizes others ≤ room_of B
   others_ask in_h = omega (arith, few_others s.views.nodes h k.each in_h, k.few)
 
   -- a Probe on B is for one of them
-  b_fits : h < length s.views.nodes → length n.queues.b ≤ 28
+  b_fits : h < length s.views.nodes → length n.queues.b ≤ room_of B
   b_fits in_h = let le : length n.queues.b ≤ sizes others = no_more n.queues.b others (λ q. (line q).line_b) in omega (arith, le, others_ask in_h)
 
   -- what is on C answers such a Probe, or is a Release that is unanswered
-  c_fits : h < length s.views.nodes → length n.queues.c ≤ 32
+  c_fits : h < length s.views.nodes → length n.queues.c ≤ room_of C
   c_fits in_h = let le : length n.queues.c ≤ sizes (n.cache.releasing ∷ others) = no_more n.queues.c (n.cache.releasing ∷ others) (λ q. (line q).line_c) in omega (arith, le, others_ask in_h, small.few_releases)
 
   -- what is on D answers an Acquire or a Release
-  d_fits : length n.queues.d ≤ 8
+  d_fits : length n.queues.d ≤ room_of D
   d_fits = let le : length n.queues.d ≤ sizes (n.cache.acquiring ∷ n.cache.releasing ∷ []) = no_more n.queues.d (n.cache.acquiring ∷ n.cache.releasing ∷ []) (λ q. omega (arith, (line q).line_d)) in omega (arith, le, small.few_acquires, small.few_releases)
 
   queue_fits : (channel : Channel) → h < length s.views.nodes → length (queue_of n.queues channel) ≤ room_of channel

@@ -8,6 +8,7 @@ use Rattle.std.specs.FinSet as set
 use Rattle.std.specs.FinSet.{FinSet}
 use Rattle.std.proofs.lemmas.Bool.{leb-false}
 use Rattle.std.proofs.lemmas.List.{length-append, length-set}
+use Rattle.machine_limits.specs.declared.TheConstants.{MAX_HARTS, TRACKERS}
 use native.Mathlib.Omega.{arith}
 use Rattle.client_cache.specs.Cache.{Cache, copy_at, wanted, probed, probed_copy, granted, answered, evicted, evicted_copy, is_set_full, word_written, word_written_in}
 use Rattle.client_cache.specs.Held.{eviction_of}
@@ -60,9 +61,9 @@ use Rattle.trace_recorder.specs.History.{with_performed}
 -- ---- sizes
 
 pub record IsSmall (acquiring releasing : FinSet nat_cmp) (acks : List Msg) : Type 0 where
-  pub few_acquires : set.len acquiring ≤ 4
-  pub few_releases : set.len releasing ≤ 4
-  pub few_acks : length acks ≤ 4
+  pub few_acquires : set.len acquiring ≤ TRACKERS
+  pub few_releases : set.len releasing ≤ TRACKERS
+  pub few_acks : length acks ≤ TRACKERS
 
 abbrev pub IsSmallNode : Node → Type 0
 IsSmallNode n = IsSmall n.cache.acquiring n.cache.releasing n.queues.e
@@ -72,33 +73,33 @@ AllSmall [] = Unit {0}
 AllSmall (n ∷ ns) = IsSmallNode n × AllSmall ns
 
 pub record AreSmall (nodes : List Node) : Type 0 where
-  pub few : length nodes ≤ 8
+  pub few : length nodes ≤ MAX_HARTS
   pub each : AllSmall nodes
 
 abbrev pub IsSmallState : State → Type 0
 IsSmallState s = AreSmall s.views.nodes
 
-inserted : (s : FinSet nat_cmp) (l : ℕ) → nat_le 4 (set.len s) ≡ false → set.len (set.insert s l) ≤ 4
+inserted : (s : FinSet nat_cmp) (l : ℕ) → nat_le TRACKERS (set.len s) ≡ false → set.len (set.insert s l) ≤ TRACKERS
 inserted s l f = go (set.contains s l) (set.len-insert nat_cmp_total s l)
   where
-    lt : set.len s < 4
-    lt = leb-false 4 (set.len s) f
+    lt : set.len s < TRACKERS
+    lt = leb-false TRACKERS (set.len s) f
 
-    go : (t : Bool) → set.len (set.insert s l) ≡ cond t (set.len s) (set.len s + 1) → set.len (set.insert s l) ≤ 4
+    go : (t : Bool) → set.len (set.insert s l) ≡ cond t (set.len s) (set.len s + 1) → set.len (set.insert s l) ≤ TRACKERS
     go true e = omega (arith, e, lt)
     go false e = omega (arith, e, lt)
 
-removed : (s : FinSet nat_cmp) (l : ℕ) → set.len s ≤ 4 → set.len (set.remove s l) ≤ 4
+removed : (s : FinSet nat_cmp) (l : ℕ) → set.len s ≤ TRACKERS → set.len (set.remove s l) ≤ TRACKERS
 removed s l le = go (set.contains s l) (set.len-remove nat_cmp_total s l)
   where
-    go : (t : Bool) → set.len (set.remove s l) ≡ cond t (set.len s - 1) (set.len s) → set.len (set.remove s l) ≤ 4
+    go : (t : Bool) → set.len (set.remove s l) ≡ cond t (set.len s - 1) (set.len s) → set.len (set.remove s l) ≤ TRACKERS
     go true e = omega (arith, e, le)
     go false e = omega (arith, e, le)
 
 pub node_opens_small : (image : Initial) (config : Config) (id : ℕ) → IsSmallNode (opening_node image config id)
 node_opens_small image config id = record { few_acquires = none; few_releases = none; few_acks = omega arith }
   where
-    none : set.len (set.empty {R = nat_cmp}) ≤ 4
+    none : set.len (set.empty {R = nat_cmp}) ≤ TRACKERS
     none = let e : set.len (set.empty {R = nat_cmp}) ≡ 0 = set.len-empty nat_cmp in omega (arith, e)
 
 -- ---- what a call of the cache leaves
@@ -117,22 +118,22 @@ module _ (acks : List Msg) where
   wanted_small : (c : Cache) (l : ℕ) (grow : Grow) → IsSmallCache c → IsSmallCache (wanted c l grow).1
   wanted_small c l grow i =
       either IsSmallCache (set.contains c.releasing l) (want.WaitRelease, c) _ i
-      (either IsSmallCache (set.contains c.acquiring l) (want.WaitGrant, c) _ i (tracked (nat_le 4 (set.len c.acquiring)) refl))
+      (either IsSmallCache (set.contains c.acquiring l) (want.WaitGrant, c) _ i (tracked (nat_le TRACKERS (set.len c.acquiring)) refl))
     where
-      tracked : (t : Bool) → nat_le 4 (set.len c.acquiring) ≡ t → IsSmallCache (choice t (want.NoTracker, c) (choice (is_set_full c l) (want.SetFull, c) (want.Missed grow, record c { acquiring = set.insert c.acquiring l }))).1
+      tracked : (t : Bool) → nat_le TRACKERS (set.len c.acquiring) ≡ t → IsSmallCache (choice t (want.NoTracker, c) (choice (is_set_full c l) (want.SetFull, c) (want.Missed grow, record c { acquiring = set.insert c.acquiring l }))).1
       tracked true f = i
       tracked false f = either IsSmallCache (is_set_full c l) (want.SetFull, c) (want.Missed grow, record c { acquiring = set.insert c.acquiring l }) i (record { few_acquires = inserted c.acquiring l f; few_releases = i.few_releases; few_acks = i.few_acks })
 
   evicted_small : (c : Cache) (l : ℕ) → IsSmallCache c → IsSmallCache (evicted c l).1
   evicted_small c l i = go (copy_at c l)
     where
-      tracked : (h : Held) (t : Bool) → nat_le 4 (set.len c.releasing) ≡ t → IsSmallCache (choice t (evict.ReleaseFull, c) (eviction_of h, record c { copies = map.remove c.copies l; releasing = set.insert c.releasing l })).1
+      tracked : (h : Held) (t : Bool) → nat_le TRACKERS (set.len c.releasing) ≡ t → IsSmallCache (choice t (evict.ReleaseFull, c) (eviction_of h, record c { copies = map.remove c.copies l; releasing = set.insert c.releasing l })).1
       tracked h true f = i
       tracked h false f = record { few_acquires = i.few_acquires; few_releases = inserted c.releasing l f; few_acks = i.few_acks }
 
       go : (o : Option Held) → IsSmallCache (evicted_copy c l o).1
       go None = i
-      go (Some h) = either IsSmallCache (set.contains c.acquiring l) (evict.AcquirePending, c) _ i (tracked h (nat_le 4 (set.len c.releasing)) refl)
+      go (Some h) = either IsSmallCache (set.contains c.acquiring l) (evict.AcquirePending, c) _ i (tracked h (nat_le TRACKERS (set.len c.releasing)) refl)
 
   probed_small : (c : Cache) (l : ℕ) (cap : Cap) → IsSmallCache c → IsSmallCache (probed c l cap).1
   probed_small c l cap i = either IsSmallCache (set.contains c.releasing l) (probe.Releasing, c) (probed_copy c l cap (copy_at c l)) i (go (copy_at c l))
@@ -203,7 +204,7 @@ taken_small : (s : State) (h : ℕ) (m : Msg) → IsSmallState s → IsSmallStat
 taken_small s h m k =
     let i : IsSmallNode (node_at s h) = node_small s k h in
     let le : length (popped (node_at s h).queues (channel_of m)).e ≤ length (node_at s h).queues.e = acks_popped (node_at s h).queues (channel_of m) in
-    let few : length (node_at s h).queues.e ≤ 4 = i.few_acks in
+    let few : length (node_at s h).queues.e ≤ TRACKERS = i.few_acks in
     with_small s h (record (node_at s h) { queues = popped (node_at s h).queues (channel_of m) }) k
     (record { few_acquires = i.few_acquires; few_releases = i.few_releases; few_acks = omega (arith, le, few) })
 
@@ -265,7 +266,7 @@ probe_small h l cap s k =
     (with_small s h (with_less (probed n.cache l cap).1 l n) k (probed_small n.queues.e n.cache l cap (node_small s k h)))
 
 -- a Grant's GrantAck goes where there is room for it
-on_grant_small : (h l : ℕ) (cap : Cap) (bytes : Option LineData) (s : State) → h < length s.views.nodes → length (node_at s h).queues.e < 4 → IsSmallState s → IsSmallState (on_grant h l cap bytes s)
+on_grant_small : (h l : ℕ) (cap : Cap) (bytes : Option LineData) (s : State) → h < length s.views.nodes → length (node_at s h).queues.e < TRACKERS → IsSmallState s → IsSmallState (on_grant h l cap bytes s)
 on_grant_small h l cap bytes s in_h room k = with_small s1 h (record (node_at s1 h) { queues = pushed (node_at s1 h).queues ack }) k1 (record { few_acquires = after.few_acquires; few_releases = after.few_releases; few_acks = omega (arith, same, longer, room) })
   where
     n1 : Node
@@ -299,7 +300,7 @@ release_ack_small h l s k =
 
 -- ---- a delivery
 
-handled_small : (h l : ℕ) (body : Body) (s : State) → h < length s.views.nodes → (is_grant body ≡ true → length (node_at s h).queues.e < 4) → IsSmallState s → IsSmallState (handled h l body s)
+handled_small : (h l : ℕ) (body : Body) (s : State) → h < length s.views.nodes → (is_grant body ≡ true → length (node_at s h).queues.e < TRACKERS) → IsSmallState s → IsSmallState (handled h l body s)
 handled_small h l (AcquireBlock grow) s in_h room k =
     let answer = acquired s.views.notes (place_of (line_size s) l) h grow in
     handled_any_small l answer.0 (with_notes answer.1 s) k
@@ -313,12 +314,12 @@ handled_small h l (GrantData cap bytes) s in_h room k = on_grant_small h l cap (
 handled_small h l ReleaseAck s in_h room k = release_ack_small h l s k
 handled_small h l GrantAck s in_h room k = k
 
-delivered_small : (s : State) (h : ℕ) (m : Msg) → h < length s.views.nodes → (is_grant m.body ≡ true → length (node_at s h).queues.e < 4) → IsSmallState s → IsSmallState (delivered h m s)
+delivered_small : (s : State) (h : ℕ) (m : Msg) → h < length s.views.nodes → (is_grant m.body ≡ true → length (node_at s h).queues.e < TRACKERS) → IsSmallState s → IsSmallState (delivered h m s)
 delivered_small s h m in_h room k = handled_small h m.line m.body (taken h m s) (rw (framed_taken s h m in_h).count in_h) still (taken_small s h m k)
   where
-    still : is_grant m.body ≡ true → length (node_at (taken h m s) h).queues.e < 4
+    still : is_grant m.body ≡ true → length (node_at (taken h m s) h).queues.e < TRACKERS
     still g =
-        let lt : length (node_at s h).queues.e < 4 = room g in
+        let lt : length (node_at s h).queues.e < TRACKERS = room g in
         let le : length (popped (node_at s h).queues (channel_of m)).e ≤ length (node_at s h).queues.e = acks_popped (node_at s h).queues (channel_of m) in
         let e : length (node_at (taken h m s) h).queues.e ≡ length (popped (node_at s h).queues (channel_of m)).e = ap (λ (x : Node). length x.queues.e) (framed_taken s h m in_h).here in
         omega (arith, lt, le, e)
@@ -381,7 +382,7 @@ does_small model h (deed.Amo word value) s k = writes_small (performs_own h s) h
 
 -- a Grant is only delivered where its GrantAck has room
 abbrev pub LeavesRoom : State → ℕ → Act → Type 0
-LeavesRoom s h (act.Deliver m) = is_grant m.body ≡ true → length (node_at s h).queues.e < 4
+LeavesRoom s h (act.Deliver m) = is_grant m.body ≡ true → length (node_at s h).queues.e < TRACKERS
 LeavesRoom s h _ = Unit {0}
 
 pub acted_small : (s : State) (h : ℕ) (a : Act) → h < length s.views.nodes → LeavesRoom s h a → IsSmallState s → IsSmallState (acted h a s)

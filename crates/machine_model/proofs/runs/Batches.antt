@@ -3,6 +3,7 @@ use Rattle.std.proofs.Common.{◌≡◌, ℕ, zero, suc, ◌+◌, ◌<◌, ◌�
 use Rattle.std.specs.Prelude.{nat_eq, nat_lt, nat_le, is_none}
 use Rattle.std.proofs.lemmas.Bool.{false≢true, and_parts, and_from, eqb-true, ltb-true, ltb-false, lt-ltb, leb-true}
 use Rattle.std.proofs.lemmas.List.{set-set, set-get_or, length-set, length-append}
+use Rattle.machine_limits.specs.declared.TheConstants.{MAX_CHANGES, MAX_ENTRIES}
 use Rattle.elf_loader.specs.Image.{Initial, word_at}
 use Rattle.hart.specs.declared.retired.Retired.{Retired}
 use Rattle.hart.specs.declared.state.Hart.{Hart}
@@ -19,7 +20,7 @@ use Rattle.machine_types.specs.declared.event.Event.TheVariants as event
 use Rattle.machine_types.specs.declared.outcome.Outcome.{Outcome}
 use Rattle.machine_types.specs.declared.outcome.Outcome.TheVariants as outcome
 use Rattle.machine_model.specs.Changing.{with_entries, outcome_by, place_at, retired, went_alone, with_halt}
-use Rattle.machine_model.specs.Events.{Verdict, counted, is_good, most_changes, most_entries, plan_of, verdict, verdict_by}
+use Rattle.machine_model.specs.Events.{Verdict, counted, is_good, plan_of, verdict, verdict_by}
 use Rattle.machine_model.specs.Laws.{LocalIsSteps, StepsRetire, with_changes}
 use Rattle.machine_model.specs.Steps.{plan_access, plan_instr, plan_step, plan_unless}
 use Rattle.machine_model.specs.Views.{Node, State, no_node, node_at, with_node, with_trace}
@@ -62,17 +63,17 @@ running_is Running e = refl
 running_is (Stopped code) e = absurd (false≢true e)
 running_is (Exited code) e = absurd (false≢true e)
 
-not_limited : (changes place : ℕ) → changes < most_changes → place + 1 ≤ most_entries → (nat_le most_changes changes || nat_lt most_entries (place + 1)) ≡ false
-not_limited changes place c p = go (nat_le most_changes changes) refl (nat_lt most_entries (place + 1)) refl
+not_limited : (changes place : ℕ) → changes < MAX_CHANGES → place + 1 ≤ MAX_ENTRIES → (nat_le MAX_CHANGES changes || nat_lt MAX_ENTRIES (place + 1)) ≡ false
+not_limited changes place c p = go (nat_le MAX_CHANGES changes) refl (nat_lt MAX_ENTRIES (place + 1)) refl
   where
-    go : (a : Bool) → nat_le most_changes changes ≡ a → (b : Bool) → nat_lt most_entries (place + 1) ≡ b → (a || b) ≡ false
-    go true e b f = let x = leb-true most_changes changes e in absurd (omega arith)
-    go false e true f = let x = ltb-true most_entries (place + 1) f in absurd (omega arith)
+    go : (a : Bool) → nat_le MAX_CHANGES changes ≡ a → (b : Bool) → nat_lt MAX_ENTRIES (place + 1) ≡ b → (a || b) ≡ false
+    go true e b f = let x = leb-true MAX_CHANGES changes e in absurd (omega arith)
+    go false e true f = let x = ltb-true MAX_ENTRIES (place + 1) f in absurd (omega arith)
     go false e false f = refl
 
 -- the verdict on the step
 step_verdict : (s : State) (h : ℕ) (i : Instr) → h < length s.views.nodes → can_go_alone s.trace.image (node_at s h).hart ≡ true → decoded (word_at s.trace.image (node_at s h).hart.pc) ≡ Some i → access_of i (node_at s h).hart.regs ≡ Private → is_none (stop_of i (node_at s h).hart.pc (node_at s h).hart.regs 0) ≡ true
-    → s.views.changes < most_changes → place_at s h + 1 ≤ most_entries → verdict s (event.Step h) ≡ Verdict.Moves outcome.Retired (stepped h i s)
+    → s.views.changes < MAX_CHANGES → place_at s h + 1 ≤ MAX_ENTRIES → verdict s (event.Step h) ≡ Verdict.Moves outcome.Retired (stepped h i s)
 step_verdict s h i l g d p n c m =
     let hart = (node_at s h).hart in
     let image = s.trace.image in
@@ -145,7 +146,7 @@ stays_put s h =
     ap (λ (n : ℕ). with_changes n s) (omega arith)
     ∙ ap (λ (ns : List Node). record { views = record s.views { nodes = ns; changes = s.views.changes + 0 }; trace = s.trace }) (sym (set-get_or s.views.nodes h (no_node s)))
 
-went : (n : ℕ) (s : State) (h : ℕ) → h < length s.views.nodes → length (private_row s.trace.image (node_at s h).hart n) ≡ n → s.views.changes + n ≤ most_changes → place_at s h + n ≤ most_entries → Went h n s
+went : (n : ℕ) (s : State) (h : ℕ) → h < length s.views.nodes → length (private_row s.trace.image (node_at s h).hart n) ≡ n → s.views.changes + n ≤ MAX_CHANGES → place_at s h + n ≤ MAX_ENTRIES → Went h n s
 went zero s h l e c p = record { last = s; steps = refl; is = stays_put s h }
 went (suc n) s h l e c p =
     let image = s.trace.image in
@@ -175,7 +176,7 @@ pub record Retires (s : State) (h count : ℕ) (o : Outcome) (new : State) : Typ
   pub there : h < length s.views.nodes
   pub few : count ≤ 256
   pub whole : length (private_row s.trace.image (node_at s h).hart count) ≡ count
-  pub place : place_at s h + count ≤ most_entries
+  pub place : place_at s h + count ≤ MAX_ENTRIES
   pub retires : o ≡ outcome.Retired
   pub new_is : new ≡ counted (went_alone h count s)
 
@@ -185,15 +186,15 @@ moves_are o p s t e = (cc, cc)
 abbrev limited : State → ℕ → ℕ → Bool → Bool → Verdict
 limited s h count a b = cond (a || b) Verdict.IsLimited (Verdict.Moves outcome.Retired (counted (went_alone h count s)))
 
-by_limit : (s : State) (h count : ℕ) (o : Outcome) (new : State) (a b : Bool) → nat_lt most_entries (place_at s h + count) ≡ b → h < length s.views.nodes → count ≤ 256 → length (private_row s.trace.image (node_at s h).hart count) ≡ count → limited s h count a b ≡ Verdict.Moves o new → Retires s h count o new
+by_limit : (s : State) (h count : ℕ) (o : Outcome) (new : State) (a b : Bool) → nat_lt MAX_ENTRIES (place_at s h + count) ≡ b → h < length s.views.nodes → count ≤ 256 → length (private_row s.trace.image (node_at s h).hart count) ≡ count → limited s h count a b ≡ Verdict.Moves o new → Retires s h count o new
 by_limit s h count o new true b e l f w v = absurd cc
 by_limit s h count o new false true e l f w v = absurd cc
 by_limit s h count o new false false e l f w v =
     let m = moves_are outcome.Retired o (counted (went_alone h count s)) new v in
-    record { there = l; few = f; whole = w; place = ltb-false most_entries (place_at s h + count) e; retires = m.0; new_is = m.1 }
+    record { there = l; few = f; whole = w; place = ltb-false MAX_ENTRIES (place_at s h + count) e; retires = m.0; new_is = m.1 }
 
 by_row : (s : State) (h count : ℕ) (o : Outcome) (new : State) (b : Bool) → nat_eq (length (private_row s.trace.image (node_at s h).hart count)) count ≡ b → h < length s.views.nodes → count ≤ 256 → verdict_by s h (cond b (Changes (act.Local count)) (Stays outcome.NotLocal)) ≡ Verdict.Moves o new → Retires s h count o new
-by_row s h count o new true e l f v = by_limit s h count o new (nat_le most_changes s.views.changes) (nat_lt most_entries (place_at s h + count)) refl l f (eqb-true _ _ e) v
+by_row s h count o new true e l f v = by_limit s h count o new (nat_le MAX_CHANGES s.views.changes) (nat_lt MAX_ENTRIES (place_at s h + count)) refl l f (eqb-true _ _ e) v
 by_row s h count o new false e l f v = absurd cc
 
 by_running : (s : State) (h count : ℕ) (o : Outcome) (new : State) (b : Bool) → h < length s.views.nodes → count ≤ 256 → verdict_by s h (cond (not b) (Stays outcome.Halted) (cond (nat_eq (length (private_row s.trace.image (node_at s h).hart count)) count) (Changes (act.Local count)) (Stays outcome.NotLocal))) ≡ Verdict.Moves o new → Retires s h count o new
@@ -209,7 +210,7 @@ by_good s h count o new false g v = absurd cc
 pub local_is_steps : LocalIsSteps
 local_is_steps s h count o new v =
     let r = by_good s h count o new (is_good s (event.Local h count)) refl v in
-    let few : 0 + count ≤ most_changes = let x = r.few in omega arith in
+    let few : 0 + count ≤ MAX_CHANGES = let x = r.few in omega arith in
     let w = went count (with_changes 0 s) h r.there r.whole few r.place in
     record {
       retires = r.retires;

@@ -2,6 +2,7 @@
 
 ghost use Rattle.std.specs.Prelude.{◌≡◌, ◌≢◌, ◌+◌, ◌<◌, ◌≤◌, [], length, slice_index};
 ghost use Rattle.hart.specs.Local.{row_of};
+ghost use Rattle.machine_limits.specs.declared.TheConstants.{MAX_ENTRIES};
 ghost use Rattle.machine_model.specs.Changing.{went_alone, with_entries};
 ghost use Rattle.machine_model.specs.Events.{verdict};
 ghost use Rattle.machine_model.specs.Ready.{IsSound};
@@ -43,7 +44,7 @@ impl Parts {
 fn take_over(parts: &mut Parts, hart: u8, batch: &Batch)
     requires hart { hart < length parts.old.nodes.items }
     requires entries { hart < length parts.old.trace.history.entries }
-    requires few { length (entries_of parts.old.trace.history hart) + length batch.now.entries ≤ 1000000 }
+    requires few { length (entries_of parts.old.trace.history hart) + length batch.now.entries ≤ MAX_ENTRIES }
     requires room { length batch.now.entries ≤ slice_index parts.old.trace.room.entries hart }
     requires row { batch.now ≡ row_of parts.old.trace.history.image (node_at (state_of parts.old) hart).hart (length batch.now.entries) }
     ensures { state_of parts.new ≡ went_alone hart (length batch.now.entries) (state_of parts.old) }
@@ -54,7 +55,7 @@ fn take_over(parts: &mut Parts, hart: u8, batch: &Batch)
 
 fn retire_all(trace: &mut Trace, hart: u8, entries: &[Retired])
     requires hart { hart < length trace.old.history.entries }
-    requires few { length (entries_of trace.old.history hart) + length entries.now ≤ 1000000 }
+    requires few { length (entries_of trace.old.history hart) + length entries.now ≤ MAX_ENTRIES }
     requires room { length entries.now ≤ slice_index trace.old.room.entries hart }
     ensures { trace.new.history ≡ with_entries hart entries.now trace.old.history }
 {

@@ -3,6 +3,7 @@
 ghost use Rattle.std.specs.Prelude.{◌≡◌, ◌+◌, ◌<◌, ◌≤◌, length, slice_index};
 ghost use Rattle.hart.specs.Local.{private_row};
 ghost use Rattle.hart.specs.Run.{reached};
+ghost use Rattle.machine_limits.specs.declared.TheConstants.{MAX_ENTRIES};
 ghost use Rattle.machine_model.specs.declared.act.Act.TheVariants as act;
 ghost use Rattle.machine_model.specs.Changing.{place_at, went_alone, with_entries};
 ghost use Rattle.machine_model.specs.Ready.{IsSound};
@@ -18,7 +19,7 @@ use trace_recorder::Trace;
 pub(crate) fn go_alone(parts: &mut Parts, hart: u8, count: u32)
     requires sound { IsSound (state_of parts.old) }
     requires hart { hart < length parts.old.nodes.items }
-    requires few { place_at (state_of parts.old) hart + count ≤ 1000000 }
+    requires few { place_at (state_of parts.old) hart + count ≤ MAX_ENTRIES }
     requires room { HasNeeded hart (needs_of (state_of parts.old) hart (act.Local count)) parts.old.trace.room }
     ensures { state_of parts.new ≡ went_alone hart count (state_of parts.old) }
 {
@@ -29,7 +30,7 @@ pub(crate) fn go_alone(parts: &mut Parts, hart: u8, count: u32)
 // The row that begins at a hart goes into the trace; the hart behind it comes back.
 fn retire_row(trace: &mut Trace, hart: u8, first: &Hart, count: u32) -> Hart
     requires hart { hart < length trace.old.history.entries }
-    requires few { length (entries_of trace.old.history hart) + count ≤ 1000000 }
+    requires few { length (entries_of trace.old.history hart) + count ≤ MAX_ENTRIES }
     requires room { count ≤ slice_index trace.old.room.entries hart }
     ensures last { result ≡ reached first.now (private_row trace.old.history.image first.now count) }
     ensures row { trace.new.history ≡ with_entries hart (private_row trace.old.history.image first.now count) trace.old.history }

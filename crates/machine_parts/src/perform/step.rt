@@ -1,6 +1,7 @@
 //! What an instruction that retires changes.
 
 ghost use Rattle.std.specs.Prelude.{◌≡◌, ◌<◌, OnErr, OnOk, length, slice_index};
+ghost use Rattle.machine_limits.specs.declared.TheConstants.{MAX_ENTRIES};
 ghost use Rattle.machine_model.specs.declared.act.Act.TheVariants as act;
 ghost use Rattle.machine_model.specs.Changing.{does, place_at, retired, stopped, with_halt};
 ghost use Rattle.machine_model.specs.Ready.{IsReadyDeed, IsSound};
@@ -26,7 +27,7 @@ pub(crate) fn retire(
 ) -> Result<(), AllocError>
     requires sound { IsSound (state_of parts.old) }
     requires hart { hart < length parts.old.nodes.items }
-    requires few { place_at (state_of parts.old) hart < 1000000 }
+    requires few { place_at (state_of parts.old) hart < MAX_ENTRIES }
     requires room { HasNeeded hart (needs_of (state_of parts.old) hart (act.Retire entry.now instr.now deed.now)) parts.old.trace.room }
     requires ready { IsReadyDeed hart deed.now (state_of parts.old) }
     ensures ok { OnOk result (state_of parts.new ≡ retired hart entry.now instr.now (does parts.old.config.model hart deed.now (state_of parts.old))) }
@@ -42,7 +43,7 @@ fn move_on(parts: &mut Parts, hart: u8, entry: &Retired, instr: &Instr)
     requires hart { hart < length parts.old.nodes.items }
     requires entries { hart < length parts.old.trace.history.entries }
     requires statuses { hart < length parts.old.trace.history.statuses }
-    requires few { length (entries_of parts.old.trace.history hart) < 1000000 }
+    requires few { length (entries_of parts.old.trace.history hart) < MAX_ENTRIES }
     requires room { 0 < slice_index parts.old.trace.room.entries hart }
     ensures { state_of parts.new ≡ retired hart entry.now instr.now (state_of parts.old) }
 {

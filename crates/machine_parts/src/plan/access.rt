@@ -16,8 +16,8 @@ use amo_unit::combine;
 use hart::Retired;
 use machine_model::{Act, Deed, MemoryModel, Plan};
 use machine_types::{Config, Outcome};
-use rv32_decode::{AmoOp, Instr, Register};
-use rv32_exec::Width;
+use rv32_decode::{AmoOp, Instr};
+use rv32_exec::{Call, Width};
 
 /// An instruction that a hart is about to retire.
 #[derive(Clone, Copy)]
@@ -257,9 +257,8 @@ pub(crate) fn plan_fence(node: &Node, fetched: &Fetched) -> Plan
 pub(crate) fn plan_call(node: &Node, fetched: &Fetched) -> Plan
     ensures { result ≡ spec.plan_call node.now (fetched_of fetched.now) (slice_index node.now.hart.regs 17) (slice_index node.now.hart.regs 10) }
 {
-    let number = node.hart.regs.get(Register::new(17));
-    let argument = node.hart.regs.get(Register::new(10));
-    let deed = if number == 0 {
+    let Call { number, argument } = Call::in_registers(&node.hart.regs);
+    let deed = if number == Call::EXIT {
         Deed::Private
     } else {
         Deed::Output(argument)

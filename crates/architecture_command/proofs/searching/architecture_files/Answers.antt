@@ -4,7 +4,7 @@ use Rattle.architecture_command.proofs.Kept.{way_file}
 use Rattle.architecture_command.proofs.Readable.{each_has_text}
 use Rattle.architecture_command.proofs.Searched.{has, whole}
 use Rattle.explore_command.proofs.Explored.{all_of, err_more, memory_left, memory_told, ok_both, ok_more, spared, spared_after}
-use Rattle.explore_command.proofs.Faults.{folder_left, folder_told, output_left, output_told}
+use Rattle.explore_command.proofs.Faults.{folder_late, folder_left, folder_told, memory_late, output_left, output_told}
 use Rattle.explore_command.proofs.Kept.{spares_wider}
 use Rattle.machine_types.specs.Config.{is_within_limits}
 use Rattle.machine_types.specs.declared.config.Config.{Config}
@@ -42,7 +42,7 @@ returns-in_err-print-clause-unfinished g c =
     handed_up _ c.from_residual-in_err-print.result _ c.from_residual-in_err-print.ensures.1
     (output_left _ _ _ _ c.in_err-print.ensures.told
     (has held c.args.wanted c.args.words.now c.args.window asked.config asked.image c.deref.result.now _ c.in-Ok.architecture c.in_ok-config.ensures.config program c.in_ok-config.ensures.names
-    (record { shown = found.shown; machine = found.machine; alone = found.alone; order = found.order; full = found.full; model = found.model; window_is = found.window })
+    (record { shown = found.shown; machine = found.machine; alone = found.alone; order = found.order; full = found.full; model = found.model; visited = found.visited; window_is = found.window })
     _ c.in_err-print.ensures.begun))
 
 pub returns-in_err-print-clause-spared : goal.returns-in_err-print-clause-spared
@@ -58,7 +58,7 @@ returns-in_err-keep-clause-unfinished g c =
     let found = c.in-Ok.ensures in
     let program = subst (λ (a : List ℕ). HasProgram held c.args.wanted c.args.words.now asked.image a) (sym c.deref.ensures.value) c.in_ok-config.ensures.program in
     let has_text = has held c.args.wanted c.args.words.now c.args.window asked.config asked.image c.deref.result.now _ c.in-Ok.architecture c.in_ok-config.ensures.config program c.in_ok-config.ensures.names
-    (record { shown = found.shown; machine = found.machine; alone = found.alone; order = found.order; full = found.full; model = found.model; window_is = found.window }) in
+    (record { shown = found.shown; machine = found.machine; alone = found.alone; order = found.order; full = found.full; model = found.model; visited = found.visited; window_is = found.window }) in
     handed_up _ c.from_residual-in_err-keep.result _ c.from_residual-in_err-keep.ensures.1
     (folder_left c.args.wanted _ _ _ _ c.in_err-keep.ensures.told (has_text _ (all_of _ _ _ c.in_ok-print.ensures.printed)) (has_text _ c.in_ok-print.ensures.printed))
 
@@ -77,7 +77,7 @@ returns-in_err-tell-clause-unfinished g c =
     handed_up _ c.from_residual-in_err-tell.result _ c.from_residual-in_err-tell.ensures.1
     (memory_left _ _ _ _ c.in_err-tell.ensures.told
     (has held c.args.wanted c.args.words.now c.args.window asked.config asked.image c.deref.result.now _ c.in-Ok.architecture c.in_ok-config.ensures.config program c.in_ok-config.ensures.names
-    (record { shown = found.shown; machine = found.machine; alone = found.alone; order = found.order; full = found.full; model = found.model; window_is = found.window })
+    (record { shown = found.shown; machine = found.machine; alone = found.alone; order = found.order; full = found.full; model = found.model; visited = found.visited; window_is = found.window })
     _ (all_of _ _ _ c.in_ok-print.ensures.printed)))
 
 pub returns-in_err-tell-clause-spared : goal.returns-in_err-tell-clause-spared
@@ -92,7 +92,7 @@ returns-clause-searched g c =
     ok_more _ _ c.judge.result
     (λ judgement is.
     whole held c.args.wanted c.args.words.now c.args.window asked.config asked.image c.deref.result.now _ c.in-Ok.architecture c.in_ok-config.ensures.config program c.in_ok-config.ensures.names
-    (record { shown = found.shown; machine = found.machine; alone = found.alone; order = found.order; full = found.full; model = found.model; window_is = found.window })
+    (record { shown = found.shown; machine = found.machine; alone = found.alone; order = found.order; full = found.full; model = found.model; visited = found.visited; window_is = found.window })
     _ _ (g.F.Files.held c.keep.new.files) judgement _ c.in_ok-print.ensures.printed c.in_ok-keep.ensures.kept (spared_after _ _ _ _ c.in_ok-config.ensures.stays c.keep.ensures.spared) c.in_ok-config.ensures.allowed is.0 is.1)
     (ok_both _ _ c.judge.result c.judge.ensures.judged c.judge.ensures.whole)
 
@@ -108,9 +108,26 @@ returns-clause-unfinished g c =
     err_more _ _ c.judge.result
     (λ fault is. memory_left fault _ _ _ is
     (has held c.args.wanted c.args.words.now c.args.window asked.config asked.image c.deref.result.now _ c.in-Ok.architecture c.in_ok-config.ensures.config program c.in_ok-config.ensures.names
-    (record { shown = found.shown; machine = found.machine; alone = found.alone; order = found.order; full = found.full; model = found.model; window_is = found.window })
+    (record { shown = found.shown; machine = found.machine; alone = found.alone; order = found.order; full = found.full; model = found.model; visited = found.visited; window_is = found.window })
     _ (all_of _ _ _ c.in_ok-print.ensures.printed)))
     c.judge.ensures.told
 
 pub returns-clause-spared : goal.returns-clause-spared
 returns-clause-spared g c = spared_after _ _ _ _ c.in_ok-config.ensures.stays (spares_wider _ _ _ _ (way_file _ c.args.wanted.scripts) c.keep.ensures.spared)
+
+-- files are as before where the fault comes before the scripts
+pub returns-in_err-config-clause-untouched : goal.returns-in_err-config-clause-untouched
+returns-in_err-config-clause-untouched g c = handed_up _ c.from_residual.result _ c.from_residual.ensures.1 (λ early. c.read.ensures.stays)
+
+pub returns-in_err-print-clause-untouched : goal.returns-in_err-print-clause-untouched
+returns-in_err-print-clause-untouched g c = handed_up _ c.from_residual-in_err-print.result _ c.from_residual-in_err-print.ensures.1 (λ early. c.in_ok-config.ensures.stays)
+
+pub returns-in_err-keep-clause-untouched : goal.returns-in_err-keep-clause-untouched
+returns-in_err-keep-clause-untouched g c =
+    handed_up _ c.from_residual-in_err-keep.result _ c.from_residual-in_err-keep.ensures.1 (λ early. absurd (folder_late c.args.wanted.scripts _ c.in_err-keep.ensures.told early))
+
+pub returns-in_err-tell-clause-untouched : goal.returns-in_err-tell-clause-untouched
+returns-in_err-tell-clause-untouched g c = handed_up _ c.from_residual-in_err-tell.result _ c.from_residual-in_err-tell.ensures.1 (λ early. absurd (memory_late _ c.in_err-tell.ensures.told early))
+
+pub returns-clause-untouched : goal.returns-clause-untouched
+returns-clause-untouched g c = err_more _ _ c.judge.result (λ fault is early. absurd (memory_late fault is early)) c.judge.ensures.told

@@ -2,29 +2,30 @@ use Rattle.std.proofs.Common.{◌≡◌, ◌++◌, List, rules, subst}
 use Rattle.architecture_outcomes.specs.declared.outcome.Outcome.{Outcome}
 use Rattle.architecture_outcomes.specs.Outcomes.{TellOnce}
 use Rattle.architecture_outcomes.proofs.Once.{rises}
-use Rattle.architecture_outcomes.proofs.Together.{all_decided, all_shown, each_told}
+use Rattle.architecture_outcomes.proofs.Together.{all_decided, all_shown, each_told, end_told}
+use Rattle.architecture_outcomes.proofs.Visited.{states_more}
 use Rattle.architecture_outcomes.proofs.Aligned.{aligned}
 use Rattle.architecture_outcomes.proofs.joining.explore_architecture.Goals as goal
 
 pub beyond-requires-clause-aligned : goal.beyond-requires-clause-aligned
-beyond-requires-clause-aligned c = aligned c.args.image.now c.args.addresses.now c.requires.words
+beyond-requires-clause-aligned g c = aligned c.args.image.now c.args.addresses.now c.requires.words
 
 pub returns-clause-shown : goal.returns-clause-shown
-returns-clause-shown c =
+returns-clause-shown g c =
     let found = c.in_ok-found.field-0.outcomes.items in
     let joined : c.append.new.self.items ≡ c.in_ok-outcomes.outcomes.items ++ found = search rules in
     all_shown c.args.image.now c.args.config c.args.addresses.now c.in_ok-outcomes.outcomes.items c.append.new.self.items c.sort_unstable.new.self.items found
     joined c.sort_unstable.ensures.permutation c.in_ok-outcomes.ensures.shown c.in_ok-found.ensures.shown
 
 pub returns-clause-machine : goal.returns-clause-machine
-returns-clause-machine c all =
+returns-clause-machine g c all =
     let found = c.in_ok-found.field-0.outcomes.items in
     let joined : c.append.new.self.items ≡ c.in_ok-outcomes.outcomes.items ++ found = search rules in
     each_told c.args.image.now c.args.config c.args.addresses.now c.in_ok-outcomes.outcomes.items c.append.new.self.items c.sort_unstable.new.self.items found
     joined c.sort_unstable.ensures.permutation c.in_ok-found.ensures.machine (c.in_ok-found.ensures.complete all)
 
 pub returns-clause-order : goal.returns-clause-order
-returns-clause-order c =
+returns-clause-order g c =
     let found = c.in_ok-found.field-0.outcomes.items in
     let joined : c.append.new.self.items ≡ c.in_ok-outcomes.outcomes.items ++ found = search rules in
     rises c.in_ok-outcomes.outcomes.items c.append.new.self.items c.sort_unstable.new.self.items found
@@ -32,8 +33,20 @@ returns-clause-order c =
     (subst (λ (fs : List Outcome). TellOnce fs c.in_ok-outcomes.outcomes.items) c.deref.ensures.value c.in_ok-outcomes.ensures.once)
 
 pub returns-clause-alone : goal.returns-clause-alone
-returns-clause-alone c all =
+returns-clause-alone g c all =
     let found = c.in_ok-found.field-0.outcomes.items in
     let joined : c.append.new.self.items ≡ c.in_ok-outcomes.outcomes.items ++ found = search rules in
     all_decided c.args.image.now c.args.config c.args.addresses.now c.in_ok-outcomes.outcomes.items c.append.new.self.items c.sort_unstable.new.self.items found
     joined c.sort_unstable.ensures.permutation (c.in_ok-outcomes.ensures.alone (c.is_complete.ensures.1 all)) c.in_ok-found.ensures.machine
+
+pub returns-clause-visited : goal.returns-clause-visited
+returns-clause-visited g c =
+    let found = c.in_ok-found.field-0.outcomes.items in
+    let joined : c.append.new.self.items ≡ c.in_ok-outcomes.outcomes.items ++ found = search rules in
+    let visited = c.in_ok-found.ensures.visited in (
+      visited.0,
+      states_more c.args.image.now c.args.config c.args.addresses.now _ _ _ _ visited.0
+          (end_told c.args.image.now c.args.config c.args.addresses.now c.in_ok-outcomes.outcomes.items c.append.new.self.items c.sort_unstable.new.self.items found
+          joined c.sort_unstable.ensures.permutation c.in_ok-found.ensures.machine)
+          visited.1,
+    )

@@ -1,9 +1,10 @@
 use Rattle.std.proofs.Common.{refl, subst, sym}
 use Rattle.command_files.proofs.Left.{handed_up}
-use Rattle.command_line.proofs.Carried.{all_told_of, check_beyond, check_came, explain_told, explained, explore_beyond, explore_came, explore_written, show_beyond, show_came, show_written, told_of}
+use Rattle.command_line.proofs.Carried.{all_stay, all_told_of, check_beyond, check_came, explain_told, explained, explore_beyond, explore_came, explore_written, show_beyond, show_came, show_written, stay_of, told_of}
 use Rattle.command_line.proofs.Meant.{beyond_run, journal_alone, no_address, unwritten}
-use Rattle.command_line.proofs.Leaving.{all_left_of, as_told, chart_outside, check_outside, explore_outside, left_of, show_outside, stream_left}
+use Rattle.command_line.proofs.Leaving.{all_left_of, as_told, chart_inside, chart_outside, check_inside, check_outside, explore_inside, explore_outside, left_of, show_inside, show_outside, stream_left}
 use Rattle.command_line.specs.Running.{IsOutOfRange, IsDone, IsWritten}
+use Rattle.command_line.specs.Telling.{ComesBeforeFiles}
 use Rattle.explain_command.proofs.Told.{explain_never_misused}
 use Rattle.replay_command.proofs.Told.{replay_never_misused}
 use Rattle.command_line.proofs.carrying.carry_out.Goals as goal
@@ -146,3 +147,47 @@ returns-in-Show-clause-spared g c = show_written _ _ _ c.in-Show.show c.in-Show.
 
 pub returns-in-Show-clause-told : goal.returns-in-Show-clause-told
 returns-in-Show-clause-told g c = all_told_of _ _ _ _ _ c.shown.result c.in-Show.is c.shown.ensures.told
+
+-- what is done is in range
+pub returns-in_ok-replay_files-in-Replay-clause-inside : goal.returns-in_ok-replay_files-in-Replay-clause-inside
+returns-in_ok-replay_files-in-Replay-clause-inside g c = λ out. absurd (subst IsOutOfRange c.in-Replay.is out)
+
+pub returns-in_ok-explain_files-in-Explain-clause-inside : goal.returns-in_ok-explain_files-in-Explain-clause-inside
+returns-in_ok-explain_files-in-Explain-clause-inside g c = λ out. absurd (subst IsOutOfRange c.in-Explain.is out)
+
+pub returns-in_ok-chart_files-in-Chart-clause-inside : goal.returns-in_ok-chart_files-in-Chart-clause-inside
+returns-in_ok-chart_files-in-Chart-clause-inside g c = λ out. chart_inside _ _ c.in_ok-chart_files-in-Chart.ensures.charted.named (subst IsOutOfRange c.in-Chart.is out)
+
+pub returns-in_ok-run_files-in-Run-clause-inside : goal.returns-in_ok-run_files-in-Run-clause-inside
+returns-in_ok-run_files-in-Run-clause-inside g c = λ out. let bad = c.in_ok-run_files-in-Run.ensures.outside (subst IsOutOfRange c.in-Run.is out) in cc
+
+pub returns-in-Explore-clause-inside : goal.returns-in-Explore-clause-inside
+returns-in-Explore-clause-inside g c = explore_inside _ c.in-Explore.explore c.explored.result c.in-Explore.is c.explored.ensures.outside
+
+pub returns-in-Show-clause-inside : goal.returns-in-Show-clause-inside
+returns-in-Show-clause-inside g c = show_inside _ c.in-Show.show c.shown.result c.in-Show.is c.shown.ensures.outside c.shown.ensures.elsewhere
+
+pub returns-in-Check-clause-inside : goal.returns-in-Check-clause-inside
+returns-in-Check-clause-inside g c = check_inside _ c.in-Check.check c.checked.result c.in-Check.is
+
+-- files are as before where the fault comes before them
+pub returns-in_err-replay_files-in-Replay-clause-untouched : goal.returns-in_err-replay_files-in-Replay-clause-untouched
+returns-in_err-replay_files-in-Replay-clause-untouched g c = handed_up _ c.from_residual.result _ c.from_residual.ensures.1 (λ early. c.in_err-replay_files-in-Replay.ensures.spared)
+
+pub returns-in_err-explain_files-in-Explain-clause-untouched : goal.returns-in_err-explain_files-in-Explain-clause-untouched
+returns-in_err-explain_files-in-Explain-clause-untouched g c = handed_up _ c.from_residual-in_err-explain_files-in-Explain.result _ c.from_residual-in_err-explain_files-in-Explain.ensures.1 (λ early. c.in_err-explain_files-in-Explain.ensures.spared)
+
+pub returns-in_err-chart_files-in-Chart-clause-untouched : goal.returns-in_err-chart_files-in-Chart-clause-untouched
+returns-in_err-chart_files-in-Chart-clause-untouched g c = handed_up _ c.from_residual-in_err-chart_files-in-Chart.result _ c.from_residual-in_err-chart_files-in-Chart.ensures.1 (λ early. c.in_err-chart_files-in-Chart.ensures.spared)
+
+pub returns-in_err-run_files-in-Run-clause-untouched : goal.returns-in_err-run_files-in-Run-clause-untouched
+returns-in_err-run_files-in-Run-clause-untouched g c = handed_up _ c.from_residual-in_err-run_files-in-Run.result _ c.from_residual-in_err-run_files-in-Run.ensures.1 (λ early. c.in_err-run_files-in-Run.ensures.untouched (subst (λ w. ComesBeforeFiles w c.in_err-run_files-in-Run.field-0.0) c.in-Run.is early))
+
+pub returns-in-Explore-clause-untouched : goal.returns-in-Explore-clause-untouched
+returns-in-Explore-clause-untouched g c = stay_of _ _ _ _ c.explored.result c.in-Explore.is c.explored.ensures.untouched
+
+pub returns-in-Show-clause-untouched : goal.returns-in-Show-clause-untouched
+returns-in-Show-clause-untouched g c = stay_of _ _ _ _ c.shown.result c.in-Show.is c.shown.ensures.untouched
+
+pub returns-in-Check-clause-untouched : goal.returns-in-Check-clause-untouched
+returns-in-Check-clause-untouched g c = all_stay _ _ _ c.checked.result c.checked.ensures.spared

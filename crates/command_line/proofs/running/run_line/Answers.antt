@@ -1,24 +1,46 @@
 use Rattle.std.proofs.Common.{◌≡◌, ◌∙◌, ◌⊎◌, ℕ, List, Option, inl, inr, refl, rules, subst, sym}
-use Rattle.clap.specs.Words.{IsAmong, Text, kind_of}
+use Rattle.clap.specs.Words.{Text, kind_of}
 use Rattle.clap.specs.declared.error.Error.{Error}
 use Rattle.clap.specs.declared.error.kind.ErrorKind.{ErrorKind}
+use Rattle.clap.specs.declared.error.kind.ErrorKind.TheVariants.{ArgumentConflict, DisplayHelp, DisplayVersion}
 use Rattle.command_files.specs.Held.{Held}
 use Rattle.command_line.proofs.Leaving.{either_of, not_both}
-use Rattle.command_line.proofs.Meant.{some_states}
-use Rattle.command_line.specs.Running.{Came, IsHalfPrinted, IsCarriedOut, IsNotLegal, IsUnprinted}
+use Rattle.command_line.proofs.Meant.{misused_early, some_states}
+use Rattle.command_line.specs.Running.{AreMisused, Came, HasNamed, IsHalfPrinted, IsCarriedOut, IsNotLegal, IsOutOfRange, IsUnprinted}
 use Rattle.command_line.specs.Telling.{HasToldFault}
-use Rattle.command_settings.specs.Refusals.{HasKinds, IsFitting, IsHelp, IsRefused}
-use Rattle.command_settings.specs.Settings.{IsNamed}
+use Rattle.command_settings.specs.Refusals.{IsFitting, IsForHelp, IsHelp, IsRefused, IsUnfit}
+use Rattle.command_settings.specs.Settings.{AreConflicting, IsNamed}
 use Rattle.command_settings.specs.declared.wanted.Settings.{Settings}
 use Rattle.command_settings.specs.declared.wanted.SettingsError.{SettingsError}
 use Rattle.command_settings.specs.declared.wanted.SettingsError.TheVariants.{Usage}
 use Rattle.command_line.proofs.running.run_line.Goals as goal
 use Rattle.command_line.proofs.running.run_line.Goals.{in-Ok+in-Err, in-Err-NoMemory}
 
-told_of : (words : List Text) (refusal : SettingsError) (usage : Error) (P : ErrorKind → Type 0) → refusal ≡ Usage usage → IsRefused words refusal → P (kind_of usage)
-    → HasKinds words (λ kinds. (kind : ErrorKind) × IsAmong kind kinds × P kind)
-told_of words refusal usage P is refused asks =
-    let told : IsRefused words (Usage usage) = subst (IsRefused words) is refused in (told.0, told.1, (kind_of usage, told.2, asks))
+-- a text about the program was asked for: settings that don't go together are no such
+is_for_help : (words : List Text) (refusal : SettingsError) (usage : Error) → refusal ≡ Usage usage → IsRefused words refusal → IsHelp (kind_of usage) → IsForHelp words
+is_for_help words refusal usage is refused asks =
+    let told : IsRefused words (Usage usage) = subst (IsRefused words) is refused in
+    elim told [
+      | inl kinds ↦ (kinds.0, kinds.1, (kind_of usage, kinds.2, asks))
+      | inr conflict ↦ absurd (never (kind_of usage) conflict.0 asks)
+    ]
+  where
+    never : (kind : ErrorKind) → kind ≡ ArgumentConflict → IsHelp kind → ⊥
+    never kind is (inl help) = let bad : ArgumentConflict ≡ DisplayHelp = sym is ∙ help in cc
+    never kind is (inr version) = let bad : ArgumentConflict ≡ DisplayVersion = sym is ∙ version in cc
+
+misused : (words : List Text) (refusal : SettingsError) (usage : Error) → refusal ≡ Usage usage → IsRefused words refusal → ¬ IsHelp (kind_of usage) → IsUnfit words ⊎ HasNamed words AreMisused
+misused words refusal usage is refused other =
+    let told : IsRefused words (Usage usage) = subst (IsRefused words) is refused in
+    elim told [
+      | inl kinds ↦ inl (kinds.0, kinds.1, (kind_of usage, kinds.2, other))
+      | inr conflict ↦ let found = conflict.1 in inr (found.0, found.1, found.2, inl found.3)
+    ]
+
+-- settings that go together and are in range
+well_used : (wanted : Settings) → (AreConflicting wanted → ⊥) → ¬ IsOutOfRange wanted → ¬ AreMisused wanted
+well_used wanted agreeing inside (inl conflict) = agreeing conflict
+well_used wanted agreeing inside (inr outside) = inside outside
 
 stopped : (words : List Text) (held left : Held) (old new : Option (List ℕ)) (wanted : Settings) → IsNamed words wanted → IsFitting words → (new ≡ old) ⊎ IsHalfPrinted held left old new wanted
     → IsUnprinted words held left old new
@@ -34,12 +56,12 @@ carry_out-requires g c = (search rules, (search rules, some_states _ c.in-Ok.wan
 pub returns-in-Ok-Allowed-clause-carried_out : goal.returns-in-Ok-Allowed-clause-carried_out
 unfolding IsCarriedOut
 returns-in-Ok-Allowed-clause-carried_out g c =
-    λ _. inr (c.in-Ok.wanted, c.in-Ok.ensures.named, c.in-Ok.ensures.fitting, subst (Came _ _ _ _ c.in-Ok.wanted) c.in-Ok-Allowed.field-0-is c.in-Ok-Allowed.ensures.came)
+    λ _. inr (c.in-Ok.wanted, c.in-Ok.ensures.named, c.in-Ok.ensures.fitting, (well_used c.in-Ok.wanted c.in-Ok.ensures.agreeing c.in-Ok-Allowed.ensures.inside, subst (Came _ _ _ _ c.in-Ok.wanted) c.in-Ok-Allowed.field-0-is c.in-Ok-Allowed.ensures.came))
 
 pub returns-in-Ok-NotAllowed-clause-not_legal : goal.returns-in-Ok-NotAllowed-clause-not_legal
 unfolding IsNotLegal
 returns-in-Ok-NotAllowed-clause-not_legal g c =
-    λ _. (c.in-Ok.wanted, c.in-Ok.ensures.named, c.in-Ok.ensures.fitting, subst (Came _ _ _ _ c.in-Ok.wanted) c.in-Ok-NotAllowed.field-0-is c.in-Ok-NotAllowed.ensures.came)
+    λ _. (c.in-Ok.wanted, c.in-Ok.ensures.named, c.in-Ok.ensures.fitting, (well_used c.in-Ok.wanted c.in-Ok.ensures.agreeing c.in-Ok-NotAllowed.ensures.inside, subst (Came _ _ _ _ c.in-Ok.wanted) c.in-Ok-NotAllowed.field-0-is c.in-Ok-NotAllowed.ensures.came))
 
 -- what isn't allowed has not the status 0, and what is allowed not 3
 pub returns-in-Ok-NotAllowed-clause-carried_out : goal.returns-in-Ok-NotAllowed-clause-carried_out
@@ -59,14 +81,14 @@ pub returns-in-Err-Usage-clause-carried_out : goal.returns-in-Err-Usage-clause-c
 unfolding IsCarriedOut
 returns-in-Err-Usage-clause-carried_out g c = λ done. elim (rw c.in-Err-Usage.field-0-is at c.explain.ensures.help) [
   | inl two ↦ let no : 0 ≡ 2 = sym done ∙ two in cc
-  | inr asks ↦ inl (told_of _ c.in-Err-Usage.field-0 c.in-Err-Usage.usage IsHelp c.in-Err-Usage.field-0-is c.in-Err-Usage.ensures.refused asks)
+  | inr asks ↦ inl (is_for_help _ c.in-Err-Usage.field-0 c.in-Err-Usage.usage c.in-Err-Usage.field-0-is c.in-Err-Usage.ensures.refused asks)
 ]
 
 pub returns-in-Err-Usage-clause-unprinted : goal.returns-in-Err-Usage-clause-unprinted
 unfolding IsUnprinted
 returns-in-Err-Usage-clause-unprinted g c = λ some other. elim (rw c.in-Err-Usage.field-0-is at c.explain.ensures.help) [
   | inl two ↦ inl ((c.explain.ensures.misused two).1)
-  | inr asks ↦ inr (inl (told_of _ c.in-Err-Usage.field-0 c.in-Err-Usage.usage IsHelp c.in-Err-Usage.field-0-is c.in-Err-Usage.ensures.refused asks))
+  | inr asks ↦ inr (inl (is_for_help _ c.in-Err-Usage.field-0 c.in-Err-Usage.usage c.in-Err-Usage.field-0-is c.in-Err-Usage.ensures.refused asks))
 ]
 
 pub returns-clause-unprinted : goal.returns-clause-unprinted
@@ -79,12 +101,12 @@ returns-clause-unprinted g c = λ some other. elim c.match-settings.branch [
 pub returns-in-Err-Usage-clause-misused : goal.returns-in-Err-Usage-clause-misused
 returns-in-Err-Usage-clause-misused g c = λ two.
     let told = rw c.in-Err-Usage.field-0-is at c.explain.ensures.misused two in
-    (inl (told_of _ c.in-Err-Usage.field-0 c.in-Err-Usage.usage (λ kind. ¬ IsHelp kind) c.in-Err-Usage.field-0-is c.in-Err-Usage.ensures.refused told.0), told.1)
+    (misused _ c.in-Err-Usage.field-0 c.in-Err-Usage.usage c.in-Err-Usage.field-0-is c.in-Err-Usage.ensures.refused told.0, told.1)
 
 pub returns-clause-misused : goal.returns-clause-misused
 returns-clause-misused g c = λ two. elim c.match-settings.branch [
   | in-Ok+in-Err w ↦ rw (w.out-is)
-      (let told = w.in-Err.ensures.beyond (rw (← w.fault-is) (sym c.status.ensures ∙ two)) in (inr (w.in-Ok.wanted, w.in-Ok.ensures.named, w.in-Ok.ensures.fitting, told.0), told.1))
+      (let told = w.in-Err.ensures.beyond (rw (← w.fault-is) (sym c.status.ensures ∙ two)) in (inr (w.in-Ok.wanted, w.in-Ok.ensures.named, w.in-Ok.ensures.fitting, inr told.0), told.1))
   | in-Err-NoMemory w ↦
       let four : c.status.result ≡ 4 = rw w.fault-is at c.status.ensures in
       let bad : 4 ≡ 2 = sym four ∙ two in cc
@@ -94,6 +116,13 @@ pub returns-clause-spared : goal.returns-clause-spared
 returns-clause-spared g c = elim c.match-settings.branch [
   | in-Ok+in-Err w ↦ rw (w.files-is) (λ name changed. (w.in-Ok.wanted, w.in-Ok.ensures.named, w.in-Ok.ensures.fitting, w.in-Err.ensures.spared name changed))
   | in-Err-NoMemory w ↦ rw (w.files-is) (λ name other. absurd (other refl))
+]
+
+-- a fault of status 2 comes before any file is written
+pub returns-clause-untouched : goal.returns-clause-untouched
+returns-clause-untouched g c = λ two. elim c.match-settings.branch [
+  | in-Ok+in-Err w ↦ rw (w.files-is) (w.in-Err.ensures.untouched (misused_early w.in-Ok.wanted w.in-Err.fault (rw (← w.fault-is) (sym c.status.ensures ∙ two))))
+  | in-Err-NoMemory w ↦ rw (w.files-is) refl
 ]
 
 -- words that fit are carried out, and others are told of with status 2
@@ -106,7 +135,7 @@ returns-in-Ok-NotAllowed-clause-unfit g c = λ unfit no_help. absurd (unfit c.in
 pub returns-in-Err-Usage-clause-unfit : goal.returns-in-Err-Usage-clause-unfit
 returns-in-Err-Usage-clause-unfit g c = λ unfit no_help. elim (rw c.in-Err-Usage.field-0-is at c.explain.ensures.help) [
   | inl two ↦ inl two
-  | inr asks ↦ absurd (no_help (told_of _ c.in-Err-Usage.field-0 c.in-Err-Usage.usage IsHelp c.in-Err-Usage.field-0-is c.in-Err-Usage.ensures.refused asks))
+  | inr asks ↦ absurd (no_help (is_for_help _ c.in-Err-Usage.field-0 c.in-Err-Usage.usage c.in-Err-Usage.field-0-is c.in-Err-Usage.ensures.refused asks))
 ]
 
 pub returns-clause-unfit : goal.returns-clause-unfit
@@ -127,7 +156,7 @@ pub returns-in-Err-Usage-clause-faulted : goal.returns-in-Err-Usage-clause-fault
 unfolding HasToldFault
 returns-in-Err-Usage-clause-faulted g c = λ one. elim (rw c.in-Err-Usage.field-0-is at c.explain.ensures.help) [
   | inl two ↦ let no : 1 ≡ 2 = sym one ∙ two in cc
-  | inr asks ↦ inl (told_of _ c.in-Err-Usage.field-0 c.in-Err-Usage.usage IsHelp c.in-Err-Usage.field-0-is c.in-Err-Usage.ensures.refused asks)
+  | inr asks ↦ inl (is_for_help _ c.in-Err-Usage.field-0 c.in-Err-Usage.usage c.in-Err-Usage.field-0-is c.in-Err-Usage.ensures.refused asks)
 ]
 
 pub returns-clause-faulted : goal.returns-clause-faulted
@@ -141,8 +170,9 @@ returns-clause-faulted g c = λ one. elim c.match-settings.branch [
       fault = w.in-Err.fault;
       told = w.in-Err.ensures.told;
       leaves = w.in-Err.ensures.leaves;
+      untouched = w.in-Err.ensures.untouched;
       of_status = rw (← w.fault-is) (sym c.status.ensures ∙ one);
-      inside = λ out. not_both w.in-Err.fault (rw (← w.fault-is) (sym c.status.ensures ∙ one)) (w.in-Err.ensures.outside out);
+      inside = well_used w.in-Ok.wanted w.in-Ok.ensures.agreeing (λ out. not_both w.in-Err.fault (rw (← w.fault-is) (sym c.status.ensures ∙ one)) (w.in-Err.ensures.outside out));
     },
   ))
   | in-Err-NoMemory w ↦

@@ -25,8 +25,12 @@ returns-clause-first c =
 
 pub is_order-requires : goal.is_order-requires
 is_order-requires c = λ n.
+    let own = rw c.in-Some.is at c.in-Ok.ensures.all in
     ap (λ (names : List OpId). is_among names n) (c.deref.ensures.value ∙ c.in_ok-names.ensures)
-    ∙ (names_find_operations c.args.trace.now.history n ∙ ap (λ (hs : List (List Item)). is_some (operation_at hs n)) (sym c.in_ok-harts.ensures))
+    ∙ (names_find_operations c.args.trace.now.history n ∙ ap (λ (hs : List (List Item)). is_some (operation_at hs n)) (sym own))
 
 pub verdict_on-requires-clause-distinct : goal.verdict_on-requires-clause-distinct
 verdict_on-requires-clause-distinct c = (three _ _ _ (sym c.in_ok-is_order.ensures ∙ c.if-not-branch.false)).1
+
+pub verdict_on-requires-clause-all : goal.verdict_on-requires-clause-all
+verdict_on-requires-clause-all c = rw c.in-Some.is at c.in-Ok.ensures.all

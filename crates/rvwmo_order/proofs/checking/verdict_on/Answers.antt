@@ -10,6 +10,12 @@ use Rattle.rvwmo_order.proofs.Given.{given_each}
 use Rattle.rvwmo_order.proofs.Verdicts.{same_judged}
 use Rattle.rvwmo_order.proofs.checking.verdict_on.Goals as goal
 
+pub of-requires : goal.of-requires
+of-requires c =
+    let t = c.args.trace.now.history in
+    let listed = c.in_ok-operations_at.ensures ∙ ap (λ hs. operations_at hs c.args.order.now) c.requires.all in
+    subst (λ (xs : List Operation). AreDistinctOperations xs) (sym listed) (distinct_once (operations_at (instructions t) c.args.order.now) (operations_distinct t c.args.order.now (Pairwise-from_is_distinct c.args.order.now c.requires.distinct)))
+
 pub judge-requires-clause-gives : goal.judge-requires-clause-gives
 judge-requires-clause-gives c =
     let t = c.args.trace.now.history in

@@ -1,7 +1,9 @@
 use Rattle.std.proofs.Common.{◌+◌, ◌++◌, ◌∙◌, ap, arith, drop, not, sym}
-use Rattle.std.specs.List.{filter}
+use Rattle.std.specs.List.{filter, list_all}
 use Rattle.memory_model.specs.Traces.{is_among}
-use Rattle.rvwmo_order.proofs.Gathered.{has_name, kept_last, kept_next, kept_same, passed_next}
+use Rattle.rvwmo_order.specs.Indexed.{has_name, is_listed}
+use Rattle.rvwmo_order.proofs.Gathered.{kept_last, kept_next, kept_same, passed_next}
+use Rattle.rvwmo_order.proofs.ListedNames.{names_listed}
 use Rattle.rvwmo_order.proofs.completing.completed.Goals as goal
 use Rattle.rvwmo_order.proofs.completing.completed.Goals.{then-not-has+in_ok-push, else-not-has}
 
@@ -21,6 +23,6 @@ returns c =
     let names = c.deref-name-items.result.now in
     let performed = c.args.trace.now.history.performed in
     sym (kept_last known names c.loop-name.order.items (performed ++ filter (λ n. not (has_name known n)) names) c.loop-name.name-index c.loop-name-test.false c.loop-name.invariant)
-    ∙ (ap (λ ns. performed ++ ns) (kept_same known c.performed.result.now names c.in_ok-performed.ensures)
+    ∙ (ap (λ ns. performed ++ ns) (kept_same (is_listed c.args.trace.now.history) known c.performed.result.now names (ap (list_all (is_listed c.args.trace.now.history)) (c.deref-name-items.ensures.value ∙ c.in_ok-names.ensures) ∙ names_listed c.args.trace.now.history) c.in_ok-performed.ensures)
     ∙ (ap (λ ps. performed ++ filter (λ n. not (is_among ps n)) names) c.performed.ensures
     ∙ ap (λ ns. performed ++ filter (λ n. not (is_among performed n)) ns) (c.deref-name-items.ensures.value ∙ c.in_ok-names.ensures)))

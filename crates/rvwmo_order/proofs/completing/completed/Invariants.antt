@@ -1,6 +1,6 @@
 use Rattle.std.proofs.Common.{◌≡◌, ◌++◌, drop, not}
 use Rattle.std.specs.List.{filter}
-use Rattle.rvwmo_order.proofs.Gathered.{has_name}
+use Rattle.rvwmo_order.specs.Indexed.{has_name}
 use Rattle.rvwmo_order.proofs.completing.completed.Given as goal
 
 abbrev pub invariant-loop-name : goal.invariant-loop-name

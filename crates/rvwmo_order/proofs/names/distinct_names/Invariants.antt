@@ -1,7 +1,8 @@
 use Rattle.std.proofs.Common.{◌≡◌, ◌&&◌, ◌||◌, drop}
 use Rattle.memory_model.specs.Traces.{is_among, is_distinct}
 use Rattle.trace_recorder.specs.declared.operation.OpId.{OpId}
-use Rattle.rvwmo_order.proofs.Gathered.{are_new, has_name}
+use Rattle.rvwmo_order.specs.Indexed.{has_name}
+use Rattle.rvwmo_order.proofs.Gathered.{are_new}
 use Rattle.rvwmo_order.proofs.names.distinct_names.Given as goal
 
 -- those still to come are no two alike, and none of them has come; a name has come, or else is still to come

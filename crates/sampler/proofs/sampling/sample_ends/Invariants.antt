@@ -3,10 +3,10 @@ use Rattle.sampler.specs.Sampled.{IsTally}
 use Rattle.sampler.proofs.sampling.sample_ends.Given as goal
 
 abbrev pub invariant-loop-tally : goal.invariant-loop-tally
-invariant-loop-tally l = record {
+invariant-loop-tally g l = record {
   tally : IsTally l.image l.fn.config l.tally;
   within : l.tally.runs ≤ l.sampling.runs;
 }
 
 abbrev pub decreases-loop-tally : goal.decreases-loop-tally
-decreases-loop-tally l = l.sampling.runs - l.tally.runs
+decreases-loop-tally g l = l.sampling.runs - l.tally.runs

@@ -7,14 +7,14 @@ use Rattle.schedules.proofs.sampling.sample.Goals as goal
 pub returns-clause-real : goal.returns-clause-real
 returns-clause-real c =
     let schedule = c.in_ok-into_schedule in
-    real_at (opening c.args.image c.args.config) (start_of c.play_at_random.new.self) schedule.field-0.machine schedule.field-0.events.items (c.play_at_random.ensures ∙ ap (λ (p : Played). start_of p) c.in_ok-player.ensures.ok) schedule.ensures.leads
+    real_at (opening c.args.image c.args.config) (start_of c.play_at_random.new.self) schedule.field-0.machine schedule.field-0.events.items (c.play_at_random.ensures.start ∙ ap (λ (p : Played). start_of p) c.in_ok-player.ensures.ok) schedule.ensures.leads
 
 pub returns-clause-replays : goal.returns-clause-replays
 returns-clause-replays c =
     let schedule = c.in_ok-into_schedule in
-    replays_at (opening c.args.image c.args.config) (start_of c.play_at_random.new.self) schedule.field-0.machine schedule.field-0.events.items (c.play_at_random.ensures ∙ ap (λ (p : Played). start_of p) c.in_ok-player.ensures.ok) schedule.ensures.leads schedule.ensures.replays
+    replays_at (opening c.args.image c.args.config) (start_of c.play_at_random.new.self) schedule.field-0.machine schedule.field-0.events.items (c.play_at_random.ensures.start ∙ ap (λ (p : Played). start_of p) c.in_ok-player.ensures.ok) schedule.ensures.leads schedule.ensures.replays
 
 pub returns-clause-moves : goal.returns-clause-moves
 returns-clause-moves c =
     let schedule = c.in_ok-into_schedule in
-    moves_at (opening c.args.image c.args.config) (start_of c.play_at_random.new.self) schedule.field-0.events.items (c.play_at_random.ensures ∙ ap (λ (p : Played). start_of p) c.in_ok-player.ensures.ok) schedule.ensures.moves
+    moves_at (opening c.args.image c.args.config) (start_of c.play_at_random.new.self) schedule.field-0.events.items (c.play_at_random.ensures.start ∙ ap (λ (p : Played). start_of p) c.in_ok-player.ensures.ok) schedule.ensures.moves

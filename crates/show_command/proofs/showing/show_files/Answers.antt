@@ -2,7 +2,7 @@ use Rattle.std.proofs.Common.{List, inl, refl, subst, sym, ℕ}
 use Rattle.command_files.proofs.Left.{handed_up}
 use Rattle.command_files.specs.Faults.{Name}
 use Rattle.explore_command.proofs.Explored.{all_of, err_more, memory_left, ok_both, ok_more, spared, spared_after}
-use Rattle.explore_command.proofs.Faults.{folder_left, folder_told, output_left}
+use Rattle.explore_command.proofs.Faults.{folder_late, folder_left, folder_told, memory_late, output_left}
 use Rattle.explore_command.proofs.Kept.{script_file, spares_wider}
 use Rattle.show_command.proofs.Asking.{asking_left, asking_told}
 use Rattle.show_command.proofs.Shown.{has, show_told, shown}
@@ -85,3 +85,17 @@ returns-clause-unfinished g c =
 
 pub returns-clause-spared : goal.returns-clause-spared
 returns-clause-spared g c = spared_after _ _ _ _ c.in_ok-config.ensures.stays (spares_wider _ _ _ _ (script_file _ _ c.args.wanted.now.explore.scripts) c.keep.ensures.spared)
+
+-- files are as before where the fault comes before the scripts
+pub returns-in_err-config-clause-untouched : goal.returns-in_err-config-clause-untouched
+returns-in_err-config-clause-untouched g c = handed_up _ c.from_residual.result _ c.from_residual.ensures.1 (λ early. c.read.ensures.stays)
+
+pub returns-in_err-print-clause-untouched : goal.returns-in_err-print-clause-untouched
+returns-in_err-print-clause-untouched g c = handed_up _ c.from_residual-in_err-print.result _ c.from_residual-in_err-print.ensures.1 (λ early. c.in_ok-config.ensures.stays)
+
+pub returns-in_err-keep-clause-untouched : goal.returns-in_err-keep-clause-untouched
+returns-in_err-keep-clause-untouched g c =
+    handed_up _ c.from_residual-in_err-keep.result _ c.from_residual-in_err-keep.ensures.1 (λ early. absurd (folder_late c.args.wanted.now.explore.scripts _ c.in_err-keep.ensures.told early))
+
+pub returns-clause-untouched : goal.returns-clause-untouched
+returns-clause-untouched g c = err_more _ _ c.judge-judgement.result (λ fault is early. absurd (memory_late fault is early)) c.judge-judgement.ensures.told

@@ -1,5 +1,5 @@
-use Rattle.std.proofs.Common.{◌≡◌, ◌++◌, Contains, Some, length, map}
-use Rattle.command_files.specs.Faults.{Name}
+use Rattle.std.proofs.Common.{◌≡◌, ◌++◌, Some, length, map}
+use Rattle.show_command.proofs.Shown.{HasShown}
 use Rattle.show_command.specs.Targets.{name_of, place_of}
 use Rattle.word_explorer.specs.Words.{CanShowEach}
 use Rattle.show_command.proofs.targets.places_of.Given as goal
@@ -8,7 +8,7 @@ abbrev pub invariant-loop-rest : goal.invariant-loop-rest
 invariant-loop-rest l = record {
   placed : map Some l.addresses.items ++ map (λ word. place_of l.symbols (name_of word)) l.rest ≡ map (λ word. place_of l.symbols (name_of word)) l.words;
   inside : CanShowEach l.image l.addresses.items;
-  among : (word : Name) → Contains l.rest word → Contains l.words word;
+  shown : HasShown l.image l.symbols l.rest l.words;
 }
 
 abbrev pub decreases-loop-rest : goal.decreases-loop-rest

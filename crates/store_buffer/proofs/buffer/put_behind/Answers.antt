@@ -2,6 +2,7 @@ use Rattle.std.proofs.Common.{◌≡◌, ℕ, ◌+◌, ◌-◌, false, true, Ok,
 use Rattle.std.proofs.lemmas.Bool.{false≢true, eqb-true}
 use Rattle.std.proofs.lemmas.List.{take_rest}
 use Rattle.std.proofs.lemmas.Result.{err_from_is_err_and}
+use Rattle.machine_limits.specs.declared.TheConstants.{BUFFER_ENTRIES}
 use Rattle.arrayvec.proofs.ArrayVecLemmas.{items-with_items}
 use Rattle.store_buffer.specs.declared.buffer.PutError.TheVariants.{Full, NoMemory}
 use Rattle.store_buffer.specs.declared.entry.Entry.{Entry}
@@ -25,7 +26,7 @@ returns-then-is_full-clause-full c =
     let at = behind c.args.store.word c.args.start c.deref.result.now c.args.entries.now.items None c.place_of.result c.deref.ensures.0 c.place_of.ensures c.in-None.is in (
       λ _. (
         no_place c.args.store.word (drop c.args.start c.args.entries.now.items) at,
-        eqb-true (length c.args.entries.now.items) 8 (sym c.is_full.ensures.value ∙ c.if-is_full.true),
+        eqb-true (length c.args.entries.now.items) BUFFER_ENTRIES (sym c.is_full.ensures.value ∙ c.if-is_full.true),
       ),
       λ _. refl,
     )

@@ -1,4 +1,5 @@
 use Rattle.std.proofs.Common.{◌≡◌, ◌<◌, length, sym, arith}
+use Rattle.machine_limits.specs.declared.TheConstants.{MAX_ENTRIES}
 use Rattle.text_fields.proofs.Loops.{after_shortens}
 use Rattle.trace_text.specs.Traces.{retired_lead}
 use Rattle.trace_text.proofs.TraceLoops.{retired_shortens, entries_start, entries_more, entries_fail, entries_end, entries_full}
@@ -17,7 +18,7 @@ loop-fields-smaller c =
 
 pub loop-fields-preserved : goal.loop-fields-preserved
 loop-fields-preserved c =
-    let room : length c.loop-fields.entries.items < 1000000 = omega (arith, c.loop-fields.invariant.few, c.if-len-eq-MAX_ENTRIES.false) in
+    let room : length c.loop-fields.entries.items < MAX_ENTRIES = omega (arith, c.loop-fields.invariant.few, c.if-len-eq-MAX_ENTRIES.false) in
     rw c.in-Ok.ensures.items
     (entries_more c.args.hart c.loop-fields.entries.items c.loop-fields.rest.now c.in-Some.fields.now c.in-Some-retired_at.later.now c.args.bytes.now c.in-Some-retired_at.entry room (rw c.hart_lead-lead.ensures at c.in-Some.ensures) c.in-Some-retired_at.ensures c.loop-fields.invariant)
 
@@ -26,7 +27,7 @@ returns-in_default-retired_at c = entries_fail c.args.hart c.loop-fields.entries
 
 pub returns-then-len-eq-MAX_ENTRIES : goal.returns-then-len-eq-MAX_ENTRIES
 returns-then-len-eq-MAX_ENTRIES c =
-    let full : length c.loop-fields.entries.items ≡ 1000000 = omega (arith, c.if-len-eq-MAX_ENTRIES.true) in
+    let full : length c.loop-fields.entries.items ≡ MAX_ENTRIES = omega (arith, c.if-len-eq-MAX_ENTRIES.true) in
     entries_full c.args.hart c.loop-fields.entries.items c.loop-fields.rest.now c.in-Some.fields.now c.in-Some-retired_at.later.now c.args.bytes.now c.in-Some-retired_at.entry full (rw c.hart_lead-lead.ensures at c.in-Some.ensures) c.in-Some-retired_at.ensures c.loop-fields.invariant
 
 pub returns : goal.returns

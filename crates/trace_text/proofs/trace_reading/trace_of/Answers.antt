@@ -14,4 +14,4 @@ pub from_parts-trace-requires-clause-statuses : goal.from_parts-trace-requires-c
 from_parts-trace-requires-clause-statuses c = statuses_count _ _ _ _ c.in_ok-statuses.ensures ∙ sym (lists_count _ _ _ _ c.in_ok-entries.ensures) ∙ length-map _ _
 
 pub from_parts-trace-requires-clause-limits : goal.from_parts-trace-requires-clause-limits
-from_parts-trace-requires-clause-limits c = lists_within _ _ _ _ c.in-Some.ensures.fits.at_most_8 c.in_ok-entries.ensures
+from_parts-trace-requires-clause-limits c = lists_within _ _ _ _ c.in-Some.ensures.fits.few_harts c.in_ok-entries.ensures

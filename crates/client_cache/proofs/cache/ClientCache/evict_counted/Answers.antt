@@ -1,5 +1,6 @@
 use Rattle.std.proofs.Common.{None, sym, ap, ◌∙◌, false, nat_le}
 use Rattle.std.specs.FinSet.{insert, len}
+use Rattle.machine_limits.specs.declared.TheConstants.{TRACKERS}
 use Rattle.client_cache.specs.declared.answers.Evict.{Evict}
 use Rattle.client_cache.specs.Array.{copy_in}
 use Rattle.client_cache.specs.Held.{eviction_of}
@@ -29,7 +30,7 @@ pub returns-then-is_full-clause-meaning : goal.returns-then-is_full-clause-meani
 returns-then-is_full-clause-meaning g c =
     let copy = copy_at-found c.self.inside c.self.invariant c.args.self.now c.self.view_is c.args.line c.in-Some.way c.in-Some.place c.in-Some.ensures.found in
     let mark = acquiring-found c.self.inside c.self.invariant c.args.self.now c.self.view_is c.args.line c.in-Some.way c.in-Some.place c.in-Some.ensures.found in
-    let full = ap (λ (x : Cache). nat_le 4 (len x.releasing)) (sym c.self.view_is) ∙ sym c.is_full.ensures.full ∙ c.if-is_full.true in
+    let full = ap (λ (x : Cache). nat_le TRACKERS (len x.releasing)) (sym c.self.view_is) ∙ sym c.is_full.ensures.full ∙ c.if-is_full.true in
     sym (evicted_full c.args.self.now c.args.line c.in-Some-copy.held (copy ∙ c.in-Some-copy.is) (mark ∙ c.if-place.false) full)
 
 pub invariant_of-self : goal.invariant_of-self
@@ -44,7 +45,7 @@ returns-clause-meaning g c =
     let done = rewritten-copy s c.self.invariant c.args.line c.in-Some.way c.in-Some.place c.in-Some.ensures.found None false c.if-place.false c.put.new.self c.put.ensures.shape c.put.ensures.slots in
     let copy = copy_at-found s c.self.invariant c.args.self.now c.self.view_is c.args.line c.in-Some.way c.in-Some.place c.in-Some.ensures.found in
     let mark = acquiring-found s c.self.invariant c.args.self.now c.self.view_is c.args.line c.in-Some.way c.in-Some.place c.in-Some.ensures.found in
-    let room = ap (λ (x : Cache). nat_le 4 (len x.releasing)) (sym c.self.view_is) ∙ sym c.is_full.ensures.full ∙ c.if-is_full.false in
+    let room = ap (λ (x : Cache). nat_le TRACKERS (len x.releasing)) (sym c.self.view_is) ∙ sym c.is_full.ensures.full ∙ c.if-is_full.false in
     rw (c.insert.ensures, c.evicted.ensures)
     (ap (pair (eviction_of held))
     (done.seen_as (insert s.releasing c.args.line)

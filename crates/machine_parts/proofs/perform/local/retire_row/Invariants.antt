@@ -1,4 +1,5 @@
 use Rattle.std.proofs.Common.{◌≡◌, ◌+◌, ◌<◌, ◌≤◌, length, slice_index}
+use Rattle.machine_limits.specs.declared.TheConstants.{MAX_ENTRIES}
 use Rattle.hart.specs.Local.{private_row}
 use Rattle.hart.specs.Run.{reached}
 use Rattle.machine_model.specs.Changing.{with_entries}
@@ -13,7 +14,7 @@ invariant-loop-left l =
       row : with_entries l.hart (private_row image l.last l.left) l.trace.history ≡ with_entries l.hart (private_row image l.first l.count) l.fn.trace.history;
       leads : reached l.last (private_row image l.last l.left) ≡ reached l.first (private_row image l.first l.count);
       image : l.trace.history.image ≡ image;
-      few : length (entries_of l.trace.history l.hart) + l.left ≤ 1000000;
+      few : length (entries_of l.trace.history l.hart) + l.left ≤ MAX_ENTRIES;
       hart : l.hart < length l.trace.history.entries;
       room : l.left ≤ slice_index l.trace.room.entries l.hart;
     }

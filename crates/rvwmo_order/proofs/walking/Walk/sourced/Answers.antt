@@ -1,6 +1,5 @@
-use Rattle.std.proofs.Common.{ℕ, ap, arith}
+use Rattle.std.proofs.Common.{ap, arith}
 use Rattle.rvwmo_order.specs.Touched.{but, touch_in}
-use Rattle.rvwmo_order.specs.declared.touched.Touch.{Touch}
 use Rattle.rvwmo_order.proofs.Ranks.{atomics_next, loads_next, passed_next}
 use Rattle.rvwmo_order.proofs.walking.Walk.sourced.Goals as goal
 

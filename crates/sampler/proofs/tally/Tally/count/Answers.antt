@@ -11,7 +11,7 @@ returns-then-not-have_ended-clause-tally c =
     let shown = c.requires.results ∙ ap results c.requires.real in
     let is = ap have_ended (sym shown) ∙ (ap (λ rs. have_ended (told rs)) (sym c.deref.ensures.value) ∙ (sym c.have_ended.ensures ∙ c.if-not-have_ended.true)) in
     record {
-      counted = one_unended image config c.args.schedule.events.items c.requires.replays _ _ _ c.requires.tally.counted is;
+      counted = one_unended image config c.args.schedule.events.items (record { replays = c.requires.replays; moves = c.requires.moves; within = c.requires.within }) _ _ _ c.requires.tally.counted is;
       reached = c.requires.tally.reached;
       some = c.requires.tally.some;
     }

@@ -26,7 +26,7 @@ returns-clause-tally c =
     let updates = on_ok _ c.insert.result ok c.insert.ensures.updates in
     let entries = on_ok _ c.insert.result ok c.insert.ensures.entries in
     record {
-      counted = end_counted image config before c.insert.new.self.entries _ _ c.unwrap_or-times.result c.args.end end c.requires.tally.counted c.kept-end.ensures.reached c.kept-end.ensures.outcome times updates.0;
+      counted = end_counted image config before c.insert.new.self.entries _ _ c.unwrap_or-times.result c.args.end end c.requires.tally.counted c.requires.reached c.requires.short c.kept-end.ensures.outcome times updates.0;
       reached = subst (λ es. All (IsRealEnd image config) (keys_of es)) (sym entries) (All-keys-insert_entry (on outcome_of outcome_cmp) end (c.unwrap_or-times.result + 1) (IsRealEnd image config) before c.requires.tally.reached c.kept-end.ensures.reached);
       some = subst (λ es. All (λ (n : ℕ). 0 < n) (values_of es)) (sym entries) (All-values-insert_entry (on outcome_of outcome_cmp) end (c.unwrap_or-times.result + 1) (λ (n : ℕ). 0 < n) before c.requires.tally.some (omega arith));
     }

@@ -1,4 +1,4 @@
-use Rattle.std.proofs.Common.{◌∙◌, inl, inr}
+use Rattle.std.proofs.Common.{inl, inr}
 use Rattle.command_files.proofs.Left.{handed_up, image_as_before}
 use Rattle.show_command.proofs.Asking.{program, unshown_told}
 use Rattle.show_command.proofs.asked.AskedWords.read.Goals as goal
@@ -19,4 +19,4 @@ returns-in_err-targets-clause-told g c =
 pub returns-clause-program : goal.returns-clause-program
 returns-clause-program g c =
     let named = c.in_ok-named.named in
-    program (g.F.Files.held c.args.files.now) (g.F.Files.held c.allow_file.new.files) c.args.wanted c.args.words.now named.image named.names c.in_ok-allowed.ensures.stays c.in_ok-named.ensures.image _ c.in_ok-targets.ensures.placed
+    program (g.F.Files.held c.args.files.now) (g.F.Files.held c.allow_file.new.files) c.args.wanted c.args.words.now named.image named.names c.in_ok-allowed.ensures.stays c.in_ok-named.ensures.image _ c.in_ok-targets.ensures.placed c.in_ok-targets.ensures.inside

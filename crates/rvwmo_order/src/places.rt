@@ -1,0 +1,157 @@
+//! A number for each of some names, by hart and by place, found without a walk.
+ghost use Rattle.std.specs.Prelude.{◌≡◌, ◌<◌, ◌+◌, ◌^◌, ◌==◌, ℕ, None, Some, IfOk, OnOk, if◌then◌else◌, length, slice_index_or};
+ghost use Rattle.std.specs.Option.{option_or};
+ghost use Rattle.memory_model.specs.Operations as operations;
+ghost use Rattle.memory_model.specs.Traces.{is_named};
+ghost use Rattle.memory_model.specs.declared.operation.Operation.{Operation as OperationValue};
+ghost use Rattle.trace_recorder.specs.declared.operation.OpId.{OpId as Name};
+ghost use Rattle.rvwmo_order.specs.Indexed.{known, number_in, place_from};
+
+use crate::accesses::name_of;
+use memory_model::Operation;
+use std::alloc::{AllocError, Global};
+use trace_recorder::{OpId, Trace};
+
+/// The numbers of names of one hart, by place; 0 where there is none.
+#[derive(Drop)]
+pub(crate) struct Numbers {
+    numbers: Vec<usize>,
+}
+
+impl Numbers {
+    // None yet, with room for so many.
+    fn none(alloc: Global, count: usize) -> Result<Numbers, AllocError>
+        ensures { IfOk result (λ list. (k : ℕ) → slice_index_or list.numbers.items k 0 ≡ 0) }
+    {
+        let mut numbers = Vec::new(alloc);
+        numbers.resize(count, 0)?;
+        Ok(Numbers { numbers })
+    }
+
+    /// By place, as far as there are any.
+    pub(crate) fn as_slice(&self) -> &[usize]
+        ensures { result.now ≡ self.now.numbers.items }
+    {
+        &self.numbers
+    }
+
+    fn at(&self, place: u32) -> usize
+        ensures { result ≡ slice_index_or self.now.numbers.items place 0 }
+    {
+        match self.numbers.get(place as usize) {
+            Some(number) => *number,
+            None => 0,
+        }
+    }
+
+    fn put(&mut self, place: u32, number: usize) -> Result<(), AllocError>
+        ensures { OnOk result ((k : ℕ) → slice_index_or self.new.numbers.items k 0 ≡ (if k == place then number else slice_index_or self.old.numbers.items k 0)) }
+    {
+        let index = place as usize;
+        if index >= self.numbers.len() {
+            self.numbers.resize(index + 1, 0)?;
+        }
+        self.numbers[index] = number;
+        Ok(())
+    }
+}
+
+/// The numbers of names, by hart.
+#[derive(Drop)]
+pub(crate) struct Places {
+    lists: Vec<Numbers>,
+}
+
+impl Places {
+    /// None yet, with room for the names of a trace.
+    pub(crate) fn none(alloc: Global, trace: &Trace) -> Result<Places, AllocError>
+        ensures { IfOk result (λ places. (hart place : ℕ) → number_in hart place places ≡ 0) }
+    {
+        let mut lists = Vec::new(alloc);
+        for hart in 0..trace.harts() {
+            lists.push(Numbers::none(alloc, trace.entries(hart).len())?)?;
+        }
+        Ok(Places { lists })
+    }
+
+    /// The lists of the harts that have one.
+    pub(crate) fn lists(&self) -> &[Numbers]
+        ensures { result.now ≡ self.now.lists.items }
+    {
+        &self.lists
+    }
+
+    /// The place that was noted of a name, where its number is one more.
+    pub(crate) fn place(&self, name: OpId) -> Option<usize>
+        ensures { result ≡ known (number_in name.hart name.place self.now) }
+    {
+        match self.number(name) {
+            0 => None,
+            number => Some(number - 1),
+        }
+    }
+
+    /// The number of a name; 0 where it has none.
+    pub(crate) fn number(&self, name: OpId) -> usize
+        ensures { result ≡ number_in name.hart name.place self.now }
+    {
+        match self.lists.get(usize::from(name.hart)) {
+            Some(list) => list.at(name.place),
+            None => 0,
+        }
+    }
+
+    /// Gives a name a number.
+    pub(crate) fn put(&mut self, alloc: Global, name: OpId, number: usize) -> Result<(), AllocError>
+        ensures { OnOk result ((n : Name) → number_in n.hart n.place self.new ≡ (if is_named n name then number else number_in n.hart n.place self.old)) }
+    {
+        let hart = usize::from(name.hart);
+        self.reach(alloc, hart)?;
+        self.lists[hart].put(name.place, number)
+    }
+
+    // Gives a hart a list, where it has none.
+    fn reach(&mut self, alloc: Global, hart: usize) -> Result<(), AllocError>
+        requires { hart < 256 }
+        ensures same { OnOk result ((h place : ℕ) → number_in h place self.new ≡ number_in h place self.old) }
+        ensures there { OnOk result (hart < length self.new.lists.items) }
+    {
+        while self.lists.len() <= hart {
+            self.lists.push(Numbers::none(alloc, 0)?)?;
+        }
+        Ok(())
+    }
+}
+
+/// One more than the place of each operation in an order, the first where there are two of one name.
+pub(crate) fn places_in(
+    alloc: Global,
+    trace: &Trace,
+    order: &[Operation],
+) -> Result<Places, AllocError>
+    ensures { IfOk result (λ places. (a : OperationValue) → known (number_in a.hart a.place places) ≡ place_from 0 a order.now) }
+{
+    let mut places = Places::none(alloc, trace)?;
+    for (position, a) in order.iter().enumerate() {
+        put_first(alloc, &mut places, position, a)?;
+    }
+    Ok(places)
+}
+
+// Notes the place of an operation where none is noted of its name yet.
+fn put_first(
+    alloc: Global,
+    places: &mut Places,
+    position: usize,
+    a: &Operation,
+) -> Result<(), AllocError>
+    requires { position + 1 < 2 ^ 64 }
+    ensures { OnOk result ((b : OperationValue) → known (number_in b.hart b.place places.new)
+        ≡ option_or (known (number_in b.hart b.place places.old)) (if operations.same b a.now then Some position else None)) }
+{
+    if places.number(name_of(a)) > 0 {
+        return Ok(());
+    }
+    places.put(alloc, name_of(a), position + 1)?;
+    Ok(())
+}
