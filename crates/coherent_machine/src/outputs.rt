@@ -4,24 +4,22 @@ ghost use Rattle.std.specs.Prelude.{◌≡◌, ◌≤◌, [], IfOk, length, map}
 ghost use Rattle.std.specs.Vec.{vec_capacity};
 ghost use Rattle.machine_limits.specs.declared.TheConstants.{MAX_HARTS};
 
+use machine_limits::MAX_HARTS;
 use machine_parts::Node;
 use std::alloc::{AllocError, Global};
-
-/// The most harts that a machine has.
-const MOST_HARTS: usize = 8;
 
 /// Room for one list a hart, asked for when the machine is made, so that taking it apart wants no memory.
 #[derive(Drop)]
 pub(crate) struct Outputs {
     lists: Vec<Vec<u32>>,
     ghost empty: { lists.items ≡ [] },
-    ghost room: { 8 ≤ vec_capacity lists },
+    ghost room: { MAX_HARTS ≤ vec_capacity lists },
 }
 
 impl Outputs {
     pub(crate) fn new(alloc: Global) -> Result<Outputs, AllocError> {
         let mut lists = Vec::new(alloc);
-        lists.reserve(MOST_HARTS)?;
+        lists.reserve(MAX_HARTS as usize)?;
         Ok(Outputs { lists })
     }
 

@@ -6,6 +6,7 @@ use crate::written::Written;
 use coherent_machine::Machine;
 use elf_loader::Image;
 use flat_model::FlatEvent;
+use machine_limits::MAX_HARTS;
 use machine_types::{Config, Event, Outcome};
 use plain_machine::{FlatMachine, Variant};
 use rv32_decode::decode;
@@ -15,7 +16,7 @@ use std::fmt;
 use trace_recorder::OpId;
 
 /// Harts that a machine has at most.
-const MOST_HARTS: usize = 8;
+const MOST_HARTS: usize = MAX_HARTS as usize;
 
 /// What the flat machine makes of an SC that fails in the machine though its flat reservation stands.
 #[derive(Clone, Copy, Debug, PartialEq, Eq)]

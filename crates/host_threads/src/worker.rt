@@ -15,6 +15,7 @@ use coherent_machine::{AdoptError, ApplyError};
 use elf_loader::Image;
 use hart::{Hart, run_local};
 use locked_fabric::{Numbers, Port, Share, Taken, Turn};
+use machine_limits::MAX_HARTS;
 use machine_types::{Config, Event, Outcome};
 use progress_board::{Board, Seat};
 use std::alloc::Global;
@@ -25,8 +26,6 @@ use std::thread;
 
 /// How many instructions a batch has at most.
 const MOST_ALONE: u32 = 256;
-
-const MOST_HARTS: usize = 8;
 
 /// How long a worker rests that found nothing to do, in looks at whether the run has stopped: some 50
 /// nanoseconds.
@@ -130,7 +129,7 @@ impl<'a, L: Ledger, T: Turn + Drop> Worker<'a, L, T> {
         ensures { self.new.common ≡ self.old.common }
     {
         let harts = self.common.board.harts();
-        let mut lengths = [0; MOST_HARTS];
+        let mut lengths = [0; MAX_HARTS as usize];
         for hart in 0..harts {
             lengths[usize::from(hart)] = self.common.board.published(self.port.seat(), hart);
         }

@@ -17,13 +17,14 @@ use crate::results::results_of;
 use crate::schedule::Schedule;
 use coherent_machine::{ApplyError, Machine, NewError, ReplayError, Views};
 use elf_loader::Image;
+use machine_limits::MAX_HARTS;
 use machine_model::changes_are_counted;
 use machine_types::{Config, Event, Outcome};
 use std::alloc::{AllocError, Global};
 use std::marker::Model;
 
 /// The most harts that a machine has.
-pub(crate) const MOST_HARTS: u8 = 8;
+pub(crate) const MOST_HARTS: u8 = MAX_HARTS as u8;
 
 /// A machine, and the events that changed it since its reset, the first one first.
 #[derive(Drop)]
