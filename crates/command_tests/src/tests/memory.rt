@@ -30,12 +30,13 @@ impl<'a> File<'a> {
     }
 }
 
-/// Some files, and what was written last. Where they are full none is written.
+/// Some files, what was written last, and the last remark on one of them. Where they are full none is written.
 #[derive(Drop)]
 pub struct MemoryFiles<'a> {
     pub files: &'a [File<'a>],
     pub written: Vec<u8>,
     pub is_full: bool,
+    remark: Option<String>,
 }
 
 impl<'a> MemoryFiles<'a> {
@@ -44,6 +45,15 @@ impl<'a> MemoryFiles<'a> {
             files,
             written: Vec::new(alloc),
             is_full: false,
+            remark: None,
+        }
+    }
+
+    /// Nothing where none was made.
+    pub fn last_remark(&self) -> &str {
+        match &self.remark {
+            Some(remark) => remark.as_str(),
+            None => "",
         }
     }
 }
@@ -70,6 +80,10 @@ impl<'a> Files for MemoryFiles<'a> {
         self.written.clear();
         self.written.extend_from_slice(bytes)?;
         Ok(())
+    }
+
+    fn remark(&mut self, remark: String) {
+        self.remark = Some(remark);
     }
 }
 

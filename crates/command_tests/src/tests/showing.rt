@@ -3,9 +3,6 @@
 use super::memory::{File, MemoryFiles};
 use super::{line, line_over};
 use crate::same::{same, same_of};
-use command_files::Remarked;
-use command_line::run_line;
-use progress_line::Silent;
 use std::alloc::Global;
 use std::sync::Wait;
 use std::test::Fail;
@@ -277,13 +274,10 @@ const OUTSIDE: [&[&str]; 4] = [
 #[test]
 fn a_size_out_of_limits_is_remarked(rt: HostRuntime) {
     for words in OUTSIDE {
-        let mut files = Remarked::new(MemoryFiles::new(rt.alloc(), &[]));
-        let mut out = Vec::new(rt.alloc());
-        let mut err = Vec::new(rt.alloc());
-        let alloc = rt.alloc();
-        let status = run_line(&rt, alloc, words, &mut files, &mut out, &mut err, &Silent);
-        same(&rt, status, 2);
-        same(&rt, files.last(), Some("--harts is 1 to 8, not 9"));
+        let mut files = MemoryFiles::new(rt.alloc(), &[]);
+        let ran = line_over(&rt, words, &mut files);
+        same(&rt, ran.status, 2);
+        same(&rt, files.last_remark(), "--harts is 1 to 8, not 9");
     }
 }
 
