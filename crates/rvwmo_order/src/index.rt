@@ -51,7 +51,8 @@ impl Model for Index {
 }
 
 impl Index {
-    /// The operations of these names, in their order; a name that there isn't is passed over.
+    /// The operations of these names, in their order; a name that there isn't is passed over. For 4,294,967,296
+    /// operations or more there is no memory.
     pub fn new(alloc: Global, trace: &Trace, order: &[OpId]) -> Result<Index, AllocError>
         ensures { IfOk result (λ index. index ≡ traces.operations_at (traces.instructions trace.now.history) order.now) }
     {

@@ -22,10 +22,10 @@ fn is_listed(trace: &Trace, name: OpId) -> bool
 pub(crate) fn names_of(alloc: Global, trace: &Trace, list: &[OpId]) -> Result<Places, AllocError>
     ensures { IfOk result (λ names. (n : Name) → has_name names n ≡ (is_listed_in trace.now.history n && spec.is_among list.now n)) }
 {
-    let mut names = Places::none(alloc, trace)?;
+    let mut names = Places::none(alloc);
     for name in list {
         if is_listed(trace, *name) {
-            names.put(alloc, *name, 1)?;
+            names.put(alloc, trace, *name, 1)?;
         }
     }
     Ok(names)
@@ -53,12 +53,12 @@ pub(crate) fn distinct_names(
     ensures distinct { IfOk result (λ found. is_some found ≡ spec.is_distinct list.now) }
     ensures names { IfOk result (λ found. IfSome found (λ names. (n : Name) → has_name names n ≡ spec.is_among list.now n)) }
 {
-    let mut names = Places::none(alloc, trace)?;
+    let mut names = Places::none(alloc);
     for name in list {
         if has(&names, *name) {
             return Ok(None);
         }
-        names.put(alloc, *name, 1)?;
+        names.put(alloc, trace, *name, 1)?;
     }
     Ok(Some(names))
 }

@@ -1,5 +1,5 @@
 //! A number for each of some names, by hart and by place, found without a walk.
-ghost use Rattle.std.specs.Prelude.{◌≡◌, ◌<◌, ◌+◌, ◌^◌, ◌==◌, ℕ, None, Some, IfOk, OnOk, if◌then◌else◌, length, slice_index_or};
+ghost use Rattle.std.specs.Prelude.{◌≡◌, ◌≤◌, ◌<◌, ◌+◌, ◌^◌, ◌==◌, ℕ, None, Some, IfOk, OnOk, if◌then◌else◌, length, slice_index_or};
 ghost use Rattle.std.specs.Option.{option_or};
 ghost use Rattle.memory_model.specs.Operations as operations;
 ghost use Rattle.memory_model.specs.Traces.{is_named};
@@ -15,27 +15,28 @@ use trace_recorder::{OpId, Trace};
 /// The numbers of names of one hart, by place; 0 where there is none.
 #[derive(Drop)]
 pub(crate) struct Numbers {
-    numbers: Vec<usize>,
+    /// Four bytes each, since a hart may have millions of places.
+    numbers: Vec<u32>,
 }
 
 impl Numbers {
-    // None yet, with room for so many.
-    fn none(alloc: Global, count: usize) -> Result<Numbers, AllocError>
-        ensures { IfOk result (λ list. (k : ℕ) → slice_index_or list.numbers.items k 0 ≡ 0) }
+    // None yet, and no room for any, since most harts may have none.
+    fn none(alloc: Global) -> Numbers
+        ensures { (k : ℕ) → slice_index_or result.numbers.items k 0 ≡ 0 }
     {
-        let mut numbers = Vec::new(alloc);
-        numbers.resize(count, 0)?;
-        Ok(Numbers { numbers })
+        Numbers {
+            numbers: Vec::new(alloc),
+        }
     }
 
     /// By place, as far as there are any.
-    pub(crate) fn as_slice(&self) -> &[usize]
+    pub(crate) fn as_slice(&self) -> &[u32]
         ensures { result.now ≡ self.now.numbers.items }
     {
         &self.numbers
     }
 
-    fn at(&self, place: u32) -> usize
+    fn at(&self, place: u32) -> u32
         ensures { result ≡ slice_index_or self.now.numbers.items place 0 }
     {
         match self.numbers.get(place as usize) {
@@ -44,15 +45,25 @@ impl Numbers {
         }
     }
 
-    fn put(&mut self, place: u32, number: usize) -> Result<(), AllocError>
+    // Gives a place a number, and the first time makes room for so many.
+    fn put(&mut self, place: u32, number: u32, count: usize) -> Result<(), AllocError>
         ensures { OnOk result ((k : ℕ) → slice_index_or self.new.numbers.items k 0 ≡ (if k == place then number else slice_index_or self.old.numbers.items k 0)) }
     {
         let index = place as usize;
         if index >= self.numbers.len() {
-            self.numbers.resize(index + 1, 0)?;
+            self.reach(count.max(index + 1))?;
         }
         self.numbers[index] = number;
         Ok(())
+    }
+
+    // Makes room for so many.
+    fn reach(&mut self, count: usize) -> Result<(), AllocError>
+        requires { length self.old.numbers.items ≤ count }
+        ensures same { OnOk result ((k : ℕ) → slice_index_or self.new.numbers.items k 0 ≡ slice_index_or self.old.numbers.items k 0) }
+        ensures long { OnOk result (length self.new.numbers.items ≡ count) }
+    {
+        self.numbers.resize(count, 0)
     }
 }
 
@@ -63,15 +74,13 @@ pub(crate) struct Places {
 }
 
 impl Places {
-    /// None yet, with room for the names of a trace.
-    pub(crate) fn none(alloc: Global, trace: &Trace) -> Result<Places, AllocError>
-        ensures { IfOk result (λ places. (hart place : ℕ) → number_in hart place places ≡ 0) }
+    /// None yet.
+    pub(crate) fn none(alloc: Global) -> Places
+        ensures { (hart place : ℕ) → number_in hart place result ≡ 0 }
     {
-        let mut lists = Vec::new(alloc);
-        for hart in 0..trace.harts() {
-            lists.push(Numbers::none(alloc, trace.entries(hart).len())?)?;
+        Places {
+            lists: Vec::new(alloc),
         }
-        Ok(Places { lists })
     }
 
     /// The lists of the harts that have one.
@@ -87,12 +96,12 @@ impl Places {
     {
         match self.number(name) {
             0 => None,
-            number => Some(number - 1),
+            number => Some(number as usize - 1),
         }
     }
 
     /// The number of a name; 0 where it has none.
-    pub(crate) fn number(&self, name: OpId) -> usize
+    pub(crate) fn number(&self, name: OpId) -> u32
         ensures { result ≡ number_in name.hart name.place self.now }
     {
         match self.lists.get(usize::from(name.hart)) {
@@ -101,13 +110,19 @@ impl Places {
         }
     }
 
-    /// Gives a name a number.
-    pub(crate) fn put(&mut self, alloc: Global, name: OpId, number: usize) -> Result<(), AllocError>
+    /// Gives a name a number. The first one of a hart makes room for those of the trace's instructions.
+    pub(crate) fn put(
+        &mut self,
+        alloc: Global,
+        trace: &Trace,
+        name: OpId,
+        number: u32,
+    ) -> Result<(), AllocError>
         ensures { OnOk result ((n : Name) → number_in n.hart n.place self.new ≡ (if is_named n name then number else number_in n.hart n.place self.old)) }
     {
         let hart = usize::from(name.hart);
         self.reach(alloc, hart)?;
-        self.lists[hart].put(name.place, number)
+        self.lists[hart].put(name.place, number, count_in(trace, hart))
     }
 
     // Gives a hart a list, where it has none.
@@ -117,9 +132,18 @@ impl Places {
         ensures there { OnOk result (hart < length self.new.lists.items) }
     {
         while self.lists.len() <= hart {
-            self.lists.push(Numbers::none(alloc, 0)?)?;
+            self.lists.push(Numbers::none(alloc))?;
         }
         Ok(())
+    }
+}
+
+// How many instructions a hart has; none where there is no such hart.
+fn count_in(trace: &Trace, hart: usize) -> usize {
+    if hart < trace.harts() {
+        trace.entries(hart).len()
+    } else {
+        0
     }
 }
 
@@ -131,9 +155,9 @@ pub(crate) fn places_in(
 ) -> Result<Places, AllocError>
     ensures { IfOk result (λ places. (a : OperationValue) → known (number_in a.hart a.place places) ≡ place_from 0 a order.now) }
 {
-    let mut places = Places::none(alloc, trace)?;
+    let mut places = Places::none(alloc);
     for (position, a) in order.iter().enumerate() {
-        put_first(alloc, &mut places, position, a)?;
+        put_first(alloc, trace, &mut places, position, a)?;
     }
     Ok(places)
 }
@@ -141,6 +165,7 @@ pub(crate) fn places_in(
 // Notes the place of an operation where none is noted of its name yet.
 fn put_first(
     alloc: Global,
+    trace: &Trace,
     places: &mut Places,
     position: usize,
     a: &Operation,
@@ -152,6 +177,17 @@ fn put_first(
     if places.number(name_of(a)) > 0 {
         return Ok(());
     }
-    places.put(alloc, name_of(a), position + 1)?;
+    let rank = rank_at(position)?;
+    places.put(alloc, trace, name_of(a), rank)?;
     Ok(())
+}
+
+// One more than a place; where four bytes have no room for it, it is refused as memory is.
+fn rank_at(position: usize) -> Result<u32, AllocError>
+    ensures { IfOk result (λ rank. rank ≡ position + 1) }
+{
+    if position >= u32::MAX as usize {
+        return Err(AllocError);
+    }
+    Ok(position as u32 + 1)
 }

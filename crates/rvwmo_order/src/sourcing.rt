@@ -50,7 +50,7 @@ fn raise_by_own(
     sources: &mut [[usize; 4]],
     order: &[Operation],
     hart: usize,
-    list: &[usize],
+    list: &[u32],
 ) -> Result<(), AllocError>
     requires distinct { AreDistinctOperations order.now }
     requires numbers { AreNumbers order.now hart list.now }
@@ -59,7 +59,7 @@ fn raise_by_own(
 {
     let mut latest = Latest::none(alloc);
     for place in 0..list.len() {
-        let rank = list[place];
+        let rank = list[place] as usize;
         if rank > 0 {
             raise_one(&mut latest, sources, order, rank)?;
         }

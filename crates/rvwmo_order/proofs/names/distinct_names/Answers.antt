@@ -4,8 +4,8 @@ use Rattle.rvwmo_order.proofs.names.distinct_names.Goals as goal
 
 pub loop-name-init : goal.loop-name-init
 loop-name-init c = record {
-  distinct = distinct_at_first c.in_ok-names.names c.args.list.now c.in_ok-names.ensures;
-  names = none_named c.in_ok-names.names c.args.list.now c.in_ok-names.ensures;
+  distinct = distinct_at_first c.none-names.result c.args.list.now c.none-names.ensures;
+  names = none_named c.none-names.result c.args.list.now c.none-names.ensures;
 }
 
 pub returns-then-has-clause-distinct : goal.returns-then-has-clause-distinct

@@ -8,7 +8,7 @@ use Rattle.rvwmo_order.proofs.names.names_of.Goals as goal
 use Rattle.rvwmo_order.proofs.names.names_of.Goals.{then-is_listed+in_ok-put, else-is_listed}
 
 pub loop-name-init : goal.loop-name-init
-loop-name-init c = λ n. ap (λ m. nat_lt 0 m || (is_listed c.args.trace.now.history n && is_among c.args.list.now n)) (c.in_ok-names.ensures n.hart n.place)
+loop-name-init c = λ n. ap (λ m. nat_lt 0 m || (is_listed c.args.trace.now.history n && is_among c.args.list.now n)) (c.none-names.ensures n.hart n.place)
 
 pub loop-name-preserved : goal.loop-name-preserved
 loop-name-preserved c =

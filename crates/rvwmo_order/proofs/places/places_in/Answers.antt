@@ -6,7 +6,7 @@ use Rattle.rvwmo_order.proofs.Indexed.{or_placed}
 use Rattle.rvwmo_order.proofs.places.places_in.Goals as goal
 
 pub loop-position-init : goal.loop-position-init
-loop-position-init c = λ a. ap (λ (n : ℕ). option_or (known n) (place_from 0 a c.args.order.now)) (c.in_ok-places.ensures a.hart a.place)
+loop-position-init c = λ a. ap (λ (n : ℕ). option_or (known n) (place_from 0 a c.args.order.now)) (c.none-places.ensures a.hart a.place)
 
 pub loop-position-preserved : goal.loop-position-preserved
 loop-position-preserved c = λ a. grind (arith, common_steps, or_placed, c.in_ok-put_first.ensures a, c.loop-position.invariant a)

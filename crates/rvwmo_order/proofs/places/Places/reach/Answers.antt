@@ -3,4 +3,4 @@ use Rattle.rvwmo_order.proofs.Tables.{list_more}
 use Rattle.rvwmo_order.proofs.places.Places.reach.Goals as goal
 
 pub loop-alloc-preserved : goal.loop-alloc-preserved
-loop-alloc-preserved c = λ h place. list_more c.loop-alloc.self.lists.items c.push.new.self.items c.in_ok-none.field-0 h place c.in_ok-push.ensures.items c.in_ok-none.ensures ∙ c.loop-alloc.invariant h place
+loop-alloc-preserved c = λ h place. list_more c.loop-alloc.self.lists.items c.push.new.self.items c.none.result h place c.in_ok-push.ensures.items c.none.ensures ∙ c.loop-alloc.invariant h place
