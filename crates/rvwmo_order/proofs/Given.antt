@@ -26,6 +26,7 @@ use Rattle.memory_model.specs.Rules.{items_of}
 use Rattle.memory_model.specs.Traces.{instructions, operation_at, operations_at}
 use Rattle.memory_model.proofs.Named.{operation_at-bears}
 use Rattle.rvwmo_order.specs.Bounds.{GivesEach, IsGiven}
+use Rattle.rvwmo_order.proofs.Paired.{listed_lr}
 
 none_is_not : {X : Type 0} (x : X) → None ≡ Some x → ⊥
 none_is_not x e = cc
@@ -102,6 +103,7 @@ given_by t name a e = go (slice_get (instructions t) name.hart) refl e
           there = ap (λ (is : List Item). slice_get is a.place) list ∙ (ap (slice_get items) bears.place_is ∙ h);
           gives = g;
           has_bytes = list_sized t.image _ 0 t.entries name.hart name.place items m a f h g;
+          of_lr = λ is. listed_lr t.image _ 0 t.entries name.hart name.place items m a f h g is;
         }
 
     go : (o : Option (List Item)) → slice_get (instructions t) name.hart ≡ o → option_and_then (λ (m : Item). m.operation) (option_and_then (λ (items : List Item). slice_get items name.place) o) ≡ Some a → IsGiven (items_of (instructions t) a.hart) a

@@ -15,7 +15,7 @@ use Rattle.memory_model.specs.Order.{candidates, position_in, source}
 use Rattle.memory_model.specs.Verdict.{name_of}
 use Rattle.memory_model.proofs.Forms.{same-swap}
 use Rattle.trace_recorder.specs.declared.operation.OpId.{OpId}
-use Rattle.rvwmo_order.specs.Indexed.{is_lr_of, is_seen, place_from, stored_from}
+use Rattle.rvwmo_order.specs.Indexed.{is_seen, place_from, stored_from}
 use Rattle.rvwmo_order.specs.Scans.{is_broken_pair}
 use Rattle.rvwmo_order.specs.declared.stored.Stored.{Stored}
 use Rattle.rvwmo_order.proofs.Judged.{place_head, place_tail}
@@ -231,28 +231,11 @@ behind_cut order xs a position e f = take_all (length xs - (position + 1)) (drop
 pub nothing_behind : (order : List Operation) (a : Operation) (position : ℕ) → position ≡ position_in order a → length order ≤ position → [] ≡ behind (Some a) order
 nothing_behind order a position e h = sym (drop_all (position + 1) order (omega (arith, h))) ∙ behind_position order a position e
 
--- ---- the LRs of a hart are all that an SC of the hart can be paired with
-
-find_filtered : (p q : Operation → Bool) → ((a : Operation) → q a ≡ false → p a ≡ false) → (xs : List Operation) → find p (filter q xs) ≡ find p xs
-find_filtered p q f [] = refl
-find_filtered p q f (a ∷ rest) = go (q a) refl (find_filtered p q f rest)
-  where
-    go : (c : Bool) → q a ≡ c → find p (filter q rest) ≡ find p rest → find p (cond c (a ∷ filter q rest) (filter q rest)) ≡ cond (p a) (Some a) (find p rest)
-    go true e ih = ap (λ (o : Option Operation). cond (p a) (Some a) o) ih
-    go false e ih = ih ∙ ap (λ (c : Bool). cond c (Some a) (find p rest)) (sym (f a e))
+-- ---- an operation that is no SC is in no pair
 
 find_none : (p : Operation → Bool) → ((a : Operation) → p a ≡ false) → (xs : List Operation) → None ≡ find p xs
 find_none p f [] = refl
 find_none p f (a ∷ rest) = find_none p f rest ∙ ap (λ (c : Bool). cond c (Some a) (find p rest)) (sym (f a))
-
-not_paired : (h l r c n : Bool) → (r && h) ≡ false → (((h && l) && r && c && n)) ≡ false
-not_paired true l true c n e = absurd (true≢false e)
-not_paired true true false c n e = refl
-not_paired true false false c n e = refl
-not_paired false l r c n e = refl
-
-pub pairs_among_lrs : (harts : List (List Item)) (order : List Operation) (w : Operation) → find (λ r. is_broken_pair harts order r w) (filter (is_lr_of w.hart) order) ≡ find (λ r. is_broken_pair harts order r w) order
-pairs_among_lrs harts order w = find_filtered (λ r. is_broken_pair harts order r w) (is_lr_of w.hart) (λ a e. ap (λ (c : Bool). c && not (is_atomic order a w)) (not_paired (nat_eq a.hart w.hart) (nat_lt a.place w.place) (is_lr a.kind) (is_sc w.kind) (not (list_any (λ (m : Item). is_lr_or_sc m.instr) (between (items_of harts a.hart) a w))) e)) order
 
 pub no_pair_without_sc : (harts : List (List Item)) (order : List Operation) (w : Operation) → is_sc w.kind ≡ false → None ≡ find (λ r. is_broken_pair harts order r w) order
 no_pair_without_sc harts order w e = find_none (λ r. is_broken_pair harts order r w) (λ a. go (precedes a w) (is_lr a.kind) (is_sc w.kind) (not (list_any (λ (m : Item). is_lr_or_sc m.instr) (between (items_of harts a.hart) a w))) (not (is_atomic order a w)) e) order

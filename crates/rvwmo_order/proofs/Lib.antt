@@ -19,6 +19,7 @@ pub mod Listing
 pub mod Marks
 pub mod Noted
 pub mod Opcodes
+pub mod Paired
 pub mod Pairs
 pub mod Parted
 pub mod Passing

@@ -32,7 +32,7 @@ known_put false position old new e = ap known e
 pub number_listed : (lists : List Numbers) (hart place : ℕ) (l : Numbers) → hart < length lists → l ≡ get_or lists hart l → slice_index_or l.numbers.items place 0 ≡ number_of hart place lists
 number_listed lists hart place l h e = ap (λ (o : Option Numbers). option_map_or (λ (m : Numbers). slice_index_or m.numbers.items place 0) o 0) (ap Some e ∙ sym (slice_get-get_or lists hart l h))
 
-nothing_past : {X : Type 0} (xs : List X) (k : ℕ) → length xs ≤ k → slice_get xs k ≡ None
+pub nothing_past : {X : Type 0} (xs : List X) (k : ℕ) → length xs ≤ k → slice_get xs k ≡ None
 nothing_past [] k h = refl
 nothing_past (x ∷ xs) zero h = absurd (omega (arith, h))
 nothing_past (x ∷ xs) (suc k) h = nothing_past xs k (omega (arith, h))

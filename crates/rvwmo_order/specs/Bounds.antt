@@ -6,9 +6,9 @@ use Rattle.memory_model.specs.declared.MemoryModel.{MemoryModel}
 use Rattle.memory_model.specs.declared.operation.Operation.{Operation}
 use Rattle.rv32_exec.specs.Uses.{Uses}
 use Rattle.memory_model.specs.Items.{Item}
-use Rattle.memory_model.specs.Operations.{has_rcsc, has_release, is_amo, is_sc, reads, same, touches, writes}
+use Rattle.memory_model.specs.Operations.{has_rcsc, has_release, is_amo, is_lr, is_sc, reads, same, touches, writes}
 use Rattle.memory_model.specs.Order.{position_in, source}
-use Rattle.memory_model.specs.Rules.{asked_by, items_of}
+use Rattle.memory_model.specs.Rules.{asked_by, is_lr_or_sc, items_of}
 use Rattle.rvwmo_order.specs.Carried.{carried_behind, greatest, nothing_carried}
 use Rattle.rvwmo_order.specs.Codes.{rule_of}
 use Rattle.rvwmo_order.specs.Indexed.{rank_of}
@@ -94,12 +94,13 @@ abbrev pub AreDistinctOperations : List Operation → Type 0
 AreDistinctOperations [] = Unit {0}
 AreDistinctOperations (a ∷ rest) = AllByRecursion (λ (b : Operation). same a b ≡ false) rest × AreDistinctOperations rest
 
--- an operation with bytes is the one of the instruction at its place
+-- an operation with bytes is the one of the instruction at its place, and an LR of an LR alone
 pub record IsGiven (items : List Item) (a : Operation) : Type 0 where
   pub item : Item
   pub there : slice_get items a.place ≡ Some item
   pub gives : item.operation ≡ Some a
   pub has_bytes : 0 < a.size
+  pub of_lr : is_lr a.kind ≡ true → is_lr_or_sc item.instr ≡ true
 
 abbrev pub GivesEach : List (List Item) → List Operation → Type 0
 GivesEach harts order = AllByRecursion (λ (a : Operation). IsGiven (items_of harts a.hart) a) order

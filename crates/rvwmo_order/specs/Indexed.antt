@@ -2,7 +2,7 @@
 use Rattle.std.specs.Prelude.{◌≡◌, ◌≤◌, ◌<◌, ◌-◌, ℕ, ◌+◌, Bool, true, slice_get, slice_index_or, ◌&&◌, ◌||◌, ◌==◌, nat_lt, if◌then◌else◌, List, [], ◌∷◌, Option, Some, None, filter, length}
 use Rattle.std.specs.Option.{option_map_or}
 use Rattle.memory_model.specs.declared.operation.Operation.{Operation}
-use Rattle.memory_model.specs.Operations.{is_lr, reads, same, stores_to}
+use Rattle.memory_model.specs.Operations.{reads, same, stores_to}
 use Rattle.memory_model.specs.Order.{position_in, source}
 use Rattle.trace_recorder.specs.History.{History, entries_of}
 use Rattle.trace_recorder.specs.declared.operation.OpId.{OpId}
@@ -45,10 +45,6 @@ stored_from position x order = filter (λ (s : Stored). stores_to x s.store) (nu
 -- a store stands before a load's place in the order, or precedes it in program order
 abbrev pub is_seen : ℕ → OpId → Stored → Bool
 is_seen position load s = nat_lt s.position position || (s.store.hart == load.hart && nat_lt s.store.place load.place)
-
--- a is an LR of a hart
-abbrev pub is_lr_of : ℕ → Operation → Bool
-is_lr_of hart a = is_lr a.kind && a.hart == hart
 
 -- ---- ranks in an order: one more than a place, and 0 where there is no operation
 

@@ -1,8 +1,6 @@
 //! Judging an order of operations, over its index: each definition as it stands, but dependencies by the
 //! marks of sweeps.
-ghost use Rattle.std.specs.Prelude.{◌≡◌, ◌<◌, ◌==◌, IfOk, false, find};
-ghost use Rattle.memory_model.specs.declared.operation.Operation.{Operation as OperationValue};
-ghost use Rattle.memory_model.specs.Rules as rules;
+ghost use Rattle.std.specs.Prelude.{◌≡◌, ◌==◌, IfOk, None, Some, find, if◌then◌else◌};
 ghost use Rattle.std.specs.List.{list_all};
 ghost use Rattle.memory_model.specs.Operations as operations;
 ghost use Rattle.memory_model.specs.Order as orders;
@@ -17,13 +15,14 @@ use crate::bounding::ranked_rows;
 use crate::items::Harts;
 use crate::ranking::Ranking;
 use crate::rows::{Row, are_clear};
-use crate::rules::{are_paired, earliest_pair};
+use crate::rules::{are_paired, pair_place};
 use crate::searching::first_broken_by;
 use crate::sources::byte_from;
 use crate::verdict::{Code, RULES, Rule, Verdict};
 use elf_loader::Image;
 use memory_model::{MemoryModel, Operation};
 use std::alloc::{AllocError, Global};
+use trace_recorder::OpId;
 
 /// The verdict on an order of the operations of these lists, one a hart.
 pub(crate) fn judge(
@@ -108,6 +107,8 @@ fn has_source_bytes(image: &Image, index: &Ranking, a: &Operation) -> bool
 
 // The first LR and SC that are paired and not atomic.
 fn broken_pair(harts: &Harts, index: &Ranking) -> Option<(Operation, Operation)>
+    requires gives { GivesEach harts.now index.now }
+    requires distinct { AreDistinctOperations index.now }
     ensures { result ≡ first_broken_pair harts.now index.now index.now }
 {
     let mut rest = index.order();
@@ -120,35 +121,38 @@ fn broken_pair(harts: &Harts, index: &Ranking) -> Option<(Operation, Operation)>
     None
 }
 
-// The first LR that is paired with this SC and not atomic with it.
+// The LR that is paired with this SC and not atomic with it. No other LR is paired with it than the one at the
+// place of the last LR or SC before it.
 fn first_broken_with(harts: &Harts, index: &Ranking, w: &Operation) -> Option<Operation>
+    requires gives { GivesEach harts.now index.now }
+    requires distinct { AreDistinctOperations index.now }
     ensures { result
         ≡ find (λ r. scans.is_broken_pair harts.now index.now r w.now) index.now }
 {
     if !is_sc(w.kind) {
         return None;
     }
-    let first = earliest_pair(harts.items_of(w.hart), w);
-    let mut rest = index.reserves(w.hart);
-    while let [r, tail @ ..] = rest {
-        if is_broken_from(first, harts, index, r, w) {
-            return Some(*r);
-        }
-        rest = tail;
+    let place = pair_place(harts.items_of(w.hart), w);
+    let name = OpId {
+        hart: w.hart,
+        place,
+    };
+    match index.named(name) {
+        Some(r) => broken_with(harts, index, r, w),
+        None => None,
     }
-    None
 }
 
-// Whether the LR and the SC are paired and not atomic, where no LR before this place is paired with it.
-#[tactic(auto, using(crate::proofs::Pairs::none_broken_before))]
-fn is_broken_from(first: u32, harts: &Harts, index: &Ranking, r: &Operation, w: &Operation) -> bool
-    requires { (a : OperationValue) → a.place < first → rules.paired (rules.items_of harts.now w.now.hart) a w.now ≡ false }
-    ensures { result ≡ scans.is_broken_pair harts.now index.now r.now w.now }
+// The LR, where it is paired with the SC and not atomic with it.
+fn broken_with(harts: &Harts, index: &Ranking, r: &Operation, w: &Operation) -> Option<Operation>
+    ensures { result
+        ≡ (if scans.is_broken_pair harts.now index.now r.now w.now then Some r.now else None) }
 {
-    if r.place < first {
-        return false;
+    if is_broken_pair(harts, index, r, w) {
+        Some(*r)
+    } else {
+        None
     }
-    is_broken_pair(harts, index, r, w)
 }
 
 // Whether the LR and the SC are paired and not atomic.

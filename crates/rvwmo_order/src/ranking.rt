@@ -1,23 +1,20 @@
 //! An order of a trace's operations, with the place of each and the stores that its bytes come from found
 //! without a walk over the order.
-ghost use Rattle.std.specs.Prelude.{◌≡◌, ◌&&◌, ◌||◌, ℕ, List, [], IfOk, Some, filter, nat_lt};
-ghost use Rattle.std.specs.Option.{option_copied, option_map_or};
-ghost use Rattle.std.specs.BTreeMap as tree;
-ghost use Rattle.std.specs.Ordering.{nat_cmp};
+ghost use Rattle.std.specs.Prelude.{◌≡◌, ◌&&◌, ◌||◌, ℕ, List, IfOk, Some, nat_lt, slice_get};
+ghost use Rattle.std.specs.Option.{option_copied};
 ghost use Rattle.memory_model.specs.declared.operation.Operation.{Operation as OperationValue};
 ghost use Rattle.memory_model.specs.Legal as legal;
 ghost use Rattle.memory_model.specs.Operations as operations;
 ghost use Rattle.memory_model.specs.Order as spec;
 ghost use Rattle.memory_model.specs.Verdict as verdict;
 ghost use Rattle.rvwmo_order.specs.Bounds.{AreDistinctOperations};
-ghost use Rattle.rvwmo_order.specs.Indexed.{GivesRanks, HasRank, is_lr_of, rank_of, ranked};
+ghost use Rattle.rvwmo_order.specs.Indexed.{GivesRanks, HasRank, rank_of, ranked};
 
-use crate::accesses::{is_lr, is_same, name_of, precedes, reads, stores_to};
+use crate::accesses::{is_same, name_of, precedes, reads, stores_to};
 use crate::places::{Places, places_in};
 use crate::sourcing::sources_in;
 use memory_model::Operation;
 use std::alloc::{AllocError, Global};
-use std::collections::BTreeMap;
 use std::marker::Model;
 use trace_recorder::{OpId, Trace};
 
@@ -27,27 +24,21 @@ pub(crate) struct Ranking {
     order: Vec<Operation>,
     /// One more than the place of each operation.
     places: Places,
-    /// The LRs of each hart, in the order's order.
-    reserves: BTreeMap<u8, Vec<Operation>>,
     /// The ranks of the stores that the first bytes of each load come from, at the load's place; 0 stands for
     /// no store. They are found once, since a judge asks for them many times.
     sources: Vec<[usize; 4]>,
 }
 
 impl Model for Ranking {
-    ghost use Rattle.std.specs.Prelude.{◌≡◌, ℕ, List, [], filter};
-    ghost use Rattle.std.specs.Option.{option_map_or};
-    ghost use Rattle.std.specs.BTreeMap as tree;
-    ghost use Rattle.std.specs.Ordering.{nat_cmp};
+    ghost use Rattle.std.specs.Prelude.{◌≡◌, List};
     ghost use Rattle.memory_model.specs.declared.operation.Operation.{Operation as OperationValue};
-    ghost use Rattle.rvwmo_order.specs.Indexed.{GivesSources, is_lr_of, known, number_in, place_from};
+    ghost use Rattle.rvwmo_order.specs.Indexed.{GivesSources, known, number_in, place_from};
 
     ghost Value = { List OperationValue };
 
     ghost view = { λ i. i.order.items };
 
     ghost invariant = { λ i. ((a : OperationValue) → known (number_in a.hart a.place i.places) ≡ place_from 0 a i.order.items)
-        × ((h : ℕ) → option_map_or (λ v. v.items) (tree.get nat_cmp i.reserves h) [] ≡ filter (is_lr_of h) i.order.items)
         × GivesSources i.order.items i.sources.items };
 }
 
@@ -62,12 +53,10 @@ impl Ranking {
         ensures { IfOk result (λ index. index ≡ order.items) }
     {
         let places = places_in(alloc, trace, &order)?;
-        let reserves = reserves_in(alloc, &order)?;
         let sources = sources_in(alloc, &order, &places)?;
         Ok(Ranking {
             order,
             places,
-            reserves,
             sources,
         })
     }
@@ -79,14 +68,11 @@ impl Ranking {
         self.order.as_slice()
     }
 
-    /// The LRs of a hart, in the order's order.
-    pub(crate) fn reserves(&self, hart: u8) -> &[Operation]
-        ensures { result.now ≡ filter (is_lr_of hart) self.now }
+    /// The operation of this name, where there is one.
+    pub(crate) fn named(&self, name: OpId) -> Option<&Operation>
+        ensures { (a : OperationValue) → verdict.name_of a ≡ name → option_copied result ≡ slice_get self.now (spec.position_in self.now a) }
     {
-        match self.reserves.get(&hart) {
-            Some(reserves) => reserves,
-            None => &[],
-        }
+        self.order.get(self.position(name))
     }
 
     /// What stands behind an operation of this name; nothing where there is none.
@@ -249,20 +235,4 @@ fn may_see(position: usize, load: &Operation, x: u64, place: usize, store: &Oper
     ensures { result ≡ (operations.stores_to x store.now && (nat_lt place position || operations.precedes store.now load.now)) }
 {
     stores_to(x, store) && (place < position || precedes(store, load))
-}
-
-// The LRs of each hart.
-fn reserves_in(
-    alloc: Global,
-    order: &[Operation],
-) -> Result<BTreeMap<u8, Vec<Operation>>, AllocError>
-    ensures { IfOk result (λ reserves. (h : ℕ) → option_map_or (λ v. v.items) (tree.get nat_cmp reserves h) [] ≡ filter (is_lr_of h) order.now) }
-{
-    let mut reserves: BTreeMap<u8, Vec<Operation>> = BTreeMap::new(alloc);
-    for a in order {
-        if is_lr(a.kind) {
-            reserves.entry(a.hart)?.or_default().push(*a)?;
-        }
-    }
-    Ok(reserves)
 }

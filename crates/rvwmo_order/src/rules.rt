@@ -1,6 +1,6 @@
 //! The thirteen rules of preserved program order (chapter 14.1, "Preserved Program Order"), each a test of
 //! two operations of one hart, `a` before `b` in program order. `items` is the list of their hart.
-ghost use Rattle.std.specs.Prelude.{◌≡◌, ◌<◌, ◌&&◌, ◌||◌, Some, false};
+ghost use Rattle.std.specs.Prelude.{◌≡◌, ◌&&◌, ◌||◌, Some, false, true};
 ghost use Rattle.memory_model.specs.declared.operation.Operation.{Operation as OperationValue};
 ghost use Rattle.memory_model.specs.declared.operation.Kind.{Kind as KindValue};
 ghost use Rattle.std.specs.List.{list_any};
@@ -8,6 +8,7 @@ ghost use Rattle.memory_model.specs.Rules as spec;
 ghost use Rattle.memory_model.specs.Dependencies.{between};
 ghost use Rattle.memory_model.specs.Operations as operations;
 ghost use Rattle.memory_model.specs.Operations.{bytes_of};
+ghost use Rattle.rvwmo_order.specs.Bounds.{IsGiven};
 ghost use Rattle.rvwmo_order.specs.Scans as scans;
 ghost use Rattle.rvwmo_order.specs.Codes.{rule_of};
 ghost use Rattle.rvwmo_order.specs.Marks.{Tells};
@@ -198,10 +199,9 @@ fn has_lr_or_sc_between(items: &Items, a: &Operation, b: &Operation) -> bool
     false
 }
 
-/// The lowest place at which an LR may stand that an SC is paired with: that of the last LR or SC before it,
-/// 0 where there is none.
-pub(crate) fn earliest_pair(items: &Items, sc: &Operation) -> u32
-    ensures { (r : OperationValue) → r.place < result → spec.paired items.now r sc.now ≡ false }
+/// The place of the LR that an SC is paired with, where there is one: that of the last LR or SC before it.
+pub(crate) fn pair_place(items: &Items, sc: &Operation) -> u32
+    ensures { (r : OperationValue) → IsGiven items.now r → spec.paired items.now r sc.now ≡ true → r.place ≡ result }
 {
     let count = items.count();
     let mut place = sc.place.min(count);

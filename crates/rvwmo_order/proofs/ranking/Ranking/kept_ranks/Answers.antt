@@ -18,5 +18,5 @@ returns c = λ ranks is.
     let there : slice_get order position ≡ Some a = ap (λ xs. slice_get xs position) (sym c.deref.ensures.value) ∙ (slice_get-get_or c.deref.result.now position a at_place.0 ∙ ap Some (sym (at_place.1 a))) in
     let held : slice_get kept position ≡ Some first = ap (λ xs. slice_get xs position) (sym c.deref-2.ensures.value) ∙ (slice_get-get_or c.deref-2.result.now position first kept_there.0 ∙ ap Some (sym (kept_there.1 first))) in
     subst (λ (o : List Operation). GivesRanks o c.args.load.now ranks) c.self.view_is
-    (kept_named order kept position a c.args.load.now ranks c.self.invariant.2 (held ∙ is) there
+    (kept_named order kept position a c.args.load.now ranks c.self.invariant.1 (held ∙ is) there
     (sym c.reads.ensures ∙ c.if-not-reads.false) (sym c.is_same.ensures ∙ c.if-not-is_same.false) (omega arith) (omega arith))

@@ -1,9 +1,0 @@
-use Rattle.std.proofs.Common.{◌≡◌, length, find}
-use Rattle.rvwmo_order.specs.Scans.{is_broken_pair}
-use Rattle.rvwmo_order.proofs.judging.first_broken_with.Given as goal
-
-abbrev pub invariant-loop-rest : goal.invariant-loop-rest
-invariant-loop-rest l = find (λ r. is_broken_pair l.harts l.index r l.w) l.index ≡ find (λ r. is_broken_pair l.harts l.index r l.w) l.rest
-
-abbrev pub decreases-loop-rest : goal.decreases-loop-rest
-decreases-loop-rest l = length l.rest
