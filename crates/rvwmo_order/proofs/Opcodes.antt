@@ -1,21 +1,23 @@
 -- An instruction that accesses memory has one of three opcodes.
 use Rattle.std.proofs.Common.{◌≡◌, ◌≢◌, ◌<◌, ◌/◌, ◌%◌, ℕ, arith, List, [], ◌∷◌, Bool, true, false, Option, Some, None, refl, cond, sym, ap, ◌∙◌, ◌&&◌, ◌||◌, not}
-use Rattle.std.specs.Prelude.{◌==◌, filter, find, nat_lt}
+use Rattle.std.specs.Prelude.{◌==◌, filter, find, is_some, nat_lt}
 use Rattle.std.specs.List.{list_all}
 use Rattle.std.specs.Option.{option_map, option_map_or}
 use Rattle.std.proofs.lemmas.Bool.{and_parts, eqb-true, ne_eqb, true≢false}
 use Rattle.rv32_decode.specs.Rows.{Name, Upper, Jal, Jalr, Branch, Load, Store, Immediate, Shift, Register, Fence, System, Lr, Sc, Amo, Row, decoded, instr_of, is_in, is_tso, rows}
-use Rattle.rv32_decode.specs.Fields.{fences_of, imm_i, imm_s, rd_of, rs1_of, rs2_of}
+use Rattle.rv32_decode.specs.Fields.{annotations_of, fences_of, imm_i, imm_s, rd_of, rs1_of, rs2_of}
 use Rattle.hart.specs.declared.retired.Retired.{Retired}
 use Rattle.rv32_decode.specs.declared.instruction.Instr.{Instr}
 use Rattle.rv32_decode.specs.declared.instruction.Instr.TheVariants as instr
+use Rattle.rv32_decode.specs.declared.instruction.AmoOp.{AmoOp}
 use Rattle.rv32_decode.specs.declared.instruction.LoadOp.{LoadOp}
 use Rattle.rv32_decode.specs.declared.instruction.StoreOp.{StoreOp}
-use Rattle.rv32_decode.specs.Decoding.{load_of, store_of}
+use Rattle.rv32_decode.specs.Decoding.{amo_of, load_of, store_of}
+use Rattle.rv32_decode.proofs.Atomics.{decoded_atomic}
 use Rattle.rv32_decode.proofs.Branches.{decoded_load, decoded_store}
 use Rattle.rv32_decode.proofs.Cases.{by_eight}
 use Rattle.rv32_decode.proofs.Table.{decoded_opcode}
-use Rattle.memory_model.specs.Items.{accesses_memory, has_operation}
+use Rattle.memory_model.specs.Items.{accesses_memory, has_operation, succeeded}
 
 -- ---- rows
 
@@ -110,3 +112,17 @@ pub store_told : (e : Retired) → e.word % 128 ≡ 0x23 → has_operation e ≡
 store_told e o =
     ap (λ (i : Option Instr). option_map_or (accesses_memory e.sc_ok) i false) (decoded_store e.word o)
     ∙ (store_known e.sc_ok e.word (store_of (e.word / 4096 % 8)) ∙ store_named (e.word / 4096 % 8) (omega arith))
+
+-- ---- atomics, by funct3, funct5 and rs2
+
+atomic_known : (sc : Option Bool) (w : ℕ) (a b c : Bool) (m : Option AmoOp) → option_map_or (accesses_memory sc) (cond a (cond b (Some (instr.Lr (rd_of w) (rs1_of w) (annotations_of w))) (cond c (Some (instr.Sc (rd_of w) (rs1_of w) (rs2_of w) (annotations_of w))) (option_map (λ op. instr.Amo op (rd_of w) (rs1_of w) (rs2_of w) (annotations_of w)) m))) None) false ≡ (a && cond b true (cond c (succeeded sc) (is_some m)))
+atomic_known sc w false b c m = refl
+atomic_known sc w true true c m = refl
+atomic_known sc w true false true m = refl
+atomic_known sc w true false false None = refl
+atomic_known sc w true false false (Some op) = refl
+
+pub atomic_told : (e : Retired) → e.word % 128 ≡ 0x2f → has_operation e ≡ ((e.word / 4096 % 8 == 2) && cond ((e.word / 134217728 % 32 == 2) && (e.word / 1048576 % 32 == 0)) true (cond (e.word / 134217728 % 32 == 3) (succeeded e.sc_ok) (is_some (amo_of (e.word / 134217728 % 32)))))
+atomic_told e o =
+    ap (λ (i : Option Instr). option_map_or (accesses_memory e.sc_ok) i false) (decoded_atomic e.word o)
+    ∙ atomic_known e.sc_ok e.word (e.word / 4096 % 8 == 2) ((e.word / 134217728 % 32 == 2) && (e.word / 1048576 % 32 == 0)) (e.word / 134217728 % 32 == 3) (amo_of (e.word / 134217728 % 32))

@@ -1,11 +1,11 @@
 //! Each hart's retired instructions, with the memory operations that they gave (chapter 14.1, "Memory Model
 //! Primitives").
-ghost use Rattle.std.specs.Prelude.{◌≡◌, ◌≤◌, ◌*◌, ◌%◌, ◌^◌, ◌&&◌, Bool, IfOk, Option, Some, false, is_some, length, slice_get, slice_index};
-ghost use Rattle.std.specs.Option.{IfSome, option_copied, option_map_or};
+ghost use Rattle.std.specs.Prelude.{◌≡◌, ◌≤◌, ◌*◌, ◌%◌, ◌^◌, ◌&&◌, ◌==◌, IfOk, Some, false, if◌then◌else◌, is_some, length, slice_get, slice_index, true};
+ghost use Rattle.std.specs.Option.{IfSome, option_copied};
 ghost use Rattle.machine_limits.specs.declared.TheConstants.{MAX_ENTRIES};
 ghost use Rattle.memory_model.specs.Rules as rules;
 ghost use Rattle.hart.specs.Run as run;
-ghost use Rattle.rv32_decode.specs.Rows.{decoded};
+ghost use Rattle.rv32_decode.specs.Decoding.{amo_of};
 ghost use Rattle.rv32_exec.specs.Arithmetic as arithmetic;
 ghost use Rattle.rv32_exec.specs.Meaning as meaning;
 ghost use Rattle.memory_model.specs.Items as spec;
@@ -175,17 +175,15 @@ fn run_lists(alloc: Global, trace: &Trace) -> Result<Option<Vec<Items>>, AllocEr
     Ok(Some(lists))
 }
 
-/// Whether an entry has a memory operation.
+/// Whether an entry has a memory operation. Most have another opcode than loads, stores and atomics.
 pub(crate) fn has_operation(entry: &Retired) -> bool
     ensures { result ≡ spec.has_operation entry.now }
 {
-    if !has_access_opcode(entry.word) {
-        return false;
-    }
     match entry.word % 0x80 {
         0x03 => is_load(entry),
         0x23 => is_store(entry),
-        _ => is_access(entry),
+        0x2f => is_atomic(entry),
+        _ => false,
     }
 }
 
@@ -207,34 +205,29 @@ fn is_store(entry: &Retired) -> bool
     entry.word / 0x1000 % 8 < 3
 }
 
-// The same by what the entry's word is.
-fn is_access(entry: &Retired) -> bool
+// The same of one with the opcode of atomics.
+#[tactic(auto, using(crate::proofs::Opcodes::atomic_told))]
+fn is_atomic(entry: &Retired) -> bool
+    requires { entry.now.word % 128 ≡ 0x2f }
     ensures { result ≡ spec.has_operation entry.now }
 {
-    match decode(entry.word) {
-        Some(instr) => match instr {
-            Instr::Load { .. } | Instr::Store { .. } | Instr::Lr { .. } | Instr::Amo { .. } => true,
-            Instr::Sc { .. } => entry.sc_ok.unwrap_or(false),
-            Instr::Upper { .. }
-            | Instr::Jal { .. }
-            | Instr::Jalr { .. }
-            | Instr::Branch { .. }
-            | Instr::Immediate { .. }
-            | Instr::Shift { .. }
-            | Instr::Register { .. }
-            | Instr::Fence(_)
-            | Instr::FenceTso
-            | Instr::System(_) => false,
-        },
-        None => false,
-    }
+    let funct3 = entry.word / 0x1000 % 8;
+    let rs2 = entry.word / 0x10_0000 % 32;
+    let funct5 = entry.word / 0x800_0000 % 32;
+    funct3 == 2 && accesses(funct5, rs2, entry.sc_ok)
 }
 
-// Whether a word has the opcode of loads, of stores or of atomics. Most have another, and needn't be decoded.
-fn has_access_opcode(word: u32) -> bool
-    ensures { result ≡ false → (answer : Option Bool) → option_map_or (spec.accesses_memory answer) (decoded word) false ≡ false }
+// Whether an atomic of this funct5 and rs2 is an LR, an AMO, or an SC that succeeded.
+fn accesses(funct5: u32, rs2: u32, sc_ok: Option<bool>) -> bool
+    ensures { result
+        ≡ (if funct5 == 2 && rs2 == 0 then true else (if funct5 == 3 then spec.succeeded sc_ok else is_some (amo_of funct5))) }
 {
-    matches!(word % 0x80, 0x03 | 0x23 | 0x2f)
+    match funct5 {
+        2 => rs2 == 0,
+        3 => sc_ok.unwrap_or(false),
+        0 | 1 | 4 | 8 | 12 | 16 | 20 | 24 | 28 => true,
+        _ => false,
+    }
 }
 
 // The operation of an instruction at this place of its hart's list.

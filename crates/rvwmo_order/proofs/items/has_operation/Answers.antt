@@ -1,5 +1,6 @@
-use Rattle.std.proofs.Common.{sym}
+use Rattle.std.proofs.Common.{arith, sym}
+use Rattle.rvwmo_order.proofs.Opcodes.{private_opcode}
 use Rattle.rvwmo_order.proofs.items.has_operation.Goals as goal
 
-pub returns-then-not-has_access_opcode : goal.returns-then-not-has_access_opcode
-returns-then-not-has_access_opcode c = sym (c.has_access_opcode.ensures c.if-not-has_access_opcode.true c.args.entry.now.sc_ok)
+pub returns-in_default : goal.returns-in_default
+returns-in_default c = sym (private_opcode c.args.entry.now.sc_ok c.args.entry.now.word (λ is. first_of (omega arith, grind arith)) (λ is. first_of (omega arith, grind arith)) (λ is. first_of (omega arith, grind arith)))
