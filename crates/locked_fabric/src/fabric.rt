@@ -212,6 +212,8 @@ impl<L: Ledger> Fabric<L> {
         ensures moves { AreMoves (reset_of self.now) self.now.journal }
         ensures book { self.now.book ≡ length self.now.journal }
         ensures changes { self.now.machine.views.changes ≡ self.now.book }
+        ensures headline { KeepsHeadline self.now.machine }
+        ensures log { IsLawfulLog self.now.machine.trace.log }
     {
         &self.journal
     }
