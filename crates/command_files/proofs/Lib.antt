@@ -1,3 +1,4 @@
+pub mod Ended
 pub mod Left
 pub mod Limits
 pub mod Replays

@@ -1,4 +1,5 @@
 pub mod Composition
+pub mod Ends
 pub mod Faults
 pub mod Files
 pub mod Held
