@@ -21,9 +21,9 @@ use Rattle.schedules.specs.Schedules.{EachMoves, HasResults, LeadsThere, Replays
 -- ---- ends
 
 -- no hart runs any more
-abbrev pub have_ended : List Result → Bool
-have_ended [] = true
-have_ended (r ∷ rs) = not (is_running r.status) && have_ended rs
+abbrev pub all_ended : List Result → Bool
+all_ended [] = true
+all_ended (r ∷ rs) = not (is_running r.status) && all_ended rs
 
 abbrev pub LeadsToEnd : Initial → Config → List Result → Script → Type 0
 LeadsToEnd image config outcome (Events events) = LeadsThere image config (HasResults outcome) events.items
@@ -31,7 +31,7 @@ LeadsToEnd image config outcome _ = ⊥
 
 -- it is an end, and its script leads there
 abbrev pub IsRealEnd : Initial → Config → Found → Type 0
-IsRealEnd image config found = (have_ended (outcome_of found) ≡ true) × LeadsToEnd image config (outcome_of found) found.script
+IsRealEnd image config found = (all_ended (outcome_of found) ≡ true) × LeadsToEnd image config (outcome_of found) found.script
 
 -- ---- how often
 
@@ -54,7 +54,7 @@ abbrev pub most_events : ℕ
 most_events = 1000000
 
 -- none of the events is refused from reset on, each changes the machine, and there are no more than a run tries
-pub record IsRun (image : Initial) (config : Config) (events : List Event) : Type 0 where
+pub record IsSampledRun (image : Initial) (config : Config) (events : List Event) : Type 0 where
   pub replays : Replays image config events
   pub moves : EachMoves image config events
   pub within : length events ≤ most_events
@@ -66,13 +66,13 @@ IsShort _ = ⊥
 
 -- what those of the lists of events lead to that end all harts
 abbrev pub ends_led : Initial → Config → List (List Event) → List (List Result)
-ends_led image config schedules = filter have_ended (map (λ events. results (led image config events)) schedules)
+ends_led image config schedules = filter all_ended (map (λ events. results (led image config events)) schedules)
 
 -- so many runs were played from reset: so many came to each end, and so many to none
 pub record AreCounted (image : Initial) (config : Config) (counted : List (Found × ℕ)) (to_none runs : ℕ) : Type 0 where
   pub schedules : List (List Event)
   pub count : length schedules ≡ runs
-  pub each : AllByRecursion (IsRun image config) schedules
+  pub each : AllByRecursion (IsSampledRun image config) schedules
   pub times : (found : Found) → times_of found counted ≡ count_by (is_outcome_of found) (ends_led image config schedules)
   pub others : to_none + length (ends_led image config schedules) ≡ runs
 

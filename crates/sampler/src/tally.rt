@@ -3,7 +3,7 @@
 ghost use Rattle.std.specs.Prelude.{◌≡◌, ◌+◌, ◌^◌, ◌<◌, ◌≤◌, [], IfOk, OnErr, OnOk, length};
 ghost use Rattle.explorer.specs.Ends.{outcome_of};
 ghost use Rattle.flat_model.specs.Shown.{results, told};
-ghost use Rattle.sampler.specs.Sampled.{IsRealEnd, IsSampled, IsShort, IsTally, have_ended, most_events};
+ghost use Rattle.sampler.specs.Sampled.{IsRealEnd, IsSampled, IsShort, IsTally, all_ended, most_events};
 ghost use Rattle.schedules.specs.Schedules.{EachMoves, Replays, led};
 
 use crate::sampled::Sampled;
@@ -61,7 +61,7 @@ impl Tally {
             machine: _,
             results,
         } = schedule;
-        if !have_ended(&results) {
+        if !all_ended(&results) {
             self.unended += 1;
             self.runs += 1;
             return Ok(());
@@ -119,8 +119,8 @@ impl Tally {
 }
 
 /// Whether no hart runs any more.
-fn have_ended(harts: &[HartResult]) -> bool
-    ensures { result ≡ have_ended (told harts.now) }
+fn all_ended(harts: &[HartResult]) -> bool
+    ensures { result ≡ all_ended (told harts.now) }
 {
     let mut rest = harts;
     while let [first, tail @ ..] = rest {

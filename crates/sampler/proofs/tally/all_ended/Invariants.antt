@@ -1,10 +1,10 @@
 use Rattle.std.proofs.Common.{◌≡◌, length}
 use Rattle.flat_model.specs.Shown.{told}
-use Rattle.sampler.specs.Sampled.{have_ended}
-use Rattle.sampler.proofs.tally.have_ended.Given as goal
+use Rattle.sampler.specs.Sampled.{all_ended}
+use Rattle.sampler.proofs.tally.all_ended.Given as goal
 
 abbrev pub invariant-loop-rest : goal.invariant-loop-rest
-invariant-loop-rest l = have_ended (told l.rest) ≡ have_ended (told l.harts)
+invariant-loop-rest l = all_ended (told l.rest) ≡ all_ended (told l.harts)
 
 abbrev pub decreases-loop-rest : goal.decreases-loop-rest
 decreases-loop-rest l = length l.rest
