@@ -4,7 +4,7 @@ use Rattle.std.specs.Io.KnownBytes.{Appends}
 use Rattle.architecture_command.specs.Keeping.{AreWaysKept, IsWayFile}
 use Rattle.architecture_command.specs.Searching.{IsFoundUnder, IsOfFile, IsSearched, SearchHas}
 use Rattle.architecture_outcomes.specs.declared.architecture.Architecture.{Architecture}
-use Rattle.architecture_outcomes.specs.Outcomes.{outcome_of, outcomes_of}
+use Rattle.architecture_outcomes.specs.Outcomes.{end_of, ends_of}
 use Rattle.architecture_outcomes.specs.Text.{architecture_text}
 use Rattle.command_files.specs.Faults.{Name}
 use Rattle.command_files.specs.Held.{Held}
@@ -40,7 +40,7 @@ module _ (held : Held) (wanted : Explore) (words : List Name) (window : ℕ) (co
 
   pub whole : (old new : Option (List ℕ)) (left : Held) (judgement : Judgement) (text : Option (List ℕ)) → Appends old new (architecture_text names found) → IfSome wanted.scripts (λ folder. AreWaysKept left wanted.machine folder.now 1 found.outcomes.items)
       → SparesOthers (IsInNamed wanted.scripts (IsWayFile 1 found.outcomes.items)) held left
-      → IsAllowFile held wanted.allow text → judgement ≡ judgement_of_lines text (map (λ o. end_text names (outcome_of o)) found.outcomes.items)
+      → IsAllowFile held wanted.allow text → judgement ≡ judgement_of_lines text (map (λ o. end_text names (end_of o)) found.outcomes.items)
       → (judgement ≡ Allowed → (found.machine ≢ extent.OutOfMemory) × (found.reach ≢ reach.OutOfMemory)) → IsSearched held left wanted words window judgement old new
   whole old new left judgement text printed kept spares read by memory = record {
     architecture = found;
@@ -48,6 +48,6 @@ module _ (held : Held) (wanted : Explore) (words : List Name) (window : ℕ) (co
     printed = subst (λ (n : List WordName). Appends old new (architecture_text n found)) named printed;
     kept = kept;
     spared = spares;
-    judged = judged_of held wanted.allow text names (names_of words) (outcomes_of found.outcomes.items) judgement named read (by ∙ judged_words outcome_of names text found.outcomes.items);
+    judged = judged_of held wanted.allow text names (names_of words) (ends_of found.outcomes.items) judgement named read (by ∙ judged_words end_of names text found.outcomes.items);
     whole = memory;
   }

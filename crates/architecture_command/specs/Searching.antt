@@ -5,7 +5,7 @@ use Rattle.std.specs.List.Sorted.{IsStrictlySortedBy}
 use Rattle.std.specs.Ordering.{on}
 use Rattle.architecture_command.specs.Keeping.{AreWaysKept, IsWayFile}
 use Rattle.architecture_outcomes.specs.declared.architecture.Architecture.{Architecture}
-use Rattle.architecture_outcomes.specs.Outcomes.{IsDecided, IsWitnessed, TellsEachEnd, outcome_of, outcomes_of}
+use Rattle.architecture_outcomes.specs.Outcomes.{IsDecided, IsWitnessed, TellsEachEnd, end_of, ends_of}
 use Rattle.architecture_outcomes.specs.Text.{architecture_text}
 use Rattle.architecture_outcomes.specs.Visited.{AreMachineStates, TellsEnd}
 use Rattle.command_files.specs.Faults.{Name}
@@ -28,12 +28,12 @@ use Rattle.state_search.specs.declared.findings.Extent.TheVariants as extent
 use Rattle.window_machine.specs.declared.allowed.Reach.TheVariants as reach
 use Rattle.word_explorer.specs.Orders.{ending_cmp}
 
--- what is said to show an outcome does; where the machine's own search is complete, each of its outcomes is told as one of the machine, and each other as the model's alone; the outcomes stand in their order, each once; where that search met its limit it found as many states, and each end among them is told as the machine's; no window is wider than 64
+-- what is said to show an outcome does; where the machine's own search is complete, each of its outcomes is told as one of the machine, and each other as the model's alone; the outcomes stand in their order, each once; where that search met its limit it found as many states; unless memory ended it, each end among its states is told as the machine's; no window is wider than 64
 pub record IsFoundUnder (image : Initial) (config : Config) (addresses : List ℕ) (window limit : ℕ) (found : Architecture) : Type 0 where
   pub shown : All (IsWitnessed image config addresses) found.outcomes.items
   pub machine : found.machine ≡ Complete → TellsEachEnd image config addresses found.outcomes.items
   pub alone : found.machine ≡ Complete → All (λ o. IsDecided o.way) found.outcomes.items
-  pub order : IsStrictlySortedBy (on outcome_of ending_cmp) found.outcomes.items
+  pub order : IsStrictlySortedBy (on end_of ending_cmp) found.outcomes.items
   pub full : found.machine ≡ LimitMet → found.machine_states ≡ limit
   pub model : found.model ≡ config.model
   pub visited : (states : List Flat) × AreMachineStates image config addresses found.machine found.machine_states (TellsEnd found.outcomes.items) states
@@ -53,7 +53,7 @@ pub record IsSearched (held left : Held) (wanted : Explore) (words : List Name) 
   pub printed : Appends old new (architecture_text (names_of words) architecture)
   pub kept : IfSome wanted.scripts (λ folder. AreWaysKept left wanted.machine folder.now 1 architecture.outcomes.items)
   pub spared : SparesOthers (IsInNamed wanted.scripts (IsWayFile 1 architecture.outcomes.items)) held left
-  pub judged : AreWordsJudged held wanted.allow (names_of words) (outcomes_of architecture.outcomes.items) judgement
+  pub judged : AreWordsJudged held wanted.allow (names_of words) (ends_of architecture.outcomes.items) judgement
   pub whole : judgement ≡ Allowed → (architecture.machine ≢ extent.OutOfMemory) × (architecture.reach ≢ reach.OutOfMemory)
 
 -- P holds of the text of what was found

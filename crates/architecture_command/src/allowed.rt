@@ -2,7 +2,7 @@
 
 ghost use Rattle.std.specs.Prelude.{◌≢◌, All};
 ghost use Rattle.architecture_command.specs.Keeping.{AreWaysKept, HasText, IsWayFile};
-ghost use Rattle.architecture_outcomes.specs.Outcomes.{outcome_of};
+ghost use Rattle.architecture_outcomes.specs.Outcomes.{end_of};
 ghost use Rattle.architecture_outcomes.specs.Text.{architecture_text};
 ghost use Rattle.exploration_text.specs.Words.{end_text};
 ghost use Rattle.state_search.specs.declared.findings.Extent.TheVariants as extent;
@@ -31,7 +31,7 @@ impl Findings for Searched<'_> {
 
     ghost outcomes = { λ s. s.architecture.outcomes.items };
 
-    ghost line = { λ s o. end_text s.names.items (outcome_of o) };
+    ghost line = { λ s o. end_text s.names.items (end_of o) };
 
     ghost IsWhole = { λ s. (s.architecture.machine ≢ extent.OutOfMemory) × (s.architecture.reach ≢ reach.OutOfMemory) };
 

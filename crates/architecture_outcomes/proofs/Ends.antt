@@ -8,7 +8,7 @@ use Rattle.std.specs.Cmp.Lexicographic.{slice_cmp}
 use Rattle.std.proofs.lemmas.List.Elements.{All-from_recursion, All-map, recursion_from_All}
 use Rattle.architecture_outcomes.proofs.Together.{Contains-map}
 use Rattle.architecture_outcomes.specs.declared.outcome.Outcome.{Outcome}
-use Rattle.architecture_outcomes.specs.Outcomes.{HasEachEnd, IsMachine, IsOf, IsWitnessed, IsWitnessedBy, of_found, outcome_of, outcomes_of}
+use Rattle.architecture_outcomes.specs.Outcomes.{HasEachMachineEnd, IsMachine, IsOf, IsWitnessed, IsWitnessedBy, end_of, ends_of, of_found}
 use Rattle.architecture_outcomes.specs.Visited.{wordless}
 use Rattle.elf_loader.specs.Image.{Initial}
 use Rattle.explorer.specs.declared.found.Found.{Found}
@@ -35,13 +35,13 @@ one_more [] (p ∷ os) f o are is = absurd are
 one_more (g ∷ fs) [] f o are is = absurd are
 one_more (g ∷ fs) (p ∷ os) f o are is = (are.0, one_more fs os f o are.1 is)
 
-ending_is : (f : Found) (o : Outcome) → IsOf f o → outcome_of o ≡ wordless (results_of f)
+ending_is : (f : Found) (o : Outcome) → IsOf f o → end_of o ≡ wordless (results_of f)
 ending_is f o is =
     let same : told o.harts.items ≡ results_of f = ap (λ (harts : Vec HartResult). told harts.items) is.harts in
     let none = is.words in
     λ i. record { results = same i; words = none i }
 
-pub endings_are : (fs : List Found) (os : List Outcome) → AllZip IsOf fs os → outcomes_of os ≡ map wordless (all_results_of fs)
+pub endings_are : (fs : List Found) (os : List Outcome) → AllZip IsOf fs os → ends_of os ≡ map wordless (all_results_of fs)
 endings_are [] [] are = refl
 endings_are [] (o ∷ os) are = absurd are
 endings_are (f ∷ fs) [] are = absurd are
@@ -70,7 +70,7 @@ module _ (image : Initial) (config : Config) where
   pub all_witnessed : (fs : List Found) (os : List Outcome) → AllZip IsOf fs os → All (IsRealEnd image config) fs → All (IsWitnessed image config []) os
   all_witnessed fs os are real = All-from_recursion (IsWitnessed image config []) os (witnessed_each fs os are (recursion_from_All (IsRealEnd image config) fs real))
 
-  pub each_end : (fs : List Found) (os : List Outcome) → AllZip IsOf fs os → HasEachResult image config (all_results_of fs) → HasEachEnd image config [] (outcomes_of os)
+  pub each_end : (fs : List Found) (os : List Outcome) → AllZip IsOf fs os → HasEachResult image config (all_results_of fs) → HasEachMachineEnd image config [] (ends_of os)
   each_end fs os are each events ended =
       let there = results (led image config events) in
       subst (λ (es : List Ending). Contains es (wordless there)) (sym (endings_are fs os are)) (Contains-map wordless (all_results_of fs) there (each events ended))
@@ -84,20 +84,20 @@ machines (f ∷ fs) (o ∷ os) are = (subst IsMachine (sym are.0.way) tt, machin
 pub all_machine : (fs : List Found) (os : List Outcome) → AllZip IsOf fs os → All (λ o. IsMachine o.way) os
 all_machine fs os are = All-from_recursion (λ o. IsMachine o.way) os (machines fs os are)
 
-below : (f g : Found) (o p : Outcome) → IsOf f o → IsOf g p → outcome_cmp (results_of f) (results_of g) ≡ Less → ending_cmp (outcome_of o) (outcome_of p) ≡ Less
+below : (f g : Found) (o p : Outcome) → IsOf f o → IsOf g p → outcome_cmp (results_of f) (results_of g) ≡ Less → ending_cmp (end_of o) (end_of p) ≡ Less
 below f g o p first second less =
     let one = ending_is f o first in
     let other = ending_is g p second in
     (λ i. ending_cmp (one i) (other i)) ∙ ap (λ r. ordering_then r (slice_cmp nat_cmp [] [])) less
 
 below_each : (f : Found) (gs : List Found) (o : Outcome) (ps : List Outcome) → IsOf f o → AllZip IsOf gs ps → AllByRecursion (λ g. outcome_cmp (results_of f) (results_of g) ≡ Less) gs
-    → AllByRecursion (λ p. ending_cmp (outcome_of o) (outcome_of p) ≡ Less) ps
+    → AllByRecursion (λ p. ending_cmp (end_of o) (end_of p) ≡ Less) ps
 below_each f [] o [] is are up = tt
 below_each f [] o (p ∷ ps) is are up = absurd are
 below_each f (g ∷ gs) o [] is are up = absurd are
 below_each f (g ∷ gs) o (p ∷ ps) is are up = (below f g o p is are.0 up.0, below_each f gs o ps is are.1 up.1)
 
-pub strict : (fs : List Found) (os : List Outcome) → AllZip IsOf fs os → IsStrictlySortedBy (on results_of outcome_cmp) fs → IsStrictlySortedBy (on outcome_of ending_cmp) os
+pub strict : (fs : List Found) (os : List Outcome) → AllZip IsOf fs os → IsStrictlySortedBy (on results_of outcome_cmp) fs → IsStrictlySortedBy (on end_of ending_cmp) os
 unfolding IsStrictlySortedBy
 strict [] [] are up = tt
 strict [] (o ∷ os) are up = absurd are
@@ -111,22 +111,22 @@ module _ (image : Initial) (config : Config) where
   all_shown [] fs some real = absurd (true≢false some)
   all_shown (address ∷ rest) fs some real = All-map (IsWitnessed image config (address ∷ rest)) of_found fs real
 
-  pub same_endings : (fs : List WordFound) → endings_of fs ≡ outcomes_of (map of_found fs)
+  pub same_endings : (fs : List WordFound) → endings_of fs ≡ ends_of (map of_found fs)
   same_endings [] = refl
   same_endings (f ∷ fs) = ap (λ (es : List Ending). ending_of f ∷ es) (same_endings fs)
 
-  pub each_ending : (addresses : List ℕ) (fs : List WordFound) → (length addresses == 0) ≡ false → HasEachEnding image config addresses (endings_of fs) → HasEachEnd image config addresses (outcomes_of (map of_found fs))
+  pub each_ending : (addresses : List ℕ) (fs : List WordFound) → (length addresses == 0) ≡ false → HasEachEnding image config addresses (endings_of fs) → HasEachMachineEnd image config addresses (ends_of (map of_found fs))
   each_ending [] fs some each = absurd (true≢false some)
-  each_ending (address ∷ rest) fs some each = subst (HasEachEnd image config (address ∷ rest)) (same_endings fs) each
+  each_ending (address ∷ rest) fs some each = subst (HasEachMachineEnd image config (address ∷ rest)) (same_endings fs) each
 
 pub all_found : (fs : List WordFound) → All (λ o. IsMachine o.way) (map of_found fs)
 all_found fs = All-map (λ o. IsMachine o.way) of_found fs (λ k d l. tt)
 
-ranks_each : (f : WordFound) (gs : List WordFound) → AllByRecursion (λ g. ending_cmp (ending_of f) (ending_of g) ≡ Less) gs → AllByRecursion (λ o. ending_cmp (ending_of f) (outcome_of o) ≡ Less) (map of_found gs)
+ranks_each : (f : WordFound) (gs : List WordFound) → AllByRecursion (λ g. ending_cmp (ending_of f) (ending_of g) ≡ Less) gs → AllByRecursion (λ o. ending_cmp (ending_of f) (end_of o) ≡ Less) (map of_found gs)
 ranks_each f [] up = tt
 ranks_each f (g ∷ gs) up = (up.0, ranks_each f gs up.1)
 
-pub strict_words : (fs : List WordFound) → IsStrictlySortedBy (on ending_of ending_cmp) fs → IsStrictlySortedBy (on outcome_of ending_cmp) (map of_found fs)
+pub strict_words : (fs : List WordFound) → IsStrictlySortedBy (on ending_of ending_cmp) fs → IsStrictlySortedBy (on end_of ending_cmp) (map of_found fs)
 unfolding IsStrictlySortedBy
 strict_words [] up = tt
 strict_words (f ∷ fs) up = (ranks_each f fs up.0, strict_words fs up.1)

@@ -5,7 +5,7 @@ use Rattle.std.specs.List.{AllZip}
 use Rattle.architecture_outcomes.proofs.Ends.{endings_are, same_endings}
 use Rattle.architecture_outcomes.proofs.Together.{Contains-map}
 use Rattle.architecture_outcomes.specs.declared.outcome.Outcome.{Outcome}
-use Rattle.architecture_outcomes.specs.Outcomes.{IsOf, of_found, outcomes_of}
+use Rattle.architecture_outcomes.specs.Outcomes.{IsOf, ends_of, of_found}
 use Rattle.architecture_outcomes.specs.Visited.{AreMachineStates, wordless}
 use Rattle.elf_loader.specs.Image.{Initial}
 use Rattle.explorer.specs.declared.exploration.Exploration.{Exploration}
@@ -26,28 +26,28 @@ mapped f (Some x) y is = (x, refl, cc)
 
 module _ (image : Initial) (config : Config) where
   pub wordless_states : (e : Exploration) (os : List Outcome) (states : List Flat) → AllZip IsOf e.outcomes.items os → AreVisited image config e states
-      → AreMachineStates image config [] e.extent e.states (Contains (outcomes_of os)) states
+      → AreMachineStates image config [] e.extent e.states (Contains (ends_of os)) states
   wordless_states e os states are visited = record {
     as_many = visited.count;
     once = visited.once;
     reached = visited.reached;
     missed = visited.missed;
-    told = λ limit i s end at shows.
+    told = λ enough i s end at shows.
         let it = mapped wordless (shown_result s) end shows in
-        subst (Contains (outcomes_of os)) it.2
+        subst (Contains (ends_of os)) it.2
         (subst (λ (es : List Ending). Contains es (wordless it.0)) (sym (endings_are e.outcomes.items os are))
-        (Contains-map wordless (all_results_of e.outcomes.items) it.0 (visited.told limit i s it.0 at it.1)));
+        (Contains-map wordless (all_results_of e.outcomes.items) it.0 (visited.told enough i s it.0 at it.1)));
   }
 
   pub word_states : (addresses : List ℕ) (e : WordExploration) (states : List Flat) → (length addresses == 0) ≡ false → AreWordsVisited image config addresses e states
-      → AreMachineStates image config addresses e.extent e.states (Contains (outcomes_of (map of_found e.outcomes.items))) states
+      → AreMachineStates image config addresses e.extent e.states (Contains (ends_of (map of_found e.outcomes.items))) states
   word_states [] e states some visited = absurd (true≢false some)
   word_states (address ∷ rest) e states some visited = record {
     as_many = visited.count;
     once = visited.once;
     reached = visited.reached;
     missed = visited.missed;
-    told = λ limit i s end at shows. subst (λ (es : List Ending). Contains es end) (same_endings image config e.outcomes.items) (visited.told limit i s end at shows);
+    told = λ enough i s end at shows. subst (λ (es : List Ending). Contains es end) (same_endings image config e.outcomes.items) (visited.told enough i s end at shows);
   }
 
   -- what holds of an end that is told may be another thing that follows
@@ -58,5 +58,5 @@ module _ (image : Initial) (config : Config) where
     once = are.once;
     reached = are.reached;
     missed = are.missed;
-    told = λ limit i s end at shows. more end (are.told limit i s end at shows);
+    told = λ enough i s end at shows. more end (are.told enough i s end at shows);
   }

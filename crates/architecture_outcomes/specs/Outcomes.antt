@@ -23,11 +23,11 @@ use Rattle.word_explorer.specs.declared.found.WordFound.{WordFound}
 use Rattle.word_explorer.specs.Ends.{IsRealIn, ending_with}
 use Rattle.word_explorer.specs.Orders.{ending_cmp}
 
-abbrev pub outcome_of : Outcome → Ending
-outcome_of o = ending_with o.harts.items o.words.items
+abbrev pub end_of : Outcome → Ending
+end_of o = ending_with o.harts.items o.words.items
 
-abbrev pub outcomes_of : List Outcome → List Ending
-outcomes_of = map outcome_of
+abbrev pub ends_of : List Outcome → List Ending
+ends_of = map end_of
 
 -- ---- the machine's ends
 
@@ -37,8 +37,8 @@ HasEnded [] s = none_runs s.views.nodes ≡ true
 HasEnded (address ∷ rest) s = HasDrained s
 
 -- whatever events come in whatever order, where they lead to an end, its results and words are among these
-abbrev pub HasEachEnd : Initial → Config → (addresses : List ℕ) → List Ending → Type 0
-HasEachEnd image config addresses endings =
+abbrev pub HasEachMachineEnd : Initial → Config → (addresses : List ℕ) → List Ending → Type 0
+HasEachMachineEnd image config addresses endings =
     (events : List Event) → HasEnded addresses (led image config events) → Contains endings (machine_ending addresses (led image config events))
 
 -- no list of events leads to an end with these results and words
@@ -60,7 +60,7 @@ pub record IsTraced (image : Initial) (config : Config) (addresses : List ℕ) (
 -- where it is the model's alone, the machine never ends so
 abbrev pub IsWitnessedBy : Initial → Config → (addresses : List ℕ) → Outcome → Way → Type 0
 IsWitnessedBy image config addresses o (Machine script) = IsScripted image config addresses o script
-IsWitnessedBy image config addresses o (ModelAlone trace) = IsTraced image config addresses o trace × NeverEnds image config addresses (outcome_of o)
+IsWitnessedBy image config addresses o (ModelAlone trace) = IsTraced image config addresses o trace × NeverEnds image config addresses (end_of o)
 IsWitnessedBy image config addresses o (Model trace) = IsTraced image config addresses o trace
 
 abbrev pub IsWitnessed : Initial → Config → (addresses : List ℕ) → Outcome → Type 0
@@ -96,7 +96,7 @@ of_witness is_complete words w = record { harts = w.harts; words = words; way = 
 
 -- it is this outcome
 abbrev pub tells : Ending → Outcome → Bool
-tells outcome o = is_eq (ending_cmp (outcome_of o) outcome)
+tells outcome o = is_eq (ending_cmp (end_of o) outcome)
 
 -- no outcome is told twice by what was found of the machine and these
 abbrev pub TellOnce : (found outcomes : List Outcome) → Type 0
@@ -109,7 +109,7 @@ end_by outcome (ModelAlone trace) = None
 end_by outcome (Model trace) = None
 
 abbrev pub machine_end : Outcome → Option Ending
-machine_end o = end_by (outcome_of o) o.way
+machine_end o = end_by (end_of o) o.way
 
 -- whatever events come in whatever order, where they lead to an end, its results and words are told as the machine's
 abbrev pub TellsEachEnd : Initial → Config → (addresses : List ℕ) → List Outcome → Type 0

@@ -4,7 +4,7 @@ use Rattle.architecture_outcomes.specs.declared.architecture.Architecture.{Archi
 use Rattle.architecture_outcomes.specs.declared.outcome.Outcome.{Outcome}
 use Rattle.architecture_outcomes.specs.declared.outcome.Way.{Way}
 use Rattle.architecture_outcomes.specs.declared.outcome.Way.TheVariants as way
-use Rattle.architecture_outcomes.specs.Outcomes.{outcome_of}
+use Rattle.architecture_outcomes.specs.Outcomes.{end_of}
 use Rattle.exploration_text.specs.declared.wording.WordName.{WordName}
 use Rattle.exploration_text.specs.Words.{end_text}
 use Rattle.explorer.specs.declared.found.Script.TheVariants.{Events, Limit, NoMemory, Unrealised}
@@ -32,7 +32,7 @@ way_text model (way.Model trace) = model_text model
 
 -- the harts, the words behind them, and who comes to it
 abbrev pub outcome_line : MemoryModel → List WordName → ℕ → Outcome → List ℕ
-outcome_line model names number o = decimal number ++ (end_text names (outcome_of o) ++ (codes "   " ++ (way_text model o.way ++ codes "\n")))
+outcome_line model names number o = decimal number ++ (end_text names (end_of o) ++ (codes "   " ++ (way_text model o.way ++ codes "\n")))
 
 -- counted from a number on
 abbrev pub outcome_lines : MemoryModel → List WordName → ℕ → List Outcome → List ℕ

@@ -1,5 +1,5 @@
 -- What is said of the machine's states that were found, and of what they show.
-use Rattle.std.specs.Prelude.{◌≡◌, ℕ, [], ◌∷◌, List, Option, Some, Contains, length, map, option_map, slice_get}
+use Rattle.std.specs.Prelude.{◌≡◌, ◌≢◌, ℕ, [], ◌∷◌, List, Option, Some, Contains, length, map, option_map, slice_get}
 use Rattle.architecture_outcomes.specs.declared.outcome.Outcome.{Outcome}
 use Rattle.architecture_outcomes.specs.Outcomes.{machine_end}
 use Rattle.elf_loader.specs.Image.{Initial}
@@ -13,7 +13,7 @@ use Rattle.flat_model.specs.Flat.{Flat}
 use Rattle.flat_model.specs.Shown.{Result}
 use Rattle.machine_types.specs.declared.config.Config.{Config}
 use Rattle.state_search.specs.declared.findings.Extent.{Extent}
-use Rattle.state_search.specs.declared.findings.Extent.TheVariants.{LimitMet}
+use Rattle.state_search.specs.declared.findings.Extent.TheVariants.{LimitMet, OutOfMemory}
 use Rattle.state_search.specs.Findings.{AreReached, IsIncomplete}
 
 -- results that show no words
@@ -39,10 +39,10 @@ AreSome image config (address ∷ rest) states = IsIncomplete LeadsOnward (onwar
 abbrev pub TellsEnd : List Outcome → Ending → Type 0
 TellsEnd outcomes end = Contains (map machine_end outcomes) (Some end)
 
--- the machine's states are as many as is said, each once and found; at the limit there is another, and of each end among them this holds
+-- the machine's states are as many as is said, each once and found; at the limit there is another; and unless memory ended this holds of each end among them
 pub record AreMachineStates (image : Initial) (config : Config) (addresses : List ℕ) (extent : Extent) (count : ℕ) (IsTold : Ending → Type 0) (states : List Flat) : Type 0 where
   pub as_many : length states ≡ count
   pub once : AreDistinct states
   pub reached : AreFound image config addresses states
   pub missed : extent ≡ LimitMet → AreSome image config addresses states
-  pub told : extent ≡ LimitMet → (i : ℕ) (s : Flat) (end : Ending) → slice_get states i ≡ Some s → shown_at addresses s ≡ Some end → IsTold end
+  pub told : extent ≢ OutOfMemory → (i : ℕ) (s : Flat) (end : Ending) → slice_get states i ≡ Some s → shown_at addresses s ≡ Some end → IsTold end

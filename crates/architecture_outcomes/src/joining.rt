@@ -2,7 +2,7 @@
 ghost use Rattle.std.specs.Prelude.{◌≡◌, ◌<◌, All, IfOk, IsTrue, List, min};
 ghost use Rattle.std.specs.List.Sorted.{IsStrictlySortedBy};
 ghost use Rattle.std.specs.Ordering.{on};
-ghost use Rattle.architecture_outcomes.specs.Outcomes.{IsDecided, IsWitnessed, TellsEachEnd, outcome_of};
+ghost use Rattle.architecture_outcomes.specs.Outcomes.{IsDecided, IsWitnessed, TellsEachEnd, end_of};
 ghost use Rattle.architecture_outcomes.specs.Visited.{AreMachineStates, TellsEnd};
 ghost use Rattle.flat_model.specs.Flat.{Flat};
 ghost use Rattle.machine_types.specs.Config.{is_within_limits};
@@ -66,7 +66,7 @@ pub fn explore_architecture<W: Watch>(
     // What is said to show an outcome does.
     ensures shown { IfOk result (λ a. All (IsWitnessed image.now config addresses.now) a.outcomes.items) }
 
-    // It tells how many states of the machine it found; at the limit what they show is told as the machine's.
+    // It tells how many states of the machine it found; unless memory ended, what they show is told as the machine's.
     ensures visited { IfOk result (λ a. (states : List Flat) × AreMachineStates image.now config addresses.now a.machine a.machine_states (TellsEnd a.outcomes.items) states) }
 
     // Where the machine's own search is complete, each of its outcomes is told as one of the machine.
@@ -76,7 +76,7 @@ pub fn explore_architecture<W: Watch>(
     ensures alone { IfOk result (λ a. a.machine ≡ Extent.Complete → All (λ o. IsDecided o.way) a.outcomes.items) }
 
     // No outcome is told twice.
-    ensures order { IfOk result (λ a. IsStrictlySortedBy (on outcome_of ending_cmp) a.outcomes.items) }
+    ensures order { IfOk result (λ a. IsStrictlySortedBy (on end_of ending_cmp) a.outcomes.items) }
 
     ensures full { IfOk result (λ a. a.machine ≡ Extent.LimitMet → a.machine_states ≡ exploring.limit) }
     ensures model { IfOk result (λ a. a.model ≡ config.model) }

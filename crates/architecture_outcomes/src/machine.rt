@@ -3,7 +3,7 @@ ghost use Rattle.std.specs.Prelude.{◌≡◌, ◌<◌, [], All, Contains, IfOk,
 ghost use Rattle.std.specs.List.{AllZip};
 ghost use Rattle.std.specs.List.Sorted.{IsStrictlySortedBy};
 ghost use Rattle.std.specs.Ordering.{on};
-ghost use Rattle.architecture_outcomes.specs.Outcomes.{HasEachEnd, IsMachine, IsOf, IsWitnessed, of_found, outcome_of, outcomes_of};
+ghost use Rattle.architecture_outcomes.specs.Outcomes.{HasEachMachineEnd, IsMachine, IsOf, IsWitnessed, end_of, ends_of, of_found};
 ghost use Rattle.architecture_outcomes.specs.Visited.{AreMachineStates};
 ghost use Rattle.flat_model.specs.Flat.{Flat};
 ghost use Rattle.machine_types.specs.Config.{is_within_limits};
@@ -40,10 +40,10 @@ pub(crate) fn search_machine<W: Watch>(
     requires words { CanShowEach image.now addresses.now }
     ensures shown { IfOk result (λ m. All (IsWitnessed image.now config addresses.now) m.outcomes.items) }
     ensures machine { IfOk result (λ m. All (λ o. IsMachine o.way) m.outcomes.items) }
-    ensures complete { IfOk result (λ m. m.extent ≡ Extent.Complete → HasEachEnd image.now config addresses.now (outcomes_of m.outcomes.items)) }
-    ensures once { IfOk result (λ m. IsStrictlySortedBy (on outcome_of ending_cmp) m.outcomes.items) }
+    ensures complete { IfOk result (λ m. m.extent ≡ Extent.Complete → HasEachMachineEnd image.now config addresses.now (ends_of m.outcomes.items)) }
+    ensures once { IfOk result (λ m. IsStrictlySortedBy (on end_of ending_cmp) m.outcomes.items) }
     ensures full { IfOk result (λ m. m.extent ≡ Extent.LimitMet → m.states ≡ exploring.limit) }
-    ensures visited { IfOk result (λ m. (states : List Flat) × AreMachineStates image.now config addresses.now m.extent m.states (Contains (outcomes_of m.outcomes.items)) states) }
+    ensures visited { IfOk result (λ m. (states : List Flat) × AreMachineStates image.now config addresses.now m.extent m.states (Contains (ends_of m.outcomes.items)) states) }
 {
     // Without words an end is sooner: stores may wait at it.
     if addresses.is_empty() {
@@ -74,10 +74,10 @@ fn search_results<W: Watch>(
     requires room { 0 < exploring.limit }
     ensures shown { IfOk result (λ m. All (IsWitnessed image.now config []) m.outcomes.items) }
     ensures machine { IfOk result (λ m. All (λ o. IsMachine o.way) m.outcomes.items) }
-    ensures complete { IfOk result (λ m. m.extent ≡ Extent.Complete → HasEachEnd image.now config [] (outcomes_of m.outcomes.items)) }
-    ensures once { IfOk result (λ m. IsStrictlySortedBy (on outcome_of ending_cmp) m.outcomes.items) }
+    ensures complete { IfOk result (λ m. m.extent ≡ Extent.Complete → HasEachMachineEnd image.now config [] (ends_of m.outcomes.items)) }
+    ensures once { IfOk result (λ m. IsStrictlySortedBy (on end_of ending_cmp) m.outcomes.items) }
     ensures full { IfOk result (λ m. m.extent ≡ Extent.LimitMet → m.states ≡ exploring.limit) }
-    ensures visited { IfOk result (λ m. (states : List Flat) × AreMachineStates image.now config [] m.extent m.states (Contains (outcomes_of m.outcomes.items)) states) }
+    ensures visited { IfOk result (λ m. (states : List Flat) × AreMachineStates image.now config [] m.extent m.states (Contains (ends_of m.outcomes.items)) states) }
 {
     let Exploration {
         outcomes,

@@ -8,12 +8,12 @@ impl Ord for Outcome {
     ghost use Rattle.std.proofs.Common.{refl};
     ghost use Rattle.std.specs.Cmp.{on_total};
     ghost use Rattle.std.specs.Ordering.{on};
-    ghost use Rattle.architecture_outcomes.specs.Outcomes.{outcome_of};
+    ghost use Rattle.architecture_outcomes.specs.Outcomes.{end_of};
     ghost use Rattle.word_explorer.specs.Orders.{ending_cmp, ending_total};
 
-    ghost cmp = { on outcome_of ending_cmp };
+    ghost cmp = { on end_of ending_cmp };
 
-    ghost total = { on_total outcome_of ending_total };
+    ghost total = { on_total end_of ending_total };
 
     ghost matches_partial_cmp = { λ x y. refl };
 
@@ -27,12 +27,12 @@ impl Ord for Outcome {
 impl PartialOrd for Outcome {
     ghost use Rattle.std.specs.Cmp.{on_total, partial_order_from_total};
     ghost use Rattle.std.specs.Ordering.{as_partial_cmp, on};
-    ghost use Rattle.architecture_outcomes.specs.Outcomes.{outcome_of};
+    ghost use Rattle.architecture_outcomes.specs.Outcomes.{end_of};
     ghost use Rattle.word_explorer.specs.Orders.{ending_cmp, ending_total};
 
-    ghost partial_cmp = { as_partial_cmp (on outcome_of ending_cmp) };
+    ghost partial_cmp = { as_partial_cmp (on end_of ending_cmp) };
 
-    ghost laws = { partial_order_from_total (on_total outcome_of ending_total) };
+    ghost laws = { partial_order_from_total (on_total end_of ending_total) };
 
     fn partial_cmp(&self, other: &Outcome) -> Option<Ordering> {
         Some(self.cmp(other))
@@ -42,13 +42,13 @@ impl PartialOrd for Outcome {
 impl PartialEq for Outcome {
     ghost use Rattle.std.specs.Cmp.{on_total, partial_equiv_from_equiv};
     ghost use Rattle.std.specs.Ordering.{eq_by_cmp, on};
-    ghost use Rattle.architecture_outcomes.specs.Outcomes.{outcome_of};
+    ghost use Rattle.architecture_outcomes.specs.Outcomes.{end_of};
     ghost use Rattle.word_explorer.specs.Orders.{ending_cmp, ending_total};
     ghost use Rattle.std.proofs.lemmas.Cmp.{eq_by_cmp_equiv};
 
-    ghost eq = { eq_by_cmp (on outcome_of ending_cmp) };
+    ghost eq = { eq_by_cmp (on end_of ending_cmp) };
 
-    ghost laws = { partial_equiv_from_equiv (eq_by_cmp_equiv (on_total outcome_of ending_total)) };
+    ghost laws = { partial_equiv_from_equiv (eq_by_cmp_equiv (on_total end_of ending_total)) };
 
     fn eq(&self, other: &Outcome) -> bool {
         self.cmp(other).is_eq()
@@ -57,9 +57,9 @@ impl PartialEq for Outcome {
 
 impl Eq for Outcome {
     ghost use Rattle.std.specs.Cmp.{on_total};
-    ghost use Rattle.architecture_outcomes.specs.Outcomes.{outcome_of};
+    ghost use Rattle.architecture_outcomes.specs.Outcomes.{end_of};
     ghost use Rattle.word_explorer.specs.Orders.{ending_total};
     ghost use Rattle.std.proofs.lemmas.Cmp.{eq_by_cmp_equiv};
 
-    ghost laws = { eq_by_cmp_equiv (on_total outcome_of ending_total) };
+    ghost laws = { eq_by_cmp_equiv (on_total end_of ending_total) };
 }

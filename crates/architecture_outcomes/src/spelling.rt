@@ -1,6 +1,6 @@
 //! The lines.
 ghost use Rattle.std.specs.Prelude.{◌≡◌, ◌++◌, IfOk, OnOk, decimal, length};
-ghost use Rattle.architecture_outcomes.specs.Outcomes.{outcome_of};
+ghost use Rattle.architecture_outcomes.specs.Outcomes.{end_of};
 ghost use Rattle.architecture_outcomes.specs.Text as text;
 ghost use Rattle.exploration_text.specs.Words.{end_text};
 
@@ -28,7 +28,7 @@ fn spell_end(
     names: &[WordName<'_>],
     outcome: &Outcome,
 ) -> Result<(), AllocError>
-    ensures { OnOk result (into.new.items ≡ into.old.items ++ end_text names.now (outcome_of outcome.now)) }
+    ensures { OnOk result (into.new.items ≡ into.old.items ++ end_text names.now (end_of outcome.now)) }
 {
     let line = end_text(alloc, names, &outcome.harts, &outcome.words)?;
     into.extend_from_slice(&line)?;

@@ -2,7 +2,7 @@ use Rattle.std.proofs.Common.{◌≡◌, ◌∙◌, ℕ, Bool, Option, All, IfSo
 use Rattle.std.specs.Global.{Vec}
 use Rattle.std.specs.List.{list_any}
 use Rattle.std.proofs.lemmas.List.Elements.{All-nil, All-pop, All-push}
-use Rattle.architecture_outcomes.specs.Outcomes.{IsDecided, IsWitnessed, of_witness, outcome_of, tells}
+use Rattle.architecture_outcomes.specs.Outcomes.{IsDecided, IsWitnessed, end_of, of_witness, tells}
 use Rattle.architecture_outcomes.specs.declared.outcome.Outcome.{Outcome}
 use Rattle.architecture_outcomes.proofs.NeverEnds.{shown}
 use Rattle.architecture_outcomes.proofs.Once.{left_of, left_strict, once_apart}
@@ -21,7 +21,7 @@ is_decided false words w complete = cc complete
 pub loop-witness-init : goal.loop-witness-init
 loop-witness-init c =
     let shows = IsWitnessed c.args.image.now c.args.config c.args.addresses.now in
-    let apart = λ (o : Outcome). list_any (tells (outcome_of o)) c.args.found.now ≡ false in
+    let apart = λ (o : Outcome). list_any (tells (end_of o)) c.args.found.now ≡ false in
     record {
       left = c.requires.witnessed;
       shown = subst (All shows) (sym c.new-outcomes.ensures.items) (All-nil shows);
@@ -33,7 +33,7 @@ pub loop-witness-preserved-in-Continue-branch-2 : goal.loop-witness-preserved-in
 loop-witness-preserved-in-Continue-branch-2 c =
     let P = IsWitness c.args.image.now c.args.config in
     let S = IsWitnessed c.args.image.now c.args.config c.args.addresses.now in
-    let apart = λ (o : Outcome). list_any (tells (outcome_of o)) c.args.found.now ≡ false in
+    let apart = λ (o : Outcome). list_any (tells (end_of o)) c.args.found.now ≡ false in
     let parts = All-pop P c.loop-witness.left.items c.pop.new.self.items c.pop.result c.pop.ensures.items c.loop-witness.invariant.left in
     let here : P c.in-Some.witness = subst (λ (o : Option Witness). IfSome o P) c.in-Some.is parts.1 in
     let new : apart c.beyond-outcome.result = sym c.is_found.ensures ∙ c.if-not-is_found.true in
@@ -78,7 +78,7 @@ returns-clause-shown c =
 
 pub returns-clause-once : goal.returns-clause-once
 returns-clause-once c =
-    let apart = λ (o : Outcome). list_any (tells (outcome_of o)) c.args.found.now ≡ false in
+    let apart = λ (o : Outcome). list_any (tells (end_of o)) c.args.found.now ≡ false in
     once_apart c.args.found.now _ c.requires.once (left_strict c.loop-witness.outcomes.items _ _ c.dedup.ensures.filtered c.sort_unstable.ensures.sorted)
     (left_of c.loop-witness.outcomes.items _ _ c.dedup.ensures.filtered apart c.sort_unstable.ensures.permutation c.loop-witness.invariant.apart)
 

@@ -1,6 +1,6 @@
 use Rattle.std.proofs.Common.{◌≡◌, All, IsTrue, false, length}
 use Rattle.std.specs.List.{list_any}
-use Rattle.architecture_outcomes.specs.Outcomes.{IsDecided, IsWitnessed, outcome_of, tells}
+use Rattle.architecture_outcomes.specs.Outcomes.{IsDecided, IsWitnessed, end_of, tells}
 use Rattle.witnesses.specs.Witnesses.{IsWitness}
 use Rattle.architecture_outcomes.proofs.beyond.beyond.Given as goal
 
@@ -9,7 +9,7 @@ invariant-loop-witness l = record {
   left : All (IsWitness l.image l.fn.config) l.left.items;
   shown : All (IsWitnessed l.image l.fn.config l.addresses) l.outcomes.items;
   alone : IsTrue l.fn.is_complete → All (λ o. IsDecided o.way) l.outcomes.items;
-  apart : All (λ o. list_any (tells (outcome_of o)) l.found ≡ false) l.outcomes.items;
+  apart : All (λ o. list_any (tells (end_of o)) l.found ≡ false) l.outcomes.items;
 }
 
 abbrev pub decreases-loop-witness : goal.decreases-loop-witness
