@@ -23,7 +23,7 @@ use Rattle.show_command.proofs.Shown.{judged_of, judged_words}
 use Rattle.show_command.specs.Asking.{HasProgram}
 use Rattle.show_command.specs.Targets.{names_of}
 use Rattle.state_search.specs.declared.findings.Extent.TheVariants as extent
-use Rattle.window_machine.specs.declared.allowed.Reach.TheVariants as reach
+use Rattle.window_machine.specs.declared.left_out.Reach.TheVariants as reach
 
 module _ (held : Held) (wanted : Explore) (words : List Name) (window : ℕ) (config : Config) (image : Initial) (addresses : List ℕ) (names : List WordName) (found : Architecture)
     (config_is : config ≡ config_named wanted.machine) (program : HasProgram held wanted words image addresses) (named : names ≡ names_of words) (is : IsFoundUnder image config addresses window wanted.states found) where

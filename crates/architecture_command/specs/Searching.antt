@@ -25,7 +25,7 @@ use Rattle.show_command.specs.Judging.{AreWordsJudged}
 use Rattle.show_command.specs.Targets.{names_of}
 use Rattle.state_search.specs.declared.findings.Extent.TheVariants.{Complete, LimitMet}
 use Rattle.state_search.specs.declared.findings.Extent.TheVariants as extent
-use Rattle.window_machine.specs.declared.allowed.Reach.TheVariants as reach
+use Rattle.window_machine.specs.declared.left_out.Reach.TheVariants as reach
 use Rattle.word_explorer.specs.Orders.{ending_cmp}
 
 -- what is said to show an outcome does; where the machine's own search is complete, each of its outcomes is told as one of the machine, and each other as the model's alone; the outcomes stand in their order, each once; where that search met its limit it found as many states; unless memory ended it, each end among its states is told as the machine's; no window is wider than 64

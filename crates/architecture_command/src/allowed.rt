@@ -6,7 +6,7 @@ ghost use Rattle.architecture_outcomes.specs.Outcomes.{end_of};
 ghost use Rattle.architecture_outcomes.specs.Text.{architecture_text};
 ghost use Rattle.exploration_text.specs.Words.{end_text};
 ghost use Rattle.state_search.specs.declared.findings.Extent.TheVariants as extent;
-ghost use Rattle.window_machine.specs.declared.allowed.Reach.TheVariants as reach;
+ghost use Rattle.window_machine.specs.declared.left_out.Reach.TheVariants as reach;
 
 use crate::keeping::keep_outcomes;
 use architecture_outcomes::{Architecture, Outcome, text_of};

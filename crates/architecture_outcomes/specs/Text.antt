@@ -12,8 +12,8 @@ use Rattle.memory_model.specs.declared.MemoryModel.{MemoryModel}
 use Rattle.memory_model.specs.declared.MemoryModel.TheVariants.{Rvwmo, Ztso}
 use Rattle.state_search.specs.declared.findings.Extent.{Extent}
 use Rattle.state_search.specs.declared.findings.Extent.TheVariants as extent
-use Rattle.window_machine.specs.declared.allowed.Reach.{Reach}
-use Rattle.window_machine.specs.declared.allowed.Reach.TheVariants as reach
+use Rattle.window_machine.specs.declared.left_out.Reach.{Reach}
+use Rattle.window_machine.specs.declared.left_out.Reach.TheVariants as reach
 
 -- ---- outcomes
 
@@ -45,6 +45,7 @@ outcome_lines model names number (o ∷ os) = outcome_line model names number o 
 abbrev pub reach_text : Reach → ℕ → List ℕ
 reach_text reach.Whole window = codes ""
 reach_text reach.WindowMet window = codes ", windows over " ++ (decimal window ++ codes " left out")
+reach_text reach.RowMet window = codes ", rows over " ++ (decimal 10000 ++ codes " instructions without an access left out")
 reach_text reach.LimitMet window = codes ", limit of states met"
 reach_text reach.OutOfMemory window = codes ", out of memory"
 

@@ -12,7 +12,7 @@ use itoa::Buffer;
 use machine_model::MemoryModel;
 use state_search::Extent;
 use std::alloc::{AllocError, Global};
-use window_machine::Reach;
+use window_machine::{LONGEST_ROW, Reach};
 
 fn spell_number(into: &mut Vec<u8>, number: u64) -> Result<(), AllocError>
     ensures { OnOk result (into.new.items ≡ into.old.items ++ decimal number) }
@@ -108,6 +108,11 @@ fn spell_reach(into: &mut Vec<u8>, reach: Reach, window: u32) -> Result<(), Allo
             into.extend_from_slice(b", windows over ")?;
             spell_number(into, u64::from(window))?;
             into.extend_from_slice(b" left out")?;
+        }
+        Reach::RowMet => {
+            into.extend_from_slice(b", rows over ")?;
+            spell_number(into, u64::from(LONGEST_ROW))?;
+            into.extend_from_slice(b" instructions without an access left out")?;
         }
         Reach::LimitMet => into.extend_from_slice(b", limit of states met")?,
         Reach::OutOfMemory => into.extend_from_slice(b", out of memory")?,

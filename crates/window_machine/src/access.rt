@@ -1,8 +1,17 @@
 //! What an instruction asks of memory.
+ghost use Rattle.std.specs.Prelude.{◌≡◌, IfOk, None, Some, is_some};
+ghost use Rattle.elf_loader.specs.Image.{word_at};
+ghost use Rattle.hart.specs.Local.{next_entry};
+ghost use Rattle.hart.specs.Run.{next_stop};
+ghost use Rattle.rv32_decode.specs.Rows.{decoded};
+ghost use Rattle.rv32_exec.specs.Actions.{action_of_access};
+ghost use Rattle.rv32_exec.specs.Meaning as spec;
+ghost use Rattle.rv32_exec.specs.Meaning.{access_of};
+ghost use Rattle.window_machine.specs.Circles.{is_of_memory};
 
 use amo_unit::combine;
 use elf_loader::Image;
-use hart::{Hart, Retired};
+use hart::{Hart, Retired, can_fetch};
 use memory_model::MemoryModel;
 use rv32_decode::{AmoOp, Annotations, Instr, decode};
 use rv32_exec::{Action, Width, plan, stop};
@@ -63,7 +72,9 @@ impl Access {
     }
 
     /// The access of a plan, where it has one.
-    pub(crate) fn of(plan: &Action, instr: &Instr) -> Option<Access> {
+    pub(crate) fn of(plan: &Action, instr: &Instr) -> Option<Access>
+        ensures { (access : spec.Access) → plan.now ≡ action_of_access access → is_some result ≡ is_of_memory access }
+    {
         match *plan {
             Action::Load { addr, size } => Some(Access::new(Kind::Load, addr, size, 0, instr)),
             Action::Store { addr, size, value } => {
@@ -141,8 +152,13 @@ pub(crate) struct Next {
 }
 
 /// What a running hart does next, or the code that it stops with.
-pub(crate) fn next_of(image: &Image, hart: &Hart) -> Result<Next, u8> {
-    if !image.has_word(hart.pc) {
+pub(crate) fn next_of(image: &Image, hart: &Hart) -> Result<Next, u8>
+    ensures instr { IfOk result (λ next. decoded (word_at image.now hart.now.pc) ≡ Some next.instr) }
+    ensures goes_on { IfOk result (λ next. next_stop image.now hart.now ≡ None) }
+    ensures plan { IfOk result (λ next. next.plan ≡ action_of_access (access_of next.instr hart.now.regs)) }
+    ensures entry { IfOk result (λ next. next.entry ≡ next_entry image.now hart.now) }
+{
+    if !can_fetch(image, hart.pc) {
         return Err(stop::FETCH_OUTSIDE);
     }
     let word = image.word(hart.pc);

@@ -7,6 +7,7 @@ mod allowed;
 mod changes;
 mod fetching;
 mod joining;
+mod left_out;
 mod liveness;
 mod memory;
 mod node;
@@ -17,5 +18,7 @@ mod searching;
 mod table;
 mod waits;
 
-pub use allowed::{Allowed, Reach, search};
+pub use allowed::{Allowed, search};
+pub use left_out::Reach;
+pub use placing::LONGEST_ROW;
 pub use waits::WIDEST;

@@ -51,6 +51,42 @@ const MESSAGE_PASSING: [u32; 19] = [
     0x0000_0073,
 ];
 
+/// Counts down from 4,999, two instructions a number, and then stores: 10,001 instructions before the access.
+const DELAYED: [u32; 7] = [
+    0x0000_12b7,
+    0x3872_8293,
+    0xfff2_8293,
+    0xfe02_9ee3,
+    0x8000_0337,
+    0x1053_2023,
+    0x0000_0073,
+];
+
+/// The same from 4,998, with an instruction that does nothing before it: 10,000 instructions.
+const DELAYED_LESS: [u32; 8] = [
+    0x0000_0013,
+    0x0000_12b7,
+    0x3862_8293,
+    0xfff2_8293,
+    0xfe02_9ee3,
+    0x8000_0337,
+    0x1053_2023,
+    0x0000_0073,
+];
+
+/// Hart 0 stores 1; hart 1 loads it, and goes in a circle (`j .`) where it finds 1.
+const CIRCLE: [u32; 9] = [
+    0x8000_02b7,
+    0x0005_1863,
+    0x0010_0313,
+    0x1062_a023,
+    0x0000_0073,
+    0x1002_a503,
+    0x0005_1463,
+    0x0000_0073,
+    texts::LOOP,
+];
+
 /// Both loads may come before both stores, so that each pair of numbers can be.
 const OUTCOMES: &str = "1  hart 0: exit 0 output 0   hart 1: exit 0 output 0
 2  hart 0: exit 0 output 0   hart 1: exit 0 output 1
@@ -272,6 +308,47 @@ fn what_the_model_allows(rt: HostRuntime) -> Result<(), Fail> {
     let out = ran.out.as_slice();
     assert!(rt; out.starts_with(b"1  hart 0: exit 5   this machine\nsearched: 1 outcomes, "));
     assert!(rt; out.ends_with(b" states, no window over 16 (not proved complete)\n"));
+    same(&rt, ran.status, 0);
+    Ok(())
+}
+
+/// A row of instructions without an access is followed as far as it may be long, and then told as left out.
+#[test]
+fn a_long_delay_is_told(rt: HostRuntime) -> Result<(), Fail> {
+    let words = ["rvtl", "explore", "--raw", "--architecture", "image"];
+    let image = image_of(rt.alloc(), &DELAYED)?;
+    let ran = line(&rt, &words, &[File::whole("image", &image)]);
+    let told = "1  hart 0: exit 0   this machine
+incomplete: 1 outcomes, 0 states, rows over 10000 instructions without an access left out
+";
+    same(&rt, ran.out.as_slice(), told.as_bytes());
+    assert!(rt; ran.err.is_empty());
+    same(&rt, ran.status, 0);
+    let image = image_of(rt.alloc(), &DELAYED_LESS)?;
+    let ran = line(&rt, &words, &[File::whole("image", &image)]);
+    let out = ran.out.as_slice();
+    assert!(rt; out.starts_with(b"1  hart 0: exit 0   this machine\nsearched: 1 outcomes, "));
+    Ok(())
+}
+
+/// A circle has no end, so that nothing is left out with it.
+#[test]
+fn a_circle_leaves_nothing_out(rt: HostRuntime) -> Result<(), Fail> {
+    let image = image_of(rt.alloc(), &CIRCLE)?;
+    let files = [File::whole("image", &image)];
+    let words = [
+        "rvtl",
+        "explore",
+        "--raw",
+        "--harts",
+        "2",
+        "--architecture",
+        "image",
+    ];
+    let ran = line(&rt, &words, &files);
+    let told = b"1  hart 0: exit 0   hart 1: exit 0   this machine\nsearched: 1 outcomes, ";
+    assert!(rt; ran.out.starts_with(told.as_slice()));
+    assert!(rt; ran.err.is_empty());
     same(&rt, ran.status, 0);
     Ok(())
 }
