@@ -29,8 +29,8 @@ const SHORTEST: u32 = 8;
 const DOUBLINGS: u32 = 10;
 
 /// The lock of a fabric, with one worker's share of it and that worker's seat of the board. The share is one
-/// that was made with the fabric. Each call takes the lock and gives it back; `new`, `seat` and `end` alone
-/// wait for nobody.
+/// that was made with the fabric. Each call takes the lock and gives it back; `new`, `counted`, `seat`
+/// and `end` alone wait for nobody.
 #[derive(Drop)]
 pub struct Port<'a, L: Ledger> {
     lock: &'a Mutex<Fabric<L>>,
@@ -156,6 +156,13 @@ impl<'a, L: Ledger> Port<'a, L> {
         } else {
             None
         }
+    }
+
+    /// How many events its share counts: those of its calls that changed the machine.
+    pub fn counted(&self) -> u64
+        ensures { result ≡ share_of self.now }
+    {
+        self.share.count()
     }
 
     /// Lends the seat to the board's calls.
