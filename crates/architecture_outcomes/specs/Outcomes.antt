@@ -47,7 +47,7 @@ NeverEnds image config addresses ending = (events : List Event) → HasEnded add
 
 -- ---- what shows an outcome
 
--- flat events lead to such an end, and the machine's script does
+-- flat events lead to such an end, and so does the machine's script, where there is one
 abbrev pub IsScripted : Initial → Config → (addresses : List ℕ) → Outcome → Script → Type 0
 IsScripted image config [] o script = IsRealEnd image config (record { harts = o.harts; script = script }) × (o.words.items ≡ [])
 IsScripted image config (address ∷ rest) o script = IsRealIn image config (address ∷ rest) (record { harts = o.harts; words = o.words; script = script })

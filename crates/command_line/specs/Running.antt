@@ -89,7 +89,7 @@ abbrev pub ShowsElsewhere : (architecture : Bool) → Seeking → Type 0
 ShowsElsewhere true explore = ⊥
 ShowsElsewhere false explore = IsElsewhere explore
 
--- the file is one that shows an outcome
+-- the file is one that shows an outcome, or how the program gets stuck
 abbrev pub IsExploreFile : (architecture : Bool) → Seeking → Text → Type 0
 IsExploreFile true explore = IsFileOf explore.scripts
 IsExploreFile false explore = IsScriptFile explore.scripts

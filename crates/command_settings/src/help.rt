@@ -133,7 +133,7 @@ pub(crate) const SCRIPTS_HELP: &str =
     "the folder, which has to exist, to write outcome-1.script .. and stuck.script into, each for replay; and outcome-1.trace .., each for check, of outcomes that this machine can't show. Other files there stay, also those of an earlier search";
 
 pub(crate) const ALLOW_HELP: &str =
-    "the file with the allowed outcomes, a line each as printed, without its number; where another is found its number is told and the status is 3";
+    "the file with the allowed outcomes, a line each as printed, with or without its number; where another is found its number is told and the status is 3";
 
 pub(crate) const CHECK_HELP: &str =
     "Prints legal, or with status 3 a fault: its code and two operations, as HART:PLACE, that show it.

@@ -31,7 +31,8 @@ impl<P: Progress> Watch for Telling<'_, P> {
 
 /// Judges the machine's size, reads what is allowed, then the image, explores it, prints what is found on
 /// `out`, writes the scripts, and judges the outcomes: `err` tells which ones aren't allowed. Where memory
-/// ends, what was found is printed, written and judged all the same. While it explores, `progress` is told how far it is.
+/// ends, what was found is printed, written and judged all the same. While it explores, `progress` is told
+/// how far it is.
 pub fn explore_files<'a, F: Files, O: Write, E: Write, P: Progress>(
     alloc: Global,
     files: &mut F,

@@ -68,7 +68,7 @@ IsShort _ = ⊥
 abbrev pub ends_led : Initial → Config → List (List Event) → List (List Result)
 ends_led image config schedules = filter all_ended (map (λ events. results (led image config events)) schedules)
 
--- so many runs were played from reset: so many came to each end, and so many to none
+-- there are as many lists of events as runs are told, each as of a run from reset: so many of them lead to each end, and so many to none
 pub record AreCounted (image : Initial) (config : Config) (counted : List (Found × ℕ)) (to_none runs : ℕ) : Type 0 where
   pub schedules : List (List Event)
   pub count : length schedules ≡ runs
