@@ -1,5 +1,6 @@
 -- What a replay has done.
 use Rattle.command_files.specs.Composition.{IsComposition, Leads}
+use Rattle.command_files.specs.Ends.{ends_of}
 use Rattle.command_files.specs.Files.{HoldsImage, HoldsScript, IsTheScriptIn}
 use Rattle.command_files.specs.Held.{Held}
 use Rattle.command_settings.specs.declared.wanted.Replay.{Replay}
@@ -29,3 +30,13 @@ pub record IsCutOff (held : Held) (replay : Replay) (old new : Option (List ℕ)
   pub image_file : HoldsImage held replay.raw replay.image.now script.kib image
   pub replayed : Leads image script replay.model reached
   pub begun : Begins old new (text reached.trace)
+
+-- a beginning of the lines that tell how the harts ended went out, all of them unless that stream had a fault
+pub record IsReplayEndTold (held : Held) (replay : Replay) (old new : Option (List ℕ)) : Type 0 where
+  pub script : Script
+  pub image : Initial
+  pub reached : State
+  pub script_file : HoldsScript held replay.script.now script
+  pub image_file : HoldsImage held replay.raw replay.image.now script.kib image
+  pub replayed : Leads image script replay.model reached
+  pub begun : Begins old new (ends_of reached)

@@ -4,7 +4,7 @@ ghost use Rattle.std.specs.Prelude.{◌≡◌, IfErr, IfOk, OnOk};
 ghost use Rattle.elf_loader.specs.Size.{IsMemoryKib};
 ghost use Rattle.command_files.specs.Files.{HoldsImage, HoldsScript, IsTheScriptIn};
 ghost use Rattle.command_files.specs.Held.{HoldsBytes};
-ghost use Rattle.replay_command.specs.Replaying.{IsCutOff, IsReplayed};
+ghost use Rattle.replay_command.specs.Replaying.{IsCutOff, IsReplayEndTold, IsReplayed};
 ghost use Rattle.command_files.specs.Faults.{IsImageFault, IsReadFault, IsScriptFault, LeavesAtFault};
 ghost use Rattle.command_files.specs.Faults.{IsReplayFault};
 
@@ -24,6 +24,7 @@ pub fn replay_files<'a, F: Files, O: Write, E: Write>(
     err: &mut E,
 ) -> Result<(), Fault<'a>>
     ensures replayed { OnOk result (IsReplayed (F.held files.old) wanted.entry (O.contents out.old) (O.contents out.new)) }
+    ensures ends { OnOk result (IsReplayEndTold (F.held files.old) wanted.entry (E.contents err.old) (E.contents err.new)) }
     ensures unfinished { IfErr result (λ fault. LeavesAtFault fault (O.contents out.old) (O.contents out.new)
         (IsCutOff (F.held files.old) wanted.entry (O.contents out.old) (O.contents out.new))) }
     ensures told { IfErr result (IsReplayFault (F.held files.old) wanted.entry) }

@@ -1,4 +1,4 @@
-use Rattle.std.proofs.Common.{◌≡◌, ◌∙◌, ◌⊎◌, ◌↔◌, ◌+◌, ◌^◌, ◌-◌, ℕ, Err, Result, ap, false, inl, inr, refl, subst, sym}
+use Rattle.std.proofs.Common.{◌≡◌, ◌∙◌, ◌⊎◌, ◌↔◌, ◌+◌, ◌^◌, ◌-◌, ℕ, Err, Result, ap, false, inl, inr, map, refl, subst, sym}
 use Rattle.std.specs.Prelude.{min}
 use Rattle.std.proofs.lemmas.Bool.{false≢true}
 use Rattle.coherent_machine.specs.Machine.{IsFirstRefusal}
@@ -20,6 +20,7 @@ use Rattle.machine_parts.specs.declared.errors.ApplyError.{ApplyError}
 use Rattle.trace_text.specs.declared.script.Script.{Script}
 use Rattle.command_files.specs.Files.{HoldsImage, HoldsScript}
 use Rattle.command_files.specs.Held.{Held}
+use Rattle.command_files.proofs.Ended.{ends_begun}
 use Rattle.command_files.proofs.Left.{handed_up, image_as_before, image_is_not_write, left, script_is_not_write, spoiled}
 use Rattle.replay_command.proofs.Told.{of_image, of_script}
 use Rattle.command_files.proofs.Limits.{machine_within, memory_within}
@@ -88,6 +89,22 @@ returns-clause-replayed g c =
         headline = composed.headline;
         log = composed.log;
       };
+    }
+
+pub returns-clause-ends : goal.returns-clause-ends
+returns-clause-ends g c =
+    let machine = c.in-Ok.machine in
+    let told = c.into_parts-trace in
+    record {
+      script = c.in_ok-script.script;
+      image = c.in_ok-image.image;
+      reached = machine;
+      script_file = c.in_ok-script.ensures.script;
+      image_file =
+          subst (λ (held : Held). HoldsImage held c.args.wanted.raw c.args.wanted.image.now c.in_ok-script.script.kib c.in_ok-image.image)
+          c.in_ok-script.ensures.stays c.in_ok-image.ensures.image;
+      replayed = c.in-Ok.ensures.written.replayed;
+      begun = ends_begun (g.E.Write.contents c.args.err.now) (g.E.Write.contents c.print_ends.new.err) machine _ c.statuses.result.now _ c.print_ends.result c.statuses.ensures told.ensures.trace (ap (map (λ output. output.items)) c.as_slice.ensures.value ∙ told.ensures.outputs) c.print_ends.ensures;
     }
 
 pub image_in-requires : goal.image_in-requires
