@@ -41,11 +41,15 @@ outcome_lines model names number (o ∷ os) = outcome_line model names number o 
 
 -- ---- the last line
 
+-- a hart is followed over no more instructions in a row
+abbrev pub rows_text : ℕ → List ℕ
+rows_text longest = codes ", rows over " ++ (decimal longest ++ codes " instructions without an access left out")
+
 -- how far the search under the model came
 abbrev pub reach_text : Reach → ℕ → List ℕ
 reach_text reach.Whole window = codes ""
 reach_text reach.WindowMet window = codes ", windows over " ++ (decimal window ++ codes " left out")
-reach_text reach.RowMet window = codes ", rows over " ++ (decimal 10000 ++ codes " instructions without an access left out")
+reach_text reach.RowMet window = rows_text 10000
 reach_text reach.LimitMet window = codes ", limit of states met"
 reach_text reach.OutOfMemory window = codes ", out of memory"
 

@@ -99,6 +99,15 @@ fn spell_outcomes(
     Ok(())
 }
 
+fn spell_rows(into: &mut Vec<u8>, longest: u32) -> Result<(), AllocError>
+    ensures { OnOk result (into.new.items ≡ into.old.items ++ text.rows_text longest) }
+{
+    into.extend_from_slice(b", rows over ")?;
+    spell_number(into, u64::from(longest))?;
+    into.extend_from_slice(b" instructions without an access left out")?;
+    Ok(())
+}
+
 fn spell_reach(into: &mut Vec<u8>, reach: Reach, window: u32) -> Result<(), AllocError>
     ensures { OnOk result (into.new.items ≡ into.old.items ++ text.reach_text reach window) }
 {
@@ -109,11 +118,7 @@ fn spell_reach(into: &mut Vec<u8>, reach: Reach, window: u32) -> Result<(), Allo
             spell_number(into, u64::from(window))?;
             into.extend_from_slice(b" left out")?;
         }
-        Reach::RowMet => {
-            into.extend_from_slice(b", rows over ")?;
-            spell_number(into, u64::from(LONGEST_ROW))?;
-            into.extend_from_slice(b" instructions without an access left out")?;
-        }
+        Reach::RowMet => spell_rows(into, LONGEST_ROW)?,
         Reach::LimitMet => into.extend_from_slice(b", limit of states met")?,
         Reach::OutOfMemory => into.extend_from_slice(b", out of memory")?,
     }
