@@ -4,4 +4,5 @@ pub mod Errors
 pub mod Pace
 pub mod Replays
 pub mod Route
+pub mod Telling
 pub mod Workers

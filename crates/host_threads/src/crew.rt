@@ -2,7 +2,7 @@
 
 ghost use Rattle.std.specs.Prelude.{◌≡◌, ◌≢◌, ◌≤◌, Err, IfOk, vec_len};
 ghost use Rattle.std.specs.List.{All};
-ghost use Rattle.host_threads.specs.Workers.{HandsBack, common_of};
+ghost use Rattle.host_threads.specs.Workers.{AreFresh, HandsBack, common_of};
 ghost use Rattle.progress_board.specs.Seat.{IsSeatOf};
 
 use crate::gate::Gate;
@@ -30,6 +30,7 @@ pub(crate) fn workers<'a, L: Ledger, T: Turn + Drop>(
     requires opening { All (λ share. share ≡ 0) shares.items }
     requires few { vec_len shares ≤ 8 }
     requires seats { vec_len seats ≡ vec_len shares }
+    requires fresh { AreFresh seats.items }
     requires turns { vec_len turns ≡ vec_len shares }
     ensures made { IfOk result (λ made. vec_len made ≡ vec_len shares) }
     ensures common { IfOk result (λ made. All (λ worker. common_of worker ≡ common.now) made.items) }

@@ -4,7 +4,7 @@ ghost use Rattle.std.specs.Prelude.{◌≡◌, ◌≢◌, ◌↔◌, ◌⊎◌, 
 ghost use Rattle.std.specs.List.{All};
 ghost use Rattle.coherent_machine.specs.Machine.{IsReached};
 ghost use Rattle.host_threads.specs.Replays.{IsOf, IsWithinLimit, JournalMoves, JournalReplays, end_of_journal};
-ghost use Rattle.host_threads.specs.Workers.{IsFirstFault, first_fault};
+ghost use Rattle.host_threads.specs.Workers.{AreFresh, IsFirstFault, first_fault};
 ghost use Rattle.machine_types.specs.Config as limits;
 ghost use Rattle.machine_model.specs.LawfulLog.{IsLawfulLog};
 ghost use Rattle.machine_model.specs.Laws.{IsHeadline};
@@ -125,6 +125,7 @@ fn run_counted<
     requires made { harts_of common.now.board ≡ common.now.config.harts }
     requires board { All (λ seat. IsSeatOf common.now.board seat) seats.items }
     requires seats { vec_len seats ≡ common.now.config.harts }
+    requires fresh { AreFresh seats.items }
     requires turns { vec_len turns ≡ common.now.config.harts }
     ensures report { IfOk result (λ report. IsOf image common.now.config report) }
     ensures moves { IfOk result (λ report. JournalMoves image common.now.config report) }

@@ -3,6 +3,7 @@
 ghost use Rattle.std.specs.Prelude.{◌≡◌, ◌<◌, ◌↔◌, IsTrue, Some, length, true};
 ghost use Rattle.elf_loader.specs.Size.{IsMemorySize};
 ghost use Rattle.hart.specs.Local.{can_go_alone, is_done_alone};
+ghost use Rattle.host_threads.specs.Telling as telling;
 ghost use Rattle.machine_types.specs.declared.event.Event.TheVariants as TheEvents;
 ghost use Rattle.machine_model.specs.Views.{node_at};
 
@@ -31,13 +32,19 @@ pub(crate) struct Watched<'a, T: Turn + Drop> {
 
 impl<'a, T: Turn + Drop> Watched<'a, T> {
     /// Whether the hart was not running.
-    pub(crate) fn has_ended(&self) -> bool {
+    pub(crate) fn has_ended(&self) -> bool
+        ensures { result ≡ telling.has_ended self.now.seen }
+    {
         self.seen
             .is_some_and(|(_length, status)| !status.is_running())
     }
 }
 
 impl<'a, T: Turn + Drop> Turn for Watched<'a, T> {
+    ghost use Rattle.std.specs.Prelude.{◌≡◌};
+
+    ghost picks = { λ before _ _ _ after. after.hart ≡ before.hart };
+
     fn pick(&mut self, views: &Views<'_>, last: Option<Outcome>) -> Option<Event>
         ensures hart { self.new.hart ≡ self.old.hart }
         ensures image { self.new.image ≡ self.old.image }

@@ -1,11 +1,12 @@
 //! What one thread does.
 
-ghost use Rattle.std.specs.Prelude.{◌≡◌, ◌+◌, OnErr, OnOk};
+ghost use Rattle.std.specs.Prelude.{◌≡◌, ◌≢◌, ◌+◌, ◌==◌, false, true, Ok, IfOk, None, OnErr, OnOk, not};
 ghost use Rattle.coherent_machine.specs.Adopting.{local_of};
 ghost use Rattle.hart.specs.Local.{row_of};
 ghost use Rattle.host_threads.specs.Errors.{goes_on};
 ghost use Rattle.host_threads.specs.Pace.{IsPaced};
-ghost use Rattle.locked_fabric.specs.Port.{IsLast, Left, seat_of, share_of};
+ghost use Rattle.host_threads.specs.Telling.{CountsTo, Reports, Tells, has_ended, longest_with};
+ghost use Rattle.locked_fabric.specs.Port.{IsLast, Left, seat_of, seen_in, share_of};
 ghost use Rattle.progress_board.specs.Seat.{IsSeatOf, view};
 
 use crate::gate::Gate;
@@ -58,6 +59,8 @@ pub(crate) struct Worker<'a, L: Ledger, T: Turn + Drop> {
     has_halted: bool,
     // How many turns in a row changed nothing.
     rests: u32,
+    ghost own: { ((view (seat_of port)).hart ≡ hart) × (turn.hart ≡ hart) },
+    ghost marked: { has_halted ≡ (view (seat_of port)).halted },
     ghost seated: { IsSeatOf common.now.board port.seat },
     ghost paced: { IsPaced common.now.limit (view (seat_of port)) (share_of port) },
 }
@@ -71,11 +74,13 @@ pub(crate) struct Done<L: Ledger> {
 }
 
 impl<'a, L: Ledger, T: Turn + Drop> Worker<'a, L, T> {
-    ghost use Rattle.host_threads.specs.Workers.{HandsBack, common_of};
+    ghost use Rattle.host_threads.specs.Workers.{HandsBack, common_of, counted_by, seen_by, told_by};
 
     pub(crate) fn new(common: &'a Common, port: Port<'a, L>, hart: u8, turn: T) -> Worker<'a, L, T>
         requires seat { IsSeatOf common.now.board port.seat }
         requires share { share_of port ≡ 0 }
+        requires hart { (view port.seat).hart ≡ hart }
+        requires halted { (view port.seat).halted ≡ false }
         ensures { common_of result ≡ common.now }
     {
         let turn = Watched {
@@ -126,7 +131,8 @@ impl<'a, L: Ledger, T: Turn + Drop> Worker<'a, L, T> {
 
     // Lets the gate see the published lengths.
     fn pass<G: Gate>(&mut self, gate: &G, turn: u64)
-        ensures { self.new.common ≡ self.old.common }
+        ensures common { self.new.common ≡ self.old.common }
+        ensures silent { Tells false None (told_by self.old) (told_by self.new) }
     {
         let harts = self.common.board.harts();
         let mut lengths = [0; MAX_HARTS as usize];
@@ -138,8 +144,11 @@ impl<'a, L: Ledger, T: Turn + Drop> Worker<'a, L, T> {
 
     // One turn. Whether another one follows.
     fn take_turn<R: Wait, G: Gate>(&mut self, rt: &R, gate: &G) -> Result<bool, Fault>
-        ensures { self.new.common ≡ self.old.common }
+        ensures common { self.new.common ≡ self.old.common }
+        ensures goes { (result ≡ Ok true) → Left (Reports self.old.hart (counted_by self.old) (counted_by self.new) (told_by self.old) (told_by self.new)) }
+        ensures ends { (result ≢ Ok true) → (counted_by self.new ≡ counted_by self.old) × Tells false None (told_by self.old) (told_by self.new) }
     {
+        let before = self.port.counted();
         let board = &self.common.board;
         if board.halted(self.port.seat()) == (1 << board.harts()) - 1 {
             return Ok(false);
@@ -148,15 +157,16 @@ impl<'a, L: Ledger, T: Turn + Drop> Worker<'a, L, T> {
             board,
             limit: self.common.limit,
         };
-        let came = match self.port.take(rt, &numbers, &mut self.turn, self.last) {
+        match self.port.take(rt, &numbers, &mut self.turn, self.last) {
             Taken::Nothing => {
                 self.rest();
-                return Ok(true);
+                Ok(true)
             }
-            Taken::Over => return Ok(false),
+            Taken::Over => Ok(false),
             Taken::HeldBack { number, event } => {
                 gate.draw(self.hart, number);
-                self.go_alone(rt, event)
+                let came = self.go_alone(rt, event);
+                self.go_on(came, before)
             }
             Taken::Tried {
                 number,
@@ -164,16 +174,18 @@ impl<'a, L: Ledger, T: Turn + Drop> Worker<'a, L, T> {
                 came,
             } => {
                 gate.draw(self.hart, number);
-                came
+                self.go_on(came, before)
             }
-        };
-        self.go_on(came)
+        }
     }
 
     // Commits what the hart does next alone; where the hart stands there no more, applies its step.
     fn go_alone<R: Wait>(&mut self, rt: &R, event: Event) -> Result<Outcome, ApplyError>
         requires { IsPaced self.old.common.now.limit (view (seat_of self.old.port)) (share_of self.old.port + 1) }
-        ensures { self.new.common ≡ self.old.common }
+        ensures common { self.new.common ≡ self.old.common }
+        ensures seat { seat_of self.new.port ≡ seat_of self.old.port }
+        ensures came { OnOk result (Left (λ left. CountsTo (counted_by self.old) (counted_by self.new) left × (seen_by self.new ≡ seen_in left.machine.trace self.old.hart))) }
+        ensures err { OnErr result (counted_by self.new ≡ counted_by self.old) }
     {
         match self.commit(rt) {
             Ok(outcome) => Ok(outcome),
@@ -189,6 +201,10 @@ impl<'a, L: Ledger, T: Turn + Drop> Worker<'a, L, T> {
     fn commit<R: Wait>(&mut self, rt: &R) -> Result<Outcome, AdoptError>
         requires { IsPaced self.old.common.now.limit (view (seat_of self.old.port)) (share_of self.old.port + 1) }
         ensures common { self.new.common ≡ self.old.common }
+        ensures hart { self.new.hart ≡ self.old.hart }
+        ensures seat { seat_of self.new.port ≡ seat_of self.old.port }
+        ensures came { OnOk result (Left (λ left. CountsTo (counted_by self.old) (counted_by self.new) left × (seen_by self.new ≡ seen_in left.machine.trace self.old.hart))) }
+        ensures uncounted { OnErr result (counted_by self.new ≡ counted_by self.old) }
         ensures row { let row = row_of self.old.common.now.image self.old.turn.stood 256 in
             OnOk result (Left (IsLast (local_of row.first.id row))) }
         ensures err { OnErr result (IsPaced self.new.common.now.limit (view (seat_of self.new.port)) (share_of self.new.port + 1)) }
@@ -200,10 +216,13 @@ impl<'a, L: Ledger, T: Turn + Drop> Worker<'a, L, T> {
         }
     }
 
-    // Whether another turn follows one with this outcome.
-    fn go_on(&mut self, came: Result<Outcome, ApplyError>) -> Result<bool, Fault>
+    // Tells the board what came of an event, before which so many counted. Whether another turn follows.
+    fn go_on(&mut self, came: Result<Outcome, ApplyError>, counted: u64) -> Result<bool, Fault>
         ensures common { self.new.common ≡ self.old.common }
         ensures goes { result ≡ goes_on came }
+        ensures counts { counted_by self.new ≡ counted_by self.old }
+        ensures tells { OnOk came (Tells (not (counted_by self.old == counted)) (seen_by self.old) (told_by self.old) (told_by self.new)) }
+        ensures silent { OnErr came (Tells false None (told_by self.old) (told_by self.new)) }
     {
         let outcome = match came {
             Ok(outcome) => outcome,
@@ -212,19 +231,23 @@ impl<'a, L: Ledger, T: Turn + Drop> Worker<'a, L, T> {
             Err(ApplyError::BadEvent) => return Err(Fault::BadEvent),
         };
         self.last = Some(outcome);
-        if is_change(outcome) {
+        if self.port.counted() == counted {
+            self.rest();
+        } else {
             self.rests = 0;
             self.publish();
             self.halt_at_end();
-        } else {
-            self.rest();
         }
         Ok(true)
     }
 
     // Publishes the length of the hart's list.
     fn publish(&mut self)
-        ensures { self.new.common ≡ self.old.common }
+        ensures common { self.new.common ≡ self.old.common }
+        ensures counts { counted_by self.new ≡ counted_by self.old }
+        ensures seen { seen_by self.new ≡ seen_by self.old }
+        ensures length { (told_by self.new).longest ≡ longest_with (seen_by self.old) (told_by self.old).longest }
+        ensures bit { (told_by self.new).halted ≡ (told_by self.old).halted }
     {
         if let Some((length, _status)) = self.turn.seen {
             self.common.board.publish(self.port.seat(), length);
@@ -233,7 +256,9 @@ impl<'a, L: Ledger, T: Turn + Drop> Worker<'a, L, T> {
 
     // Waits a little: twice as long as before, until it is long enough to leave the processor to others.
     fn rest(&mut self)
-        ensures { self.new.common ≡ self.old.common }
+        ensures common { self.new.common ≡ self.old.common }
+        ensures counts { counted_by self.new ≡ counted_by self.old }
+        ensures tells { Tells false (seen_by self.old) (told_by self.old) (told_by self.new) }
     {
         self.halt_at_end();
         if self.rests > DOUBLINGS {
@@ -250,7 +275,9 @@ impl<'a, L: Ledger, T: Turn + Drop> Worker<'a, L, T> {
 
     // Sets the hart's halted bit where the hart isn't running.
     fn halt_at_end(&mut self)
-        ensures { self.new.common ≡ self.old.common }
+        ensures common { self.new.common ≡ self.old.common }
+        ensures counts { counted_by self.new ≡ counted_by self.old }
+        ensures tells { Tells false (seen_by self.old) (told_by self.old) (told_by self.new) }
     {
         if self.turn.has_ended() {
             self.halt();
@@ -264,25 +291,15 @@ impl<'a, L: Ledger, T: Turn + Drop> Worker<'a, L, T> {
 
     // Sets the hart's halted bit, once.
     fn halt(&mut self)
-        ensures { self.new.common ≡ self.old.common }
+        ensures common { self.new.common ≡ self.old.common }
+        ensures counts { counted_by self.new ≡ counted_by self.old }
+        ensures length { (told_by self.new).longest ≡ (told_by self.old).longest }
+        ensures bit { (told_by self.new).halted ≡ true }
+        ensures once { ((told_by self.old).halted ≡ true) → seat_of self.new.port ≡ seat_of self.old.port }
     {
         if !self.has_halted {
             self.common.board.halt(self.port.seat());
             self.has_halted = true;
         }
     }
-}
-
-// Whether an event with this outcome changed the machine.
-fn is_change(outcome: Outcome) -> bool {
-    matches!(
-        outcome,
-        Outcome::Retired
-            | Outcome::Stopped(_)
-            | Outcome::Exited(_)
-            | Outcome::Drained
-            | Outcome::Delivered
-            | Outcome::Evicted
-            | Outcome::Missed(_)
-    )
 }

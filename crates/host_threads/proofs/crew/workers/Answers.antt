@@ -1,9 +1,10 @@
-use Rattle.std.proofs.Common.{◌≡◌, ◌∙◌, ℕ, IfSome, rules, subst, sym}
+use Rattle.std.proofs.Common.{◌≡◌, ◌∙◌, ◌-◌, ℕ, IfSome, ap, false, length, rules, subst, sym}
 use Rattle.std.proofs.lemmas.List.Elements.{All-pop, All-push}
 use Rattle.std.specs.List.{All}
 use Rattle.progress_board.specs.declared.seat.Seat.{Seat}
-use Rattle.progress_board.specs.Seat.{IsSeatOf}
+use Rattle.progress_board.specs.Seat.{IsSeatOf, view}
 use Rattle.host_threads.specs.Workers.{common_of}
+use Rattle.host_threads.proofs.Fresh.{fresh_pop}
 use Rattle.host_threads.proofs.crew.workers.Goals as goal
 
 pub loop-hart-preserved : goal.loop-hart-preserved
@@ -12,6 +13,7 @@ loop-hart-preserved g c = record {
   opening = (All-pop (λ (share : ℕ). share ≡ 0) _ _ _ c.pop-in-loop-hart.ensures.items c.loop-hart.invariant.opening).0;
   common = subst (All (λ worker. common_of worker ≡ c.args.common.now)) (sym c.push_reserved.ensures.items)
       (All-push (λ worker. common_of worker ≡ c.args.common.now) _ _ c.loop-hart.invariant.common c.new.ensures);
+  fresh = (fresh_pop _ _ _ c.pop.ensures.items c.loop-hart.invariant.fresh).0;
   seats = search rules;
   shares = search rules;
   turns = search rules;
@@ -30,3 +32,16 @@ pub new-requires-clause-share : goal.new-requires-clause-share
 new-requires-clause-share g c =
     let popped = (All-pop (λ (share : ℕ). share ≡ 0) _ _ _ c.pop-in-loop-hart.ensures.items c.loop-hart.invariant.opening).1 in
     c.new-port.ensures.share ∙ subst (λ one. IfSome one (λ (share : ℕ). share ≡ 0)) c.in-Some-pop.is popped
+
+pub new-requires-clause-hart : goal.new-requires-clause-hart
+new-requires-clause-hart g c =
+    let popped = (fresh_pop _ _ _ c.pop.ensures.items c.loop-hart.invariant.fresh).1 in
+    let own = subst (λ one. IfSome one (λ (seat : Seat). ((view seat).hart ≡ length c.pop.new.self.items) × ((view seat).halted ≡ false))) c.in-Some.is popped in
+    let left : length c.pop.new.self.items ≡ c.loop-hart.hart - 1 = search rules in
+    ap (λ (seat : Seat). (view seat).hart) c.new-port.ensures.seat ∙ own.0 ∙ left
+
+pub new-requires-clause-halted : goal.new-requires-clause-halted
+new-requires-clause-halted g c =
+    let popped = (fresh_pop _ _ _ c.pop.ensures.items c.loop-hart.invariant.fresh).1 in
+    let own = subst (λ one. IfSome one (λ (seat : Seat). ((view seat).hart ≡ length c.pop.new.self.items) × ((view seat).halted ≡ false))) c.in-Some.is popped in
+    ap (λ (seat : Seat). (view seat).halted) c.new-port.ensures.seat ∙ own.1
