@@ -13,7 +13,7 @@ use Rattle.command_files.specs.Files.{HoldsScript, HoldsTrace}
 use Rattle.command_files.specs.Held.{Held, HoldsBytes}
 use Rattle.command_settings.specs.declared.wanted.MachineOptions.{MachineOptions}
 use Rattle.explore_command.proofs.Kept.{spares_more}
-use Rattle.explore_command.specs.Keeping.{IsInNamed, Name, SparesOthers, outcome_path}
+use Rattle.explore_command.specs.Keeping.{FileName, IsInNamed, SparesOthers, outcome_path}
 use Rattle.explorer.specs.declared.found.Script.TheVariants.{Events, Limit, NoMemory, Unrealised}
 use Rattle.trace_recorder.specs.History.{History}
 use Rattle.trace_text.specs.Scripts.{text}
@@ -26,20 +26,20 @@ use Rattle.trace_text.specs.declared.script.Script.{Script as Text}
 abbrev last_of : List ℕ → ℕ
 last_of = fold (λ before here. here) 0
 
-numbered : (folder : Name) (m n : ℕ) (x y : Name) → folder ++ (codes "/outcome-" ++ (decimal m ++ x)) ≡ folder ++ (codes "/outcome-" ++ (decimal n ++ y)) → decimal m ++ x ≡ decimal n ++ y
+numbered : (folder : FileName) (m n : ℕ) (x y : FileName) → folder ++ (codes "/outcome-" ++ (decimal m ++ x)) ≡ folder ++ (codes "/outcome-" ++ (decimal n ++ y)) → decimal m ++ x ≡ decimal n ++ y
 numbered folder m n x y same = append_cancel_left (codes "/outcome-") _ _ (append_cancel_left folder _ _ same)
 
-no_both : (folder : Name) (m n : ℕ) → outcome_path folder m ≡ trace_path folder n → ⊥
+no_both : (folder : FileName) (m n : ℕ) → outcome_path folder m ≡ trace_path folder n → ⊥
 no_both folder m n same =
     let keep = λ (before here : ℕ). here in
     let ends : 116 ≡ 101 =
     sym (fold-append keep 0 (decimal m) (codes ".script")) ∙ (ap last_of (numbered folder m n (codes ".script") (codes ".trace") same) ∙ fold-append keep 0 (decimal n) (codes ".trace")) in
     absurd (omega (arith, ends))
 
-one_number : (folder : Name) (m n : ℕ) (x : Name) → m < 2 ^ 64 → n < 2 ^ 64 → folder ++ (codes "/outcome-" ++ (decimal m ++ x)) ≡ folder ++ (codes "/outcome-" ++ (decimal n ++ x)) → m ≡ n
+one_number : (folder : FileName) (m n : ℕ) (x : FileName) → m < 2 ^ 64 → n < 2 ^ 64 → folder ++ (codes "/outcome-" ++ (decimal m ++ x)) ≡ folder ++ (codes "/outcome-" ++ (decimal n ++ x)) → m ≡ n
 one_number folder m n x m_small n_small same = decimal_injective m n m_small n_small (append_cancel_right (decimal m) (decimal n) x (numbered folder m n x x same))
 
-one_file : (folder : Name) (m n : ℕ) (v w : Way) → m < 2 ^ 64 → n < 2 ^ 64 → file_path folder m v ≡ file_path folder n w → m ≡ n
+one_file : (folder : FileName) (m n : ℕ) (v w : Way) → m < 2 ^ 64 → n < 2 ^ 64 → file_path folder m v ≡ file_path folder n w → m ≡ n
 one_file folder m n (Machine v) (Machine w) m_small n_small same = one_number folder m n (codes ".script") m_small n_small same
 one_file folder m n (Machine v) (ModelAlone w) m_small n_small same = absurd (no_both folder m n same)
 one_file folder m n (Machine v) (Model w) m_small n_small same = absurd (no_both folder m n same)
@@ -50,24 +50,24 @@ one_file folder m n (Model v) (Machine w) m_small n_small same = absurd (no_both
 one_file folder m n (Model v) (ModelAlone w) m_small n_small same = one_number folder m n (codes ".trace") m_small n_small same
 one_file folder m n (Model v) (Model w) m_small n_small same = one_number folder m n (codes ".trace") m_small n_small same
 
-is_file : (folder path : Name) (number : ℕ) (way : Way) → path ≡ file_path folder number way → IsFileIn folder path
+is_file : (folder path : FileName) (number : ℕ) (way : Way) → path ≡ file_path folder number way → IsFileIn folder path
 is_file folder path number (Machine w) is = inl (number, is)
 is_file folder path number (ModelAlone w) is = inr (number, is)
 is_file folder path number (Model w) is = inr (number, is)
 
 -- ---- what another file's writing leaves
 
-module _ (before after : Held) (machine : MachineOptions) (folder path : Name) (others : (other : Name) → other ≢ path → after other ≡ before other) where
-  bytes_stay : (name bytes : Name) → after name ≡ before name → HoldsBytes before name bytes → HoldsBytes after name bytes
+module _ (before after : Held) (machine : MachineOptions) (folder path : FileName) (others : (other : FileName) → other ≢ path → after other ≡ before other) where
+  bytes_stay : (name bytes : FileName) → after name ≡ before name → HoldsBytes before name bytes → HoldsBytes after name bytes
   bytes_stay name bytes same held = subst (λ (o : Option (List ℕ)). IfSome o (λ known. known ≡ bytes)) (sym same) held
 
-  script_stays : (name : Name) (script : Text) → after name ≡ before name → HoldsScript before name script → HoldsScript after name script
+  script_stays : (name : FileName) (script : Text) → after name ≡ before name → HoldsScript before name script → HoldsScript after name script
   script_stays name script same held = record { is_script = held.is_script; bytes = bytes_stay name (text script) same held.bytes }
 
-  trace_stays : (name : Name) (trace : History) → after name ≡ before name → HoldsTrace before name trace → HoldsTrace after name trace
+  trace_stays : (name : FileName) (trace : History) → after name ≡ before name → HoldsTrace before name trace → HoldsTrace after name trace
   trace_stays name trace same held = record { is_trace = held.is_trace; bytes = bytes_stay name (trace_of trace) same held.bytes }
 
-  kept_at : (name : Name) (way : Way) → name ≢ path → IsWayKeptAt before machine name way → IsWayKeptAt after machine name way
+  kept_at : (name : FileName) (way : Way) → name ≢ path → IsWayKeptAt before machine name way → IsWayKeptAt after machine name way
   kept_at name (Machine (Events events)) another kept = script_stays name _ (others name another) kept
   kept_at name (Machine NoMemory) another kept = kept
   kept_at name (Machine Limit) another kept = kept
@@ -84,44 +84,44 @@ module _ (before after : Held) (machine : MachineOptions) (folder path : Name) (
   )
 
 -- the file that shows the last that is left is one of all
-way_at : (number : ℕ) (front done : List Outcome) (last : Outcome) (folder path : Name) → path ≡ file_path folder (number + length front) last.way → IsWayFile number (front ++ last ∷ done) folder path
+way_at : (number : ℕ) (front done : List Outcome) (last : Outcome) (folder path : FileName) → path ≡ file_path folder (number + length front) last.way → IsWayFile number (front ++ last ∷ done) folder path
 way_at number [] done last folder path is =
     let here : number + 0 ≡ number = omega arith in inl (is ∙ ap (λ (n : ℕ). file_path folder n last.way) here)
 way_at number (o ∷ os) done last folder path is =
     let next : number + length (o ∷ os) ≡ number + 1 + length os = omega arith in inr (way_at (number + 1) os done last folder path (is ∙ ap (λ (n : ℕ). file_path folder n last.way) next))
 
-way_of_left : (left front done all : List Outcome) (last : Outcome) (folder path : Name) → left ≡ front ++ last ∷ [] → left ++ done ≡ all → path ≡ file_path folder (length left) last.way → IsWayFile 1 all folder path
+way_of_left : (left front done all : List Outcome) (last : Outcome) (folder path : FileName) → left ≡ front ++ last ∷ [] → left ++ done ≡ all → path ≡ file_path folder (length left) last.way → IsWayFile 1 all folder path
 way_of_left left front done all last folder path left_is whole path_is =
     let count : length left ≡ 1 + length front = omega (arith, ap (λ (xs : List Outcome). length xs) left_is, length-append front (last ∷ [])) in
     let parts : all ≡ front ++ (last ∷ [] ++ done) = sym whole ∙ (ap (λ (xs : List Outcome). xs ++ done) left_is ∙ append_assoc front (last ∷ []) done) in
     subst (λ (os : List Outcome). IsWayFile 1 os folder path) (sym parts) (way_at 1 front done last folder path (path_is ∙ ap (λ (n : ℕ). file_path folder n last.way) count))
 
 -- its writing spares all others
-pub spares_one : (held before after : Held) (machine : MachineOptions) (folder path : Name) (left front done all : List Outcome) (last : Outcome) → left ≡ front ++ last ∷ [] → left ++ done ≡ all → path ≡ file_path folder (length left) last.way
-    → ((other : Name) → other ≢ path → after other ≡ before other) → SparesOthers (IsWayFile 1 all folder) held before → SparesOthers (IsWayFile 1 all folder) held after
+pub spares_one : (held before after : Held) (machine : MachineOptions) (folder path : FileName) (left front done all : List Outcome) (last : Outcome) → left ≡ front ++ last ∷ [] → left ++ done ≡ all → path ≡ file_path folder (length left) last.way
+    → ((other : FileName) → other ≢ path → after other ≡ before other) → SparesOthers (IsWayFile 1 all folder) held before → SparesOthers (IsWayFile 1 all folder) held after
 spares_one held before after machine folder path left front done all last left_is whole path_is others =
     spares_more before after machine folder path others (IsWayFile 1 all folder) held (way_of_left left front done all last folder path left_is whole path_is)
 
 -- each is one that may be written
-way_in : (number : ℕ) (outcomes : List Outcome) (folder name : Name) → IsWayFile number outcomes folder name → IsFileIn folder name
+way_in : (number : ℕ) (outcomes : List Outcome) (folder name : FileName) → IsWayFile number outcomes folder name → IsFileIn folder name
 way_in number [] folder name is = absurd is
 way_in number (o ∷ os) folder name (inl is) = is_file folder name number o.way is
 way_in number (o ∷ os) folder name (inr later) = way_in (number + 1) os folder name later
 
-pub way_file : (outcomes : List Outcome) (folder : Option (Bor Name)) (name : Name) → IsInNamed folder (IsWayFile 1 outcomes) name → IsFileOf folder name
+pub way_file : (outcomes : List Outcome) (folder : Option (Bor FileName)) (name : FileName) → IsInNamed folder (IsWayFile 1 outcomes) name → IsFileOf folder name
 way_file outcomes None name is = absurd is
 way_file outcomes (Some folder) name is = way_in 1 outcomes folder.now name is
 
 -- ---- from the last outcome to the first
 
 -- what shows the outcomes behind those that are left is written
-pub record HasKept (held now : Held) (machine : MachineOptions) (folder : Name) (left all : List Outcome) : Type 0 where
+pub record HasKept (held now : Held) (machine : MachineOptions) (folder : FileName) (left all : List Outcome) : Type 0 where
   pub done : List Outcome
   pub whole : left ++ done ≡ all
   pub kept : AreWaysKept now machine folder (length left + 1) done
   pub spared : SparesOthers (IsWayFile 1 all folder) held now
 
-pub none_kept : (held : Held) (machine : MachineOptions) (folder : Name) (all : List Outcome) → HasKept held held machine folder all all
+pub none_kept : (held : Held) (machine : MachineOptions) (folder : FileName) (all : List Outcome) → HasKept held held machine folder all all
 none_kept held machine folder all = record {
   done = [];
   whole = append-nil all;
@@ -129,8 +129,8 @@ none_kept held machine folder all = record {
   spared = λ other. inl refl;
 }
 
-pub one_more : (held before after : Held) (machine : MachineOptions) (folder path : Name) (left front all : List Outcome) (last : Outcome) → length all < 2 ^ 64 → left ≡ front ++ last ∷ [] → path ≡ file_path folder (length left) last.way
-    → ((other : Name) → other ≢ path → after other ≡ before other) → IsWayKeptAt after machine path last.way → HasKept held before machine folder left all → HasKept held after machine folder front all
+pub one_more : (held before after : Held) (machine : MachineOptions) (folder path : FileName) (left front all : List Outcome) (last : Outcome) → length all < 2 ^ 64 → left ≡ front ++ last ∷ [] → path ≡ file_path folder (length left) last.way
+    → ((other : FileName) → other ≢ path → after other ≡ before other) → IsWayKeptAt after machine path last.way → HasKept held before machine folder left all → HasKept held after machine folder front all
 one_more held before after machine folder path left front all last small left_is path_is others written has =
     let count : length left ≡ length front + 1 = ap (λ (xs : List Outcome). length xs) left_is ∙ length-append front (last ∷ []) in
     let total : length left + length has.done ≡ length all = sym (length-append left has.done) ∙ ap (λ (xs : List Outcome). length xs) has.whole in
@@ -141,7 +141,7 @@ one_more held before after machine folder path left front all last small left_is
       done = last ∷ has.done;
       whole = sym (append_assoc front (last ∷ []) has.done) ∙ (ap (λ (xs : List Outcome). xs ++ has.done) (sym left_is) ∙ has.whole);
       kept = (
-        subst (λ (p : Name). IsWayKeptAt after machine p last.way) (path_is ∙ ap (λ n. file_path folder n last.way) count) written,
+        subst (λ (p : FileName). IsWayKeptAt after machine p last.way) (path_is ∙ ap (λ n. file_path folder n last.way) count) written,
         subst (λ (n : ℕ). AreWaysKept after machine folder (n + 1) has.done) count (kept_from before after machine folder path others (length left + 1) has.done differs has.kept),
       );
       spared = spares_one held before after machine folder path left front has.done all last left_is has.whole path_is others has.spared;

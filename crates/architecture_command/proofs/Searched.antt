@@ -1,10 +1,10 @@
 -- What is known of a search, and what it leaves.
-use Rattle.std.proofs.Common.{◌≡◌, ◌≢◌, ◌∙◌, ℕ, IfSome, List, Option, map, subst}
+use Rattle.std.proofs.Common.{◌≡◌, ◌≢◌, ℕ, IfSome, List, Option, map, subst}
 use Rattle.std.specs.Io.KnownBytes.{Appends}
 use Rattle.architecture_command.specs.Keeping.{AreWaysKept, IsWayFile}
 use Rattle.architecture_command.specs.Searching.{IsFoundUnder, IsOfFile, IsSearched, SearchHas}
 use Rattle.architecture_outcomes.specs.declared.architecture.Architecture.{Architecture}
-use Rattle.architecture_outcomes.specs.Outcomes.{end_of, ends_of}
+use Rattle.architecture_outcomes.specs.Outcomes.{end_of}
 use Rattle.architecture_outcomes.specs.Text.{architecture_text}
 use Rattle.command_files.specs.Faults.{Name}
 use Rattle.command_files.specs.Held.{Held}
@@ -19,7 +19,7 @@ use Rattle.explore_command.specs.Keeping.{IsInNamed, SparesOthers}
 use Rattle.explore_command.specs.declared.judging.Judgement.{Judgement}
 use Rattle.explore_command.specs.declared.judging.Judgement.TheVariants.{Allowed}
 use Rattle.machine_types.specs.declared.config.Config.{Config}
-use Rattle.show_command.proofs.Shown.{judged_of, judged_words}
+use Rattle.show_command.proofs.Shown.{judged_of}
 use Rattle.show_command.specs.Asking.{HasProgram}
 use Rattle.show_command.specs.Targets.{names_of}
 use Rattle.state_search.specs.declared.findings.Extent.TheVariants as extent
@@ -48,6 +48,6 @@ module _ (held : Held) (wanted : Explore) (words : List Name) (window : ℕ) (co
     printed = subst (λ (n : List WordName). Appends old new (architecture_text n found)) named printed;
     kept = kept;
     spared = spares;
-    judged = judged_of held wanted.allow text names (names_of words) (ends_of found.outcomes.items) judgement named read (by ∙ judged_words end_of names text found.outcomes.items);
+    judged = judged_of end_of held wanted.allow text names (names_of words) found.outcomes.items judgement named read by;
     whole = memory;
   }

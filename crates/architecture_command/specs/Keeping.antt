@@ -8,22 +8,22 @@ use Rattle.command_files.specs.Files.{HoldsScript, HoldsTrace}
 use Rattle.command_files.specs.Held.{Held}
 use Rattle.command_files.specs.Sizes.{script_named}
 use Rattle.command_settings.specs.declared.wanted.MachineOptions.{MachineOptions}
-use Rattle.explore_command.specs.Keeping.{Name, outcome_path}
+use Rattle.explore_command.specs.Keeping.{FileName, outcome_path}
 use Rattle.explorer.specs.declared.found.Script.TheVariants.{Events, Limit, NoMemory, Unrealised}
 use Rattle.trace_text.specs.TraceLimits.{IsTrace}
 
 -- FOLDER/outcome-NUMBER.trace
-abbrev pub trace_path : Name → ℕ → Name
+abbrev pub trace_path : FileName → ℕ → FileName
 trace_path folder number = folder ++ (codes "/outcome-" ++ (decimal number ++ codes ".trace"))
 
 -- a script, where the machine comes to the outcome, and else a trace
-abbrev pub file_path : Name → ℕ → Way → Name
+abbrev pub file_path : FileName → ℕ → Way → FileName
 file_path folder number (Machine script) = outcome_path folder number
 file_path folder number (ModelAlone trace) = trace_path folder number
 file_path folder number (Model trace) = trace_path folder number
 
 -- the file has the script of these events, for the machine that was named, or the trace of the lists and the order
-abbrev pub IsWayKeptAt : Held → MachineOptions → Name → Way → Type 0
+abbrev pub IsWayKeptAt : Held → MachineOptions → FileName → Way → Type 0
 IsWayKeptAt left machine path (Machine (Events events)) = HoldsScript left path (script_named machine events.items)
 IsWayKeptAt left machine path (Machine NoMemory) = ⊥
 IsWayKeptAt left machine path (Machine Limit) = ⊥
@@ -38,19 +38,19 @@ HasText (ModelAlone trace) = IsTrace trace.history
 HasText (Model trace) = IsTrace trace.history
 
 -- what shows each outcome, counted from a number on
-abbrev pub AreWaysKept : Held → MachineOptions → Name → ℕ → List Outcome → Type 0
+abbrev pub AreWaysKept : Held → MachineOptions → FileName → ℕ → List Outcome → Type 0
 AreWaysKept left machine folder number [] = Unit {0}
 AreWaysKept left machine folder number (o ∷ rest) = IsWayKeptAt left machine (file_path folder number o.way) o.way × AreWaysKept left machine folder (number + 1) rest
 
 -- the file is one of those
-abbrev pub IsWayFile : ℕ → List Outcome → (folder name : Name) → Type 0
+abbrev pub IsWayFile : ℕ → List Outcome → (folder name : FileName) → Type 0
 IsWayFile number [] folder name = ⊥
 IsWayFile number (o ∷ rest) folder name = (name ≡ file_path folder number o.way) ⊎ IsWayFile (number + 1) rest folder name
 
 -- the file is one that shows an outcome of some number
-abbrev pub IsFileIn : Name → Name → Type 0
+abbrev pub IsFileIn : FileName → FileName → Type 0
 IsFileIn folder name = ((number : ℕ) × (name ≡ outcome_path folder number)) ⊎ ((number : ℕ) × (name ≡ trace_path folder number))
 
-abbrev pub IsFileOf : Option (Bor Name) → Name → Type 0
+abbrev pub IsFileOf : Option (Bor FileName) → FileName → Type 0
 IsFileOf None name = ⊥
 IsFileOf (Some folder) name = IsFileIn folder.now name

@@ -1,11 +1,11 @@
 -- What a search under a memory model has told, written and judged.
-use Rattle.std.specs.Prelude.{◌≡◌, ◌≢◌, ◌⊎◌, ℕ, All, IfSome, List, Option, min}
+use Rattle.std.specs.Prelude.{◌≡◌, ◌≢◌, ◌⊎◌, ℕ, All, IfSome, List, Option, map, min}
 use Rattle.std.specs.Io.KnownBytes.{Appends}
 use Rattle.std.specs.List.Sorted.{IsStrictlySortedBy}
 use Rattle.std.specs.Ordering.{on}
 use Rattle.architecture_command.specs.Keeping.{AreWaysKept, IsWayFile}
 use Rattle.architecture_outcomes.specs.declared.architecture.Architecture.{Architecture}
-use Rattle.architecture_outcomes.specs.Outcomes.{IsDecided, IsWitnessed, TellsEachEnd, end_of, ends_of}
+use Rattle.architecture_outcomes.specs.Outcomes.{IsDecided, IsWitnessed, TellsEachEnd, end_of}
 use Rattle.architecture_outcomes.specs.Text.{architecture_text}
 use Rattle.architecture_outcomes.specs.Visited.{AreMachineStates, TellsEnd}
 use Rattle.command_files.specs.Faults.{Name}
@@ -14,14 +14,15 @@ use Rattle.command_files.specs.Sizes.{config_named}
 use Rattle.command_files.specs.declared.fault.Fault.{Fault}
 use Rattle.command_settings.specs.declared.wanted.Explore.{Explore}
 use Rattle.elf_loader.specs.Image.{Initial}
+use Rattle.exploration_text.specs.Words.{end_text}
 use Rattle.explore_command.specs.Exploring.{IsExploreFault}
+use Rattle.explore_command.specs.Judging.{IsJudged}
 use Rattle.explore_command.specs.Keeping.{IsInNamed, SparesOthers}
 use Rattle.explore_command.specs.declared.judging.Judgement.{Judgement}
 use Rattle.explore_command.specs.declared.judging.Judgement.TheVariants.{Allowed}
 use Rattle.flat_model.specs.Flat.{Flat}
 use Rattle.machine_types.specs.declared.config.Config.{Config}
 use Rattle.show_command.specs.Asking.{HasProgram, HasUnshown}
-use Rattle.show_command.specs.Judging.{AreWordsJudged}
 use Rattle.show_command.specs.Targets.{names_of}
 use Rattle.state_search.specs.declared.findings.Extent.TheVariants.{Complete, LimitMet}
 use Rattle.state_search.specs.declared.findings.Extent.TheVariants as extent
@@ -53,7 +54,7 @@ pub record IsSearched (held left : Held) (wanted : Explore) (words : List Name) 
   pub printed : Appends old new (architecture_text (names_of words) architecture)
   pub kept : IfSome wanted.scripts (λ folder. AreWaysKept left wanted.machine folder.now 1 architecture.outcomes.items)
   pub spared : SparesOthers (IsInNamed wanted.scripts (IsWayFile 1 architecture.outcomes.items)) held left
-  pub judged : AreWordsJudged held wanted.allow (names_of words) (ends_of architecture.outcomes.items) judgement
+  pub judged : IsJudged held wanted.allow (map (λ o. end_text (names_of words) (end_of o)) architecture.outcomes.items) judgement
   pub whole : judgement ≡ Allowed → (architecture.machine ≢ extent.OutOfMemory) × (architecture.reach ≢ reach.OutOfMemory)
 
 -- P holds of the text of what was found

@@ -4,7 +4,7 @@ ghost use Rattle.std.specs.Prelude.{◌≡◌, ◌<◌, Err, IfErr, IfOk};
 ghost use Rattle.architecture_command.specs.Keeping.{IsFileOf};
 ghost use Rattle.architecture_command.specs.Searching.{IsSearchFault, IsSearched, SearchHas};
 ghost use Rattle.command_files.specs.Sizes.{IsOutside};
-ghost use Rattle.explore_command.specs.Exploring.{ComesBeforeScripts, LeavesPart};
+ghost use Rattle.explore_command.specs.Exploring.{ComesBeforeJudging, ComesBeforeScripts, LeavesPart};
 ghost use Rattle.explore_command.specs.Keeping.{SparesOthers};
 
 use crate::allowed::Searched;
@@ -42,6 +42,7 @@ pub fn architecture_files<'a, F: Files, O: Write, E: Write, P: Progress>(
         (SearchHas (F.held files.old) wanted.entry words.now window)) }
     ensures spared { SparesOthers (IsFileOf wanted.entry.scripts) (F.held files.old) (F.held files.new) }
     ensures untouched { IfErr result (λ fault. ComesBeforeScripts fault → F.held files.new ≡ F.held files.old) }
+    ensures silent { IfErr result (λ fault. ComesBeforeJudging fault → E.contents err.new ≡ E.contents err.old) }
 {
     let AskedWords {
         config,

@@ -1,5 +1,5 @@
 -- What is known of an exploration, and what it leaves.
-use Rattle.std.proofs.Common.{◌≡◌, ◌≢◌, ◌∙◌, ℕ, Err, IfErr, IfOk, IfSome, List, None, Ok, Option, Result, Some, [], ap, inl, inr, length, subst, sym}
+use Rattle.std.proofs.Common.{◌≡◌, ◌≢◌, ◌∙◌, ℕ, Err, IfErr, IfOk, IfSome, List, None, Ok, Option, Result, Some, [], ap, inl, inr, length, map, subst, sym}
 use Rattle.std.proofs.lemmas.List.{append-nil}
 use Rattle.std.specs.Io.KnownBytes.{Appends}
 use Rattle.command_files.specs.Faults.{Name}
@@ -10,15 +10,14 @@ use Rattle.command_files.specs.declared.fault.Fault.{Fault}
 use Rattle.command_files.specs.declared.fault.Fault.TheVariants.{OutOfMemory}
 use Rattle.command_settings.specs.declared.wanted.Explore.{Explore}
 use Rattle.elf_loader.specs.Image.{Initial}
-use Rattle.exploration_text.specs.Text.{exploration_text}
-use Rattle.explore_command.specs.Allowing.{IsJudged}
-use Rattle.explore_command.specs.Exploring.{IsAllowFile, IsExploreFault, IsExplorationTold, IsFoundIn, ExplorationHas, LeavesPart, judgement_on}
+use Rattle.exploration_text.specs.Text.{exploration_text, harts_text}
+use Rattle.explore_command.specs.Exploring.{IsAllowFile, IsExploreFault, IsExplorationTold, IsFoundIn, ExplorationHas, LeavesPart}
+use Rattle.explore_command.specs.Judging.{IsJudged, judgement_of_lines}
 use Rattle.explore_command.specs.Keeping.{AreKept, IsInNamed, IsScriptOf, SparesOthers}
 use Rattle.explore_command.specs.declared.judging.Judgement.{Judgement}
 use Rattle.explore_command.specs.declared.judging.Judgement.TheVariants.{Allowed}
-use Rattle.explorer.specs.Ends.{outcomes_of}
+use Rattle.explorer.specs.Ends.{outcome_of}
 use Rattle.explorer.specs.declared.exploration.Exploration.{Exploration}
-use Rattle.flat_model.specs.Shown.{Result as Ended}
 use Rattle.machine_types.specs.declared.config.Config.{Config}
 use Rattle.state_search.specs.declared.findings.Extent.TheVariants as extent
 use Rattle.text_fields.specs.Writing.{Begins}
@@ -50,12 +49,12 @@ spared_after IsWritten held mid left same spares name = elim (spares name) [
   | inr written ↦ inr written
 ]
 
--- what one file's bytes say of the outcomes, all files say
-pub judged : (held : Held) (allow : Option Name) (text : Option (List ℕ)) (outcomes : List (List Ended)) (judgement : Judgement) → IsAllowFile held allow text → judgement ≡ judgement_on text outcomes → IsJudged held allow outcomes judgement
-judged held None None outcomes judgement read is = is
-judged held None (Some text) outcomes judgement read is = absurd read
-judged held (Some file) None outcomes judgement read is = absurd read
-judged held (Some file) (Some text) outcomes judgement read is = (text, read, is)
+-- what one file's bytes say of the lines, all files say
+pub judged : (held : Held) (allow : Option Name) (text : Option (List ℕ)) (lines : List (List ℕ)) (judgement : Judgement) → IsAllowFile held allow text → judgement ≡ judgement_of_lines text lines → IsJudged held allow lines judgement
+judged held None None lines judgement read is = is
+judged held None (Some text) lines judgement read is = absurd read
+judged held (Some file) None lines judgement read is = absurd read
+judged held (Some file) (Some text) lines judgement read is = (text, read, is)
 
 module _ (held : Held) (wanted : Explore) (config : Config) (image : Initial) (found : Exploration)
     (config_is : config ≡ config_named wanted.machine) (file : HoldsImage held wanted.raw wanted.image.now wanted.machine.memory image) (is : IsFoundIn image config wanted.states found) where
@@ -67,7 +66,7 @@ module _ (held : Held) (wanted : Explore) (config : Config) (image : Initial) (f
 
   pub whole : (old new : Option (List ℕ)) (left : Held) (judgement : Judgement) → Appends old new (exploration_text found) → IfSome wanted.scripts (λ folder. AreKept left wanted.machine folder.now found)
       → SparesOthers (IsInNamed wanted.scripts (IsScriptOf (length found.outcomes.items) found.stuck)) held left
-      → IsJudged held wanted.allow (outcomes_of found.outcomes.items) judgement → (judgement ≡ Allowed → found.extent ≢ extent.OutOfMemory) → IsExplorationTold held left wanted judgement old new
+      → IsJudged held wanted.allow (map (λ f. harts_text 0 (outcome_of f)) found.outcomes.items) judgement → (judgement ≡ Allowed → found.extent ≢ extent.OutOfMemory) → IsExplorationTold held left wanted judgement old new
   whole old new left judgement told kept spares by memory = record {
     image = image;
     exploration = found;

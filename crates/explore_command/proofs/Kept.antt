@@ -14,7 +14,7 @@ use Rattle.machine_types.specs.Config.{is_within_limits}
 use Rattle.machine_types.specs.declared.event.Event.{Event}
 use Rattle.std.specs.List.{AllByRecursion}
 use Rattle.command_settings.specs.declared.wanted.MachineOptions.{MachineOptions}
-use Rattle.explore_command.specs.Keeping.{AreKept, AreKeptFrom, IsInNamed, IsKeptAt, IsOutcomeScript, IsScriptFile, IsScriptOf, Name, SparesOthers, outcome_path, stuck_path}
+use Rattle.explore_command.specs.Keeping.{AreKept, AreKeptFrom, FileName, IsInNamed, IsKeptAt, IsOutcomeScript, IsScriptFile, IsScriptOf, SparesOthers, outcome_path, stuck_path}
 use Rattle.explorer.specs.declared.exploration.Exploration.{Exploration}
 use Rattle.explorer.specs.declared.exploration.Stuck.{Stuck}
 use Rattle.explorer.specs.declared.found.Found.{Found}
@@ -25,13 +25,13 @@ use Rattle.trace_text.specs.declared.script.Script.{Script as Text}
 
 -- ---- paths
 
-one_number : (folder : Name) (m n : ℕ) → m < 2 ^ 64 → n < 2 ^ 64 → outcome_path folder m ≡ outcome_path folder n → m ≡ n
+one_number : (folder : FileName) (m n : ℕ) → m < 2 ^ 64 → n < 2 ^ 64 → outcome_path folder m ≡ outcome_path folder n → m ≡ n
 one_number folder m n m_small n_small same =
     decimal_injective m n m_small n_small
     (append_cancel_right (decimal m) (decimal n) (codes ".script")
     (append_cancel_left (codes "/outcome-") _ _ (append_cancel_left folder _ _ same)))
 
-pub never_stuck : (folder : Name) (n : ℕ) → stuck_path folder ≡ outcome_path folder n → ⊥
+pub never_stuck : (folder : FileName) (n : ℕ) → stuck_path folder ≡ outcome_path folder n → ⊥
 never_stuck folder n same =
     let behind : codes "/stuck.script" ≡ codes "/outcome-" ++ (decimal n ++ codes ".script") = append_cancel_left folder _ _ same in
     let bad : 115 ≡ 111 = ap (λ (xs : List ℕ). slice_index xs 1) behind in absurd (omega (arith, bad))
@@ -43,7 +43,7 @@ on_ok P Q (Ok x) more so = more so
 on_ok P Q (Err e) more so = tt
 
 -- a file of such a script's text has the script
-pub script_held : (left : Held) (path : Name) (machine : MachineOptions) (script : Text) (items events : List Event) → script ≡ script_named machine items → items ≡ events
+pub script_held : (left : Held) (path : FileName) (machine : MachineOptions) (script : Text) (items events : List Event) → script ≡ script_named machine items → items ≡ events
     → is_within_limits (config_named machine) ≡ true → IsMemoryKib machine.memory → AllByRecursion IsEvent script.events → HoldsBytes left path (text script) → HoldsScript left path (script_named machine events)
 script_held left path machine script items events script_is items_is within sized spelt bytes =
     subst (HoldsScript left path) (script_is ∙ ap (script_named machine) items_is) (record {
@@ -56,14 +56,14 @@ script_held left path machine script items events script_is items_is within size
 
 -- ---- what another file's writing leaves
 
-module _ (before after : Held) (machine : MachineOptions) (folder path : Name) (others : (other : Name) → other ≢ path → after other ≡ before other) where
-  holds : (name : Name) (script : Text) → after name ≡ before name → HoldsScript before name script → HoldsScript after name script
+module _ (before after : Held) (machine : MachineOptions) (folder path : FileName) (others : (other : FileName) → other ≢ path → after other ≡ before other) where
+  holds : (name : FileName) (script : Text) → after name ≡ before name → HoldsScript before name script → HoldsScript after name script
   holds name script same held = record {
     is_script = held.is_script;
     bytes = subst (λ (o : Option (List ℕ)). IfSome o (λ known. known ≡ text script)) (sym same) held.bytes;
   }
 
-  kept_at : (name : Name) (script : Script) → name ≢ path → IsKeptAt before machine name script → IsKeptAt after machine name script
+  kept_at : (name : FileName) (script : Script) → name ≢ path → IsKeptAt before machine name script → IsKeptAt after machine name script
   kept_at name (Events events) another kept = holds name _ (others name another) kept
   kept_at name NoMemory another kept = kept
   kept_at name Limit another kept = kept
@@ -77,7 +77,7 @@ module _ (before after : Held) (machine : MachineOptions) (folder path : Name) (
     kept_from (number + 1) xs (λ n from below. differs n (omega (arith, from)) (omega (arith, below))) kept.1,
   )
 
-  pub spares_more : (IsWritten : Name → Type 0) (held : Held) → IsWritten path → SparesOthers IsWritten held before → SparesOthers IsWritten held after
+  pub spares_more : (IsWritten : FileName → Type 0) (held : Held) → IsWritten path → SparesOthers IsWritten held before → SparesOthers IsWritten held after
   spares_more IsWritten held is spared other = go (bytes_eq other path) refl
     where
       go : (b : Bool) → bytes_eq other path ≡ b → (after other ≡ held other) ⊎ IsWritten other
@@ -94,13 +94,13 @@ module _ (before after : Held) (machine : MachineOptions) (folder path : Name) (
 -- ---- from the last outcome to the first
 
 -- the outcomes behind those that are left have their scripts
-pub record HasKept (held now : Held) (machine : MachineOptions) (folder : Name) (left all : List Found) : Type 0 where
+pub record HasKept (held now : Held) (machine : MachineOptions) (folder : FileName) (left all : List Found) : Type 0 where
   pub done : List Found
   pub whole : left ++ done ≡ all
   pub kept : AreKeptFrom now machine folder (length left + 1) done
   pub spared : SparesOthers (IsOutcomeScript (length all) folder) held now
 
-pub none_kept : (held : Held) (machine : MachineOptions) (folder : Name) (all : List Found) → HasKept held held machine folder all all
+pub none_kept : (held : Held) (machine : MachineOptions) (folder : FileName) (all : List Found) → HasKept held held machine folder all all
 none_kept held machine folder all = record {
   done = [];
   whole = append-nil all;
@@ -109,14 +109,14 @@ none_kept held machine folder all = record {
 }
 
 -- the last that is left is one of all
-pub one_of : (left front all done : List Found) (path folder : Name) (last : Found) → left ≡ front ++ last ∷ [] → left ++ done ≡ all → path ≡ outcome_path folder (length left) → IsOutcomeScript (length all) folder path
+pub one_of : (left front all done : List Found) (path folder : FileName) (last : Found) → left ≡ front ++ last ∷ [] → left ++ done ≡ all → path ≡ outcome_path folder (length left) → IsOutcomeScript (length all) folder path
 one_of left front all done path folder last left_is whole path_is =
     let count : length left ≡ length front + 1 = ap (λ (xs : List Found). length xs) left_is ∙ length-append front (last ∷ []) in
     let total : length left + length done ≡ length all = sym (length-append left done) ∙ ap (λ (xs : List Found). length xs) whole in
     (length front, omega (arith, count, total), path_is ∙ ap (outcome_path folder) count)
 
-pub one_more : (held before after : Held) (machine : MachineOptions) (folder path : Name) (left front all : List Found) (last : Found) → length all < 2 ^ 64 → left ≡ front ++ last ∷ [] → path ≡ outcome_path folder (length left)
-    → ((other : Name) → other ≢ path → after other ≡ before other) → IsKeptAt after machine path last.script → HasKept held before machine folder left all → HasKept held after machine folder front all
+pub one_more : (held before after : Held) (machine : MachineOptions) (folder path : FileName) (left front all : List Found) (last : Found) → length all < 2 ^ 64 → left ≡ front ++ last ∷ [] → path ≡ outcome_path folder (length left)
+    → ((other : FileName) → other ≢ path → after other ≡ before other) → IsKeptAt after machine path last.script → HasKept held before machine folder left all → HasKept held after machine folder front all
 one_more held before after machine folder path left front all last small left_is path_is others written has =
     let count : length left ≡ length front + 1 = ap (λ (xs : List Found). length xs) left_is ∙ length-append front (last ∷ []) in
     let total : length left + length has.done ≡ length all = sym (length-append left has.done) ∙ ap (λ (xs : List Found). length xs) has.whole in
@@ -127,7 +127,7 @@ one_more held before after machine folder path left front all last small left_is
       done = last ∷ has.done;
       whole = sym (append_assoc front (last ∷ []) has.done) ∙ (ap (λ (xs : List Found). xs ++ has.done) (sym left_is) ∙ has.whole);
       kept = (
-        subst (λ (p : Name). IsKeptAt after machine p last.script) (path_is ∙ ap (outcome_path folder) count) written,
+        subst (λ (p : FileName). IsKeptAt after machine p last.script) (path_is ∙ ap (outcome_path folder) count) written,
         subst (λ (n : ℕ). AreKeptFrom after machine folder (n + 1) has.done) count (kept_from before after machine folder path others (length left + 1) has.done differs has.kept),
       );
       spared = spares_more before after machine folder path others (IsOutcomeScript (length all) folder) held (one_of left front all has.done path folder last left_is has.whole path_is) has.spared;
@@ -148,34 +148,34 @@ last_is xs x d some is =
 
 -- ---- all scripts
 
-pub all_kept : (before after : Held) (machine : MachineOptions) (folder path : Name) (e : Exploration) (outcomes : List Found) (stuck : Stuck) → ((other : Name) → other ≢ path → after other ≡ before other)
+pub all_kept : (before after : Held) (machine : MachineOptions) (folder path : FileName) (e : Exploration) (outcomes : List Found) (stuck : Stuck) → ((other : FileName) → other ≢ path → after other ≡ before other)
     → path ≡ stuck_path folder → outcomes ≡ e.outcomes.items → e.stuck ≡ Some stuck → AreKeptFrom before machine folder 1 outcomes → IsKeptAt after machine path stuck.script → AreKept after machine folder e
 all_kept before after machine folder path e outcomes stuck others path_is outcomes_are stuck_is kept here = (
   subst (AreKeptFrom after machine folder 1) outcomes_are
       (kept_from before after machine folder path others 1 outcomes (λ n from below same. never_stuck folder n (sym path_is ∙ same)) kept),
-  subst (λ (o : Option Stuck). IfSome o (λ s. IsKeptAt after machine (stuck_path folder) s.script)) (sym stuck_is) (subst (λ (p : Name). IsKeptAt after machine p stuck.script) path_is here),
+  subst (λ (o : Option Stuck). IfSome o (λ s. IsKeptAt after machine (stuck_path folder) s.script)) (sym stuck_is) (subst (λ (p : FileName). IsKeptAt after machine p stuck.script) path_is here),
 )
 
 -- ---- which files those are
 
 -- more files may be written
-pub spares_wider : (IsWritten MayBe : Name → Type 0) (held left : Held) → ((name : Name) → IsWritten name → MayBe name) → SparesOthers IsWritten held left → SparesOthers MayBe held left
+pub spares_wider : (IsWritten MayBe : FileName → Type 0) (held left : Held) → ((name : FileName) → IsWritten name → MayBe name) → SparesOthers IsWritten held left → SparesOthers MayBe held left
 spares_wider IsWritten MayBe held left wider spares name = elim (spares name) [
   | inl still ↦ inl still
   | inr is ↦ inr (wider name is)
 ]
 
-pub outcome_spared : (outcomes : List Found) (e : Exploration) (folder : Name) (held left : Held) → outcomes ≡ e.outcomes.items → SparesOthers (IsOutcomeScript (length outcomes) folder) held left
+pub outcome_spared : (outcomes : List Found) (e : Exploration) (folder : FileName) (held left : Held) → outcomes ≡ e.outcomes.items → SparesOthers (IsOutcomeScript (length outcomes) folder) held left
     → SparesOthers (IsScriptOf (length e.outcomes.items) e.stuck folder) held left
 outcome_spared outcomes e folder held left same = spares_wider _ _ held left
     (λ name is. inl (subst (λ (xs : List Found). IsOutcomeScript (length xs) folder name) same is))
 
 -- one of these scripts is one that may be written
-pub script_file : (count : ℕ) (stuck : Option Stuck) (folder : Option (Bor Name)) (name : Name) → IsInNamed folder (IsScriptOf count stuck) name → IsScriptFile folder name
+pub script_file : (count : ℕ) (stuck : Option Stuck) (folder : Option (Bor FileName)) (name : FileName) → IsInNamed folder (IsScriptOf count stuck) name → IsScriptFile folder name
 script_file count stuck None name is = absurd is
 script_file count stuck (Some folder) name (inl (i, inside, path)) = inl (i + 1, path)
 script_file count stuck (Some folder) name (inr (some, path)) = inr path
 
-pub outcome_file : (count : ℕ) (folder : Option (Bor Name)) (name : Name) → IsInNamed folder (IsOutcomeScript count) name → IsScriptFile folder name
+pub outcome_file : (count : ℕ) (folder : Option (Bor FileName)) (name : FileName) → IsInNamed folder (IsOutcomeScript count) name → IsScriptFile folder name
 outcome_file count None name is = absurd is
 outcome_file count (Some folder) name (i, inside, path) = inl (i + 1, path)

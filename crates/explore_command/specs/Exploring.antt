@@ -1,5 +1,5 @@
 -- What an exploration has told, written and judged, and which faults it tells.
-use Rattle.std.specs.Prelude.{◌≡◌, ◌≢◌, ◌⊎◌, ◌≤◌, ℕ, [], All, IfSome, List, length, None, Option, Some}
+use Rattle.std.specs.Prelude.{◌≡◌, ◌≢◌, ◌⊎◌, ◌≤◌, ℕ, [], All, IfSome, List, length, map, None, Option, Some}
 use Rattle.std.specs.Io.KnownBytes.{Appends}
 use Rattle.std.specs.List.Sorted.{IsStrictlySortedBy}
 use Rattle.std.specs.Ordering.{on}
@@ -11,8 +11,8 @@ use Rattle.command_files.specs.declared.fault.Fault.{Fault}
 use Rattle.command_files.specs.declared.fault.Fault.TheVariants.{CannotMake, CannotRead, CannotWrite, Configuration, Image, OutOfMemory}
 use Rattle.command_settings.specs.declared.wanted.Explore.{Explore}
 use Rattle.elf_loader.specs.Image.{Initial}
-use Rattle.exploration_text.specs.Text.{exploration_text}
-use Rattle.explore_command.specs.Allowing.{IsJudged, judgement_by}
+use Rattle.exploration_text.specs.Text.{exploration_text, harts_text}
+use Rattle.explore_command.specs.Judging.{IsJudged}
 use Rattle.explore_command.specs.Keeping.{AreKept, IsInNamed, IsScriptOf, SparesOthers}
 use Rattle.explore_command.specs.declared.judging.Judgement.{Judgement}
 use Rattle.explore_command.specs.declared.judging.Judgement.TheVariants.{Allowed}
@@ -23,7 +23,6 @@ use Rattle.explorer.specs.Stuck.{IsStuckIn}
 use Rattle.explorer.specs.Visited.{AreVisited}
 use Rattle.explorer.specs.declared.exploration.Exploration.{Exploration}
 use Rattle.flat_model.specs.Flat.{Flat}
-use Rattle.flat_model.specs.Shown.{Result}
 use Rattle.machine_types.specs.declared.config.Config.{Config}
 use Rattle.state_search.specs.declared.findings.Extent.TheVariants.{Complete, LimitMet}
 use Rattle.state_search.specs.declared.findings.Extent.TheVariants as extent
@@ -53,7 +52,7 @@ pub record IsExplorationTold (held left : Held) (wanted : Explore) (judgement : 
   pub printed : Appends old new (exploration_text exploration)
   pub kept : IfSome wanted.scripts (λ folder. AreKept left wanted.machine folder.now exploration)
   pub spared : SparesOthers (IsInNamed wanted.scripts (IsScriptOf (length exploration.outcomes.items) exploration.stuck)) held left
-  pub judged : IsJudged held wanted.allow (outcomes_of exploration.outcomes.items) judgement
+  pub judged : IsJudged held wanted.allow (map (λ f. harts_text 0 (outcome_of f)) exploration.outcomes.items) judgement
   pub whole : judgement ≡ Allowed → exploration.extent ≢ extent.OutOfMemory
 
 -- P holds of the text of what was found of the image in the file
@@ -72,10 +71,6 @@ IsAllowFile held None None = Unit {0}
 IsAllowFile held None (Some text) = ⊥
 IsAllowFile held (Some file) None = ⊥
 IsAllowFile held (Some file) (Some text) = HoldsBytes held file.now text
-
-abbrev pub judgement_on : Option (List ℕ) → List (List Result) → Judgement
-judgement_on None outcomes = Allowed
-judgement_on (Some text) outcomes = judgement_by text outcomes
 
 -- ---- faults
 
@@ -118,3 +113,8 @@ abbrev pub ComesBeforeScripts : Fault → Type 0
 ComesBeforeScripts (CannotMake file) = ⊥
 ComesBeforeScripts OutOfMemory = ⊥
 ComesBeforeScripts _ = Unit {0}
+
+-- it is told before the outcomes are judged, where that comes last
+abbrev pub ComesBeforeJudging : Fault → Type 0
+ComesBeforeJudging OutOfMemory = ⊥
+ComesBeforeJudging _ = Unit {0}

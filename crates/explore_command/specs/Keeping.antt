@@ -11,52 +11,52 @@ use Rattle.explorer.specs.declared.found.Found.{Found}
 use Rattle.explorer.specs.declared.found.Script.{Script}
 use Rattle.explorer.specs.declared.found.Script.TheVariants.{Events}
 
-abbrev pub Name : Type 0
-Name = List ℕ
+abbrev pub FileName : Type 0
+FileName = List ℕ
 
 -- FOLDER/outcome-NUMBER.script
-abbrev pub outcome_path : Name → ℕ → Name
+abbrev pub outcome_path : FileName → ℕ → FileName
 outcome_path folder number = folder ++ (codes "/outcome-" ++ (decimal number ++ codes ".script"))
 
 -- FOLDER/stuck.script
-abbrev pub stuck_path : Name → Name
+abbrev pub stuck_path : FileName → FileName
 stuck_path folder = folder ++ codes "/stuck.script"
 
 -- the file has the script of these events, for the machine that was named
-abbrev pub IsKeptAt : Held → MachineOptions → Name → Script → Type 0
+abbrev pub IsKeptAt : Held → MachineOptions → FileName → Script → Type 0
 IsKeptAt left machine path (Events events) = HoldsScript left path (script_named machine events.items)
 IsKeptAt left machine path _ = ⊥
 
 -- each outcome's script, counted from a number on
-abbrev pub AreKeptFrom : Held → MachineOptions → Name → ℕ → List Found → Type 0
+abbrev pub AreKeptFrom : Held → MachineOptions → FileName → ℕ → List Found → Type 0
 AreKeptFrom left machine folder number [] = Unit {0}
 AreKeptFrom left machine folder number (found ∷ rest) = IsKeptAt left machine (outcome_path folder number) found.script × AreKeptFrom left machine folder (number + 1) rest
 
 -- each outcome's script, and one that gets stuck, if any does
-abbrev pub AreKept : Held → MachineOptions → Name → Exploration → Type 0
+abbrev pub AreKept : Held → MachineOptions → FileName → Exploration → Type 0
 AreKept left machine folder e = AreKeptFrom left machine folder 1 e.outcomes.items × IfSome e.stuck (λ stuck. IsKeptAt left machine (stuck_path folder) stuck.script)
 
 -- the file is one of those scripts
-abbrev pub IsScriptIn : Name → Name → Type 0
+abbrev pub IsScriptIn : FileName → FileName → Type 0
 IsScriptIn folder name = ((number : ℕ) × (name ≡ outcome_path folder number)) ⊎ (name ≡ stuck_path folder)
 
-abbrev pub IsScriptFile : Option (Bor Name) → Name → Type 0
+abbrev pub IsScriptFile : Option (Bor FileName) → FileName → Type 0
 IsScriptFile None name = ⊥
 IsScriptFile (Some folder) name = IsScriptIn folder.now name
 
 -- the file is the script of one of so many outcomes
-abbrev pub IsOutcomeScript : (count : ℕ) (folder name : Name) → Type 0
+abbrev pub IsOutcomeScript : (count : ℕ) (folder name : FileName) → Type 0
 IsOutcomeScript count folder name = (i : ℕ) × (i < count) × (name ≡ outcome_path folder (i + 1))
 
 -- or that of what gets stuck, if anything does
-abbrev pub IsScriptOf : (count : ℕ) (stuck : Option Stuck) (folder name : Name) → Type 0
+abbrev pub IsScriptOf : (count : ℕ) (stuck : Option Stuck) (folder name : FileName) → Type 0
 IsScriptOf count stuck folder name = IsOutcomeScript count folder name ⊎ (IsSome stuck × (name ≡ stuck_path folder))
 
 -- a folder was named, and the file is one of these in it
-abbrev pub IsInNamed : Option (Bor Name) → (Name → Name → Type 0) → Name → Type 0
+abbrev pub IsInNamed : Option (Bor FileName) → (FileName → FileName → Type 0) → FileName → Type 0
 IsInNamed None IsIn name = ⊥
 IsInNamed (Some folder) IsIn name = IsIn folder.now name
 
 -- no other file is another than before
-abbrev pub SparesOthers : (Name → Type 0) → Held → Held → Type 0
-SparesOthers IsWritten held left = (other : Name) → (left other ≡ held other) ⊎ IsWritten other
+abbrev pub SparesOthers : (FileName → Type 0) → Held → Held → Type 0
+SparesOthers IsWritten held left = (other : FileName) → (left other ≡ held other) ⊎ IsWritten other

@@ -8,7 +8,7 @@ ghost use Rattle.command_files.specs.Sizes.{config_named, script_named};
 ghost use Rattle.command_settings.specs.declared.wanted.MachineOptions.{MachineOptions};
 ghost use Rattle.elf_loader.specs.Size.{IsMemoryKib};
 ghost use Rattle.explore_command.specs.Exploring.{IsFolderFault, IsNamedBy};
-ghost use Rattle.explore_command.specs.Keeping.{AreKept, AreKeptFrom, IsInNamed, IsKeptAt, IsOutcomeScript, IsScriptOf, Name, SparesOthers, outcome_path, stuck_path};
+ghost use Rattle.explore_command.specs.Keeping.{AreKept, AreKeptFrom, FileName, IsInNamed, IsKeptAt, IsOutcomeScript, IsScriptOf, SparesOthers, outcome_path, stuck_path};
 ghost use Rattle.machine_types.specs.Config.{is_within_limits};
 ghost use Rattle.trace_text.specs.Scripts.{text};
 
@@ -33,10 +33,10 @@ pub trait Keepable {
     ghost HasTexts: { Self → Type 0 };
 
     // The folder has it, for the machine that was named.
-    ghost AreKept: { Self → Held → MachineOptions → Name → Type 0 };
+    ghost AreKept: { Self → Held → MachineOptions → FileName → Type 0 };
 
     // The file is one of those that have it in this folder.
-    ghost IsFileOf: { Self → Name → Name → Type 0 };
+    ghost IsFileOf: { Self → FileName → FileName → Type 0 };
 
     /// Writes it into the folder.
     fn keep_in<'a, F: Files>(&self, folder: Folder<'a>, files: &mut F) -> Result<(), Fault<'a>>

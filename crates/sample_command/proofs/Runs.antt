@@ -1,5 +1,5 @@
 -- What is known of random runs, and what they leave.
-use Rattle.std.proofs.Common.{◌≡◌, ◌≤◌, ℕ, IfSome, List, Option, arith, length, subst}
+use Rattle.std.proofs.Common.{◌≡◌, ◌≤◌, ℕ, IfSome, List, Option, arith, length, map, subst}
 use Rattle.std.specs.Io.KnownBytes.{Appends}
 use Rattle.command_files.specs.Files.{HoldsImage}
 use Rattle.command_files.specs.Held.{Held}
@@ -7,11 +7,12 @@ use Rattle.command_files.specs.Sizes.{config_named}
 use Rattle.command_settings.specs.declared.wanted.Explore.{Explore}
 use Rattle.elf_loader.specs.Image.{Initial}
 use Rattle.exploration_text.specs.Sampling.{sampled_text}
-use Rattle.explore_command.specs.Allowing.{IsJudged}
+use Rattle.exploration_text.specs.Text.{harts_text}
+use Rattle.explore_command.specs.Judging.{IsJudged}
 use Rattle.explore_command.specs.Keeping.{AreKeptFrom, IsInNamed, IsOutcomeScript, SparesOthers}
 use Rattle.explore_command.specs.declared.judging.Judgement.{Judgement}
 use Rattle.explore_command.specs.declared.judging.Judgement.TheVariants.{Allowed}
-use Rattle.explorer.specs.Ends.{outcomes_of}
+use Rattle.explorer.specs.Ends.{outcome_of}
 use Rattle.machine_types.specs.declared.config.Config.{Config}
 use Rattle.sample_command.specs.Sampling.{AreRuns, IsSampleTold, SampleHas}
 use Rattle.sampler.specs.declared.sampled.Sampled.{Sampled}
@@ -26,7 +27,7 @@ module _ (held : Held) (wanted : Explore) (runs : ℕ) (config : Config) (image 
 
   pub all : (old new : Option (List ℕ)) (left : Held) (judgement : Judgement) → Appends old new (sampled_text found) → IfSome wanted.scripts (λ folder. AreKeptFrom left wanted.machine folder.now 1 found.ends.items)
       → SparesOthers (IsInNamed wanted.scripts (IsOutcomeScript (length found.ends.items))) held left
-      → IsJudged held wanted.allow (outcomes_of found.ends.items) judgement → (judgement ≡ Allowed → found.runs ≡ runs) → IsSampleTold held left wanted runs judgement old new
+      → IsJudged held wanted.allow (map (λ f. harts_text 0 (outcome_of f)) found.ends.items) judgement → (judgement ≡ Allowed → found.runs ≡ runs) → IsSampleTold held left wanted runs judgement old new
   all old new left judgement printed kept spares by whole = record {
     image = image;
     found = found;

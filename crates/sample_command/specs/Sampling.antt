@@ -1,5 +1,5 @@
 -- What random runs have told, written and judged.
-use Rattle.std.specs.Prelude.{◌≡◌, ℕ, ◌≤◌, IfSome, List, Option, length}
+use Rattle.std.specs.Prelude.{◌≡◌, ℕ, ◌≤◌, IfSome, List, Option, length, map}
 use Rattle.std.specs.Io.KnownBytes.{Appends}
 use Rattle.command_files.specs.Files.{HoldsImage}
 use Rattle.command_files.specs.Held.{Held}
@@ -7,11 +7,12 @@ use Rattle.command_files.specs.Sizes.{config_named}
 use Rattle.command_settings.specs.declared.wanted.Explore.{Explore}
 use Rattle.elf_loader.specs.Image.{Initial}
 use Rattle.exploration_text.specs.Sampling.{sampled_text}
-use Rattle.explore_command.specs.Allowing.{IsJudged}
+use Rattle.exploration_text.specs.Text.{harts_text}
+use Rattle.explore_command.specs.Judging.{IsJudged}
 use Rattle.explore_command.specs.Keeping.{AreKeptFrom, IsInNamed, IsOutcomeScript, SparesOthers}
 use Rattle.explore_command.specs.declared.judging.Judgement.{Judgement}
 use Rattle.explore_command.specs.declared.judging.Judgement.TheVariants.{Allowed}
-use Rattle.explorer.specs.Ends.{outcomes_of}
+use Rattle.explorer.specs.Ends.{outcome_of}
 use Rattle.machine_types.specs.declared.config.Config.{Config}
 use Rattle.sampler.specs.Sampled as ends
 use Rattle.sampler.specs.declared.sampled.Sampled.{Sampled}
@@ -30,7 +31,7 @@ pub record IsSampleTold (held left : Held) (wanted : Explore) (runs : ℕ) (judg
   pub printed : Appends old new (sampled_text found)
   pub kept : IfSome wanted.scripts (λ folder. AreKeptFrom left wanted.machine folder.now 1 found.ends.items)
   pub spared : SparesOthers (IsInNamed wanted.scripts (IsOutcomeScript (length found.ends.items))) held left
-  pub judged : IsJudged held wanted.allow (outcomes_of found.ends.items) judgement
+  pub judged : IsJudged held wanted.allow (map (λ f. harts_text 0 (outcome_of f)) found.ends.items) judgement
   pub whole : judgement ≡ Allowed → found.runs ≡ runs
 
 -- P holds of the text of what runs of the image in the file came to

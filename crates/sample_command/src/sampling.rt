@@ -2,7 +2,7 @@
 
 ghost use Rattle.std.specs.Prelude.{◌≡◌, Err, IfErr, IfOk};
 ghost use Rattle.command_files.specs.Sizes.{IsOutside};
-ghost use Rattle.explore_command.specs.Exploring.{ComesBeforeScripts, IsExploreFault, LeavesPart};
+ghost use Rattle.explore_command.specs.Exploring.{ComesBeforeJudging, ComesBeforeScripts, IsExploreFault, LeavesPart};
 ghost use Rattle.explore_command.specs.Keeping.{IsScriptFile, SparesOthers};
 ghost use Rattle.sample_command.specs.Sampling.{IsSampleTold, SampleHas};
 
@@ -48,6 +48,7 @@ pub fn sample_files<'a, F: Files, O: Write, E: Write, P: Progress>(
         (SampleHas (F.held files.old) wanted.entry runs)) }
     ensures spared { SparesOthers (IsScriptFile wanted.entry.scripts) (F.held files.old) (F.held files.new) }
     ensures untouched { IfErr result (λ fault. ComesBeforeScripts fault → F.held files.new ≡ F.held files.old) }
+    ensures silent { IfErr result (λ fault. ComesBeforeJudging fault → E.contents err.new ≡ E.contents err.old) }
 {
     let asked = Asked::read(alloc, files, wanted)?;
     let sampling = Sampling {

@@ -1,5 +1,5 @@
 -- What is known of an exploration that shows words, and what its faults say and leave.
-use Rattle.std.proofs.Common.{◌≡◌, ◌≢◌, ◌∙◌, ◌⊎◌, ◌≤◌, ◌-◌, ℕ, [], ◌∷◌, ◌++◌, All, arith, Bool, IfSome, List, None, Option, Some, ap, drop, get_or, if◌then◌else◌, inl, inr, length, map, refl, reverse, subst, sym, take}
+use Rattle.std.proofs.Common.{◌≡◌, ◌≢◌, ◌∙◌, ◌⊎◌, ◌≤◌, ◌-◌, ℕ, [], ◌∷◌, ◌++◌, All, arith, IfSome, List, Option, Some, ap, drop, get_or, inl, inr, length, map, refl, reverse, subst, sym, take}
 use Rattle.std.proofs.lemmas.List.{append_assoc, length-drop, length-map, map-append, reverse-append, take_all}
 use Rattle.std.proofs.lemmas.List.Elements.{All-nil, All-push}
 use Rattle.std.specs.Io.KnownBytes.{Appends}
@@ -13,47 +13,34 @@ use Rattle.elf_loader.specs.Image.{Initial}
 use Rattle.elf_symbols.specs.Named.{Named}
 use Rattle.exploration_text.specs.declared.wording.WordName.{WordName}
 use Rattle.exploration_text.specs.Words.{end_text, words_text}
-use Rattle.explore_command.proofs.Judged.{all_told}
-use Rattle.explore_command.specs.Allowing.{is_allowed_line, without_number}
+use Rattle.explore_command.proofs.Explored.{judged}
 use Rattle.explore_command.specs.Exploring.{IsAllowFile, IsExploreFault}
-use Rattle.explore_command.specs.Judging.{judgement_of_lines}
+use Rattle.explore_command.specs.Judging.{IsJudged, judgement_of_lines}
 use Rattle.explore_command.specs.Keeping.{AreKept, AreKeptFrom, IsInNamed, IsKeptAt, IsScriptOf, SparesOthers, stuck_path}
 use Rattle.explore_command.specs.declared.judging.Judgement.{Judgement}
-use Rattle.explore_command.specs.declared.judging.Judgement.TheVariants.{Allowed, NotAllowed}
+use Rattle.explore_command.specs.declared.judging.Judgement.TheVariants.{Allowed}
 use Rattle.explorer.specs.declared.exploration.Exploration.{Exploration}
 use Rattle.explorer.specs.declared.exploration.Stuck.{Stuck}
 use Rattle.explorer.specs.declared.found.Found.{Found}
 use Rattle.flat_exploration.specs.Drained.{Ending}
 use Rattle.machine_types.specs.declared.config.Config.{Config}
 use Rattle.show_command.specs.Asking.{HasProgram, HasUnshown}
-use Rattle.show_command.specs.Judging.{AreWordsJudged, judgement_on}
 use Rattle.show_command.specs.Keeping.{AreWordsKept, bare_of}
 use Rattle.show_command.specs.Showing.{AreWordsShown, IsFirstOf, IsFoundIn, IsOfFile, IsShowFault, WordsHave}
 use Rattle.show_command.specs.Targets.{IsPlaced, IsUnplaced, IsUnshown, name_of, names_of, place_of}
 use Rattle.state_search.specs.declared.findings.Extent.TheVariants as extent
 use Rattle.word_explorer.specs.declared.exploration.WordExploration.{WordExploration}
 use Rattle.word_explorer.specs.declared.found.WordFound.{WordFound}
-use Rattle.word_explorer.specs.Ends.{ending_of, endings_of}
+use Rattle.word_explorer.specs.Ends.{ending_of}
 use Rattle.word_explorer.specs.Words.{CanShow}
 
 -- ---- what is allowed
 
--- what one file's bytes say of the outcomes, all files say
-judged : (held : Held) (allow : Option Name) (text : Option (List ℕ)) (names : List WordName) (endings : List Ending) (judgement : Judgement) → IsAllowFile held allow text → judgement ≡ judgement_on text names endings → AreWordsJudged held allow names endings judgement
-judged held None None names endings judgement read is = is
-judged held None (Some text) names endings judgement read is = absurd read
-judged held (Some file) None names endings judgement read is = absurd read
-judged held (Some file) (Some text) names endings judgement read is = (text, read, is)
-
-pub judged_of : (held : Held) (allow : Option Name) (text : Option (List ℕ)) (names told : List WordName) (endings : List Ending) (judgement : Judgement) → names ≡ told → IsAllowFile held allow text → judgement ≡ judgement_on text names endings → AreWordsJudged held allow told endings judgement
-judged_of held allow text names told endings judgement same read is = judged held allow text told endings judgement read (is ∙ ap (λ (n : List WordName). judgement_on text n endings) same)
-
--- a judgement on lines is one on the outcomes that they tell
-pub judged_words : {X : Type 0} (ending : X → Ending) (names : List WordName) (text : Option (List ℕ)) (xs : List X) → judgement_of_lines text (map (λ x. end_text names (ending x)) xs) ≡ judgement_on text names (map ending xs)
-judged_words ending names None xs = refl
-judged_words ending names (Some text) xs =
-    ap (λ (b : Bool). if b then Allowed else NotAllowed)
-    (all_told (λ e. is_allowed_line text (without_number (end_text names e))) (λ line. is_allowed_line text (without_number line)) ending (λ x. end_text names (ending x)) (λ x. refl) xs)
+-- the judgement on the lines of ends, by the names that the words have
+pub judged_of : {X : Type 0} (ending : X → Ending) (held : Held) (allow : Option Name) (text : Option (List ℕ)) (names told : List WordName) (xs : List X) (judgement : Judgement) → names ≡ told → IsAllowFile held allow text
+    → judgement ≡ judgement_of_lines text (map (λ x. end_text names (ending x)) xs) → IsJudged held allow (map (λ x. end_text told (ending x)) xs) judgement
+judged_of ending held allow text names told xs judgement same read is =
+    judged held allow text (map (λ x. end_text told (ending x)) xs) judgement read (is ∙ ap (λ (n : List WordName). judgement_of_lines text (map (λ x. end_text n (ending x)) xs)) same)
 
 -- ---- what was found
 
@@ -84,7 +71,7 @@ module _ (held : Held) (show : Show) (config : Config) (image : Initial) (addres
     printed = subst (λ (n : List WordName). Appends old new (words_text n found)) names_are printed;
     kept = kept;
     spared = spares;
-    judged = judged_of held show.explore.allow text names (names_of show.words.items) (endings_of found.outcomes.items) judgement names_are read (by ∙ judged_words ending_of names text found.outcomes.items);
+    judged = judged_of ending_of held show.explore.allow text names (names_of show.words.items) found.outcomes.items judgement names_are read by;
     whole = whole;
   }
 

@@ -1,5 +1,5 @@
 -- What an exploration that shows words of memory has told, written and judged, and which faults it tells.
-use Rattle.std.specs.Prelude.{◌≡◌, ◌≢◌, ◌<◌, ◌≤◌, ◌⊎◌, ℕ, [], ◌∷◌, All, IfSome, List, None, Option, length}
+use Rattle.std.specs.Prelude.{◌≡◌, ◌≢◌, ◌<◌, ◌≤◌, ◌⊎◌, ℕ, [], ◌∷◌, All, IfSome, List, None, Option, length, map}
 use Rattle.std.specs.Io.KnownBytes.{Appends}
 use Rattle.std.specs.List.Sorted.{IsStrictlySortedBy}
 use Rattle.std.specs.Ordering.{on}
@@ -12,15 +12,15 @@ use Rattle.command_files.specs.declared.fault.Unshown.TheVariants.{Elsewhere}
 use Rattle.command_settings.specs.declared.wanted.Explore.{Explore}
 use Rattle.command_settings.specs.declared.wanted.Show.{Show}
 use Rattle.elf_loader.specs.Image.{Initial}
-use Rattle.exploration_text.specs.Words.{words_text}
+use Rattle.exploration_text.specs.Words.{end_text, words_text}
 use Rattle.explore_command.specs.Exploring.{IsExploreFault}
+use Rattle.explore_command.specs.Judging.{IsJudged}
 use Rattle.explore_command.specs.Keeping.{IsInNamed, IsScriptOf, SparesOthers}
 use Rattle.explore_command.specs.declared.judging.Judgement.{Judgement}
 use Rattle.explore_command.specs.declared.judging.Judgement.TheVariants.{Allowed}
 use Rattle.flat_model.specs.Flat.{Flat}
 use Rattle.machine_types.specs.declared.config.Config.{Config}
 use Rattle.show_command.specs.Asking.{HasProgram, HasUnshown}
-use Rattle.show_command.specs.Judging.{AreWordsJudged}
 use Rattle.show_command.specs.Keeping.{AreWordsKept}
 use Rattle.show_command.specs.Targets.{names_of}
 use Rattle.state_search.specs.declared.findings.Extent.TheVariants.{Complete, LimitMet}
@@ -60,7 +60,7 @@ pub record AreWordsShown (held left : Held) (show : Show) (judgement : Judgement
   pub printed : Appends old new (words_text (names_of show.words.items) exploration)
   pub kept : IfSome show.explore.scripts (λ folder. AreWordsKept left show.explore.machine folder.now exploration)
   pub spared : SparesOthers (IsInNamed show.explore.scripts (IsScriptOf (length exploration.outcomes.items) exploration.stuck)) held left
-  pub judged : AreWordsJudged held show.explore.allow (names_of show.words.items) (endings_of exploration.outcomes.items) judgement
+  pub judged : IsJudged held show.explore.allow (map (λ f. end_text (names_of show.words.items) (ending_of f)) exploration.outcomes.items) judgement
   pub whole : judgement ≡ Allowed → exploration.extent ≢ extent.OutOfMemory
 
 -- P holds of the text of what was found

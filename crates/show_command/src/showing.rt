@@ -21,7 +21,8 @@ use std::io::Write;
 use word_explorer::explore_words;
 
 /// Does what `explore_files` does, where words of memory are to be shown: each is judged behind the image. Random runs
-/// show none.
+/// show none. The outcomes are judged before their scripts are written, and where these can't be `err` has been told all
+/// the same which ones aren't allowed.
 pub fn show_files<'a, F: Files, O: Write, E: Write, P: Progress>(
     alloc: Global,
     files: &mut F,
@@ -39,6 +40,7 @@ pub fn show_files<'a, F: Files, O: Write, E: Write, P: Progress>(
         (WordsHave (F.held files.old) wanted.now)) }
     ensures spared { SparesOthers (IsScriptFile wanted.now.explore.scripts) (F.held files.old) (F.held files.new) }
     ensures untouched { IfErr result (λ fault. ComesBeforeScripts fault → F.held files.new ≡ F.held files.old) }
+    ensures silent { IfErr result (λ fault. ComesBeforeScripts fault → E.contents err.new ≡ E.contents err.old) }
 {
     let explore = wanted.explore;
     if let Some(word) = sought_elsewhere(wanted) {

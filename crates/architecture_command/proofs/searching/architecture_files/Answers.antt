@@ -4,7 +4,7 @@ use Rattle.architecture_command.proofs.Kept.{way_file}
 use Rattle.architecture_command.proofs.Readable.{each_has_text}
 use Rattle.architecture_command.proofs.Searched.{has, whole}
 use Rattle.explore_command.proofs.Explored.{all_of, err_more, memory_left, memory_told, ok_both, ok_more, spared, spared_after}
-use Rattle.explore_command.proofs.Faults.{folder_late, folder_left, folder_told, memory_late, output_left, output_told}
+use Rattle.explore_command.proofs.Faults.{folder_late, folder_left, folder_told, memory_last, memory_late, output_left, output_told}
 use Rattle.explore_command.proofs.Kept.{spares_wider}
 use Rattle.machine_types.specs.Config.{is_within_limits}
 use Rattle.machine_types.specs.declared.config.Config.{Config}
@@ -131,3 +131,18 @@ returns-in_err-tell-clause-untouched g c = handed_up _ c.from_residual-in_err-te
 
 pub returns-clause-untouched : goal.returns-clause-untouched
 returns-clause-untouched g c = err_more _ _ c.judge.result (λ fault is early. absurd (memory_late fault is early)) c.judge.ensures.told
+
+pub returns-in_err-config-clause-silent : goal.returns-in_err-config-clause-silent
+returns-in_err-config-clause-silent g c = handed_up _ c.from_residual.result _ c.from_residual.ensures.1 (λ early. refl)
+
+pub returns-in_err-print-clause-silent : goal.returns-in_err-print-clause-silent
+returns-in_err-print-clause-silent g c = handed_up _ c.from_residual-in_err-print.result _ c.from_residual-in_err-print.ensures.1 (λ early. refl)
+
+pub returns-in_err-keep-clause-silent : goal.returns-in_err-keep-clause-silent
+returns-in_err-keep-clause-silent g c = handed_up _ c.from_residual-in_err-keep.result _ c.from_residual-in_err-keep.ensures.1 (λ early. refl)
+
+pub returns-in_err-tell-clause-silent : goal.returns-in_err-tell-clause-silent
+returns-in_err-tell-clause-silent g c = handed_up _ c.from_residual-in_err-tell.result _ c.from_residual-in_err-tell.ensures.1 (λ early. absurd (memory_last _ c.in_err-tell.ensures.told early))
+
+pub returns-clause-silent : goal.returns-clause-silent
+returns-clause-silent g c = err_more _ _ c.judge.result (λ fault is early. absurd (memory_last fault is early)) c.judge.ensures.told

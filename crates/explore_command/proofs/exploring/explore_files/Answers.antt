@@ -1,10 +1,8 @@
-use Rattle.std.proofs.Common.{◌≡◌, ◌∙◌, inl, inr, refl, subst, true}
+use Rattle.std.proofs.Common.{◌≡◌, inl, inr, refl, subst, true}
 use Rattle.command_files.proofs.Left.{handed_up}
 use Rattle.explore_command.proofs.Explored.{all_of, err_more, has, judged, memory_left, memory_told, ok_both, ok_more, spared, spared_after, whole}
-use Rattle.explore_command.proofs.Faults.{first_left, first_told, folder_late, folder_left, folder_told, memory_late, output_left, output_told}
-use Rattle.explore_command.proofs.Judged.{judged_on}
+use Rattle.explore_command.proofs.Faults.{first_left, first_told, folder_late, folder_left, folder_told, memory_last, memory_late, output_left, output_told}
 use Rattle.explore_command.proofs.Kept.{script_file, spares_wider}
-use Rattle.explorer.specs.Ends.{outcome_of}
 use Rattle.machine_types.specs.Config.{is_within_limits}
 use Rattle.machine_types.specs.declared.config.Config.{Config}
 use Rattle.explore_command.proofs.exploring.explore_files.Goals as goal
@@ -56,7 +54,7 @@ returns-clause-explored g c =
     (λ judgement so.
     whole (g.F.Files.held c.args.files.now) c.args.wanted c.in_ok-asked.asked.config c.in_ok-asked.asked.image c.in-Ok.found c.in_ok-asked.ensures.config c.in_ok-asked.ensures.image
     (record { real = found.real; complete = found.complete; none_stuck = found.none_stuck; some = found.some; stuck = found.stuck; order = found.strict; within = found.within; full = found.full; visited = found.visited })
-    _ _ (g.F.Files.held c.keep.new.files) judgement c.in_ok-print.ensures.printed c.in_ok-keep.ensures.kept (spared_after _ _ _ _ c.in_ok-asked.ensures.stays c.keep.ensures.spared) (judged _ c.args.wanted.allow _ _ judgement c.in_ok-asked.ensures.allowed (so.0 ∙ judged_on outcome_of _ c.in-Ok.found.outcomes.items)) so.1)
+    _ _ (g.F.Files.held c.keep.new.files) judgement c.in_ok-print.ensures.printed c.in_ok-keep.ensures.kept (spared_after _ _ _ _ c.in_ok-asked.ensures.stays c.keep.ensures.spared) (judged _ c.args.wanted.allow _ _ judgement c.in_ok-asked.ensures.allowed so.0) so.1)
     (ok_both _ _ c.judge.result c.judge.ensures.judged c.judge.ensures.whole)
 
 pub returns-clause-told : goal.returns-clause-told
@@ -89,3 +87,15 @@ returns-in_err-keep-clause-untouched g c =
 
 pub returns-clause-untouched : goal.returns-clause-untouched
 returns-clause-untouched g c = err_more _ _ c.judge.result (λ fault is early. absurd (memory_late fault is early)) c.judge.ensures.told
+
+pub returns-in_err-asked-clause-silent : goal.returns-in_err-asked-clause-silent
+returns-in_err-asked-clause-silent g c = handed_up _ c.from_residual.result _ c.from_residual.ensures.1 (λ early. refl)
+
+pub returns-in_err-print-clause-silent : goal.returns-in_err-print-clause-silent
+returns-in_err-print-clause-silent g c = handed_up _ c.from_residual-in_err-print.result _ c.from_residual-in_err-print.ensures.1 (λ early. refl)
+
+pub returns-in_err-keep-clause-silent : goal.returns-in_err-keep-clause-silent
+returns-in_err-keep-clause-silent g c = handed_up _ c.from_residual-in_err-keep.result _ c.from_residual-in_err-keep.ensures.1 (λ early. refl)
+
+pub returns-clause-silent : goal.returns-clause-silent
+returns-clause-silent g c = err_more _ _ c.judge.result (λ fault is early. absurd (memory_last fault is early)) c.judge.ensures.told

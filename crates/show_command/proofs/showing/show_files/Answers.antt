@@ -99,3 +99,16 @@ returns-in_err-keep-clause-untouched g c =
 
 pub returns-clause-untouched : goal.returns-clause-untouched
 returns-clause-untouched g c = err_more _ _ c.judge-judgement.result (λ fault is early. absurd (memory_late fault is early)) c.judge-judgement.ensures.told
+
+pub returns-in_err-config-clause-silent : goal.returns-in_err-config-clause-silent
+returns-in_err-config-clause-silent g c = handed_up _ c.from_residual.result _ c.from_residual.ensures.1 (λ early. refl)
+
+pub returns-in_err-print-clause-silent : goal.returns-in_err-print-clause-silent
+returns-in_err-print-clause-silent g c = handed_up _ c.from_residual-in_err-print.result _ c.from_residual-in_err-print.ensures.1 (λ early. refl)
+
+pub returns-in_err-keep-clause-silent : goal.returns-in_err-keep-clause-silent
+returns-in_err-keep-clause-silent g c =
+    handed_up _ c.from_residual-in_err-keep.result _ c.from_residual-in_err-keep.ensures.1 (λ early. absurd (folder_late c.args.wanted.now.explore.scripts _ c.in_err-keep.ensures.told early))
+
+pub returns-clause-silent : goal.returns-clause-silent
+returns-clause-silent g c = err_more _ _ c.judge-judgement.result (λ fault is early. absurd (memory_late fault is early)) c.judge-judgement.ensures.told
