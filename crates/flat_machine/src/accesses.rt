@@ -4,7 +4,6 @@ ghost use Rattle.flat_machine.specs.Accesses.{fetched_of};
 ghost use Rattle.flat_machine.specs.Memories as memory_spec;
 ghost use Rattle.flat_machine.specs.Plans.{meant};
 ghost use Rattle.flat_model.specs.Steps as spec;
-ghost use Rattle.memory_model.specs.Items.{annotations_of};
 ghost use Rattle.rv32_exec.specs.Width.{bytes_of};
 
 use crate::memory::Memory;
@@ -15,6 +14,7 @@ use hart::Retired;
 use machine_model::{Deed, MemoryModel};
 use machine_parts::{marks_of, orders_after_stores, read_from, store_of, word_of};
 use machine_types::Outcome;
+use memory_model::annotations;
 use rv32_decode::{AmoOp, Instr};
 use rv32_exec::{Call, Width};
 use store_buffer::StoreBuffer;
@@ -90,32 +90,11 @@ pub(crate) fn plan_store(
     }
 }
 
-/// The instruction's bit rl.
-fn has_release(instr: &Instr) -> bool
-    ensures { result ≡ (annotations_of instr.now).release }
-{
-    match instr {
-        Instr::Lr { bits, .. } | Instr::Sc { bits, .. } | Instr::Amo { bits, .. } => bits.release,
-        Instr::Upper { .. }
-        | Instr::Jal { .. }
-        | Instr::Jalr { .. }
-        | Instr::Branch { .. }
-        | Instr::Load { .. }
-        | Instr::Store { .. }
-        | Instr::Immediate { .. }
-        | Instr::Shift { .. }
-        | Instr::Register { .. }
-        | Instr::Fence(_)
-        | Instr::FenceTso
-        | Instr::System(_) => false,
-    }
-}
-
 /// A release bit waits for all stores, and each access for those to its own word.
 fn waits_for_stores(buffer: &StoreBuffer, instr: &Instr, word: u32) -> bool
     ensures { result ≡ spec.waits_for_stores buffer.now instr.now word }
 {
-    (has_release(instr) && !buffer.is_empty()) || buffer.has(word)
+    (annotations(instr).release && !buffer.is_empty()) || buffer.has(word)
 }
 
 /// A write that is performed at once passes no sealed group, and under Ztso no store.

@@ -1,6 +1,6 @@
 -- Which registers an instruction reads, and for what, and which it writes, as dependencies count them (RISC-V Unprivileged ISA 20191213, chapter 14.1, "Syntactic Dependencies").
 -- x0, FENCE, ECALL and EBREAK take no part.
-use Rattle.std.specs.Prelude.{ℕ, ◌==◌, if◌then◌else◌, List, [], ◌∷◌, ◌++◌}
+use Rattle.std.specs.Prelude.{ℕ, ◌==◌, if◌then◌else◌, List, [], ◌∷◌, ◌++◌, Option, Some, None}
 use Rattle.rv32_decode.specs.declared.instruction.Instr.{Instr}
 use Rattle.rv32_decode.specs.declared.instruction.Instr.TheVariants.{Upper, Jal, Jalr, Branch, Load, Store, Immediate, Shift, Register, Fence, FenceTso, System, Lr, Sc, Amo}
 use Rattle.rv32_decode.specs.declared.instruction.SystemOp.TheVariants.{Ecall}
@@ -11,6 +11,11 @@ pub record Uses : Type 0 where
   pub stored : List ℕ
   pub other : List ℕ
   pub written : List ℕ
+
+-- a register, where there is one
+abbrev pub registers_in : Option ℕ → List ℕ
+registers_in None = []
+registers_in (Some r) = r ∷ []
 
 abbrev pub named : ℕ → List ℕ
 named register = if register == 0 then [] else (register ∷ [])

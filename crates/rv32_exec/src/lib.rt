@@ -10,6 +10,7 @@ mod laws;
 mod planning;
 mod registers;
 pub mod stop;
+mod uses;
 
 pub use actions::{Action, Width};
 pub use call::Call;
@@ -17,3 +18,4 @@ pub use finishing::finish;
 pub use laws::{reads_are_as_named, stops_are_decided_first, writes_are_as_named};
 pub use planning::plan;
 pub use registers::Regs;
+pub use uses::{address_register, destination, other_registers, stored_register};

@@ -17,11 +17,6 @@ use Rattle.rvwmo_order.specs.declared.verdict.Code.TheVariants.{Order, LoadValue
 use Rattle.rvwmo_order.specs.declared.verdict.Verdict.{Verdict}
 use Rattle.rvwmo_order.specs.declared.verdict.Verdict.TheVariants.{Legal, Fault}
 
--- a register, where there is one
-abbrev pub registers_in : Option ℕ → List ℕ
-registers_in None = []
-registers_in (Some r) = r ∷ []
-
 -- a and b return byte x from different writes, with no store to it between them in program order
 abbrev pub returns_differently : ℕ → List Item → List Operation → Operation → Operation → Bool
 returns_differently x items order a b = touches x b && not (list_any (λ (m : Item). has_store_to x m.operation) (between items a b)) && not (same_source (source order a x) (source order b x))

@@ -1,14 +1,14 @@
 //! What came from operations, carried forward along a hart's list: for each of x0 to x31 the greatest weight
 //! of the operations that what it holds came from.
 ghost use Rattle.std.specs.Prelude.{◌≡◌};
-ghost use Rattle.rv32_exec.specs.Uses.{uses_of};
+ghost use Rattle.rv32_exec.specs.Uses.{registers_in, uses_of};
 ghost use Rattle.memory_model.specs.Dependencies as dependencies;
 ghost use Rattle.rvwmo_order.specs.Carried as spec;
 ghost use Rattle.rvwmo_order.specs.Carried.{greatest};
-ghost use Rattle.rvwmo_order.specs.Scans.{registers_in};
 
-use crate::uses::{address_register, destination, is_steering, other_registers, stored_register};
+use crate::uses::is_steering;
 use rv32_decode::{Instr, Register};
+use rv32_exec::{address_register, destination, other_registers, stored_register};
 
 #[derive(Clone, Copy)]
 pub(crate) struct Carried {

@@ -4,24 +4,22 @@
 ghost use Rattle.std.specs.Prelude.{◌≡◌, ◌≤◌, ◌-◌, ◌++◌, OnOk, Some, if◌then◌else◌, false, length, replicate, slice_index_or, true, []};
 ghost use Rattle.std.specs.List.{list_any};
 ghost use Rattle.memory_model.specs.Order as orders;
-ghost use Rattle.rv32_exec.specs.Uses.{uses_of};
+ghost use Rattle.rv32_exec.specs.Uses.{registers_in, uses_of};
 ghost use Rattle.memory_model.specs.Dependencies as dependencies;
 ghost use Rattle.memory_model.specs.Dependencies.{holds, uses_at, uses_in, with_flags};
 ghost use Rattle.rvwmo_order.specs.Marks as spec;
 ghost use Rattle.rvwmo_order.specs.Marks.{IsBelow, TellsEach};
 ghost use Rattle.rvwmo_order.specs.Placed.{GivesOwn};
-ghost use Rattle.rvwmo_order.specs.Scans.{registers_in};
 
 use crate::accesses::{end_of, precedes, reads, writes};
 use crate::listed::{Item, Items, Stretch};
 use crate::ranking::Ranking;
 use crate::sources::is_same_source;
-use crate::uses::{
-    address_register, destination, instr_at, is_steering, other_registers, stored_register,
-};
+use crate::uses::{instr_at, is_steering};
 use crate::verdict::Rule;
 use memory_model::Operation;
 use rv32_decode::{Instr, Register};
+use rv32_exec::{address_register, destination, other_registers, stored_register};
 use std::alloc::{AllocError, Global};
 
 /// The sweeps for a rule, and the marks of the last one.

@@ -3,7 +3,6 @@ ghost use Rattle.std.specs.Prelude.{◌≡◌, ◌<◌, ◌*◌, ◌%◌, ◌^�
 ghost use Rattle.machine_model.specs.Steps as spec;
 ghost use Rattle.machine_model.specs.Views.{size_of_config};
 ghost use Rattle.memory_model.specs.declared.operation.Kind.TheVariants.{Load, Store};
-ghost use Rattle.memory_model.specs.Items.{annotations_of};
 ghost use Rattle.memory_model.specs.Rules.{fences};
 ghost use Rattle.machine_parts.specs.Accesses.{fetched_of};
 ghost use Rattle.rv32_exec.specs.Width.{bytes_of};
@@ -16,6 +15,7 @@ use amo_unit::combine;
 use hart::Retired;
 use machine_model::{Act, Deed, MemoryModel, Plan};
 use machine_types::{Config, Outcome};
+use memory_model::annotations;
 use rv32_decode::{AmoOp, Instr};
 use rv32_exec::{Call, Width};
 
@@ -94,32 +94,11 @@ pub(crate) fn plan_store(
     }
 }
 
-/// The instruction's bit rl.
-fn has_release(instr: &Instr) -> bool
-    ensures { result ≡ (annotations_of instr.now).release }
-{
-    match instr {
-        Instr::Lr { bits, .. } | Instr::Sc { bits, .. } | Instr::Amo { bits, .. } => bits.release,
-        Instr::Upper { .. }
-        | Instr::Jal { .. }
-        | Instr::Jalr { .. }
-        | Instr::Branch { .. }
-        | Instr::Load { .. }
-        | Instr::Store { .. }
-        | Instr::Immediate { .. }
-        | Instr::Shift { .. }
-        | Instr::Register { .. }
-        | Instr::Fence(_)
-        | Instr::FenceTso
-        | Instr::System(_) => false,
-    }
-}
-
 /// A release bit waits for all stores, and each access for those to its own word.
 fn waits_for_stores(node: &Node, instr: &Instr, word: u32) -> bool
     ensures { result ≡ spec.waits_for_stores node.now instr.now word }
 {
-    (has_release(instr) && !node.buffer.is_empty()) || node.buffer.has(word)
+    (annotations(instr).release && !node.buffer.is_empty()) || node.buffer.has(word)
 }
 
 /// A write that is performed at once passes no sealed group, and under Ztso no store.

@@ -1,17 +1,15 @@
 //! Dependencies through registers (chapter 14.1, "Syntactic Dependencies", and 14.3): what came from an
 //! operation is carried forward through the registers, one flag for each of x0 to x31.
 ghost use Rattle.std.specs.Prelude.{◌≡◌, ◌&&◌};
-ghost use Rattle.rvwmo_order.specs.Scans.{registers_in};
-ghost use Rattle.rv32_exec.specs.Uses.{uses_of};
+ghost use Rattle.rv32_exec.specs.Uses.{registers_in, uses_of};
 ghost use Rattle.memory_model.specs.Dependencies as spec;
 
 use crate::accesses::precedes;
 use crate::listed::Items;
-use crate::uses::{
-    address_register, destination, instr_at, is_steering, other_registers, stored_register,
-};
+use crate::uses::{instr_at, is_steering};
 use memory_model::Operation;
 use rv32_decode::{Instr, Register};
+use rv32_exec::{address_register, destination, other_registers, stored_register};
 
 // Whether a register, where there is one, holds it.
 fn is_held(held: &[bool; 32], register: Option<Register>) -> bool

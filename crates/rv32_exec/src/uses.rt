@@ -1,0 +1,107 @@
+//! Which registers an instruction reads, and for what, and which it writes (RISC-V Unprivileged ISA 20191213,
+//! chapter 14.1, "Syntactic Dependencies"). x0 is never one of them, since nothing comes from it.
+ghost use Rattle.std.specs.Prelude.{◌≡◌, ◌++◌};
+ghost use Rattle.rv32_exec.specs.Uses.{named, registers_in, uses_of};
+
+use rv32_decode::{Instr, Register};
+
+fn but_x0(register: Register) -> Option<Register>
+    ensures { named register ≡ registers_in result }
+{
+    if register.number() == 0 {
+        None
+    } else {
+        Some(register)
+    }
+}
+
+/// The register that an instruction writes.
+pub fn destination(instr: &Instr) -> Option<Register>
+    ensures { (uses_of instr.now).written ≡ registers_in result }
+{
+    match *instr {
+        Instr::Upper { rd, .. }
+        | Instr::Jal { rd, .. }
+        | Instr::Jalr { rd, .. }
+        | Instr::Load { rd, .. }
+        | Instr::Immediate { rd, .. }
+        | Instr::Shift { rd, .. }
+        | Instr::Register { rd, .. }
+        | Instr::Lr { rd, .. }
+        | Instr::Sc { rd, .. }
+        | Instr::Amo { rd, .. } => but_x0(rd),
+        Instr::Store { .. }
+        | Instr::Branch { .. }
+        | Instr::Fence(_)
+        | Instr::FenceTso
+        | Instr::System(_) => None,
+    }
+}
+
+/// The register that an access takes its address from.
+pub fn address_register(instr: &Instr) -> Option<Register>
+    ensures { (uses_of instr.now).address ≡ registers_in result }
+{
+    match *instr {
+        Instr::Load { rs1, .. }
+        | Instr::Store { rs1, .. }
+        | Instr::Lr { rs1, .. }
+        | Instr::Sc { rs1, .. }
+        | Instr::Amo { rs1, .. } => but_x0(rs1),
+        Instr::Upper { .. }
+        | Instr::Jal { .. }
+        | Instr::Jalr { .. }
+        | Instr::Branch { .. }
+        | Instr::Immediate { .. }
+        | Instr::Shift { .. }
+        | Instr::Register { .. }
+        | Instr::Fence(_)
+        | Instr::FenceTso
+        | Instr::System(_) => None,
+    }
+}
+
+/// The register whose number is stored.
+pub fn stored_register(instr: &Instr) -> Option<Register>
+    ensures { (uses_of instr.now).stored ≡ registers_in result }
+{
+    match *instr {
+        Instr::Store { rs2, .. } | Instr::Sc { rs2, .. } | Instr::Amo { rs2, .. } => but_x0(rs2),
+        Instr::Load { .. }
+        | Instr::Lr { .. }
+        | Instr::Upper { .. }
+        | Instr::Jal { .. }
+        | Instr::Jalr { .. }
+        | Instr::Branch { .. }
+        | Instr::Immediate { .. }
+        | Instr::Shift { .. }
+        | Instr::Register { .. }
+        | Instr::Fence(_)
+        | Instr::FenceTso
+        | Instr::System(_) => None,
+    }
+}
+
+/// The registers that are read for anything else.
+pub fn other_registers(instr: &Instr) -> (Option<Register>, Option<Register>)
+    ensures { (uses_of instr.now).other ≡ registers_in result.0 ++ registers_in result.1 }
+{
+    match *instr {
+        Instr::Jalr { rs1, .. } | Instr::Immediate { rs1, .. } | Instr::Shift { rs1, .. } => {
+            (but_x0(rs1), None)
+        }
+        Instr::Branch { rs1, rs2, .. } | Instr::Register { rs1, rs2, .. } => {
+            (but_x0(rs1), but_x0(rs2))
+        }
+        Instr::Load { .. }
+        | Instr::Store { .. }
+        | Instr::Lr { .. }
+        | Instr::Sc { .. }
+        | Instr::Amo { .. }
+        | Instr::Upper { .. }
+        | Instr::Jal { .. }
+        | Instr::Fence(_)
+        | Instr::FenceTso
+        | Instr::System(_) => (None, None),
+    }
+}
