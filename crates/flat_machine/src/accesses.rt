@@ -12,12 +12,12 @@ use crate::plan::Plan;
 use amo_unit::combine;
 use hart::Retired;
 use machine_model::{Deed, MemoryModel};
-use machine_parts::{marks_of, orders_after_stores, read_from, store_of, word_of};
+use machine_parts::{
+    marks_of, orders_after_stores, read_from, store_of, waits_for_stores, word_of, write_waits,
+};
 use machine_types::Outcome;
-use memory_model::annotations;
 use rv32_decode::{AmoOp, Instr};
 use rv32_exec::{Call, Width};
-use store_buffer::StoreBuffer;
 
 /// An instruction that a hart is about to retire.
 #[derive(Clone, Copy, Debug)]
@@ -87,23 +87,6 @@ pub(crate) fn plan_store(
         retires(node, fetched, None, None, Deed::Store(store), None)
     } else {
         Plan::Stays(Outcome::BufferFull)
-    }
-}
-
-/// A release bit waits for all stores, and each access for those to its own word.
-fn waits_for_stores(buffer: &StoreBuffer, instr: &Instr, word: u32) -> bool
-    ensures { result ≡ spec.waits_for_stores buffer.now instr.now word }
-{
-    (annotations(instr).release && !buffer.is_empty()) || buffer.has(word)
-}
-
-/// A write that is performed at once passes no sealed group, and under Ztso no store.
-fn write_waits(model: MemoryModel, buffer: &StoreBuffer, instr: &Instr, word: u32) -> bool
-    ensures { result ≡ spec.write_waits model buffer.now instr.now word }
-{
-    match model {
-        MemoryModel::Rvwmo => waits_for_stores(buffer, instr, word) || buffer.has_sealed(),
-        MemoryModel::Ztso => !buffer.is_empty(),
     }
 }
 

@@ -96,10 +96,6 @@ writing_follows n p q go c line (Some (Trunk dirty bytes)) g = g (Trunk dirty by
 
 -- ---- the tests on the buffer
 
-waits_same : (model : MemoryModel) (n : Node) (i : Instr) (word : ℕ) → flat.write_waits model n.buffer i word ≡ write_waits model n i word
-waits_same Rvwmo n i word = refl
-waits_same Ztso n i word = refl
-
 valid_is : (word : ℕ) (o : Option ℕ) → is_valid word o ≡ true → o ≡ Some word
 valid_is word None e = absurd cc
 valid_is word (Some other) e = ap Some (eqb-true other word e)
@@ -137,7 +133,7 @@ module _ (model : MemoryModel) (n : Node) (r : Option ℕ) (memory : List ℕ) (
       let go : LineData → Plan = λ held. retires n f (Some (read_from (word_in held address) address 4)) None (deed.Lr address) in
       let plan : List ℕ → FlatPlan = λ word. flat.retires m f (Some (read_from word address 4)) None (deed.Lr address) (Some address) in
       let there : FlatPlan = plan (of_flat.word_in memory address) in
-      both (λ p x. Follows n p q x) (waits_for_stores n f.instr address) (flat.Stays outcome.MustDrain) there (Stays outcome.MustDrain) (writing go n.cache line) (λ e. tt)
+      both (λ p x. Follows n p q x) (waits_for_stores n.buffer f.instr address) (flat.Stays outcome.MustDrain) there (Stays outcome.MustDrain) (writing go n.cache line) (λ e. tt)
       (λ e. writing_follows n there q go n.cache line (copy_at n.cache line) (λ held g. inl (Some address, ap plan (sym (subst (λ w. word_in (bytes_in held) w ≡ of_flat.word_in memory w) (own_word address aligned) (same.reads address held g))), (held, g))))
 
   amo_follows : (address : ℕ) (op : AmoOp) (operand : ℕ) (q : FlatPlan) → address % 4 ≡ 0 → Follows n (flat.plan_amo model memory m f address op operand) q (plan_amo model n f address op operand)
@@ -146,9 +142,8 @@ module _ (model : MemoryModel) (n : Node) (r : Option ℕ) (memory : List ℕ) (
       let go : LineData → Plan = λ held. update n f address op operand (read_from (word_in held address) address 4) in
       let plan : List ℕ → FlatPlan = λ word. flat.update m f address op operand (read_from word address 4) in
       let there : FlatPlan = plan (of_flat.word_in memory address) in
-      subst (λ b. Follows n (cond b (flat.Stays outcome.MustDrain) there) q (plan_amo model n f address op operand)) (sym (waits_same model n f.instr address))
-      (both (λ p x. Follows n p q x) (write_waits model n f.instr address) (flat.Stays outcome.MustDrain) there (Stays outcome.MustDrain) (writing go n.cache line) (λ e. tt)
-      (λ e. writing_follows n there q go n.cache line (copy_at n.cache line) (λ held g. inl (Some address, ap plan (sym (subst (λ w. word_in (bytes_in held) w ≡ of_flat.word_in memory w) (own_word address aligned) (same.reads address held g))), (held, g)))))
+      both (λ p x. Follows n p q x) (write_waits model n.buffer f.instr address) (flat.Stays outcome.MustDrain) there (Stays outcome.MustDrain) (writing go n.cache line) (λ e. tt)
+      (λ e. writing_follows n there q go n.cache line (copy_at n.cache line) (λ held g. inl (Some address, ap plan (sym (subst (λ w. word_in (bytes_in held) w ≡ of_flat.word_in memory w) (own_word address aligned) (same.reads address held g))), (held, g))))
 
   sc_follows : (address value : ℕ) → Follows n (flat.plan_sc model m f address value) (flat.fails m f) (plan_sc model n f address value)
   sc_follows address value = go (is_valid address n.reserved) refl (is_valid address r) refl
@@ -160,11 +155,10 @@ module _ (model : MemoryModel) (n : Node) (r : Option ℕ) (memory : List ℕ) (
       wrote = flat.retires m f None (Some true) (deed.Sc address value) (Some address)
 
       go : (b : Bool) → is_valid address n.reserved ≡ b → (c : Bool) → is_valid address r ≡ c
-          → Follows n (cond (not c) (flat.fails m f) (cond (flat.write_waits model n.buffer f.instr address) (flat.Stays outcome.MustDrain) wrote)) (flat.fails m f) (cond (not b) (retires n f None (Some false) deed.Fail) (cond (write_waits model n f.instr address) (Stays outcome.MustDrain) writes))
+          → Follows n (cond (not c) (flat.fails m f) (cond (write_waits model n.buffer f.instr address) (flat.Stays outcome.MustDrain) wrote)) (flat.fails m f) (cond (not b) (retires n f None (Some false) deed.Fail) (cond (write_waits model n.buffer f.instr address) (Stays outcome.MustDrain) writes))
       go false e c g = inr refl
       go true e true g =
-          subst (λ w. Follows n (cond w (flat.Stays outcome.MustDrain) wrote) (flat.fails m f) (cond (write_waits model n f.instr address) (Stays outcome.MustDrain) writes)) (sym (waits_same model n f.instr address))
-          (both (λ p x. Follows n p (flat.fails m f) x) (write_waits model n f.instr address) (flat.Stays outcome.MustDrain) wrote (Stays outcome.MustDrain) writes (λ w. tt) (λ w. inl (Some address, refl, same.holds address (valid_is address n.reserved e))))
+          both (λ p x. Follows n p (flat.fails m f) x) (write_waits model n.buffer f.instr address) (flat.Stays outcome.MustDrain) wrote (Stays outcome.MustDrain) writes (λ w. tt) (λ w. inl (Some address, refl, same.holds address (valid_is address n.reserved e)))
       go true e false g = let h : true ≡ false = sym (is_is_valid address r (same.reserved address (valid_is address n.reserved e))) ∙ g in absurd cc
 
   fence_follows : (q : FlatPlan) → Follows n (flat.plan_fence m f) q (plan_fence n f)

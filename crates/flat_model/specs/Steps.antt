@@ -1,6 +1,6 @@
 -- What a hart's next instruction comes to over one memory: each check in its order, and then what retires.
 -- RISC-V Unprivileged ISA 20191213: FENCE 2.7, ECALL 2.8, LR and SC 8.2, AMOs 8.4, Ztso 23. The rules of the store buffer are this machine's own: what RVWMO asks of them is chapter 14.1.
-use Rattle.std.specs.Prelude.{ℕ, ◌%◌, Bool, true, false, ◌&&◌, ◌||◌, not, ◌==◌, if◌then◌else◌, List, Option, Some, None, is_some}
+use Rattle.std.specs.Prelude.{ℕ, ◌%◌, Bool, true, false, ◌&&◌, not, ◌==◌, if◌then◌else◌, List, Option, Some, None, is_some}
 use Rattle.elf_loader.specs.Image.{Initial, word_at}
 use Rattle.flat_model.specs.Flat.{FlatNode, word_in}
 use Rattle.hart.specs.declared.retired.Retired.{Retired}
@@ -9,12 +9,10 @@ use Rattle.machine_model.specs.declared.act.Deed.{Deed}
 use Rattle.machine_model.specs.declared.act.Deed.TheVariants as deed
 use Rattle.machine_types.specs.declared.outcome.Outcome.{Outcome}
 use Rattle.machine_types.specs.declared.outcome.Outcome.TheVariants as outcome
-use Rattle.machine_model.specs.Steps.{Fetched}
+use Rattle.machine_model.specs.Steps.{Fetched, waits_for_stores, write_waits}
 use Rattle.machine_model.specs.Words.{word_of, read_from, store_of}
 use Rattle.memory_model.specs.declared.MemoryModel.{MemoryModel}
-use Rattle.memory_model.specs.declared.MemoryModel.TheVariants.{Rvwmo, Ztso}
 use Rattle.memory_model.specs.declared.operation.Kind.TheVariants.{Load, Store}
-use Rattle.memory_model.specs.Items.{annotations_of}
 use Rattle.memory_model.specs.Rules.{fences}
 use Rattle.reservations.specs.Reservation.{is_valid}
 use Rattle.rv32_decode.specs.Amo.{combined}
@@ -23,7 +21,7 @@ use Rattle.rv32_decode.specs.declared.instruction.AmoOp.{AmoOp}
 use Rattle.rv32_decode.specs.declared.instruction.Instr.{Instr}
 use Rattle.rv32_exec.specs.Meaning.{Access, Private, Loads, Stores, DoesLr, DoesSc, DoesAmo, Fences, Calls, access_of}
 use Rattle.store_buffer.specs.ByteMask.{covers, laid_over, marks_of_access}
-use Rattle.store_buffer.specs.Groups.{Groups, drainable, fits, forwarded, has, has_sealed, is_empty}
+use Rattle.store_buffer.specs.Groups.{drainable, fits, forwarded, has, is_empty}
 
 -- what an event comes to, before anything changes
 pub data FlatPlan : Type 0 where
@@ -60,15 +58,6 @@ plan_store n f address bytes value =
     else Stays outcome.BufferFull
 
 -- ---- LR, SC and AMOs, which the stores that wait may hold up
-
--- a release bit waits for all of them, and each access for those to its own word
-abbrev pub waits_for_stores : Groups → Instr → ℕ → Bool
-waits_for_stores b i word = ((annotations_of i).release && not (is_empty b)) || has word b
-
--- a write that is performed at once passes no sealed group, and under Ztso no store
-abbrev pub write_waits : MemoryModel → Groups → Instr → ℕ → Bool
-write_waits Rvwmo b i word = waits_for_stores b i word || has_sealed b
-write_waits Ztso b i word = not (is_empty b)
 
 abbrev pub plan_lr : List ℕ → FlatNode → Fetched → (address : ℕ) → FlatPlan
 plan_lr memory n f address =

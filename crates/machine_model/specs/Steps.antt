@@ -24,7 +24,7 @@ use Rattle.rv32_decode.specs.declared.instruction.AmoOp.{AmoOp}
 use Rattle.rv32_decode.specs.declared.instruction.Instr.{Instr}
 use Rattle.rv32_exec.specs.Meaning.{Access, Private, Loads, Stores, DoesLr, DoesSc, DoesAmo, Fences, Calls, access_of}
 use Rattle.store_buffer.specs.ByteMask.{covers, laid_over, marks_of_access}
-use Rattle.store_buffer.specs.Groups.{fits, forwarded, has, has_sealed, is_empty}
+use Rattle.store_buffer.specs.Groups.{Groups, fits, forwarded, has, has_sealed, is_empty}
 
 -- an instruction that a hart is about to retire: its word, and how many instructions stand before it in the hart's list
 pub record Fetched : Type 0 where
@@ -56,17 +56,17 @@ plan_store n f address bytes value =
 -- ---- LR, SC and AMOs, which the stores that wait may hold up
 
 -- a release bit waits for all of them, and each access for those to its own word
-abbrev pub waits_for_stores : Node → Instr → ℕ → Bool
-waits_for_stores n i word = ((annotations_of i).release && not (is_empty n.buffer)) || has word n.buffer
+abbrev pub waits_for_stores : Groups → Instr → ℕ → Bool
+waits_for_stores b i word = ((annotations_of i).release && not (is_empty b)) || has word b
 
 -- a write that is performed at once passes no sealed group, and under Ztso no store
-abbrev pub write_waits : MemoryModel → Node → Instr → ℕ → Bool
-write_waits Rvwmo n i word = waits_for_stores n i word || has_sealed n.buffer
-write_waits Ztso n i word = not (is_empty n.buffer)
+abbrev pub write_waits : MemoryModel → Groups → Instr → ℕ → Bool
+write_waits Rvwmo b i word = waits_for_stores b i word || has_sealed b
+write_waits Ztso b i word = not (is_empty b)
 
 abbrev pub plan_lr : Node → Fetched → (address : ℕ) → Plan
 plan_lr n f address =
-    if waits_for_stores n f.instr address
+    if waits_for_stores n.buffer f.instr address
     then Stays outcome.MustDrain
     else writing (λ line. retires n f (Some (read_from (word_in line address) address 4)) None (deed.Lr address)) n.cache (line_of n.cache.shape.size address)
 
@@ -75,7 +75,7 @@ abbrev pub plan_sc : MemoryModel → Node → Fetched → (address value : ℕ) 
 plan_sc model n f address value =
     if not (is_valid address n.reserved)
     then retires n f None (Some false) deed.Fail
-    else if write_waits model n f.instr address
+    else if write_waits model n.buffer f.instr address
     then Stays outcome.MustDrain
     else retires n f None (Some true) (deed.Sc address value)
 
@@ -84,7 +84,7 @@ update n f address op operand old = retires n f (Some old) None (deed.Amo addres
 
 abbrev pub plan_amo : MemoryModel → Node → Fetched → (address : ℕ) → AmoOp → (operand : ℕ) → Plan
 plan_amo model n f address op operand =
-    if write_waits model n f.instr address
+    if write_waits model n.buffer f.instr address
     then Stays outcome.MustDrain
     else writing (λ line. update n f address op operand (read_from (word_in line address) address 4)) n.cache (line_of n.cache.shape.size address)
 

@@ -17,7 +17,7 @@ ghost use Rattle.machine_parts.specs.Parts.{state_of};
 
 use crate::node::Node;
 use crate::parts::{Parts, line_size};
-pub use access::orders_after_stores;
+pub use access::{orders_after_stores, waits_for_stores, write_waits};
 use deliver::plan_deliver;
 use drain::plan_drain;
 use elf_loader::{BASE, Image};

@@ -209,9 +209,9 @@ module _ (s : State) (last : ℕ → LineData) (i : IsFit s last) (h : ℕ) (in_
       valid None e v = cc v
       valid (Some word) e v = let same : word ≡ address = eqb-true word address v in i.reserved h address (e ∙ ap Some same)
 
-      go : (t : Bool) → is_valid address n.reserved ≡ t → IsGoodPlan s last h (if not t then retires n f None (Some false) deed.Fail else if write_waits model n f.instr address then Stays outcome.MustDrain else retires n f None (Some true) (deed.Sc address value))
+      go : (t : Bool) → is_valid address n.reserved ≡ t → IsGoodPlan s last h (if not t then retires n f None (Some false) deed.Fail else if write_waits model n.buffer f.instr address then Stays outcome.MustDrain else retires n f None (Some true) (deed.Sc address value))
       go false e = good_retire f None (Some false) deed.Fail tt
-      go true e = good_if s last h (write_waits model n f.instr address) _ _ (λ _. tt) (λ _. good_retire f None (Some true) (deed.Sc address value) (valid n.reserved refl e))
+      go true e = good_if s last h (write_waits model n.buffer f.instr address) _ _ (λ _. tt) (λ _. good_retire f None (Some true) (deed.Sc address value) (valid n.reserved refl e))
 
   good_load : (f : Fetched) (address bytes : ℕ) → IsLine (line address) → IsGoodPlan s last h (plan_load n f address bytes)
   good_load f address bytes on = go (covers waiting.0 (marks_of_access (address % 4) bytes))
@@ -239,11 +239,11 @@ module _ (s : State) (last : ℕ → LineData) (i : IsFit s last) (h : ℕ) (in_
   good_wait false address go on good = good_writing (line address) go on (λ found may. good found (may_write address may))
 
   good_lr : (f : Fetched) (address : ℕ) → IsLine (line address) → IsGoodPlan s last h (plan_lr n f address)
-  good_lr f address on = good_wait (waits_for_stores n f.instr address) address (λ found. retires n f (Some (read_from (word_in found address) address 4)) None (deed.Lr address)) on
+  good_lr f address on = good_wait (waits_for_stores n.buffer f.instr address) address (λ found. retires n f (Some (read_from (word_in found address) address 4)) None (deed.Lr address)) on
       (λ found may. good_retire f (Some (read_from (word_in found address) address 4)) None (deed.Lr address) may)
 
   good_amo : (model : MemoryModel) (f : Fetched) (address : ℕ) (op : AmoOp) (operand : ℕ) → IsLine (line address) → IsGoodPlan s last h (plan_amo model n f address op operand)
-  good_amo model f address op operand on = good_wait (write_waits model n f.instr address) address (λ found. update n f address op operand (read_from (word_in found address) address 4)) on
+  good_amo model f address op operand on = good_wait (write_waits model n.buffer f.instr address) address (λ found. update n f address op operand (read_from (word_in found address) address 4)) on
       (λ found may. good_retire f (Some (read_from (word_in found address) address 4)) None (deed.Amo address (combined op (read_from (word_in found address) address 4) operand)) may)
 
   good_fence : (f : Fetched) → IsGoodPlan s last h (plan_fence n f)

@@ -125,16 +125,16 @@ module _ (s : State) (h : ℕ) where
   conditional : (model : MemoryModel) (f : Fetched) (address value : ℕ) → Good (plan_sc model n f address value)
   conditional model f address value =
       let writes = retires n f None (Some true) (deed.Sc address value) in
-      let tries = cond (write_waits model n f.instr address) (Stays outcome.MustDrain) writes in
-      either Good (not (is_valid address n.reserved)) (retires n f None (Some false) deed.Fail) tries tt (either Good (write_waits model n f.instr address) (Stays outcome.MustDrain) writes tt tt)
+      let tries = cond (write_waits model n.buffer f.instr address) (Stays outcome.MustDrain) writes in
+      either Good (not (is_valid address n.reserved)) (retires n f None (Some false) deed.Fail) tries tt (either Good (write_waits model n.buffer f.instr address) (Stays outcome.MustDrain) writes tt tt)
 
   access : (model : MemoryModel) (f : Fetched) (a : Access) → Good (plan_access model n f a)
   access model f Private = tt
   access model f (Loads address bytes) = load f address bytes
   access model f (Stores address bytes value) = either Good (fits (word_of address) n.buffer) (retires n f None None (deed.Store (store_of address bytes value f.place))) (Stays outcome.BufferFull) tt tt
-  access model f (DoesLr address) = waits (waits_for_stores n f.instr address) (line address) (λ held. retires n f (Some (read_from (word_in held address) address 4)) None (deed.Lr address)) (λ held. tt)
+  access model f (DoesLr address) = waits (waits_for_stores n.buffer f.instr address) (line address) (λ held. retires n f (Some (read_from (word_in held address) address 4)) None (deed.Lr address)) (λ held. tt)
   access model f (DoesSc address value) = conditional model f address value
-  access model f (DoesAmo address op operand) = waits (write_waits model n f.instr address) (line address) (λ held. update n f address op operand (read_from (word_in held address) address 4)) (λ held. tt)
+  access model f (DoesAmo address op operand) = waits (write_waits model n.buffer f.instr address) (line address) (λ held. update n f address op operand (read_from (word_in held address) address 4)) (λ held. tt)
   access model f Fences = either Good (fences (Some f.instr) Store Load && not (is_empty n.buffer)) (Stays outcome.MustDrain) (retires n f None None (cond (fences (Some f.instr) Store Store) deed.Seal deed.Private)) tt tt
   access model f (Calls number argument) = tt
 

@@ -61,10 +61,10 @@ FitsDeed model n f (Calls number argument) e deed.Private = Unit {0}
 FitsDeed model n f (Calls number argument) e (deed.Output k) = Unit {0}
 FitsDeed model n f (Loads address bytes) e deed.Load = (e.sc_ok ≡ None) × ReadsBoth n address bytes e
 FitsDeed model n f (Stores address bytes value) e (deed.Store s) = s ≡ store_of address bytes value f.place
-FitsDeed model n f (DoesLr address) e (deed.Lr word) = (word ≡ address) × (waits_for_stores n f.instr address ≡ false) × (e.sc_ok ≡ None) × (old : ℕ) × (e.loaded ≡ Some old) × ReadsTrunk n address old
+FitsDeed model n f (DoesLr address) e (deed.Lr word) = (word ≡ address) × (waits_for_stores n.buffer f.instr address ≡ false) × (e.sc_ok ≡ None) × (old : ℕ) × (e.loaded ≡ Some old) × ReadsTrunk n address old
 FitsDeed model n f (DoesSc address value) e deed.Fail = e.sc_ok ≡ Some false
-FitsDeed model n f (DoesSc address value) e (deed.Sc word v) = (word ≡ address) × (v ≡ value) × (e.sc_ok ≡ Some true) × (is_valid address n.reserved ≡ true) × (write_waits model n f.instr address ≡ false)
-FitsDeed model n f (DoesAmo address op operand) e (deed.Amo word v) = (word ≡ address) × (write_waits model n f.instr address ≡ false) × (e.sc_ok ≡ None) × (old : ℕ) × (e.loaded ≡ Some old) × (v ≡ combined op old operand) × ReadsTrunk n address old
+FitsDeed model n f (DoesSc address value) e (deed.Sc word v) = (word ≡ address) × (v ≡ value) × (e.sc_ok ≡ Some true) × (is_valid address n.reserved ≡ true) × (write_waits model n.buffer f.instr address ≡ false)
+FitsDeed model n f (DoesAmo address op operand) e (deed.Amo word v) = (word ≡ address) × (write_waits model n.buffer f.instr address ≡ false) × (e.sc_ok ≡ None) × (old : ℕ) × (e.loaded ≡ Some old) × (v ≡ combined op old operand) × ReadsTrunk n address old
 FitsDeed model n f Fences e deed.Private = ((fences (Some f.instr) kind.Store kind.Load && not (is_empty n.buffer)) ≡ false) × (fences (Some f.instr) kind.Store kind.Store ≡ false)
 FitsDeed model n f Fences e deed.Seal = (fences (Some f.instr) kind.Store kind.Load && not (is_empty n.buffer)) ≡ false
 FitsDeed model n f _ e _ = ⊥
@@ -115,14 +115,14 @@ lr_fits : (model : MemoryModel) (n : Node) (f : Fetched) (address : ℕ) → Fit
 lr_fits model n f address =
     let line = line_of n.cache.shape.size address in
     let go : LineData → Plan = λ held. retires n f (Some (read_from (word_in held address) address 4)) None (deed.Lr address) in
-    by_test (FitsPlan model n f (DoesLr address)) (waits_for_stores n f.instr address) (Stays outcome.MustDrain) (writing go n.cache line) (λ e. tt)
+    by_test (FitsPlan model n f (DoesLr address)) (waits_for_stores n.buffer f.instr address) (Stays outcome.MustDrain) (writing go n.cache line) (λ e. tt)
     (λ e. writing_fits model n f (DoesLr address) go n.cache line (copy_at n.cache line) (λ dirty held g. (refl, (refl, e, refl, read_from (word_in held address) address 4, refl, (dirty, held, g, refl)))))
 
 sc_fits : (model : MemoryModel) (n : Node) (f : Fetched) (address value : ℕ) → FitsPlan model n f (DoesSc address value) (plan_sc model n f address value)
 sc_fits model n f address value =
     let writes = retires n f None (Some true) (deed.Sc address value) in
-    by_test (FitsPlan model n f (DoesSc address value)) (not (is_valid address n.reserved)) (retires n f None (Some false) deed.Fail) (cond (write_waits model n f.instr address) (Stays outcome.MustDrain) writes) (λ e. (refl, refl))
-    (λ v. by_test (FitsPlan model n f (DoesSc address value)) (write_waits model n f.instr address) (Stays outcome.MustDrain) writes (λ e. tt) (λ e. (refl, (refl, refl, refl, valid (is_valid address n.reserved) v, e))))
+    by_test (FitsPlan model n f (DoesSc address value)) (not (is_valid address n.reserved)) (retires n f None (Some false) deed.Fail) (cond (write_waits model n.buffer f.instr address) (Stays outcome.MustDrain) writes) (λ e. (refl, refl))
+    (λ v. by_test (FitsPlan model n f (DoesSc address value)) (write_waits model n.buffer f.instr address) (Stays outcome.MustDrain) writes (λ e. tt) (λ e. (refl, (refl, refl, refl, valid (is_valid address n.reserved) v, e))))
   where
     valid : (b : Bool) → not b ≡ false → b ≡ true
     valid true e = refl
@@ -132,7 +132,7 @@ amo_fits : (model : MemoryModel) (n : Node) (f : Fetched) (address : ℕ) (op : 
 amo_fits model n f address op operand =
     let line = line_of n.cache.shape.size address in
     let go : LineData → Plan = λ held. update n f address op operand (read_from (word_in held address) address 4) in
-    by_test (FitsPlan model n f (DoesAmo address op operand)) (write_waits model n f.instr address) (Stays outcome.MustDrain) (writing go n.cache line) (λ e. tt)
+    by_test (FitsPlan model n f (DoesAmo address op operand)) (write_waits model n.buffer f.instr address) (Stays outcome.MustDrain) (writing go n.cache line) (λ e. tt)
     (λ e. writing_fits model n f (DoesAmo address op operand) go n.cache line (copy_at n.cache line) (λ dirty held g. (refl, (refl, e, refl, read_from (word_in held address) address 4, refl, refl, (dirty, held, g, refl)))))
 
 fence_fits : (model : MemoryModel) (n : Node) (f : Fetched) → FitsPlan model n f Fences (plan_fence n f)

@@ -117,11 +117,11 @@ trunk_byte model h items n performed memory small holds k address old x aligned 
     ∙ (ap memory (omega (arith, aligned, l))
     ∙ ap (λ xs. byte_from memory x (last_or None xs)) (sym (filter_none (stores_to x) (joined k.sealed ++ k.current) (none_stores h address x (joined k.sealed ++ k.current) (omega (arith, aligned, l, m)) k.kept.waiting none))))))
 
-lr_alone : (model : MemoryModel) (h : ℕ) (items : List Item) (n : Node) (performed : List Operation) (i : Instr) (address : ℕ) (k : HartKept model h items n.buffer performed) → waits_for_stores n i address ≡ false → list_any (of_word address) (joined k.sealed ++ k.current) ≡ false
+lr_alone : (model : MemoryModel) (h : ℕ) (items : List Item) (n : Node) (performed : List Operation) (i : Instr) (address : ℕ) (k : HartKept model h items n.buffer performed) → waits_for_stores n.buffer i address ≡ false → list_any (of_word address) (joined k.sealed ++ k.current) ≡ false
 lr_alone model h items n performed i address k e = sym (has_is address n.buffer k.sealed k.current k.buffer_is) ∙ (or_parts ((annotations_of i).release && not (is_empty n.buffer)) (has address n.buffer) e).1
 
-write_alone : (model : MemoryModel) (h : ℕ) (items : List Item) (n : Node) (performed : List Operation) (i : Instr) (address : ℕ) (k : HartKept model h items n.buffer performed) → write_waits model n i address ≡ false → list_any (of_word address) (joined k.sealed ++ k.current) ≡ false
-write_alone Rvwmo h items n performed i address k e = lr_alone Rvwmo h items n performed i address k (or_parts (waits_for_stores n i address) (has_sealed n.buffer) e).0
+write_alone : (model : MemoryModel) (h : ℕ) (items : List Item) (n : Node) (performed : List Operation) (i : Instr) (address : ℕ) (k : HartKept model h items n.buffer performed) → write_waits model n.buffer i address ≡ false → list_any (of_word address) (joined k.sealed ++ k.current) ≡ false
+write_alone Rvwmo h items n performed i address k e = lr_alone Rvwmo h items n performed i address k (or_parts (waits_for_stores n.buffer i address) (has_sealed n.buffer) e).0
 write_alone Ztso h items n performed i address k e = ap (list_any (of_word address)) (empty_waits n.buffer k.sealed k.current k.buffer_is (turn (is_empty n.buffer) e))
   where
     turn : (b : Bool) → not b ≡ false → b ≡ true
@@ -151,11 +151,11 @@ record Found (n : Node) (address : ℕ) (e : Retired) (model : MemoryModel) (wai
   loaded : e.loaded ≡ Some old
   trunk : ReadsTrunk n address old
 
-lr_found : (model : MemoryModel) (n : Node) (f : Fetched) (address : ℕ) (e : Retired) (d : Deed) → FitsDeed model n f (DoesLr address) e d → Found n address e model (waits_for_stores n f.instr address)
+lr_found : (model : MemoryModel) (n : Node) (f : Fetched) (address : ℕ) (e : Retired) (d : Deed) → FitsDeed model n f (DoesLr address) e d → Found n address e model (waits_for_stores n.buffer f.instr address)
 lr_found model n f address e (deed.Lr word) x = record { free = x.1; no_sc = x.2; old = x.3; loaded = x.4; trunk = x.5 }
 lr_found model n f address e _ x = absurd x
 
-amo_found : (model : MemoryModel) (n : Node) (f : Fetched) (address : ℕ) (op : AmoOp) (operand : ℕ) (e : Retired) (d : Deed) → FitsDeed model n f (DoesAmo address op operand) e d → Found n address e model (write_waits model n f.instr address)
+amo_found : (model : MemoryModel) (n : Node) (f : Fetched) (address : ℕ) (op : AmoOp) (operand : ℕ) (e : Retired) (d : Deed) → FitsDeed model n f (DoesAmo address op operand) e d → Found n address e model (write_waits model n.buffer f.instr address)
 amo_found model n f address op operand e (deed.Amo word v) x = record { free = x.1; no_sc = x.2; old = x.3; loaded = x.4; trunk = x.6 }
 amo_found model n f address op operand e _ x = absurd x
 

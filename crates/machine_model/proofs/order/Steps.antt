@@ -162,7 +162,7 @@ none_waits h i word (b ∷ g) f at own e =
     (and_right (writes i.kind) _ (apart b i own.0.in_word f (λ q. eqb-false (word_of b.address) word es.0 (q ∙ at))), none_waits h i word g f at own.1 es.1)
 
 -- what an LR, SC or AMO need not wait for
-passes_lr : (model : MemoryModel) (h : ℕ) (n : Node) (items : List Item) (performed : List Operation) (instr : Instr) (i : Operation) (word : ℕ) → writes i.kind ≡ false → i.rl ≡ (annotations_of instr).release → waits_for_stores n instr word ≡ false → (k : HartKept model h items n.buffer performed) → Passes model items i (joined k.sealed ++ k.current)
+passes_lr : (model : MemoryModel) (h : ℕ) (n : Node) (items : List Item) (performed : List Operation) (instr : Instr) (i : Operation) (word : ℕ) → writes i.kind ≡ false → i.rl ≡ (annotations_of instr).release → waits_for_stores n.buffer instr word ≡ false → (k : HartKept model h items n.buffer performed) → Passes model items i (joined k.sealed ++ k.current)
 passes_lr model h n items performed instr i word w r e k = go (is_empty n.buffer) refl ((annotations_of instr).release) refl
   where
     go : (b : Bool) → is_empty n.buffer ≡ b → (c : Bool) → (annotations_of instr).release ≡ c → Passes model items i (joined k.sealed ++ k.current)
@@ -170,14 +170,14 @@ passes_lr model h n items performed instr i word w r e k = go (is_empty n.buffer
     go false f false g = passes_reading model items i (joined k.sealed ++ k.current) w (r ∙ g)
     go false f true g = absurd (true≢false (sym (rw (g, f) refl) ∙ (or_parts ((annotations_of instr).release && not (is_empty n.buffer)) (has word n.buffer) e).0))
 
-passes_write : (model : MemoryModel) (h : ℕ) (n : Node) (items : List Item) (performed : List Operation) (instr : Instr) (i : Operation) (word : ℕ) → i.rl ≡ (annotations_of instr).release → InWord i → word_of i.address ≡ word → write_waits model n instr word ≡ false → (k : HartKept model h items n.buffer performed) → Passes model items i (joined k.sealed ++ k.current)
+passes_write : (model : MemoryModel) (h : ℕ) (n : Node) (items : List Item) (performed : List Operation) (instr : Instr) (i : Operation) (word : ℕ) → i.rl ≡ (annotations_of instr).release → InWord i → word_of i.address ≡ word → write_waits model n.buffer instr word ≡ false → (k : HartKept model h items n.buffer performed) → Passes model items i (joined k.sealed ++ k.current)
 passes_write Ztso h n items performed instr i word r f at e k = passes_nothing Ztso items i (joined k.sealed ++ k.current) (empty_waits n.buffer k.sealed k.current k.buffer_is (turn (is_empty n.buffer) e))
   where
     turn : (b : Bool) → not b ≡ false → b ≡ true
     turn true e = refl
     turn false e = absurd (true≢false e)
 passes_write Rvwmo h n items performed instr i word r f at e k =
-    let s = or_parts (waits_for_stores n instr word) (has_sealed n.buffer) e in
+    let s = or_parts (waits_for_stores n.buffer instr word) (has_sealed n.buffer) e in
     let t = or_parts ((annotations_of instr).release && not (is_empty n.buffer)) (has word n.buffer) s.0 in
     go (is_empty n.buffer) refl ((annotations_of instr).release) refl s.1 t.0 t.1
   where

@@ -131,7 +131,7 @@ module _ (s : State) (last : ℕ → LineData) (i : IsFit s last) (h : ℕ) wher
   reserve : (f : Fetched) (address : ℕ) → IsFound (plan_lr n f address)
   reserve f address =
       let go : LineData → Plan = λ held. retires n f (Some (read_from (word_in held address) address 4)) None (deed.Lr address) in
-      by_test IsFound (waits_for_stores n f.instr address) (Stays outcome.MustDrain) (writing go n.cache (line address)) (λ e. tt) (λ e. by_writing (line address) go (copy_at n.cache (line address)) (λ dirty held is. tt))
+      by_test IsFound (waits_for_stores n.buffer f.instr address) (Stays outcome.MustDrain) (writing go n.cache (line address)) (λ e. tt) (λ e. by_writing (line address) go (copy_at n.cache (line address)) (λ dirty held is. tt))
 
   -- a valid reservation's line is Trunk
   conditional : (model : MemoryModel) (f : Fetched) (address value : ℕ) → address % 4 ≡ 0 → IsFound (plan_sc model n f address value)
@@ -141,14 +141,14 @@ module _ (s : State) (last : ℕ → LineData) (i : IsFit s last) (h : ℕ) wher
       valid None e v = cc v
       valid (Some word) e v = record { aligned = aligned; trunk = is_writer _ (i.reserved h address (e ∙ ap Some (eqb-true word address v))) }
 
-      go : (t : Bool) → is_valid address n.reserved ≡ t → IsFound (if not t then retires n f None (Some false) deed.Fail else if write_waits model n f.instr address then Stays outcome.MustDrain else retires n f None (Some true) (deed.Sc address value))
+      go : (t : Bool) → is_valid address n.reserved ≡ t → IsFound (if not t then retires n f None (Some false) deed.Fail else if write_waits model n.buffer f.instr address then Stays outcome.MustDrain else retires n f None (Some true) (deed.Sc address value))
       go false e = tt
-      go true e = by_test IsFound (write_waits model n f.instr address) (Stays outcome.MustDrain) (retires n f None (Some true) (deed.Sc address value)) (λ _. tt) (λ _. valid n.reserved refl e)
+      go true e = by_test IsFound (write_waits model n.buffer f.instr address) (Stays outcome.MustDrain) (retires n f None (Some true) (deed.Sc address value)) (λ _. tt) (λ _. valid n.reserved refl e)
 
   amo : (model : MemoryModel) (f : Fetched) (address : ℕ) (op : AmoOp) (operand : ℕ) → address % 4 ≡ 0 → IsFound (plan_amo model n f address op operand)
   amo model f address op operand aligned =
       let go : LineData → Plan = λ held. update n f address op operand (read_from (word_in held address) address 4) in
-      by_test IsFound (write_waits model n f.instr address) (Stays outcome.MustDrain) (writing go n.cache (line address)) (λ e. tt) (λ e. by_writing (line address) go (copy_at n.cache (line address)) (λ dirty held is. writable address aligned dirty held is))
+      by_test IsFound (write_waits model n.buffer f.instr address) (Stays outcome.MustDrain) (writing go n.cache (line address)) (λ e. tt) (λ e. by_writing (line address) go (copy_at n.cache (line address)) (λ dirty held is. writable address aligned dirty held is))
 
   fence : (f : Fetched) → IsFound (plan_fence n f)
   fence f = go (fences (Some f.instr) Store Load && not (is_empty n.buffer)) (fences (Some f.instr) Store Store)

@@ -87,21 +87,21 @@ lr_answers : (n : Node) (f : Fetched) (address : ℕ) → AnswersAccess n f (Doe
 lr_answers n f address =
     let line = line_of n.cache.shape.size address in
     let go : LineData → Plan = λ held. retires n f (Some (read_from (word_in held address) address 4)) None (deed.Lr address) in
-    either (AnswersAccess n f (DoesLr address)) (waits_for_stores n f.instr address) (Stays outcome.MustDrain) (writing go n.cache line) tt
+    either (AnswersAccess n f (DoesLr address)) (waits_for_stores n.buffer f.instr address) (Stays outcome.MustDrain) (writing go n.cache line) tt
     (writing_answers n f (DoesLr address) go n.cache line (copy_at n.cache line) (λ held. (refl, refl, refl, fits_load (word_in held address) address 4)))
 
 sc_answers : (model : MemoryModel) (n : Node) (f : Fetched) (address value : ℕ) → AnswersAccess n f (DoesSc address value) (plan_sc model n f address value)
 sc_answers model n f address value =
     let writes = retires n f None (Some true) (deed.Sc address value) in
-    let tries = cond (write_waits model n f.instr address) (Stays outcome.MustDrain) writes in
+    let tries = cond (write_waits model n.buffer f.instr address) (Stays outcome.MustDrain) writes in
     either (AnswersAccess n f (DoesSc address value)) (not (is_valid address n.reserved)) (retires n f None (Some false) deed.Fail) tries (refl, refl, refl, refl)
-    (either (AnswersAccess n f (DoesSc address value)) (write_waits model n f.instr address) (Stays outcome.MustDrain) writes tt (refl, refl, refl, refl))
+    (either (AnswersAccess n f (DoesSc address value)) (write_waits model n.buffer f.instr address) (Stays outcome.MustDrain) writes tt (refl, refl, refl, refl))
 
 amo_answers : (model : MemoryModel) (n : Node) (f : Fetched) (address : ℕ) (op : AmoOp) (operand : ℕ) → AnswersAccess n f (DoesAmo address op operand) (plan_amo model n f address op operand)
 amo_answers model n f address op operand =
     let line = line_of n.cache.shape.size address in
     let go : LineData → Plan = λ held. update n f address op operand (read_from (word_in held address) address 4) in
-    either (AnswersAccess n f (DoesAmo address op operand)) (write_waits model n f.instr address) (Stays outcome.MustDrain) (writing go n.cache line) tt
+    either (AnswersAccess n f (DoesAmo address op operand)) (write_waits model n.buffer f.instr address) (Stays outcome.MustDrain) (writing go n.cache line) tt
     (writing_answers n f (DoesAmo address op operand) go n.cache line (copy_at n.cache line) (λ held. (refl, refl, refl, fits_load (word_in held address) address 4)))
 
 fence_answers : (n : Node) (f : Fetched) → AnswersAccess n f Fences (plan_fence n f)

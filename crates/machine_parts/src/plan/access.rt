@@ -18,6 +18,7 @@ use machine_types::{Config, Outcome};
 use memory_model::annotations;
 use rv32_decode::{AmoOp, Instr};
 use rv32_exec::{Call, Width};
+use store_buffer::StoreBuffer;
 
 /// An instruction that a hart is about to retire.
 #[derive(Clone, Copy)]
@@ -95,19 +96,19 @@ pub(crate) fn plan_store(
 }
 
 /// A release bit waits for all stores, and each access for those to its own word.
-fn waits_for_stores(node: &Node, instr: &Instr, word: u32) -> bool
-    ensures { result ≡ spec.waits_for_stores node.now instr.now word }
+pub fn waits_for_stores(buffer: &StoreBuffer, instr: &Instr, word: u32) -> bool
+    ensures { result ≡ spec.waits_for_stores buffer.now instr.now word }
 {
-    (annotations(instr).release && !node.buffer.is_empty()) || node.buffer.has(word)
+    (annotations(instr).release && !buffer.is_empty()) || buffer.has(word)
 }
 
 /// A write that is performed at once passes no sealed group, and under Ztso no store.
-fn write_waits(model: MemoryModel, node: &Node, instr: &Instr, word: u32) -> bool
-    ensures { result ≡ spec.write_waits model node.now instr.now word }
+pub fn write_waits(model: MemoryModel, buffer: &StoreBuffer, instr: &Instr, word: u32) -> bool
+    ensures { result ≡ spec.write_waits model buffer.now instr.now word }
 {
     match model {
-        MemoryModel::Rvwmo => waits_for_stores(node, instr, word) || node.buffer.has_sealed(),
-        MemoryModel::Ztso => !node.buffer.is_empty(),
+        MemoryModel::Rvwmo => waits_for_stores(buffer, instr, word) || buffer.has_sealed(),
+        MemoryModel::Ztso => !buffer.is_empty(),
     }
 }
 
@@ -116,7 +117,7 @@ pub(crate) fn plan_lr(config: &Config, node: &Node, fetched: &Fetched, address: 
     requires aligned { address % 4 ≡ 0 }
     ensures { result ≡ spec.plan_lr node.now (fetched_of fetched.now) address }
 {
-    if waits_for_stores(node, &fetched.instr, address) {
+    if waits_for_stores(&node.buffer, &fetched.instr, address) {
         return Plan::Stays(Outcome::MustDrain);
     }
     match writing(&node.cache, line_of(line_size(config), address)) {
@@ -141,7 +142,7 @@ pub(crate) fn plan_sc(
     if !node.reservation.valid(address) {
         return retires(node, fetched, None, Some(false), Deed::Fail);
     }
-    if write_waits(model, node, &fetched.instr, address) {
+    if write_waits(model, &node.buffer, &fetched.instr, address) {
         return Plan::Stays(Outcome::MustDrain);
     }
     let deed = Deed::Sc {
@@ -174,7 +175,7 @@ pub(crate) fn plan_amo(
     requires aligned { address % 4 ≡ 0 }
     ensures { result ≡ spec.plan_amo config.now.model node.now (fetched_of fetched.now) address op operand }
 {
-    if write_waits(config.model, node, &fetched.instr, address) {
+    if write_waits(config.model, &node.buffer, &fetched.instr, address) {
         return Plan::Stays(Outcome::MustDrain);
     }
     match writing(&node.cache, line_of(line_size(config), address)) {
