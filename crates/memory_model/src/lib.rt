@@ -2,11 +2,11 @@
 //! What they mean is said in `specs/`.
 #![tactic(auto)]
 
-mod annotations;
+mod bits;
 mod laws;
 mod operation;
 
-pub use annotations::annotations;
+pub use bits::annotations;
 pub use laws::{
     atomicity_forms_agree, completed_is_order, dependency_forms_agree, entries_tell_operations,
     examples_judge_as_defined, litmus_shapes, names_find_operations, order_forms_agree,
