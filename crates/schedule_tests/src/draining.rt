@@ -1,149 +1,129 @@
 //! Small programs whose ends, with their final words of memory, were worked out by hand.
 
-use elf_loader::{Image, raw, size_of_kib};
-use flat_machine::{DrainingMachine, Ending, Key, Tables};
-use flat_model::FlatEvent;
+use crate::exploring::{Found, is_whole};
+use crate::programs::{ONE_WORD, S, TWO_WRITES, TWO_WRITES_FENCED, X, Y, config_of, image_of};
+use flat_machine::{DrainingMachine, Ending, Tables};
 use hart::Status;
 use machine_model::MemoryModel;
 use machine_types::Config;
-use state_search::{Extent, Findings, Unwatched, search};
-use std::alloc::Global;
+use state_search::{Unwatched, search};
+use std::alloc::{AllocError, Global};
+use std::process::Abort;
 use std::test::Fail;
 
-const X: u32 = 0x8000_0100;
+/// The code that the last hart exits with, and the words X and Y.
+type Drained = (u8, u32, u32);
 
-const Y: u32 = 0x8000_0200;
-
-/// 2+2W: hart 0 stores 1 to X and 2 to Y, hart 1 stores 1 to Y and 2 to X.
-const TWO_WRITES: [u32; 10] = [
-    0x8000_0637, // lui a2, 0x80000
-    0x0010_0293, // li t0, 1
-    0x0020_0313, // li t1, 2
-    0x0005_1863, // bnez a0, the second half
-    0x1056_2023, // sw t0, 0x100(a2)
-    0x2066_2023, // sw t1, 0x200(a2)
-    0x0000_0073, // ecall
-    0x2056_2023, // sw t0, 0x200(a2)
-    0x1066_2023, // sw t1, 0x100(a2)
-    0x0000_0073, // ecall
-];
-
-/// The same with a fence between the stores.
-const TWO_WRITES_FENCED: [u32; 12] = [
-    0x8000_0637, // lui a2, 0x80000
-    0x0010_0293, // li t0, 1
-    0x0020_0313, // li t1, 2
-    0x0005_1a63, // bnez a0, the second half
-    0x1056_2023, // sw t0, 0x100(a2)
-    0x0110_000f, // fence w, w
-    0x2066_2023, // sw t1, 0x200(a2)
-    0x0000_0073, // ecall
-    0x2056_2023, // sw t0, 0x200(a2)
-    0x0110_000f, // fence w, w
-    0x1066_2023, // sw t1, 0x100(a2)
-    0x0000_0073, // ecall
-];
-
-/// S: hart 0 stores 2 to X and then 1 to Y, hart 1 loads Y, with which it exits, and then stores 1 to X.
-const S: [u32; 11] = [
-    0x8000_0637, // lui a2, 0x80000
-    0x0010_0293, // li t0, 1
-    0x0020_0313, // li t1, 2
-    0x0005_1a63, // bnez a0, the second half
-    0x1066_2023, // sw t1, 0x100(a2)
-    0x0110_000f, // fence w, w
-    0x2056_2023, // sw t0, 0x200(a2)
-    0x0000_0073, // ecall
-    0x2006_2503, // lw a0, 0x200(a2)
-    0x1056_2023, // sw t0, 0x100(a2)
-    0x0000_0073, // ecall
-];
-
-/// Stores 1 and then 2 to X.
-const ONE_WORD: [u32; 6] = [
-    0x8000_0637, // lui a2, 0x80000
-    0x0010_0293, // li t0, 1
-    0x0020_0313, // li t1, 2
-    0x1056_2023, // sw t0, 0x100(a2)
-    0x1066_2023, // sw t1, 0x100(a2)
-    0x0000_0073, // ecall
-];
-
-type Found = Findings<Tables, Key, FlatEvent, Ending>;
-
-fn image_of(alloc: Global, words: &[u32]) -> Result<Image, Fail> {
-    let size = size_of_kib(4).ok_or("a size")?;
-    let mut bytes = Vec::new(alloc);
-    for word in words {
-        bytes.extend_from_slice(&word.to_le_bytes())?;
-    }
-    Ok(raw(alloc, &bytes, size)?)
+/// A program under a model, and all its ends.
+struct Case {
+    words: &'static [u32],
+    harts: u32,
+    model: MemoryModel,
+    ends: &'static [Drained],
 }
 
-/// What is found where X and Y are shown.
-fn explored(alloc: Global, words: &[u32], harts: u32, model: MemoryModel) -> Result<Found, Fail> {
-    let image = image_of(alloc, words)?;
+fn is_end(ending: &Ending, end: Drained) -> bool {
+    let (code, x, y) = end;
+    let last = ending.results().harts().last();
+    last.is_some_and(|last| last.status == Status::Exited(code))
+        && ending.words() == [x, y].as_slice()
+}
+
+fn is_among(found: &[Ending], end: Drained) -> bool {
+    found.iter().any(|ending| is_end(ending, end))
+}
+
+/// Whether these are the ends, in any order.
+fn are_ends(found: &[Ending], ends: &[Drained]) -> bool {
+    found.len() == ends.len() && ends.iter().all(|end| is_among(found, *end))
+}
+
+fn found_by(
+    alloc: Global,
+    machine: &DrainingMachine<'_>,
+    ends: &[Drained],
+) -> Result<Found, AllocError> {
+    let findings = search(machine, Tables::new(alloc), alloc, 1000, &Unwatched)?;
+    Ok(Found {
+        extent: findings.extent,
+        has_outcomes: are_ends(findings.outcomes.outcomes.as_slice(), ends),
+        states: findings.table.keys.len(),
+        stuck: findings.stuck.len(),
+    })
+}
+
+fn find(alloc: Global, case: &Case) -> Result<Found, Fail> {
+    let image = image_of(alloc, case.words)?;
     let config = Config {
-        harts,
-        sets: 1,
-        ways: 2,
-        line: 16,
-        model,
+        model: case.model,
+        ..config_of(case.harts, 2)
     };
     if !config.is_within_limits() {
         return Err("limits".into());
     }
     let machine = DrainingMachine::new(alloc, &image, config, &[X, Y])?;
-    Ok(search(&machine, Tables::new(alloc), alloc, 1000, &Unwatched)?)
+    Ok(found_by(alloc, &machine, case.ends)?)
 }
 
-/// Whether one of the ends has these words, and the last hart's code.
-fn ends_with(found: &Found, code: u8, x: u32, y: u32) -> bool {
-    found.outcomes.outcomes.as_slice().iter().any(|ending| {
-        let last = ending.results().harts().last();
-        last.is_some_and(|last| last.status == Status::Exited(code))
-            && ending.words() == [x, y].as_slice()
-    })
+fn ends_so(rt: &(impl Abort + AllocGlobal), case: &Case) -> Result<(), Fail> {
+    is_whole(rt, find(rt.alloc(), case)?);
+    Ok(())
 }
+
+// The stores of a group leave in any order.
+const ANY_LAST: Case = Case {
+    words: &TWO_WRITES,
+    harts: 2,
+    model: MemoryModel::Rvwmo,
+    ends: &[(1, 1, 1), (1, 1, 2), (1, 2, 1), (1, 2, 2)],
+};
 
 #[test]
 fn either_hart_may_store_last_to_each_word(rt: HostRuntime) -> Result<(), Fail> {
-    // The stores of a group leave in any order.
-    let found = explored(rt.alloc(), &TWO_WRITES, 2, MemoryModel::Rvwmo)?;
-    assert_eq!(rt; found.extent, Extent::Complete);
-    assert_eq!(rt; found.outcomes.outcomes.len(), 4);
-    assert!(rt; ends_with(&found, 1, 1, 1) && ends_with(&found, 1, 1, 2));
-    assert!(rt; ends_with(&found, 1, 2, 1) && ends_with(&found, 1, 2, 2));
-    assert!(rt; found.stuck.is_empty());
-    Ok(())
+    ends_so(&rt, &ANY_LAST)
 }
+
+// Not both words 1: each hart's second store came before the other's first, and so before itself.
+const FENCED: Case = Case {
+    words: &TWO_WRITES_FENCED,
+    harts: 2,
+    model: MemoryModel::Rvwmo,
+    ends: &[(1, 1, 2), (1, 2, 1), (1, 2, 2)],
+};
+
+const TOTAL: Case = Case {
+    words: &TWO_WRITES,
+    harts: 2,
+    model: MemoryModel::Ztso,
+    ends: &[(1, 1, 2), (1, 2, 1), (1, 2, 2)],
+};
 
 #[test]
 fn stores_in_order_are_not_both_overtaken(rt: HostRuntime) -> Result<(), Fail> {
-    // Both words 1: each hart's second store came before the other's first, and so before itself.
-    let fenced = explored(rt.alloc(), &TWO_WRITES_FENCED, 2, MemoryModel::Rvwmo)?;
-    assert_eq!(rt; fenced.outcomes.outcomes.len(), 3);
-    assert!(rt; !ends_with(&fenced, 1, 1, 1));
-    let total = explored(rt.alloc(), &TWO_WRITES, 2, MemoryModel::Ztso)?;
-    assert_eq!(rt; total.outcomes.outcomes.len(), 3);
-    assert!(rt; !ends_with(&total, 1, 1, 1));
-    Ok(())
+    ends_so(&rt, &FENCED)?;
+    ends_so(&rt, &TOTAL)
 }
+
+const BEHIND_A_LOAD: Case = Case {
+    words: &S,
+    harts: 2,
+    model: MemoryModel::Rvwmo,
+    ends: &[(0, 1, 1), (0, 2, 1), (1, 1, 1)],
+};
 
 #[test]
 fn a_store_behind_a_load_is_later_than_what_the_load_saw(rt: HostRuntime) -> Result<(), Fail> {
-    let found = explored(rt.alloc(), &S, 2, MemoryModel::Rvwmo)?;
-    assert_eq!(rt; found.extent, Extent::Complete);
-    assert_eq!(rt; found.outcomes.outcomes.len(), 3);
-    assert!(rt; ends_with(&found, 0, 1, 1) && ends_with(&found, 0, 2, 1));
-    assert!(rt; ends_with(&found, 1, 1, 1));
-    Ok(())
+    ends_so(&rt, &BEHIND_A_LOAD)
 }
+
+const LAST_STAYS: Case = Case {
+    words: &ONE_WORD,
+    harts: 1,
+    model: MemoryModel::Rvwmo,
+    ends: &[(0, 2, 0)],
+};
 
 #[test]
 fn the_last_store_to_a_word_stays(rt: HostRuntime) -> Result<(), Fail> {
-    let found = explored(rt.alloc(), &ONE_WORD, 1, MemoryModel::Rvwmo)?;
-    assert_eq!(rt; found.outcomes.outcomes.len(), 1);
-    assert!(rt; ends_with(&found, 0, 2, 0));
-    Ok(())
+    ends_so(&rt, &LAST_STAYS)
 }

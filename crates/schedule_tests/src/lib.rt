@@ -7,7 +7,11 @@ mod draining;
 #[cfg(test)]
 mod exploring;
 #[cfg(test)]
+mod programs;
+#[cfg(test)]
 mod realising;
+#[cfg(test)]
+mod same;
 #[cfg(test)]
 mod searching;
 #[cfg(test)]

@@ -1,17 +1,38 @@
 //! Schedules that are shortened. What is left was worked out by hand.
 
-use crate::realising::{
-    CIRCLE, DEKKER, READERS, RESERVED, STORE_BUFFERING, TWICE, X, config_of, deliver, drain,
-    image_of, realised, step,
+use crate::programs::{
+    CIRCLE, DEKKER, READERS, RESERVED, STORE_BUFFERING, TWICE, X, config_of, image_of,
 };
+use crate::realising::{DRAIN_X, STEP_0, STEP_1, STEP_2, realised};
+use crate::same::same;
 use coherent_machine::{Machine, replay};
-use flat_model::HartResult;
+use flat_model::{FlatEvent, HartResult};
 use hart::Status;
-use machine_types::{Config, Event};
-use schedules::{Goal, HartResults, shorten};
+use machine_types::Event;
+use schedules::{Goal, HartResults, Schedule, shorten};
 use std::alloc::{AllocError, Global};
+use std::process::Abort;
 use std::test::Fail;
 use tl_types::Channel;
+
+const STEP: Event = Event::Step { hart: 0 };
+
+const ASKED: Event = Event::Deliver {
+    channel: Channel::A,
+    hart: 0,
+};
+
+const GRANTED: Event = Event::Deliver {
+    channel: Channel::D,
+    hart: 0,
+};
+
+/// A program on caches of one set with two ways.
+#[derive(Clone, Copy)]
+struct Program {
+    words: &'static [u32],
+    harts: u32,
+}
 
 /// No hart runs, and no store waits.
 #[derive(Clone, Copy)]
@@ -33,6 +54,33 @@ impl Goal for Drained {
     }
 }
 
+/// The events that are left, which lead there too.
+fn shortened<G: Goal>(
+    alloc: Global,
+    program: Program,
+    events: &[Event],
+    goal: &G,
+    most_played: u64,
+) -> Result<Vec<Event>, Fail>
+    requires asked { G.CanBeAsked goal.now }
+{
+    let image = image_of(alloc, program.words)?;
+    let config = config_of(program.harts, 2);
+    Ok(shorten(alloc, &image, config, events, goal, most_played)?)
+}
+
+/// What is left of a program's realised events where the harts are to end as these end.
+fn shortened_play(alloc: Global, program: Program, long: &Schedule) -> Result<Vec<Event>, Fail> {
+    let harts = &long.results;
+    shortened(
+        alloc,
+        program,
+        &long.events,
+        &HartResults { harts },
+        100_000,
+    )
+}
+
 /// The events but for one, in their order.
 fn without(alloc: Global, events: &[Event], left_out: usize) -> Result<Vec<Event>, Fail> {
     let mut rest = Vec::new(alloc);
@@ -44,28 +92,51 @@ fn without(alloc: Global, events: &[Event], left_out: usize) -> Result<Vec<Event
     Ok(rest)
 }
 
-/// Whether the events lead there, and no longer do where any one of them is left out.
-fn are_all_needed<G: Goal>(
+fn leads_there(
     alloc: Global,
-    words: &[u32],
-    config: Config,
+    program: Program,
     events: &[Event],
-    goal: &G,
-) -> Result<bool, Fail>
-    requires asked { G.CanBeAsked goal.now }
-{
-    let all = replay(alloc, image_of(alloc, words)?, config, events)?;
-    if !goal.is_met(&all)? {
+    goal: &HartResults<'_>,
+) -> Result<bool, Fail> {
+    let image = image_of(alloc, program.words)?;
+    let machine = replay(alloc, image, config_of(program.harts, 2), events)?;
+    Ok(goal.is_met(&machine)?)
+}
+
+/// Whether the events lead there, and no longer do where any one of them is left out.
+fn are_all_needed(
+    alloc: Global,
+    program: Program,
+    events: &[Event],
+    goal: &HartResults<'_>,
+) -> Result<bool, Fail> {
+    if !leads_there(alloc, program, events, goal)? {
         return Ok(false);
     }
     for index in 0..events.len() {
         let fewer = without(alloc, events, index)?;
-        let machine = replay(alloc, image_of(alloc, words)?, config, &fewer)?;
-        if goal.is_met(&machine)? {
+        if leads_there(alloc, program, &fewer, goal)? {
             return Ok(false);
         }
     }
     Ok(true)
+}
+
+/// How many events are left of those that realise the steps: fewer, of which nothing more can be left out, one event
+/// at a time.
+fn shortest(
+    rt: &(impl Abort + AllocGlobal),
+    program: Program,
+    steps: &[FlatEvent],
+) -> Result<usize, Fail> {
+    let alloc = rt.alloc();
+    let long = realised(alloc, program.words, program.harts, steps)?;
+    let short = shortened_play(alloc, program, &long)?;
+    same(rt, short.len() < long.events.len(), true);
+    let harts = &long.results;
+    let needed = are_all_needed(alloc, program, &short, &HartResults { harts })?;
+    same(rt, needed, true);
+    Ok(short.len())
 }
 
 fn result(alloc: Global, status: Status) -> HartResult {
@@ -75,133 +146,131 @@ fn result(alloc: Global, status: Status) -> HartResult {
     }
 }
 
-#[test]
-fn what_changes_no_result_is_left_out(rt: HostRuntime) -> Result<(), Fail> {
+const RUNNING: [Event; 8] = [
+    STEP,
+    Event::Step { hart: 1 },
+    ASKED,
+    Event::Step { hart: 1 },
+    Event::Drain { hart: 1, word: X },
+    Event::Step { hart: 1 },
+    STEP,
+    Event::Step { hart: 1 },
+];
+
+/// Neither the delivery nor the drain changes anything.
+const CHANGING: [Event; 6] = [
+    STEP,
+    Event::Step { hart: 1 },
+    Event::Step { hart: 1 },
+    Event::Step { hart: 1 },
+    STEP,
+    Event::Step { hart: 1 },
+];
+
+/// What is left where the two harts are to stand so.
+fn is_left(
+    rt: &(impl Abort + AllocGlobal),
+    statuses: (Status, Status),
+    most_played: u64,
+    left: &[Event],
+) -> Result<(), Fail> {
     let alloc = rt.alloc();
-    let image = image_of(alloc, &CIRCLE)?;
-    let config = config_of(2, 2);
-    let [first, second] = [Event::Step { hart: 0 }, Event::Step { hart: 1 }];
-    let events = [
-        first,
-        second,
-        deliver(Channel::A, 0),
-        second,
-        Event::Drain { hart: 1, word: X },
-        second,
-        first,
-        second,
-    ];
-    let harts = [
-        result(alloc, Status::Exited(0)),
-        result(alloc, Status::Running),
-    ];
+    let program = Program {
+        words: &CIRCLE,
+        harts: 2,
+    };
+    let harts = [result(alloc, statuses.0), result(alloc, statuses.1)];
     let goal = HartResults { harts: &harts };
-    let short = shorten(alloc, &image, config, &events, &goal, 1000)?;
-    assert!(rt; short.as_slice() == [first, first].as_slice());
-    let untried = shorten(alloc, &image, config, &events, &goal, 0)?;
-    // Neither the delivery nor the drain changes anything.
-    let changing = [first, second, second, second, first, second];
-    assert!(rt; untried.as_slice() == changing.as_slice());
-    // The events don't lead to where both harts have exited.
-    let both = [
-        result(alloc, Status::Exited(0)),
-        result(alloc, Status::Exited(0)),
-    ];
-    let elsewhere = HartResults { harts: &both };
-    let as_they_are = shorten(alloc, &image, config, &events, &elsewhere, 1000)?;
-    assert!(rt; as_they_are.as_slice() == changing.as_slice());
+    let short = shortened(alloc, program, &RUNNING, &goal, most_played)?;
+    same(rt, short.as_slice(), left);
     Ok(())
 }
 
 #[test]
+fn what_changes_no_result_is_left_out(rt: HostRuntime) -> Result<(), Fail> {
+    let one_ends = (Status::Exited(0), Status::Running);
+    is_left(&rt, one_ends, 1000, &[STEP, STEP])?;
+    is_left(&rt, one_ends, 0, &CHANGING)?;
+    // The events don't lead to where both harts have exited.
+    is_left(&rt, (Status::Exited(0), Status::Exited(0)), 1000, &CHANGING)
+}
+
+// The load reserves its word as soon as the Grant is there.
+const RESERVES: [Event; 7] = [
+    Event::Local { hart: 0, count: 2 },
+    STEP,
+    ASKED,
+    GRANTED,
+    STEP,
+    STEP,
+    STEP,
+];
+
+#[test]
 fn acknowledgement_is_left_out(rt: HostRuntime) -> Result<(), Fail> {
     let alloc = rt.alloc();
-    let image = image_of(alloc, &RESERVED)?;
-    let config = config_of(1, 2);
-    let long = realised(alloc, &RESERVED, config, &[step(0), step(0)])?;
-    let goal = HartResults {
-        harts: &long.results,
+    let program = Program {
+        words: &RESERVED,
+        harts: 1,
     };
-    let short = shorten(alloc, &image, config, &long.events, &goal, 1000)?;
-    // The load reserves its word as soon as the Grant is there.
-    let step = Event::Step { hart: 0 };
-    let events = [
-        Event::Local { hart: 0, count: 2 },
-        step,
-        deliver(Channel::A, 0),
-        deliver(Channel::D, 0),
-        step,
-        step,
-        step,
-    ];
-    assert!(rt; short.as_slice() == events.as_slice());
+    let long = realised(alloc, &RESERVED, 1, &[STEP_0, STEP_0])?;
+    let short = shortened_play(alloc, program, &long)?;
+    same(&rt, short.as_slice(), &RESERVES);
     Ok(())
 }
 
 /// Each hart's private instructions, its store, its load that misses, the Acquire, the Grant, its load and its exit.
 #[test]
 fn both_loads_read_0_by_seven_events_a_hart(rt: HostRuntime) -> Result<(), Fail> {
-    let alloc = rt.alloc();
-    let config = config_of(2, 2);
-    let long = realised(alloc, &STORE_BUFFERING, config, &[step(0), step(1)])?;
-    let goal = HartResults {
-        harts: &long.results,
+    let program = Program {
+        words: &STORE_BUFFERING,
+        harts: 2,
     };
-    let image = image_of(alloc, &STORE_BUFFERING)?;
-    let short = shorten(alloc, &image, config, &long.events, &goal, 10_000)?;
-    assert!(rt; short.len() == 14);
-    assert!(rt; are_all_needed(alloc, &STORE_BUFFERING, config, &short, &goal)?);
+    same(&rt, shortest(&rt, program, &[STEP_0, STEP_1])?, 14);
     Ok(())
 }
 
+const DRAINS: Event = Event::Drain { hart: 0, word: X };
+
 /// Behind its exit the hart asks for the line, and the store drains as soon as the Grant is there.
+const DRAINED: [Event; 8] = [
+    Event::Local { hart: 0, count: 2 },
+    STEP,
+    STEP,
+    STEP,
+    DRAINS,
+    ASKED,
+    GRANTED,
+    DRAINS,
+];
+
 #[test]
 fn a_drain_stays_where_no_store_may_wait(rt: HostRuntime) -> Result<(), Fail> {
     let alloc = rt.alloc();
-    let config = config_of(1, 2);
-    let long = realised(alloc, &TWICE, config, &[step(0), drain(0, X)])?;
-    let image = image_of(alloc, &TWICE)?;
-    let step = Event::Step { hart: 0 };
-    let drain = Event::Drain { hart: 0, word: X };
-    let events = [
-        Event::Local { hart: 0, count: 2 },
-        step,
-        step,
-        step,
-        drain,
-        deliver(Channel::A, 0),
-        deliver(Channel::D, 0),
-        drain,
-    ];
-    let drained = shorten(alloc, &image, config, &long.events, &Drained, 1000)?;
-    assert!(rt; drained.as_slice() == events.as_slice());
-    let goal = HartResults {
-        harts: &long.results,
+    let program = Program {
+        words: &TWICE,
+        harts: 1,
     };
-    let ended = shorten(alloc, &image, config, &long.events, &goal, 1000)?;
-    assert!(rt; ended.as_slice() == [events[0], step, step, step].as_slice());
+    let long = realised(alloc, &TWICE, 1, &[STEP_0, DRAIN_X])?;
+    let drained = shortened(alloc, program, &long.events, &Drained, 1000)?;
+    same(&rt, drained.as_slice(), &DRAINED);
+    let ended = shortened_play(alloc, program, &long)?;
+    same(&rt, ended.as_slice(), &DRAINED[..4]);
     Ok(())
 }
 
-/// Nothing more can be left out of what is left, one event at a time.
 #[test]
 fn no_event_is_left_that_is_not_needed(rt: HostRuntime) -> Result<(), Fail> {
-    let alloc = rt.alloc();
-    let dekker = [step(0), step(1), step(0), step(0), step(1), step(1)];
-    let readers = [step(1), step(2), drain(0, X), step(1), step(2)];
-    for (words, harts, steps) in [
-        (DEKKER.as_slice(), 2, dekker.as_slice()),
-        (&READERS, 3, &readers),
-    ] {
-        let config = config_of(harts, 2);
-        let long = realised(alloc, words, config, steps)?;
-        let goal = HartResults {
-            harts: &long.results,
-        };
-        let image = image_of(alloc, words)?;
-        let short = shorten(alloc, &image, config, &long.events, &goal, 100_000)?;
-        assert!(rt; short.len() < long.events.len());
-        assert!(rt; are_all_needed(alloc, words, config, &short, &goal)?);
-    }
+    let dekker = Program {
+        words: &DEKKER,
+        harts: 2,
+    };
+    let readers = Program {
+        words: &READERS,
+        harts: 3,
+    };
+    let both_inside = [STEP_0, STEP_1, STEP_0, STEP_0, STEP_1, STEP_1];
+    let _left = shortest(&rt, dekker, &both_inside)?;
+    let _left = shortest(&rt, readers, &[STEP_1, STEP_2, DRAIN_X, STEP_1, STEP_2])?;
     Ok(())
 }
