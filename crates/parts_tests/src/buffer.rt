@@ -19,6 +19,13 @@ struct Entering {
     place: u32,
 }
 
+/// How a store enters: beside others of its group, or in a group of its own, as under total store order.
+#[derive(Clone, Copy)]
+enum Way {
+    Joining,
+    Singly,
+}
+
 /// A call on a buffer with what it is to answer, or what is to be seen of it.
 #[derive(Clone, Copy)]
 enum Call {
@@ -26,6 +33,8 @@ enum Call {
     Stores(u32, u32, u32),
     StoresPart(Entering),
     StoresSingly(u32, u32, u32),
+    /// Stores of 1 to the eight words from X on, at places from 2 on: they use all entries.
+    Fills(Way),
     FindsNoRoom(u32, u32, u32),
     FindsNoRoomSingly(u32, u32, u32),
     Seals,
@@ -51,14 +60,20 @@ fn whole(word: u32, value: u32, place: u32) -> Entering {
     }
 }
 
-fn put(buffer: &mut StoreBuffer, put: Entering) -> Result<(), PutError> {
-    let mask = ByteMask::from_marks(put.marks);
-    buffer.put(put.word, mask, put.value.to_le_bytes(), put.place)
+fn put(buffer: &mut StoreBuffer, way: Way, store: Entering) -> Result<(), PutError> {
+    let mask = ByteMask::from_marks(store.marks);
+    let bytes = store.value.to_le_bytes();
+    match way {
+        Way::Joining => buffer.put(store.word, mask, bytes, store.place),
+        Way::Singly => buffer.put_single(store.word, mask, bytes, store.place),
+    }
 }
 
-fn put_single(buffer: &mut StoreBuffer, put: Entering) -> Result<(), PutError> {
-    let mask = ByteMask::from_marks(put.marks);
-    buffer.put_single(put.word, mask, put.value.to_le_bytes(), put.place)
+fn fill(buffer: &mut StoreBuffer, way: Way) -> Result<(), PutError> {
+    for index in 0..8u32 {
+        put(buffer, way, whole(X + 4 * index, 1, 2 + index))?;
+    }
+    Ok(())
 }
 
 fn drains(rt: &impl Abort, buffer: &mut StoreBuffer, word: u32, value: u32, stores: &[u32]) {
@@ -87,25 +102,30 @@ fn holds(rt: &impl Abort, buffer: &StoreBuffer, sealed: bool, groups: usize, ent
 }
 
 fn cannot_drain(rt: &impl Abort, buffer: &StoreBuffer, word: u32, has: bool) {
-    assert!(rt; !buffer.drainable(word));
+    same(rt, buffer.drainable(word), false);
     same(rt, buffer.has(word), has);
 }
 
 fn finds_no_room(rt: &impl Abort, buffer: &mut StoreBuffer, store: Entering) {
-    assert!(rt; !buffer.fits(store.word));
-    same(rt, put(buffer, store), Err(PutError::Full));
+    same(rt, buffer.fits(store.word), false);
+    same(rt, put(buffer, Way::Joining, store), Err(PutError::Full));
 }
 
-fn answers(rt: &impl Abort, buffer: &mut StoreBuffer, call: Call) -> Result<(), Fail> {
+fn answers(rt: &impl Abort, buffer: &mut StoreBuffer, call: Call) -> Result<(), PutError> {
     match call {
-        Call::Stores(word, value, place) => put(buffer, whole(word, value, place))?,
-        Call::StoresPart(store) => put(buffer, store)?,
-        Call::StoresSingly(word, value, place) => put_single(buffer, whole(word, value, place))?,
+        Call::Stores(word, value, place) => {
+            return put(buffer, Way::Joining, whole(word, value, place));
+        }
+        Call::StoresPart(store) => return put(buffer, Way::Joining, store),
+        Call::StoresSingly(word, value, place) => {
+            return put(buffer, Way::Singly, whole(word, value, place));
+        }
+        Call::Fills(way) => return fill(buffer, way),
         Call::FindsNoRoom(word, value, place) => {
             finds_no_room(rt, buffer, whole(word, value, place));
         }
         Call::FindsNoRoomSingly(word, value, place) => {
-            let answer = put_single(buffer, whole(word, value, place));
+            let answer = put(buffer, Way::Singly, whole(word, value, place));
             same(rt, answer, Err(PutError::Full));
         }
         Call::Seals => buffer.seal(),
@@ -164,15 +184,8 @@ const ROW_8: [Call; 3] = [
 ];
 
 /// A ninth word finds no entry, the open group's own word does.
-const ROW_13: [Call; 13] = [
-    Call::Stores(X, 1, 2),
-    Call::Stores(0x8000_0104, 1, 3),
-    Call::Stores(0x8000_0108, 1, 4),
-    Call::Stores(0x8000_010c, 1, 5),
-    Call::Stores(0x8000_0110, 1, 6),
-    Call::Stores(0x8000_0114, 1, 7),
-    Call::Stores(0x8000_0118, 1, 8),
-    Call::Stores(0x8000_011c, 1, 9),
+const ROW_13: [Call; 6] = [
+    Call::Fills(Way::Joining),
     Call::FindsNoRoom(0x8000_0120, 1, 10),
     Call::CannotDrain(0x8000_0120, false),
     Call::Stores(X, 1, 10),
@@ -224,18 +237,11 @@ const ROW_50_TOTAL: [Call; 11] = [
 ];
 
 /// With all eight entries used, a store under total store order joins its own word's or changes nothing.
-const FULL_TOTAL: [Call; 13] = [
-    Call::StoresSingly(X, 0, 0),
-    Call::StoresSingly(0x8000_0104, 1, 1),
-    Call::StoresSingly(0x8000_0108, 2, 2),
-    Call::StoresSingly(0x8000_010c, 3, 3),
-    Call::StoresSingly(0x8000_0110, 4, 4),
-    Call::StoresSingly(0x8000_0114, 5, 5),
-    Call::StoresSingly(0x8000_0118, 6, 6),
-    Call::StoresSingly(0x8000_011c, 7, 7),
-    Call::FindsNoRoomSingly(X, 9, 8),
+const FULL_TOTAL: [Call; 6] = [
+    Call::Fills(Way::Singly),
+    Call::FindsNoRoomSingly(X, 9, 10),
     Call::Holds(true, 8, 8),
-    Call::StoresSingly(0x8000_011c, 9, 9),
+    Call::StoresSingly(0x8000_011c, 9, 10),
     Call::Holds(true, 8, 8),
     Call::Forwards(0x8000_011c, 0, 9),
 ];
@@ -254,24 +260,31 @@ const SEALS_ONCE: [Call; 10] = [
     Call::Drains(X, 2, &[1]),
 ];
 
+const ROWS: [&[Call]; 9] = [
+    &ROW_6,
+    &ROW_7,
+    &ROW_8,
+    &ROW_13,
+    &ROW_32,
+    &ROW_50,
+    &ROW_50_TOTAL,
+    &FULL_TOTAL,
+    &SEALS_ONCE,
+];
+
 #[test]
 fn rows_and_groups(rt: HostRuntime) -> Result<(), Fail> {
-    play(&rt, rt.alloc(), &ROW_6)?;
-    play(&rt, rt.alloc(), &ROW_7)?;
-    play(&rt, rt.alloc(), &ROW_8)?;
-    play(&rt, rt.alloc(), &ROW_13)?;
-    play(&rt, rt.alloc(), &ROW_32)?;
-    play(&rt, rt.alloc(), &ROW_50)?;
-    play(&rt, rt.alloc(), &ROW_50_TOTAL)?;
-    play(&rt, rt.alloc(), &FULL_TOTAL)?;
-    play(&rt, rt.alloc(), &SEALS_ONCE)
+    for calls in &ROWS {
+        play(&rt, rt.alloc(), calls)?;
+    }
+    Ok(())
 }
 
 /// The groups that a buffer lends, the oldest first.
 #[test]
 fn lent_groups(rt: HostRuntime) -> Result<(), Fail> {
     let mut buffer = StoreBuffer::new(rt.alloc());
-    put(&mut buffer, whole(X, 1, 0))?;
+    put(&mut buffer, Way::Joining, whole(X, 1, 0))?;
     assert!(rt; buffer.drainable(X));
     same(&rt, buffer.entry(X).mask.marks(), WHOLE);
     buffer.seal();
@@ -305,17 +318,6 @@ fn masks_and_ops(rt: HostRuntime) -> Result<(), Fail> {
     Ok(())
 }
 
-/// What is seen of a buffer of the words X and Y without memory: the bytes of both, how many groups and
-/// entries there are, and how many stores the oldest entry has.
-#[derive(Clone, Copy, Debug, PartialEq, Eq)]
-struct Looks {
-    x: u32,
-    y: u32,
-    groups: usize,
-    entries: usize,
-    oldest: usize,
-}
-
 fn word_of(buffer: &StoreBuffer, word: u32) -> u32 {
     let (_, bytes) = buffer.forward(word);
     u32::from_le_bytes(bytes)
@@ -328,30 +330,24 @@ fn stores_of_oldest(buffer: &StoreBuffer) -> usize {
     }
 }
 
-fn seen(buffer: &StoreBuffer) -> Looks {
-    Looks {
-        x: word_of(buffer, X),
-        y: word_of(buffer, Y),
-        groups: buffer.group_count(),
-        entries: buffer.entry_count(),
-        oldest: stores_of_oldest(buffer),
-    }
+/// What is seen of a buffer of the words X and Y without memory: the bytes of both, how many groups and
+/// entries there are, and how many stores the oldest entry has.
+fn seen(buffer: &StoreBuffer) -> (u32, u32, usize, usize, usize) {
+    (
+        word_of(buffer, X),
+        word_of(buffer, Y),
+        buffer.group_count(),
+        buffer.entry_count(),
+        stores_of_oldest(buffer),
+    )
 }
 
 /// A refused store changes nothing, and succeeds when asked again.
-fn asks_twice(rt: &impl Abort, buffer: &mut StoreBuffer, store: Entering) {
+fn asks_twice(rt: &impl Abort, buffer: &mut StoreBuffer, way: Way, store: Entering) {
     let before = seen(buffer);
-    if put(buffer, store).is_err() {
+    if put(buffer, way, store).is_err() {
         same(rt, seen(buffer), before);
-        same(rt, put(buffer, store), Ok(()));
-    }
-}
-
-fn asks_twice_singly(rt: &impl Abort, buffer: &mut StoreBuffer, store: Entering) {
-    let before = seen(buffer);
-    if put_single(buffer, store).is_err() {
-        same(rt, seen(buffer), before);
-        same(rt, put_single(buffer, store), Ok(()));
+        same(rt, put(buffer, way, store), Ok(()));
     }
 }
 
@@ -365,18 +361,37 @@ fn copies(rt: &impl Abort, buffer: &StoreBuffer) {
     holds(rt, &copy, true, 4, 5);
 }
 
+/// Stores by how they enter, their word, and their place, which is also their value.
+const GROWTH: [(Way, u32, u32); 7] = [
+    (Way::Joining, X, 1),
+    (Way::Joining, X, 2),
+    (Way::Joining, Y, 3),
+    (Way::Joining, X, 4),
+    (Way::Joining, X, 5),
+    (Way::Joining, X, 6),
+    (Way::Joining, X, 7),
+];
+
+const SEALED_GROWTH: [(Way, u32, u32); 4] = [
+    (Way::Singly, Y, 8),
+    (Way::Singly, X, 9),
+    (Way::Singly, X, 10),
+    (Way::Singly, Y, 11),
+];
+
+fn grows(rt: &impl Abort, buffer: &mut StoreBuffer, stores: &[(Way, u32, u32)]) {
+    for (way, word, place) in stores {
+        asks_twice(rt, buffer, *way, whole(*word, *place, *place));
+    }
+}
+
 /// Meant for runs in which one allocation fails.
 #[test]
 fn a_refused_growth_changes_nothing(rt: HostRuntime) {
-    let alloc: Global = rt.alloc();
-    let mut buffer = StoreBuffer::new(alloc);
-    for (word, place) in [(X, 1), (X, 2), (Y, 3), (X, 4), (X, 5), (X, 6), (X, 7)] {
-        asks_twice(&rt, &mut buffer, whole(word, place, place));
-    }
+    let mut buffer = StoreBuffer::new(rt.alloc());
+    grows(&rt, &mut buffer, &GROWTH);
     buffer.seal();
-    for (word, place) in [(Y, 8), (X, 9), (X, 10), (Y, 11)] {
-        asks_twice_singly(&rt, &mut buffer, whole(word, place, place));
-    }
+    grows(&rt, &mut buffer, &SEALED_GROWTH);
     copies(&rt, &buffer);
 }
 
@@ -384,12 +399,21 @@ fn a_refused_growth_changes_nothing(rt: HostRuntime) {
 #[test]
 fn a_kept_list_serves_the_next_entry(rt: HostRuntime) {
     let mut buffer = StoreBuffer::new(rt.alloc());
-    asks_twice(&rt, &mut buffer, whole(X, 1, 1));
+    asks_twice(&rt, &mut buffer, Way::Joining, whole(X, 1, 1));
     for place in 2..50u32 {
-        assert!(rt; buffer.drainable(X));
-        let Entry { ops, .. } = buffer.take(X);
-        buffer.keep(ops);
-        same(&rt, put(&mut buffer, whole(X, place, place)), Ok(()));
+        keeps_its_list(&rt, &mut buffer, place);
     }
     drains(&rt, &mut buffer, X, 49, &[49]);
+}
+
+/// The word's entry leaves, and its list serves the entry of another store.
+fn keeps_its_list(rt: &impl Abort, buffer: &mut StoreBuffer, place: u32) {
+    assert!(rt; buffer.drainable(X));
+    let Entry { ops, .. } = buffer.take(X);
+    buffer.keep(ops);
+    same(
+        rt,
+        put(buffer, Way::Joining, whole(X, place, place)),
+        Ok(()),
+    );
 }

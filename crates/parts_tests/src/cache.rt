@@ -3,14 +3,12 @@ mod messages;
 mod rows;
 mod sets;
 
-ghost use Rattle.std.specs.Prelude.{◌≡◌, ◌<◌};
-
 use crate::same::{same, same_of};
 use client_cache::{ClientCache, Evict, Held, Probed, Want};
-use std::marker::Brand;
+use std::alloc::Global;
 use std::process::Abort;
-use std::sync::ledger::{Blank, Ledger};
-use tl_types::{Cap, Change, Grow, LineData, Perm, Ticks};
+use std::test::Fail;
+use tl_types::{Cap, Change, Grow, LineData, LineSize, Perm};
 
 const X: u32 = 0x8000_0100;
 
@@ -68,150 +66,145 @@ const EVICTED_BRANCH: Answer = Answer::Evict(Evict::Evicted {
     bytes: None,
 });
 
+const EVICTED_CLEAN: Answer = Answer::Evict(Evict::Evicted {
+    change: Change::TtoN,
+    bytes: None,
+});
+
 const EVICTED_ONE: Answer = Answer::Evict(Evict::Evicted {
     change: Change::TtoN,
     bytes: Some(ONE),
 });
 
-/// A copy for writing.
-fn trunk(dirty: bool, bytes: LineData) -> Option<Held> {
-    Some(Held::Trunk { dirty, bytes })
-}
+const LOST_BRANCH: Answer = Answer::Probe(Probed::Answered {
+    change: Change::BtoN,
+    bytes: None,
+});
 
-/// The answer to a Probe of a line of which no Release is unanswered.
-fn probed(change: Change, bytes: Option<LineData>) -> Answer {
-    Answer::Probe(Probed::Answered { change, bytes })
-}
+const LOST_CLEAN: Answer = Answer::Probe(Probed::Answered {
+    change: Change::TtoN,
+    bytes: None,
+});
+
+const LOST_ONE: Answer = Answer::Probe(Probed::Answered {
+    change: Change::TtoN,
+    bytes: Some(ONE),
+});
+
+const BRANCH: Option<Held> = Some(Held::Branch(ZERO));
+
+const CLEAN: Option<Held> = Some(Held::Trunk {
+    dirty: false,
+    bytes: ZERO,
+});
+
+const CLEAN_ONE: Option<Held> = Some(Held::Trunk {
+    dirty: false,
+    bytes: ONE,
+});
+
+const DIRTY_ONE: Option<Held> = Some(Held::Trunk {
+    dirty: true,
+    bytes: ONE,
+});
 
 /// Plays calls and compares what they answer.
 fn play(rt: &impl Abort, cache: &mut ClientCache, calls: &[(Call, Answer)]) {
     for (call, answer) in calls {
-        same_of(rt, ask(rt, cache, *call), *answer, &call);
+        same_of(rt, ask(rt, cache, *call), *answer, call);
     }
 }
 
-/// The call, with looks that nobody counts.
-fn ask<R: Abort>(rt: &R, cache: &mut ClientCache, call: Call) -> Answer {
-    ask_counted::<R, Brand>(rt, cache, call, Blank::new(1))
+/// Plays calls on a new cache of four sets by two ways.
+fn plays(rt: &impl Abort, alloc: Global, calls: &[(Call, Answer)]) -> Result<(), Fail> {
+    let mut cache = ClientCache::new(alloc, 4, 2, LineSize::Bytes16)?;
+    play(rt, &mut cache, calls);
+    Ok(())
 }
 
-fn ask_counted<R: Abort, L: Ledger>(
-    rt: &R,
-    cache: &mut ClientCache,
-    call: Call,
-    blank: Blank,
-) -> Answer
-    requires name { blank.name ≡ L.name }
-    requires parts { blank.parts ≡ L.parts }
-    requires some { 0 < L.parts }
-{
-    let mut ticks = Ticks::<L>::new(blank);
+fn ask(rt: &impl Abort, cache: &mut ClientCache, call: Call) -> Answer {
     match call {
-        Call::Want(line, grow) => Answer::Want(want(rt, cache, line, grow, &mut ticks)),
-        Call::Evict(line) => Answer::Evict(evict(rt, cache, line, &mut ticks)),
-        Call::Probe(line, cap) => Answer::Probe(cache.on_probe_counted(line, cap, &mut ticks)),
-        Call::Copy(line) => Answer::Copy(copy(rt, cache, line, &mut ticks)),
-        Call::Grant(line, cap, bytes) => {
-            assert!(rt; cache.is_acquiring(line));
-            cache.on_grant_counted(line, cap, bytes, &mut ticks);
-            assert!(rt; !cache.is_acquiring(line));
-            Answer::Done
-        }
-        Call::ReleaseAck(line) => {
-            cache.on_release_ack(line);
-            assert!(rt; !cache.is_releasing(line));
-            Answer::Done
-        }
-        Call::Store(line, byte) => {
-            store(
-                rt,
-                cache,
-                line,
-                line,
-                [true; 4],
-                [byte, 0, 0, 0],
-                &mut ticks,
-            );
-            Answer::Done
-        }
-        Call::StoreBytes(word, marks, bytes) => {
-            store(rt, cache, X, word, marks, bytes, &mut ticks);
-            Answer::Done
-        }
-        Call::Write(line, bytes) => {
-            write(rt, cache, line, bytes, &mut ticks);
-            Answer::Done
-        }
+        Call::Want(line, grow) => want(rt, cache, line, grow),
+        Call::Grant(line, cap, bytes) => grant(rt, cache, line, cap, bytes),
+        Call::Store(line, byte) => store(rt, cache, line, line, [true; 4], [byte, 0, 0, 0]),
+        Call::StoreBytes(word, marks, bytes) => store(rt, cache, X, word, marks, bytes),
+        Call::Write(line, bytes) => write(rt, cache, line, bytes),
+        Call::Probe(line, cap) => Answer::Probe(cache.on_probe(line, cap)),
+        Call::ReleaseAck(line) => release_ack(rt, cache, line),
+        Call::Evict(line) => evict(rt, cache, line),
+        Call::Copy(line) => copy(rt, cache, line),
     }
 }
 
 /// The answer to a miss, which `peek_want` has to foresee.
-fn want<L: Ledger>(
+fn want(rt: &impl Abort, cache: &mut ClientCache, line: u32, grow: Grow) -> Answer {
+    let foreseen = cache.peek_want(line, grow);
+    let answer = cache.want(line, grow);
+    same(rt, foreseen, answer);
+    Answer::Want(answer)
+}
+
+/// Grants a line of which an Acquire has to be outstanding, and is no more.
+fn grant(
     rt: &impl Abort,
     cache: &mut ClientCache,
     line: u32,
-    grow: Grow,
-    ticks: &mut Ticks<L>,
-) -> Want {
-    let foreseen = cache.peek_want_counted(line, grow, ticks);
-    let answer = cache.want_counted(line, grow, ticks);
-    same(rt, foreseen, answer);
-    answer
+    cap: Cap,
+    bytes: Option<LineData>,
+) -> Answer {
+    assert!(rt; cache.is_acquiring(line));
+    cache.on_grant(line, cap, bytes);
+    same(rt, cache.is_acquiring(line), false);
+    Answer::Done
+}
+
+fn release_ack(rt: &impl Abort, cache: &mut ClientCache, line: u32) -> Answer {
+    cache.on_release_ack(line);
+    same(rt, cache.is_releasing(line), false);
+    Answer::Done
 }
 
 /// The answer to an eviction, which `peek_evict` has to foresee.
-fn evict<L: Ledger>(
-    rt: &impl Abort,
-    cache: &mut ClientCache,
-    line: u32,
-    ticks: &mut Ticks<L>,
-) -> Evict {
-    let foreseen = cache.peek_evict_counted(line, ticks);
-    let answer = cache.evict_counted(line, ticks);
+fn evict(rt: &impl Abort, cache: &mut ClientCache, line: u32) -> Answer {
+    let foreseen = cache.peek_evict(line);
+    let answer = cache.evict(line);
     same(rt, foreseen, answer);
-    answer
+    Answer::Evict(answer)
 }
 
 /// The copy, whose bytes are those that are read.
-fn copy<L: Ledger>(
-    rt: &impl Abort,
-    cache: &ClientCache,
-    line: u32,
-    ticks: &mut Ticks<L>,
-) -> Option<Held> {
-    let copy = cache.copy_counted(line, ticks);
-    let bytes = cache.read_counted(line, ticks);
-    same(rt, bytes, copy.map(|held| held.bytes()));
-    copy
+fn copy(rt: &impl Abort, cache: &ClientCache, line: u32) -> Answer {
+    let copy = cache.copy(line);
+    let bytes = match &copy {
+        Some(held) => Some(held.bytes()),
+        None => None,
+    };
+    same(rt, cache.read(line), bytes);
+    Answer::Copy(copy)
 }
 
 /// Stores the marked bytes of an aligned word of a copy that has to be Trunk.
-fn store<L: Ledger>(
+fn store(
     rt: &impl Abort,
     cache: &mut ClientCache,
     line: u32,
     word: u32,
     marks: [bool; 4],
     bytes: [u8; 4],
-    ticks: &mut Ticks<L>,
-) {
-    let Perm::Trunk = cache.perm_counted(line, ticks) else {
+) -> Answer {
+    let Perm::Trunk = cache.perm(line) else {
         panic!(rt; "not Trunk")
     };
     assert!(rt; word % 4 == 0);
-    cache.write_word_counted(line, word, marks, bytes, ticks);
+    cache.write_word(line, word, marks, bytes);
+    Answer::Done
 }
 
 /// Replaces a line whose copy has to be Trunk.
-fn write<L: Ledger>(
-    rt: &impl Abort,
-    cache: &mut ClientCache,
-    line: u32,
-    bytes: LineData,
-    ticks: &mut Ticks<L>,
-) {
-    let Perm::Trunk = cache.perm_counted(line, ticks) else {
+fn write(rt: &impl Abort, cache: &mut ClientCache, line: u32, bytes: LineData) -> Answer {
+    let Perm::Trunk = cache.perm(line) else {
         panic!(rt; "not Trunk")
     };
-    cache.write_counted(line, bytes, ticks);
+    cache.write(line, bytes);
+    Answer::Done
 }

@@ -1,5 +1,6 @@
 //! Queues in the order of sending, and how many messages each holds in the worked rows.
 use crate::same::{same, same_of};
+use std::alloc::Global;
 use std::process::Abort;
 use std::test::Fail;
 use tilelink_channels::{Queues, room};
@@ -7,14 +8,41 @@ use tl_types::{Body, Cap, Change, Channel, Grow, LineData, Msg};
 
 const X: u32 = 0x8000_0100;
 
-const CHANNELS: [Channel; 5] = [Channel::A, Channel::B, Channel::C, Channel::D, Channel::E];
+const Y: u32 = 0x8000_0200;
+
+/// How many messages each channel has room for.
+const ROOMS: [(Channel, usize); 5] = [
+    (Channel::A, 4),
+    (Channel::B, 28),
+    (Channel::C, 32),
+    (Channel::D, 8),
+    (Channel::E, 4),
+];
+
+/// What is done with a hart's queues, and what is to be seen of them.
+#[derive(Clone, Copy)]
+enum Act {
+    Sends(u32, Body),
+    /// So many messages.
+    SendsMany(usize, u32, Body),
+    /// The message is the next of its channel.
+    Takes(u32, Body),
+    /// How many messages a channel holds, and whether it has room for another.
+    Holds(Channel, usize, bool),
+    IsEmpty(Channel),
+}
 
 /// Sends a message where its queue has room.
 fn send(rt: &impl Abort, queues: &mut Queues, line: u32, body: Body) {
     let message = Msg { line, body };
-    let has_room = queues.has_room(message.channel());
-    assert!(rt; has_room, "{message:?}");
+    assert!(rt; queues.has_room(message.channel()));
     queues.push(message);
+}
+
+fn send_many(rt: &impl Abort, queues: &mut Queues, count: usize, line: u32, body: Body) {
+    for _ in 0..count {
+        send(rt, queues, line, body);
+    }
 }
 
 fn taken(rt: &impl Abort, queues: &mut Queues, line: u32, body: Body) {
@@ -24,151 +52,193 @@ fn taken(rt: &impl Abort, queues: &mut Queues, line: u32, body: Body) {
     same(rt, queues.pop(channel), Some(message));
 }
 
-#[test]
-fn rooms_are_4_28_32_8_4(rt: HostRuntime) {
-    for (channel, size) in CHANNELS.into_iter().zip([4, 28, 32, 8, 4]) {
-        same_of(&rt, room(channel), size, &channel);
+fn holds(rt: &impl Abort, queues: &Queues, channel: Channel, count: usize, has_room: bool) {
+    same_of(rt, queues.len(channel), count, &channel);
+    same_of(rt, queues.has_room(channel), has_room, &channel);
+}
+
+fn is_empty(rt: &impl Abort, queues: &mut Queues, channel: Channel) {
+    same_of(rt, queues.front(channel), None, &channel);
+    same_of(rt, queues.pop(channel), None, &channel);
+    same_of(rt, queues.len(channel), 0, &channel);
+}
+
+fn play(rt: &impl Abort, queues: &mut Queues, acts: &[Act]) {
+    for act in acts {
+        match *act {
+            Act::Sends(line, body) => send(rt, queues, line, body),
+            Act::SendsMany(count, line, body) => send_many(rt, queues, count, line, body),
+            Act::Takes(line, body) => taken(rt, queues, line, body),
+            Act::Holds(channel, count, has_room) => holds(rt, queues, channel, count, has_room),
+            Act::IsEmpty(channel) => is_empty(rt, queues, channel),
+        }
     }
 }
 
-#[test]
-fn first_in_first_out_on_each_channel_alone(rt: HostRuntime) -> Result<(), Fail> {
-    let mut queues = Queues::new(rt.alloc())?;
-    for channel in CHANNELS {
-        same(&rt, queues.front(channel), None);
-        same(&rt, queues.pop(channel), None);
-        same(&rt, queues.len(channel), 0);
-    }
-    let bytes = LineData::Bytes64([9; 64]);
-    let release = Body::ReleaseData {
-        change: Change::TtoN,
-        bytes,
-    };
-    send(&rt, &mut queues, X, release);
-    send(&rt, &mut queues, X, Body::ProbeBlock(Cap::ToN));
-    send(&rt, &mut queues, X, Body::ProbeAck(Change::NtoN));
-    same(&rt, queues.len(Channel::C), 2);
-    same(&rt, queues.len(Channel::B), 1);
-    taken(&rt, &mut queues, X, release);
-    taken(&rt, &mut queues, X, Body::ProbeAck(Change::NtoN));
-    taken(&rt, &mut queues, X, Body::ProbeBlock(Cap::ToN));
-    same(&rt, queues.pop(Channel::C), None);
+/// Plays the acts on new queues.
+fn plays(rt: &impl Abort, alloc: Global, acts: &[Act]) -> Result<(), Fail> {
+    let mut queues = Queues::new(alloc)?;
+    play(rt, &mut queues, acts);
     Ok(())
 }
+
+#[test]
+fn rooms_are_4_28_32_8_4(rt: HostRuntime) {
+    for (channel, size) in &ROOMS {
+        same_of(&rt, room(*channel), *size, channel);
+    }
+}
+
+const WIDE_RELEASE: Body = Body::ReleaseData {
+    change: Change::TtoN,
+    bytes: LineData::Bytes64([9; 64]),
+};
+
+const FIRST_IN_FIRST_OUT: [Act; 14] = [
+    Act::IsEmpty(Channel::A),
+    Act::IsEmpty(Channel::B),
+    Act::IsEmpty(Channel::C),
+    Act::IsEmpty(Channel::D),
+    Act::IsEmpty(Channel::E),
+    Act::Sends(X, WIDE_RELEASE),
+    Act::Sends(X, Body::ProbeBlock(Cap::ToN)),
+    Act::Sends(X, Body::ProbeAck(Change::NtoN)),
+    Act::Holds(Channel::C, 2, true),
+    Act::Holds(Channel::B, 1, true),
+    Act::Takes(X, WIDE_RELEASE),
+    Act::Takes(X, Body::ProbeAck(Change::NtoN)),
+    Act::Takes(X, Body::ProbeBlock(Cap::ToN)),
+    Act::IsEmpty(Channel::C),
+];
+
+#[test]
+fn first_in_first_out_on_each_channel_alone(rt: HostRuntime) -> Result<(), Fail> {
+    plays(&rt, rt.alloc(), &FIRST_IN_FIRST_OUT)
+}
+
+const RELEASE: Body = Body::ReleaseData {
+    change: Change::TtoN,
+    bytes: LineData::Bytes16([1; 16]),
+};
+
+const ROW_10: [Act; 8] = [
+    Act::Sends(Y, Body::ProbeBlock(Cap::ToB)),
+    Act::Sends(Y, RELEASE),
+    Act::Takes(Y, RELEASE),
+    Act::Sends(Y, Body::ReleaseAck),
+    Act::Takes(Y, Body::ReleaseAck),
+    Act::Takes(Y, Body::ProbeBlock(Cap::ToB)),
+    Act::Sends(Y, Body::ProbeAck(Change::NtoN)),
+    Act::Takes(Y, Body::ProbeAck(Change::NtoN)),
+];
 
 /// A Release passes a Probe of the other direction; the hart's answers stay in order.
 #[test]
 fn row_10(rt: HostRuntime) -> Result<(), Fail> {
-    let mut queues = Queues::new(rt.alloc())?;
-    let y = 0x8000_0200;
-    let bytes = LineData::Bytes16([1; 16]);
-    let release = Body::ReleaseData {
-        change: Change::TtoN,
-        bytes,
-    };
-    send(&rt, &mut queues, y, Body::ProbeBlock(Cap::ToB));
-    send(&rt, &mut queues, y, release);
-    taken(&rt, &mut queues, y, release);
-    send(&rt, &mut queues, y, Body::ReleaseAck);
-    taken(&rt, &mut queues, y, Body::ReleaseAck);
-    taken(&rt, &mut queues, y, Body::ProbeBlock(Cap::ToB));
-    send(&rt, &mut queues, y, Body::ProbeAck(Change::NtoN));
-    taken(&rt, &mut queues, y, Body::ProbeAck(Change::NtoN));
-    Ok(())
+    plays(&rt, rt.alloc(), &ROW_10)
 }
+
+const ROW_22: [Act; 7] = [
+    Act::Sends(X, Body::GrantAck),
+    Act::Sends(X + 0x10, Body::GrantAck),
+    Act::Sends(X + 0x20, Body::GrantAck),
+    Act::Sends(X + 0x30, Body::GrantAck),
+    Act::Holds(Channel::E, 4, false),
+    Act::Takes(X, Body::GrantAck),
+    Act::Holds(Channel::E, 3, true),
+];
 
 /// E is full with 4 GrantAcks, and has room once one is taken.
 #[test]
 fn row_22(rt: HostRuntime) -> Result<(), Fail> {
-    let mut queues = Queues::new(rt.alloc())?;
-    for line in [X, X + 0x10, X + 0x20, X + 0x30] {
-        send(&rt, &mut queues, line, Body::GrantAck);
-    }
-    assert!(rt; !queues.has_room(Channel::E));
-    taken(&rt, &mut queues, X, Body::GrantAck);
-    assert!(rt; queues.has_room(Channel::E));
-    Ok(())
+    plays(&rt, rt.alloc(), &ROW_22)
 }
+
+const ROW_45: [Act; 8] = [
+    Act::Sends(X, Body::AcquireBlock(Grow::NtoT)),
+    Act::Sends(X + 0x10, Body::AcquireBlock(Grow::NtoT)),
+    Act::Sends(X + 0x20, Body::AcquireBlock(Grow::NtoT)),
+    Act::Sends(X + 0x30, Body::AcquireBlock(Grow::NtoT)),
+    Act::Holds(Channel::A, 4, false),
+    Act::Takes(X, Body::AcquireBlock(Grow::NtoT)),
+    Act::Sends(X + 0x40, Body::AcquireBlock(Grow::NtoT)),
+    Act::Holds(Channel::A, 4, false),
+];
 
 /// Four Acquires are outstanding; the fifth goes once the first was taken.
 #[test]
 fn row_45(rt: HostRuntime) -> Result<(), Fail> {
-    let mut queues = Queues::new(rt.alloc())?;
-    for line in [X, X + 0x10, X + 0x20, X + 0x30] {
-        send(&rt, &mut queues, line, Body::AcquireBlock(Grow::NtoT));
-    }
-    assert!(rt; !queues.has_room(Channel::A));
-    taken(&rt, &mut queues, X, Body::AcquireBlock(Grow::NtoT));
-    send(&rt, &mut queues, X + 0x40, Body::AcquireBlock(Grow::NtoT));
-    same(&rt, queues.len(Channel::A), 4);
-    Ok(())
+    plays(&rt, rt.alloc(), &ROW_45)
 }
+
+const ROW_46: [Act; 9] = [
+    Act::Sends(X, Body::Release(Change::BtoN)),
+    Act::Sends(X + 0x10, Body::Release(Change::BtoN)),
+    Act::Sends(X + 0x20, Body::Release(Change::BtoN)),
+    Act::Sends(X + 0x30, Body::Release(Change::BtoN)),
+    Act::SendsMany(28, X + 0x40, Body::ProbeAck(Change::NtoN)),
+    Act::Holds(Channel::C, 32, false),
+    Act::Takes(X, Body::Release(Change::BtoN)),
+    Act::Sends(X, Body::ReleaseAck),
+    Act::Holds(Channel::C, 31, true),
+];
 
 /// Four Releases stand in C, and room is left there for an answer to each Probe.
 #[test]
 fn row_46(rt: HostRuntime) -> Result<(), Fail> {
-    let mut queues = Queues::new(rt.alloc())?;
-    for line in [X, X + 0x10, X + 0x20, X + 0x30] {
-        send(&rt, &mut queues, line, Body::Release(Change::BtoN));
+    plays(&rt, rt.alloc(), &ROW_46)
+}
+
+/// Seven messages go and come, of lines from this one on.
+fn seven_go_round(rt: &impl Abort, queues: &mut Queues, line: u32) {
+    for index in 0..7u32 {
+        send(rt, queues, line.wrapping_add(16 * index), Body::ReleaseAck);
     }
-    for _ in 0..28 {
-        send(&rt, &mut queues, X + 0x40, Body::ProbeAck(Change::NtoN));
+    for index in 0..7u32 {
+        taken(rt, queues, line.wrapping_add(16 * index), Body::ReleaseAck);
     }
-    assert!(rt; !queues.has_room(Channel::C));
-    taken(&rt, &mut queues, X, Body::Release(Change::BtoN));
-    send(&rt, &mut queues, X, Body::ReleaseAck);
-    assert!(rt; queues.has_room(Channel::C));
-    Ok(())
 }
 
 /// A ring goes round: each message comes out once, in order, long after the first room was used.
 #[test]
 fn long_use_keeps_the_order(rt: HostRuntime) -> Result<(), Fail> {
     let mut queues = Queues::new(rt.alloc())?;
-    for n in 0..100u32 {
-        for i in 0..7u32 {
-            send(
-                &rt,
-                &mut queues,
-                0x8000_0000 + 16 * (7 * n + i),
-                Body::ReleaseAck,
-            );
-        }
-        for i in 0..7u32 {
-            taken(
-                &rt,
-                &mut queues,
-                0x8000_0000 + 16 * (7 * n + i),
-                Body::ReleaseAck,
-            );
-        }
+    for round in 0..100u32 {
+        seven_go_round(&rt, &mut queues, 0x8000_0000 + 112 * round);
     }
     same(&rt, queues.len(Channel::D), 0);
     Ok(())
 }
 
+/// A message of each channel.
+const BODIES: [Body; 5] = [
+    Body::AcquireBlock(Grow::NtoB),
+    Body::ProbeBlock(Cap::ToN),
+    Body::Release(Change::BtoN),
+    Body::ReleaseAck,
+    Body::GrantAck,
+];
+
+/// As many messages as there is room for go and come.
+fn all_room_is_used(rt: &impl Abort, queues: &mut Queues, body: Body) {
+    let channel = (Msg { line: X, body }).channel();
+    send_many(rt, queues, room(channel), X, body);
+    same_of(rt, queues.has_room(channel), false, &channel);
+    for _ in 0..room(channel) {
+        taken(rt, queues, X, body);
+    }
+    same_of(rt, queues.len(channel), 0, &channel);
+}
+
 /// Meant for runs in which one allocation fails: queues that were made take no more memory.
 #[test]
-fn memory_is_taken_at_making_alone(rt: HostRuntime) {
+fn memory_is_taken_at_making_alone(rt: HostRuntime) -> Result<(), Fail> {
     let mut queues = match Queues::new(rt.alloc()) {
         Ok(queues) => queues,
-        Err(_) => Queues::new(rt.alloc()).expect(&rt, "queues asked for again"),
+        Err(_) => Queues::new(rt.alloc())?,
     };
-    for body in [
-        Body::AcquireBlock(Grow::NtoB),
-        Body::ProbeBlock(Cap::ToN),
-        Body::Release(Change::BtoN),
-        Body::ReleaseAck,
-        Body::GrantAck,
-    ] {
-        let channel = (Msg { line: X, body }).channel();
-        for _ in 0..room(channel) {
-            send(&rt, &mut queues, X, body);
-        }
-        assert!(rt; !queues.has_room(channel));
-        for _ in 0..room(channel) {
-            taken(&rt, &mut queues, X, body);
-        }
-        same(&rt, queues.len(channel), 0);
+    for body in &BODIES {
+        all_room_is_used(&rt, &mut queues, *body);
     }
+    Ok(())
 }

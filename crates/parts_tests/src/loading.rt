@@ -33,48 +33,45 @@ const GOOD: Header = Header {
     e_phnum: 0,
 };
 
-/// An entry of the program header table.
-#[derive(Clone, Copy)]
-struct ProgramHeader {
-    p_offset: u32,
-    p_vaddr: u32,
-    p_filesz: u32,
-    p_memsz: u32,
-}
+/// What the tests vary of an entry of the program header table: p_offset, p_vaddr, p_filesz and p_memsz.
+type Segment = (u32, u32, u32, u32);
 
-fn segment(p_offset: u32, p_vaddr: u32, p_filesz: u32, p_memsz: u32) -> ProgramHeader {
-    ProgramHeader {
-        p_offset,
-        p_vaddr,
-        p_filesz,
-        p_memsz,
+fn push_halves(file: &mut Vec<u8>, fields: &[u16]) -> Result<(), AllocError> {
+    for field in fields {
+        file.extend_from_slice(&field.to_le_bytes())?;
     }
+    Ok(())
 }
 
-fn file_of(alloc: Global, header: &Header, table: &[ProgramHeader]) -> Result<Vec<u8>, AllocError> {
+fn push_words(file: &mut Vec<u8>, fields: &[u32]) -> Result<(), AllocError> {
+    for field in fields {
+        file.extend_from_slice(&field.to_le_bytes())?;
+    }
+    Ok(())
+}
+
+fn push_segment(file: &mut Vec<u8>, segment: Segment) -> Result<(), AllocError> {
+    let (offset, address, file_size, memory_size) = segment;
+    push_words(
+        file,
+        &[1, offset, address, address, file_size, memory_size, 7, 4],
+    )
+}
+
+fn push_header(file: &mut Vec<u8>, header: &Header) -> Result<(), AllocError> {
+    push_halves(file, &[header.e_type, header.e_machine])?;
+    push_words(
+        file,
+        &[1, header.e_entry, header.e_phoff, 0, header.e_flags],
+    )?;
+    push_halves(file, &[52, 32, header.e_phnum, 0, 0, 0])
+}
+
+fn file_of(alloc: Global, header: &Header, table: &[Segment]) -> Result<Vec<u8>, AllocError> {
     let mut file = b"\x7fELF\x01\x01\x01\0\0\0\0\0\0\0\0\0".to_vec(alloc)?;
-    file.extend_from_slice(&header.e_type.to_le_bytes())?;
-    file.extend_from_slice(&header.e_machine.to_le_bytes())?;
-    for field in [1, header.e_entry, header.e_phoff, 0, header.e_flags] {
-        file.extend_from_slice(&field.to_le_bytes())?;
-    }
-    for field in [52, 32, header.e_phnum, 0, 0, 0] {
-        file.extend_from_slice(&field.to_le_bytes())?;
-    }
-    for entry in table {
-        let fields = [
-            1,
-            entry.p_offset,
-            entry.p_vaddr,
-            entry.p_vaddr,
-            entry.p_filesz,
-            entry.p_memsz,
-            7,
-            4,
-        ];
-        for field in fields {
-            file.extend_from_slice(&field.to_le_bytes())?;
-        }
+    push_header(&mut file, header)?;
+    for segment in table {
+        push_segment(&mut file, *segment)?;
     }
     Ok(file)
 }
@@ -89,10 +86,16 @@ fn answer(alloc: Global, file: &[u8], size: u32) -> u8
     }
 }
 
-/// The same of a file in memory of 4 KiB.
-fn answer_of(alloc: Global, header: &Header, table: &[ProgramHeader]) -> Result<u8, AllocError> {
-    let file = file_of(alloc, header, table)?;
-    Ok(answer(alloc, &file, 4096))
+/// A file by its header and its table, and the number of its fault in memory of 4 KiB, 0 for an image.
+type Case = (&'static str, Header, &'static [Segment], u8);
+
+/// Compares the answers to files, each of which is told by its first words.
+fn compare_files(rt: &impl Abort, alloc: Global, cases: &[Case]) -> Result<(), Fail> {
+    for (of, header, table, want) in cases {
+        let file = file_of(alloc, header, table)?;
+        same_of(rt, answer(alloc, &file, 4096), *want, of);
+    }
+    Ok(())
 }
 
 /// The sum of the bytes, each times its place from 1, modulo 2^32.
@@ -106,100 +109,160 @@ fn sum_of(image: &Image) -> u32 {
     sum
 }
 
+const ONE_SEGMENT: Header = Header { e_phnum: 1, ..GOOD };
+
+const TWO_SEGMENTS: Header = Header { e_phnum: 2, ..GOOD };
+
+const THREE_SEGMENTS: Header = Header { e_phnum: 3, ..GOOD };
+
+const ROW_15: [Case; 3] = [
+    (
+        "a segment to the end of memory",
+        ONE_SEGMENT,
+        &[(0, 0x8000_0ff0, 0, 16)],
+        0,
+    ),
+    (
+        "a segment beyond it",
+        ONE_SEGMENT,
+        &[(0, 0x8000_0ff0, 0, 17)],
+        8,
+    ),
+    ("compressed code", Header { e_flags: 1, ..GOOD }, &[], 6),
+];
+
 #[test]
 fn row_15(rt: HostRuntime) -> Result<(), Fail> {
-    let alloc = rt.alloc();
-    same(&rt, answer(alloc, &[0x7f; 51], 4096), 1);
-    let header = Header { e_phnum: 1, ..GOOD };
-    same(
-        &rt,
-        answer_of(alloc, &header, &[segment(0, 0x8000_0ff0, 0, 16)])?,
-        0,
-    );
-    same(
-        &rt,
-        answer_of(alloc, &header, &[segment(0, 0x8000_0ff0, 0, 17)])?,
-        8,
-    );
-    same(
-        &rt,
-        answer_of(alloc, &Header { e_flags: 1, ..GOOD }, &[])?,
-        6,
-    );
-    Ok(())
+    same(&rt, answer(rt.alloc(), &[0x7f; 51], 4096), 1);
+    compare_files(&rt, rt.alloc(), &ROW_15)
 }
+
+const ROW_30: [Case; 3] = [
+    (
+        "a table behind the file",
+        Header {
+            e_phoff: 53,
+            ..GOOD
+        },
+        &[],
+        7,
+    ),
+    (
+        "two faults",
+        Header {
+            e_type: 1,
+            e_machine: 0,
+            ..GOOD
+        },
+        &[],
+        4,
+    ),
+    (
+        "an empty segment behind memory",
+        ONE_SEGMENT,
+        &[(0, 0x8000_1000, 0, 0)],
+        0,
+    ),
+];
 
 #[test]
 fn row_30(rt: HostRuntime) -> Result<(), Fail> {
-    let alloc = rt.alloc();
-    let file = file_of(alloc, &GOOD, &[])?;
+    let file = file_of(rt.alloc(), &GOOD, &[])?;
     same(&rt, file.len(), 52);
-    let image = load(alloc, &file, 4096)?;
-    same(&rt, image.entry(), BASE);
-    same(&rt, sum_of(&image), 0);
-    same(
-        &rt,
-        answer_of(
-            alloc,
-            &Header {
-                e_phoff: 53,
-                ..GOOD
-            },
-            &[],
-        )?,
-        7,
-    );
-    let other = Header {
-        e_type: 1,
-        e_machine: 0,
-        ..GOOD
-    };
-    same(&rt, answer_of(alloc, &other, &[])?, 4);
-    let header = Header { e_phnum: 1, ..GOOD };
-    same(
-        &rt,
-        answer_of(alloc, &header, &[segment(0, 0x8000_1000, 0, 0)])?,
-        0,
-    );
-    Ok(())
+    let image = load(rt.alloc(), &file, 4096)?;
+    same(&rt, (image.entry(), sum_of(&image)), (BASE, 0));
+    compare_files(&rt, rt.alloc(), &ROW_30)
 }
+
+const ROW_40: [Case; 5] = [
+    (
+        "17 segments",
+        Header {
+            e_phnum: 17,
+            ..GOOD
+        },
+        &[],
+        7,
+    ),
+    (
+        "a far table",
+        Header {
+            e_phoff: 0xffff_ffff,
+            ..ONE_SEGMENT
+        },
+        &[],
+        7,
+    ),
+    (
+        "the last word as entry",
+        Header {
+            e_entry: 0x8000_0ffc,
+            ..GOOD
+        },
+        &[],
+        0,
+    ),
+    (
+        "an entry within a word",
+        Header {
+            e_entry: 0x8000_0ffe,
+            ..GOOD
+        },
+        &[],
+        10,
+    ),
+    (
+        "an entry behind memory",
+        Header {
+            e_entry: 0x8000_1000,
+            ..GOOD
+        },
+        &[],
+        10,
+    ),
+];
 
 #[test]
 fn row_40(rt: HostRuntime) -> Result<(), Fail> {
-    let alloc = rt.alloc();
-    let many = Header {
-        e_phnum: 17,
-        ..GOOD
-    };
-    same(&rt, answer_of(alloc, &many, &[])?, 7);
-    let far = Header {
-        e_phoff: 0xffff_ffff,
-        e_phnum: 1,
-        ..GOOD
-    };
-    same(&rt, answer_of(alloc, &far, &[])?, 7);
-    for (e_entry, want) in [(0x8000_0ffc, 0), (0x8000_0ffe, 10), (0x8000_1000, 10)] {
-        let header = Header { e_entry, ..GOOD };
-        same(&rt, answer_of(alloc, &header, &[])?, want);
-    }
-    Ok(())
+    compare_files(&rt, rt.alloc(), &ROW_40)
 }
+
+/// A byte at the beginning of memory.
+const TWICE: Segment = (0, BASE, 1, 1);
+
+const ROW_40_SEGMENTS: [Case; 4] = [
+    (
+        "behind the file",
+        ONE_SEGMENT,
+        &[(0xffff_ffff, BASE, 1, 1)],
+        8,
+    ),
+    (
+        "longer than memory",
+        ONE_SEGMENT,
+        &[(0, BASE, 0, 0xffff_ffff)],
+        8,
+    ),
+    ("one byte twice", TWO_SEGMENTS, &[TWICE, TWICE], 9),
+    (
+        "one byte twice, and one outside",
+        THREE_SEGMENTS,
+        &[TWICE, TWICE, (0, 0x8000_1000, 0, 1)],
+        8,
+    ),
+];
 
 #[test]
 fn row_40_segments(rt: HostRuntime) -> Result<(), Fail> {
-    let alloc = rt.alloc();
-    let one = Header { e_phnum: 1, ..GOOD };
-    let behind = segment(0xffff_ffff, BASE, 1, 1);
-    same(&rt, answer_of(alloc, &one, &[behind])?, 8);
-    let long = segment(0, BASE, 0, 0xffff_ffff);
-    same(&rt, answer_of(alloc, &one, &[long])?, 8);
-    let twice = segment(0, BASE, 1, 1);
-    let two = Header { e_phnum: 2, ..GOOD };
-    same(&rt, answer_of(alloc, &two, &[twice, twice])?, 9);
-    let three = Header { e_phnum: 3, ..GOOD };
-    let outside = segment(0, 0x8000_1000, 0, 1);
-    same(&rt, answer_of(alloc, &three, &[twice, twice, outside])?, 8);
-    Ok(())
+    compare_files(&rt, rt.alloc(), &ROW_40_SEGMENTS)
+}
+
+/// The answer to the file's first bytes, where it has so many.
+fn answer_to_cut(alloc: Global, file: &[u8], length: usize, size: u32) -> Option<u8>
+    requires { IsMemorySize size }
+{
+    let cut = file.get(..length)?;
+    Some(answer(alloc, cut, size))
 }
 
 /// Compares the answers to the file cut at each length.
@@ -209,17 +272,32 @@ fn compare_cut(rt: &impl Abort, alloc: Global, file: &[u8], size: u32, wants: &[
     let mut length = 0usize;
     for (count, want) in wants {
         for _ in 0..*count {
-            let cut = file.get(..length);
-            same_of(
-                rt,
-                cut.map(|cut| answer(alloc, cut, size)),
-                Some(*want),
-                &length,
-            );
+            let got = answer_to_cut(alloc, file, length, size);
+            same_of(rt, got, Some(*want), &length);
             length = length.wrapping_add(1);
         }
     }
     same(rt, length.checked_sub(1), Some(file.len()));
+}
+
+/// The fault and the image's sum of the file with the byte at a place changed.
+fn changed_answer(
+    alloc: Global,
+    file: &[u8],
+    size: u32,
+    value: u8,
+    place: usize,
+) -> Result<(u8, u32), AllocError>
+    requires { IsMemorySize size }
+{
+    let mut changed = file.to_vec(alloc)?;
+    if let Some(byte) = changed.get_mut(place) {
+        *byte = value;
+    }
+    match load(alloc, &changed, size) {
+        Ok(image) => Ok((0, sum_of(&image))),
+        Err(fault) => Ok((fault.number(), 0)),
+    }
 }
 
 /// Compares the answers to the file with the byte at each place of header and table changed.
@@ -236,14 +314,7 @@ fn compare_changed(
     let mut place = 0usize;
     for (count, fault, sum) in wants {
         for _ in 0..*count {
-            let mut changed = file.to_vec(alloc)?;
-            if let Some(byte) = changed.get_mut(place) {
-                *byte = value;
-            }
-            let got = match load(alloc, &changed, size) {
-                Ok(image) => (0, sum_of(&image)),
-                Err(fault) => (fault.number(), 0),
-            };
+            let got = changed_answer(alloc, file, size, value, place)?;
             same_of(rt, got, (*fault, *sum), &(value, place));
             place = place.wrapping_add(1);
         }
@@ -258,16 +329,23 @@ fn a_small_file_cut_and_changed(rt: HostRuntime) -> Result<(), Fail> {
     compare_changed(&rt, rt.alloc(), &FILE, 4096, 0xff, &WITH_FF)
 }
 
+/// The word at an address, where the image has one.
+fn word_of(image: &Image, address: u32) -> Option<u32> {
+    if image.has_word(address) {
+        Some(image.word(address))
+    } else {
+        None
+    }
+}
+
 /// Compares what stands in memory with the program's words, and zeros behind them.
 fn compare_words(rt: &impl Abort, image: &Image, words: &[u32]) {
     let mut address = BASE;
     for word in words {
-        assert!(rt; image.has_word(address));
-        same_of(rt, image.word(address), *word, &address);
+        same_of(rt, word_of(image, address), Some(*word), &address);
         address = address.wrapping_add(4);
     }
-    assert!(rt; image.has_word(address));
-    same(rt, image.word(address), 0);
+    same(rt, word_of(image, address), Some(0));
 }
 
 /// Loads a program's file, whole, cut and changed.
@@ -283,105 +361,133 @@ fn compare_program(rt: &impl Abort, alloc: Global, program: &Program) -> Result<
 
 #[test]
 fn programs_of_the_gnu_toolchain(rt: HostRuntime) -> Result<(), Fail> {
-    compare_program(&rt, rt.alloc(), &programs::CAS)?;
-    compare_program(&rt, rt.alloc(), &programs::CRC)?;
-    compare_program(&rt, rt.alloc(), &programs::DIVIDE)?;
-    compare_program(&rt, rt.alloc(), &programs::SUM)
+    for program in &programs::ALL {
+        compare_program(&rt, rt.alloc(), program)?;
+    }
+    Ok(())
 }
+
+/// `li a0, 5` and `ecall`.
+const EXIT: [u8; 8] = [0x13, 0x05, 0x50, 0x00, 0x73, 0x00, 0x00, 0x00];
+
+/// What stands at addresses of 4 KiB of memory that hold these words alone.
+const EXIT_WORDS: [(u32, Option<u32>); 6] = [
+    (0x8000_0000, Some(0x0050_0513)),
+    (0x8000_0004, Some(0x0000_0073)),
+    (0x8000_0ffc, Some(0)),
+    (0x7fff_fffc, None),
+    (0x8000_0ffd, None),
+    (0xffff_fffc, None),
+];
 
 #[test]
 fn bare_words(rt: HostRuntime) -> Result<(), Fail> {
-    let alloc = rt.alloc();
-    let image = raw(
-        alloc,
-        &[0x13, 0x05, 0x50, 0x00, 0x73, 0x00, 0x00, 0x00],
-        4096,
-    )?;
-    same(&rt, image.size(), 4096);
-    same(&rt, image.entry(), 0x8000_0000);
-    for (address, want) in [
-        (0x8000_0000, 0x0050_0513),
-        (0x8000_0004, 0x0000_0073),
-        (0x8000_0ffc, 0),
-    ] {
-        assert!(rt; image.has_word(address));
-        same(&rt, image.word(address), want);
+    let image = raw(rt.alloc(), &EXIT, 4096)?;
+    same(&rt, (image.size(), image.entry()), (4096, 0x8000_0000));
+    for (address, want) in &EXIT_WORDS {
+        same_of(&rt, word_of(&image, *address), *want, address);
     }
-    for address in [0x7fff_fffc, 0x8000_0ffd, 0xffff_fffc] {
-        assert!(rt; !image.has_word(address));
-    }
-    let copy = image.try_copy(alloc)?;
+    let copy = image.try_copy(rt.alloc())?;
     same(&rt, copy.bytes(), image.bytes());
     same(&rt, copy.entry(), image.entry());
-    let too_many = vec![in alloc; 0u8; 4101]?;
-    for (length, want) in [(0, 0), (3, 1), (4096, 0), (4100, 8), (4101, 1)] {
-        let words = too_many.get(..length).ok_or("too few")?;
-        let got = raw(alloc, words, 4096).map_or_else(|fault| fault.number(), |_| 0);
-        same_of(&rt, got, want, &length);
+    Ok(())
+}
+
+/// The number of the fault of so many bytes in memory of 4 KiB, 0 for an image.
+fn raw_answer(alloc: Global, length: usize) -> Result<u8, AllocError> {
+    let bytes = vec![in alloc; 0u8; length]?;
+    match raw(alloc, &bytes, 4096) {
+        Ok(_) => Ok(0),
+        Err(fault) => Ok(fault.number()),
+    }
+}
+
+const LENGTHS: [(usize, u8); 5] = [(0, 0), (3, 1), (4096, 0), (4100, 8), (4101, 1)];
+
+#[test]
+fn bare_words_are_whole_and_fit(rt: HostRuntime) -> Result<(), Fail> {
+    for (length, want) in &LENGTHS {
+        same_of(&rt, raw_answer(rt.alloc(), *length)?, *want, length);
     }
     Ok(())
+}
+
+/// The file's image. It may be refused for want of memory alone, and not when asked for again.
+fn load_again(rt: &impl Abort, alloc: Global, file: &[u8]) -> Image {
+    match load(alloc, file, 4096) {
+        Ok(image) => image,
+        Err(fault) => {
+            same(rt, fault, LoadError::NoMemory);
+            load(alloc, file, 4096).expect(rt, "a second load")
+        }
+    }
+}
+
+/// The same of bare words.
+fn raw_again(rt: &impl Abort, alloc: Global, words: &[u8]) -> Image {
+    match raw(alloc, words, 4096) {
+        Ok(image) => image,
+        Err(fault) => {
+            same(rt, fault, LoadError::NoMemory);
+            raw(alloc, words, 4096).expect(rt, "words again")
+        }
+    }
+}
+
+fn copy_again(rt: &impl Abort, alloc: Global, image: &Image) -> Image {
+    match image.try_copy(alloc) {
+        Ok(copy) => copy,
+        Err(_) => image.try_copy(alloc).expect(rt, "a second copy"),
+    }
 }
 
 /// Meant for runs in which one allocation fails: the answer is NoMemory, and the call succeeds when asked again.
 #[test]
 fn a_refused_allocation_is_no_memory(rt: HostRuntime) {
-    let alloc = rt.alloc();
-    let image = match load(alloc, &FILE, 4096) {
-        Ok(image) => image,
-        Err(fault) => {
-            same(&rt, fault, LoadError::NoMemory);
-            load(alloc, &FILE, 4096).expect(&rt, "a second load")
-        }
-    };
+    let image = load_again(&rt, rt.alloc(), &FILE);
     same(&rt, sum_of(&image), 1_202_660);
-    let copy = match image.try_copy(alloc) {
-        Ok(copy) => copy,
-        Err(_) => image.try_copy(alloc).expect(&rt, "a second copy"),
-    };
+    let copy = copy_again(&rt, rt.alloc(), &image);
     same(&rt, sum_of(&image), 1_202_660);
     same(&rt, copy.bytes(), image.bytes());
-    let words = match raw(alloc, &[1, 0, 0, 0], 4096) {
-        Ok(words) => words,
-        Err(fault) => {
-            same(&rt, fault, LoadError::NoMemory);
-            raw(alloc, &[1, 0, 0, 0], 4096).expect(&rt, "words again")
-        }
-    };
+    let words = raw_again(&rt, rt.alloc(), &[1, 0, 0, 0]);
     same(&rt, sum_of(&words), 1);
 }
 
+const SIZES: [(u32, Option<u32>); 6] = [
+    (4, Some(4096)),
+    (1024, Some(1 << 20)),
+    (0, None),
+    (6, None),
+    (1028, None),
+    (u32::MAX - 3, None),
+];
+
 #[test]
 fn sizes(rt: HostRuntime) {
-    for (kib, want) in [
-        (4, Some(4096)),
-        (1024, Some(1 << 20)),
-        (0, None),
-        (6, None),
-        (1028, None),
-        (u32::MAX - 3, None),
-    ] {
-        same(&rt, size_of_kib(kib), want);
+    for (kib, want) in &SIZES {
+        same_of(&rt, size_of_kib(*kib), *want, kib);
     }
 }
 
+const FAULTS: [(LoadError, u8, &str); 11] = [
+    (LoadError::Short, 1, "Short"),
+    (LoadError::Magic, 2, "Magic"),
+    (LoadError::Class, 3, "Class"),
+    (LoadError::FileType, 4, "FileType"),
+    (LoadError::Machine, 5, "Machine"),
+    (LoadError::Flags, 6, "Flags"),
+    (LoadError::HeaderTable, 7, "HeaderTable"),
+    (LoadError::SegmentOutside, 8, "SegmentOutside"),
+    (LoadError::SegmentOverlap, 9, "SegmentOverlap"),
+    (LoadError::Entry, 10, "Entry"),
+    (LoadError::NoMemory, 11, "NoMemory"),
+];
+
 #[test]
 fn names_of_faults(rt: HostRuntime) -> Result<(), Fail> {
-    let names = [
-        (LoadError::Short, 1, "Short"),
-        (LoadError::Magic, 2, "Magic"),
-        (LoadError::Class, 3, "Class"),
-        (LoadError::FileType, 4, "FileType"),
-        (LoadError::Machine, 5, "Machine"),
-        (LoadError::Flags, 6, "Flags"),
-        (LoadError::HeaderTable, 7, "HeaderTable"),
-        (LoadError::SegmentOutside, 8, "SegmentOutside"),
-        (LoadError::SegmentOverlap, 9, "SegmentOverlap"),
-        (LoadError::Entry, 10, "Entry"),
-        (LoadError::NoMemory, 11, "NoMemory"),
-    ];
-    for (fault, number, name) in names {
-        same(&rt, fault.number(), number);
-        same(&rt, fault.to_string(rt.alloc())?.as_str(), name);
+    for (fault, number, name) in &FAULTS {
+        let printed = fault.to_string(rt.alloc())?;
+        same(&rt, (fault.number(), printed.as_str()), (*number, *name));
     }
     Ok(())
 }

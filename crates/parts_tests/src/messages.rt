@@ -22,21 +22,23 @@ const SHRINK: [(Perm, Cap, Perm, Change); 9] = [
 
 #[test]
 fn shrink_is_its_table(rt: HostRuntime) {
-    for (held, cap, left, change) in SHRINK {
-        same_of(&rt, shrink(held, cap), (left, change), &(held, cap));
-        same(&rt, change.left(), left);
+    for (held, cap, left, change) in &SHRINK {
+        same_of(&rt, shrink(*held, *cap), (*left, *change), cap);
+        same_of(&rt, change.left(), *left, change);
     }
 }
 
+/// What an Acquire asks for, the Grant that answers it, and the permission that this gives.
+const GRANTED: [(Grow, Cap, Perm); 3] = [
+    (Grow::NtoB, Cap::ToB, Perm::Branch),
+    (Grow::NtoT, Cap::ToT, Perm::Trunk),
+    (Grow::BtoT, Cap::ToT, Perm::Trunk),
+];
+
 #[test]
 fn grants_name_what_was_asked_for(rt: HostRuntime) {
-    for (grow, cap, perm) in [
-        (Grow::NtoB, Cap::ToB, Perm::Branch),
-        (Grow::NtoT, Cap::ToT, Perm::Trunk),
-        (Grow::BtoT, Cap::ToT, Perm::Trunk),
-    ] {
-        same(&rt, grow.granted(), cap);
-        same(&rt, cap.perm(), perm);
+    for (grow, cap, perm) in &GRANTED {
+        same_of(&rt, (grow.granted(), cap.perm()), (*cap, *perm), grow);
     }
     same(&rt, Cap::ToN.perm(), Perm::Nothing);
 }
@@ -77,12 +79,12 @@ const CHANNELS: [(Body, Channel); 10] = [
 
 #[test]
 fn each_message_has_its_channel(rt: HostRuntime) {
-    for (body, channel) in CHANNELS {
+    for (body, channel) in &CHANNELS {
         let message = Msg {
             line: 0x8000_0100,
-            body,
+            body: *body,
         };
-        same_of(&rt, message.channel(), channel, &body);
+        same_of(&rt, message.channel(), *channel, body);
     }
 }
 
@@ -90,10 +92,9 @@ fn each_message_has_its_channel(rt: HostRuntime) {
 fn lines_have_16_or_64_bytes(rt: HostRuntime) {
     let short = LineData::Bytes16([1; 16]);
     let long = LineData::Bytes64([2; 64]);
-    same(&rt, short.size(), LineSize::Bytes16);
-    same(&rt, long.size(), LineSize::Bytes64);
-    same(&rt, short.size().bytes(), 16);
-    same(&rt, long.size().bytes(), 64);
+    let sizes = (short.size(), long.size());
+    same(&rt, sizes, (LineSize::Bytes16, LineSize::Bytes64));
+    same(&rt, (sizes.0.bytes(), sizes.1.bytes()), (16, 64));
     same(&rt, short.as_slice(), [1; 16].as_slice());
     same(&rt, long.as_slice(), [2; 64].as_slice());
 }

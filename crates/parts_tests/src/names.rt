@@ -1,6 +1,6 @@
 //! Names of addresses, of a file that clang and ld.lld 14 built, by what readelf shows of it.
 
-use crate::same::same;
+use crate::same::{same, same_of};
 use elf_symbols::{Place, Symbols};
 use std::alloc::{AllocError, Global};
 use std::process::Abort;
@@ -43,45 +43,67 @@ fn is_told(symbols: &Symbols, address: u32, wanted: &[u8], behind: u32) -> bool 
     }
 }
 
+/// Whether an address has no name at or before it.
+fn is_nameless(symbols: &Symbols, address: u32) -> bool {
+    symbols.nearest(address).is_none()
+}
+
 /// The names that a file has with these bytes at this place.
 fn changed(alloc: Global, at: usize, bytes: &[u8]) -> Result<Symbols, AllocError> {
     let mut file = FILE.to_vec(alloc)?;
-    for (index, byte) in bytes.iter().enumerate() {
-        if let Some(place) = file.get_mut(at.saturating_add(index)) {
+    let mut at = at;
+    for byte in bytes {
+        if let Some(place) = file.get_mut(at) {
             *place = *byte;
         }
+        at = at.wrapping_add(1);
     }
     Symbols::read(alloc, &file)
 }
 
+/// Addresses, and the name and the distance that each is told by.
+const TOLD: [(u32, &[u8], u32); 8] = [
+    (0x8000_0000, b"_start", 0),
+    (0x8000_0003, b"_start", 3),
+    (0x8000_0004, b"loop", 0),
+    (0x8000_000b, b"loop", 7),
+    (0x8000_000c, b"done", 0),
+    (0x8000_0014, b"shared", 0),
+    (0x8000_0018, b"alias", 0),
+    (u32::MAX, b"alias", 0x7fff_ffe7),
+];
+
+/// Names, and the address that each is of.
+const ADDRESSES: [(&[u8], Option<u32>); 5] = [
+    (b"_start", Some(0x8000_0000)),
+    (b"alias", Some(0x8000_0018)),
+    (b"constant", None),
+    (b"star", None),
+    (b"", None),
+];
+
 #[test]
 fn names_of_a_file(rt: HostRuntime) -> Result<(), Fail> {
     let symbols = Symbols::read(rt.alloc(), FILE)?;
-    for (address, name, offset) in [
-        (0x8000_0000, b"_start".as_slice(), 0),
-        (0x8000_0003, b"_start", 3),
-        (0x8000_0004, b"loop", 0),
-        (0x8000_000b, b"loop", 7),
-        (0x8000_000c, b"done", 0),
-        (0x8000_0014, b"shared", 0),
-        (0x8000_0018, b"alias", 0),
-        (u32::MAX, b"alias", 0x7fff_ffe7),
-    ] {
-        assert!(rt; is_told(&symbols, address, name, offset));
+    for (address, name, offset) in &TOLD {
+        same_of(
+            &rt,
+            is_told(&symbols, *address, name, *offset),
+            true,
+            address,
+        );
     }
-    assert!(rt; symbols.nearest(0x7fff_ffff).is_none());
-    same(&rt, symbols.address_of(b"_start"), Some(0x8000_0000));
-    same(&rt, symbols.address_of(b"alias"), Some(0x8000_0018));
-    same(&rt, symbols.address_of(b"constant"), None);
-    same(&rt, symbols.address_of(b"star"), None);
-    same(&rt, symbols.address_of(b""), None);
+    same(&rt, is_nameless(&symbols, 0x7fff_ffff), true);
+    for (name, address) in &ADDRESSES {
+        same_of(&rt, symbols.address_of(name), *address, name);
+    }
     Ok(())
 }
 
 #[test]
 fn no_names(rt: HostRuntime) -> Result<(), Fail> {
     let symbols = Symbols::new(rt.alloc());
-    assert!(rt; symbols.nearest(u32::MAX).is_none());
+    same(&rt, is_nameless(&symbols, u32::MAX), true);
     same(&rt, symbols.address_of(b"_start"), None);
     Ok(())
 }
@@ -90,57 +112,67 @@ fn no_names(rt: HostRuntime) -> Result<(), Fail> {
 #[test]
 fn cut_files(rt: HostRuntime) -> Result<(), Fail> {
     for length in 0..FILE.len() {
-        let front = FILE.get(..length).unwrap_or(&[]);
+        let (front, _) = FILE.split_at(length);
         let symbols = Symbols::read(rt.alloc(), front)?;
-        assert!(rt; symbols.nearest(u32::MAX).is_none());
+        same_of(&rt, is_nameless(&symbols, u32::MAX), true, &length);
     }
     Ok(())
 }
+
+/// Where the header of the table of symbols stands.
+const TABLE: usize = SECTIONS + 4 * 40;
+
+/// Fields of the file's header and of its tables, each by its place and its bytes as turned.
+const BROKEN: [(usize, &[u8]); 13] = [
+    (0, b"\x7e"),
+    (4, b"\x02"),
+    (5, b"\x02"),
+    (32, b"\xff\xff\xff\xff"),
+    (46, b"\x29"),
+    (48, b"\x08"),
+    (48, b"\x04"),
+    (TABLE + 4, b"\x0b"),
+    (TABLE + 16, b"\xff\xff\xff\xff"),
+    (TABLE + 20, b"\xff\xff\xff\xff"),
+    (TABLE + 24, b"\x07"),
+    (TABLE + 36, b"\x18"),
+    (SECTIONS + 6 * 40 + 20, b"\xff\xff\xff\xff"),
+];
 
 /// One field of the tables turned: no names.
 #[test]
 fn broken_tables(rt: HostRuntime) -> Result<(), Fail> {
-    let table = SECTIONS + 4 * 40;
-    for (at, bytes) in [
-        (0, b"\x7e".as_slice()),
-        (4, b"\x02"),
-        (5, b"\x02"),
-        (32, b"\xff\xff\xff\xff"),
-        (46, b"\x29"),
-        (48, b"\x08"),
-        (48, b"\x04"),
-        (table + 4, b"\x0b"),
-        (table + 16, b"\xff\xff\xff\xff"),
-        (table + 20, b"\xff\xff\xff\xff"),
-        (table + 24, b"\x07"),
-        (table + 36, b"\x18"),
-        (SECTIONS + 6 * 40 + 20, b"\xff\xff\xff\xff"),
-    ] {
-        let symbols = changed(rt.alloc(), at, bytes)?;
-        assert!(rt; symbols.nearest(u32::MAX).is_none());
+    for (at, bytes) in &BROKEN {
+        let symbols = changed(rt.alloc(), *at, bytes)?;
+        same_of(&rt, is_nameless(&symbols, u32::MAX), true, at);
     }
     Ok(())
 }
 
+/// Where `done`'s entry stands.
+const DONE: usize = ENTRIES + 2 * 16;
+
+/// Fields of `done`'s entry, and letters of its name.
+const UNTOLD: [(usize, &[u8]); 10] = [
+    (DONE, b"\xff\xff\xff\xff"),
+    (DONE, b"\0\0\0\0"),
+    (DONE + 12, b"\x03"),
+    (DONE + 12, b"\x04"),
+    (DONE + 14, b"\0\0"),
+    (DONE + 14, b"\xf1\xff"),
+    (STRINGS + 6, b"$"),
+    (STRINGS + 7, b" "),
+    (STRINGS + 8, b"\x7f"),
+    (STRINGS + 9, b"\xe9"),
+];
+
 /// One field of `done`'s entry or name turned: it is told no more, and `loop` stands for its address.
 #[test]
 fn untold_names(rt: HostRuntime) -> Result<(), Fail> {
-    let done = ENTRIES + 2 * 16;
-    for (at, bytes) in [
-        (done, b"\xff\xff\xff\xff".as_slice()),
-        (done, b"\0\0\0\0"),
-        (done + 12, b"\x03"),
-        (done + 12, b"\x04"),
-        (done + 14, b"\0\0"),
-        (done + 14, b"\xf1\xff"),
-        (STRINGS + 6, b"$"),
-        (STRINGS + 7, b" "),
-        (STRINGS + 8, b"\x7f"),
-        (STRINGS + 9, b"\xe9"),
-    ] {
-        let symbols = changed(rt.alloc(), at, bytes)?;
-        assert!(rt; is_told(&symbols, 0x8000_000c, b"loop", 8));
-        assert!(rt; is_told(&symbols, 0x8000_0014, b"shared", 0));
+    for (at, bytes) in &UNTOLD {
+        let symbols = changed(rt.alloc(), *at, bytes)?;
+        same_of(&rt, is_told(&symbols, 0x8000_000c, b"loop", 8), true, at);
+        same_of(&rt, is_told(&symbols, 0x8000_0014, b"shared", 0), true, at);
     }
     Ok(())
 }
@@ -149,10 +181,10 @@ fn untold_names(rt: HostRuntime) -> Result<(), Fail> {
 #[test]
 fn names_of_one_address(rt: HostRuntime) -> Result<(), Fail> {
     let symbols = changed(rt.alloc(), ENTRIES + 3 * 16 + 4, b"\x14")?;
-    assert!(rt; is_told(&symbols, 0x8000_0014, b"shared", 0));
+    same(&rt, is_told(&symbols, 0x8000_0014, b"shared", 0), true);
     same(&rt, symbols.address_of(b"alias"), Some(0x8000_0014));
     let symbols = changed(rt.alloc(), ENTRIES + 2 * 16, b"\x01")?;
-    assert!(rt; is_told(&symbols, 0x8000_000c, b"loop", 0));
+    same(&rt, is_told(&symbols, 0x8000_000c, b"loop", 0), true);
     same(&rt, symbols.address_of(b"loop"), Some(0x8000_0004));
     Ok(())
 }
@@ -164,5 +196,5 @@ fn refused_memory(rt: HostRuntime) {
         Ok(symbols) => symbols,
         Err(AllocError) => Symbols::read(rt.alloc(), FILE).expect(&rt, "a second reading"),
     };
-    assert!(rt; is_told(&symbols, 0x8000_0010, b"done", 4));
+    same(&rt, is_told(&symbols, 0x8000_0010, b"done", 4), true);
 }

@@ -1,185 +1,168 @@
 //! The rows that a cache takes part in. A row's two harts have a cache each.
 use super::*;
-use std::test::Fail;
-use tl_types::LineSize;
+
+const ROW_10_FIRST: [(Call, Answer); 8] = [
+    (Call::Want(Y, Grow::NtoT), MISSED_T),
+    (Call::Grant(Y, Cap::ToT, Some(ZERO)), Answer::Done),
+    (Call::Store(Y, 1), Answer::Done),
+    (Call::Evict(Y), EVICTED_ONE),
+    (Call::Probe(Y, Cap::ToB), Answer::Probe(Probed::Releasing)),
+    (Call::Want(Y, Grow::NtoB), Answer::Want(Want::WaitRelease)),
+    (Call::ReleaseAck(Y), Answer::Done),
+    (Call::Probe(Y, Cap::ToB), NO_COPY),
+];
+
+const ROW_10_SECOND: [(Call, Answer); 4] = [
+    (Call::Want(Y, Grow::NtoB), MISSED_B),
+    (Call::Want(Y, Grow::NtoB), Answer::Want(Want::WaitGrant)),
+    (Call::Grant(Y, Cap::ToB, Some(ONE)), Answer::Done),
+    (Call::Copy(Y), Answer::Copy(Some(Held::Branch(ONE)))),
+];
 
 #[test]
 fn row_10(rt: HostRuntime) -> Result<(), Fail> {
-    let mut first = ClientCache::new(rt.alloc(), 4, 2, LineSize::Bytes16)?;
-    play(
-        &rt,
-        &mut first,
-        &[
-            (Call::Want(Y, Grow::NtoT), MISSED_T),
-            (Call::Grant(Y, Cap::ToT, Some(ZERO)), Answer::Done),
-            (Call::Store(Y, 1), Answer::Done),
-            (Call::Evict(Y), EVICTED_ONE),
-            (Call::Probe(Y, Cap::ToB), Answer::Probe(Probed::Releasing)),
-            (Call::Want(Y, Grow::NtoB), Answer::Want(Want::WaitRelease)),
-            (Call::ReleaseAck(Y), Answer::Done),
-            (Call::Probe(Y, Cap::ToB), NO_COPY),
-        ],
-    );
-    let mut second = ClientCache::new(rt.alloc(), 4, 2, LineSize::Bytes16)?;
-    play(
-        &rt,
-        &mut second,
-        &[
-            (Call::Want(Y, Grow::NtoB), MISSED_B),
-            (Call::Want(Y, Grow::NtoB), Answer::Want(Want::WaitGrant)),
-            (Call::Grant(Y, Cap::ToB, Some(ONE)), Answer::Done),
-            (Call::Copy(Y), Answer::Copy(Some(Held::Branch(ONE)))),
-        ],
-    );
-    Ok(())
+    plays(&rt, rt.alloc(), &ROW_10_FIRST)?;
+    plays(&rt, rt.alloc(), &ROW_10_SECOND)
 }
+
+const ROW_11: [(Call, Answer); 5] = [
+    (Call::Want(Y, Grow::NtoT), MISSED_T),
+    (Call::Grant(Y, Cap::ToT, Some(ZERO)), Answer::Done),
+    (Call::Store(Y, 1), Answer::Done),
+    (Call::Evict(Y), EVICTED_ONE),
+    (Call::Evict(Y), Answer::Evict(Evict::NotHeld)),
+];
 
 #[test]
 fn row_11(rt: HostRuntime) -> Result<(), Fail> {
-    let mut first = ClientCache::new(rt.alloc(), 4, 2, LineSize::Bytes16)?;
-    play(
-        &rt,
-        &mut first,
-        &[
-            (Call::Want(Y, Grow::NtoT), MISSED_T),
-            (Call::Grant(Y, Cap::ToT, Some(ZERO)), Answer::Done),
-            (Call::Store(Y, 1), Answer::Done),
-            (Call::Evict(Y), EVICTED_ONE),
-            (Call::Evict(Y), Answer::Evict(Evict::NotHeld)),
-        ],
-    );
+    plays(&rt, rt.alloc(), &ROW_11)
+}
+
+/// The hart reads a line, and then upgrades it.
+const UPGRADE_IS_ASKED: [(Call, Answer); 4] = [
+    (Call::Want(X, Grow::NtoB), MISSED_B),
+    (Call::Grant(X, Cap::ToB, Some(ZERO)), Answer::Done),
+    (Call::Copy(X), Answer::Copy(BRANCH)),
+    (Call::Want(X, Grow::BtoT), UPGRADES),
+];
+
+const ROW_12_FIRST: [(Call, Answer); 4] = [
+    (Call::Grant(X, Cap::ToT, None), Answer::Done),
+    (Call::Store(X, 1), Answer::Done),
+    (Call::Probe(X, Cap::ToN), LOST_ONE),
+    (Call::Copy(X), Answer::Copy(None)),
+];
+
+const ROW_12_SECOND: [(Call, Answer); 8] = [
+    (Call::Want(X, Grow::NtoB), MISSED_B),
+    (Call::Grant(X, Cap::ToB, Some(ZERO)), Answer::Done),
+    (Call::Want(X, Grow::BtoT), UPGRADES),
+    (Call::Probe(X, Cap::ToN), LOST_BRANCH),
+    (Call::Want(X, Grow::NtoT), Answer::Want(Want::WaitGrant)),
+    (Call::Grant(X, Cap::ToT, Some(ONE)), Answer::Done),
+    (Call::Store(X, 1), Answer::Done),
+    (Call::Copy(X), Answer::Copy(DIRTY_ONE)),
+];
+
+/// Plays calls on a cache of four sets by two ways, whose hart has asked to upgrade the line.
+fn plays_upgrade(rt: &impl Abort, alloc: Global, calls: &[(Call, Answer)]) -> Result<(), Fail> {
+    let mut cache = ClientCache::new(alloc, 4, 2, LineSize::Bytes16)?;
+    play(rt, &mut cache, &UPGRADE_IS_ASKED);
+    play(rt, &mut cache, calls);
     Ok(())
 }
 
 /// Both harts upgrade a shared line; the second one's copy is probed away while its Acquire waits.
 #[test]
 fn row_12_and_row_48(rt: HostRuntime) -> Result<(), Fail> {
-    let mut first = ClientCache::new(rt.alloc(), 4, 2, LineSize::Bytes16)?;
-    play(
-        &rt,
-        &mut first,
-        &[
-            (Call::Want(X, Grow::NtoB), MISSED_B),
-            (Call::Grant(X, Cap::ToB, Some(ZERO)), Answer::Done),
-            (Call::Copy(X), Answer::Copy(Some(Held::Branch(ZERO)))),
-            (Call::Want(X, Grow::BtoT), UPGRADES),
-            (Call::Grant(X, Cap::ToT, None), Answer::Done),
-            (Call::Store(X, 1), Answer::Done),
-            (Call::Probe(X, Cap::ToN), probed(Change::TtoN, Some(ONE))),
-            (Call::Copy(X), Answer::Copy(None)),
-        ],
-    );
-    let mut second = ClientCache::new(rt.alloc(), 4, 2, LineSize::Bytes16)?;
-    play(
-        &rt,
-        &mut second,
-        &[
-            (Call::Want(X, Grow::NtoB), MISSED_B),
-            (Call::Grant(X, Cap::ToB, Some(ZERO)), Answer::Done),
-            (Call::Want(X, Grow::BtoT), UPGRADES),
-            (Call::Probe(X, Cap::ToN), probed(Change::BtoN, None)),
-            (Call::Want(X, Grow::NtoT), Answer::Want(Want::WaitGrant)),
-            (Call::Grant(X, Cap::ToT, Some(ONE)), Answer::Done),
-            (Call::Store(X, 1), Answer::Done),
-            (Call::Copy(X), Answer::Copy(trunk(true, ONE))),
-        ],
-    );
-    Ok(())
+    plays_upgrade(&rt, rt.alloc(), &ROW_12_FIRST)?;
+    plays(&rt, rt.alloc(), &ROW_12_SECOND)
 }
+
+const ROW_21: [(Call, Answer); 6] = [
+    (Call::Want(X, Grow::NtoB), MISSED_B),
+    (Call::Grant(X, Cap::ToB, Some(ZERO)), Answer::Done),
+    (Call::Want(Y, Grow::NtoB), Answer::Want(Want::SetFull)),
+    (Call::Evict(Y), Answer::Evict(Evict::NotHeld)),
+    (Call::Evict(X), EVICTED_BRANCH),
+    (Call::Want(Y, Grow::NtoB), MISSED_B),
+];
 
 #[test]
 fn row_21(rt: HostRuntime) -> Result<(), Fail> {
     let mut cache = ClientCache::new(rt.alloc(), 1, 1, LineSize::Bytes16)?;
-    play(
-        &rt,
-        &mut cache,
-        &[
-            (Call::Want(X, Grow::NtoB), MISSED_B),
-            (Call::Grant(X, Cap::ToB, Some(ZERO)), Answer::Done),
-            (Call::Want(Y, Grow::NtoB), Answer::Want(Want::SetFull)),
-            (Call::Evict(Y), Answer::Evict(Evict::NotHeld)),
-            (Call::Evict(X), EVICTED_BRANCH),
-            (Call::Want(Y, Grow::NtoB), MISSED_B),
-        ],
-    );
+    play(&rt, &mut cache, &ROW_21);
     Ok(())
 }
+
+const FIVE_ARE_TAKEN: [(Call, Answer); 10] = [
+    (Call::Want(X, Grow::NtoB), MISSED_B),
+    (Call::Grant(X, Cap::ToB, Some(ZERO)), Answer::Done),
+    (Call::Want(0x8000_0110, Grow::NtoB), MISSED_B),
+    (Call::Grant(0x8000_0110, Cap::ToB, Some(ZERO)), Answer::Done),
+    (Call::Want(0x8000_0120, Grow::NtoB), MISSED_B),
+    (Call::Grant(0x8000_0120, Cap::ToB, Some(ZERO)), Answer::Done),
+    (Call::Want(0x8000_0130, Grow::NtoB), MISSED_B),
+    (Call::Grant(0x8000_0130, Cap::ToB, Some(ZERO)), Answer::Done),
+    (Call::Want(0x8000_0140, Grow::NtoB), MISSED_B),
+    (Call::Grant(0x8000_0140, Cap::ToB, Some(ZERO)), Answer::Done),
+];
+
+const FOUR_ARE_GIVEN_UP: [(Call, Answer); 7] = [
+    (Call::Evict(X), EVICTED_BRANCH),
+    (Call::Evict(0x8000_0110), EVICTED_BRANCH),
+    (Call::Evict(0x8000_0120), EVICTED_BRANCH),
+    (Call::Evict(0x8000_0130), EVICTED_BRANCH),
+    (Call::Evict(0x8000_0140), Answer::Evict(Evict::ReleaseFull)),
+    (Call::ReleaseAck(X), Answer::Done),
+    (Call::Evict(0x8000_0140), EVICTED_BRANCH),
+];
 
 /// Five lines are taken one after the other, and row 46 goes on to give them up: four Releases may be
 /// unanswered.
 #[test]
 fn row_22_and_row_46(rt: HostRuntime) -> Result<(), Fail> {
     let mut cache = ClientCache::new(rt.alloc(), 64, 2, LineSize::Bytes16)?;
-    for line in [X, 0x8000_0110, 0x8000_0120, 0x8000_0130, 0x8000_0140] {
-        play(
-            &rt,
-            &mut cache,
-            &[
-                (Call::Want(line, Grow::NtoB), MISSED_B),
-                (Call::Grant(line, Cap::ToB, Some(ZERO)), Answer::Done),
-            ],
-        );
-    }
-    for line in [X, 0x8000_0110, 0x8000_0120, 0x8000_0130] {
-        play(&rt, &mut cache, &[(Call::Evict(line), EVICTED_BRANCH)]);
-    }
-    play(
-        &rt,
-        &mut cache,
-        &[
-            (Call::Evict(0x8000_0140), Answer::Evict(Evict::ReleaseFull)),
-            (Call::ReleaseAck(X), Answer::Done),
-            (Call::Evict(0x8000_0140), EVICTED_BRANCH),
-        ],
-    );
+    play(&rt, &mut cache, &FIVE_ARE_TAKEN);
+    play(&rt, &mut cache, &FOUR_ARE_GIVEN_UP);
     Ok(())
 }
+
+const ROW_31: [(Call, Answer); 7] = [
+    (Call::Evict(X), Answer::Evict(Evict::AcquirePending)),
+    (Call::Grant(X, Cap::ToT, None), Answer::Done),
+    (Call::Store(X, 1), Answer::Done),
+    (Call::Evict(X), EVICTED_ONE),
+    (Call::Probe(X, Cap::ToB), Answer::Probe(Probed::Releasing)),
+    (Call::ReleaseAck(X), Answer::Done),
+    (Call::Probe(X, Cap::ToB), NO_COPY),
+];
 
 /// The dirty line is evicted while its Probe is on the way.
 #[test]
 fn row_31(rt: HostRuntime) -> Result<(), Fail> {
-    let mut cache = ClientCache::new(rt.alloc(), 4, 2, LineSize::Bytes16)?;
-    play(
-        &rt,
-        &mut cache,
-        &[
-            (Call::Want(X, Grow::NtoB), MISSED_B),
-            (Call::Grant(X, Cap::ToB, Some(ZERO)), Answer::Done),
-            (Call::Copy(X), Answer::Copy(Some(Held::Branch(ZERO)))),
-            (Call::Want(X, Grow::BtoT), UPGRADES),
-            (Call::Evict(X), Answer::Evict(Evict::AcquirePending)),
-            (Call::Grant(X, Cap::ToT, None), Answer::Done),
-            (Call::Store(X, 1), Answer::Done),
-            (Call::Evict(X), EVICTED_ONE),
-            (Call::Probe(X, Cap::ToB), Answer::Probe(Probed::Releasing)),
-            (Call::ReleaseAck(X), Answer::Done),
-            (Call::Probe(X, Cap::ToB), NO_COPY),
-        ],
-    );
-    Ok(())
+    plays_upgrade(&rt, rt.alloc(), &ROW_31)
 }
+
+const ROW_45: [(Call, Answer); 9] = [
+    (Call::Want(X, Grow::NtoT), MISSED_T),
+    (Call::Want(0x8000_0110, Grow::NtoT), MISSED_T),
+    (Call::Want(0x8000_0120, Grow::NtoT), MISSED_T),
+    (Call::Want(0x8000_0130, Grow::NtoT), MISSED_T),
+    (
+        Call::Want(0x8000_0140, Grow::NtoT),
+        Answer::Want(Want::NoTracker),
+    ),
+    (Call::Want(X, Grow::NtoT), Answer::Want(Want::WaitGrant)),
+    (Call::Evict(X), Answer::Evict(Evict::NotHeld)),
+    (Call::Grant(X, Cap::ToT, Some(ZERO)), Answer::Done),
+    (Call::Want(0x8000_0140, Grow::NtoT), MISSED_T),
+];
 
 /// Four Acquires may be outstanding.
 #[test]
 fn row_45(rt: HostRuntime) -> Result<(), Fail> {
     let mut cache = ClientCache::new(rt.alloc(), 64, 2, LineSize::Bytes16)?;
-    play(
-        &rt,
-        &mut cache,
-        &[
-            (Call::Want(X, Grow::NtoT), MISSED_T),
-            (Call::Want(0x8000_0110, Grow::NtoT), MISSED_T),
-            (Call::Want(0x8000_0120, Grow::NtoT), MISSED_T),
-            (Call::Want(0x8000_0130, Grow::NtoT), MISSED_T),
-            (
-                Call::Want(0x8000_0140, Grow::NtoT),
-                Answer::Want(Want::NoTracker),
-            ),
-            (Call::Want(X, Grow::NtoT), Answer::Want(Want::WaitGrant)),
-            (Call::Evict(X), Answer::Evict(Evict::NotHeld)),
-            (Call::Grant(X, Cap::ToT, Some(ZERO)), Answer::Done),
-            (Call::Want(0x8000_0140, Grow::NtoT), MISSED_T),
-        ],
-    );
+    play(&rt, &mut cache, &ROW_45);
     Ok(())
 }
