@@ -1,5 +1,6 @@
 -- What a run by threads has done, and which faults it tells.
 use Rattle.command_files.specs.Composition.{IsComposition, Leads}
+use Rattle.command_files.specs.Ends.{ends_of}
 use Rattle.command_files.specs.Sizes.{config_of, IsOutside, config_named}
 use Rattle.command_files.specs.Files.{HoldsImage, HoldsScript}
 use Rattle.command_files.specs.Faults.{IsNoImage}
@@ -40,6 +41,15 @@ pub record IsRunCutOff (held left : Held) (run : Run) (old new : Option (List �
   pub kept : IsJournalled held left run image script
   pub replayed : Leads image script run.machine.model reached
   pub begun : Begins old new (text reached.trace)
+
+-- the run's script is kept, and a beginning of the lines that tell how its harts ended went out
+pub record IsRunEndTold (held left : Held) (run : Run) (old new : Option (List ℕ)) : Type 0 where
+  pub script : Script
+  pub image : Initial
+  pub reached : State
+  pub kept : IsJournalled held left run image script
+  pub replayed : Leads image script run.machine.model reached
+  pub begun : Begins old new (ends_of reached)
 
 -- the machine's size is judged first, then the image, then the run, then the journal is written
 abbrev pub IsRunFault : Held → Run → Fault → Type 0

@@ -4,7 +4,7 @@
 ghost use Rattle.std.specs.Prelude.{◌≡◌, ◌≢◌, ◌⊎◌, ℕ, Err, IfErr, List, OnErr, OnOk};
 ghost use Rattle.std.specs.Io.KnownBytes.{Appends};
 ghost use Rattle.command_files.specs.Held.{HoldsBytes};
-ghost use Rattle.run_command.specs.Running.{ComesBeforeJournal, IsRun, IsRunCutOff, run_fault};
+ghost use Rattle.run_command.specs.Running.{ComesBeforeJournal, IsRun, IsRunCutOff, IsRunEndTold, run_fault};
 ghost use Rattle.command_files.specs.Sizes.{IsOutside};
 ghost use Rattle.run_command.specs.Running.{IsRunFault};
 ghost use Rattle.command_files.specs.Faults.{LeavesAtFault};
@@ -79,6 +79,7 @@ pub fn run_files<'a, R: Threads + Wait + Sync, F: Files, O: Write, E: Write, P: 
     progress: &P,
 ) -> Result<(), Fault<'a>>
     ensures ran { OnOk result (IsRun (F.held files.old) (F.held files.new) wanted.entry (O.contents out.old) (O.contents out.new)) }
+    ensures ends { OnOk result (IsRunEndTold (F.held files.old) (F.held files.new) wanted.entry (E.contents err.old) (E.contents err.new)) }
     ensures outside { IsOutside wanted.entry.machine → result ≡ Err Fault.Configuration }
     ensures told { IfErr result (IsRunFault (F.held files.old) wanted.entry) }
     ensures unfinished { IfErr result (λ fault. LeavesAtFault fault (O.contents out.old) (O.contents out.new)

@@ -1,4 +1,4 @@
-use Rattle.std.proofs.Common.{◌≡◌, ◌∙◌, ◌⊎◌, ◌≤◌, ℕ, List, Option, ap, arith, inl, inr, length, subst, sym, true}
+use Rattle.std.proofs.Common.{◌≡◌, ◌∙◌, ◌⊎◌, ◌≤◌, ℕ, List, Option, ap, arith, inl, inr, length, map, subst, sym, true}
 use Rattle.command_files.specs.Sizes.{config_of, config_named, script_named}
 use Rattle.command_files.specs.Files.{HoldsImage}
 use Rattle.command_files.specs.Held.{Held, HoldsBytes}
@@ -22,6 +22,7 @@ use Rattle.trace_text.specs.Scripts.{IsEvent, text as script_text}
 use Rattle.trace_text.specs.TraceLimits.{IsTrace}
 use Rattle.trace_text.specs.Traces.{text}
 use Rattle.trace_text.specs.declared.script.Script.{Script}
+use Rattle.command_files.proofs.Ended.{ends_begun}
 use Rattle.command_files.proofs.Left.{handed_up, spoiled}
 use Rattle.command_files.proofs.Limits.{script_within}
 use Rattle.command_files.proofs.Replays.{leads_there, readable}
@@ -120,6 +121,24 @@ returns-clause-ran g c =
         headline = subst (λ (config : Config). IsHeadline image config s) config_same c.in-Ok.ensures.headline;
         log = subst (λ (t : History). IsLawfulLog t.log) trace_same c.in-Ok.ensures.log;
       };
+    }
+
+pub returns-clause-ends : goal.returns-clause-ends
+returns-clause-ends g c =
+    let run = c.args.wanted in
+    let script = c.script_of-script.result in
+    let image = c.in_ok-image.image in
+    let s = end_of_journal image c.in-Some.config c.in-Ok.report in
+    let named = c.in-Some.ensures.config in
+    let same = c.script_of-script.ensures.script in
+    let config_same : c.in-Some.config ≡ config_of script run.machine.model = named.0 ∙ sym (ap (λ (t : Script). config_of t run.machine.model) same) in
+    record {
+      script = script;
+      image = image;
+      reached = s;
+      kept = kept _ _ run c.in-Some.config image script c.in-Ok.report.journal.items same named.0 named.1 named.2 c.in_ok-image.ensures.image c.script_of-script.ensures.events c.in_ok-keep.ensures.kept (omega (arith, c.in-Ok.ensures.limit.events, c.from-limit.ensures));
+      replayed = leads_there image script run.machine.model c.in-Some.config c.in-Ok.report.journal.items s config_same (sym (ap (λ (t : Script). t.events) same)) c.in-Ok.ensures.replays;
+      begun = ends_begun (g.E.Write.contents c.args.err.now) (g.E.Write.contents c.print_ends.new.err) s _ c.statuses.result.now _ c.print_ends.result c.statuses.ensures c.in-Ok.ensures.report.trace (ap (map (λ output. output.items)) c.as_slice.ensures.value ∙ c.in-Ok.ensures.report.outputs) c.print_ends.ensures;
     }
 
 pub returns-clause-spared : goal.returns-clause-spared
