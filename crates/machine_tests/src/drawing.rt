@@ -2,6 +2,7 @@
 ghost use Rattle.std.specs.Prelude.{◌≡◌, ◌<◌};
 ghost use Rattle.progress_board.specs.Seat.{harts_of, IsSeatOf};
 
+use crate::same::same;
 use progress_board::{Board, Seat};
 use std::alloc::{AllocError, Global};
 use std::test::Fail;
@@ -17,32 +18,34 @@ fn row_25(rt: HostRuntime) -> Result<(), Fail> {
     let (Some(mut second), Some(mut first)) = (seats.pop(), seats.pop()) else {
         panic!(rt; "there are not two seats")
     };
-    let draws = (
-        board.draw(&mut first),
-        board.draw(&mut second),
-        board.draw(&mut first),
-    );
-    assert!(rt; matches!(&draws, (Ok(0), Ok(1), Ok(2))));
+    same(&rt, board.draw(&mut first), Ok(0));
+    same(&rt, board.draw(&mut second), Ok(1));
+    same(&rt, board.draw(&mut first), Ok(2));
     board.halt(&mut second);
-    assert!(rt; board.halted(&mut first) == 2 && board.halted(&mut second) == 2);
+    same(&rt, board.halted(&mut first), 2);
+    same(&rt, board.halted(&mut second), 2);
     board.publish(&mut first, 7);
     board.publish(&mut first, 5);
-    assert!(rt; board.published(&mut first, 0) == 7 && board.published(&mut second, 0) == 7);
+    same(&rt, board.published(&mut first, 0), 7);
+    same(&rt, board.published(&mut second, 0), 7);
     Ok(())
 }
 
 #[test]
 fn the_eighth_hart_has_bit_7_and_a_length(rt: HostRuntime) -> Result<(), Fail> {
     let (board, mut seats) = Board::new(rt.alloc(), 8)?;
-    assert!(rt; board.harts() == 8 && seats.len() == 8);
+    same(&rt, board.harts(), 8);
+    same(&rt, seats.len(), 8);
     let Some(mut last) = seats.pop() else {
         panic!(rt; "there is no seat")
     };
-    assert!(rt; board.halted(&mut last) == 0 && board.published(&mut last, 7) == 0);
+    same(&rt, board.halted(&mut last), 0);
+    same(&rt, board.published(&mut last, 7), 0);
     board.halt(&mut last);
     board.publish(&mut last, u64::MAX);
-    assert!(rt; board.halted(&mut last) == 128);
-    assert!(rt; board.published(&mut last, 7) == u64::MAX && board.published(&mut last, 6) == 0);
+    same(&rt, board.halted(&mut last), 128);
+    same(&rt, board.published(&mut last, 7), u64::MAX);
+    same(&rt, board.published(&mut last, 6), 0);
     Ok(())
 }
 
@@ -60,6 +63,24 @@ fn drawn(alloc: Global, board: &Board, mut seat: Seat) -> Result<Vec<u64>, Alloc
     Ok(numbers)
 }
 
+/// The numbers of all lists, in rising order.
+fn sorted(alloc: Global, lists: Vec<Result<Vec<u64>, AllocError>>) -> Result<Vec<u64>, AllocError> {
+    let mut numbers = Vec::new(alloc);
+    for list in lists {
+        numbers.extend_from_slice(&list?)?;
+    }
+    numbers.sort()?;
+    Ok(numbers)
+}
+
+/// Whether each number is its place.
+fn are_places(numbers: &[u64]) -> bool {
+    numbers
+        .iter()
+        .enumerate()
+        .all(|(place, number)| place as u64 == *number)
+}
+
 #[test]
 fn four_threads_draw_each_number_below_the_counter_once(rt: HostRuntime) -> Result<(), Fail> {
     let alloc: Global = rt.alloc();
@@ -75,16 +96,10 @@ fn four_threads_draw_each_number_below_the_counter_once(rt: HostRuntime) -> Resu
             requires { IsSeatOf shared.now seat }
         { drawn(alloc, shared, seat) },
     )?;
-    let mut numbers = Vec::new(alloc);
-    for list in lists {
-        numbers.extend_from_slice(&list?)?;
-    }
-    numbers.sort()?;
-    assert!(rt; numbers.len() == 40_000);
-    for (place, number) in numbers.iter().enumerate() {
-        assert!(rt; place as u64 == *number);
-    }
-    assert!(rt; matches!(board.draw(&mut last), Ok(40_000)));
+    let numbers = sorted(alloc, lists)?;
+    same(&rt, numbers.len(), 40_000);
+    same(&rt, are_places(&numbers), true);
+    same(&rt, board.draw(&mut last), Ok(40_000));
     Ok(())
 }
 
@@ -138,6 +153,6 @@ fn four_threads_see_what_the_others_publish(rt: HostRuntime) -> Result<(), Fail>
             requires { IsSeatOf shared.now seat }
         { meets_all(shared, seat) },
     )?;
-    assert!(rt; met.len() == 4 && met.iter().all(|&all| all));
+    same(&rt, met.as_slice(), &[true; 4]);
     Ok(())
 }

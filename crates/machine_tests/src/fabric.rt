@@ -1,17 +1,21 @@
 //! Worked rows, each played by one worker thread through a port. A call that wants memory is made once more,
 //! so a row ends alike where an allocation of its calls is refused.
 
-ghost use Rattle.std.specs.Prelude.{◌≡◌, ◌<◌};
+ghost use Rattle.std.specs.Prelude.{◌≡◌, ◌<◌, length};
 
+use crate::answers::{Answer, adopted, applied};
+use crate::programs::image_of;
+use crate::same::{same, same_of};
 use coherent_machine::{AdoptError, ApplyError, Machine, Views};
-use elf_loader::{Image, raw, size_of_kib};
+use elf_loader::Image;
 use hart::{Hart, Retired, Status, run_local};
 use locked_fabric::{Fabric, Port, Share, Turn, Visit};
 use machine_model::MemoryModel;
 use machine_types::{Config, Event, Outcome};
 use progress_board::{Board, Seat};
-use std::alloc::{AllocError, Global};
+use std::alloc::Global;
 use std::marker::Brand;
+use std::process::Abort;
 use std::sync::ledger::{Blank, Ledger};
 use std::sync::{Mutex, Wait};
 use std::test::Fail;
@@ -75,28 +79,6 @@ enum Call {
     CommitOther,
 }
 
-#[derive(Clone, Copy, Debug, PartialEq, Eq)]
-enum Answer {
-    Came(Outcome),
-    Refused(ApplyError),
-    NotAdopted(AdoptError),
-    Nothing,
-}
-
-fn applied(came: Result<Outcome, ApplyError>) -> Answer {
-    match came {
-        Ok(outcome) => Answer::Came(outcome),
-        Err(error) => Answer::Refused(error),
-    }
-}
-
-fn committed(came: Result<Outcome, AdoptError>) -> Answer {
-    match came {
-        Ok(outcome) => Answer::Came(outcome),
-        Err(error) => Answer::NotAdopted(error),
-    }
-}
-
 /// Picks row 18's events one after the other, where it is told the outcome of the one before.
 #[derive(Drop)]
 struct Listed;
@@ -138,7 +120,7 @@ fn commit_run<L: Ledger, R: Wait + AllocGlobal>(
     hart: &Hart,
 ) -> Answer {
     match run_local(rt.alloc(), image, hart, 256) {
-        Ok(batch) => committed(port.commit(rt, &batch, &mut Listed)),
+        Ok(batch) => adopted(port.commit(rt, &batch, &mut Listed)),
         Err(_) => Answer::NotAdopted(AdoptError::NoMemory),
     }
 }
@@ -227,15 +209,6 @@ fn play_locked<L: Ledger + Send + Sync, R: Threads + Wait + AllocGlobal + Sync>(
     })
 }
 
-fn image_of(alloc: Global, words: &[u32]) -> Result<Image, Fail> {
-    let size = size_of_kib(4).ok_or("a size")?;
-    let mut bytes = Vec::new(alloc);
-    for word in words {
-        bytes.extend_from_slice(&word.to_le_bytes())?;
-    }
-    Ok(raw(alloc, &bytes, size)?)
-}
-
 /// How a row ends.
 #[derive(Drop)]
 struct Ended {
@@ -244,6 +217,43 @@ struct Ended {
     trace: Trace,
     journal: Vec<Event>,
     counts: Vec<u64>,
+}
+
+fn programs_of(alloc: Global, words: &[u32], harts: u32) -> Result<Programs, Fail> {
+    Ok(Programs {
+        own: image_of(alloc, words)?,
+        harts,
+        other: image_of(alloc, &ROW_1)?,
+    })
+}
+
+fn only_seat(alloc: Global) -> Result<Seat, Fail> {
+    let (_board, mut seats) = Board::new(alloc, 1)?;
+    Ok(seats.pop().ok_or("a seat")?)
+}
+
+/// How a row ends whose shares have come back.
+fn end_of<L: Ledger>(
+    fabric: Fabric<L>,
+    shares: Vec<Share<L>>,
+    harts: u32,
+    wrong: Option<(Call, Answer)>,
+    seen: Option<(u64, Status)>,
+) -> Result<Ended, Fail>
+    requires all { length shares.items ≡ L.parts }
+    requires harts { L.parts ≡ harts }
+{
+    if fabric.machine().views().config().harts != harts {
+        return Err(Fail::from("as many harts"));
+    }
+    let (machine, journal, counts) = fabric.into_parts(shares);
+    Ok(Ended {
+        wrong,
+        seen,
+        trace: machine.into_parts().0,
+        journal,
+        counts,
+    })
 }
 
 fn play_on<L: Ledger + Send + Sync, R: Threads + Wait + AllocGlobal + Sync>(
@@ -257,13 +267,8 @@ fn play_on<L: Ledger + Send + Sync, R: Threads + Wait + AllocGlobal + Sync>(
     requires parts { blank.parts ≡ L.parts }
     requires harts { (blank.parts ≡ harts) × (0 < harts) }
 {
-    let programs = Programs {
-        own: image_of(rt.alloc(), words)?,
-        harts,
-        other: image_of(rt.alloc(), &ROW_1)?,
-    };
-    let (_board, mut seats) = Board::new(rt.alloc(), 1)?;
-    let seat = seats.pop().ok_or("a seat")?;
+    let programs = programs_of(rt.alloc(), words, harts)?;
+    let seat = only_seat(rt.alloc())?;
     let config = Config {
         harts,
         sets: 4,
@@ -278,18 +283,7 @@ fn play_on<L: Ledger + Send + Sync, R: Threads + Wait + AllocGlobal + Sync>(
     let port = Port::new(&lock, seat, share);
     let done = play_locked(rt, port, &programs, calls).ok_or("a thread")?;
     shares.push(done.share)?;
-    let fabric = lock.into_inner();
-    if fabric.machine().views().config().harts != harts {
-        return Err(Fail::from("as many harts"));
-    }
-    let (machine, journal, counts) = fabric.into_parts(shares);
-    Ok(Ended {
-        wrong: done.wrong,
-        seen: done.seen,
-        trace: machine.into_parts().0,
-        journal,
-        counts,
-    })
+    end_of(lock.into_inner(), shares, harts, done.wrong, done.seen)
 }
 
 fn played<R: Threads + Wait + AllocGlobal + Sync>(
@@ -303,126 +297,227 @@ fn played<R: Threads + Wait + AllocGlobal + Sync>(
     play_on::<Brand, R>(rt, Blank::new(u64::from(harts)), words, harts, calls)
 }
 
-/// Whether each call was answered as expected, and the journal and the shares are these.
-fn ends_so(ended: &Ended, journal: &[Event], counts: &[u64]) -> bool {
-    ended.wrong.is_none()
-        && ended.journal.as_slice() == journal
-        && ended.counts.as_slice() == counts
+/// Calls on a program's machine, and how they are to end.
+struct Row {
+    words: &'static [u32],
+    calls: &'static [(Call, Answer)],
+    journal: &'static [Event],
+    counts: &'static [u64],
+    /// The length of hart 0's list and its status.
+    seen: (u64, Status),
 }
+
+/// The trace of a row whose calls are answered so.
+fn ends_so<R: Threads + Wait + Abort + AllocGlobal + Sync>(
+    rt: &R,
+    harts: u32,
+    row: &Row,
+) -> Result<Trace, Fail>
+    requires { 0 < harts }
+{
+    let ended = played(rt, row.words, harts, row.calls)?;
+    same_of(rt, ended.wrong.is_none(), true, &ended.wrong);
+    same(rt, ended.journal.as_slice(), row.journal);
+    same(rt, ended.counts.as_slice(), row.counts);
+    same(rt, ended.seen, Some(row.seen));
+    Ok(ended.trace)
+}
+
+const ROW_1_LOCKED: Row = Row {
+    words: &ROW_1,
+    calls: &[
+        (Call::Apply(STEP), Answer::Came(Outcome::Retired)),
+        (Call::Apply(STEP), Answer::Came(Outcome::Exited(5))),
+    ],
+    journal: &[STEP, STEP],
+    counts: &[2],
+    seen: (2, Status::Exited(5)),
+};
 
 #[test]
 fn row_1_locked(rt: HostRuntime) -> Result<(), Fail> {
-    let calls = [
-        (Call::Apply(STEP), Answer::Came(Outcome::Retired)),
-        (Call::Apply(STEP), Answer::Came(Outcome::Exited(5))),
-    ];
-    let ended = played(&rt, &ROW_1, 1, &calls)?;
-    assert!(rt; ends_so(&ended, &[STEP, STEP], &[2]));
-    assert_eq!(rt; ended.seen, Some((2, Status::Exited(5))));
+    let _trace = ends_so(&rt, 1, &ROW_1_LOCKED)?;
     Ok(())
 }
 
-fn local(count: u32) -> Event {
-    Event::Local { hart: 0, count }
-}
+const LOCAL_1: Event = Event::Local { hart: 0, count: 1 };
+
+const LOCAL_2: Event = Event::Local { hart: 0, count: 2 };
+
+const ROW_24: Row = Row {
+    words: &ROW_1,
+    calls: &[
+        (Call::Apply(LOCAL_2), Answer::Came(Outcome::NotLocal)),
+        (Call::Apply(LOCAL_1), Answer::Came(Outcome::Retired)),
+        (
+            Call::Apply(Event::Local { hart: 0, count: 0 }),
+            Answer::Refused(ApplyError::BadEvent),
+        ),
+        (Call::CommitFirst, Answer::NotAdopted(AdoptError::Stale)),
+    ],
+    journal: &[LOCAL_1],
+    counts: &[1],
+    seen: (1, Status::Running),
+};
 
 #[test]
 fn row_24(rt: HostRuntime) -> Result<(), Fail> {
-    let calls = [
-        (Call::Apply(local(2)), Answer::Came(Outcome::NotLocal)),
-        (Call::Apply(local(1)), Answer::Came(Outcome::Retired)),
-        (Call::Apply(local(0)), Answer::Refused(ApplyError::BadEvent)),
-        (Call::CommitFirst, Answer::NotAdopted(AdoptError::Stale)),
-    ];
-    let ended = played(&rt, &ROW_1, 1, &calls)?;
-    assert!(rt; ends_so(&ended, &[local(1)], &[1]));
+    let _trace = ends_so(&rt, 1, &ROW_24)?;
     Ok(())
 }
 
-#[test]
-fn row_39(rt: HostRuntime) -> Result<(), Fail> {
-    let calls = [
-        (Call::Apply(local(3)), Answer::Came(Outcome::NotLocal)),
+const ROW_39: Row = Row {
+    words: &ROW_7,
+    calls: &[
+        (
+            Call::Apply(Event::Local { hart: 0, count: 3 }),
+            Answer::Came(Outcome::NotLocal),
+        ),
         (Call::CommitOther, Answer::NotAdopted(AdoptError::Stale)),
         (Call::CommitFirst, Answer::Came(Outcome::Retired)),
         (Call::CommitFirst, Answer::NotAdopted(AdoptError::Stale)),
         (Call::CommitNext, Answer::NotAdopted(AdoptError::Empty)),
-    ];
-    let ended = played(&rt, &ROW_7, 1, &calls)?;
-    assert!(rt; ends_so(&ended, &[local(2)], &[1]));
-    assert_eq!(rt; ended.seen, Some((2, Status::Running)));
+    ],
+    journal: &[LOCAL_2],
+    counts: &[1],
+    seen: (2, Status::Running),
+};
+
+#[test]
+fn row_39(rt: HostRuntime) -> Result<(), Fail> {
+    let _trace = ends_so(&rt, 1, &ROW_39)?;
     Ok(())
 }
+
+const STEP_1: Event = Event::Step { hart: 1 };
+
+const BESIDE_ANOTHER_HART: Row = Row {
+    words: &ROW_7,
+    calls: &[
+        (Call::Apply(STEP_1), Answer::Came(Outcome::Retired)),
+        (Call::CommitFirst, Answer::Came(Outcome::Retired)),
+    ],
+    journal: &[STEP_1, LOCAL_2],
+    counts: &[0, 2],
+    seen: (2, Status::Running),
+};
 
 #[test]
 fn row_39_beside_another_hart(rt: HostRuntime) -> Result<(), Fail> {
-    let step = Event::Step { hart: 1 };
-    let calls = [
-        (Call::Apply(step), Answer::Came(Outcome::Retired)),
-        (Call::CommitFirst, Answer::Came(Outcome::Retired)),
-    ];
-    let ended = played(&rt, &ROW_7, 2, &calls)?;
-    assert!(rt; ends_so(&ended, &[step, local(2)], &[0, 2]));
+    let _trace = ends_so(&rt, 2, &BESIDE_ANOTHER_HART)?;
     Ok(())
 }
 
-#[test]
-fn row_39_of_an_ended_hart(rt: HostRuntime) -> Result<(), Fail> {
-    let calls = [
+const OF_AN_ENDED_HART: Row = Row {
+    words: &ROW_39_EXITS,
+    calls: &[
         (Call::Apply(STEP), Answer::Came(Outcome::Exited(0))),
         (Call::CommitNext, Answer::NotAdopted(AdoptError::Empty)),
         (Call::CommitFirst, Answer::NotAdopted(AdoptError::Stale)),
-    ];
-    let ended = played(&rt, &ROW_39_EXITS, 1, &calls)?;
-    assert!(rt; ends_so(&ended, &[STEP], &[1]));
-    assert_eq!(rt; ended.seen, Some((1, Status::Exited(0))));
+    ],
+    journal: &[STEP],
+    counts: &[1],
+    seen: (1, Status::Exited(0)),
+};
+
+#[test]
+fn row_39_of_an_ended_hart(rt: HostRuntime) -> Result<(), Fail> {
+    let _trace = ends_so(&rt, 1, &OF_AN_ENDED_HART)?;
     Ok(())
 }
 
-fn logged(direction: Direction, body: Body) -> Logged {
+const ROW_18_PICKED: Row = Row {
+    words: &ROW_18,
+    calls: &[
+        (Call::Picked, Answer::Came(Outcome::Retired)),
+        (Call::Picked, Answer::Came(Outcome::Missed(0x80000000))),
+        (Call::Picked, Answer::Came(Outcome::Delivered)),
+        (Call::Picked, Answer::Came(Outcome::Delivered)),
+        (Call::Picked, Answer::Came(Outcome::Delivered)),
+        (Call::Picked, Answer::Came(Outcome::Retired)),
+    ],
+    journal: &ROW_18_EVENTS,
+    counts: &[6],
+    seen: (2, Status::Running),
+};
+
+const ROW_18_ENTRIES: [Retired; 2] = [
+    Retired {
+        pc: 0x80000000,
+        word: 0x80000637,
+        loaded: None,
+        sc_ok: None,
+    },
+    Retired {
+        pc: 0x80000004,
+        word: 0x00062703,
+        loaded: Some(0x80000637),
+        sc_ok: None,
+    },
+];
+
+const ACQUIRE: Msg = Msg {
+    line: 0x80000000,
+    body: Body::AcquireBlock(Grow::NtoB),
+};
+
+const GRANT: Msg = Msg {
+    line: 0x80000000,
+    body: Body::GrantData {
+        cap: Cap::ToB,
+        bytes: LineData::Bytes16([0x37, 6, 0, 0x80, 3, 0x27, 6, 0, 0, 0, 0, 0, 0, 0, 0, 0]),
+    },
+};
+
+const GRANT_ACK: Msg = Msg {
+    line: 0x80000000,
+    body: Body::GrantAck,
+};
+
+const ROW_18_LOG: [Logged; 6] = [
     Logged {
-        direction,
+        direction: Direction::Sent,
         hart: 0,
-        message: Msg {
-            line: 0x80000000,
-            body,
-        },
-    }
+        message: ACQUIRE,
+    },
+    Logged {
+        direction: Direction::Taken,
+        hart: 0,
+        message: ACQUIRE,
+    },
+    Logged {
+        direction: Direction::Sent,
+        hart: 0,
+        message: GRANT,
+    },
+    Logged {
+        direction: Direction::Taken,
+        hart: 0,
+        message: GRANT,
+    },
+    Logged {
+        direction: Direction::Sent,
+        hart: 0,
+        message: GRANT_ACK,
+    },
+    Logged {
+        direction: Direction::Taken,
+        hart: 0,
+        message: GRANT_ACK,
+    },
+];
+
+fn is_row_18(trace: &Trace) -> bool {
+    trace.harts() == 1
+        && trace.entries(0) == ROW_18_ENTRIES.as_slice()
+        && trace.performed() == [OpId { hart: 0, place: 1 }].as_slice()
+        && trace.statuses() == [Status::Running].as_slice()
+        && trace.log() == ROW_18_LOG.as_slice()
 }
 
 #[test]
 fn port_row_18(rt: HostRuntime) -> Result<(), Fail> {
-    let calls = ROW_18_OUTCOMES.map(|outcome| (Call::Picked, Answer::Came(outcome)));
-    let ended = played(&rt, &ROW_18, 1, &calls)?;
-    assert!(rt; ends_so(&ended, &ROW_18_EVENTS, &[6]));
-    let trace = &ended.trace;
-    let entry = |pc, word, loaded| Retired {
-        pc,
-        word,
-        loaded,
-        sc_ok: None,
-    };
-    let entries = [
-        entry(0x80000000, ROW_18[0], None),
-        entry(0x80000004, ROW_18[1], Some(0x80000637)),
-    ];
-    assert!(rt; trace.harts() == 1 && trace.entries(0) == entries.as_slice());
-    assert!(rt; trace.performed() == [OpId { hart: 0, place: 1 }].as_slice());
-    assert!(rt; trace.statuses() == [Status::Running].as_slice());
-    let bytes = LineData::Bytes16([0x37, 6, 0, 0x80, 3, 0x27, 6, 0, 0, 0, 0, 0, 0, 0, 0, 0]);
-    let acquire = Body::AcquireBlock(Grow::NtoB);
-    let grant = Body::GrantData {
-        cap: Cap::ToB,
-        bytes,
-    };
-    let log = [
-        logged(Direction::Sent, acquire),
-        logged(Direction::Taken, acquire),
-        logged(Direction::Sent, grant),
-        logged(Direction::Taken, grant),
-        logged(Direction::Sent, Body::GrantAck),
-        logged(Direction::Taken, Body::GrantAck),
-    ];
-    assert!(rt; trace.log() == log.as_slice());
+    let trace = ends_so(&rt, 1, &ROW_18_PICKED)?;
+    same(&rt, is_row_18(&trace), true);
     Ok(())
 }

@@ -3,10 +3,16 @@
 #![tactic(auto)]
 
 #[cfg(test)]
+mod answers;
+#[cfg(test)]
 mod batches;
 #[cfg(test)]
 mod drawing;
 #[cfg(test)]
 mod fabric;
+#[cfg(test)]
+mod programs;
+#[cfg(test)]
+mod same;
 #[cfg(test)]
 mod threads;

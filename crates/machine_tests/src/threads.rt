@@ -1,7 +1,8 @@
 //! Runs with threads: worked rows, and how a run ends.
 
+use crate::programs::image_of;
+use crate::same::same;
 use coherent_machine::{Views, replay};
-use elf_loader::{Image, raw, size_of_kib};
 use hart::Status;
 use host_threads::{Gate, Report, RunError, run, run_with};
 use locked_fabric::Turn;
@@ -61,15 +62,6 @@ impl Turn for Always {
     }
 }
 
-fn image_of(alloc: Global, words: &[u32]) -> Result<Image, Fail> {
-    let size = size_of_kib(4).ok_or("a size")?;
-    let mut bytes = Vec::new(alloc);
-    for word in words {
-        bytes.extend_from_slice(&word.to_le_bytes())?;
-    }
-    Ok(raw(alloc, &bytes, size)?)
-}
-
 fn config_of(harts: u32, line: u32) -> Config {
     Config {
         harts,
@@ -93,64 +85,120 @@ fn is_same(one: &Trace, other: &Trace) -> bool {
     one.performed() == other.performed() && one.log() == other.log()
 }
 
-// Fails where the journal doesn't replay to the report's trace.
-fn check_replay(
-    rt: &impl Abort,
-    alloc: Global,
+/// Whether the journal leads a machine to the report's trace.
+fn replays(alloc: Global, words: &[u32], config: Config, report: &Report) -> Result<bool, Fail> {
+    let machine = replay(alloc, image_of(alloc, words)?, config, &report.journal)?;
+    Ok(is_same(machine.trace(), &report.trace))
+}
+
+fn ran<G: Gate + Sync, R: Threads + Wait + AllocGlobal + Sync>(
+    rt: &R,
     words: &[u32],
     config: Config,
-    report: &Report,
+    limit: u64,
+    gate: &G,
+) -> Result<Report, Fail> {
+    let image = image_of(rt.alloc(), words)?;
+    Ok(run(rt, rt.alloc(), image, config, limit, gate)?)
+}
+
+/// A run whose journal replays to its trace.
+fn ran_and_replayed<G: Gate + Sync, R: Threads + Wait + Abort + AllocGlobal + Sync>(
+    rt: &R,
+    words: &[u32],
+    config: Config,
+    limit: u64,
+    gate: &G,
+) -> Result<Report, Fail> {
+    let report = ran(rt, words, config, limit, gate)?;
+    same(rt, replays(rt.alloc(), words, config, &report)?, true);
+    Ok(report)
+}
+
+/// What comes of a run in which each hart's turn picks one event again and again.
+fn ran_by<G: Gate + Sync, R: Threads + Wait + AllocGlobal + Sync>(
+    rt: &R,
+    words: &[u32],
+    harts: u32,
+    limit: u64,
+    gate: &G,
+    events: &[Event],
+) -> Result<Result<Report, RunError>, Fail> {
+    let alloc = rt.alloc();
+    let mut turns = Vec::new(alloc);
+    for event in events {
+        turns.push(Always(*event))?;
+    }
+    let image = image_of(alloc, words)?;
+    let config = config_of(harts, 16);
+    Ok(run_with(rt, alloc, image, config, limit, gate, turns))
+}
+
+/// A run by one event a hart that comes to an error.
+fn is_refused<R: Threads + Wait + Abort + AllocGlobal + Sync>(
+    rt: &R,
+    words: &[u32],
+    harts: u32,
+    events: &[Event],
+    error: RunError,
 ) -> Result<(), Fail> {
-    let machine = replay(alloc, image_of(alloc, words)?, config, &report.journal)?;
-    assert!(rt; is_same(machine.trace(), &report.trace));
+    let answer = ran_by(rt, words, harts, LIMIT, &Open, events)?;
+    same(rt, answer.err(), Some(error));
     Ok(())
 }
 
 #[test]
 fn row_16(rt: HostRuntime) -> Result<(), Fail> {
-    let alloc: Global = rt.alloc();
-    let config = config_of(1, 16);
-    let report = run(&rt, alloc, image_of(alloc, &EXIT)?, config, LIMIT, &Open)?;
+    let report = ran_and_replayed(&rt, &EXIT, config_of(1, 16), LIMIT, &Open)?;
     let journal = [Event::Local { hart: 0, count: 1 }, Event::Step { hart: 0 }];
-    assert!(rt; report.journal.as_slice() == journal.as_slice());
-    assert!(rt; report.receipts.as_slice() == [2].as_slice());
-    assert!(rt; report.trace.statuses() == [Status::Exited(5)].as_slice());
-    check_replay(&rt, alloc, &EXIT, config, &report)
+    same(&rt, report.journal.as_slice(), &journal);
+    same(&rt, report.receipts.as_slice(), &[2]);
+    same(&rt, report.trace.statuses(), &[Status::Exited(5)]);
+    Ok(())
+}
+
+/// What the last operation that was performed has loaded.
+fn last_loaded(trace: &Trace) -> Option<u32> {
+    let last = trace.performed().last()?;
+    let hart = usize::from(last.hart);
+    if hart >= trace.harts() {
+        return None;
+    }
+    trace.entries(hart).get(last.place as usize)?.loaded
+}
+
+/// Whether each hart has exited with its number, and has run four private instructions at once.
+fn have_counted(report: &Report) -> bool {
+    for (hart, status) in (0u8..8).zip(report.trace.statuses()) {
+        let row = Event::Local { hart, count: 4 };
+        if *status != Status::Exited(hart) || !report.journal.contains(&row) {
+            return false;
+        }
+    }
+    true
 }
 
 // Each hart adds 1 a hundred times, to `total` together.
-fn counts_up<R: Threads + Wait + Abort + Sync>(
+fn counts_up<R: Threads + Wait + Abort + AllocGlobal + Sync>(
     rt: &R,
-    alloc: Global,
     config: Config,
     total: u32,
 ) -> Result<(), Fail> {
-    let report = run(rt, alloc, image_of(alloc, &HUNDRED)?, config, LIMIT, &Open)?;
-    let trace = &report.trace;
-    for (hart, status) in (0u8..8).zip(trace.statuses()) {
-        assert!(rt; *status == Status::Exited(hart));
-        assert!(rt; report.journal.contains(&Event::Local { hart, count: 4 }));
-    }
-    assert!(rt; trace.performed().len() == total as usize);
-    let last = trace.performed().last().ok_or("an operation")?;
-    let hart = usize::from(last.hart);
-    assert!(rt; hart < trace.harts());
-    let entry = trace
-        .entries(hart)
-        .get(last.place as usize)
-        .ok_or("an entry")?;
-    assert!(rt; entry.loaded.is_some_and(|loaded| total - 1 == loaded));
-    check_replay(rt, alloc, &HUNDRED, config, &report)
+    let report = ran_and_replayed(rt, &HUNDRED, config, LIMIT, &Open)?;
+    same(rt, have_counted(&report), true);
+    same(rt, report.trace.performed().len(), total as usize);
+    same(rt, last_loaded(&report.trace), total.checked_sub(1));
+    Ok(())
 }
 
 #[test]
 fn row_16_of_four_harts(rt: HostRuntime) -> Result<(), Fail> {
-    counts_up(&rt, rt.alloc(), config_of(4, 16), 400)
+    counts_up(&rt, config_of(4, 16), 400)
 }
 
 #[test]
 fn row_53(rt: HostRuntime) -> Result<(), Fail> {
-    counts_up(&rt, rt.alloc(), config_of(8, 64), 800)
+    counts_up(&rt, config_of(8, 64), 800)
 }
 
 /// The first pass of hart 0 waits for a pass of hart 1 that has seen a length of its own, which waits for
@@ -195,18 +243,15 @@ impl Gate for Meeting {
 
 #[test]
 fn two_harts_meet(rt: HostRuntime) -> Result<(), Fail> {
-    let alloc: Global = rt.alloc();
-    let config = config_of(2, 16);
     let meeting = Meeting {
         seen: [AtomicBool::new(false), AtomicBool::new(false)],
         has_failed: AtomicBool::new(false),
     };
-    let image = image_of(alloc, &STORE_BUFFERING)?;
-    let report = run(&rt, alloc, image, config, LIMIT, &meeting)?;
-    assert!(rt; !meeting.has_failed.load(Ordering::SeqCst));
+    let report = ran_and_replayed(&rt, &STORE_BUFFERING, config_of(2, 16), LIMIT, &meeting)?;
+    same(&rt, meeting.has_failed.load(Ordering::SeqCst), false);
     let ends = [Status::Exited(0), Status::Exited(1)];
-    assert!(rt; report.trace.statuses() == ends.as_slice());
-    check_replay(&rt, alloc, &STORE_BUFFERING, config, &report)
+    same(&rt, report.trace.statuses(), &ends);
+    Ok(())
 }
 
 /// What each of two harts has seen published, its own length and the other's, and all passes.
@@ -250,161 +295,153 @@ impl Gate for Progress {
     }
 }
 
+/// Whether two harts have seen no length fall, in the end their own, and no more than the other's.
+fn has_seen_lengths(progress: &Progress, trace: &Trace) -> bool {
+    if progress.has_fallen.load(Ordering::SeqCst) || trace.harts() != 2 {
+        return false;
+    }
+    for hart in 0..2 {
+        let length = trace.entries(hart).len() as u64;
+        if progress.own[hart].load(Ordering::SeqCst) != length
+            || progress.other[1 - hart].load(Ordering::SeqCst) > length
+        {
+            return false;
+        }
+    }
+    true
+}
+
 #[test]
 fn row_25_of_lengths(rt: HostRuntime) -> Result<(), Fail> {
-    let alloc: Global = rt.alloc();
     let progress = Progress::new();
-    let image = image_of(alloc, &HUNDRED)?;
-    let report = run(&rt, alloc, image, config_of(2, 16), LIMIT, &progress)?;
-    assert!(rt; !progress.has_fallen.load(Ordering::SeqCst));
-    assert!(rt; report.trace.harts() == 2);
-    for hart in 0..2 {
-        let length = report.trace.entries(hart).len() as u64;
-        assert!(rt; progress.own[hart].load(Ordering::SeqCst) == length);
-        assert!(rt; progress.other[1 - hart].load(Ordering::SeqCst) <= length);
-    }
+    let report = ran(&rt, &HUNDRED, config_of(2, 16), LIMIT, &progress)?;
+    same(&rt, has_seen_lengths(&progress, &report.trace), true);
     Ok(())
 }
+
+const EMPTY: Event = Event::Deliver {
+    channel: Channel::E,
+    hart: 0,
+};
 
 // Both turns pick an event each time, which changes nothing: as many passes draw a number below the limit
 // as there are such numbers, and one more of each hart ends it.
 #[test]
 fn row_25_of_numbers(rt: HostRuntime) -> Result<(), Fail> {
-    let alloc: Global = rt.alloc();
     let progress = Progress::new();
-    let empty = Event::Deliver {
-        channel: Channel::E,
-        hart: 0,
-    };
-    let mut turns = Vec::new(alloc);
-    turns.push(Always(empty))?;
-    turns.push(Always(empty))?;
-    let image = image_of(alloc, &SPIN)?;
-    let report = run_with(&rt, alloc, image, config_of(2, 16), 1000, &progress, turns)?;
-    assert!(rt; progress.passes.load(Ordering::SeqCst) == 1002);
-    assert!(rt; report.journal.is_empty() && report.receipts.as_slice() == [0, 0].as_slice());
+    let report = ran_by(&rt, &SPIN, 2, 1000, &progress, &[EMPTY, EMPTY])??;
+    same(&rt, progress.passes.load(Ordering::SeqCst), 1002);
+    same(&rt, report.journal.len(), 0);
+    same(&rt, report.receipts.as_slice(), &[0, 0]);
     Ok(())
 }
 
 #[test]
 fn row_47(rt: HostRuntime) -> Result<(), Fail> {
-    let alloc: Global = rt.alloc();
-    let image = image_of(alloc, &SPIN)?;
-    let report = run(&rt, alloc, image, config_of(1, 16), LIMIT, &Open)?;
-    assert!(rt; report.journal.len() == 3906);
+    let report = ran(&rt, &SPIN, config_of(1, 16), LIMIT, &Open)?;
+    same(&rt, report.journal.len(), 3906);
     let row = Event::Local {
         hart: 0,
         count: 256,
     };
-    assert!(rt; report.journal.iter().all(|event| *event == row));
-    assert!(rt; report.trace.statuses() == [Status::Running].as_slice());
+    same(&rt, report.journal.iter().all(|event| *event == row), true);
+    same(&rt, report.trace.statuses(), &[Status::Running]);
     Ok(())
 }
 
 #[test]
 fn a_limit_of_one_allows_one_event(rt: HostRuntime) -> Result<(), Fail> {
-    let alloc: Global = rt.alloc();
-    let config = config_of(1, 16);
-    let report = run(&rt, alloc, image_of(alloc, &EXIT)?, config, 1, &Open)?;
-    assert!(rt; report.journal.len() == 1);
-    check_replay(&rt, alloc, &EXIT, config, &report)
+    let report = ran_and_replayed(&rt, &EXIT, config_of(1, 16), 1, &Open)?;
+    same(&rt, report.journal.len(), 1);
+    Ok(())
 }
 
 #[test]
 fn a_hart_spins_while_another_exits(rt: HostRuntime) -> Result<(), Fail> {
-    let alloc: Global = rt.alloc();
-    let config = config_of(2, 16);
-    let report = run(
-        &rt,
-        alloc,
-        image_of(alloc, &ONE_EXITS)?,
-        config,
-        1000,
-        &Open,
-    )?;
-    assert!(rt; report.trace.statuses().len() == 2);
-    assert!(rt; report.trace.statuses()[1] == Status::Running);
-    check_replay(&rt, alloc, &ONE_EXITS, config, &report)
+    let report = ran_and_replayed(&rt, &ONE_EXITS, config_of(2, 16), 1000, &Open)?;
+    same(&rt, report.trace.statuses().len(), 2);
+    let last = report.trace.statuses().last().copied();
+    same(&rt, last, Some(Status::Running));
+    Ok(())
 }
+
+const STEP: Event = Event::Step { hart: 0 };
+
+const ASKED: Event = Event::Deliver {
+    channel: Channel::A,
+    hart: 0,
+};
+
+const GIVEN_BACK: Event = Event::Deliver {
+    channel: Channel::C,
+    hart: 0,
+};
+
+const ANSWERED: Event = Event::Deliver {
+    channel: Channel::D,
+    hart: 0,
+};
+
+const THREE_LINES: [Event; 20] = [
+    Event::Local { hart: 0, count: 1 },
+    STEP,
+    ASKED,
+    ANSWERED,
+    STEP,
+    EMPTY,
+    STEP,
+    ASKED,
+    ANSWERED,
+    STEP,
+    EMPTY,
+    Event::Evict {
+        hart: 0,
+        line: 0x8000_0100,
+    },
+    GIVEN_BACK,
+    ANSWERED,
+    STEP,
+    ASKED,
+    ANSWERED,
+    STEP,
+    EMPTY,
+    STEP,
+];
 
 // Of a set of two lines, the lower one is given up for a third, though it came later.
 #[test]
 fn a_full_set_gives_its_lowest_line_up(rt: HostRuntime) -> Result<(), Fail> {
-    let alloc: Global = rt.alloc();
     let config = Config {
         sets: 1,
         ..config_of(1, 16)
     };
-    let image = image_of(alloc, &THREE_LOADS)?;
-    let report = run(&rt, alloc, image, config, LIMIT, &Open)?;
-    let deliver = |channel| Event::Deliver { channel, hart: 0 };
-    let step = Event::Step { hart: 0 };
-    let journal = [
-        Event::Local { hart: 0, count: 1 },
-        step,
-        deliver(Channel::A),
-        deliver(Channel::D),
-        step,
-        deliver(Channel::E),
-        step,
-        deliver(Channel::A),
-        deliver(Channel::D),
-        step,
-        deliver(Channel::E),
-        Event::Evict {
-            hart: 0,
-            line: 0x8000_0100,
-        },
-        deliver(Channel::C),
-        deliver(Channel::D),
-        step,
-        deliver(Channel::A),
-        deliver(Channel::D),
-        step,
-        deliver(Channel::E),
-        step,
-    ];
-    assert!(rt; report.journal.as_slice() == journal.as_slice());
+    let report = ran(&rt, &THREE_LOADS, config, LIMIT, &Open)?;
+    same(&rt, report.journal.as_slice(), &THREE_LINES);
     Ok(())
 }
 
+const NINTH_HART: Event = Event::Step { hart: 9 };
+
 #[test]
 fn a_bad_event_is_told(rt: HostRuntime) -> Result<(), Fail> {
-    let alloc: Global = rt.alloc();
-    let mut turns = Vec::new(alloc);
-    turns.push(Always(Event::Step { hart: 9 }))?;
-    let image = image_of(alloc, &EXIT)?;
-    let answer = run_with(&rt, alloc, image, config_of(1, 16), LIMIT, &Open, turns);
-    assert!(rt; answer.is_err_and(|error| error == RunError::BadEvent));
-    Ok(())
+    is_refused(&rt, &EXIT, 1, &[NINTH_HART], RunError::BadEvent)
 }
 
 // The other hart's thread would draw all numbers below the limit, were it not stopped.
 #[test]
 fn a_bad_event_ends_all_threads(rt: HostRuntime) -> Result<(), Fail> {
-    let alloc: Global = rt.alloc();
-    let mut turns = Vec::new(alloc);
-    turns.push(Always(Event::Step { hart: 9 }))?;
-    turns.push(Always(Event::Deliver {
+    let other = Event::Deliver {
         channel: Channel::E,
         hart: 1,
-    }))?;
-    let image = image_of(alloc, &SPIN)?;
-    let answer = run_with(&rt, alloc, image, config_of(2, 16), LIMIT, &Open, turns);
-    assert!(rt; answer.is_err_and(|error| error == RunError::BadEvent));
-    Ok(())
+    };
+    is_refused(&rt, &SPIN, 2, &[NINTH_HART, other], RunError::BadEvent)
 }
 
 #[test]
 fn a_bad_configuration_is_told(rt: HostRuntime) -> Result<(), Fail> {
-    let alloc: Global = rt.alloc();
-    let mut turns = Vec::new(alloc);
-    turns.push(Always(Event::Step { hart: 0 }))?;
-    let image = image_of(alloc, &EXIT)?;
-    let answer = run_with(&rt, alloc, image, config_of(2, 16), LIMIT, &Open, turns);
-    assert!(rt; answer.is_err_and(|error| error == RunError::Config));
-    let image = image_of(alloc, &EXIT)?;
-    let answer = run(&rt, alloc, image, config_of(9, 16), LIMIT, &Open);
-    assert!(rt; answer.is_err_and(|error| error.number() == 1));
+    is_refused(&rt, &EXIT, 2, &[STEP], RunError::Config)?;
+    let image = image_of(rt.alloc(), &EXIT)?;
+    let answer = run(&rt, rt.alloc(), image, config_of(9, 16), LIMIT, &Open);
+    same(&rt, answer.err().map(|error| error.number()), Some(1));
     Ok(())
 }
