@@ -1,7 +1,8 @@
 //! Worked rows, with the values that the manual and other implementations give.
-use crate::same::same;
+use crate::same::{same, same_of};
 use rv32_decode::{Instr, Register, RegisterOp, decode};
 use rv32_exec::*;
+use std::process::Abort;
 use std::test::Fail;
 
 const PC: u32 = 0x8000_0000;
@@ -27,37 +28,56 @@ fn planned(word: u32) -> Option<Action> {
     Some(plan(&instr, PC, &Regs::new(), 4096))
 }
 
+/// An operation, its two numbers and its result.
+type Computed = (RegisterOp, u32, u32, u32);
+
+fn computes(rt: &impl Abort, rows: &[Computed]) {
+    for (op, a, b, want) in rows {
+        same_of(rt, computed(*op, *a, *b), *want, op);
+    }
+}
+
+const ROW_3: [Computed; 4] = [
+    (RegisterOp::Div, 0x8000_0000, 0xffff_ffff, 0x8000_0000),
+    (RegisterOp::Rem, 0x8000_0000, 0xffff_ffff, 0),
+    (RegisterOp::Divu, 7, 0, 0xffff_ffff),
+    (RegisterOp::Remu, 7, 0, 7),
+];
+
 #[test]
 fn row_3(rt: HostRuntime) {
-    same(
-        &rt,
-        computed(RegisterOp::Div, 0x8000_0000, 0xffff_ffff),
-        0x8000_0000,
-    );
-    same(&rt, computed(RegisterOp::Rem, 0x8000_0000, 0xffff_ffff), 0);
-    same(&rt, computed(RegisterOp::Divu, 7, 0), 0xffff_ffff);
-    same(&rt, computed(RegisterOp::Remu, 7, 0), 7);
+    computes(&rt, &ROW_3);
 }
+
+/// Words, and the plan of each.
+const ROW_28: [(u32, Option<Action>); 7] = [
+    (0x0020_0067, Some(Action::Stop(0))),
+    (0x0020_00ef, Some(Action::Stop(0))),
+    (0x0000_0163, Some(Action::Stop(0))),
+    (0x0000_1163, Some(Action::Private)),
+    (0x0010_0073, Some(Action::Stop(3))),
+    (0x0000_0067, Some(Action::Private)),
+    (0x4000_1013, None),
+];
 
 #[test]
 fn row_28(rt: HostRuntime) {
-    same(&rt, planned(0x0020_0067), Some(Action::Stop(0)));
-    same(&rt, planned(0x0020_00ef), Some(Action::Stop(0)));
-    same(&rt, planned(0x0000_0163), Some(Action::Stop(0)));
-    same(&rt, planned(0x0000_1163), Some(Action::Private));
-    same(&rt, planned(0x0010_0073), Some(Action::Stop(3)));
-    same(&rt, planned(0x0000_0067), Some(Action::Private));
-    assert!(rt; decode(0x4000_1013).is_none());
+    for (word, want) in &ROW_28 {
+        same_of(&rt, planned(*word), *want, word);
+    }
 }
+
+const ROW_29: [Computed; 5] = [
+    (RegisterOp::Mulhsu, 0xffff_ffff, 0xffff_ffff, 0xffff_ffff),
+    (RegisterOp::Mulhu, 0xffff_ffff, 0xffff_ffff, 0xffff_fffe),
+    (RegisterOp::Mulh, 0xffff_ffff, 0xffff_ffff, 0),
+    (RegisterOp::Sra, 0x8000_0000, 33, 0xc000_0000),
+    (RegisterOp::Srl, 0x8000_0000, 33, 0x4000_0000),
+];
 
 #[test]
 fn row_29(rt: HostRuntime) {
-    let ones = 0xffff_ffff;
-    same(&rt, computed(RegisterOp::Mulhsu, ones, ones), 0xffff_ffff);
-    same(&rt, computed(RegisterOp::Mulhu, ones, ones), 0xffff_fffe);
-    same(&rt, computed(RegisterOp::Mulh, ones, ones), 0);
-    same(&rt, computed(RegisterOp::Sra, 0x8000_0000, 33), 0xc000_0000);
-    same(&rt, computed(RegisterOp::Srl, 0x8000_0000, 33), 0x4000_0000);
+    computes(&rt, &ROW_29);
 }
 
 #[test]

@@ -1,4 +1,6 @@
 //! Rows of private instructions, worked by hand.
+ghost use Rattle.std.specs.Prelude.{◌≤◌};
+
 use crate::same::same;
 use elf_loader::{Image, raw, size_of_kib};
 use hart::{Hart, Status, run_local};
@@ -14,23 +16,32 @@ fn image_of(alloc: Global, words: &[u32]) -> Result<Image, Fail> {
     Ok(raw(alloc, &bytes, size)?)
 }
 
+const ROW_39: [u32; 7] = [
+    0x80000637, 0x00100693, 0x10d62023, 0x0110000f, 0x00200693, 0x10d62023, 0x10062703,
+];
+
+/// How many instructions a hart retires by itself.
+fn local_count(alloc: Global, image: &Image, hart: &Hart, limit: u32) -> Result<usize, Fail>
+    requires some { 1 ≤ limit }
+    requires few { limit ≤ 256 }
+{
+    let run = run_local(alloc, image, hart, limit)?;
+    Ok(run.entries().len())
+}
+
 #[test]
 fn row_39(rt: HostRuntime) -> Result<(), Fail> {
-    let image = image_of(
-        rt.alloc(),
-        &[
-            0x80000637, 0x00100693, 0x10d62023, 0x0110000f, 0x00200693, 0x10d62023, 0x10062703,
-        ],
-    )?;
+    let image = image_of(rt.alloc(), &ROW_39)?;
     let reset = Hart::at_reset(0, 0x8000_0000, 1);
     let long = run_local(rt.alloc(), &image, &reset, 256)?;
     same(&rt, long.entries().len(), 2);
-    same(&rt, long.first().pc, 0x8000_0000);
-    same(&rt, long.last().pc, 0x8000_0008);
-    let short = run_local(rt.alloc(), &image, &reset, 1)?;
-    same(&rt, short.entries().len(), 1);
-    let store_next = run_local(rt.alloc(), &image, long.last(), 256)?;
-    same(&rt, store_next.entries().len(), 0);
+    same(
+        &rt,
+        (long.first().pc, long.last().pc),
+        (0x8000_0000, 0x8000_0008),
+    );
+    same(&rt, local_count(rt.alloc(), &image, &reset, 1)?, 1);
+    same(&rt, local_count(rt.alloc(), &image, long.last(), 256)?, 0);
     Ok(())
 }
 
@@ -38,11 +49,9 @@ fn row_39(rt: HostRuntime) -> Result<(), Fail> {
 fn row_39_exits(rt: HostRuntime) -> Result<(), Fail> {
     let image = image_of(rt.alloc(), &[0x00000073, 0x00000013])?;
     let mut hart = Hart::at_reset(0, 0x8000_0000, 1);
-    let call_next = run_local(rt.alloc(), &image, &hart, 256)?;
-    same(&rt, call_next.entries().len(), 0);
+    same(&rt, local_count(rt.alloc(), &image, &hart, 256)?, 0);
     hart.pc = 0x8000_0004;
     hart.status = Status::Exited(0);
-    let ended = run_local(rt.alloc(), &image, &hart, 256)?;
-    same(&rt, ended.entries().len(), 0);
+    same(&rt, local_count(rt.alloc(), &image, &hart, 256)?, 0);
     Ok(())
 }

@@ -8,3 +8,8 @@ use std::process::Abort;
 pub fn same<T: PartialEq + Debug + Drop>(rt: &impl Abort, got: T, want: T) {
     assert_eq!(rt; got, want);
 }
+
+/// Ends the test where the values differ, and tells too what they are of.
+pub fn same_of<T: PartialEq + Debug + Drop, S: Debug>(rt: &impl Abort, got: T, want: T, of: &S) {
+    assert_eq!(rt; got, want, "of {of:?}");
+}
