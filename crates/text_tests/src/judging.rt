@@ -2,13 +2,13 @@
 mod plain;
 
 use crate::same::same;
-use elf_loader::{raw, size_of_kib};
+use crate::streams::image_of;
 use hart::{Retired, Status};
 use rvwmo_order::{CheckError, Verdict, check, completed};
-use std::alloc::Global;
+use std::alloc::{AllocError, Global};
 use std::test::Fail;
 use tl_types::LineSize;
-use trace_recorder::{Trace, are_within_limits};
+use trace_recorder::{OpId, Trace, are_within_limits};
 
 /// `lui a2, 0x80000`, `sw a3, 0x100(a2)` and a jump back to the store.
 const PROGRAM: [u32; 3] = [0x8000_0637, 0x10d6_2023, 0xffdf_f06f];
@@ -22,26 +22,26 @@ fn retired(pc: u32, word: u32) -> Retired {
     }
 }
 
-/// A hart that stores to one word so many times, in a loop, and none of its stores is performed.
-fn stores(alloc: Global, count: usize) -> Result<Trace, Fail> {
-    let size = size_of_kib(4).ok_or("a size")?;
-    let mut bytes = Vec::new(alloc);
-    for word in PROGRAM {
-        bytes.extend_from_slice(&word.to_le_bytes())?;
-    }
+/// What a hart has retired that runs the program so far, with so many stores.
+fn entries_of(alloc: Global, count: usize) -> Result<Vec<Retired>, AllocError> {
     let mut entries = Vec::new(alloc);
     entries.push(retired(0x8000_0000, PROGRAM[0]))?;
     for _ in 0..count {
         entries.push(retired(0x8000_0004, PROGRAM[1]))?;
         entries.push(retired(0x8000_0008, PROGRAM[2]))?;
     }
-    let mut harts = Vec::new(alloc);
-    harts.push(entries)?;
+    Ok(entries)
+}
+
+/// A hart that stores to one word so many times, in a loop, and none of its stores is performed.
+fn stores(alloc: Global, count: usize) -> Result<Trace, Fail> {
+    let image = image_of(alloc, &PROGRAM)?;
+    let harts = vec![in alloc; entries_of(alloc, count)?]?;
     if !are_within_limits(&harts) {
         return Err(Fail::from("too many stores"));
     }
     Ok(Trace::from_parts(
-        raw(alloc, &bytes, size)?,
+        image,
         LineSize::Bytes16,
         harts,
         vec![in alloc; Status::Running; 1]?,
@@ -50,17 +50,19 @@ fn stores(alloc: Global, count: usize) -> Result<Trace, Fail> {
     ))
 }
 
+fn judged(alloc: Global, trace: &Trace, order: &[OpId]) -> Result<Verdict, CheckError> {
+    check(alloc, trace, order)
+}
+
 #[test]
 fn as_many_operations_as_are_judged(rt: HostRuntime) -> Result<(), Fail> {
     let trace = stores(rt.alloc(), 4096)?;
     let order = completed(rt.alloc(), &trace)?;
-    assert_eq!(rt; order.len(), 4096);
-    same(&rt, check(rt.alloc(), &trace, &order), Ok(Verdict::Legal));
-    same(
-        &rt,
-        check(rt.alloc(), &trace, &order[1..]),
-        Err(CheckError::NotAnOrder),
-    );
+    same(&rt, order.len(), 4096);
+    let whole = judged(rt.alloc(), &trace, &order);
+    same(&rt, whole, Ok(Verdict::Legal));
+    let without_one = judged(rt.alloc(), &trace, order.get(1..).ok_or("an order")?);
+    same(&rt, without_one, Err(CheckError::NotAnOrder));
     Ok(())
 }
 
@@ -68,15 +70,9 @@ fn as_many_operations_as_are_judged(rt: HostRuntime) -> Result<(), Fail> {
 fn one_operation_more(rt: HostRuntime) -> Result<(), Fail> {
     let trace = stores(rt.alloc(), 4097)?;
     let order = completed(rt.alloc(), &trace)?;
-    same(
-        &rt,
-        check(rt.alloc(), &trace, &order),
-        Err(CheckError::TooLong),
-    );
-    same(
-        &rt,
-        check(rt.alloc(), &trace, &[]),
-        Err(CheckError::TooLong),
-    );
+    let whole = judged(rt.alloc(), &trace, &order);
+    same(&rt, whole, Err(CheckError::TooLong));
+    let none = judged(rt.alloc(), &trace, &[]);
+    same(&rt, none, Err(CheckError::TooLong));
     Ok(())
 }

@@ -18,3 +18,5 @@ mod states;
 mod streams;
 #[cfg(test)]
 mod traces;
+#[cfg(test)]
+mod writers;

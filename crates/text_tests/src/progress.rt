@@ -1,11 +1,11 @@
 //! The line's texts, and when they come.
 
+use crate::same::{same, same_of};
 use progress_line::{Progress, ProgressLine, Silent, Stage};
 use std::alloc::Global;
 use std::cell::{Cell, RefCell};
 use std::fmt::Display;
 use std::io::{self, Eprint, ErrorKind, Write};
-use std::process::Abort;
 use std::test::Fail;
 use std::time::{Clock, Duration};
 
@@ -45,6 +45,13 @@ impl Desk {
         }
     }
 
+    /// The clock is set, and what was written taken away.
+    fn turn_to(&self, millis: u64) -> Result<(), Fail> {
+        self.millis.set(millis);
+        self.written.try_borrow_mut()?.clear();
+        Ok(())
+    }
+
     fn holds(&self, text: &str) -> Result<bool, Fail> {
         Ok(self.written.try_borrow()?.as_slice() == text.as_bytes())
     }
@@ -71,42 +78,57 @@ const TIMES: [(u64, bool); 8] = [
 fn a_line_comes_twice_a_second(rt: HostRuntime) -> Result<(), Fail> {
     let desk = Desk::new(rt.alloc(), 70);
     let progress = Some(ProgressLine::start(&desk)?);
-    for (millis, is_due) in TIMES {
-        desk.millis.set(millis.wrapping_add(70));
-        desk.written.try_borrow_mut()?.clear();
+    for (millis, is_due) in &TIMES {
+        desk.turn_to(millis.wrapping_add(70))?;
         progress.tell(RUN);
-        let is_told = !desk.written.try_borrow()?.is_empty();
-        assert_eq!(rt; is_told, is_due, "after {millis} ms");
+        same_of(&rt, desk.holds("")?, !*is_due, millis);
     }
     Ok(())
 }
+
+const EXPLORE: Stage<'static> = Stage::Explore {
+    states: 1_000_000,
+    outcomes: 3,
+};
+
+const SAMPLE: Stage<'static> = Stage::Sample {
+    runs: 50_000,
+    ends: 4,
+};
+
+/// Milliseconds since the start, what is told then, and the line.
+const LINES: [(u64, Stage<'static>, &str); 3] = [
+    (
+        12_000,
+        RUN,
+        "12 s, 12M events, retired 0 9999 10k 1000k 10M\x1b[K\r",
+    ),
+    (
+        20_000,
+        EXPLORE,
+        "20 s, 1000k states (50k a second), 3 outcomes\x1b[K\r",
+    ),
+    (
+        25_000,
+        SAMPLE,
+        "25 s, 50k runs (2000 a second), 4 ends\x1b[K\r",
+    ),
+];
 
 #[test]
 fn lines_are_short(rt: HostRuntime) -> Result<(), Fail> {
     let desk = Desk::new(rt.alloc(), 0);
     let progress = ProgressLine::start(&desk)?;
     progress.end();
-    assert!(rt; desk.holds("")?);
-    desk.millis.set(12_000);
-    progress.tell(RUN);
-    assert!(rt; desk.holds("12 s, 12M events, retired 0 9999 10k 1000k 10M\x1b[K\r")?);
-    desk.written.try_borrow_mut()?.clear();
-    desk.millis.set(20_000);
-    progress.tell(Stage::Explore {
-        states: 1_000_000,
-        outcomes: 3,
-    });
-    assert!(rt; desk.holds("20 s, 1000k states (50k a second), 3 outcomes\x1b[K\r")?);
-    desk.written.try_borrow_mut()?.clear();
-    desk.millis.set(25_000);
-    progress.tell(Stage::Sample {
-        runs: 50_000,
-        ends: 4,
-    });
-    assert!(rt; desk.holds("25 s, 50k runs (2000 a second), 4 ends\x1b[K\r")?);
-    desk.written.try_borrow_mut()?.clear();
+    same(&rt, desk.holds("")?, true);
+    for (millis, stage, line) in &LINES {
+        desk.turn_to(*millis)?;
+        progress.tell(*stage);
+        same_of(&rt, desk.holds(line)?, true, millis);
+    }
+    desk.turn_to(25_000)?;
     progress.end();
-    assert!(rt; desk.holds("\x1b[K")?);
+    same(&rt, desk.holds("\x1b[K")?, true);
     Silent.tell(RUN);
     Silent.end();
     Ok(())

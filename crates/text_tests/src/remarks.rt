@@ -88,15 +88,26 @@ const SCRIPTS: [(&str, &str); 23] = [
     ),
 ];
 
+/// The remark's text.
+fn says<T: Display>(rt: &impl Abort, alloc: Global, remark: &T, text: &str) -> Result<(), Fail> {
+    let told = format!(in alloc; "{remark}")?;
+    same(rt, told.as_str(), text);
+    Ok(())
+}
+
+/// The script is refused, and so much is remarked of it.
+fn script_is_refused(rt: &impl Abort, alloc: Global, script: &str, text: &str) -> Result<(), Fail> {
+    let bytes = script.as_bytes();
+    let Err(error) = read_script(alloc, bytes) else {
+        panic!(rt; "a script is read, of which is wanted: {text}")
+    };
+    says(rt, alloc, &ScriptRemark { bytes, error }, text)
+}
+
 #[test]
 fn scripts(rt: HostRuntime) -> Result<(), Fail> {
-    for (text, remark) in SCRIPTS {
-        let bytes = text.as_bytes();
-        let Err(error) = read_script(rt.alloc(), bytes) else {
-            panic!(rt; "{text} is read")
-        };
-        let told = format!(in rt.alloc(); "{}", ScriptRemark { bytes, error })?;
-        same(&rt, told.as_str(), remark);
+    for (script, text) in &SCRIPTS {
+        script_is_refused(&rt, rt.alloc(), script, text)?;
     }
     Ok(())
 }
@@ -153,15 +164,19 @@ const TRACES: [(&str, &str); 12] = [
     ),
 ];
 
+/// The trace is refused, and so much is remarked of it.
+fn trace_is_refused(rt: &impl Abort, alloc: Global, trace: &str, text: &str) -> Result<(), Fail> {
+    let bytes = trace.as_bytes();
+    let Err(error) = read_trace(alloc, bytes) else {
+        panic!(rt; "a trace is read, of which is wanted: {text}")
+    };
+    says(rt, alloc, &TraceRemark { bytes, error }, text)
+}
+
 #[test]
 fn traces(rt: HostRuntime) -> Result<(), Fail> {
-    for (text, remark) in TRACES {
-        let bytes = text.as_bytes();
-        let Err(error) = read_trace(rt.alloc(), bytes) else {
-            panic!(rt; "{text} is read")
-        };
-        let told = format!(in rt.alloc(); "{}", TraceRemark { bytes, error })?;
-        same(&rt, told.as_str(), remark);
+    for (trace, text) in &TRACES {
+        trace_is_refused(&rt, rt.alloc(), trace, text)?;
     }
     Ok(())
 }
@@ -169,16 +184,9 @@ fn traces(rt: HostRuntime) -> Result<(), Fail> {
 #[test]
 fn what_stands_behind_a_trace(rt: HostRuntime) -> Result<(), Fail> {
     let bytes = b"rvtl-trace 1\nT 1 4 0x80000000\nH 0 run\nH 0 run\n".as_slice();
-    let Ok((_, length)) = read_trace(rt.alloc(), bytes) else {
-        panic!(rt; "a trace is refused")
-    };
-    let told = format!(in rt.alloc(); "{}", BehindRemark { bytes, length })?;
-    same(
-        &rt,
-        told.as_str(),
-        "line 4, `H 0 run`, stands behind the last hart's H line, which ends a trace",
-    );
-    Ok(())
+    let (_, length) = read_trace(rt.alloc(), bytes)?;
+    let text = "line 4, `H 0 run`, stands behind the last hart's H line, which ends a trace";
+    says(&rt, rt.alloc(), &BehindRemark { bytes, length }, text)
 }
 
 /// The head of an ELF file for RISC-V in 32 bits, little-endian, with compressed and floating-point code.
@@ -214,37 +222,38 @@ const IMAGES: [(&[u8], bool, &str); 5] = [
 
 #[test]
 fn images(rt: HostRuntime) -> Result<(), Fail> {
-    for (bytes, is_raw, remark) in IMAGES {
-        is_refused(&rt, bytes, is_raw, remark)?;
+    for (bytes, is_raw, text) in &IMAGES {
+        image_is_refused(&rt, rt.alloc(), bytes, *is_raw, text)?;
     }
     Ok(())
 }
 
+/// The fault of the bytes as a program for 4 KiB of memory.
+fn image_fault(alloc: Global, bytes: &[u8], is_raw: bool) -> Option<LoadError> {
+    if is_raw {
+        raw(alloc, bytes, 4096).err()
+    } else {
+        load(alloc, bytes, 4096).err()
+    }
+}
+
 /// The bytes are no program for 4 KiB of memory, and so much is remarked of them.
-fn is_refused(
-    rt: &(impl Abort + AllocGlobal),
+fn image_is_refused(
+    rt: &impl Abort,
+    alloc: Global,
     bytes: &[u8],
     is_raw: bool,
-    remark: &str,
+    text: &str,
 ) -> Result<(), Fail> {
-    let loaded = if is_raw {
-        raw(rt.alloc(), bytes, 4096)
-    } else {
-        load(rt.alloc(), bytes, 4096)
+    let Some(error) = image_fault(alloc, bytes, is_raw) else {
+        panic!(rt; "a program is loaded, of which is wanted: {text}")
     };
-    let Err(error) = loaded else {
-        panic!(rt; "a program is loaded")
+    let remark = ImageRemark {
+        bytes,
+        is_raw,
+        error,
     };
-    let told = format!(in rt.alloc();
-        "{}",
-        ImageRemark {
-            bytes,
-            is_raw,
-            error
-        }
-    )?;
-    same(rt, told.as_str(), remark);
-    Ok(())
+    says(rt, alloc, &remark, text)
 }
 
 /// An ELF file of one segment: four bytes of the file, behind its headers, at 0x80000000.
@@ -315,12 +324,15 @@ const CHANGES: [(usize, u8, &str); 14] = [
 
 #[test]
 fn linked_files(rt: HostRuntime) -> Result<(), Fail> {
-    for (at, byte, remark) in CHANGES {
-        let mut bytes = LINKED;
-        bytes[at] = byte;
-        is_refused(&rt, &bytes, false, remark)?;
+    for (at, byte, text) in &CHANGES {
+        let mut bytes = LINKED.to_vec(rt.alloc())?;
+        if let Some(changed) = bytes.get_mut(*at) {
+            *changed = *byte;
+        }
+        image_is_refused(&rt, rt.alloc(), &bytes, false, text)?;
     }
-    assert!(rt; load(rt.alloc(), &LINKED, 4096).is_ok());
+    let fault = image_fault(rt.alloc(), &LINKED, false);
+    same(&rt, fault, None);
     Ok(())
 }
 
@@ -360,25 +372,20 @@ fn events(rt: HostRuntime) -> Result<(), Fail> {
         line: 16,
         events: Events::new(Vec::new(rt.alloc())),
     };
-    for (event, remark) in EVENTS {
-        let told = format!(in rt.alloc();
-            "{}",
-            EventRemark {
-                event,
-                script: &script
-            }
-        )?;
-        same(&rt, told.as_str(), remark);
+    for (event, text) in &EVENTS {
+        let remark = EventRemark {
+            event: *event,
+            script: &script,
+        };
+        says(&rt, rt.alloc(), &remark, text)?;
     }
     Ok(())
 }
 
 #[test]
 fn files(rt: HostRuntime) -> Result<(), Fail> {
-    let error = io::Error::from(ErrorKind::NotFound);
-    let told = format!(in rt.alloc(); "{}", FileRemark(error))?;
-    same(&rt, told.as_str(), "there is no such file or folder");
-    Ok(())
+    let remark = FileRemark(io::Error::from(ErrorKind::NotFound));
+    says(&rt, rt.alloc(), &remark, "there is no such file or folder")
 }
 
 /// Sizes that no machine has, and what is remarked of each; the last one is a machine's.
@@ -396,18 +403,16 @@ const SIZES: [([u32; 5], &str); 6] = [
 
 #[test]
 fn sizes(rt: HostRuntime) -> Result<(), Fail> {
-    for ([harts, memory, sets, ways, line], remark) in SIZES {
-        let told = format!(in rt.alloc();
-            "{}",
-            SizeRemark {
-                harts,
-                memory,
-                sets,
-                ways,
-                line,
-            }
-        )?;
-        same(&rt, told.as_str(), remark);
+    for (size, text) in &SIZES {
+        let [harts, memory, sets, ways, line] = *size;
+        let remark = SizeRemark {
+            harts,
+            memory,
+            sets,
+            ways,
+            line,
+        };
+        says(&rt, rt.alloc(), &remark, text)?;
     }
     Ok(())
 }

@@ -1,6 +1,6 @@
 //! Words that the GNU assembler makes of the texts.
 
-use crate::same::same;
+use crate::same::{same, same_of};
 use assembly::spell_assembly;
 use rv32_decode::decode;
 use std::alloc::Global;
@@ -119,18 +119,18 @@ fn text_of(alloc: Global, word: u32, pc: Option<u32>) -> Result<Vec<u8>, Fail> {
 
 #[test]
 fn texts_are_what_the_assembler_reads(rt: HostRuntime) -> Result<(), Fail> {
-    for (word, text) in ROWS {
-        let spelled = text_of(rt.alloc(), word, None)?;
-        same(&rt, spelled.as_slice(), text.as_bytes());
+    for (word, text) in &ROWS {
+        let spelled = text_of(rt.alloc(), *word, None)?;
+        same_of(&rt, spelled.as_slice(), text.as_bytes(), text);
     }
     Ok(())
 }
 
 #[test]
 fn jumps_lead_where_the_disassembler_says(rt: HostRuntime) -> Result<(), Fail> {
-    for (pc, word, text) in TARGETS {
-        let spelled = text_of(rt.alloc(), word, Some(pc))?;
-        same(&rt, spelled.as_slice(), text.as_bytes());
+    for (pc, word, text) in &TARGETS {
+        let spelled = text_of(rt.alloc(), *word, Some(*pc))?;
+        same_of(&rt, spelled.as_slice(), text.as_bytes(), text);
     }
     Ok(())
 }

@@ -2,11 +2,14 @@
 ghost use Rattle.std.specs.Prelude.{IfOk};
 ghost use Rattle.coherent_machine.specs.Machine.{IsReached};
 
-use super::streams::{Narrow, config_of, image_of};
+use super::streams::{config_of, image_of};
+use crate::same::{same, same_of};
+use crate::writers::Narrow;
 use coherent_machine::Machine;
 use elf_symbols::Symbols;
 use event_stream::{Strictness, write_state, write_stream};
 use std::alloc::Global;
+use std::io::Write;
 use std::test::Fail;
 use trace_text::read_script;
 
@@ -145,47 +148,49 @@ fn machine_behind(alloc: Global, words: &[u32], script: &str) -> Result<Machine,
     let events = script.events.as_slice();
     let names = Symbols::new(alloc);
     let mut out = Vec::new(alloc);
-    match write_stream(
-        alloc,
-        image,
-        config,
-        events,
-        Strictness::Strict,
-        &names,
-        &mut out,
-    ) {
+    let how = Strictness::Strict;
+    match write_stream(alloc, image, config, events, how, &names, &mut out) {
         Ok(machine) => Ok(machine),
         Err(_) => Err(Fail::from("a whole stream")),
     }
 }
 
+/// Whether all that the machine holds behind a script is written.
+fn tells_state<W: Write>(
+    alloc: Global,
+    words: &[u32],
+    script: &str,
+    out: &mut W,
+) -> Result<bool, Fail> {
+    let machine = machine_behind(alloc, words, script)?;
+    Ok(write_state(&machine, out).is_ok())
+}
+
+/// A program, a script, and what the machine then holds.
+const CASES: [(&[u32], &str, &str); 3] = [
+    (&STORES, STORES_SCRIPT, STORES_STATE),
+    (&RESERVED, RESERVED_SCRIPT, RESERVED_STATE),
+    (&WIDE, WIDE_SCRIPT, WIDE_STATE),
+];
+
 #[test]
 fn all_that_a_machine_holds_is_told(rt: HostRuntime) -> Result<(), Fail> {
-    let cases = [
-        (STORES.as_slice(), STORES_SCRIPT, STORES_STATE),
-        (&RESERVED, RESERVED_SCRIPT, RESERVED_STATE),
-        (&WIDE, WIDE_SCRIPT, WIDE_STATE),
-    ];
-    for (words, script, text) in cases {
-        let machine = machine_behind(rt.alloc(), words, script)?;
+    for (words, script, text) in &CASES {
         let mut out = Vec::new(rt.alloc());
-        write_state(&machine, &mut out)?;
-        assert_eq!(rt; out.as_slice(), text.as_bytes());
+        same(&rt, tells_state(rt.alloc(), words, script, &mut out)?, true);
+        same(&rt, out.as_slice(), text.as_bytes());
     }
     Ok(())
 }
 
 #[test]
 fn a_beginning_of_a_state_goes_out_before_a_fault(rt: HostRuntime) -> Result<(), Fail> {
-    let machine = machine_behind(rt.alloc(), &STORES, STORES_SCRIPT)?;
     for room in 0..STORES_STATE.len() {
-        let mut out = Narrow {
-            room,
-            taken: Vec::new(rt.alloc()),
-        };
-        assert!(rt; write_state(&machine, &mut out).is_err());
-        let (front, _) = STORES_STATE.as_bytes().split_at(room);
-        assert_eq!(rt; out.taken.as_slice(), front);
+        let mut out = Narrow::new(rt.alloc(), room, true);
+        let is_told = tells_state(rt.alloc(), &STORES, STORES_SCRIPT, &mut out)?;
+        same_of(&rt, is_told, false, &room);
+        let front = STORES_STATE.as_bytes().get(..room);
+        same_of(&rt, Some(out.taken.as_slice()), front, &room);
     }
     Ok(())
 }

@@ -1,14 +1,15 @@
 //! Whole streams of small programs, where they end, and writers that fail.
 
-use crate::same::same;
-use coherent_machine::ApplyError;
+use crate::same::{same, same_of};
+use crate::writers::Narrow;
 use elf_loader::{Image, raw, size_of_kib};
 use elf_symbols::Symbols;
 use event_stream::{StreamError, Strictness, write_stream};
 use machine_model::MemoryModel;
-use machine_types::{Config, Event, Outcome};
+use machine_types::{Config, Event};
 use std::alloc::Global;
-use std::io::{Error, ErrorKind, Result as IoResult, Write};
+use std::io::Write;
+use std::process::Abort;
 use std::test::Fail;
 use tl_types::Channel;
 
@@ -178,8 +179,8 @@ E 2 step 0 Stopped 3
 H 0 stop 3 ; EBREAK ; ebreak
 ";
 
-pub(crate) fn image_of(alloc: Global, words: &[u32]) -> Result<Image, Fail> {
-    let size = size_of_kib(4).ok_or("a size")?;
+pub(crate) fn image_of_kib(alloc: Global, words: &[u32], kib: u32) -> Result<Image, Fail> {
+    let size = size_of_kib(kib).ok_or("a size")?;
     let mut bytes = Vec::new(alloc);
     for word in words {
         bytes.extend_from_slice(&word.to_le_bytes())?;
@@ -187,212 +188,169 @@ pub(crate) fn image_of(alloc: Global, words: &[u32]) -> Result<Image, Fail> {
     Ok(raw(alloc, &bytes, size)?)
 }
 
+pub(crate) fn image_of(alloc: Global, words: &[u32]) -> Result<Image, Fail> {
+    image_of_kib(alloc, words, 4)
+}
+
+/// One hart, and lines of 16 bytes.
+const SMALL: Config = Config {
+    harts: 1,
+    sets: 4,
+    ways: 2,
+    line: 16,
+    model: MemoryModel::Rvwmo,
+};
+
 pub(crate) fn config_of(harts: u32, line: u32) -> Config {
     Config {
         harts,
-        sets: 4,
-        ways: 2,
         line,
-        model: MemoryModel::Rvwmo,
+        ..SMALL
     }
 }
 
-/// Takes no more than there is room for, and fails behind it.
-#[derive(Drop)]
-pub(crate) struct Narrow {
-    pub(crate) room: usize,
-    pub(crate) taken: Vec<u8>,
+/// Writes the stream of a program's events.
+fn tell<W: Write>(
+    alloc: Global,
+    words: &[u32],
+    config: Config,
+    events: &[Event],
+    strictness: Strictness,
+    out: &mut W,
+) -> Result<Result<(), StreamError>, Fail> {
+    let image = image_of(alloc, words)?;
+    let names = Symbols::new(alloc);
+    match write_stream(alloc, image, config, events, strictness, &names, out) {
+        Ok(_) => Ok(Ok(())),
+        Err(error) => Ok(Err(error)),
+    }
 }
 
-impl Write for Narrow {
-    fn write(&mut self, buf: &[u8]) -> IoResult<usize> {
-        let count = buf.len().min(self.room);
-        if count == 0 {
-            return Err(Error::from(ErrorKind::BrokenPipe));
-        }
-        let (front, _) = buf.split_at(count);
-        if self.taken.extend_from_slice(front).is_err() {
-            return Err(Error::from(ErrorKind::OutOfMemory));
-        }
-        self.room -= count;
-        Ok(count)
-    }
+/// The stream of a program's events is whole.
+fn is_told(
+    rt: &impl Abort,
+    alloc: Global,
+    words: &[u32],
+    config: Config,
+    events: &[Event],
+    strictness: Strictness,
+    stream: &str,
+) -> Result<(), Fail> {
+    let mut out = Vec::new(alloc);
+    let told = tell(alloc, words, config, events, strictness, &mut out)?;
+    same(rt, told.is_ok(), true);
+    same(rt, out.as_slice(), stream.as_bytes());
+    Ok(())
+}
 
-    fn flush(&mut self) -> IoResult<()> {
-        Ok(())
-    }
+/// The stream of the load's events ends before one of them, for a reason that is named.
+fn ends_before(
+    rt: &impl Abort,
+    alloc: Global,
+    events: &[Event],
+    strictness: Strictness,
+    reason: &str,
+) -> Result<(), Fail> {
+    let mut out = Vec::new(alloc);
+    let told = tell(alloc, &LOAD, SMALL, events, strictness, &mut out)?;
+    let named = format!(in alloc; "{told:?}")?;
+    same(rt, named.as_str(), reason);
+    same(rt, out.as_slice(), STRICT_STREAM.as_bytes());
+    Ok(())
 }
 
 #[test]
 fn a_stream_has_each_line_below_its_event(rt: HostRuntime) -> Result<(), Fail> {
-    let image = image_of(rt.alloc(), &LOAD)?;
-    let mut out = Vec::new(rt.alloc());
-    let config = config_of(1, 16);
-    let told = write_stream(
-        rt.alloc(),
-        image,
-        config,
-        &LOAD_EVENTS,
-        Strictness::Strict,
-        &Symbols::new(rt.alloc()),
-        &mut out,
-    );
-    assert!(rt; told.is_ok());
-    same(&rt, out.as_slice(), LOAD_STREAM.as_bytes());
-    Ok(())
+    let (alloc, how) = (rt.alloc(), Strictness::Strict);
+    is_told(&rt, alloc, &LOAD, SMALL, &LOAD_EVENTS, how, LOAD_STREAM)
 }
 
 #[test]
 fn a_stream_tells_what_a_hart_puts_out(rt: HostRuntime) -> Result<(), Fail> {
-    let image = image_of(rt.alloc(), &OUTPUT)?;
-    let mut out = Vec::new(rt.alloc());
-    let config = config_of(5, 64);
-    let told = write_stream(
-        rt.alloc(),
-        image,
-        config,
+    let (alloc, how) = (rt.alloc(), Strictness::Lenient);
+    let wide = config_of(5, 64);
+    is_told(
+        &rt,
+        alloc,
+        &OUTPUT,
+        wide,
         &OUTPUT_EVENTS,
-        Strictness::Lenient,
-        &Symbols::new(rt.alloc()),
-        &mut out,
-    );
-    assert!(rt; told.is_ok());
-    same(&rt, out.as_slice(), OUTPUT_STREAM.as_bytes());
-    Ok(())
+        how,
+        OUTPUT_STREAM,
+    )
 }
 
 #[test]
 fn a_lenient_stream_tells_events_that_change_nothing(rt: HostRuntime) -> Result<(), Fail> {
-    let image = image_of(rt.alloc(), &LOAD)?;
-    let mut out = Vec::new(rt.alloc());
-    let config = config_of(1, 16);
-    let told = write_stream(
-        rt.alloc(),
-        image,
-        config,
-        &IDLE_EVENTS,
-        Strictness::Lenient,
-        &Symbols::new(rt.alloc()),
-        &mut out,
-    );
-    assert!(rt; told.is_ok());
-    same(&rt, out.as_slice(), IDLE_STREAM.as_bytes());
-    Ok(())
+    let (alloc, how) = (rt.alloc(), Strictness::Lenient);
+    is_told(&rt, alloc, &LOAD, SMALL, &IDLE_EVENTS, how, IDLE_STREAM)
 }
 
 /// Harts at the end of a stream: before a fence, at a full set, and stopped.
 #[test]
 fn a_stream_ends_with_what_its_harts_wait_for(rt: HostRuntime) -> Result<(), Fail> {
-    let small = Config {
+    let (alloc, how) = (rt.alloc(), Strictness::Lenient);
+    let narrow = Config {
         sets: 1,
         ways: 1,
-        ..config_of(1, 16)
+        ..SMALL
     };
-    let cases = [
-        (
-            FENCED.as_slice(),
-            config_of(1, 16),
-            [STEP; 3].as_slice(),
-            FENCED_STREAM,
-        ),
-        (
-            NARROW.as_slice(),
-            small,
-            LOAD_EVENTS.as_slice(),
-            NARROW_STREAM,
-        ),
-        (&[0x0010_0073], config_of(1, 16), &[STEP], STOPPED_STREAM),
-    ];
-    for (words, config, events, text) in cases {
-        let image = image_of(rt.alloc(), words)?;
-        let mut out = Vec::new(rt.alloc());
-        let told = write_stream(
-            rt.alloc(),
-            image,
-            config,
-            events,
-            Strictness::Lenient,
-            &Symbols::new(rt.alloc()),
-            &mut out,
-        );
-        assert!(rt; told.is_ok());
-        same(&rt, out.as_slice(), text.as_bytes());
-    }
-    Ok(())
+    is_told(&rt, alloc, &FENCED, SMALL, &[STEP; 3], how, FENCED_STREAM)?;
+    is_told(
+        &rt,
+        alloc,
+        &NARROW,
+        narrow,
+        &LOAD_EVENTS,
+        how,
+        NARROW_STREAM,
+    )?;
+    is_told(
+        &rt,
+        alloc,
+        &[0x0010_0073],
+        SMALL,
+        &[STEP],
+        how,
+        STOPPED_STREAM,
+    )
 }
 
 #[test]
 fn a_strict_stream_ends_before_them(rt: HostRuntime) -> Result<(), Fail> {
-    let image = image_of(rt.alloc(), &LOAD)?;
-    let mut out = Vec::new(rt.alloc());
-    let config = config_of(1, 16);
-    match write_stream(
-        rt.alloc(),
-        image,
-        config,
-        &IDLE_EVENTS,
-        Strictness::Strict,
-        &Symbols::new(rt.alloc()),
-        &mut out,
-    ) {
-        Err(StreamError::Idle(index, outcome)) => {
-            same(&rt, index, 2);
-            same(&rt, outcome, Outcome::WaitGrant);
-        }
-        _ => return Err(Fail::from("an event that changes nothing")),
-    }
-    same(&rt, out.as_slice(), STRICT_STREAM.as_bytes());
-    Ok(())
+    let reason = "Err(Idle(2, WaitGrant))";
+    ends_before(&rt, rt.alloc(), &IDLE_EVENTS, Strictness::Strict, reason)
 }
 
 #[test]
 fn a_stream_ends_before_a_refused_event(rt: HostRuntime) -> Result<(), Fail> {
-    let image = image_of(rt.alloc(), &LOAD)?;
-    let mut out = Vec::new(rt.alloc());
-    let config = config_of(1, 16);
     let events = [STEP, STEP, Event::Step { hart: 1 }];
-    match write_stream(
-        rt.alloc(),
-        image,
-        config,
-        &events,
+    let reason = "Err(Refused(2, BadEvent))";
+    ends_before(&rt, rt.alloc(), &events, Strictness::Lenient, reason)
+}
+
+/// The writer's fault is told, and it was given the stream's beginning.
+fn breaks_off(rt: &impl Abort, alloc: Global, room: usize) -> Result<(), Fail> {
+    let mut out = Narrow::new(alloc, room, true);
+    let told = tell(
+        alloc,
+        &LOAD,
+        SMALL,
+        &LOAD_EVENTS,
         Strictness::Lenient,
-        &Symbols::new(rt.alloc()),
         &mut out,
-    ) {
-        Err(StreamError::Refused(index, error)) => {
-            same(&rt, index, 2);
-            same(&rt, error, ApplyError::BadEvent);
-        }
-        _ => return Err(Fail::from("a refused event")),
-    }
-    same(&rt, out.as_slice(), STRICT_STREAM.as_bytes());
+    )?;
+    let is_writers = matches!(told, Err(StreamError::Writing(_)));
+    same_of(rt, is_writers, true, &room);
+    let front = LOAD_STREAM.as_bytes().get(..room);
+    same_of(rt, Some(out.taken.as_slice()), front, &room);
     Ok(())
 }
 
 #[test]
 fn a_beginning_goes_out_before_a_fault(rt: HostRuntime) -> Result<(), Fail> {
     for room in 0..LOAD_STREAM.len() {
-        let image = image_of(rt.alloc(), &LOAD)?;
-        let mut out = Narrow {
-            room,
-            taken: Vec::new(rt.alloc()),
-        };
-        let config = config_of(1, 16);
-        match write_stream(
-            rt.alloc(),
-            image,
-            config,
-            &LOAD_EVENTS,
-            Strictness::Lenient,
-            &Symbols::new(rt.alloc()),
-            &mut out,
-        ) {
-            Err(StreamError::Writing(_)) => {}
-            _ => return Err(Fail::from("the writer's fault")),
-        }
-        let (front, _) = LOAD_STREAM.as_bytes().split_at(room);
-        same(&rt, out.taken.as_slice(), front);
+        breaks_off(&rt, rt.alloc(), room)?;
     }
     Ok(())
 }

@@ -3,25 +3,38 @@
 mod texts;
 
 use crate::same::{same, same_of};
+use crate::writers::{Interrupted, Narrow};
 use std::alloc::Global;
-use std::io::{Error, ErrorKind, Result as IoResult, Write};
+use std::io::Write;
+use std::process::Abort;
 use std::test::Fail;
-use texts::Answers;
-use trace_text::{TextCode, read_script, read_trace, write_script, write_trace};
+use texts::{Answers, Broken};
+use trace_text::{TextCode, TextError, read_script, read_trace, write_script, write_trace};
 
-/// The line and the code of the fault, or zeros.
-fn script_answer(alloc: Global, bytes: &[u8]) -> (usize, u8) {
-    match read_script(alloc, bytes) {
-        Ok(_) => (0, 0),
-        Err(fault) => (fault.line, fault.code.number()),
-    }
+/// The kinds of text.
+#[derive(Clone, Copy)]
+enum Kind {
+    Script,
+    Trace,
+}
+
+fn script_fault(alloc: Global, bytes: &[u8]) -> Option<TextError> {
+    read_script(alloc, bytes).err()
+}
+
+fn trace_fault(alloc: Global, bytes: &[u8]) -> Option<TextError> {
+    read_trace(alloc, bytes).err()
 }
 
 /// The line and the code of the fault, or zeros.
-fn trace_answer(alloc: Global, bytes: &[u8]) -> (usize, u8) {
-    match read_trace(alloc, bytes) {
-        Ok(_) => (0, 0),
-        Err(fault) => (fault.line, fault.code.number()),
+fn answer(alloc: Global, kind: Kind, bytes: &[u8]) -> (usize, u8) {
+    let fault = match kind {
+        Kind::Script => script_fault(alloc, bytes),
+        Kind::Trace => trace_fault(alloc, bytes),
+    };
+    match fault {
+        None => (0, 0),
+        Some(fault) => (fault.line, fault.code.number()),
     }
 }
 
@@ -34,239 +47,215 @@ fn expected(answers: Answers, place: usize) -> (usize, u8) {
     (0, 255)
 }
 
+/// Reads a script and spells it back: whether all of it was written.
+fn respell_script<W: Write>(alloc: Global, text: &[u8], out: &mut W) -> Result<bool, Fail> {
+    let script = read_script(alloc, text)?;
+    Ok(write_script(&script, out).is_ok())
+}
+
+/// The same of a trace, which has to end the text.
+fn respell_trace<W: Write>(alloc: Global, text: &[u8], out: &mut W) -> Result<bool, Fail> {
+    let (trace, length) = read_trace(alloc, text)?;
+    if length != text.len() {
+        return Err(Fail::from("a trace that ends the text"));
+    }
+    Ok(write_trace(&trace, out).is_ok())
+}
+
+fn respell<W: Write>(alloc: Global, kind: Kind, text: &[u8], out: &mut W) -> Result<bool, Fail> {
+    match kind {
+        Kind::Script => respell_script(alloc, text, out),
+        Kind::Trace => respell_trace(alloc, text, out),
+    }
+}
+
+/// The text is read, and spelled back to the byte.
+fn is_spelled_back(rt: &impl Abort, alloc: Global, kind: Kind, text: &[u8]) -> Result<(), Fail> {
+    let mut out = Vec::new(alloc);
+    same(rt, respell(alloc, kind, text, &mut out)?, true);
+    same(rt, out.as_slice(), text);
+    Ok(())
+}
+
+/// A writer that has less room than the text wants is given the text's beginning.
+fn breaks_off(
+    rt: &impl Abort,
+    alloc: Global,
+    kind: Kind,
+    text: &[u8],
+    room: usize,
+    fails: bool,
+) -> Result<(), Fail> {
+    let mut out = Narrow::new(alloc, room, fails);
+    same_of(rt, respell(alloc, kind, text, &mut out)?, false, &room);
+    same_of(rt, Some(out.taken.as_slice()), text.get(..room), &room);
+    Ok(())
+}
+
+const CODES: [(TextCode, u8, &str); 6] = [
+    (TextCode::Header, 1, "Header"),
+    (TextCode::Word, 2, "Word"),
+    (TextCode::Fields, 3, "Fields"),
+    (TextCode::Order, 4, "Order"),
+    (TextCode::End, 5, "End"),
+    (TextCode::NoMemory, 6, "NoMemory"),
+];
+
 #[test]
 fn names_of_codes(rt: HostRuntime) -> Result<(), Fail> {
-    let codes = [
-        (TextCode::Header, 1, "Header"),
-        (TextCode::Word, 2, "Word"),
-        (TextCode::Fields, 3, "Fields"),
-        (TextCode::Order, 4, "Order"),
-        (TextCode::End, 5, "End"),
-        (TextCode::NoMemory, 6, "NoMemory"),
-    ];
-    for (code, number, name) in codes {
-        same(&rt, code.number(), number);
+    for (code, number, name) in &CODES {
         let printed = format!(in rt.alloc(); "{code}")?;
-        same(&rt, printed.as_str(), name);
+        same(&rt, (code.number(), printed.as_str()), (*number, *name));
     }
     Ok(())
 }
 
 #[test]
 fn scripts_are_read_and_spelled_back(rt: HostRuntime) -> Result<(), Fail> {
-    for text in texts::SCRIPTS {
-        let script = read_script(rt.alloc(), text)?;
-        let mut out = Vec::new(rt.alloc());
-        write_script(&script, &mut out)?;
-        same(&rt, out.as_slice(), text);
+    for text in &texts::SCRIPTS {
+        is_spelled_back(&rt, rt.alloc(), Kind::Script, text)?;
     }
     Ok(())
 }
 
 #[test]
 fn traces_are_read_and_spelled_back(rt: HostRuntime) -> Result<(), Fail> {
-    for text in texts::TRACES {
-        let (trace, length) = read_trace(rt.alloc(), text)?;
-        same(&rt, length, text.len());
-        let mut out = Vec::new(rt.alloc());
-        write_trace(&trace, &mut out)?;
-        same(&rt, out.as_slice(), text);
+    for text in &texts::TRACES {
+        is_spelled_back(&rt, rt.alloc(), Kind::Trace, text)?;
     }
     Ok(())
 }
 
 #[test]
 fn messages_that_no_machine_sends(rt: HostRuntime) -> Result<(), Fail> {
-    let (trace, length) = read_trace(rt.alloc(), texts::UNUSUAL)?;
-    same(&rt, length, texts::UNUSUAL.len());
-    let mut out = Vec::new(rt.alloc());
-    write_trace(&trace, &mut out)?;
-    same(&rt, out.as_slice(), texts::UNUSUAL);
-    Ok(())
+    is_spelled_back(&rt, rt.alloc(), Kind::Trace, texts::UNUSUAL)
+}
+
+/// Spells the trace that a text begins with: how long it is, and how many harts and messages it has.
+fn respell_front<W: Write>(
+    alloc: Global,
+    text: &[u8],
+    out: &mut W,
+) -> Result<(usize, usize, usize), Fail> {
+    let (trace, length) = read_trace(alloc, text)?;
+    write_trace(&trace, out)?;
+    Ok((length, trace.harts(), trace.log().len()))
 }
 
 #[test]
 fn row_18(rt: HostRuntime) -> Result<(), Fail> {
     let mut more = texts::ROW_18.to_vec(rt.alloc())?;
     more.push(b'H')?;
-    let (trace, length) = read_trace(rt.alloc(), &more)?;
-    same(&rt, length, texts::ROW_18.len());
-    same(&rt, trace.harts(), 1);
-    same(&rt, trace.log().len(), 6);
     let mut out = Vec::new(rt.alloc());
-    write_trace(&trace, &mut out)?;
+    let measured = respell_front(rt.alloc(), &more, &mut out)?;
+    same(&rt, measured, (texts::ROW_18.len(), 1, 6));
     same(&rt, out.as_slice(), texts::ROW_18);
     Ok(())
 }
 
 #[test]
 fn rows_23_42_and_52(rt: HostRuntime) {
-    for (text, line, code) in texts::SCRIPT_FAULTS {
-        same_of(&rt, script_answer(rt.alloc(), text), (line, code), &text);
+    for (text, line, code) in &texts::SCRIPT_FAULTS {
+        let got = answer(rt.alloc(), Kind::Script, text);
+        same_of(&rt, got, (*line, *code), text);
     }
 }
 
 #[test]
 fn rows_41_and_52(rt: HostRuntime) {
-    for (text, line, code) in texts::TRACE_FAULTS {
-        same_of(&rt, trace_answer(rt.alloc(), text), (line, code), &text);
+    for (text, line, code) in &texts::TRACE_FAULTS {
+        let got = answer(rt.alloc(), Kind::Trace, text);
+        same_of(&rt, got, (*line, *code), text);
     }
+}
+
+/// The text, cut at each length.
+fn compare_cut(rt: &impl Abort, alloc: Global, kind: Kind, broken: &Broken) {
+    for length in 0..=broken.text.len() {
+        let (front, _) = broken.text.split_at(length);
+        let got = answer(alloc, kind, front);
+        same_of(rt, got, expected(broken.cut, length), &length);
+    }
+}
+
+/// The text, each of its bytes set to this.
+fn compare_changed(
+    rt: &impl Abort,
+    alloc: Global,
+    kind: Kind,
+    broken: &Broken,
+    byte: u8,
+) -> Result<(), Fail> {
+    for place in 0..broken.text.len() {
+        let mut changed = broken.text.to_vec(alloc)?;
+        if let Some(at) = changed.get_mut(place) {
+            *at = byte;
+        }
+        let got = answer(alloc, kind, &changed);
+        same_of(rt, got, expected(broken.changed, place), &(byte, place));
+    }
+    Ok(())
+}
+
+fn compare_broken(
+    rt: &impl Abort,
+    alloc: Global,
+    kind: Kind,
+    texts: &[Broken],
+) -> Result<(), Fail> {
+    for broken in texts {
+        compare_cut(rt, alloc, kind, broken);
+        compare_changed(rt, alloc, kind, broken, 0)?;
+        compare_changed(rt, alloc, kind, broken, 0xff)?;
+    }
+    Ok(())
 }
 
 #[test]
 fn broken_scripts(rt: HostRuntime) -> Result<(), Fail> {
-    for broken in texts::BROKEN_SCRIPTS {
-        for place in 0..=broken.text.len() {
-            let (front, _) = broken.text.split_at(place);
-            same_of(
-                &rt,
-                script_answer(rt.alloc(), front),
-                expected(broken.cut, place),
-                &place,
-            );
-        }
-        for (byte, answers) in [(0, broken.zeros), (0xff, broken.ones)] {
-            for place in 0..broken.text.len() {
-                let mut changed = broken.text.to_vec(rt.alloc())?;
-                if let Some(at) = changed.get_mut(place) {
-                    *at = byte;
-                }
-                assert_eq!(rt;
-                    script_answer(rt.alloc(), &changed),
-                    expected(answers, place),
-                    "{byte} at {place}"
-                );
-            }
-        }
-    }
-    Ok(())
+    compare_broken(&rt, rt.alloc(), Kind::Script, &texts::BROKEN_SCRIPTS)
 }
 
 #[test]
 fn broken_traces(rt: HostRuntime) -> Result<(), Fail> {
-    for broken in texts::BROKEN_TRACES {
-        for place in 0..=broken.text.len() {
-            let (front, _) = broken.text.split_at(place);
-            same_of(
-                &rt,
-                trace_answer(rt.alloc(), front),
-                expected(broken.cut, place),
-                &place,
-            );
-        }
-        for (byte, answers) in [(0, broken.zeros), (0xff, broken.ones)] {
-            for place in 0..broken.text.len() {
-                let mut changed = broken.text.to_vec(rt.alloc())?;
-                if let Some(at) = changed.get_mut(place) {
-                    *at = byte;
-                }
-                assert_eq!(rt;
-                    trace_answer(rt.alloc(), &changed),
-                    expected(answers, place),
-                    "{byte} at {place}"
-                );
-            }
-        }
-    }
-    Ok(())
-}
-
-/// Takes a few bytes at a time, and no more than there is room for. A full one fails, or takes none.
-#[derive(Drop)]
-struct Narrow {
-    room: usize,
-    fails: bool,
-    taken: Vec<u8>,
-}
-
-impl Write for Narrow {
-    fn write(&mut self, buf: &[u8]) -> IoResult<usize> {
-        let count = buf.len().min(self.room).min(7);
-        if count == 0 && self.fails {
-            return Err(Error::from(ErrorKind::BrokenPipe));
-        }
-        let (front, _) = buf.split_at(count);
-        if self.taken.extend_from_slice(front).is_err() {
-            return Err(Error::from(ErrorKind::OutOfMemory));
-        }
-        self.room -= count;
-        Ok(count)
-    }
-
-    fn flush(&mut self) -> IoResult<()> {
-        Ok(())
-    }
+    compare_broken(&rt, rt.alloc(), Kind::Trace, &texts::BROKEN_TRACES)
 }
 
 #[test]
 fn a_beginning_goes_out_before_a_fault(rt: HostRuntime) -> Result<(), Fail> {
-    let (trace, _) = read_trace(rt.alloc(), texts::ROW_18)?;
     for room in 0..texts::ROW_18.len() {
-        for fails in [true, false] {
-            let taken = Vec::new(rt.alloc());
-            let mut out = Narrow { room, fails, taken };
-            assert!(rt; write_trace(&trace, &mut out).is_err());
-            let (front, _) = texts::ROW_18.split_at(room);
-            same(&rt, out.taken.as_slice(), front);
-        }
+        breaks_off(&rt, rt.alloc(), Kind::Trace, texts::ROW_18, room, true)?;
+        breaks_off(&rt, rt.alloc(), Kind::Trace, texts::ROW_18, room, false)?;
     }
     Ok(())
 }
 
 #[test]
 fn a_beginning_of_a_script_goes_out_before_a_fault(rt: HostRuntime) -> Result<(), Fail> {
-    for broken in texts::BROKEN_SCRIPTS {
-        let script = read_script(rt.alloc(), broken.text)?;
+    for broken in &texts::BROKEN_SCRIPTS {
         for room in 0..broken.text.len() {
-            let taken = Vec::new(rt.alloc());
-            let mut out = Narrow {
-                room,
-                fails: true,
-                taken,
-            };
-            assert!(rt; write_script(&script, &mut out).is_err());
-            let (front, _) = broken.text.split_at(room);
-            same(&rt, out.taken.as_slice(), front);
+            breaks_off(&rt, rt.alloc(), Kind::Script, broken.text, room, true)?;
         }
     }
     Ok(())
 }
 
-/// Takes one byte at a time, and is interrupted before each.
-#[derive(Drop)]
-struct Interrupted {
-    now: bool,
-    taken: Vec<u8>,
-}
-
-impl Write for Interrupted {
-    fn write(&mut self, buf: &[u8]) -> IoResult<usize> {
-        self.now = !self.now;
-        if self.now {
-            return Err(Error::from(ErrorKind::Interrupted));
-        }
-        let [byte, ..] = buf else {
-            return Ok(0);
-        };
-        if self.taken.push(*byte).is_err() {
-            return Err(Error::from(ErrorKind::OutOfMemory));
-        }
-        Ok(1)
-    }
-
-    fn flush(&mut self) -> IoResult<()> {
-        Ok(())
-    }
+/// The text is spelled back through a writer that is interrupted before each byte.
+fn goes_out_interrupted(
+    rt: &impl Abort,
+    alloc: Global,
+    kind: Kind,
+    text: &[u8],
+) -> Result<(), Fail> {
+    let mut out = Interrupted::new(alloc);
+    same(rt, respell(alloc, kind, text, &mut out)?, true);
+    same(rt, out.taken.as_slice(), text);
+    Ok(())
 }
 
 #[test]
 fn an_interrupted_write_is_tried_again(rt: HostRuntime) -> Result<(), Fail> {
-    let (trace, _) = read_trace(rt.alloc(), texts::ROW_18)?;
-    let taken = Vec::new(rt.alloc());
-    let mut out = Interrupted { now: false, taken };
-    write_trace(&trace, &mut out)?;
-    same(&rt, out.taken.as_slice(), texts::ROW_18);
-    Ok(())
+    goes_out_interrupted(&rt, rt.alloc(), Kind::Trace, texts::ROW_18)
 }
 
 /// A script of every kind of line, of some 10,000 bytes.
@@ -282,26 +271,16 @@ fn long_script(alloc: Global) -> Result<Vec<u8>, Fail> {
 #[test]
 fn a_text_of_many_pages_goes_out_whole(rt: HostRuntime) -> Result<(), Fail> {
     let text = long_script(rt.alloc())?;
-    let script = read_script(rt.alloc(), &text)?;
-    let taken = Vec::new(rt.alloc());
-    let mut out = Interrupted { now: false, taken };
-    write_script(&script, &mut out)?;
-    same(&rt, out.taken.as_slice(), text.as_slice());
-    Ok(())
+    goes_out_interrupted(&rt, rt.alloc(), Kind::Script, &text)
 }
 
 #[test]
 fn a_beginning_of_many_pages_goes_out_before_a_fault(rt: HostRuntime) -> Result<(), Fail> {
     let text = long_script(rt.alloc())?;
-    let script = read_script(rt.alloc(), &text)?;
     for room in 0..text.len() {
         if room % 61 == 0 {
-            let taken = Vec::new(rt.alloc());
             let fails = room % 2 == 0;
-            let mut out = Narrow { room, fails, taken };
-            assert!(rt; write_script(&script, &mut out).is_err());
-            let (front, _) = text.split_at(room);
-            same(&rt, out.taken.as_slice(), front);
+            breaks_off(&rt, rt.alloc(), Kind::Script, &text, room, fails)?;
         }
     }
     Ok(())

@@ -1,14 +1,15 @@
 //! The store that a byte comes from, by the index and by a walk over the whole order as it is defined.
 ghost use Rattle.std.specs.Prelude.{◌≡◌, ◌<◌};
 
-use crate::same::same;
-use elf_loader::{raw, size_of_kib};
+use crate::same::{same, same_of};
+use crate::streams::image_of_kib;
 use hart::{Retired, Status};
 use memory_model::Operation;
 use rvwmo_order::plain::source;
 use rvwmo_order::{Index, completed};
-use std::alloc::Global;
+use std::alloc::{AllocError, Global};
 use std::marker::Brand;
+use std::process::Abort;
 use std::sync::ledger::{Blank, Ledger};
 use std::test::Fail;
 use tl_types::{LineSize, Ticks};
@@ -29,35 +30,45 @@ const PROGRAM: [u32; 8] = [
 
 const WORD: u32 = 0x8000_1000;
 
+/// What a hart retires at a place of the program: the loads read 0, and the SC succeeds.
+fn retired(place: u32, word: u32) -> Retired {
+    let loaded = if matches!(place, 2 | 4 | 5 | 6) {
+        Some(0)
+    } else {
+        None
+    };
+    let sc_ok = if place == 7 { Some(true) } else { None };
+    Retired {
+        pc: 0x8000_0000u32.wrapping_add(place.wrapping_mul(4)),
+        word,
+        loaded,
+        sc_ok,
+    }
+}
+
+/// What a hart has retired that ran the program once.
+fn entries_of(alloc: Global) -> Result<Vec<Retired>, AllocError> {
+    let mut entries = Vec::new(alloc);
+    let mut place = 0u32;
+    for word in &PROGRAM {
+        entries.push(retired(place, *word))?;
+        place = place.wrapping_add(1);
+    }
+    Ok(entries)
+}
+
 /// Both harts run the program once; of each only the load at place 2 is performed.
 fn trace(alloc: Global) -> Result<Trace, Fail> {
-    let size = size_of_kib(8).ok_or("a size")?;
-    let mut bytes = Vec::new(alloc);
-    let mut harts = Vec::new(alloc);
-    for word in PROGRAM {
-        bytes.extend_from_slice(&word.to_le_bytes())?;
-    }
-    for _ in 0..2 {
-        let mut entries = Vec::new(alloc);
-        for (place, word) in PROGRAM.iter().enumerate() {
-            entries.push(Retired {
-                pc: 0x8000_0000 + 4 * place as u32,
-                word: *word,
-                loaded: matches!(place, 2 | 4 | 5 | 6).then_some(0),
-                sc_ok: (place == 7).then_some(true),
-            })?;
-        }
-        harts.push(entries)?;
-    }
+    let image = image_of_kib(alloc, &PROGRAM, 8)?;
+    let harts = vec![in alloc; entries_of(alloc)?, entries_of(alloc)?]?;
     if !are_within_limits(&harts) {
         return Err(Fail::from("too many harts"));
     }
-    let statuses = vec![in alloc; Status::Running; harts.len()]?;
     Ok(Trace::from_parts(
-        raw(alloc, &bytes, size)?,
+        image,
         LineSize::Bytes16,
         harts,
-        statuses,
+        vec![in alloc; Status::Running; 2]?,
         vec![in alloc; OpId { hart: 1, place: 2 }, OpId { hart: 0, place: 2 }]?,
         Vec::new(alloc),
     ))
@@ -83,6 +94,24 @@ fn told<L: Ledger>(index: &Index, load: OpId, byte: u32, blank: Blank) -> Option
     index.source(load, byte, &mut Ticks::<L>::new(blank))
 }
 
+/// The walk's answer.
+fn walked(index: &Index, load: &Operation, byte: u32) -> Option<OpId> {
+    match source(index.order(), load, u64::from(byte)) {
+        Some(store) => Some(name_of(&store)),
+        None => None,
+    }
+}
+
+/// Index and walk agree on each byte of the word, and of those beside it, at each operation of the order.
+fn agree(rt: &impl Abort, index: &Index, exchanged: usize) {
+    for load in index.order() {
+        for byte in WORD - 1..WORD + 5 {
+            let found = indexed(index, name_of(load), byte);
+            same_of(rt, found, walked(index, load, byte), &(byte, exchanged));
+        }
+    }
+}
+
 #[test]
 fn exchanged_neighbours_have_the_same_sources(rt: HostRuntime) -> Result<(), Fail> {
     let trace = trace(rt.alloc())?;
@@ -91,16 +120,7 @@ fn exchanged_neighbours_have_the_same_sources(rt: HostRuntime) -> Result<(), Fai
     for exchanged in 1..order.len() {
         order.swap(exchanged - 1, exchanged);
         let index = Index::new(rt.alloc(), &trace, &order)?;
-        for load in index.order() {
-            for byte in WORD - 1..WORD + 5 {
-                let walked = source(index.order(), load, u64::from(byte));
-                assert_eq!(rt;
-                    indexed(&index, name_of(load), byte),
-                    walked.map(|store| name_of(&store)),
-                    "byte {byte} with {exchanged} exchanged"
-                );
-            }
-        }
+        agree(&rt, &index, exchanged);
         order.swap(exchanged - 1, exchanged);
     }
     Ok(())
