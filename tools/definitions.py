@@ -56,6 +56,7 @@ PROGRAM = [
     ("command_line", "Running", "IsCarriedOut"),
     ("command_line", "Running", "IsNotLegal"),
     ("command_line", "Running", "IsUnprinted"),
+    ("command_line", "Running", "HasNoted"),
     ("command_line", "Running", "Spares"),
     ("command_line", "Telling", "HasToldFault"),
     ("command_settings", "Refusals", "IsUnfit"),

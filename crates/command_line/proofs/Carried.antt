@@ -1,12 +1,12 @@
 -- What came of a command is what came of the settings that name it.
-use Rattle.std.proofs.Common.{◌≡◌, ◌≢◌, ℕ, Err, IfErr, IfOk, List, Ok, Option, Result, subst, sym}
+use Rattle.std.proofs.Common.{◌≡◌, ◌≢◌, ℕ, Bool, Err, IfErr, IfOk, List, Ok, OnOk, Option, Result, false, subst, sym, true}
 use Rattle.std.specs.Prelude.{nat_lt}
 use Rattle.clap.specs.Words.{Text}
 use Rattle.command_files.specs.Held.{Held}
 use Rattle.command_files.specs.Status.{status_of}
 use Rattle.command_files.specs.declared.fault.Fault.{Fault}
 use Rattle.command_line.proofs.Meant.{beyond_explore, beyond_show, written}
-use Rattle.command_line.specs.Running.{Came, CheckCame, ExploreCame, IsOutOfRange, IsDone, IsExploreFile, IsFaulty, IsWritten, ShowCame, strictness_of}
+use Rattle.command_line.specs.Running.{Came, CheckCame, CheckNoted, ExploreCame, IsOutOfRange, IsDone, IsExploreFile, IsFaulty, IsNoted, IsWritten, ShowCame, strictness_of}
 use Rattle.command_settings.specs.declared.wanted.Check.{Check as Judging}
 use Rattle.command_settings.specs.declared.wanted.Explain.{Explain as Telling}
 use Rattle.command_settings.specs.declared.wanted.Explore.{Explore as Sought}
@@ -43,6 +43,28 @@ module _ (held left : Held) (old new : Option (List ℕ)) (wanted : Settings) wh
   check_came check (Ok Allowed) is so = subst (IsDone held left old new) (sym is) so
   check_came check (Ok NotAllowed) is so = subst (IsFaulty held left old new) (sym is) so
   check_came check (Err fault) is so = tt
+
+-- what is put on standard error is what the settings that name the command put there, where that is said
+module _ (held left : Held) (old new : Option (List ℕ)) (wanted : Settings) where
+  pub explore_noted : {T E : Type 0} (explore : Sought) (r : Result T E) → wanted ≡ Explore explore → OnOk r (IsNoted held left old new wanted)
+  explore_noted explore (Ok x) is = subst (IsNoted held left old new) (sym is) tt
+  explore_noted explore (Err fault) is = tt
+
+  pub show_noted : {T E : Type 0} (show : Shown) (r : Result T E) → wanted ≡ Show show → OnOk r (IsNoted held left old new wanted)
+  show_noted show (Ok x) is = subst (IsNoted held left old new) (sym is) tt
+  show_noted show (Err fault) is = tt
+
+  pub check_noted : {T E : Type 0} (check : Judging) (r : Result T E) → wanted ≡ Check check → CheckNoted check.messages old new → OnOk r (IsNoted held left old new wanted)
+  check_noted check (Ok x) is so = subst (IsNoted held left old new) (sym is) so
+  check_noted check (Err fault) is so = tt
+
+pub messages_noted : (of_messages : Bool) (old new : Option (List ℕ)) → of_messages ≡ true → CheckNoted of_messages old new
+messages_noted true old new is = tt
+messages_noted false old new is = absurd cc
+
+pub order_noted : (of_messages : Bool) (old new : Option (List ℕ)) → new ≡ old → CheckNoted of_messages old new
+order_noted true old new same = tt
+order_noted false old new same = same
 
 -- whatever fault a command tells is one of what the settings name
 pub told_of : (held : Held) (old new : Option (List ℕ)) (wanted meant : Settings) (fault : Fault) → wanted ≡ meant → IsFaultOfCommand held old new meant fault → IsFaultOfCommand held old new wanted fault

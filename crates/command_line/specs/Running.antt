@@ -2,7 +2,7 @@
 use Rattle.std.specs.Prelude.{◌≡◌, ◌≢◌, ◌⊎◌, ◌<◌, ℕ, [], Bool, false, true, nat_lt, IsSomeAnd, List, None, Option}
 use Rattle.clap.specs.Words.{Text}
 use Rattle.command_files.specs.Held.{Held}
-use Rattle.replay_command.specs.Replaying.{IsCutOff, IsReplayed}
+use Rattle.replay_command.specs.Replaying.{IsCutOff, IsReplayEndTold, IsReplayed}
 use Rattle.explain_command.specs.Explaining.{IsExplained, IsStreamCutOff}
 use Rattle.explore_command.specs.Exploring.{ExplorationHas, IsExplorationTold}
 use Rattle.explore_command.specs.Keeping.{IsScriptFile}
@@ -16,7 +16,7 @@ use Rattle.chart_command.specs.Addresses.{address}
 use Rattle.chart_command.specs.Charting.{IsCharted, IsPictureCutOff as IsHalfCharted}
 use Rattle.check_command.specs.Checking.{IsVerdictTold, IsVerdictCutOff}
 use Rattle.check_command.specs.Messages.{IsLogCutOff, IsLogJudged}
-use Rattle.run_command.specs.Running.{IsRun, IsRunCutOff}
+use Rattle.run_command.specs.Running.{IsRun, IsRunCutOff, IsRunEndTold}
 use Rattle.command_settings.specs.Refusals.{IsFitting, IsForHelp}
 use Rattle.command_settings.specs.Settings.{AreConflicting, IsNamed}
 use Rattle.command_files.specs.Sizes.{IsOutside}
@@ -104,6 +104,21 @@ IsDone held left old new (Show show) = ShowCame show.explore.architecture Allowe
 IsDone held left old new (Chart chart) = IsCharted held chart.replay chart.line old new
 IsDone held left old new (Check check) = IsClean check.messages held check old new
 
+-- a check of an order puts nothing on standard error; of a check of messages it is not said
+abbrev pub CheckNoted : (of_messages : Bool) → Option (List ℕ) → Option (List ℕ) → Type 0
+CheckNoted true old new = Unit {0}
+CheckNoted false old new = new ≡ old
+
+-- what a command that was carried out has itself put on standard error, beside what is remarked of files: of a replay and of a run a beginning of how their harts ended; of an explanation, a chart and a check of an order nothing; what the others put there is not said
+abbrev pub IsNoted : Held → Held → Option (List ℕ) → Option (List ℕ) → Settings → Type 0
+IsNoted held left old new (Replay replay) = IsReplayEndTold held replay old new
+IsNoted held left old new (Run run) = IsRunEndTold held left run old new
+IsNoted held left old new (Explain explain) = new ≡ old
+IsNoted held left old new (Chart chart) = new ≡ old
+IsNoted held left old new (Check check) = CheckNoted check.messages old new
+IsNoted held left old new (Explore explore) = Unit {0}
+IsNoted held left old new (Show show) = Unit {0}
+
 -- the trace's order, or its messages, are not legal, and the fault that shows it was printed; or the program was explored and an outcome is not allowed
 abbrev pub IsFaulty : Held → Held → Option (List ℕ) → Option (List ℕ) → Settings → Type 0
 IsFaulty held left old new (Replay replay) = ⊥
@@ -152,6 +167,10 @@ HasInRange words P = HasNamed words (λ wanted. (¬ AreMisused wanted) × P want
 -- the words ask for help, or what they name was done
 unfoldable pub IsCarriedOut : List Text → Held → Held → Option (List ℕ) → Option (List ℕ) → Type 0
 IsCarriedOut words held left old new = IsForHelp words ⊎ HasInRange words (IsDone held left old new)
+
+-- the words ask for help, and standard error has nothing new, or it has what the command that they name puts there
+unfoldable pub HasNoted : List Text → Held → Held → Option (List ℕ) → Option (List ℕ) → Type 0
+HasNoted words held left old new = (IsForHelp words × (new ≡ old)) ⊎ HasNamed words (IsNoted held left old new)
 
 -- what they name was judged, and it isn't legal, or not allowed
 unfoldable pub IsNotLegal : List Text → Held → Held → Option (List ℕ) → Option (List ℕ) → Type 0

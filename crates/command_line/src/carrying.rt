@@ -1,12 +1,12 @@
 //! What the words ask for is carried out, command by command.
 
-ghost use Rattle.std.specs.Prelude.{◌≡◌, ◌≢◌, ◌⊎◌, ◌<◌, Err, IfErr, IfOk, nat_lt};
+ghost use Rattle.std.specs.Prelude.{◌≡◌, ◌≢◌, ◌⊎◌, ◌<◌, Err, IfErr, IfOk, OnOk, nat_lt};
 ghost use Rattle.clap.specs.Words.{Text};
 ghost use Rattle.command_files.specs.Faults.{LeavesAtFault, Name};
 ghost use Rattle.command_files.specs.Sizes.{IsOutside};
 ghost use Rattle.command_files.specs.Status.{status_of};
 ghost use Rattle.command_line.specs.Telling.{ComesBeforeFiles, IsFaultOfCommand, IsJudgingFault, IsShowingFault, LeavesOf};
-ghost use Rattle.command_line.specs.Running.{Came, CheckCame, ExploreCame, ExploreHas, MeetsSomeState, IsOutOfRange, IsCheckBroken, IsExploreFile, IsWritten, ShowCame, ShowHas, ShowsElsewhere, strictness_of};
+ghost use Rattle.command_line.specs.Running.{Came, CheckCame, CheckNoted, ExploreCame, ExploreHas, MeetsSomeState, IsOutOfRange, IsCheckBroken, IsExploreFile, IsNoted, IsWritten, ShowCame, ShowHas, ShowsElsewhere, strictness_of};
 ghost use Rattle.explore_command.specs.Exploring.{ComesBeforeScripts, IsExploreFault, LeavesPart};
 ghost use Rattle.explore_command.specs.Keeping.{SparesOthers};
 ghost use Rattle.show_command.specs.Showing.{IsFirstOf};
@@ -51,6 +51,7 @@ pub(crate) fn carry_out<
 ) -> Result<Judgement, Fault<'a>>
     requires room { MeetsSomeState wanted }
     ensures came { IfOk result (Came (F.held files.old) (F.held files.new) (O.contents out.old) (O.contents out.new) wanted.entry) }
+    ensures noted { OnOk result (IsNoted (F.held files.old) (F.held files.new) (E.contents err.old) (E.contents err.new) wanted.entry) }
     ensures inside { IfOk result (λ _. ¬ IsOutOfRange wanted.entry) }
     ensures leaves { IfErr result (LeavesOf (F.held files.old) (F.held files.new) (O.contents out.old) (O.contents out.new) wanted.entry) }
     ensures outside { IfErr result (λ fault. IsOutOfRange wanted.entry → status_of fault ≡ 2) }
@@ -150,6 +151,7 @@ fn shown<'a, F: Files, O: Write, E: Write, P: Progress>(
 }
 
 /// The order of a trace is judged, or its messages.
+#[tactic(auto, using(crate::proofs::Carried::messages_noted, crate::proofs::Carried::order_noted))]
 fn checked<'a, F: Files, O: Write, E: Write>(
     alloc: Global,
     files: &mut F,
@@ -162,6 +164,7 @@ fn checked<'a, F: Files, O: Write, E: Write>(
         (IsCheckBroken wanted.entry.messages (F.held files.old) wanted.entry (O.contents out.old) (O.contents out.new))) }
     ensures fitting { IfErr result (λ fault. status_of fault ≢ 2) }
     ensures told { IfErr result (IsJudgingFault wanted.entry.messages (F.held files.old) wanted.entry) }
+    ensures noted { CheckNoted wanted.entry.messages (E.contents err.old) (E.contents err.new) }
     ensures spared { F.held files.new ≡ F.held files.old }
 {
     if wanted.messages {

@@ -3,7 +3,7 @@
 ghost use Rattle.std.specs.Prelude.{◌≡◌, ◌≢◌, ◌⊎◌, ◌≤◌, ◌<◌, map};
 ghost use Rattle.clap.specs.Words.{kind_of};
 ghost use Rattle.command_settings.specs.Refusals.{IsFitting, IsForHelp, IsHelp, IsUnfit};
-ghost use Rattle.command_line.specs.Running.{AreMisused, HasNamed, IsCarriedOut, IsNotLegal, IsUnprinted, Spares};
+ghost use Rattle.command_line.specs.Running.{AreMisused, HasNamed, HasNoted, IsCarriedOut, IsNotLegal, IsNoted, IsUnprinted, Spares};
 ghost use Rattle.command_line.specs.Telling.{HasToldFault};
 
 use crate::carrying::carry_out;
@@ -35,6 +35,8 @@ pub fn run_line<
 >(rt: &R, alloc: Global, words: &[S], files: &mut F, out: &mut O, err: &mut E, progress: &P) -> u8
     ensures status { result ≤ 4 }
     ensures carried_out { result ≡ 0 → IsCarriedOut (map S.text words.now) (F.held files.old) (F.held files.new) (O.contents out.old) (O.contents out.new) }
+    ensures noted { result ≡ 0 → HasNoted (map S.text words.now) (F.held files.old) (F.held files.new) (E.contents err.old) (E.contents err.new) }
+    ensures judged_noted { result ≡ 3 → HasNamed (map S.text words.now) (IsNoted (F.held files.old) (F.held files.new) (E.contents err.old) (E.contents err.new)) }
     ensures not_legal { result ≡ 3 → IsNotLegal (map S.text words.now) (F.held files.old) (F.held files.new) (O.contents out.old) (O.contents out.new) }
     ensures unprinted { 0 < result → result ≢ 3 → IsUnprinted (map S.text words.now) (F.held files.old) (F.held files.new) (O.contents out.old) (O.contents out.new) }
     ensures faulted { result ≡ 1 → HasToldFault (map S.text words.now) (F.held files.old) (F.held files.new) (O.contents out.old) (O.contents out.new) }
@@ -60,6 +62,7 @@ pub fn run_line<
 fn explain<O: Write, E: Write>(usage: &clap::Error, out: &mut O, err: &mut E) -> u8
     ensures status { (result ≤ 4) × (result ≢ 3) }
     ensures help { (result ≡ 2) ⊎ IsHelp (kind_of usage.now) }
+    ensures silent { result ≡ 0 → E.contents err.new ≡ E.contents err.old }
     ensures misused { result ≡ 2 → (¬ IsHelp (kind_of usage.now)) × (O.contents out.new ≡ O.contents out.old) }
 {
     if usage.use_stderr() {

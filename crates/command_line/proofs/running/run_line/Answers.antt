@@ -6,7 +6,7 @@ use Rattle.clap.specs.declared.error.kind.ErrorKind.TheVariants.{ArgumentConflic
 use Rattle.command_files.specs.Held.{Held}
 use Rattle.command_line.proofs.Leaving.{either_of, not_both}
 use Rattle.command_line.proofs.Meant.{misused_early, some_states}
-use Rattle.command_line.specs.Running.{AreMisused, Came, HasNamed, IsHalfPrinted, IsCarriedOut, IsNotLegal, IsOutOfRange, IsUnprinted}
+use Rattle.command_line.specs.Running.{AreMisused, Came, HasNamed, HasNoted, IsHalfPrinted, IsCarriedOut, IsNotLegal, IsOutOfRange, IsUnprinted}
 use Rattle.command_line.specs.Telling.{HasToldFault}
 use Rattle.command_settings.specs.Refusals.{IsFitting, IsForHelp, IsHelp, IsRefused, IsUnfit}
 use Rattle.command_settings.specs.Settings.{AreConflicting, IsNamed}
@@ -57,6 +57,26 @@ pub returns-in-Ok-Allowed-clause-carried_out : goal.returns-in-Ok-Allowed-clause
 unfolding IsCarriedOut
 returns-in-Ok-Allowed-clause-carried_out g c =
     λ _. inr (c.in-Ok.wanted, c.in-Ok.ensures.named, c.in-Ok.ensures.fitting, (well_used c.in-Ok.wanted c.in-Ok.ensures.agreeing c.in-Ok-Allowed.ensures.inside, subst (Came _ _ _ _ c.in-Ok.wanted) c.in-Ok-Allowed.field-0-is c.in-Ok-Allowed.ensures.came))
+
+pub returns-in-Ok-Allowed-clause-noted : goal.returns-in-Ok-Allowed-clause-noted
+unfolding HasNoted
+returns-in-Ok-Allowed-clause-noted g c = λ _. inr (c.in-Ok.wanted, c.in-Ok.ensures.named, c.in-Ok.ensures.fitting, c.in-Ok-Allowed.ensures.noted)
+
+pub returns-in-Ok-NotAllowed-clause-noted : goal.returns-in-Ok-NotAllowed-clause-noted
+returns-in-Ok-NotAllowed-clause-noted g c = λ none. let bad : 3 ≡ 0 = none in cc
+
+pub returns-in-Ok-NotAllowed-clause-judged_noted : goal.returns-in-Ok-NotAllowed-clause-judged_noted
+returns-in-Ok-NotAllowed-clause-judged_noted g c = λ _. (c.in-Ok.wanted, c.in-Ok.ensures.named, c.in-Ok.ensures.fitting, c.in-Ok-NotAllowed.ensures.noted)
+
+pub returns-in-Ok-Allowed-clause-judged_noted : goal.returns-in-Ok-Allowed-clause-judged_noted
+returns-in-Ok-Allowed-clause-judged_noted g c = λ three. let bad : 0 ≡ 3 = three in cc
+
+pub returns-in-Err-Usage-clause-noted : goal.returns-in-Err-Usage-clause-noted
+unfolding HasNoted
+returns-in-Err-Usage-clause-noted g c = λ done. elim (rw c.in-Err-Usage.field-0-is at c.explain.ensures.help) [
+  | inl two ↦ let no : 0 ≡ 2 = sym done ∙ two in cc
+  | inr asks ↦ inl (is_for_help _ c.in-Err-Usage.field-0 c.in-Err-Usage.usage c.in-Err-Usage.field-0-is c.in-Err-Usage.ensures.refused asks, c.explain.ensures.silent done)
+]
 
 pub returns-in-Ok-NotAllowed-clause-not_legal : goal.returns-in-Ok-NotAllowed-clause-not_legal
 unfolding IsNotLegal
