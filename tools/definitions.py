@@ -45,6 +45,8 @@ FLAT = [
     ("window_machine", "LeftOut", "MayBeDropped"),
     ("window_machine", "LeftOut", "rank"),
     ("window_machine", "LeftOut", "reach_of"),
+    ("window_machine", "Openings", "MayBeEmpty"),
+    ("window_machine", "Openings", "NeverOpens"),
     ("architecture_outcomes", "Outcomes", "IsWitnessed"),
     ("architecture_outcomes", "Outcomes", "TellsEachEnd"),
     ("word_explorer", "Ends", "HasEachEnding"),

@@ -1,3 +1,4 @@
 pub mod Circles
 pub mod LeftOut
-pub mod Tables
+pub mod Openings
+pub mod States

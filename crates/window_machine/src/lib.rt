@@ -6,6 +6,7 @@ mod access;
 mod allowed;
 mod changes;
 mod fetching;
+mod finding;
 mod joining;
 mod left_out;
 mod liveness;
@@ -15,6 +16,7 @@ mod notes;
 mod placing;
 mod registers;
 mod searching;
+mod states;
 mod table;
 mod waits;
 

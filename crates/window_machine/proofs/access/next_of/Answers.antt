@@ -2,8 +2,7 @@ use Rattle.std.proofs.Common.{◌≡◌, ℕ, Bool, true, false, cond, Option, S
 use Rattle.elf_loader.specs.Image.{Initial, word_at}
 use Rattle.hart.specs.declared.retired.Retired.{Retired}
 use Rattle.hart.specs.declared.state.Hart.{Hart}
-use Rattle.hart.specs.Local.{next_entry}
-use Rattle.hart.specs.Run.{can_fetch, next_stop, stop_with}
+use Rattle.hart.specs.Run.{can_fetch, stop_with}
 use Rattle.rv32_decode.specs.Rows.{decoded}
 use Rattle.rv32_decode.specs.declared.instruction.Instr.{Instr}
 use Rattle.rv32_exec.specs.Actions.{action_of_access, stop_or}
