@@ -31,7 +31,7 @@ pub record IsCutOff (held : Held) (replay : Replay) (old new : Option (List ℕ)
   pub replayed : Leads image script replay.model reached
   pub begun : Begins old new (text reached.trace)
 
--- a beginning of the lines that tell how the harts ended went out, all of them unless that stream had a fault
+-- a beginning of the lines that tell how the harts ended went out, be it all of them or nothing
 pub record IsReplayEndTold (held : Held) (replay : Replay) (old new : Option (List ℕ)) : Type 0 where
   pub script : Script
   pub image : Initial
