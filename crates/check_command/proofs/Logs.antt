@@ -1,7 +1,6 @@
 -- What a file that is read as a log holds, and what is said of the log.
-use Rattle.std.proofs.Common.{ℕ, ◌≡◌, ◌∙◌, ◌≤◌, IfSome, List, None, Option, Some, ap, length, subst, sym, take}
+use Rattle.std.proofs.Common.{ℕ, ◌≡◌, ◌∙◌, IfSome, List, None, Option, Some, ap, subst, sym}
 use Rattle.std.specs.Prelude.{◌↔◌}
-use Rattle.std.proofs.lemmas.List.{take_all}
 use Rattle.check_command.specs.Messages.{HoldsLog, IsLogVerdict}
 use Rattle.command_files.specs.Held.{Held, HoldsBytes}
 use Rattle.lawful_log.specs.Laws.{IfUnlawful, IsFirstBreach}
@@ -20,10 +19,10 @@ ended_alike None bytes whole same is = tt
 ended_alike (Some of_file) bytes whole same is = ap ended same ∙ is
 
 -- all of it is the text of the trace that was read
-pub log_held : (held : Held) (name bytes whole : List ℕ) (t : History) (n : ℕ) → HoldsBytes held name bytes → whole ≡ ended bytes → IsTrace t × (take n whole ≡ text t) → length whole ≤ n → HoldsLog held name t
-log_held held name bytes whole t n same is found past = record {
+pub log_held : (held : Held) (name bytes read : List ℕ) (t : History) → HoldsBytes held name bytes → read ≡ ended bytes → IsTrace t × (read ≡ text t) → HoldsLog held name t
+log_held held name bytes read t same is found = record {
   is_trace = found.0;
-  bytes = ended_alike (held name) bytes (text t) same (sym is ∙ (sym (take_all n whole past) ∙ found.1));
+  bytes = ended_alike (held name) bytes (text t) same (sym is ∙ found.1);
 }
 
 pub verdict_on : (judged log : List Logged) (v : LogVerdict) → judged ≡ log → ((v ≡ Lawful) ↔ IsLawfulLog judged) → IfUnlawful v (λ rule index. IsFirstBreach judged rule index) → IsLogVerdict log v

@@ -1,6 +1,5 @@
 -- Which faults a check hands up.
-use Rattle.std.proofs.Common.{◌≡◌, ◌≢◌, ◌∙◌, ◌≤◌, ◌⊎◌, ◌↔◌, ℕ, List, Some, inl, inr, length, refl, subst, sym, take}
-use Rattle.std.proofs.lemmas.List.{take_all}
+use Rattle.std.proofs.Common.{◌≡◌, ◌≢◌, ◌∙◌, ◌⊎◌, ◌↔◌, ℕ, List, Some, inl, inr, refl, subst, sym}
 use Rattle.command_files.specs.Held.{Held, HoldsBytes}
 use Rattle.command_files.specs.Faults.{IsTextFault, Name}
 use Rattle.check_command.specs.Checking.{IsCheckFault}
@@ -55,11 +54,10 @@ of_log held name BadEvent is = absurd is
 of_log held name Configuration is = absurd is
 
 -- all of the file is the text of the trace that was read
-pub trace_held : (held : Held) (name bytes whole : List ℕ) (t : History) (n : ℕ) → HoldsBytes held name bytes → whole ≡ bytes → IsTrace t × (take n whole ≡ text t) → length whole ≤ n
-    → HoldsTrace held name t
-trace_held held name bytes whole t n same is found past = record {
+pub trace_held : (held : Held) (name bytes read : List ℕ) (t : History) → HoldsBytes held name bytes → read ≡ bytes → IsTrace t × (read ≡ text t) → HoldsTrace held name t
+trace_held held name bytes read t same is found = record {
   is_trace = found.0;
-  bytes = subst (HoldsBytes held name) (sym is ∙ (sym (take_all n whole past) ∙ found.1)) same;
+  bytes = subst (HoldsBytes held name) (sym is ∙ found.1) same;
 }
 
 -- an order that isn't judged is refused for a cause that the check tells, or memory ran out

@@ -1,12 +1,12 @@
 -- Bytes that aren't read as a trace begin with none, and bytes behind one are told of.
-use Rattle.std.proofs.Common.{◌≡◌, ◌∙◌, ◌<◌, ◌-◌, ◌⊎◌, ◌↔◌, ◌++◌, ℕ, IfSome, List, None, Option, Some, ap, arith, drop, inl, inr, length, refl, subst, sym, take}
-use Rattle.std.proofs.lemmas.List.{length-drop, take-append-drop}
-use Rattle.check_command.specs.Checking.{BeginWithNoTrace, GoOnBehindATrace, IsCheckFault}
+use Rattle.std.proofs.Common.{◌≡◌, ◌∙◌, ◌<◌, ◌≤◌, ◌-◌, ◌⊎◌, ◌↔◌, ◌++◌, ℕ, IfSome, List, None, Option, Some, ap, arith, drop, inl, inr, length, refl, subst, sym, take}
+use Rattle.std.proofs.lemmas.List.{length-drop, take-append-drop, take_all}
+use Rattle.check_command.specs.Checking.{BeginWithNoTrace, GoOnBehindATrace, IsCheckFault, IsTraceFault}
 use Rattle.check_command.specs.Messages.{IsLogFault}
 use Rattle.command_files.specs.Faults.{Name}
 use Rattle.command_files.specs.Held.{Held, HoldsBytes}
 use Rattle.command_files.specs.declared.fault.Fault.{Fault}
-use Rattle.command_files.specs.declared.fault.Fault.TheVariants.{OutOfMemory, Text}
+use Rattle.command_files.specs.declared.fault.Fault.TheVariants.{BytesAfterTrace, CannotWrite, OutOfMemory, Text}
 use Rattle.log_text.specs.Ending.{ended}
 use Rattle.trace_recorder.specs.History.{History}
 use Rattle.trace_text.specs.TraceLimits.{IsTrace}
@@ -28,19 +28,34 @@ pub of_file : (known : Option (List ℕ)) (bytes : List ℕ) (P : List ℕ → T
 of_file None bytes P same so = tt
 of_file (Some file) bytes P same so = subst P (sym same) so
 
-module _ (held : Held) (name : Name) (bytes : List ℕ) (holds : HoldsBytes held name.now bytes) (fault : Fault) where
-  module _ (error : TextError) (told : (fault ≡ Text name error) ⊎ (fault ≡ OutOfMemory)) (memory : (fault ≡ OutOfMemory) ↔ (error.code ≡ NoMemory)) where
-    memory_aside : fault ≡ Text name error → error.code ≡ NoMemory → ⊥
-    memory_aside at none = let bad : Text name error ≡ OutOfMemory = sym at ∙ memory.1 none in cc
+-- what can't be read begins with no trace
+pub no_trace_told : (bytes : List ℕ) (name : Name) (error : TextError) (fault : Fault) → (fault ≡ Text name error) ⊎ (fault ≡ OutOfMemory) → (fault ≡ OutOfMemory) ↔ (error.code ≡ NoMemory)
+    → ((error.code ≡ NoMemory → ⊥) → BeginWithNoTrace bytes) → IsTraceFault bytes name fault
+no_trace_told bytes name error fault told memory none = elim told [
+  | inl at ↦ inl (error, at, none (λ wanting. let bad : Text name error ≡ OutOfMemory = sym at ∙ memory.1 wanting in cc))
+  | inr at ↦ inr (inr at)
+]
 
-    pub no_trace_told : ((error.code ≡ NoMemory → ⊥) → BeginWithNoTrace bytes) → IsCheckFault held name fault
-    no_trace_told none = elim told [
-      | inl at ↦ subst (IsCheckFault held name) (sym at) (refl, inr (of_file (held name.now) bytes BeginWithNoTrace holds (none (memory_aside at))))
-      | inr at ↦ subst (IsCheckFault held name) (sym at) tt
-    ]
+-- all of the bytes are the text that was read
+pub whole : (bytes : List ℕ) (t : History) (n : ℕ) → IsTrace t × (take n bytes ≡ text t) → length bytes ≤ n → IsTrace t × (bytes ≡ text t)
+whole bytes t n found past = (found.0, sym (take_all n bytes past) ∙ found.1)
 
-    pub no_log_told : ((error.code ≡ NoMemory → ⊥) → BeginWithNoTrace (ended bytes)) → IsLogFault held name fault
-    no_log_told none = elim told [
-      | inl at ↦ subst (IsLogFault held name) (sym at) (refl, inr (of_file (held name.now) bytes (λ known. BeginWithNoTrace (ended known)) holds (none (memory_aside at))))
-      | inr at ↦ subst (IsLogFault held name) (sym at) tt
-    ]
+module _ (held : Held) (name : Name) (bytes : List ℕ) (holds : HoldsBytes held name.now bytes) where
+  -- such a fault is one of a check
+  pub check_told : (read : List ℕ) (fault : Fault) → read ≡ bytes → IsTraceFault read name fault → IsCheckFault held name fault
+  check_told read fault same (inl (error, at, none)) = subst (IsCheckFault held name) (sym at) (refl, inr (of_file (held name.now) bytes BeginWithNoTrace holds (subst BeginWithNoTrace same none)))
+  check_told read fault same (inr (inl (at, more))) = subst (IsCheckFault held name) (sym at) (refl, of_file (held name.now) bytes GoOnBehindATrace holds (subst GoOnBehindATrace same more))
+  check_told read fault same (inr (inr at)) = subst (IsCheckFault held name) (sym at) tt
+
+  -- and of a check of messages
+  pub log_told : (read : List ℕ) (fault : Fault) → read ≡ ended bytes → IsTraceFault read name fault → IsLogFault held name fault
+  log_told read fault same (inl (error, at, none)) =
+      subst (IsLogFault held name) (sym at) (refl, inr (of_file (held name.now) bytes (λ known. BeginWithNoTrace (ended known)) holds (subst BeginWithNoTrace same none)))
+  log_told read fault same (inr (inl (at, more))) =
+      subst (IsLogFault held name) (sym at) (refl, of_file (held name.now) bytes (λ known. GoOnBehindATrace (ended known)) holds (subst GoOnBehindATrace same more))
+  log_told read fault same (inr (inr at)) = subst (IsLogFault held name) (sym at) tt
+
+pub trace_is_not_write : (bytes : List ℕ) (name : Name) (fault : Fault) → IsTraceFault bytes name fault → fault ≡ CannotWrite → ⊥
+trace_is_not_write bytes name fault (inl (error, at, none)) write = let bad : Text name error ≡ CannotWrite = sym at ∙ write in cc
+trace_is_not_write bytes name fault (inr (inl (at, more))) write = let bad : BytesAfterTrace name ≡ CannotWrite = sym at ∙ write in cc
+trace_is_not_write bytes name fault (inr (inr at)) write = let bad : OutOfMemory ≡ CannotWrite = sym at ∙ write in cc

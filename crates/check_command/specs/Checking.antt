@@ -20,6 +20,7 @@ use Rattle.trace_recorder.specs.History.{History}
 use Rattle.trace_recorder.specs.declared.operation.OpId.{OpId}
 use Rattle.trace_text.specs.TraceLimits.{IsTrace}
 use Rattle.trace_text.specs.Traces.{text}
+use Rattle.trace_text.specs.declared.fault.TextError.{TextError}
 
 -- an operation as HART:PLACE
 abbrev pub operation_text : OpId → List ℕ
@@ -68,6 +69,11 @@ pub record GoOnBehindATrace (bytes : List ℕ) : Type 0 where
   pub is_trace : IsTrace trace
   pub whole : bytes ≡ text trace ++ more
   pub longer : more ≢ []
+
+-- the bytes of the file aren't a trace's text: they begin with none, or go on behind it
+abbrev pub IsTraceFault : List ℕ → Name → Fault → Type 0
+IsTraceFault bytes name fault =
+    ((error : TextError) × (fault ≡ Text name error) × BeginWithNoTrace bytes) ⊎ ((fault ≡ BytesAfterTrace name) × GoOnBehindATrace bytes) ⊎ (fault ≡ OutOfMemory)
 
 -- the file begins with no trace's text, or already its first line is longer than that of any text
 abbrev pub IsNoTrace : Held → List ℕ → Type 0

@@ -8,8 +8,8 @@ ghost use Rattle.check_command.specs.Checking.{IsVerdictTold, IsVerdict, IsVerdi
 ghost use Rattle.check_command.specs.Checking.{IsCheckFault};
 ghost use Rattle.command_files.specs.Faults.{LeavesAtFault};
 
+use crate::reading::whole_trace;
 use command_files::{Fault, Files, remark, text_in};
-use file_remarks::{BehindRemark, TraceRemark};
 use machine_model::MemoryModel;
 use order_remarks::{OrderRemark, RunRemark};
 use rvwmo_order::{CheckError, Verdict, check_model, completed, has_too_many};
@@ -17,7 +17,6 @@ use std::alloc::Global;
 use std::io::{self, Write};
 use text_fields::{Piece, put_pieces};
 use trace_recorder::Trace;
-use trace_text::read_trace;
 
 /// Reads a trace, judges its completed order under the model, and prints the verdict on `out`.
 pub fn check_file<'a, F: Files, O: Write>(
@@ -34,19 +33,7 @@ pub fn check_file<'a, F: Files, O: Write>(
     ensures spared { F.held files.new ≡ F.held files.old }
 {
     let bytes = text_in(alloc, files, file)?;
-    let (trace, length) = match read_trace(alloc, bytes.as_slice()) {
-        Ok(read) => read,
-        Err(error) => {
-            let bytes = bytes.as_slice();
-            remark(alloc, files, TraceRemark { bytes, error });
-            return Err(Fault::text(file, error));
-        }
-    };
-    if length < bytes.len() {
-        let bytes = bytes.as_slice();
-        remark(alloc, files, BehindRemark { bytes, length });
-        return Err(Fault::BytesAfterTrace { file });
-    }
+    let trace = whole_trace(alloc, files, file, bytes.as_slice())?;
     drop(bytes); // judging needs the room
     let verdict = match judged(alloc, &trace, model) {
         Ok(verdict) => verdict,

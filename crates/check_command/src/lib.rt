@@ -3,6 +3,7 @@
 
 mod checking;
 mod messages;
+mod reading;
 
 pub use checking::check_file;
 pub use messages::check_messages;

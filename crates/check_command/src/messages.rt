@@ -6,14 +6,13 @@ ghost use Rattle.log_text.specs.Verdicts.{verdict_text};
 ghost use Rattle.check_command.specs.Messages.{IsLogCutOff, IsLogFault, IsLogJudged};
 ghost use Rattle.command_files.specs.Faults.{LeavesAtFault};
 
-use command_files::{Fault, Files, remark, text_in};
-use file_remarks::{BehindRemark, TraceRemark};
+use crate::reading::whole_trace;
+use command_files::{Fault, Files, text_in};
 use lawful_log::{LogVerdict, check_log};
 use log_text::{Objection, end_text, line_of_message, put_verdict};
 use std::alloc::Global;
 use std::io::{self, Write};
 use trace_recorder::Trace;
-use trace_text::read_trace;
 
 /// Reads a trace, or one that ends behind its messages, judges its log, and prints the verdict on `out`.
 /// Where the log isn't lawful, the line of the message that breaks a rule, and what stood against it, go to
@@ -30,24 +29,13 @@ pub fn check_messages<'a, F: Files, O: Write, E: Write>(
         (IsLogCutOff (F.held files.old) file.entry.now (O.contents out.old) (O.contents out.new))) }
     ensures told { IfErr result (IsLogFault (F.held files.old) file.entry) }
     ensures spared { F.held files.new ≡ F.held files.old }
+    ensures quiet { IfOk result (λ verdict. verdict ≡ LogVerdict.Lawful → E.contents err.new ≡ E.contents err.old) }
 {
     let mut bytes = text_in(alloc, files, file)?;
     let Ok(()) = end_text(&mut bytes) else {
         return Err(Fault::OutOfMemory);
     };
-    let (trace, length) = match read_trace(alloc, bytes.as_slice()) {
-        Ok(read) => read,
-        Err(error) => {
-            let bytes = bytes.as_slice();
-            remark(alloc, files, TraceRemark { bytes, error });
-            return Err(Fault::text(file, error));
-        }
-    };
-    if length < bytes.len() {
-        let bytes = bytes.as_slice();
-        remark(alloc, files, BehindRemark { bytes, length });
-        return Err(Fault::BytesAfterTrace { file });
-    }
+    let trace = whole_trace(alloc, files, file, bytes.as_slice())?;
     let Ok(verdict) = check_log(alloc, trace.log()) else {
         return Err(Fault::OutOfMemory);
     };
@@ -73,7 +61,9 @@ fn object<E: Write>(
     trace: &Trace,
     verdict: LogVerdict,
     err: &mut E,
-) -> io::Result<()> {
+) -> io::Result<()>
+    ensures { verdict ≡ LogVerdict.Lawful → E.contents err.new ≡ E.contents err.old }
+{
     let LogVerdict::Unlawful { rule, index } = verdict else {
         return Ok(());
     };
