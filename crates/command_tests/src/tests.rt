@@ -60,6 +60,38 @@ fn image_of(alloc: Global, words: &[u32]) -> Result<Vec<u8>, Fail> {
     Ok(bytes)
 }
 
+/// The run ended so, and this and no more went to standard error.
+fn told(rt: &impl Abort, ran: &Ran, status: u8, err: &str) {
+    same_of(rt, ran.err.as_slice(), err.as_bytes(), &err);
+    same_of(rt, ran.status, status, &err);
+}
+
+/// The run ended so, and printed this and no more.
+fn gave(rt: &impl Abort, ran: &Ran, status: u8, out: &str, err: &str) {
+    told(rt, ran, status, err);
+    same_of(rt, ran.out.as_slice(), out.as_bytes(), &err);
+}
+
+/// The run ended so, and its output begins so.
+fn began(rt: &impl Abort, ran: &Ran, status: u8, out: &str, err: &str) {
+    told(rt, ran, status, err);
+    same_of(rt, ran.out.starts_with(out.as_bytes()), true, &out);
+}
+
+/// The run was asked for in words that mean nothing: it says so, and prints nothing.
+fn is_no_usage(rt: &impl Abort, ran: &Ran, of: &str) {
+    let has = (ran.status, ran.out.is_empty(), ran.err.is_empty());
+    same_of(rt, has, (2, true, false), &of);
+}
+
+fn joined(alloc: Global, pieces: &[&str]) -> Result<Vec<u8>, Fail> {
+    let mut text = Vec::new(alloc);
+    for piece in pieces {
+        text.extend_from_slice(piece.as_bytes())?;
+    }
+    Ok(text)
+}
+
 fn replays(
     rt: &(impl Abort + Threads + Wait + Sync + AllocGlobal),
     words: &[u32],
@@ -69,9 +101,7 @@ fn replays(
 ) -> Result<(), Fail> {
     let image = image_of(rt.alloc(), words)?;
     let ran = replay(rt, image.as_slice(), script.as_bytes());
-    same(rt, ran.err.as_slice(), ends.as_bytes());
-    same(rt, ran.out.as_slice(), trace.as_bytes());
-    same(rt, ran.status, 0);
+    gave(rt, &ran, 0, trace, ends);
     Ok(())
 }
 
@@ -100,7 +130,7 @@ fn breaks_anywhere<R: Abort + Threads + Wait + Sync + AllocGlobal>(
     rt: &R,
     words: &[&str],
     files: &[File<'_>],
-    text: &str,
+    text: &[u8],
 ) -> Result<(), Fail> {
     for room in 0..text.len() {
         let mut out = Narrow {
@@ -108,10 +138,21 @@ fn breaks_anywhere<R: Abort + Threads + Wait + Sync + AllocGlobal>(
             room,
         };
         breaks_off(rt, words, files, &mut out)?;
-        same(rt, out.taken.len(), room);
-        assert!(rt; text.as_bytes().starts_with(out.taken.as_slice()));
+        same(rt, Some(out.taken.as_slice()), text.get(..room));
     }
     Ok(())
+}
+
+/// Standard output that takes all bytes, and can't pass them on.
+fn loses_the_end<R: Abort + Threads + Wait + Sync + AllocGlobal>(
+    rt: &R,
+    words: &[&str],
+    files: &[File<'_>],
+) -> Result<(), Fail> {
+    let mut out = Stuck {
+        taken: Vec::new(rt.alloc()),
+    };
+    breaks_off(rt, words, files, &mut out)
 }
 
 /// It also refuses a program that always tells want of memory, as each contract allows.
@@ -180,111 +221,93 @@ fn outputs_stand_behind_the_status(rt: HostRuntime) -> Result<(), Fail> {
     )?;
     let script = "rvtl-script 1 1 4 4 2\nstep 0\nstep 0\nstep 0\nstep 0\n";
     let ran = replay(&rt, image.as_slice(), script.as_bytes());
-    same(
-        &rt,
-        ran.err.as_slice(),
-        b"hart 0: run output 4294967295 4294967295\n".as_slice(),
-    );
-    same(&rt, ran.status, 0);
+    told(&rt, &ran, 0, "hart 0: run output 4294967295 4294967295\n");
     Ok(())
 }
 
 #[test]
 fn stops_are_told(rt: HostRuntime) {
     let ran = replay(&rt, &[0; 4], b"rvtl-script 1 1 4 4 2\nstep 0\n");
-    same(&rt, ran.err.as_slice(), b"hart 0: stop 2\n".as_slice());
-    same(&rt, ran.status, 0);
+    told(&rt, &ran, 0, "hart 0: stop 2\n");
 }
 
-/// An image, a script, and the message and status that they give.
-const FAULTS: [(&[u8], &[u8], &str, u8); 9] = [
+/// An image, a script, and the message that they give.
+const FAULTS: [(&[u8], &[u8], &str); 9] = [
     (
         &[0; 4],
         b"rvtl-script 1 1 4 4 2\nstep 00\n",
         "rvtl: script: line 2: text fault 3 Fields\n",
-        1,
     ),
-    (&[0; 4], b"", "rvtl: script: line 1: text fault 5 End\n", 1),
+    (&[0; 4], b"", "rvtl: script: line 1: text fault 5 End\n"),
     (
         &[0; 4],
         b"rvtl-script 1 1 6 4 2\n",
         "rvtl: script: line 1: text fault 1 Header\n",
-        1,
     ),
     (
         &[0; 4],
         b"rvtl-script 1 1 4 4 2\nstop 0\n",
         "rvtl: script: line 2: text fault 2 Word\n",
-        1,
     ),
     (
         &[0; 3],
         b"rvtl-script 1 1 4 4 2\n",
         "rvtl: image: image fault 1 Short\n",
-        1,
     ),
     (
         &[0; 4100],
         b"rvtl-script 1 1 4 4 2\n",
         "rvtl: image: image fault 8 SegmentOutside\n",
-        1,
     ),
     (
         &[0; 3],
         b"rvtl-script 1 1 4 4",
         "rvtl: script: line 1: text fault 5 End\n",
-        1,
     ),
     (
         &[0; 4],
         b"rvtl-script 1 1 4 4 2\nstep 0\nstep 9\n",
         "rvtl: script: line 3: event fault 1 BadEvent\n",
-        1,
     ),
     (
         &[0; 4],
         b"rvtl-script 1 1 4 4 2\ndrain 0 0x80000102\n",
         "rvtl: script: line 2: event fault 1 BadEvent\n",
-        1,
     ),
 ];
 
 /// Each fault has its message and status, and nothing goes to standard output.
 #[test]
 fn row_23_and_the_other_faults(rt: HostRuntime) {
-    for (image, script, message, status) in FAULTS {
+    for (image, script, message) in &FAULTS {
         let ran = replay(&rt, image, script);
-        assert_eq!(rt; ran.err.as_slice(), message.as_bytes(), "{message}");
-        assert_eq!(rt; ran.status, status, "{message}");
-        assert!(rt; ran.out.is_empty(), "{message}");
+        gave(&rt, &ran, 1, "", message);
     }
 }
+
+/// Words that name a file that isn't there, and the message.
+const MISSING: [(&[&str], &str); 3] = [
+    (
+        &["rvtl", "replay", "--raw", "image", "gone"],
+        "rvtl: gone: cannot read\n",
+    ),
+    (
+        &["rvtl", "replay", "--raw", "image", "script"],
+        "rvtl: image: cannot read\n",
+    ),
+    (
+        &["rvtl", "replay", "image", "gone"],
+        "rvtl: gone: cannot read\n",
+    ),
+];
 
 /// The script is judged first.
 #[test]
 fn files_that_are_not_there(rt: HostRuntime) {
     let script = [File::whole("script", b"rvtl-script 1 1 4 4 2\n")];
-    for (words, message, status) in [
-        (
-            ["rvtl", "replay", "--raw", "image", "gone"].as_slice(),
-            "rvtl: gone: cannot read\n",
-            1,
-        ),
-        (
-            &["rvtl", "replay", "--raw", "image", "script"],
-            "rvtl: image: cannot read\n",
-            1,
-        ),
-        (
-            &["rvtl", "replay", "image", "gone"],
-            "rvtl: gone: cannot read\n",
-            1,
-        ),
-    ] {
+    for (words, message) in &MISSING {
         let ran = line(&rt, words, &script);
-        same_of(&rt, ran.err.as_slice(), message.as_bytes(), &message);
-        same_of(&rt, ran.status, status, &message);
-        assert!(rt; ran.out.is_empty(), "{message}");
+        gave(&rt, &ran, 1, "", message);
     }
 }
 
@@ -295,38 +318,26 @@ fn files_that_break(rt: HostRuntime) {
     let script = File::whole("script", texts::EXIT_SCRIPT.as_bytes());
     let broken = File::broken("script", texts::EXIT_SCRIPT.as_bytes());
     let ran = line(&rt, &words, &[broken, File::whole("image", &[0; 4])]);
-    same(
-        &rt,
-        ran.err.as_slice(),
-        b"rvtl: script: cannot read\n".as_slice(),
-    );
-    same(&rt, ran.status, 1);
+    told(&rt, &ran, 1, "rvtl: script: cannot read\n");
     let ran = line(&rt, &words, &[script, File::broken("image", &[0; 4])]);
-    same(
-        &rt,
-        ran.err.as_slice(),
-        b"rvtl: image: cannot read\n".as_slice(),
-    );
-    same(&rt, ran.status, 1);
+    told(&rt, &ran, 1, "rvtl: image: cannot read\n");
 }
+
+const READERS: [&[&str]; 3] = [
+    &["rvtl", "replay", "--raw", "image", "long"],
+    &["rvtl", "check", "long"],
+    &["rvtl", "check", "--messages", "long"],
+];
 
 /// A file whose first line is longer than any text's is refused by its beginning: this one fails behind it.
 #[test]
 fn no_more_is_read_than_decides(rt: HostRuntime) -> Result<(), Fail> {
     let mut long = Vec::new(rt.alloc());
     long.resize(65_536, b'x')?;
-    for words in [
-        ["rvtl", "replay", "--raw", "image", "long"].as_slice(),
-        &["rvtl", "check", "long"],
-        &["rvtl", "check", "--messages", "long"],
-    ] {
-        let ran = line(&rt, words, &[File::broken("long", long.as_slice())]);
-        same(
-            &rt,
-            ran.err.as_slice(),
-            b"rvtl: long: line 1: text fault 1 Header\n".as_slice(),
-        );
-        same(&rt, ran.status, 1);
+    let files = [File::broken("long", long.as_slice())];
+    for words in &READERS {
+        let ran = line(&rt, words, &files);
+        told(&rt, &ran, 1, "rvtl: long: line 1: text fault 1 Header\n");
     }
     Ok(())
 }
@@ -339,8 +350,16 @@ fn streams_that_break(rt: HostRuntime) -> Result<(), Fail> {
         File::whole("script", texts::LOAD_SCRIPT.as_bytes()),
     ];
     let words = ["rvtl", "replay", "--raw", "image", "script"];
-    breaks_anywhere(&rt, &words, &files, texts::LOAD_TRACE)
+    breaks_anywhere(&rt, &words, &files, texts::LOAD_TRACE.as_bytes())
 }
+
+const WRITERS: [&[&str]; 5] = [
+    &["rvtl", "replay", "--raw", "image", "script"],
+    &["rvtl", "check", "legal"],
+    &["rvtl", "check", "--model", "ztso", "passing"],
+    &["rvtl", "check", "--messages", "legal"],
+    &["rvtl", "run", "--raw", "--journal", "journal", "image"],
+];
 
 /// What was not passed on is not printed: neither a trace nor a verdict, legal or not, ends well.
 #[test]
@@ -352,17 +371,8 @@ fn streams_that_lose_the_end(rt: HostRuntime) -> Result<(), Fail> {
         File::whole("legal", texts::LOAD_TRACE.as_bytes()),
         File::whole("passing", orders::MESSAGE_PASSING.as_bytes()),
     ];
-    for words in [
-        ["rvtl", "replay", "--raw", "image", "script"].as_slice(),
-        &["rvtl", "check", "legal"],
-        &["rvtl", "check", "--model", "ztso", "passing"],
-        &["rvtl", "check", "--messages", "legal"],
-        &["rvtl", "run", "--raw", "--journal", "journal", "image"],
-    ] {
-        let mut out = Stuck {
-            taken: Vec::new(rt.alloc()),
-        };
-        breaks_off(&rt, words, &files, &mut out)?;
+    for words in &WRITERS {
+        loses_the_end(&rt, words, &files)?;
     }
     Ok(())
 }
@@ -373,99 +383,87 @@ fn two_harts_end(rt: HostRuntime) -> Result<(), Fail> {
     let image = image_of(rt.alloc(), &texts::EXIT)?;
     let script = "rvtl-script 1 2 4 4 2\nstep 1\nstep 1\nstep 0\n";
     let ran = replay(&rt, image.as_slice(), script.as_bytes());
-    same(
-        &rt,
-        ran.err.as_slice(),
-        b"hart 0: run\nhart 1: exit 5\n".as_slice(),
-    );
-    same(&rt, ran.status, 0);
+    told(&rt, &ran, 0, "hart 0: run\nhart 1: exit 5\n");
     Ok(())
 }
 
+const NO_USAGE: [&[&str]; 6] = [
+    &["rvtl"],
+    &["rvtl", "play"],
+    &["rvtl", "replay", "--raw", "image"],
+    &["rvtl", "replay", "--row", "image", "script"],
+    &["rvtl", "run", "--raw", "image"],
+    &["rvtl", "explain", "--strict", "image"],
+];
+
 #[test]
-fn usage_and_help(rt: HostRuntime) {
-    for (words, status) in [
-        (["rvtl"].as_slice(), 2),
-        (&["rvtl", "play"], 2),
-        (&["rvtl", "replay", "--raw", "image"], 2),
-        (&["rvtl", "replay", "--row", "image", "script"], 2),
-        (&["rvtl", "run", "--raw", "image"], 2),
-        (&["rvtl", "explain", "--strict", "image"], 2),
-        (&["rvtl", "--help"], 0),
-        (&["rvtl", "replay", "--help"], 0),
-        (&["rvtl", "explain", "--help"], 0),
-    ] {
+fn usage(rt: HostRuntime) {
+    for words in &NO_USAGE {
         let ran = line(&rt, words, &[]);
-        same_of(&rt, ran.status, status, &words);
-        assert!(rt; ran.out.is_empty() == (status == 2), "{words:?}");
-        assert!(rt; ran.err.is_empty() == (status == 0), "{words:?}");
+        is_no_usage(&rt, &ran, "");
     }
 }
 
 #[test]
 fn a_name_stays_on_its_line(rt: HostRuntime) {
     let ran = line(&rt, &["rvtl", "replay", "image", "a\nb\x1b[2J"], &[]);
-    same(
-        &rt,
-        ran.err.as_slice(),
-        b"rvtl: a\\nb\\u{1b}[2J: cannot read\n".as_slice(),
-    );
-    same(&rt, ran.status, 1);
+    told(&rt, &ran, 1, "rvtl: a\\nb\\u{1b}[2J: cannot read\n");
 }
+
+const NO_NUMBERS: [(&str, &str); 4] = [
+    ("--limit", "0"),
+    ("--limit", "1000000001"),
+    ("--harts", "4294967296"),
+    ("--line", "wide"),
+];
 
 /// Numbers that a run's options don't take.
 #[test]
 fn usage_of_a_run(rt: HostRuntime) {
-    for (option, number) in [
-        ("--limit", "0"),
-        ("--limit", "1000000001"),
-        ("--harts", "4294967296"),
-        ("--line", "wide"),
-    ] {
-        let words = ["rvtl", "run", option, number, "--journal", "j", "image"];
+    for (option, number) in &NO_NUMBERS {
+        let words = ["rvtl", "run", *option, *number, "--journal", "j", "image"];
         let ran = line(&rt, &words, &[]);
-        assert_eq!(rt; ran.status, 2, "{option} {number}");
-        assert!(rt; ran.out.is_empty(), "{option} {number}");
-        assert!(rt; !ran.err.is_empty(), "{option} {number}");
+        is_no_usage(&rt, &ran, number);
     }
 }
+
+/// Words that ask for help, how the words go, and an example.
+const HELP: [(&[&str], &str, &str); 5] = [
+    (
+        &["rvtl", "--help"],
+        "Usage: rvtl <COMMAND>\n",
+        "Example: rvtl replay --raw examples/exit.bin examples/exit.script\n",
+    ),
+    (
+        &["rvtl", "replay", "--help"],
+        "Usage: rvtl replay [OPTIONS] <IMAGE> <SCRIPT>\n",
+        "Example: rvtl replay --raw examples/exit.bin examples/exit.script\n",
+    ),
+    (
+        &["rvtl", "explain", "--help"],
+        "Usage: rvtl explain [OPTIONS] <IMAGE> <SCRIPT>\n",
+        "Example: rvtl explain --raw examples/load.bin examples/load.script\n",
+    ),
+    (
+        &["rvtl", "run", "--help"],
+        "Usage: rvtl run [OPTIONS] --journal <FILE> <IMAGE>\n",
+        "Example: rvtl run --raw --journal exit.journal examples/exit.bin\n",
+    ),
+    (
+        &["rvtl", "check", "--help"],
+        "Usage: rvtl check [OPTIONS] <TRACE>\n",
+        "Example: rvtl check examples/legal.trace\n",
+    ),
+];
 
 /// Each help says how the words go, and has an example.
 #[test]
 fn help_teaches(rt: HostRuntime) {
-    for (words, usage, example) in [
-        (
-            ["rvtl", "--help"].as_slice(),
-            "Usage: rvtl <COMMAND>\n",
-            "Example: rvtl replay --raw examples/exit.bin examples/exit.script\n",
-        ),
-        (
-            &["rvtl", "replay", "--help"],
-            "Usage: rvtl replay [OPTIONS] <IMAGE> <SCRIPT>\n",
-            "Example: rvtl replay --raw examples/exit.bin examples/exit.script\n",
-        ),
-        (
-            &["rvtl", "explain", "--help"],
-            "Usage: rvtl explain [OPTIONS] <IMAGE> <SCRIPT>\n",
-            "Example: rvtl explain --raw examples/load.bin examples/load.script\n",
-        ),
-        (
-            &["rvtl", "run", "--help"],
-            "Usage: rvtl run [OPTIONS] --journal <FILE> <IMAGE>\n",
-            "Example: rvtl run --raw --journal exit.journal examples/exit.bin\n",
-        ),
-        (
-            &["rvtl", "check", "--help"],
-            "Usage: rvtl check [OPTIONS] <TRACE>\n",
-            "Example: rvtl check examples/legal.trace\n",
-        ),
-    ] {
+    for (words, usage, example) in &HELP {
         let ran = line(&rt, words, &[]);
-        let Ok(text) = std::str::from_utf8(ran.out.as_slice()) else {
-            assert!(rt; false, "{words:?}");
-            return;
-        };
-        assert!(rt; text.contains(usage), "{words:?}");
-        assert!(rt; text.ends_with(example), "{words:?}");
+        told(&rt, &ran, 0, "");
+        let text = std::str::from_utf8(ran.out.as_slice()).unwrap_or("");
+        same_of(&rt, text.contains(*usage), true, usage);
+        same_of(&rt, text.ends_with(*example), true, usage);
     }
 }

@@ -1,8 +1,7 @@
 //! What `rvtl chart` prints, and how it ends.
 
-use super::memory::Stuck;
-use super::{File, breaks_off, image_of, line, texts};
-use crate::same::same;
+use super::{File, began, gave, image_of, is_no_usage, line, loses_the_end, texts};
+use crate::same::{same, same_of};
 use std::test::Fail;
 
 const TOO_MANY: &str =
@@ -21,14 +20,9 @@ fn a_picture_is_drawn(rt: HostRuntime) -> Result<(), Fail> {
     ];
     let words = ["rvtl", "chart", "--raw", "image", "script"];
     let ran = line(&rt, &words, &files);
-    assert!(rt; ran.err.is_empty());
-    assert!(rt; ran.out.as_slice().starts_with(b"<svg "));
-    assert!(rt; ran.out.as_slice().ends_with(b"</svg>\n"));
-    same(&rt, ran.status, 0);
-    let mut out = Stuck {
-        taken: Vec::new(rt.alloc()),
-    };
-    breaks_off(&rt, &words, &files, &mut out)
+    began(&rt, &ran, 0, "<svg ", "");
+    same(&rt, ran.out.ends_with(b"</svg>\n"), true);
+    loses_the_end(&rt, &words, &files)
 }
 
 /// 400 rows are drawn, and no more.
@@ -45,21 +39,20 @@ fn rows_end_at_400(rt: HostRuntime) -> Result<(), Fail> {
     same(&rt, drawn.status, 0);
     script.extend_from_slice(b"step 0\n")?;
     let refused = line(&rt, &words, &over(image.as_slice(), script.as_slice()));
-    assert!(rt; refused.out.is_empty());
-    same(&rt, refused.err.as_slice(), TOO_MANY.as_bytes());
-    same(&rt, refused.status, 1);
+    gave(&rt, &refused, 1, "", TOO_MANY);
     Ok(())
 }
+
+const NO_ADDRESSES: [&str; 3] = ["here", "0x", "4294967296"];
 
 /// Neither a word nor a number beyond 32 bits is an address.
 #[test]
 fn what_is_no_address(rt: HostRuntime) -> Result<(), Fail> {
-    for word in ["here", "0x", "4294967296"] {
-        let words = ["rvtl", "chart", "--line", word, "image", "script"];
+    for word in &NO_ADDRESSES {
+        let words = ["rvtl", "chart", "--line", *word, "image", "script"];
         let ran = line(&rt, &words, &[]);
-        assert!(rt; ran.out.is_empty());
-        assert!(rt; ran.err.as_slice().ends_with(b": no address\n"), "{word}");
-        same(&rt, ran.status, 2);
+        is_no_usage(&rt, &ran, word);
+        same_of(&rt, ran.err.ends_with(b": no address\n"), true, word);
     }
     Ok(())
 }

@@ -1,23 +1,30 @@
 //! What `rvtl explain` prints, and how it ends.
 
-use super::memory::{File, Stuck};
+use super::memory::File;
 use super::showing::LOST_UPDATE;
-use super::{Ran, breaks_anywhere, breaks_off, image_of, line, texts};
+use super::{Ran, breaks_anywhere, gave, image_of, joined, line, loses_the_end, texts, told};
 use crate::same::same;
 use std::process::Abort;
 use std::sync::Wait;
 use std::test::Fail;
 use std::thread::Threads;
 
-/// The I, R, P, M and H lines are those of the worked row's trace, below the events of its script.
-const LOAD_STREAM: &str = "rvtl-stream 1
+/// The second step asks for the line, so the third has to wait for its Grant.
+const WAITING_SCRIPT: &str = "rvtl-script 1 1 4 4 2\nstep 0\nstep 0\nstep 0\n";
+
+/// How the stream of both scripts begins. The I, R, P, M and H lines are those of the worked row's trace, below the
+/// events of its script.
+const START: &str = "rvtl-stream 1
 T 1 4 0x80000000
 I 0x80000000 37060080032706000000000000000000
 E 2 step 0 Retired
 R 0 0x80000000 0x80000637 - - ; lui a2, 0x80000
 E 3 step 0 Missed 0x80000000
 M s A 0 AcquireBlock 0x80000000 NtoB
-E 4 deliver A 0 Delivered
+";
+
+/// What stands behind it for the worked row.
+const LOAD_END: &str = "E 4 deliver A 0 Delivered
 M t A 0 AcquireBlock 0x80000000 NtoB
 M s D 0 GrantData 0x80000000 toB 37060080032706000000000000000000
 E 5 deliver D 0 Delivered
@@ -31,22 +38,13 @@ P 0 1
 H 0 run ; Stopped 2
 ";
 
-/// The second step asks for the line, so the third has to wait for its Grant.
-const WAITING_SCRIPT: &str = "rvtl-script 1 1 4 4 2\nstep 0\nstep 0\nstep 0\n";
-
-const WAITING_START: &str = "rvtl-stream 1
-T 1 4 0x80000000
-I 0x80000000 37060080032706000000000000000000
-E 2 step 0 Retired
-R 0 0x80000000 0x80000637 - - ; lui a2, 0x80000
-E 3 step 0 Missed 0x80000000
-M s A 0 AcquireBlock 0x80000000 NtoB
+/// What stands behind it for the hart that waits.
+const WAITING_END: &str = "E 4 step 0 WaitGrant
+H 0 run ; WaitGrant 0x80000000 ; lw a4, 0(a2)
 ";
 
 /// What the machine then holds: the request stands in its queue, so the manager has noted nothing.
-const WAITING_END: &str = "E 4 step 0 WaitGrant
-H 0 run ; WaitGrant 0x80000000 ; lw a4, 0(a2)
-X 0 pc 0x80000004
+const WAITING_STATE: &str = "X 0 pc 0x80000004
 X 0 a1 0x00000001
 X 0 a2 0x80000000
 A 0 0x80000000
@@ -87,50 +85,41 @@ fn explain<R: Abort + Threads + Wait + Sync + AllocGlobal>(
     Ok(line(rt, words.as_slice(), &files))
 }
 
+/// The stream is whole, and has these pieces.
+fn explains<R: Abort + Threads + Wait + Sync + AllocGlobal>(
+    rt: &R,
+    options: &[&str],
+    script: &str,
+    pieces: &[&str],
+) -> Result<(), Fail> {
+    let ran = explain(rt, options, script)?;
+    told(rt, &ran, 0, "");
+    let stream = joined(rt.alloc(), pieces)?;
+    same(rt, ran.out.as_slice(), stream.as_slice());
+    Ok(())
+}
+
 #[test]
 fn row_18_is_explained(rt: HostRuntime) -> Result<(), Fail> {
-    for options in [[].as_slice(), &["--strict"]] {
-        let ran = explain(&rt, options, texts::LOAD_SCRIPT)?;
-        assert!(rt; ran.err.is_empty());
-        same(&rt, ran.out.as_slice(), LOAD_STREAM.as_bytes());
-        same(&rt, ran.status, 0);
-    }
-    Ok(())
+    explains(&rt, &[], texts::LOAD_SCRIPT, &[START, LOAD_END])?;
+    explains(&rt, &["--strict"], texts::LOAD_SCRIPT, &[START, LOAD_END])
 }
 
 #[test]
 fn a_strict_stream_ends_where_nothing_happens(rt: HostRuntime) -> Result<(), Fail> {
     let ran = explain(&rt, &["--strict"], WAITING_SCRIPT)?;
-    same(
-        &rt,
-        ran.err.as_slice(),
-        b"rvtl: script: line 4: nothing happens: WaitGrant\n".as_slice(),
-    );
-    same(&rt, ran.out.as_slice(), WAITING_START.as_bytes());
-    same(&rt, ran.status, 1);
-    let ran = explain(&rt, &[], WAITING_SCRIPT)?;
-    assert!(rt; ran.err.is_empty());
-    assert!(rt; ran.out.as_slice().starts_with(WAITING_START.as_bytes()));
-    assert!(rt;
-        ran.out.as_slice().ends_with(
-            b"E 4 step 0 WaitGrant\nH 0 run ; WaitGrant 0x80000000 ; lw a4, 0(a2)\n"
-        )
-    );
-    same(&rt, ran.status, 0);
-    Ok(())
+    let message = "rvtl: script: line 4: nothing happens: WaitGrant\n";
+    gave(&rt, &ran, 1, START, message);
+    explains(&rt, &[], WAITING_SCRIPT, &[START, WAITING_END])
 }
 
 #[test]
 fn a_state_stands_behind_a_whole_stream_alone(rt: HostRuntime) -> Result<(), Fail> {
-    let ran = explain(&rt, &["--state"], WAITING_SCRIPT)?;
-    assert!(rt; ran.err.is_empty());
-    assert!(rt; ran.out.as_slice().starts_with(WAITING_START.as_bytes()));
-    assert!(rt; ran.out.as_slice().ends_with(WAITING_END.as_bytes()));
-    assert_eq!(rt; ran.out.len(), WAITING_START.len() + WAITING_END.len());
-    assert_eq!(rt; ran.status, 0);
+    let whole = [START, WAITING_END, WAITING_STATE];
+    explains(&rt, &["--state"], WAITING_SCRIPT, &whole)?;
     let ran = explain(&rt, &["--state", "--strict"], WAITING_SCRIPT)?;
-    assert_eq!(rt; ran.out.as_slice(), WAITING_START.as_bytes());
-    assert_eq!(rt; ran.status, 1);
+    same(&rt, ran.out.as_slice(), START.as_bytes());
+    same(&rt, ran.status, 1);
     Ok(())
 }
 
@@ -141,22 +130,15 @@ fn a_file_with_symbols_names_addresses(rt: HostRuntime) -> Result<(), Fail> {
         File::whole("script", WAITING_SCRIPT.as_bytes()),
     ];
     let ran = line(&rt, &["rvtl", "explain", "image", "script"], &files);
-    assert!(rt; ran.err.is_empty());
-    assert_eq!(rt; ran.out.as_slice(), NAMED_STREAM.as_bytes());
-    assert_eq!(rt; ran.status, 0);
+    gave(&rt, &ran, 0, NAMED_STREAM, "");
     Ok(())
 }
 
 #[test]
 fn what_came_before_a_refused_event_is_told(rt: HostRuntime) -> Result<(), Fail> {
     let ran = explain(&rt, &[], REFUSED_SCRIPT)?;
-    same(
-        &rt,
-        ran.err.as_slice(),
-        b"rvtl: script: line 4: event fault 1 BadEvent\n".as_slice(),
-    );
-    same(&rt, ran.out.as_slice(), WAITING_START.as_bytes());
-    same(&rt, ran.status, 1);
+    let message = "rvtl: script: line 4: event fault 1 BadEvent\n";
+    gave(&rt, &ran, 1, START, message);
     Ok(())
 }
 
@@ -168,13 +150,11 @@ fn streams_that_break(rt: HostRuntime) -> Result<(), Fail> {
         File::whole("script", texts::LOAD_SCRIPT.as_bytes()),
         File::whole("waiting", WAITING_SCRIPT.as_bytes()),
     ];
-    for (script, text) in [("script", LOAD_STREAM), ("waiting", WAITING_START)] {
-        let words = ["rvtl", "explain", "--strict", "--raw", "image", script];
-        breaks_anywhere(&rt, &words, &files, text)?;
-        let mut out = Stuck {
-            taken: Vec::new(rt.alloc()),
-        };
-        breaks_off(&rt, &words, &files, &mut out)?;
-    }
-    Ok(())
+    let strict = ["rvtl", "explain", "--strict", "--raw", "image", "script"];
+    let waiting = ["rvtl", "explain", "--strict", "--raw", "image", "waiting"];
+    let stream = joined(rt.alloc(), &[START, LOAD_END])?;
+    breaks_anywhere(&rt, &strict, &files, stream.as_slice())?;
+    breaks_anywhere(&rt, &waiting, &files, START.as_bytes())?;
+    loses_the_end(&rt, &strict, &files)?;
+    loses_the_end(&rt, &waiting, &files)
 }

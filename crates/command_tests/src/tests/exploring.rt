@@ -1,7 +1,9 @@
 //! What `rvtl explore` prints, writes and answers.
 
 use super::memory::{File, MemoryFiles};
-use super::{Ran, breaks_anywhere, image_of, line, line_over, replay, texts};
+use super::{
+    Ran, began, breaks_anywhere, gave, image_of, is_no_usage, line, line_over, replay, texts, told,
+};
 use crate::same::{same, same_of};
 use std::sync::Wait;
 use std::test::Fail;
@@ -120,29 +122,23 @@ fn explore<R: Threads + Wait + Sync + AllocGlobal>(
     Ok((ran, files.written))
 }
 
+const EXIT_OUTCOMES: &str = "1  hart 0: exit 5\ncomplete: 1 outcomes, 1 states\n";
+
 /// All of its steps are its own alone, so that they are one state.
 #[test]
 fn an_exit_is_one_state(rt: HostRuntime) -> Result<(), Fail> {
     let image = image_of(rt.alloc(), &texts::EXIT)?;
     let files = [File::whole("image", &image)];
     let ran = line(&rt, &["rvtl", "explore", "--raw", "image"], &files);
-    same(
-        &rt,
-        ran.out.as_slice(),
-        b"1  hart 0: exit 5\ncomplete: 1 outcomes, 1 states\n".as_slice(),
-    );
-    same(&rt, ran.status, 0);
-    assert!(rt; ran.err.is_empty());
+    gave(&rt, &ran, 0, EXIT_OUTCOMES, "");
     Ok(())
 }
 
 #[test]
 fn each_outcome_has_its_line(rt: HostRuntime) -> Result<(), Fail> {
     let (ran, written) = explore(&rt, &[], b"")?;
-    assert!(rt; ran.out.starts_with(OUTCOMES.as_bytes()));
-    same(&rt, ran.status, 0);
-    assert!(rt; ran.err.is_empty());
-    assert!(rt; written.is_empty());
+    began(&rt, &ran, 0, OUTCOMES, "");
+    same(&rt, written.is_empty(), true);
     Ok(())
 }
 
@@ -150,16 +146,15 @@ fn each_outcome_has_its_line(rt: HostRuntime) -> Result<(), Fail> {
 #[test]
 fn a_script_leads_to_its_outcome(rt: HostRuntime) -> Result<(), Fail> {
     let (ran, written) = explore(&rt, &["--scripts", "folder"], b"")?;
-    assert!(rt; ran.out.starts_with(OUTCOMES.as_bytes()));
-    same(&rt, ran.status, 0);
+    began(&rt, &ran, 0, OUTCOMES, "");
     let image = image_of(rt.alloc(), &STORE_BUFFERING)?;
     let again = replay(&rt, &image, &written);
-    same(
+    told(
         &rt,
-        again.err.as_slice(),
-        b"hart 0: exit 0 output 0\nhart 1: exit 0 output 0\n".as_slice(),
+        &again,
+        0,
+        "hart 0: exit 0 output 0\nhart 1: exit 0 output 0\n",
     );
-    same(&rt, again.status, 0);
     // A hart's private instructions before its store, the store, its load that misses, the Acquire, the Grant, the
     // load, and then what puts its number out and exits: `li`, `ecall`, two `li` and `ecall`.
     same(
@@ -187,26 +182,14 @@ fn a_full_folder_is_told(rt: HostRuntime) -> Result<(), Fail> {
         "image",
     ];
     let ran = line_over(&rt, &words, &mut files);
-    assert!(rt; ran.out.starts_with(OUTCOMES.as_bytes()));
-    same(
-        &rt,
-        ran.err.as_slice(),
-        b"rvtl: folder: cannot write\n".as_slice(),
-    );
-    same(&rt, ran.status, 1);
+    began(&rt, &ran, 1, OUTCOMES, "rvtl: folder: cannot write\n");
     Ok(())
 }
 
 #[test]
 fn an_outcome_that_is_not_allowed(rt: HostRuntime) -> Result<(), Fail> {
     let (ran, _) = explore(&rt, &["--allow", "allowed"], ALLOWED.as_bytes())?;
-    assert!(rt; ran.out.starts_with(OUTCOMES.as_bytes()));
-    same(
-        &rt,
-        ran.err.as_slice(),
-        b"outcome 1 is not allowed\n".as_slice(),
-    );
-    same(&rt, ran.status, 3);
+    began(&rt, &ran, 3, OUTCOMES, "outcome 1 is not allowed\n");
     Ok(())
 }
 
@@ -214,8 +197,7 @@ fn an_outcome_that_is_not_allowed(rt: HostRuntime) -> Result<(), Fail> {
 #[test]
 fn what_was_printed_is_allowed(rt: HostRuntime) -> Result<(), Fail> {
     let (ran, _) = explore(&rt, &["--allow", "allowed"], OUTCOMES.as_bytes())?;
-    same(&rt, ran.status, 0);
-    assert!(rt; ran.err.is_empty());
+    told(&rt, &ran, 0, "");
     Ok(())
 }
 
@@ -231,36 +213,37 @@ fn a_limit_ends_the_search(rt: HostRuntime) -> Result<(), Fail> {
     Ok(())
 }
 
+/// Words, and the message and the status that they give.
+const FAULTS: [(&[&str], &str, u8); 4] = [
+    (
+        &["rvtl", "explore", "--raw", "gone"],
+        "rvtl: gone: cannot read\n",
+        1,
+    ),
+    (
+        &["rvtl", "explore", "--raw", "--allow", "gone", "image"],
+        "rvtl: gone: cannot read\n",
+        1,
+    ),
+    (
+        &["rvtl", "explore", "image"],
+        "rvtl: image: image fault 1 Short\n",
+        1,
+    ),
+    (
+        &["rvtl", "explore", "--raw", "--harts", "9", "image"],
+        "rvtl: bad configuration\n",
+        2,
+    ),
+];
+
 #[test]
 fn faults_of_an_exploration(rt: HostRuntime) -> Result<(), Fail> {
     let image = image_of(rt.alloc(), &texts::EXIT)?;
     let files = [File::whole("image", &image)];
-    for (words, message, status) in [
-        (
-            ["rvtl", "explore", "--raw", "gone"].as_slice(),
-            "rvtl: gone: cannot read\n",
-            1,
-        ),
-        (
-            &["rvtl", "explore", "--raw", "--allow", "gone", "image"],
-            "rvtl: gone: cannot read\n",
-            1,
-        ),
-        (
-            &["rvtl", "explore", "image"],
-            "rvtl: image: image fault 1 Short\n",
-            1,
-        ),
-        (
-            &["rvtl", "explore", "--raw", "--harts", "9", "image"],
-            "rvtl: bad configuration\n",
-            2,
-        ),
-    ] {
+    for (words, message, status) in &FAULTS {
         let ran = line(&rt, words, &files);
-        same_of(&rt, ran.err.as_slice(), message.as_bytes(), &message);
-        same_of(&rt, ran.status, status, &message);
-        assert!(rt; ran.out.is_empty(), "{message}");
+        gave(&rt, &ran, *status, "", message);
     }
     Ok(())
 }
@@ -268,19 +251,22 @@ fn faults_of_an_exploration(rt: HostRuntime) -> Result<(), Fail> {
 /// A number that isn't in its range.
 #[test]
 fn usage_of_an_exploration(rt: HostRuntime) {
-    for (option, number) in [("--states", "0"), ("--states", "1000000001")] {
-        let ran = line(&rt, &["rvtl", "explore", option, number, "image"], &[]);
-        assert_eq!(rt; ran.status, 2, "{option} {number}");
-        assert!(rt; ran.out.is_empty(), "{option} {number}");
+    for number in &["0", "1000000001"] {
+        let ran = line(&rt, &["rvtl", "explore", "--states", *number, "image"], &[]);
+        is_no_usage(&rt, &ran, number);
     }
 }
 
 #[test]
 fn an_output_that_breaks(rt: HostRuntime) -> Result<(), Fail> {
     let image = image_of(rt.alloc(), &texts::EXIT)?;
-    let text = "1  hart 0: exit 5\ncomplete: 1 outcomes, 1 states\n";
     let files = [File::whole("image", &image)];
-    breaks_anywhere(&rt, &["rvtl", "explore", "--raw", "image"], &files, text)
+    breaks_anywhere(
+        &rt,
+        &["rvtl", "explore", "--raw", "image"],
+        &files,
+        EXIT_OUTCOMES.as_bytes(),
+    )
 }
 
 /// So many of the runs came to the end.
@@ -290,10 +276,8 @@ fn random_runs_are_counted(rt: HostRuntime) -> Result<(), Fail> {
     let files = [File::whole("image", &image)];
     let words = ["rvtl", "explore", "--raw", "--sample", "3", "image"];
     let ran = line(&rt, &words, &files);
-    assert!(rt; ran.err.is_empty());
-    let text = b"1  3  hart 0: exit 5\nsampled: 3 runs, not complete\n";
-    same(&rt, ran.out.as_slice(), text.as_slice());
-    same(&rt, ran.status, 0);
+    let text = "1  3  hart 0: exit 5\nsampled: 3 runs, not complete\n";
+    gave(&rt, &ran, 0, text, "");
     Ok(())
 }
 
@@ -304,52 +288,53 @@ fn what_the_model_allows(rt: HostRuntime) -> Result<(), Fail> {
     let files = [File::whole("image", &image)];
     let words = ["rvtl", "explore", "--raw", "--architecture", "image"];
     let ran = line(&rt, &words, &files);
-    assert!(rt; ran.err.is_empty());
-    let out = ran.out.as_slice();
-    assert!(rt; out.starts_with(b"1  hart 0: exit 5   this machine\nsearched: 1 outcomes, "));
-    assert!(rt; out.ends_with(b" states, no window over 16 (not proved complete)\n"));
-    same(&rt, ran.status, 0);
+    let start = "1  hart 0: exit 5   this machine\nsearched: 1 outcomes, ";
+    began(&rt, &ran, 0, start, "");
+    let end = b" states, no window over 16 (not proved complete)\n";
+    same(&rt, ran.out.ends_with(end), true);
     Ok(())
 }
 
-/// A row of instructions without an access is followed as far as it may be long, and then told as left out.
-#[test]
-fn a_long_delay_is_told(rt: HostRuntime) -> Result<(), Fail> {
-    let words = ["rvtl", "explore", "--raw", "--architecture", "image"];
-    let image = image_of(rt.alloc(), &DELAYED)?;
-    let ran = line(&rt, &words, &[File::whole("image", &image)]);
-    let told = "1  hart 0: exit 0   this machine
-incomplete: 1 outcomes, 0 states, rows over 10000 instructions without an access left out
-";
-    same(&rt, ran.out.as_slice(), told.as_bytes());
-    assert!(rt; ran.err.is_empty());
-    same(&rt, ran.status, 0);
-    let image = image_of(rt.alloc(), &DELAYED_LESS)?;
-    let ran = line(&rt, &words, &[File::whole("image", &image)]);
-    let out = ran.out.as_slice();
-    assert!(rt; out.starts_with(b"1  hart 0: exit 0   this machine\nsearched: 1 outcomes, "));
-    Ok(())
-}
-
-/// A circle has no end, so that nothing is left out with it.
-#[test]
-fn a_circle_leaves_nothing_out(rt: HostRuntime) -> Result<(), Fail> {
-    let image = image_of(rt.alloc(), &CIRCLE)?;
+/// `rvtl explore --raw --architecture` of a program on so many harts.
+fn explore_model<R: Threads + Wait + Sync + AllocGlobal>(
+    rt: &R,
+    program: &[u32],
+    harts: &str,
+) -> Result<Ran, Fail> {
+    let image = image_of(rt.alloc(), program)?;
     let files = [File::whole("image", &image)];
     let words = [
         "rvtl",
         "explore",
         "--raw",
         "--harts",
-        "2",
+        harts,
         "--architecture",
         "image",
     ];
-    let ran = line(&rt, &words, &files);
-    let told = b"1  hart 0: exit 0   hart 1: exit 0   this machine\nsearched: 1 outcomes, ";
-    assert!(rt; ran.out.starts_with(told.as_slice()));
-    assert!(rt; ran.err.is_empty());
-    same(&rt, ran.status, 0);
+    Ok(line(rt, &words, &files))
+}
+
+/// A row of instructions without an access is followed as far as it may be long, and then told as left out.
+#[test]
+fn a_long_delay_is_told(rt: HostRuntime) -> Result<(), Fail> {
+    let ran = explore_model(&rt, &DELAYED, "1")?;
+    let text = "1  hart 0: exit 0   this machine
+incomplete: 1 outcomes, 0 states, rows over 10000 instructions without an access left out
+";
+    gave(&rt, &ran, 0, text, "");
+    let ran = explore_model(&rt, &DELAYED_LESS, "1")?;
+    let start = "1  hart 0: exit 0   this machine\nsearched: 1 outcomes, ";
+    began(&rt, &ran, 0, start, "");
+    Ok(())
+}
+
+/// A circle has no end, so that nothing is left out with it.
+#[test]
+fn a_circle_leaves_nothing_out(rt: HostRuntime) -> Result<(), Fail> {
+    let ran = explore_model(&rt, &CIRCLE, "2")?;
+    let start = "1  hart 0: exit 0   hart 1: exit 0   this machine\nsearched: 1 outcomes, ";
+    began(&rt, &ran, 0, start, "");
     Ok(())
 }
 
@@ -371,49 +356,51 @@ fn what_would_forbid_an_outcome(rt: HostRuntime) -> Result<(), Fail> {
         "image",
     ];
     let ran = line_over(&rt, &words, &mut files);
-    let told = "1  hart 0: exit 0   hart 1: exit 0 output 0 0   this machine
+    let outcomes = "1  hart 0: exit 0   hart 1: exit 0 output 0 0   this machine
 2  hart 0: exit 0   hart 1: exit 0 output 0 1   this machine
 3  hart 0: exit 0   hart 1: exit 0 output 1 0   RVWMO alone
 4  hart 0: exit 0   hart 1: exit 0 output 1 1   this machine
 ";
-    assert!(rt; ran.out.starts_with(told.as_bytes()));
     let forbidding =
         "outcome 3: 1:6 `lw a3, 0(t1)` is performed before 1:5 `lr.w a2, (t0)`, which precedes it; \
         `fence r, r` between them would forbid it, and so would aq on the one that precedes\n";
-    same(&rt, ran.err.as_slice(), forbidding.as_bytes());
-    same(&rt, ran.status, 0);
+    began(&rt, &ran, 0, outcomes, forbidding);
     Ok(())
 }
+
+/// A list of one allowed outcome, and the status.
+const ALLOWED_LINES: [(&str, u8); 8] = [
+    ("1  hart 0: exit 5   this machine\n", 0),
+    ("hart 0: exit 5   without a script", 0),
+    ("hart 0: exit 5   RVWMO alone\r\n", 0),
+    ("hart 0: exit 5   Ztso alone\n", 0),
+    ("hart 0: exit 5   RVWMO\n", 0),
+    ("hart 0: exit 5   Ztso\n", 0),
+    ("hart 0: exit 5   another machine\n", 3),
+    ("hart 0: exit 5  Ztso\n", 3),
+];
+
+const ALLOWING: [&str; 7] = [
+    "rvtl",
+    "explore",
+    "--raw",
+    "--architecture",
+    "--allow",
+    "allowed",
+    "image",
+];
 
 /// Who comes to an outcome may stand behind it.
 #[test]
 fn a_line_is_allowed_as_printed(rt: HostRuntime) -> Result<(), Fail> {
     let image = image_of(rt.alloc(), &texts::EXIT)?;
-    for (allowed, status) in [
-        ("1  hart 0: exit 5   this machine\n", 0),
-        ("hart 0: exit 5   without a script", 0),
-        ("hart 0: exit 5   RVWMO alone\r\n", 0),
-        ("hart 0: exit 5   Ztso alone\n", 0),
-        ("hart 0: exit 5   RVWMO\n", 0),
-        ("hart 0: exit 5   Ztso\n", 0),
-        ("hart 0: exit 5   another machine\n", 3),
-        ("hart 0: exit 5  Ztso\n", 3),
-    ] {
+    for (allowed, status) in &ALLOWED_LINES {
         let files = [
             File::whole("image", &image),
             File::whole("allowed", allowed.as_bytes()),
         ];
-        let words = [
-            "rvtl",
-            "explore",
-            "--raw",
-            "--architecture",
-            "--allow",
-            "allowed",
-            "image",
-        ];
-        let ran = line(&rt, &words, &files);
-        same_of(&rt, ran.status, status, &allowed);
+        let ran = line(&rt, &ALLOWING, &files);
+        same_of(&rt, ran.status, *status, allowed);
     }
     Ok(())
 }
@@ -422,7 +409,5 @@ fn a_line_is_allowed_as_printed(rt: HostRuntime) -> Result<(), Fail> {
 #[test]
 fn the_version_is_told(rt: HostRuntime) {
     let ran = line(&rt, &["rvtl", "--version"], &[]);
-    assert!(rt; ran.out.starts_with(b"rvtl "));
-    assert!(rt; ran.err.is_empty());
-    same(&rt, ran.status, 0);
+    began(&rt, &ran, 0, "rvtl ", "");
 }

@@ -3,8 +3,8 @@
 use super::orders::{
     ADDED, BOTH_RUN, FORWARDED, MESSAGE_PASSING, RESERVED, STORE_BUFFERING, STORES,
 };
-use super::{File, Ran, line, texts};
-use crate::same::{same, same_of};
+use super::{File, Ran, gave, joined, line, texts};
+use crate::same::same_of;
 use std::process::Abort;
 use std::sync::Wait;
 use std::test::Fail;
@@ -18,10 +18,7 @@ fn check<R: Threads + Wait + Sync + AllocGlobal>(
     model: &str,
     pieces: &[&str],
 ) -> Result<Ran, Fail> {
-    let mut trace = Vec::new(rt.alloc());
-    for piece in pieces {
-        trace.extend_from_slice(piece.as_bytes())?;
-    }
+    let trace = joined(rt.alloc(), pieces)?;
     let files = [File::whole("trace", trace.as_slice())];
     let words = ["rvtl", "check", "--model", model, "trace"];
     Ok(line(rt, &words, &files))
@@ -33,9 +30,7 @@ fn is_legal(
     pieces: &[&str],
 ) -> Result<(), Fail> {
     let ran = check(rt, model, pieces)?;
-    same(rt, ran.err.as_slice(), b"".as_slice());
-    same(rt, ran.out.as_slice(), b"legal\n".as_slice());
-    same(rt, ran.status, 0);
+    gave(rt, &ran, 0, "legal\n", "");
     Ok(())
 }
 
@@ -46,9 +41,7 @@ fn breaks(
     fault: &str,
 ) -> Result<(), Fail> {
     let ran = check(rt, model, pieces)?;
-    same(rt, ran.err.as_slice(), b"".as_slice());
-    same(rt, ran.out.as_slice(), fault.as_bytes());
-    same(rt, ran.status, 3);
+    gave(rt, &ran, 3, fault, "");
     Ok(())
 }
 
@@ -58,9 +51,7 @@ fn refuses(
     message: &str,
 ) -> Result<(), Fail> {
     let ran = check(rt, "rvwmo", pieces)?;
-    same(rt, ran.err.as_slice(), message.as_bytes());
-    same(rt, ran.out.as_slice(), b"".as_slice());
-    same(rt, ran.status, 1);
+    gave(rt, &ran, 1, "", message);
     Ok(())
 }
 
@@ -121,29 +112,37 @@ fn rows_9_and_37(rt: HostRuntime) -> Result<(), Fail> {
     )
 }
 
+const NO_ORDERS: [&str; 3] = ["P 0 6\nP 0 6\n", "P 0 3\n", "P 0 7\n"];
+
 /// Names that are doubled or name no operation make no order.
 #[test]
 fn row_38(rt: HostRuntime) -> Result<(), Fail> {
     let message = "rvtl: trace: check fault 1 NotAnOrder\n";
-    for performed in ["P 0 6\nP 0 6\n", "P 0 3\n", "P 0 7\n"] {
-        refuses(&rt, &[STORES, STORES_LOAD, performed, "H 0 run\n"], message)?;
+    for performed in &NO_ORDERS {
+        refuses(
+            &rt,
+            &[STORES, STORES_LOAD, *performed, "H 0 run\n"],
+            message,
+        )?;
     }
     Ok(())
 }
+
+const NO_RUNS: [&str; 6] = [
+    "R 0 0x80000018 0x10062703 0x00000002 -\nP 0 6\nP 0 6\nH 0 stop 3\n",
+    "R 0 0x80000018 0x10062703 0x00000002 -\nH 0 exit 0\n",
+    "R 0 0x80000014 0x10062703 0x00000002 -\nH 0 run\n",
+    "R 0 0x80000018 0x10062783 0x00000002 -\nH 0 run\n",
+    "R 0 0x80000018 0x10062703 - -\nH 0 run\n",
+    "R 0 0x80000018 0x10062703 0x00000002 ok\nH 0 run\n",
+];
 
 /// A status that the list doesn't end in, a wrong pc, a number that is missing or too many.
 #[test]
 fn rows_17_and_43(rt: HostRuntime) -> Result<(), Fail> {
     let message = "rvtl: trace: check fault 2 NotARun\n";
-    for last in [
-        "R 0 0x80000018 0x10062703 0x00000002 -\nP 0 6\nP 0 6\nH 0 stop 3\n",
-        "R 0 0x80000018 0x10062703 0x00000002 -\nH 0 exit 0\n",
-        "R 0 0x80000014 0x10062703 0x00000002 -\nH 0 run\n",
-        "R 0 0x80000018 0x10062783 0x00000002 -\nH 0 run\n",
-        "R 0 0x80000018 0x10062703 - -\nH 0 run\n",
-        "R 0 0x80000018 0x10062703 0x00000002 ok\nH 0 run\n",
-    ] {
-        refuses(&rt, &[STORES, last], message)?;
+    for last in &NO_RUNS {
+        refuses(&rt, &[STORES, *last], message)?;
     }
     is_legal(&rt, "rvwmo", &[STORES, STORES_LOAD, "H 0 stop 2\n"])
 }
@@ -164,18 +163,21 @@ fn texts_are_judged_first(rt: HostRuntime) -> Result<(), Fail> {
     )
 }
 
+/// Words, and the status of a run by them.
+const WORDS: [(&[&str], u8); 5] = [
+    (&["rvtl", "check", "trace"], 0),
+    (&["rvtl", "check", "--model", "tso", "trace"], 2),
+    (&["rvtl", "check"], 2),
+    (&["rvtl", "check", "gone"], 1),
+    (&["rvtl", "check", "--help"], 0),
+];
+
 #[test]
 fn words_of_check(rt: HostRuntime) {
     let files = [File::whole("trace", STORE_BUFFERING.as_bytes())];
-    for (words, status) in [
-        (["rvtl", "check", "trace"].as_slice(), 0),
-        (&["rvtl", "check", "--model", "tso", "trace"], 2),
-        (&["rvtl", "check"], 2),
-        (&["rvtl", "check", "gone"], 1),
-        (&["rvtl", "check", "--help"], 0),
-    ] {
+    for (words, status) in &WORDS {
         let ran = line(&rt, words, &files);
-        same_of(&rt, ran.status, status, &words);
-        assert!(rt; ran.err.is_empty() == (status == 0), "{words:?}");
+        let ended = (ran.status, ran.err.is_empty());
+        same_of(&rt, ended, (*status, *status == 0), words);
     }
 }

@@ -1,6 +1,6 @@
 //! What `rvtl check --messages` prints, and how it ends.
 
-use super::{File, Ran, breaks_anywhere, line, texts};
+use super::{File, Ran, breaks_anywhere, gave, joined, line, texts};
 use crate::same::same;
 use std::process::Abort;
 use std::sync::Wait;
@@ -36,10 +36,7 @@ M t A 0 AcquireBlock 0x80000000 NtoB
 
 /// `rvtl check --messages trace` over a trace in pieces.
 fn check<R: Threads + Wait + Sync + AllocGlobal>(rt: &R, pieces: &[&str]) -> Result<Ran, Fail> {
-    let mut trace = Vec::new(rt.alloc());
-    for piece in pieces {
-        trace.extend_from_slice(piece.as_bytes())?;
-    }
+    let trace = joined(rt.alloc(), pieces)?;
     let files = [File::whole("trace", trace.as_slice())];
     Ok(line(rt, &["rvtl", "check", "--messages", "trace"], &files))
 }
@@ -49,9 +46,7 @@ fn is_lawful<R: Abort + Threads + Wait + Sync + AllocGlobal>(
     pieces: &[&str],
 ) -> Result<(), Fail> {
     let ran = check(rt, pieces)?;
-    assert!(rt; ran.err.is_empty());
-    same(rt, ran.out.as_slice(), b"lawful\n".as_slice());
-    same(rt, ran.status, 0);
+    gave(rt, &ran, 0, "lawful\n", "");
     Ok(())
 }
 
@@ -62,9 +57,7 @@ fn breaks<R: Abort + Threads + Wait + Sync + AllocGlobal>(
     message: &str,
 ) -> Result<(), Fail> {
     let ran = check(rt, pieces)?;
-    same(rt, ran.out.as_slice(), verdict.as_bytes());
-    same(rt, ran.err.as_slice(), message.as_bytes());
-    same(rt, ran.status, 3);
+    gave(rt, &ran, 3, verdict, message);
     Ok(())
 }
 
@@ -104,8 +97,7 @@ fn logs_that_are_not(rt: HostRuntime) -> Result<(), Fail> {
 fn an_order_wants_a_whole_trace(rt: HostRuntime) -> Result<(), Fail> {
     let files = [File::whole("trace", HEAD.as_bytes())];
     let ran = line(&rt, &["rvtl", "check", "trace"], &files);
-    assert!(rt; ran.out.is_empty());
-    same(&rt, ran.status, 1);
+    same(&rt, (ran.status, ran.out.is_empty()), (1, true));
     Ok(())
 }
 
@@ -113,7 +105,7 @@ fn an_order_wants_a_whole_trace(rt: HostRuntime) -> Result<(), Fail> {
 fn a_verdict_that_breaks(rt: HostRuntime) -> Result<(), Fail> {
     let words = ["rvtl", "check", "--messages", "trace"];
     let lawful = [File::whole("trace", texts::LOAD_TRACE.as_bytes())];
-    breaks_anywhere(&rt, &words, &lawful, "lawful\n")?;
+    breaks_anywhere(&rt, &words, &lawful, b"lawful\n")?;
     let cut = [File::whole("trace", ONE_TAKEN.as_bytes())];
-    breaks_anywhere(&rt, &words, &cut, "unlawful in-order 0\n")
+    breaks_anywhere(&rt, &words, &cut, b"unlawful in-order 0\n")
 }

@@ -1,7 +1,7 @@
 //! Worked rows of `rvtl run`, and its faults.
 
 use super::memory::{File, MemoryFiles, Narrow};
-use super::{Ran, image_of, line, line_over, replay, texts};
+use super::{Ran, gave, image_of, line, line_over, replay, texts, told};
 use crate::same::same;
 use command_line::run_line;
 use progress_line::Silent;
@@ -34,23 +34,22 @@ fn run<R: Threads + Wait + Sync + AllocGlobal>(
     (ran, files.written)
 }
 
+const OF_4_KIB: [&str; 8] = [
+    "rvtl",
+    "run",
+    "--raw",
+    "--memory",
+    "4",
+    "--journal",
+    "j",
+    "image",
+];
+
 #[test]
 fn row_16(rt: HostRuntime) -> Result<(), Fail> {
     let image = image_of(rt.alloc(), &texts::EXIT)?;
-    let words = [
-        "rvtl",
-        "run",
-        "--raw",
-        "--memory",
-        "4",
-        "--journal",
-        "j",
-        "image",
-    ];
-    let (ran, journal) = run(&rt, &words, image.as_slice());
-    same(&rt, ran.err.as_slice(), b"hart 0: exit 5\n".as_slice());
-    same(&rt, ran.out.as_slice(), texts::EXIT_TRACE.as_bytes());
-    same(&rt, ran.status, 0);
+    let (ran, journal) = run(&rt, &OF_4_KIB, image.as_slice());
+    gave(&rt, &ran, 0, texts::EXIT_TRACE, "hart 0: exit 5\n");
     let again = replay(&rt, image.as_slice(), journal.as_slice());
     same(&rt, again.out.as_slice(), texts::EXIT_TRACE.as_bytes());
     Ok(())
@@ -165,13 +164,7 @@ fn journals_that_break(rt: HostRuntime) -> Result<(), Fail> {
     full.is_full = true;
     let words = ["rvtl", "run", "--raw", "--journal", "j", "image"];
     let ran = line_over(&rt, &words, &mut full);
-    same(
-        &rt,
-        ran.err.as_slice(),
-        b"rvtl: j: cannot write\n".as_slice(),
-    );
-    assert!(rt; ran.out.is_empty());
-    same(&rt, ran.status, 1);
+    gave(&rt, &ran, 1, "", "rvtl: j: cannot write\n");
     Ok(())
 }
 
@@ -186,20 +179,10 @@ fn runs_whose_stream_breaks(rt: HostRuntime) -> Result<(), Fail> {
         room: 20,
     };
     let mut err = Vec::new(rt.alloc());
-    let words = [
-        "rvtl",
-        "run",
-        "--raw",
-        "--memory",
-        "4",
-        "--journal",
-        "j",
-        "image",
-    ];
     let status = run_line(
         &rt,
         rt.alloc(),
-        &words,
+        &OF_4_KIB,
         &mut files,
         &mut out,
         &mut err,
@@ -207,11 +190,8 @@ fn runs_whose_stream_breaks(rt: HostRuntime) -> Result<(), Fail> {
     );
     same(&rt, status, 1);
     same(&rt, err.as_slice(), b"rvtl: cannot write\n".as_slice());
-    assert!(rt;
-        texts::EXIT_TRACE
-            .as_bytes()
-            .starts_with(out.taken.as_slice())
-    );
+    let front = texts::EXIT_TRACE.as_bytes().get(..20);
+    same(&rt, Some(out.taken.as_slice()), front);
     let again = replay(&rt, image.as_slice(), files.written.as_slice());
     same(&rt, again.out.as_slice(), texts::EXIT_TRACE.as_bytes());
     Ok(())
@@ -262,27 +242,23 @@ fn a_hart_that_spins(rt: HostRuntime) -> Result<(), Fail> {
     Ok(())
 }
 
+const NO_SIZES: [(&str, &str); 7] = [
+    ("--harts", "0"),
+    ("--harts", "9"),
+    ("--memory", "6"),
+    ("--memory", "4294967295"),
+    ("--sets", "3"),
+    ("--ways", "5"),
+    ("--line", "32"),
+];
+
 /// No machine is of this size, whatever the files hold.
 #[test]
 fn machines_that_cannot_be(rt: HostRuntime) {
-    for (option, number) in [
-        ("--harts", "0"),
-        ("--harts", "9"),
-        ("--memory", "6"),
-        ("--memory", "4294967295"),
-        ("--sets", "3"),
-        ("--ways", "5"),
-        ("--line", "32"),
-    ] {
-        let words = ["rvtl", "run", option, number, "--journal", "j", "gone"];
+    for (option, number) in &NO_SIZES {
+        let words = ["rvtl", "run", *option, *number, "--journal", "j", "gone"];
         let ran = line(&rt, &words, &[]);
-        assert_eq!(rt;
-            ran.err.as_slice(),
-            b"rvtl: bad configuration\n".as_slice(),
-            "{option} {number}"
-        );
-        assert_eq!(rt; ran.status, 2, "{option} {number}");
-        assert!(rt; ran.out.is_empty(), "{option} {number}");
+        gave(&rt, &ran, 2, "", "rvtl: bad configuration\n");
     }
 }
 
@@ -290,17 +266,7 @@ fn machines_that_cannot_be(rt: HostRuntime) {
 fn images_that_cannot_run(rt: HostRuntime) {
     let words = ["rvtl", "run", "--raw", "--journal", "j", "image"];
     let ran = line(&rt, &words, &[]);
-    same(
-        &rt,
-        ran.err.as_slice(),
-        b"rvtl: image: cannot read\n".as_slice(),
-    );
-    same(&rt, ran.status, 1);
+    told(&rt, &ran, 1, "rvtl: image: cannot read\n");
     let ran = line(&rt, &words, &[File::whole("image", &[0; 3])]);
-    same(
-        &rt,
-        ran.err.as_slice(),
-        b"rvtl: image: image fault 1 Short\n".as_slice(),
-    );
-    same(&rt, ran.status, 1);
+    told(&rt, &ran, 1, "rvtl: image: image fault 1 Short\n");
 }

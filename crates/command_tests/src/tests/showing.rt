@@ -1,7 +1,7 @@
 //! What `rvtl explore --show` prints, writes and answers.
 
 use super::memory::{File, MemoryFiles};
-use super::{line, line_over};
+use super::{began, gave, is_no_usage, line, line_over, told};
 use crate::same::{same, same_of};
 use std::alloc::Global;
 use std::sync::Wait;
@@ -39,21 +39,19 @@ fn a_lost_update_shows_in_the_counter(rt: HostRuntime) -> Result<(), Fail> {
         "rvtl", "explore", "--harts", "2", "--show", "counter", "image",
     ];
     let ran = line(&rt, &words, &files);
-    assert!(rt; ran.err.is_empty());
-    assert!(rt; ran.out.starts_with(OUTCOMES.as_bytes()));
-    same(&rt, ran.status, 0);
+    began(&rt, &ran, 0, OUTCOMES, "");
     Ok(())
 }
 
 /// RVWMO allows no other number in the counter.
 #[test]
 fn words_stand_before_who_comes_to_an_outcome(rt: HostRuntime) -> Result<(), Fail> {
-    let told = "1  hart 0: exit 0   hart 1: exit 0   counter = 0x00000001   this machine
+    let text = "1  hart 0: exit 0   hart 1: exit 0   counter = 0x00000001   this machine
 2  hart 0: exit 0   hart 1: exit 0   counter = 0x00000002   this machine
 searched: 2 outcomes, ";
     let files = [
         File::whole("image", LOST_UPDATE),
-        File::whole("allowed", told.as_bytes()),
+        File::whole("allowed", text.as_bytes()),
     ];
     let words = [
         "rvtl",
@@ -68,9 +66,7 @@ searched: 2 outcomes, ";
         "image",
     ];
     let ran = line(&rt, &words, &files);
-    assert!(rt; ran.err.is_empty());
-    assert!(rt; ran.out.starts_with(told.as_bytes()));
-    same(&rt, ran.status, 0);
+    began(&rt, &ran, 0, text, "");
     Ok(())
 }
 
@@ -90,43 +86,43 @@ fn words_stand_in_the_order_of_their_asking(rt: HostRuntime) -> Result<(), Fail>
         "image",
     ];
     let ran = line(&rt, &words, &files);
-    let told =
+    let text =
         "1  hart 0: exit 0   0x80000040 = 0x00000001   0x8000000c = 0x00130313   counter = 0x00000001
 complete: 1 outcomes, ";
-    assert!(rt; ran.err.is_empty());
-    assert!(rt; ran.out.starts_with(told.as_bytes()));
-    same(&rt, ran.status, 0);
+    began(&rt, &ran, 0, text, "");
     Ok(())
 }
 
+/// A list of allowed outcomes, the message and the status.
+const ALLOWED: [(&str, &str, u8); 3] = [
+    (OUTCOMES, "", 0),
+    (
+        "hart 0: exit 0   hart 1: exit 0   counter = 0x00000002\n",
+        "outcome 1 is not allowed\n",
+        3,
+    ),
+    (
+        "hart 0: exit 0   hart 1: exit 0\n",
+        "outcome 1 is not allowed\noutcome 2 is not allowed\n",
+        3,
+    ),
+];
+
+const ALLOWING: [&str; 9] = [
+    "rvtl", "explore", "--harts", "2", "--allow", "allowed", "--show", "counter", "image",
+];
+
 /// An allowed line has the words too.
 #[test]
-fn an_allowed_line_is_the_whole_line(rt: HostRuntime) -> Result<(), Fail> {
-    for (allowed, told, status) in [
-        (OUTCOMES, "", 0),
-        (
-            "hart 0: exit 0   hart 1: exit 0   counter = 0x00000002\n",
-            "outcome 1 is not allowed\n",
-            3,
-        ),
-        (
-            "hart 0: exit 0   hart 1: exit 0\n",
-            "outcome 1 is not allowed\noutcome 2 is not allowed\n",
-            3,
-        ),
-    ] {
+fn an_allowed_line_is_the_whole_line(rt: HostRuntime) {
+    for (allowed, message, status) in &ALLOWED {
         let files = [
             File::whole("image", LOST_UPDATE),
             File::whole("allowed", allowed.as_bytes()),
         ];
-        let words = [
-            "rvtl", "explore", "--harts", "2", "--allow", "allowed", "--show", "counter", "image",
-        ];
-        let ran = line(&rt, &words, &files);
-        same_of(&rt, ran.err.as_slice(), told.as_bytes(), &allowed);
-        same_of(&rt, ran.status, status, &allowed);
+        let ran = line(&rt, &ALLOWING, &files);
+        told(&rt, &ran, *status, message);
     }
-    Ok(())
 }
 
 /// Whether the script brings both harts to their ends, behind which both stores have left, and both loads read 0.
@@ -182,15 +178,14 @@ fn a_script_leads_to_where_no_store_waits(rt: HostRuntime) -> Result<(), Fail> {
         "image",
     ];
     let ran = line_over(&rt, &words, &mut files);
-    assert!(rt; ran.out.starts_with(OUTCOMES.as_bytes()));
-    same(&rt, ran.status, 0);
-    assert!(rt; loses_an_update(&rt, &files.written)?);
+    began(&rt, &ran, 0, OUTCOMES, "");
+    same(&rt, loses_an_update(&rt, &files.written)?, true);
     let Ok(script) = std::str::from_utf8(files.written.as_slice()) else {
         return Err(Fail::from("a script"));
     };
     for index in 1..script.lines().count() {
         let fewer = without(rt.alloc(), script, index)?;
-        assert!(rt; !loses_an_update(&rt, &fewer)?, "{index}");
+        same_of(&rt, loses_an_update(&rt, &fewer)?, false, &index);
     }
     Ok(())
 }
@@ -249,14 +244,12 @@ const REFUSED: [(&[&str], &str, u8); 8] = [
 #[test]
 fn words_that_cannot_be_shown(rt: HostRuntime) -> Result<(), Fail> {
     let files = [File::whole("image", LOST_UPDATE)];
-    for (words, message, status) in REFUSED {
+    for (words, message, status) in &REFUSED {
         let mut all = Vec::new(rt.alloc());
         all.extend_from_slice(&["rvtl", "explore"])?;
         all.extend_from_slice(words)?;
         let ran = line(&rt, &all, &files);
-        assert_eq!(rt; ran.err.as_slice(), message.as_bytes(), "{message}");
-        assert_eq!(rt; ran.status, status, "{message}");
-        assert!(rt; ran.out.is_empty(), "{message}");
+        gave(&rt, &ran, *status, "", message);
     }
     Ok(())
 }
@@ -273,7 +266,7 @@ const OUTSIDE: [&[&str]; 4] = [
 
 #[test]
 fn a_size_out_of_limits_is_remarked(rt: HostRuntime) {
-    for words in OUTSIDE {
+    for words in &OUTSIDE {
         let mut files = MemoryFiles::new(rt.alloc(), &[]);
         let ran = line_over(&rt, words, &mut files);
         same(&rt, ran.status, 2);
@@ -306,12 +299,11 @@ const BOTH: [&[&str]; 2] = [
 #[test]
 fn random_runs_beside_the_model(rt: HostRuntime) {
     let files = [File::whole("image", LOST_UPDATE)];
-    for words in BOTH {
+    for words in &BOTH {
         let ran = line(&rt, words, &files);
-        let told =
+        let message =
             b"error: --sample makes random runs of the machine, --architecture searches the memory model: leave out one of them\n";
-        assert!(rt; ran.err.starts_with(told));
-        assert!(rt; ran.out.is_empty());
-        same(&rt, ran.status, 2);
+        is_no_usage(&rt, &ran, "--sample");
+        same(&rt, ran.err.starts_with(message), true);
     }
 }
