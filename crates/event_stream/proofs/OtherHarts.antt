@@ -24,7 +24,7 @@ use Rattle.machine_model.specs.declared.act.Plan.{Plan}
 use Rattle.machine_model.specs.declared.act.Plan.TheVariants as plan
 use Rattle.machine_types.specs.declared.event.Event.{Event}
 use Rattle.machine_types.specs.declared.outcome.Outcome.{Outcome}
-use Rattle.machine_model.specs.Changing.{acted, does, outcome_of, performs, with_halt, with_entries, retired, sent_if_evicted}
+use Rattle.machine_model.specs.Changing.{acted, does, outcome_of_act, performs, with_halt, with_entries, retired, sent_if_evicted}
 use Rattle.machine_model.specs.Deliveries.{handled, taken, sent_probes, sent_any, sent_if_handled, sent_if_granted, sent_if_answered, with_memory, with_notes, with_less, on_probe_ack}
 use Rattle.machine_model.specs.Events.{Verdict, counted, verdict_by, state_by, happens, is_good, is_limited, plan_of, hart_of}
 use Rattle.machine_model.specs.Views.{State, line_size, place_of, node_at, with_node, sent}
@@ -168,7 +168,7 @@ if_limited false h s new o so k apart = so k apart
 
 by_plan : (s : State) (h : ℕ) (p : Plan) → Elsewhere h s.trace (state_by s (verdict_by s h p)).trace
 by_plan s h (plan.Stays o) k apart = refl
-by_plan s h (plan.Changes a) k apart = if_limited (is_limited s h a) h s (counted (acted h a s)) (outcome_of s h a) (acted_elsewhere h a s) k apart
+by_plan s h (plan.Changes a) k apart = if_limited (is_limited s h a) h s (counted (acted h a s)) (outcome_of_act s h a) (acted_elsewhere h a s) k apart
 
 if_good : (good : Bool) (h : ℕ) (s : State) (v : Verdict) → Elsewhere h s.trace (state_by s v).trace → Elsewhere h s.trace (state_by s (cond good v Verdict.IsBad)).trace
 if_good true h s v so k apart = so k apart

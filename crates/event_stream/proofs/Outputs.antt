@@ -18,7 +18,7 @@ use Rattle.hart.specs.Local.{private_row}
 use Rattle.hart.specs.Run.{after_instr, reached}
 use Rattle.hart.specs.declared.state.Hart.{Hart}
 use Rattle.hart.specs.declared.status.Status.TheVariants.{Stopped}
-use Rattle.machine_model.specs.Changing.{acted, does, drained, outcome_of, performs, performs_own, place_at, put_behind, release_body, retired, sent_if_evicted, with_buffer, with_entries, with_halt, with_reservation, writes_word}
+use Rattle.machine_model.specs.Changing.{acted, does, drained, outcome_of_act, performs, performs_own, place_at, put_behind, release_body, retired, sent_if_evicted, with_buffer, with_entries, with_halt, with_reservation, writes_word}
 use Rattle.machine_model.specs.Deliveries.{grant_body, handled, line_in_memory, on_probe_ack, probe_ack_body, sent_any, sent_grant, sent_if_answered, sent_if_granted, sent_if_handled, sent_probes, taken, with_less, with_memory, with_notes}
 use Rattle.machine_model.specs.Events.{Verdict, counted, happens, hart_of, is_good, is_limited, plan_of, state_by, verdict_by}
 use Rattle.machine_model.specs.LawfulLog.{IsBeginningOf}
@@ -245,7 +245,7 @@ if_limited false h s new o so = so
 
 by_plan : (s : State) (h : ℕ) (p : Plan) → PutsOut h s (state_by s (verdict_by s h p))
 by_plan s h (plan.Stays o) = stays h s
-by_plan s h (plan.Changes a) = if_limited (is_limited s h a) h s (counted (acted h a s)) (outcome_of s h a) (acted_puts h a s)
+by_plan s h (plan.Changes a) = if_limited (is_limited s h a) h s (counted (acted h a s)) (outcome_of_act s h a) (acted_puts h a s)
 
 if_good : (good : Bool) (h : ℕ) (s : State) (v : Verdict) → PutsOut h s (state_by s v) → PutsOut h s (state_by s (cond good v Verdict.IsBad))
 if_good true h s v so = so

@@ -18,7 +18,7 @@ use Rattle.machine_model.specs.declared.act.Plan.{Plan}
 use Rattle.machine_model.specs.declared.act.Plan.TheVariants.{Stays, Changes}
 use Rattle.machine_types.specs.declared.config.Config.{Config}
 use Rattle.machine_types.specs.declared.event.Event.{Event}
-use Rattle.machine_model.specs.Changing.{acted, outcome_of}
+use Rattle.machine_model.specs.Changing.{acted, outcome_of_act}
 use Rattle.machine_types.specs.Config.{is_within_limits}
 use Rattle.machine_model.specs.Events.{IsBad, IsLimited, Moves, after_events, counted, happens, hart_of, is_good, is_limited, names_well, plan_of, state_by, verdict_by}
 use Rattle.machine_model.specs.Laws.{AreRunsOf, IsCompletedLegally}
@@ -55,7 +55,7 @@ step s f is ready v e = go (is_good s e) refl
     planned (Stays o) q g l x = same
     planned (Changes a) q g l x = limited (is_limited s h a) refl
       where
-        limited : (b : Bool) → is_limited s h a ≡ b → Step f (state_by s (cond b IsLimited (Moves (outcome_of s h a) (counted (acted h a s)))))
+        limited : (b : Bool) → is_limited s h a ≡ b → Step f (state_by s (cond b IsLimited (Moves (outcome_of_act s h a) (counted (acted h a s)))))
         limited true w = same
         limited false w = record {
           reaches = record { events = x.events; shows = counted_shows (acted h a s) (flat_events.after_events f x.events) x.shows };

@@ -1,6 +1,7 @@
 -- What a flat machine's events change: memory is accessed, and a hart does what its instruction or its buffer says.
 -- That an access ends other harts' reservations is this machine's own rule; chapter 8.2 of the RISC-V Unprivileged ISA 20191213 lets an SC fail for any reason.
-use Rattle.std.specs.Prelude.{ℕ, ◌+◌, ◌/◌, ◌%◌, Bool, not, ◌&&◌, ◌==◌, List, [], ◌∷◌, ◌++◌, length, Option, Some, None, if◌then◌else◌}
+use Rattle.std.specs.Prelude.{ℕ, ◌+◌, Bool, not, ◌&&◌, ◌==◌, List, [], ◌∷◌, ◌++◌, length, Option, Some, None, if◌then◌else◌}
+use Rattle.client_cache.specs.Shape.{set_of}
 use Rattle.flat_model.specs.Flat.{Flat, FlatNode, node_at, with_node, with_trace, with_word}
 use Rattle.hart.specs.declared.retired.Retired.{Retired}
 use Rattle.hart.specs.declared.status.Status.TheVariants.{Stopped}
@@ -9,7 +10,7 @@ use Rattle.machine_model.specs.declared.act.Deed.{Deed}
 use Rattle.machine_model.specs.declared.act.Deed.TheVariants as deed
 use Rattle.machine_types.specs.declared.config.Config.{Config}
 use Rattle.machine_model.specs.Changing.{put_behind, with_halt}
-use Rattle.machine_model.specs.Views.{line_of, size_of_config}
+use Rattle.machine_model.specs.Views.{line_of, shape_of_config, size_of_config}
 use Rattle.machine_model.specs.Words.{bytes_of_word}
 use Rattle.memory_model.specs.declared.MemoryModel.{MemoryModel}
 use Rattle.reservations.specs.Reservation.{without_line}
@@ -17,7 +18,6 @@ use Rattle.rv32_decode.specs.declared.instruction.Instr.{Instr}
 use Rattle.store_buffer.specs.ByteMask.{marks_of_access}
 use Rattle.store_buffer.specs.Entry.{entry_of}
 use Rattle.store_buffer.specs.Groups.{Groups, after_seal, after_take, oldest}
-use Rattle.tl_types.specs.Line.{length_of}
 use Rattle.trace_recorder.specs.History.{entries_of, with_entry, with_performed, with_status}
 
 -- ---- the access of a line
@@ -27,7 +27,7 @@ line_at config address = line_of (size_of_config config) address
 
 -- the set of the line that an address lies in
 abbrev pub set_at : Config → ℕ → ℕ
-set_at config address = line_at config address / length_of (size_of_config config) % config.sets
+set_at config address = set_of (shape_of_config config) (line_at config address)
 
 -- sets hold one line, and the two addresses lie in different lines of one set
 abbrev pub are_rivals : Config → ℕ → ℕ → Bool

@@ -24,7 +24,7 @@ use Rattle.machine_model.specs.declared.act.Plan.{Plan}
 use Rattle.machine_model.specs.declared.act.Plan.TheVariants as plan
 use Rattle.machine_types.specs.declared.event.Event.{Event}
 use Rattle.machine_types.specs.declared.outcome.Outcome.{Outcome}
-use Rattle.machine_model.specs.Changing.{acted, does, outcome_of, performs_own, place_at, performs, with_halt, with_entries, retired, sent_if_evicted}
+use Rattle.machine_model.specs.Changing.{acted, does, outcome_of_act, performs_own, place_at, performs, with_halt, with_entries, retired, sent_if_evicted}
 use Rattle.machine_model.specs.Deliveries.{handled, taken, sent_probes, sent_any, sent_if_handled, sent_if_granted, sent_if_answered, with_memory, with_notes, with_less, on_probe_ack}
 use Rattle.machine_model.specs.Events.{Verdict, counted, verdict, verdict_by, state_by, happens, is_good, is_limited, plan_of, hart_of}
 use Rattle.machine_model.specs.Laws.{Grows, KeepsImageAndConfig}
@@ -236,7 +236,7 @@ limited_follows false s new o f = f
 
 by_plan : (s : State) (h : ℕ) (p : Plan) → Happens s (state_by s (verdict_by s h p))
 by_plan s h (plan.Stays o) = happens_not s
-by_plan s h (plan.Changes a) = limited_follows (is_limited s h a) s (counted (acted h a s)) (outcome_of s h a) (happens_counted s (acted h a s) (acted_follows h a s))
+by_plan s h (plan.Changes a) = limited_follows (is_limited s h a) s (counted (acted h a s)) (outcome_of_act s h a) (happens_counted s (acted h a s) (acted_follows h a s))
 
 if_good : (b : Bool) (s : State) (v : Verdict) → Happens s (state_by s v) → Happens s (state_by s (cond b v Verdict.IsBad))
 if_good true s v f = f
@@ -248,7 +248,7 @@ happens_follows s e = if_good (is_good s e) s _ (by_plan s (hart_of e) (plan_of 
 -- ---- the count of changes
 
 counted_by : (s : State) (h : ℕ) (a : Act) (limited : Bool) (o : Outcome) (new : State)
-    → cond limited Verdict.IsLimited (Verdict.Moves (outcome_of s h a) (counted (acted h a s))) ≡ Verdict.Moves o new
+    → cond limited Verdict.IsLimited (Verdict.Moves (outcome_of_act s h a) (counted (acted h a s))) ≡ Verdict.Moves o new
     → new.views.changes ≡ s.views.changes + 1
 counted_by s h a true o new e = absurd (cc e)
 counted_by s h a false o new e = sym (ap (λ (v : Verdict). (state_by s v).views.changes) e) ∙ ap (λ (n : ℕ). n + 1) (acted_follows h a s).changes

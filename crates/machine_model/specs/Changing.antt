@@ -150,11 +150,11 @@ outcome_by Running = outcome.Retired
 outcome_by (Stopped code) = outcome.Stopped code
 outcome_by (Exited code) = outcome.Exited code
 
-abbrev pub outcome_of : State → ℕ → Act → Outcome
-outcome_of s h (act.Stop code) = outcome.Stopped code
-outcome_of s h (act.Retire entry i d) = outcome_by (after_instr (node_at s h).hart entry (Some i)).status
-outcome_of s h (act.Miss line grow) = outcome.Missed line
-outcome_of s h (act.Drain word) = outcome.Drained
-outcome_of s h (act.Evict line) = outcome.Evicted
-outcome_of s h (act.Deliver m) = outcome.Delivered
-outcome_of s h (act.Local count) = outcome.Retired
+abbrev pub outcome_of_act : State → ℕ → Act → Outcome
+outcome_of_act s h (act.Stop code) = outcome.Stopped code
+outcome_of_act s h (act.Retire entry i d) = outcome_by (after_instr (node_at s h).hart entry (Some i)).status
+outcome_of_act s h (act.Miss line grow) = outcome.Missed line
+outcome_of_act s h (act.Drain word) = outcome.Drained
+outcome_of_act s h (act.Evict line) = outcome.Evicted
+outcome_of_act s h (act.Deliver m) = outcome.Delivered
+outcome_of_act s h (act.Local count) = outcome.Retired

@@ -16,7 +16,7 @@ use Rattle.machine_types.specs.declared.event.Event.{Event}
 use Rattle.machine_types.specs.declared.event.Event.TheVariants as event
 use Rattle.machine_types.specs.declared.outcome.Outcome.{Outcome}
 use Rattle.machine_types.specs.declared.outcome.Outcome.TheVariants as outcome
-use Rattle.machine_model.specs.Changing.{place_at, acted, outcome_of}
+use Rattle.machine_model.specs.Changing.{place_at, acted, outcome_of_act}
 use Rattle.machine_model.specs.Deciding.{writing}
 use Rattle.machine_model.specs.Deliveries.{plan_deliver}
 use Rattle.machine_model.specs.Steps.{plan_step}
@@ -109,7 +109,7 @@ counted s = record s { views = record s.views { changes = s.views.changes + 1 } 
 
 abbrev pub verdict_by : State → ℕ → Plan → Verdict
 verdict_by s h (Stays o) = Keeps o
-verdict_by s h (Changes a) = if is_limited s h a then IsLimited else Moves (outcome_of s h a) (counted (acted h a s))
+verdict_by s h (Changes a) = if is_limited s h a then IsLimited else Moves (outcome_of_act s h a) (counted (acted h a s))
 
 abbrev pub verdict : State → Event → Verdict
 verdict s e = if is_good s e then verdict_by s (hart_of e) (plan_of s e) else IsBad

@@ -17,7 +17,7 @@ use Rattle.machine_model.specs.Coherent.{perm_at}
 use Rattle.machine_types.specs.Config.{is_within_limits}
 use Rattle.machine_model.specs.Events.{hart_of, is_good, is_limited, is_piece, plan_of}
 use Rattle.machine_model.specs.Laws.{Always, QueuesFit}
-use Rattle.machine_model.specs.Views.{State, line_of, line_size, node_at}
+use Rattle.machine_model.specs.Views.{State, line_of, line_size, node_at, shape_of_config}
 use Rattle.store_buffer.specs.Groups.{drainable, fits}
 use Rattle.tilelink_channels.specs.Queues.{front_of, queue_of}
 use Rattle.tl_types.specs.Line.{length_of, size_of}
@@ -33,7 +33,7 @@ use Rattle.trace_recorder.specs.History.{entries_of}
 -- ---- how large everything is
 
 abbrev pub shape_of : State → Shape
-shape_of s = record { sets = s.views.config.sets; ways = s.views.config.ways; size = line_size s }
+shape_of s = shape_of_config s.views.config
 
 abbrev pub line_count : State → ℕ
 line_count s = length s.trace.image.bytes / length_of (line_size s)

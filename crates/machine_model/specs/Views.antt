@@ -4,6 +4,7 @@ use Rattle.std.specs.List.{range_with_len}
 use Rattle.backing_memory.specs.Memory.{lines_of}
 use Rattle.client_cache.specs.Cache as cache
 use Rattle.client_cache.specs.Cache.{Cache}
+use Rattle.client_cache.specs.declared.shape.Shape.{Shape}
 use Rattle.directory.specs.Directory as directory
 use Rattle.directory.specs.Directory.{Notes}
 use Rattle.elf_loader.specs.Image.{Initial}
@@ -47,6 +48,10 @@ pub record State : Type 0 where
 
 abbrev pub size_of_config : Config → LineSize
 size_of_config config = unwrap_or (size_of_bytes config.line) Bytes16
+
+-- how each cache is laid out
+abbrev pub shape_of_config : Config → Shape
+shape_of_config config = record { sets = config.sets; ways = config.ways; size = size_of_config config }
 
 abbrev pub line_size : State → LineSize
 line_size s = size_of_config s.views.config

@@ -12,7 +12,7 @@ use Rattle.machine_types.specs.declared.event.Event.{Event}
 use Rattle.machine_types.specs.declared.outcome.Outcome.{Outcome}
 use Rattle.machine_model.specs.declared.act.Act.TheVariants as act
 use Rattle.machine_types.specs.declared.outcome.Outcome.TheVariants.{Stopped}
-use Rattle.machine_model.specs.Changing.{acted, outcome_by, outcome_of, place_at}
+use Rattle.machine_model.specs.Changing.{acted, outcome_by, outcome_of_act, place_at}
 use Rattle.machine_model.specs.Events.{Verdict, counted, entries_by, hart_of, is_good, is_limited, plan_of, verdict, verdict_by}
 use Rattle.machine_model.specs.Events.Verdict.{IsBad, Keeps, IsLimited, Moves}
 use Rattle.machine_model.specs.Ready.{AreReady, IsReady}
@@ -66,15 +66,15 @@ in_list s h e a own is =
 -- ---- the verdict
 
 moves_by_good : (s : State) (h : ℕ) (q : Plan) (a : Act) (b : Bool) → b ≡ true → q ≡ Changes a → is_limited s h a ≡ false
-    → (if b then verdict_by s h q else IsBad) ≡ Moves (outcome_of s h a) (counted (acted h a s))
+    → (if b then verdict_by s h q else IsBad) ≡ Moves (outcome_of_act s h a) (counted (acted h a s))
 moves_by_good s h (Stays o) a b good plan fits = absurd (cc (plan))
 moves_by_good s h (Changes x) a false good plan fits = absurd (cc (good))
 moves_by_good s h (Changes x) a true good plan fits =
     let same : x ≡ a = cc plan in
     ap (λ (y : Act). verdict_by s h (Changes y)) same
-    ∙ ap (λ (b : Bool). if b then IsLimited else Moves (outcome_of s h a) (counted (acted h a s))) fits
+    ∙ ap (λ (b : Bool). if b then IsLimited else Moves (outcome_of_act s h a) (counted (acted h a s))) fits
 
-pub moves : (s : State) (e : Event) (a : Act) → decided s e ≡ Ok (Changes a) → verdict s e ≡ Moves (outcome_of s (hart_of e) a) (counted (acted (hart_of e) a s))
+pub moves : (s : State) (e : Event) (a : Act) → decided s e ≡ Ok (Changes a) → verdict s e ≡ Moves (outcome_of_act s (hart_of e) a) (counted (acted (hart_of e) a s))
 moves s e a is =
     let found = acts s e a is in
     moves_by_good s (hart_of e) (plan_of s e) a (is_good s e) found.good found.plan found.fits
@@ -100,7 +100,7 @@ refused_by_limit x error false o new is = absurd (cc (is))
 
 refused_by_plan : (s : State) (h : ℕ) (q : Plan) (error : ApplyError) → decided_by s h q ≡ Err error → answer_to (verdict_by s h q) ≡ Err error
 refused_by_plan s h (Stays o) error is = absurd (cc (is))
-refused_by_plan s h (Changes x) error is = refused_by_limit x error (is_limited s h x) (outcome_of s h x) (counted (acted h x s)) is
+refused_by_plan s h (Changes x) error is = refused_by_limit x error (is_limited s h x) (outcome_of_act s h x) (counted (acted h x s)) is
 
 refused_by_good : (s : State) (h : ℕ) (q : Plan) (error : ApplyError) (b : Bool) → (if b then decided_by s h q else Err BadEvent) ≡ Err error → answer_to (if b then verdict_by s h q else IsBad) ≡ Err error
 refused_by_good s h q error true is = refused_by_plan s h q error is
@@ -136,7 +136,7 @@ accesses_stop_none (DoesAmo address op operand) code is = cc
 accesses_stop_none Fences code is = cc
 accesses_stop_none (Calls number argument) code is = calls_stop_none (number == 0) argument code is
 
-pub stops_alone : (s : State) (h : ℕ) (a : Act) → ((code : ℕ) → a ≢ act.Stop code) → (code : ℕ) → outcome_of s h a ≢ Stopped code
+pub stops_alone : (s : State) (h : ℕ) (a : Act) → ((code : ℕ) → a ≢ act.Stop code) → (code : ℕ) → outcome_of_act s h a ≢ Stopped code
 stops_alone s h (act.Stop number) other code is = other number refl
 stops_alone s h (act.Retire entry i d) other code is = accesses_stop_none (access_of i (node_at s h).hart.regs) code is
 stops_alone s h (act.Miss line grow) other code is = cc
@@ -150,14 +150,14 @@ wants_memory : (result : Result Outcome ApplyError) → IsErrAnd result (λ erro
 wants_memory (Ok o) is = absurd is
 wants_memory (Err error) is = ap Err is
 
-pub answers_moved : (s new : State) (h : ℕ) (e : Event) (a : Act) (o : Outcome) (result : Result Outcome ApplyError) → h ≡ hart_of e → decided s e ≡ Ok (Changes a) → o ≡ outcome_of s h a
+pub answers_moved : (s new : State) (h : ℕ) (e : Event) (a : Act) (o : Outcome) (result : Result Outcome ApplyError) → h ≡ hart_of e → decided s e ≡ Ok (Changes a) → o ≡ outcome_of_act s h a
     → result ≡ Ok o → new ≡ counted (acted h a s) → Answers (verdict s e) s result new
 answers_moved s new h e a o result own is out answer moved =
-    let going : verdict s e ≡ Moves (outcome_of s h a) (counted (acted h a s)) = moves s e a is ∙ ap (λ (k : ℕ). Moves (outcome_of s k a) (counted (acted k a s))) (sym own) in
+    let going : verdict s e ≡ Moves (outcome_of_act s h a) (counted (acted h a s)) = moves s e a is ∙ ap (λ (k : ℕ). Moves (outcome_of_act s k a) (counted (acted k a s))) (sym own) in
     subst (λ (v : Verdict). Answers v s result new) (sym going) (inl (answer ∙ ap Ok out, moved))
 
 pub answers_wanting : (s new : State) (h : ℕ) (e : Event) (a : Act) (result : Result Outcome ApplyError) → h ≡ hart_of e → decided s e ≡ Ok (Changes a)
     → IsErrAnd result (λ error. error ≡ NoMemory) → new ≡ s → ((code : ℕ) → a ≢ act.Stop code) → Answers (verdict s e) s result new
 answers_wanting s new h e a result own is answer same other =
-    let going : verdict s e ≡ Moves (outcome_of s h a) (counted (acted h a s)) = moves s e a is ∙ ap (λ (k : ℕ). Moves (outcome_of s k a) (counted (acted k a s))) (sym own) in
+    let going : verdict s e ≡ Moves (outcome_of_act s h a) (counted (acted h a s)) = moves s e a is ∙ ap (λ (k : ℕ). Moves (outcome_of_act s k a) (counted (acted k a s))) (sym own) in
     subst (λ (v : Verdict). Answers v s result new) (sym going) (inr (wants_memory result answer, same, stops_alone s h a other))

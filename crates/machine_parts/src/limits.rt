@@ -2,7 +2,7 @@
 
 ghost use Rattle.std.specs.Prelude.{◌≡◌, ◌+◌, ◌<◌, ◌≤◌, ◌^◌, ℕ, IsOk, IsTrue, OnOk, false, length};
 ghost use Rattle.machine_model.specs.declared.act.Act.{Act};
-ghost use Rattle.machine_model.specs.Changing.{place_at, outcome_of as spec_outcome_of};
+ghost use Rattle.machine_model.specs.Changing.{place_at, outcome_of_act};
 ghost use Rattle.machine_model.specs.Changing.{outcome_by as spec_outcome_by};
 ghost use Rattle.machine_model.specs.Events.{entries_by as spec_entries_by, is_limited as spec_is_limited};
 ghost use Rattle.machine_model.specs.Ready.{IsReadyAct, IsSound};
@@ -45,7 +45,7 @@ fn entries_by(act: &Act) -> usize
 /// What comes of an act, before it is performed.
 pub(crate) fn outcome_of(parts: &Parts, hart: u8, act: &Act) -> Outcome
     requires hart { hart < length parts.now.nodes.items }
-    ensures { result ≡ spec_outcome_of (state_of parts.now) hart act.now }
+    ensures { result ≡ outcome_of_act (state_of parts.now) hart act.now }
 {
     match act {
         Act::Stop(code) => Outcome::Stopped(*code),

@@ -10,7 +10,7 @@ use Rattle.memory_model.specs.Traces.{names_in}
 use Rattle.std.specs.Global.{Vec}
 use Rattle.trace_recorder.proofs.Lists.{history_within}
 use Rattle.trace_recorder.specs.History.{History}
-use Rattle.witnesses.specs.Outcomes.{outcome_of, results_from}
+use Rattle.witnesses.specs.Outcomes.{results_of, results_from}
 use Rattle.witnesses.specs.Witnesses.{IsAllowed, IsWholeRun, IsWitness, has_ended, history_of}
 use Rattle.witnesses.specs.declared.witness.Run.{Run}
 use Rattle.witnesses.specs.declared.witness.Witness.{Witness}
@@ -27,7 +27,7 @@ is_witness image config run witness whole allowed few is results = record {
   no_log = ap (λ (t : History). t.log) is;
   ended = ap (λ (t : History). list_all has_ended t.statuses) is ∙ whole.ended;
   allowed = allowed;
-  outcome = results ∙ (ap (λ n. results_from image n 0 (map (λ (list : Vec Retired). list.items) run.entries.items) run.statuses.items) (sym count) ∙ ap outcome_of (sym is));
+  outcome = results ∙ (ap (λ n. results_from image n 0 (map (λ (list : Vec Retired). list.items) run.entries.items) run.statuses.items) (sym count) ∙ ap results_of (sym is));
 }
   where
     count : length (map (λ (list : Vec Retired). list.items) run.entries.items) ≡ length run.entries.items

@@ -33,5 +33,5 @@ results_from image harts id (entries ∷ rest) (status ∷ statuses) =
     record { status = status; output = output_from (at_reset image id harts) entries } ∷ results_from image harts (id + 1) rest statuses
 
 -- the outcome that is read off a trace's lists
-abbrev pub outcome_of : History → List Result
-outcome_of t = results_from t.image (length t.entries) 0 t.entries t.statuses
+abbrev pub results_of : History → List Result
+results_of t = results_from t.image (length t.entries) 0 t.entries t.statuses

@@ -11,7 +11,7 @@ use Rattle.memory_model.specs.declared.MemoryModel.{MemoryModel}
 use Rattle.memory_model.specs.Traces.{IsLegalOrder, IsOrder, are_runs, names_in}
 use Rattle.trace_recorder.specs.History.{History}
 use Rattle.trace_recorder.specs.Limits.{AreWithinLimits, IsWithinLimits}
-use Rattle.witnesses.specs.Outcomes.{outcome_of}
+use Rattle.witnesses.specs.Outcomes.{results_of}
 use Rattle.witnesses.specs.declared.witness.Run.{Run}
 use Rattle.witnesses.specs.declared.witness.Witness.{Witness}
 
@@ -58,4 +58,4 @@ pub record IsWitness (image : Initial) (config : Config) (witness : Witness) : T
   pub no_log : witness.trace.history.log ≡ []
   pub ended : list_all has_ended witness.trace.history.statuses ≡ true
   pub allowed : IsAllowed config.model witness.trace.history
-  pub outcome : told witness.harts.items ≡ outcome_of witness.trace.history
+  pub outcome : told witness.harts.items ≡ results_of witness.trace.history

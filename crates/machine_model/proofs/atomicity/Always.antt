@@ -11,7 +11,7 @@ use Rattle.machine_model.specs.declared.act.Plan.TheVariants.{Stays, Changes}
 use Rattle.machine_types.specs.declared.config.Config.{Config}
 use Rattle.machine_types.specs.declared.event.Event.{Event}
 use Rattle.machine_types.specs.declared.outcome.Outcome.{Outcome}
-use Rattle.machine_model.specs.Changing.{acted, outcome_of}
+use Rattle.machine_model.specs.Changing.{acted, outcome_of_act}
 use Rattle.machine_model.specs.Events.{Verdict, verdict_by, state_by, happens, after_events, is_good, is_limited, plan_of, hart_of, counted}
 use Rattle.machine_model.specs.HeadlineLaws.{AtomicityAlways}
 use Rattle.machine_model.specs.Laws.{Headline, LegalAlways}
@@ -53,7 +53,7 @@ planned_atomic : (s : State) (h : ℕ) (p : Plan) → h < s.views.config.harts �
 planned_atomic s h (Stays o) l st p fit k a = a
 planned_atomic s h (Changes x) l st p fit k a =
     let next = acted h x s in
-    limited_atomic (is_limited s h x) s (counted next) (outcome_of s h x) a (atomic_still next (counted next) (still next (counted next) refl refl refl) (less_still next (counted next) refl refl refl) (acted_atomic h x s l st p fit k a))
+    limited_atomic (is_limited s h x) s (counted next) (outcome_of_act s h x) a (atomic_still next (counted next) (still next (counted next) refl refl refl) (less_still next (counted next) refl refl refl) (acted_atomic h x s l st p fit k a))
 
 good_atomic : (b : Bool) (s : State) (e : Event) → is_good s e ≡ b → AllStand s → Fits s → OrderKept s → AllAtomic s → AllAtomic (state_by s (cond b (verdict_by s (hart_of e) (plan_of s e)) Verdict.IsBad))
 good_atomic true s e g st fit k a =

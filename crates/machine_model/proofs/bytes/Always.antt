@@ -11,7 +11,7 @@ use Rattle.machine_model.specs.declared.act.Plan.{Plan}
 use Rattle.machine_model.specs.declared.act.Plan.TheVariants.{Stays, Changes}
 use Rattle.machine_types.specs.declared.config.Config.{Config}
 use Rattle.machine_types.specs.declared.event.Event.{Event}
-use Rattle.machine_model.specs.Changing.{acted, outcome_of}
+use Rattle.machine_model.specs.Changing.{acted, outcome_of_act}
 use Rattle.machine_model.specs.Coherent.{IsCoherent}
 use Rattle.machine_model.specs.Events.{IsBad, IsLimited, Moves, after_events, counted, happens, hart_of, is_limited, is_piece, names_well, plan_of, state_by, verdict_by}
 use Rattle.machine_model.specs.JointLaws.{LoadValuesAlways}
@@ -58,7 +58,7 @@ happens_joint s e st k j = go (nat_lt (hart_of e) (length s.views.nodes)) refl (
         next : State
         next = acted (hart_of e) a s
 
-        limited : (b : Bool) → Joint (state_by s (cond b IsLimited (Moves (outcome_of s (hart_of e) a) (counted next))))
+        limited : (b : Bool) → Joint (state_by s (cond b IsLimited (Moves (outcome_of_act s (hart_of e) a) (counted next))))
         limited true = j
         limited false = (
           later,

@@ -23,7 +23,7 @@ use Rattle.elf_loader.specs.Image.{Initial, end_of, word_at}
 use Rattle.elf_loader.specs.Size.{base}
 use Rattle.hart.specs.Run.{can_fetch, is_running, stop_with}
 use Rattle.hart.specs.Local.{private_row}
-use Rattle.machine_model.specs.Changing.{acted, outcome_of, place_at}
+use Rattle.machine_model.specs.Changing.{acted, outcome_of_act, place_at}
 use Rattle.machine_model.specs.Deciding.{miss_by, plan_miss, reading, reading_by, writing, writing_by}
 use Rattle.machine_model.specs.Deliveries.{is_trunk, plan_body, plan_deliver, plan_front, taken, unless_busy, unless_releasing}
 use Rattle.machine_model.specs.Events.{IsBad, IsLimited, Moves, after_events, evict_by, happens, hart_of, is_limited, is_piece, names_well, plan_drain, plan_evict, plan_local, plan_of, state_by, verdict_by, counted}
@@ -396,7 +396,7 @@ happens_fits s e fit = go (nat_lt (hart_of e) (length s.views.nodes)) refl (name
     moves (Stays o) good = fit
     moves (Changes a) good = limited (is_limited s (hart_of e) a)
       where
-        limited : (t : Bool) → Fits (state_by s (if t then IsLimited else Moves (outcome_of s (hart_of e) a) (counted (acted (hart_of e) a s))))
+        limited : (t : Bool) → Fits (state_by s (if t then IsLimited else Moves (outcome_of_act s (hart_of e) a) (counted (acted (hart_of e) a s))))
         limited true = fit
         limited false = (last_after s (hart_of e) a fit.0, counted_fits (acted (hart_of e) a s) (last_after s (hart_of e) a fit.0) good.0)
 

@@ -2,7 +2,7 @@
 use Rattle.std.proofs.Common.{◌<◌, List, [], ◌∷◌, Bool, true, false, ◌≡◌, refl, cond, length}
 use Rattle.std.specs.Prelude.{nat_lt}
 use Rattle.std.proofs.lemmas.Bool.{and_parts, ltb-true}
-use Rattle.machine_model.specs.Changing.{acted, outcome_of}
+use Rattle.machine_model.specs.Changing.{acted, outcome_of_act}
 use Rattle.machine_model.specs.Events.{Verdict, after_events, counted, happens, hart_of, is_good, is_limited, plan_of, state_by, verdict_by}
 use Rattle.machine_model.specs.Views.{State}
 use Rattle.machine_model.specs.declared.act.Act.{Act}
@@ -21,7 +21,7 @@ module _ (G P : State → Type 0) (known : (s : State) (e : Event) → G s → G
   planned s e (Stays o) is in_h g p = p
   planned s e (Changes a) is in_h g p =
       let new = acted (hart_of e) a s in
-      limited (is_limited s (hart_of e) a) s (counted new) (outcome_of s (hart_of e) a) p (counts new (acts s e a is in_h g p))
+      limited (is_limited s (hart_of e) a) s (counted new) (outcome_of_act s (hart_of e) a) p (counts new (acts s e a is in_h g p))
 
   good : (b : Bool) (s : State) (e : Event) → is_good s e ≡ b → G s → P s → P (state_by s (cond b (verdict_by s (hart_of e) (plan_of s e)) Verdict.IsBad))
   good true s e is g p = planned s e (plan_of s e) refl (ltb-true (hart_of e) (length s.views.nodes) (and_parts (nat_lt (hart_of e) (length s.views.nodes)) _ is).0) g p

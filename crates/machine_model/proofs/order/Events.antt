@@ -32,7 +32,7 @@ use Rattle.machine_types.specs.declared.event.Event.{Event}
 use Rattle.machine_types.specs.declared.event.Event.TheVariants as event
 use Rattle.machine_types.specs.declared.outcome.Outcome.{Outcome}
 use Rattle.machine_types.specs.declared.outcome.Outcome.TheVariants as outcome
-use Rattle.machine_model.specs.Changing.{acted, place_at, outcome_of}
+use Rattle.machine_model.specs.Changing.{acted, place_at, outcome_of_act}
 use Rattle.machine_model.specs.Deciding.{miss_by, writing_by}
 use Rattle.machine_model.specs.Deliveries.{plan_body, plan_front, unless_busy, unless_releasing, unless_acks_full}
 use Rattle.machine_model.specs.Events.{Verdict, verdict_by, state_by, happens, after_events, is_good, is_limited, plan_of, plan_drain, evict_by, hart_of, counted}
@@ -199,7 +199,7 @@ limited_kept false s t o a c = c
 
 planned_kept : (s : State) (h : ℕ) (p : Plan) → h < s.views.config.harts → AllStand s → IsFitPlan s h p → OrderKept s → OrderKept (state_by s (verdict_by s h p))
 planned_kept s h (Stays o) l st p k = k
-planned_kept s h (Changes x) l st p k = limited_kept (is_limited s h x) s (counted (acted h x s)) (outcome_of s h x) k (order_still (acted h x s) (counted (acted h x s)) (still (acted h x s) (counted (acted h x s)) refl refl refl) (acted_kept h x s l st p k))
+planned_kept s h (Changes x) l st p k = limited_kept (is_limited s h x) s (counted (acted h x s)) (outcome_of_act s h x) k (order_still (acted h x s) (counted (acted h x s)) (still (acted h x s) (counted (acted h x s)) refl refl refl) (acted_kept h x s l st p k))
 
 good_kept : (b : Bool) (s : State) (e : Event) → is_good s e ≡ b → AllStand s → OrderKept s → OrderKept (state_by s (cond b (verdict_by s (hart_of e) (plan_of s e)) Verdict.IsBad))
 good_kept true s e g st k =

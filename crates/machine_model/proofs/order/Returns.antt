@@ -10,7 +10,7 @@ use Rattle.machine_model.specs.declared.act.Plan.{Plan}
 use Rattle.machine_model.specs.declared.act.Plan.TheVariants.{Stays, Changes}
 use Rattle.machine_types.specs.declared.event.Event.{Event}
 use Rattle.machine_types.specs.declared.outcome.Outcome.{Outcome}
-use Rattle.machine_model.specs.Changing.{acted, outcome_of}
+use Rattle.machine_model.specs.Changing.{acted, outcome_of_act}
 use Rattle.machine_model.specs.Events.{Verdict, verdict_by, state_by, happens, after_events, is_good, is_limited, plan_of, hart_of, counted}
 use Rattle.machine_model.specs.Laws.{Always}
 use Rattle.machine_model.specs.Views.{State, node_at, opening}
@@ -51,7 +51,7 @@ SmallImage s = (y : ℕ) → image_of s.trace y < 256
 
 planned_values : (s : State) (h : ℕ) (p : Plan) → h < s.views.config.harts → AllStand s → IsFitPlan s h p → SmallImage s → AllHold s → OrderKept s → ValuesKept s → ValuesKept (state_by s (verdict_by s h p))
 planned_values s h (Stays o) l st p small holds k v = v
-planned_values s h (Changes x) l st p small holds k v = limited_values (is_limited s h x) s (counted (acted h x s)) (outcome_of s h x) v (values_still (acted h x s) (counted (acted h x s)) (still (acted h x s) (counted (acted h x s)) refl refl refl) (acted_values h x s l st p small (holds h l) k v))
+planned_values s h (Changes x) l st p small holds k v = limited_values (is_limited s h x) s (counted (acted h x s)) (outcome_of_act s h x) v (values_still (acted h x s) (counted (acted h x s)) (still (acted h x s) (counted (acted h x s)) refl refl refl) (acted_values h x s l st p small (holds h l) k v))
 
 good_values : (b : Bool) (s : State) (e : Event) → is_good s e ≡ b → AllStand s → SmallImage s → AllHold s → OrderKept s → ValuesKept s → ValuesKept (state_by s (cond b (verdict_by s (hart_of e) (plan_of s e)) Verdict.IsBad))
 good_values true s e g st small holds k v =

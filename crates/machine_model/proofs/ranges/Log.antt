@@ -5,7 +5,7 @@ use Rattle.std.specs.List.{AllByRecursion, cons_option}
 use Rattle.std.proofs.lemmas.Bool.{and_parts, eq-eqb, false≢true, ltb-true}
 use Rattle.std.proofs.lemmas.List.{append-nil}
 use Rattle.elf_loader.specs.Image.{Initial, IsImage}
-use Rattle.machine_model.specs.Changing.{acted, outcome_of}
+use Rattle.machine_model.specs.Changing.{acted, outcome_of_act}
 use Rattle.machine_types.specs.Config.{is_within_limits}
 use Rattle.machine_model.specs.Deliveries.{taken}
 use Rattle.machine_model.specs.Events.{IsBad, IsLimited, Moves, after_events, counted, happens, hart_of, is_good, is_limited, is_piece, names_well, plan_of, state_by, verdict_by}
@@ -89,7 +89,7 @@ module _ (s : State) (i : IsInOrder s) where
 
   planned : (e : Event) (p : Plan) → plan_of s e ≡ p → hart_of e < length s.views.nodes → TakesFrom s (state_by s (verdict_by s (hart_of e) p))
   planned e (Stays o) is in_h = nothing_new
-  planned e (Changes a) is in_h = limited (is_limited s (hart_of e) a) (counted (acted (hart_of e) a s)) (outcome_of s (hart_of e) a) (acted_takes (hart_of e) a in_h (subst (IsFrontPlan (node_at s (hart_of e))) is (plan_front_of s i e in_h)))
+  planned e (Changes a) is in_h = limited (is_limited s (hart_of e) a) (counted (acted (hart_of e) a s)) (outcome_of_act s (hart_of e) a) (acted_takes (hart_of e) a in_h (subst (IsFrontPlan (node_at s (hart_of e))) is (plan_front_of s i e in_h)))
 
   happens_takes : (e : Event) → TakesFrom s (happens s e)
   happens_takes e = good (is_good s e) refl

@@ -20,7 +20,7 @@ use Rattle.directory.specs.declared.answer.Acquired.TheVariants.{Handled, Busy}
 use Rattle.elf_loader.specs.Image.{Initial}
 use Rattle.hart.specs.Local.{private_row}
 use Rattle.hart.specs.Run.{is_running}
-use Rattle.machine_model.specs.Changing.{acted, outcome_of, place_at}
+use Rattle.machine_model.specs.Changing.{acted, outcome_of_act, place_at}
 use Rattle.machine_types.specs.Config.{is_within_limits}
 use Rattle.machine_types.proofs.Limits.{limits_of}
 use Rattle.machine_model.specs.Deciding.{miss_by, writing_by}
@@ -146,7 +146,7 @@ happens_small s e k = go (nat_lt (hart_of e) (length s.views.nodes)) refl (names
     moves in_h (Stays o) room = k
     moves in_h (Changes a) room = limited (is_limited s (hart_of e) a)
       where
-        limited : (t : Bool) → IsSmallState (state_by s (if t then IsLimited else Moves (outcome_of s (hart_of e) a) (counted (acted (hart_of e) a s))))
+        limited : (t : Bool) → IsSmallState (state_by s (if t then IsLimited else Moves (outcome_of_act s (hart_of e) a) (counted (acted (hart_of e) a s))))
         limited true = k
         limited false = acted_small s (hart_of e) a in_h room k
 

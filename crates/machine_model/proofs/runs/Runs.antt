@@ -35,7 +35,7 @@ use Rattle.machine_types.specs.declared.outcome.Outcome.TheVariants as outcome
 use Rattle.machine_types.specs.declared.config.Config.{Config}
 use Rattle.machine_types.specs.declared.event.Event.{Event}
 use Rattle.machine_types.specs.declared.event.Event.TheVariants as event
-use Rattle.machine_model.specs.Changing.{acted, does, drained, given_up, missed, outcome_of, place_at, retired, stopped, with_halt, with_entries, went_alone}
+use Rattle.machine_model.specs.Changing.{acted, does, drained, given_up, missed, outcome_of_act, place_at, retired, stopped, with_halt, with_entries, went_alone}
 use Rattle.machine_model.specs.Deliveries.{delivered}
 use Rattle.machine_model.specs.Deciding.{miss_by, writing_by}
 use Rattle.machine_model.specs.Deliveries.{plan_body, plan_front, unless_acks_full, unless_busy, unless_releasing}
@@ -394,7 +394,7 @@ limited_stand false s t o a c = c
 
 planned_stand : (s : State) (h : ℕ) (p : Plan) → h < s.views.config.harts → IsAllowedPlan s.trace.image (node_at s h) p → AllStand s → AllStand (state_by s (verdict_by s h p))
 planned_stand s h (Stays o) l p a = a
-planned_stand s h (Changes x) l p a = limited_stand (is_limited s h x) s (counted (acted h x s)) (outcome_of s h x) a (counted_stand (acted h x s) (acted_stand h x s l p a))
+planned_stand s h (Changes x) l p a = limited_stand (is_limited s h x) s (counted (acted h x s)) (outcome_of_act s h x) a (counted_stand (acted h x s) (acted_stand h x s l p a))
 
 good_stand : (b : Bool) (s : State) (e : Event) → is_good s e ≡ b → AllStand s → AllStand (state_by s (cond b (verdict_by s (hart_of e) (plan_of s e)) Verdict.IsBad))
 good_stand true s e g a =

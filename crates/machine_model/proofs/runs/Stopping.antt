@@ -10,7 +10,7 @@ use Rattle.machine_model.specs.declared.act.Plan.TheVariants as plan
 use Rattle.machine_types.specs.declared.event.Event.TheVariants as event
 use Rattle.machine_types.specs.declared.outcome.Outcome.{Outcome}
 use Rattle.machine_types.specs.declared.outcome.Outcome.TheVariants as outcome
-use Rattle.machine_model.specs.Changing.{acted, outcome_by, outcome_of, stopped}
+use Rattle.machine_model.specs.Changing.{acted, outcome_by, outcome_of_act, stopped}
 use Rattle.machine_model.specs.Events.{Verdict, counted, is_good, is_limited, plan_of, state_by, verdict_by}
 use Rattle.machine_model.specs.Laws.{StopsChangeStatusAlone}
 use Rattle.machine_model.specs.Views.{State, node_at}
@@ -22,7 +22,7 @@ stopped_by (Stopped c) code e = cc e
 stopped_by (Exited c) code e = absurd (cc e)
 
 -- the one act whose outcome is a stop
-stops : (s : State) (h : ℕ) (a : Act) (code : ℕ) → outcome_of s h a ≡ outcome.Stopped code → acted h a s ≡ stopped h code s
+stops : (s : State) (h : ℕ) (a : Act) (code : ℕ) → outcome_of_act s h a ≡ outcome.Stopped code → acted h a s ≡ stopped h code s
 stops s h (act.Stop c) code e = ap (λ (k : ℕ). stopped h k s) (cc e)
 stops s h (act.Retire entry i d) code e = absurd (retired_stops_not s.trace.image (node_at s h).hart entry i code (stopped_by (after_instr (node_at s h).hart entry (Some i)).status code e))
 stops s h (act.Miss line grow) code e = absurd (cc e)
@@ -31,7 +31,7 @@ stops s h (act.Evict line) code e = absurd (cc e)
 stops s h (act.Deliver m) code e = absurd (cc e)
 stops s h (act.Local count) code e = absurd (cc e)
 
-by_limit : (s : State) (h : ℕ) (a : Act) (code : ℕ) (new : State) (limited : Bool) → cond limited Verdict.IsLimited (Verdict.Moves (outcome_of s h a) (counted (acted h a s))) ≡ Verdict.Moves (outcome.Stopped code) new
+by_limit : (s : State) (h : ℕ) (a : Act) (code : ℕ) (new : State) (limited : Bool) → cond limited Verdict.IsLimited (Verdict.Moves (outcome_of_act s h a) (counted (acted h a s))) ≡ Verdict.Moves (outcome.Stopped code) new
     → new ≡ counted (stopped h code s)
 by_limit s h a code new true e = absurd (cc e)
 by_limit s h a code new false e = sym (ap (state_by s) e) ∙ ap counted (stops s h a code (cc e))

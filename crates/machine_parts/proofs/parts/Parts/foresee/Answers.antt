@@ -1,5 +1,5 @@
 use Rattle.std.proofs.Common.{◌∙◌, ap, sym, Ok}
-use Rattle.machine_model.specs.Changing.{outcome_of}
+use Rattle.machine_model.specs.Changing.{outcome_of_act}
 use Rattle.machine_model.specs.Events.{Verdict}
 use Rattle.machine_parts.specs.Applying.{answer_to}
 use Rattle.machine_parts.specs.Parts.{state_of}
@@ -9,7 +9,7 @@ use Rattle.machine_parts.proofs.parts.Parts.foresee.Goals as goal
 pub returns-in-Ok-Changes : goal.returns-in-Ok-Changes
 returns-in-Ok-Changes c =
     let s = state_of c.args.self.now in
-    ap Ok (c.outcome_of.ensures ∙ ap (λ h. outcome_of s h c.in-Ok-Changes.act) c.hart_of.ensures)
+    ap Ok (c.outcome_of.ensures ∙ ap (λ h. outcome_of_act s h c.in-Ok-Changes.act) c.hart_of.ensures)
     ∙ sym (ap answer_to (moves s c.args.event.now c.in-Ok-Changes.act (sym c.in-Ok-Changes.ensures ∙ ap Ok c.in-Ok-Changes.field-0-is)))
 
 pub returns-in-Err : goal.returns-in-Err
