@@ -37,7 +37,7 @@ impl Display for OrderRemark<'_> {
                 write!(f, " and ")?;
                 put_operation(self.trace, self.second, f)?;
                 f.write_str(
-                    ": another hart's store to the word stands between them (atomicity axiom)",
+                    ": what the first loaded has to be stored before the second, and no other hart may store there between (atomicity axiom)",
                 )
             }
         }
