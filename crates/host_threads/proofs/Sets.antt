@@ -7,12 +7,15 @@ use Rattle.std.proofs.Math.Nat.{eq-or-lt_of_le, lt_of_not-le, mod-lt, mul-div_ca
 use Rattle.machine_limits.specs.declared.TheConstants.{MAX_SETS}
 use lib.Count.{ones}
 use Rattle.client_cache.specs.Cache.{Cache}
+use Rattle.client_cache.specs.Shape.{set_of}
 use Rattle.elf_loader.specs.Size.{base}
-use Rattle.host_threads.specs.Due.{HasNoVictim, IsLine, IsLowestSpare, IsSpare, set_at}
+use Rattle.host_threads.specs.Due.{HasNoVictim, IsLine, IsLowestSpare, IsSpare}
 use Rattle.machine_types.specs.declared.config.Config.{Config}
 use Rattle.machine_types.specs.Config.{is_set_count, is_within_limits}
 use Rattle.machine_types.proofs.Limits.{limits_of}
-use Rattle.tl_types.specs.Line.{length_of}
+use Rattle.machine_model.specs.Views.{shape_of_config, size_of_config}
+use Rattle.std.specs.Prelude.{unwrap_or}
+use Rattle.tl_types.specs.Line.{length_of, size_of_bytes}
 use Rattle.tl_types.specs.declared.line.LineSize.{LineSize}
 use Rattle.tl_types.specs.declared.line.LineSize.TheVariants.{Bytes16, Bytes64}
 use Rattle.tl_types.proofs.Sizes.{of_each_size}
@@ -46,8 +49,9 @@ whole_below size (suc n) m e below count =
       | inr less ↦ whole_below size n m both.1 less count
     ]
 
--- memory begins with a line of set 0
+-- lines have the configuration's length, and memory begins with one of set 0
 pub record Sized (config : Config) : Type 0 where
+  pub length : length_of (size_of_config config) ≡ config.line
   pub some_bytes : 0 < config.line
   pub few_bytes : config.line ≤ 64
   pub some_sets : 0 < config.sets
@@ -62,10 +66,15 @@ short_length : (size : LineSize) → length_of size ≤ 64
 short_length Bytes16 = omega arith
 short_length Bytes64 = omega arith
 
+own_length : (size : LineSize) → length_of (unwrap_or (size_of_bytes (length_of size)) Bytes16) ≡ length_of size
+own_length Bytes16 = refl
+own_length Bytes64 = refl
+
 pub sized : (config : Config) → is_within_limits config ≡ true → Sized config
 sized config within =
     let limits = limits_of config within in
     record {
+      length = of_each_size (λ n. length_of (unwrap_or (size_of_bytes n) Bytes16) ≡ n) own_length config.line limits.line;
       some_bytes = of_each_size (λ n. 0 < n) some_length config.line limits.line;
       few_bytes = of_each_size (λ n. n ≤ 64) short_length config.line limits.line;
       some_sets = limits.some_sets;
@@ -82,16 +91,23 @@ sized config within =
 abbrev pub nth : Config → (set i : ℕ) → ℕ
 nth config set i = (i * config.sets + set) * config.line
 
-pub set_at-nth : (config : Config) (set i : ℕ) → 0 < config.line → set < config.sets → set_at config (nth config set i) ≡ set
-set_at-nth config set i some below = ap (λ q. q % config.sets) (mul-div_cancel (i * config.sets + set) some) ∙ mod-mul-add i config.sets set below
+-- the set of a line, by the configuration's numbers
+set_by_numbers : (config : Config) (line : ℕ) → Sized config → set_of (shape_of_config config) line ≡ line / config.line % config.sets
+set_by_numbers config line s = ap (λ n. line / n % config.sets) s.length
 
-pub set_below : (config : Config) (address : ℕ) → Sized config → set_at config address < config.sets
-set_below config address s = mod-lt (address / config.line) s.some_sets
+pub set_of-nth : (config : Config) (set i : ℕ) → Sized config → set < config.sets → set_of (shape_of_config config) (nth config set i) ≡ set
+set_of-nth config set i s below =
+    set_by_numbers config (nth config set i) s ∙ ap (λ q. q % config.sets) (mul-div_cancel (i * config.sets + set) s.some_bytes) ∙ mod-mul-add i config.sets set below
+
+pub set_below : (config : Config) (address : ℕ) → Sized config → set_of (shape_of_config config) address < config.sets
+set_below config address s = mod-lt (address / length_of (size_of_config config)) s.some_sets
 
 -- each line of the set is one of them
-pub nth_of : (config : Config) (line : ℕ) → line % config.line ≡ 0 → nth config (set_at config line) (line / config.line / config.sets) ≡ line
-nth_of config line whole =
-    ap (λ q. q * config.line) (div-add-mod' (line / config.line) config.sets) ∙ (let e = div-add-mod' line config.line in omega (arith, e, whole))
+pub nth_of : (config : Config) (line : ℕ) → Sized config → line % config.line ≡ 0 → nth config (set_of (shape_of_config config) line) (line / config.line / config.sets) ≡ line
+nth_of config line s whole =
+    ap (λ set. nth config set (line / config.line / config.sets)) (set_by_numbers config line s)
+    ∙ ap (λ q. q * config.line) (div-add-mod' (line / config.line) config.sets)
+    ∙ (let e = div-add-mod' line config.line in omega (arith, e, whole))
 
 pub nth-add : (config : Config) (set i : ℕ) → nth config set i + config.sets * config.line ≡ nth config set (i + 1)
 nth-add config set i = omega arith
@@ -127,13 +143,16 @@ pub record Walks (config : Config) (c : Cache) (set line : ℕ) : Type 0 where
   pub stands : line ≡ nth config set place
   pub passed : (i : ℕ) → i < place → base ≤ nth config set i → IsSpare c (nth config set i) → ⊥
 
-pub walk_begins : (config : Config) (c : Cache) (set : ℕ) → Sized config → set < config.sets → Walks config c set (base + set * config.line)
-walk_begins config c set s below = record {
-  inside = omega arith;
-  place = base / config.line / config.sets;
-  stands = nth_first config set s;
-  passed = λ i before inside spare. absurd (let outside = before_memory config set i s below before in omega arith);
-}
+pub walk_begins : (config : Config) (c : Cache) (address : ℕ) → Sized config → Walks config c (set_of (shape_of_config config) address) (base + address / config.line % config.sets * config.line)
+walk_begins config c address s = subst (λ n. Walks config c (set_of (shape_of_config config) address) (base + n * config.line)) (set_by_numbers config address s) (begins (set_of (shape_of_config config) address) (set_below config address s))
+  where
+    begins : (set : ℕ) → set < config.sets → Walks config c set (base + set * config.line)
+    begins set below = record {
+      inside = omega arith;
+      place = base / config.line / config.sets;
+      stands = nth_first config set s;
+      passed = λ i before inside spare. absurd (let outside = before_memory config set i s below before in omega arith);
+    }
 
 pub walk_goes_on : (config : Config) (c : Cache) (set line : ℕ) → Walks config c set line → (IsSpare c line → ⊥) → Walks config c set (line + config.sets * config.line)
 walk_goes_on config c set line w none = record {
@@ -149,17 +168,17 @@ walk_goes_on config c set line w none = record {
     lt_or_eq : (a b : ℕ) → a < b + 1 → (a < b) ⊎ (a ≡ b)
     lt_or_eq a b lt = elim (eq-or-lt_of_le (let le : a ≤ b = omega arith in le)) [ inl e ↦ inr e | inr l ↦ inl l ]
 
-pub set_of_walk : (config : Config) (c : Cache) (set line : ℕ) → Sized config → set < config.sets → Walks config c set line → set_at config line ≡ set
-set_of_walk config c set line s below w = ap (λ n. set_at config n) w.stands ∙ set_at-nth config set w.place s.some_bytes below
+pub set_of_walk : (config : Config) (c : Cache) (set line : ℕ) → Sized config → set < config.sets → Walks config c set line → set_of (shape_of_config config) line ≡ set
+set_of_walk config c set line s below w = ap (λ n. set_of (shape_of_config config) n) w.stands ∙ set_of-nth config set w.place s below
 
 not_below : (a b : ℕ) → (a < b → ⊥) → b ≤ a
 not_below a b not = let lt : b < suc a = lt_of_not-le not in omega arith
 
 -- it passed each spare line of the set that lies below
-no_spare_below : (config : Config) (c : Cache) (set line : ℕ) → Walks config c set line → (other : ℕ) → IsLine config other → set_at config other ≡ set → other < line → IsSpare c other → ⊥
-no_spare_below config c set line w other is same lower free =
+no_spare_below : (config : Config) (c : Cache) (set line : ℕ) → Sized config → Walks config c set line → (other : ℕ) → IsLine config other → set_of (shape_of_config config) other ≡ set → other < line → IsSpare c other → ⊥
+no_spare_below config c set line s w other is same lower free =
     let i = other / config.line / config.sets in
-    let stands : nth config set i ≡ other = ap (λ k. nth config k i) (sym same) ∙ nth_of config other is.1 in
+    let stands : nth config set i ≡ other = ap (λ k. nth config k i) (sym same) ∙ nth_of config other s is.1 in
     let less : nth config set i < nth config set w.place = subst (λ n. n < nth config set w.place) (sym stands) (subst (λ n. other < n) w.stands lower) in
     w.passed i (nth_rises config set i w.place less) (subst (λ n. base ≤ n) (sym stands) is.0) (subst (λ n. IsSpare c n) (sym stands) free)
 
@@ -168,9 +187,10 @@ pub walk_finds : (config : Config) (c : Cache) (set line : ℕ) → Sized config
 walk_finds config c set line s below w spare = record {
   begins = (w.inside, ap (λ n. n % config.line) w.stands ∙ mul-mod_left (w.place * config.sets + set) config.line);
   spare = spare;
-  lowest = λ other is same free. not_below other line (λ lower. no_spare_below config c set line w other is (same ∙ set_of_walk config c set line s below w) lower free);
+  lowest = λ other is same free. not_below other line (λ lower. no_spare_below config c set line s w other is (same ∙ set_of_walk config c set line s below w) lower free);
 }
 
 -- where it comes to the end of memory, the set has none
-pub walk_ends : (config : Config) (size : ℕ) (c : Cache) (address line : ℕ) → Walks config c (set_at config address) line → base + size ≤ line → HasNoVictim config size c address
-walk_ends config size c address line w ends other is inside same free = no_spare_below config c (set_at config address) line w other is same (omega (arith, ends, inside)) free
+pub walk_ends : (config : Config) (size : ℕ) (c : Cache) (address line : ℕ) → Sized config → Walks config c (set_of (shape_of_config config) address) line → base + size ≤ line → HasNoVictim config size c address
+walk_ends config size c address line s w ends other is inside same free =
+    no_spare_below config c (set_of (shape_of_config config) address) line s w other is same (omega (arith, ends, inside)) free

@@ -1,22 +1,21 @@
 use Rattle.std.proofs.Common.{arith, refl}
-use Rattle.host_threads.specs.Due.{set_at}
+use Rattle.client_cache.specs.Shape.{set_of}
 use Rattle.host_threads.proofs.Sets.{set_below, set_of_walk, sized, walk_begins, walk_ends, walk_finds, walk_goes_on}
 use Rattle.host_threads.proofs.spare.lowest_spare.Goals as goal
+use Rattle.machine_model.specs.Views.{shape_of_config}
 
 pub loop-line-init : goal.loop-line-init
-loop-line-init c =
-    let s = sized c.args.config.now c.requires.limits in
-    walk_begins c.args.config.now c.args.cache.now (set_at c.args.config.now c.args.address) s (set_below c.args.config.now c.args.address s)
+loop-line-init c = walk_begins c.args.config.now c.args.cache.now c.args.address (sized c.args.config.now c.requires.limits)
 
 pub loop-line-preserved : goal.loop-line-preserved
 loop-line-preserved c =
-    walk_goes_on c.args.config.now c.args.cache.now (set_at c.args.config.now c.args.address) c.loop-line.line c.loop-line.invariant
+    walk_goes_on c.args.config.now c.args.cache.now (set_of (shape_of_config c.args.config.now) c.args.address) c.loop-line.line c.loop-line.invariant
     (λ spare. absurd (let found = c.if-is_spare.ensures.1 spare in cc))
 
 pub returns-then-is_spare-clause-victim : goal.returns-then-is_spare-clause-victim
 returns-then-is_spare-clause-victim c =
     let config = c.args.config.now in
-    let set = set_at config c.args.address in
+    let set = set_of (shape_of_config config) c.args.address in
     let s = sized config c.requires.limits in
     record {
       lowest = walk_finds config c.args.cache.now set c.loop-line.line s (set_below config c.args.address s) c.loop-line.invariant (c.if-is_spare.ensures.0 refl);
@@ -24,4 +23,6 @@ returns-then-is_spare-clause-victim c =
     }
 
 pub returns-clause-none : goal.returns-clause-none
-returns-clause-none c = walk_ends c.args.config.now c.args.size c.args.cache.now c.args.address c.loop-line.line c.loop-line.invariant (omega (arith, c.loop-line-test.false))
+returns-clause-none c =
+    walk_ends c.args.config.now c.args.size c.args.cache.now c.args.address c.loop-line.line (sized c.args.config.now c.requires.limits) c.loop-line.invariant
+    (omega (arith, c.loop-line-test.false))
