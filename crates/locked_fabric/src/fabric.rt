@@ -2,12 +2,10 @@
 
 ghost use Rattle.std.specs.Prelude.{◌≡◌, ◌≢◌, ◌+◌, ◌↔◌, [], length, replicate, sum, false, IsTrue, Err, IfOk, OnOk, OnErr};
 ghost use Rattle.coherent_machine.specs.Adopting.{IsCurrent, local_of};
-ghost use Rattle.coherent_machine.specs.Machine.{KeepsHeadline};
-ghost use Rattle.locked_fabric.specs.Held.{Answered, AreMoves, IsKept, IsReplay, journalled, opened, reset_of};
+ghost use Rattle.locked_fabric.specs.Held.{Answered, IsKept, journalled, opened};
 ghost use Rattle.locked_fabric.specs.Turns.{Takes};
 ghost use Rattle.machine_types.specs.Config.{is_within_limits};
 ghost use Rattle.machine_model.specs.Events.{Verdict, happens, verdict};
-ghost use Rattle.machine_model.specs.LawfulLog.{IsLawfulLog};
 ghost use Rattle.machine_model.specs.Laws.{IsHeadline, KeepsImageAndConfig};
 ghost use Rattle.progress_board.specs.Seat.{IsSeatOf, view};
 
@@ -70,12 +68,8 @@ impl<L: Ledger> Fabric<L> {
         ensures fabric { IfOk result (λ made. made.0 ≡ opened image config) }
         ensures shares { IfOk result (λ made. made.1.items ≡ replicate config.harts 0) }
         ensures config { (result ≡ Err NewError.Config) ↔ (is_within_limits config ≡ false) }
-        ensures replay { IfOk result (λ made. IsReplay made.0) }
-        ensures moves { IfOk result (λ made. AreMoves (reset_of made.0) made.0.journal) }
-        ensures book { IfOk result (λ made. made.0.book ≡ length made.0.journal) }
-        ensures changes { IfOk result (λ made. made.0.machine.views.changes ≡ made.0.book) }
+        ensures kept { IfOk result (λ made. IsKept made.0) }
         ensures headline { IfOk result (λ made. IsHeadline image config made.0.machine) }
-        ensures log { IfOk result (λ made. IsLawfulLog made.0.machine.trace.log) }
     {
         let machine = Machine::new(alloc, image, config)?;
         let harts = config.harts as usize;
@@ -103,14 +97,9 @@ impl<L: Ledger> Fabric<L> {
         ensures ok { OnOk result (self.new.machine ≡ happens self.old.machine event) }
         ensures err { OnErr result (self.new ≡ self.old) }
         ensures share { share.new + self.old.book ≡ share.old + self.new.book }
-        ensures replay { IsReplay self.new }
-        ensures moves { AreMoves (reset_of self.new) self.new.journal }
-        ensures book { self.new.book ≡ length self.new.journal }
-        ensures changes { self.new.machine.views.changes ≡ self.new.book }
-        ensures headline { KeepsHeadline self.new.machine }
-        ensures log { IsLawfulLog self.new.machine.trace.log }
         ensures stays { KeepsImageAndConfig self.old.machine self.new.machine }
         ensures found { IsKept self.old }
+        ensures left { IsKept self.new }
     {
         changes_are_counted();
         self.journal.reserve(1)?;
@@ -171,14 +160,9 @@ impl<L: Ledger> Fabric<L> {
         ensures ok { OnOk result (self.new ≡ journalled self.old (local_of batch.now.first.id batch.now) self.new.machine) }
         ensures err { OnErr result (self.new ≡ self.old) }
         ensures share { share.new + self.old.book ≡ share.old + self.new.book }
-        ensures replay { IsReplay self.new }
-        ensures moves { AreMoves (reset_of self.new) self.new.journal }
-        ensures book { self.new.book ≡ length self.new.journal }
-        ensures changes { self.new.machine.views.changes ≡ self.new.book }
-        ensures headline { KeepsHeadline self.new.machine }
-        ensures log { IsLawfulLog self.new.machine.trace.log }
         ensures stays { KeepsImageAndConfig self.old.machine self.new.machine }
         ensures found { IsKept self.old }
+        ensures left { IsKept self.new }
     {
         changes_are_counted();
         if self.journal.reserve(1).is_err() {
@@ -195,12 +179,7 @@ impl<L: Ledger> Fabric<L> {
     /// The machine as it stands.
     pub fn machine(&self) -> &Machine
         ensures machine { result.now ≡ self.now.machine }
-        ensures replay { IsReplay self.now }
-        ensures moves { AreMoves (reset_of self.now) self.now.journal }
-        ensures book { self.now.book ≡ length self.now.journal }
-        ensures changes { self.now.machine.views.changes ≡ self.now.book }
-        ensures headline { KeepsHeadline self.now.machine }
-        ensures log { IsLawfulLog self.now.machine.trace.log }
+        ensures kept { IsKept self.now }
     {
         &self.machine
     }
@@ -208,12 +187,7 @@ impl<L: Ledger> Fabric<L> {
     /// The events that changed the machine, the first one first.
     pub fn journal(&self) -> &[Event]
         ensures journal { result.now ≡ self.now.journal }
-        ensures replay { IsReplay self.now }
-        ensures moves { AreMoves (reset_of self.now) self.now.journal }
-        ensures book { self.now.book ≡ length self.now.journal }
-        ensures changes { self.now.machine.views.changes ≡ self.now.book }
-        ensures headline { KeepsHeadline self.now.machine }
-        ensures log { IsLawfulLog self.now.machine.trace.log }
+        ensures kept { IsKept self.now }
     {
         &self.journal
     }
@@ -227,12 +201,7 @@ impl<L: Ledger> Fabric<L> {
         ensures journal { result.1.items ≡ self.journal }
         ensures counts { result.2.items ≡ shares.items }
         ensures total { sum result.2.items ≡ length self.journal }
-        ensures replay { IsReplay self }
-        ensures moves { AreMoves (reset_of self) self.journal }
-        ensures book { self.book ≡ length self.journal }
-        ensures changes { self.machine.views.changes ≡ self.book }
-        ensures headline { KeepsHeadline self.machine }
-        ensures log { IsLawfulLog self.machine.trace.log }
+        ensures kept { IsKept self }
     {
         let Fabric {
             machine,

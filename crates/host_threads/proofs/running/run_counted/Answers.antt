@@ -42,8 +42,8 @@ returns g c =
     let of_image : c.into_inner-fabric.result.machine.trace.image ≡ c.args.image = ap (λ (s : State). s.trace.image) (sym c.machine.ensures.machine) ∙ same.0 ∙ c.requires.image in
     let of_config : c.into_inner-fabric.result.machine.views.config ≡ c.args.common.now.config = ap (λ (s : State). s.views.config) (sym c.machine.ensures.machine) ∙ same.1 in
     let leads : after_events (opening c.args.image c.args.common.now.config) c.into_parts-machine.result.1.items ≡ c.into_parts-machine.result.0 =
-    leads_to c.args.image c.args.common.now.config c.into_inner-fabric.result c.into_parts-machine.result.1.items c.into_parts-machine.result.0 of_image of_config parts.replay parts.journal parts.machine in
-    let moves = moves_from c.args.image c.args.common.now.config c.into_inner-fabric.result c.into_parts-machine.result.1.items of_image of_config parts.moves parts.journal in
+    leads_to c.args.image c.args.common.now.config c.into_inner-fabric.result c.into_parts-machine.result.1.items c.into_parts-machine.result.0 of_image of_config parts.kept.replay parts.journal parts.machine in
+    let moves = moves_from c.args.image c.args.common.now.config c.into_inner-fabric.result c.into_parts-machine.result.1.items of_image of_config parts.kept.moves parts.journal in
     let counted : sum c.into_parts-machine.result.2.items ≡ length c.into_parts-machine.result.1.items = parts.total ∙ ap (λ (l : List Event). length l) (sym parts.journal) in
     let drew = subst (λ (seats : List Seat). DrewBelow (map view seats) c.settle-numbers.result) c.in_ok-seats.ensures.seats c.settle-numbers.ensures in
     let within : sum (counts_of c.in_ok-done.done.items) ≤ c.args.common.now.limit = within_limit c.args.common.now c.settle-numbers.result c.in_ok-done.done.items c.in_ok-done.ensures.back drew in
@@ -62,8 +62,8 @@ returns g c =
           (ap (λ (s : State). s.views.config) (leads ∙ parts.machine) ∙ of_config)
           (subst (λ (i : Initial). IsImage i) c.requires.image c.is_of.ensures.image)
           c.requires.limits;
-      headline = headline_at c.args.image c.args.common.now.config c.into_inner-fabric.result.machine _ of_image of_config (sym (leads ∙ parts.machine)) parts.headline;
-      log = subst (λ (t : History). IsLawfulLog t.log) (sym (c.into_parts-trace.ensures.trace ∙ ap (λ (s : State). s.trace) parts.machine)) parts.log;
+      headline = headline_at c.args.image c.args.common.now.config c.into_inner-fabric.result.machine _ of_image of_config (sym (leads ∙ parts.machine)) parts.kept.headline;
+      log = subst (λ (t : History). IsLawfulLog t.log) (sym (c.into_parts-trace.ensures.trace ∙ ap (λ (s : State). s.trace) parts.machine)) parts.kept.log;
       limit = record { events = omega (arith, counted, applied); harts = each_within c.args.common.now.limit c.into_parts-machine.result.2.items applied };
       config = λ e. absurd (cc e);
     }

@@ -19,15 +19,6 @@ invariant_of-self-then-changes g c =
       search rules,
     )
 
-pub returns-then-changes-clause-replay : goal.returns-then-changes-clause-replay
-returns-then-changes-clause-replay g c = (invariant_of-self-then-changes g c).0.replay
-
-pub returns-then-changes-clause-moves : goal.returns-then-changes-clause-moves
-returns-then-changes-clause-moves g c = (invariant_of-self-then-changes g c).0.moves
-
-pub returns-then-changes-clause-changes : goal.returns-then-changes-clause-changes
-returns-then-changes-clause-changes g c = (invariant_of-self-then-changes g c).0.changes
-
 pub invariant_of-self-else-changes : goal.invariant_of-self-else-changes
 invariant_of-self-else-changes g c =
     let was : Held = record { machine = c.self.inside.machine; journal = c.self.inside.journal.items; book = c.self.inside.book.total } in
@@ -41,12 +32,6 @@ invariant_of-self-else-changes g c =
       search rules,
     )
 
-pub returns-else-changes-clause-replay : goal.returns-else-changes-clause-replay
-returns-else-changes-clause-replay g c = (invariant_of-self-else-changes g c).0.replay
-
-pub returns-else-changes-clause-moves : goal.returns-else-changes-clause-moves
-returns-else-changes-clause-moves g c = (invariant_of-self-else-changes g c).0.moves
-
 pub returns-else-changes-clause-answers : goal.returns-else-changes-clause-answers
 returns-else-changes-clause-answers g c =
     let was : Held = record { machine = c.self.inside.machine; journal = c.self.inside.journal.items; book = c.self.inside.book.total } in
@@ -58,6 +43,9 @@ returns-else-changes-clause-answers g c =
 pub returns-then-changes-clause-answers : goal.returns-then-changes-clause-answers
 returns-then-changes-clause-answers g c = search rules
 
+pub returns-then-changes-clause-left : goal.returns-then-changes-clause-left
+returns-then-changes-clause-left g c = (invariant_of-self-then-changes g c).0
+
 pub returns-then-changes-clause-ok : goal.returns-then-changes-clause-ok
 returns-then-changes-clause-ok g c = search rules
 
@@ -67,17 +55,11 @@ returns-then-changes-clause-err g c = search rules
 pub returns-then-changes-clause-share : goal.returns-then-changes-clause-share
 returns-then-changes-clause-share g c = search rules
 
-pub returns-then-changes-clause-book : goal.returns-then-changes-clause-book
-returns-then-changes-clause-book g c = search rules
-
-pub returns-then-changes-clause-headline : goal.returns-then-changes-clause-headline
-returns-then-changes-clause-headline g c = search rules
-
-pub returns-then-changes-clause-log : goal.returns-then-changes-clause-log
-returns-then-changes-clause-log g c = search rules
-
 pub returns-then-changes-clause-stays : goal.returns-then-changes-clause-stays
 returns-then-changes-clause-stays g c = search rules
+
+pub returns-else-changes-clause-left : goal.returns-else-changes-clause-left
+returns-else-changes-clause-left g c = (invariant_of-self-else-changes g c).0
 
 pub returns-else-changes-clause-ok : goal.returns-else-changes-clause-ok
 returns-else-changes-clause-ok g c = search rules
@@ -87,18 +69,6 @@ returns-else-changes-clause-err g c = search rules
 
 pub returns-else-changes-clause-share : goal.returns-else-changes-clause-share
 returns-else-changes-clause-share g c = search rules
-
-pub returns-else-changes-clause-book : goal.returns-else-changes-clause-book
-returns-else-changes-clause-book g c = search rules
-
-pub returns-else-changes-clause-changes : goal.returns-else-changes-clause-changes
-returns-else-changes-clause-changes g c = search rules
-
-pub returns-else-changes-clause-headline : goal.returns-else-changes-clause-headline
-returns-else-changes-clause-headline g c = search rules
-
-pub returns-else-changes-clause-log : goal.returns-else-changes-clause-log
-returns-else-changes-clause-log g c = search rules
 
 pub returns-else-changes-clause-stays : goal.returns-else-changes-clause-stays
 returns-else-changes-clause-stays g c = search rules

@@ -17,14 +17,8 @@ invariant_of-self-2 g c =
       search rules,
     )
 
-pub returns-clause-replay : goal.returns-clause-replay
-returns-clause-replay g c = (invariant_of-self-2 g c).0.replay
-
-pub returns-clause-moves : goal.returns-clause-moves
-returns-clause-moves g c = (invariant_of-self-2 g c).0.moves
-
-pub returns-clause-changes : goal.returns-clause-changes
-returns-clause-changes g c = (invariant_of-self-2 g c).0.changes
+pub returns-clause-left : goal.returns-clause-left
+returns-clause-left g c = (invariant_of-self-2 g c).0
 
 pub returns-clause-stale : goal.returns-clause-stale
 returns-clause-stale g c = λ _. rw (← c.self.view_is) (rw c.first.ensures.first at c.in_ok-outcome.ensures.stale)
@@ -46,15 +40,6 @@ returns-clause-err g c = search rules
 
 pub returns-clause-share : goal.returns-clause-share
 returns-clause-share g c = search rules
-
-pub returns-clause-book : goal.returns-clause-book
-returns-clause-book g c = search rules
-
-pub returns-clause-headline : goal.returns-clause-headline
-returns-clause-headline g c = search rules
-
-pub returns-clause-log : goal.returns-clause-log
-returns-clause-log g c = search rules
 
 pub returns-clause-stays : goal.returns-clause-stays
 returns-clause-stays g c = search rules

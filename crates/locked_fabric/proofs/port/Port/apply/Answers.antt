@@ -7,6 +7,6 @@ returns-clause-answers g c =
     let after = c.apply-applied.ensures in
     let seen : c.machine.result.now ≡ c.apply-applied.new.self.machine = search rules in (
       c.apply-applied.new.self,
-      record { replay = after.replay; moves = after.moves; book = after.book; changes = after.changes; headline = after.headline; log = after.log },
+      after.left,
       (record { old = c.deref_mut.result.now; kept = after.found; answered = after.answers; counted = after.share }, subst (λ (s : State). g.T.Visit.sees c.args.turn.now s c.see.new.self) seen c.see.ensures),
     )

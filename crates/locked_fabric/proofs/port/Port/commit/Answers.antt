@@ -9,7 +9,7 @@ returns-clause-answers g c =
     let after = c.commit-committed.ensures in
     let seen : c.machine.result.now ≡ c.commit-committed.new.self.machine = search rules in (
       c.commit-committed.new.self,
-      record { replay = after.replay; moves = after.moves; book = after.book; changes = after.changes; headline = after.headline; log = after.log },
+      after.left,
       (
         record {
           old = c.deref_mut.result.now;
@@ -31,6 +31,6 @@ returns-clause-journalled g c =
     let after = c.commit-committed.ensures in
     on_ok_weaker c.commit-committed.result (λ is. (
       c.commit-committed.new.self,
-      record { replay = after.replay; moves = after.moves; book = after.book; changes = after.changes; headline = after.headline; log = after.log },
+      after.left,
       (c.deref_mut.result.now.journal, ap (λ (held : Held). held.journal) is),
     )) after.ok
