@@ -10,7 +10,7 @@ ghost use Rattle.machine_model.specs.Views.{node_at};
 use coherent_machine::{Machine, Views};
 use elf_loader::Image;
 use hart::{Hart, Status};
-use locked_fabric::{Turn, Visit};
+use locked_fabric::{Turn, Visit, seen_in};
 use machine_types::{Event, Outcome};
 use rv32_decode::{Instr, decode};
 use rv32_exec::{Action, plan};
@@ -81,12 +81,7 @@ impl<'a, T: Turn + Drop> Visit for Watched<'a, T> {
     }
 
     fn see(&mut self, machine: &Machine) {
-        let trace = machine.trace();
-        let hart = usize::from(self.hart);
-        self.seen = None;
-        if hart < trace.harts() {
-            self.seen = Some((trace.entries(hart).len() as u64, trace.statuses()[hart]));
-        }
+        self.seen = seen_in(machine.trace(), self.hart);
     }
 }
 

@@ -11,7 +11,7 @@ mod turn;
 
 pub use fabric::Fabric;
 pub use numbers::Numbers;
-pub use port::Port;
+pub use port::{Port, seen_in};
 pub use share::Share;
 pub use taken::Taken;
 pub use turn::{Turn, Visit};

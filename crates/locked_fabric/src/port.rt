@@ -3,6 +3,7 @@
 ghost use Rattle.std.specs.Prelude.{◌≡◌, ◌+◌, IfOk, OnErr, OnOk};
 ghost use Rattle.std.specs.Borrow.{sem};
 ghost use Rattle.coherent_machine.specs.Adopting.{local_of};
+ghost use Rattle.locked_fabric.specs.Port as spec;
 
 use crate::fabric::Fabric;
 use crate::numbers::Numbers;
@@ -16,6 +17,7 @@ use progress_board::Seat;
 use std::sync::atomic::{AtomicU64, Ordering};
 use std::sync::ledger::Ledger;
 use std::sync::{Mutex, MutexGuard, Wait};
+use trace_recorder::Trace;
 
 /// How often a worker tries a lock that another holds before it sleeps. A turn is shorter than it takes to
 /// wake a thread.
@@ -43,7 +45,7 @@ impl<'a, L: Ledger> Port<'a, L> {
     ghost use Rattle.locked_fabric.specs.Held.{Held, IsKept};
     ghost use Rattle.locked_fabric.specs.Turns.{Takes};
     ghost use Rattle.progress_board.specs.Seat.{IsSeatOf, view};
-    ghost use Rattle.locked_fabric.specs.Port.{Applied, Committed, IsLast, Left, LendsSeat, hart_at, seat_of, seen_in, share_of};
+    ghost use Rattle.locked_fabric.specs.Port.{Applied, Committed, IsLast, Left, LendsSeat, hart_at, seat_of, share_of};
 
     pub fn new(lock: &'a Mutex<Fabric<L>>, seat: Seat, share: Share<L>) -> Port<'a, L>
         ensures seat { seat_of result ≡ seat }
@@ -130,17 +132,11 @@ impl<'a, L: Ledger> Port<'a, L> {
     /// How many instructions the hart has retired, and its status; none where there is no such hart. It waits
     /// for the lock.
     pub fn seen<R: Wait>(&mut self, rt: &R, hart: u8) -> Option<(u64, Status)>
-        ensures seen { Left (λ held. result ≡ seen_in held.machine.trace hart) }
+        ensures seen { Left (λ held. result ≡ spec.seen_in held.machine.trace hart) }
         ensures same { self.new ≡ self.old }
     {
         let fabric = held(self.lock, rt);
-        let trace = fabric.machine().trace();
-        let hart = usize::from(hart);
-        if hart < trace.harts() {
-            Some((trace.entries(hart).len() as u64, trace.statuses()[hart]))
-        } else {
-            None
-        }
+        seen_in(fabric.machine().trace(), hart)
     }
 
     /// A copy of the hart as it stands; none where there is no such hart. It waits for the lock.
@@ -184,6 +180,18 @@ impl<'a, L: Ledger> Port<'a, L> {
             share,
         } = self;
         (seat, share)
+    }
+}
+
+/// How many instructions a hart has retired, and its status; none where there is no such hart.
+pub fn seen_in(trace: &Trace, hart: u8) -> Option<(u64, Status)>
+    ensures { result ≡ spec.seen_in trace.now.history hart }
+{
+    let hart = usize::from(hart);
+    if hart < trace.harts() {
+        Some((trace.entries(hart).len() as u64, trace.statuses()[hart]))
+    } else {
+        None
     }
 }
 
