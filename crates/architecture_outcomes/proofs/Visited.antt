@@ -31,6 +31,7 @@ module _ (image : Initial) (config : Config) where
     as_many = visited.count;
     once = visited.once;
     reached = visited.reached;
+    all = visited.all;
     missed = visited.missed;
     told = λ enough i s end at shows.
         let it = mapped wordless (shown_result s) end shows in
@@ -46,6 +47,7 @@ module _ (image : Initial) (config : Config) where
     as_many = visited.count;
     once = visited.once;
     reached = visited.reached;
+    all = visited.all;
     missed = visited.missed;
     told = λ enough i s end at shows. subst (λ (es : List Ending). Contains es end) (same_endings image config e.outcomes.items) (visited.told enough i s end at shows);
   }
@@ -57,6 +59,7 @@ module _ (image : Initial) (config : Config) where
     as_many = are.as_many;
     once = are.once;
     reached = are.reached;
+    all = are.all;
     missed = are.missed;
     told = λ enough i s end at shows. more end (are.told enough i s end at shows);
   }

@@ -13,8 +13,8 @@ use Rattle.flat_model.specs.Flat.{Flat}
 use Rattle.flat_model.specs.Shown.{Result}
 use Rattle.machine_types.specs.declared.config.Config.{Config}
 use Rattle.state_search.specs.declared.findings.Extent.{Extent}
-use Rattle.state_search.specs.declared.findings.Extent.TheVariants.{LimitMet, OutOfMemory}
-use Rattle.state_search.specs.Findings.{AreReached, IsIncomplete}
+use Rattle.state_search.specs.declared.findings.Extent.TheVariants.{Complete, LimitMet, OutOfMemory}
+use Rattle.state_search.specs.Findings.{AreReached, IsComplete, IsIncomplete}
 
 -- results that show no words
 abbrev pub wordless : List Result → Ending
@@ -30,6 +30,11 @@ abbrev pub AreFound : Initial → Config → (addresses : List ℕ) → List Fla
 AreFound image config [] states = AreReached (LeadsToView shortened) (kept_opening image config) states
 AreFound image config (address ∷ rest) states = AreReached LeadsOnward (onward_opening image config) states
 
+-- no steps lead to another state
+abbrev pub AreAll : Initial → Config → (addresses : List ℕ) → List Flat → Type 0
+AreAll image config [] states = IsComplete (LeadsToView shortened) (kept_opening image config) states
+AreAll image config (address ∷ rest) states = IsComplete LeadsOnward (onward_opening image config) states
+
 -- some steps lead to another state
 abbrev pub AreSome : Initial → Config → (addresses : List ℕ) → List Flat → Type 0
 AreSome image config [] states = IsIncomplete (LeadsToView shortened) (kept_opening image config) states
@@ -39,10 +44,11 @@ AreSome image config (address ∷ rest) states = IsIncomplete LeadsOnward (onwar
 abbrev pub TellsEnd : List Outcome → Ending → Type 0
 TellsEnd outcomes end = Contains (map machine_end outcomes) (Some end)
 
--- the machine's states are as many as is said, each once and found; at the limit there is another; and unless memory ended this holds of each end among them
+-- the machine's states are as many as is said, each once and found; where the search is complete they are all; at the limit there is another; and unless memory ended this holds of each end among them
 pub record AreMachineStates (image : Initial) (config : Config) (addresses : List ℕ) (extent : Extent) (count : ℕ) (IsTold : Ending → Type 0) (states : List Flat) : Type 0 where
   pub as_many : length states ≡ count
   pub once : AreDistinct states
   pub reached : AreFound image config addresses states
+  pub all : extent ≡ Complete → AreAll image config addresses states
   pub missed : extent ≡ LimitMet → AreSome image config addresses states
   pub told : extent ≢ OutOfMemory → (i : ℕ) (s : Flat) (end : Ending) → slice_get states i ≡ Some s → shown_at addresses s ≡ Some end → IsTold end

@@ -1,5 +1,5 @@
 //! The outcomes of the machine and those of the memory model, joined.
-ghost use Rattle.std.specs.Prelude.{◌≡◌, ◌<◌, All, IfOk, IsTrue, List, min};
+ghost use Rattle.std.specs.Prelude.{◌≡◌, ◌<◌, ◌≤◌, All, IfOk, IsTrue, List, min};
 ghost use Rattle.std.specs.List.Sorted.{IsStrictlySortedBy};
 ghost use Rattle.std.specs.Ordering.{on};
 ghost use Rattle.architecture_outcomes.specs.Outcomes.{IsDecided, IsWitnessed, TellsEachEnd, end_of};
@@ -67,7 +67,8 @@ pub fn explore_architecture<W: Watch>(
     // What is said to show an outcome does.
     ensures shown { IfOk result (λ a. All (IsWitnessed image.now config addresses.now) a.outcomes.items) }
 
-    // It tells how many states of the machine it found; unless memory ended, what they show is told as the machine's.
+    // It tells how many states of the machine it found, all of them where that search is complete; unless memory ended,
+    // what they show is told as the machine's.
     ensures visited { IfOk result (λ a. (states : List Flat) × AreMachineStates image.now config addresses.now a.machine a.machine_states (TellsEnd a.outcomes.items) states) }
 
     // Where the machine's own search is complete, each of its outcomes is told as one of the machine.
@@ -79,6 +80,7 @@ pub fn explore_architecture<W: Watch>(
     // No outcome is told twice.
     ensures order { IfOk result (λ a. IsStrictlySortedBy (on end_of ending_cmp) a.outcomes.items) }
 
+    ensures within { IfOk result (λ a. a.machine_states ≤ exploring.limit) }
     ensures full { IfOk result (λ a. a.machine ≡ Extent.LimitMet → a.machine_states ≡ exploring.limit) }
     ensures model { IfOk result (λ a. a.model ≡ config.model) }
     ensures window { IfOk result (λ a. a.window ≡ min window 64) }

@@ -1,5 +1,5 @@
 //! What the machine comes to.
-ghost use Rattle.std.specs.Prelude.{◌≡◌, ◌<◌, [], All, Contains, IfOk, IsTrue, List, map};
+ghost use Rattle.std.specs.Prelude.{◌≡◌, ◌<◌, ◌≤◌, [], All, Contains, IfOk, IsTrue, List, map};
 ghost use Rattle.std.specs.List.{AllZip};
 ghost use Rattle.std.specs.List.Sorted.{IsStrictlySortedBy};
 ghost use Rattle.std.specs.Ordering.{on};
@@ -42,6 +42,7 @@ pub(crate) fn search_machine<W: Watch>(
     ensures machine { IfOk result (λ m. All (λ o. IsMachine o.way) m.outcomes.items) }
     ensures complete { IfOk result (λ m. m.extent ≡ Extent.Complete → HasEachMachineEnd image.now config addresses.now (ends_of m.outcomes.items)) }
     ensures once { IfOk result (λ m. IsStrictlySortedBy (on end_of ending_cmp) m.outcomes.items) }
+    ensures within { IfOk result (λ m. m.states ≤ exploring.limit) }
     ensures full { IfOk result (λ m. m.extent ≡ Extent.LimitMet → m.states ≡ exploring.limit) }
     ensures visited { IfOk result (λ m. (states : List Flat) × AreMachineStates image.now config addresses.now m.extent m.states (Contains (ends_of m.outcomes.items)) states) }
 {
@@ -76,6 +77,7 @@ fn search_results<W: Watch>(
     ensures machine { IfOk result (λ m. All (λ o. IsMachine o.way) m.outcomes.items) }
     ensures complete { IfOk result (λ m. m.extent ≡ Extent.Complete → HasEachMachineEnd image.now config [] (ends_of m.outcomes.items)) }
     ensures once { IfOk result (λ m. IsStrictlySortedBy (on end_of ending_cmp) m.outcomes.items) }
+    ensures within { IfOk result (λ m. m.states ≤ exploring.limit) }
     ensures full { IfOk result (λ m. m.extent ≡ Extent.LimitMet → m.states ≡ exploring.limit) }
     ensures visited { IfOk result (λ m. (states : List Flat) × AreMachineStates image.now config [] m.extent m.states (Contains (ends_of m.outcomes.items)) states) }
 {
