@@ -1,11 +1,12 @@
 //! What a memory model allows beyond what the machine comes to.
-ghost use Rattle.std.specs.Prelude.{◌≡◌, All, IfOk, IsTrue};
+ghost use Rattle.std.specs.Prelude.{◌≡◌, ◌≢◌, ◌≤◌, All, IfOk, IsTrue};
 ghost use Rattle.std.specs.List.{list_any};
 ghost use Rattle.std.specs.List.Sorted.{IsStrictlySortedBy};
 ghost use Rattle.std.specs.Ordering.{on};
 ghost use Rattle.architecture_outcomes.specs.Outcomes.{HasEachMachineEnd, IsDecided, IsWitnessed, TellOnce, end_of, ends_of, tells};
 ghost use Rattle.flat_machine.specs.Onward.{are_aligned};
 ghost use Rattle.machine_types.specs.Config.{is_within_limits};
+ghost use Rattle.window_machine.specs.Openings.{NeverOpens};
 ghost use Rattle.witnesses.specs.Witnesses.{IsWitness};
 ghost use Rattle.word_explorer.specs.Orders.{ending_cmp};
 
@@ -30,6 +31,8 @@ pub(crate) fn search_model<W: Watch>(
 ) -> Allowed
     requires limits { IsTrue (is_within_limits config) }
     ensures witnessed { All (IsWitness image.now config) result.witnesses.items }
+    ensures opens { result.reach ≡ Reach.Whole → result.states ≡ 0 → NeverOpens image.now config }
+    ensures bounded { result.reach ≢ Reach.LimitMet → result.reach ≢ Reach.OutOfMemory → result.states ≤ limit }
 {
     let window = window as usize;
     match search(alloc, image, config, addresses, window, limit, watch) {

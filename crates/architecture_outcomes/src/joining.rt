@@ -1,11 +1,12 @@
 //! The outcomes of the machine and those of the memory model, joined.
-ghost use Rattle.std.specs.Prelude.{◌≡◌, ◌<◌, ◌≤◌, All, IfOk, IsTrue, List, min};
+ghost use Rattle.std.specs.Prelude.{◌≡◌, ◌≢◌, ◌<◌, ◌≤◌, All, IfOk, IsTrue, List, min};
 ghost use Rattle.std.specs.List.Sorted.{IsStrictlySortedBy};
 ghost use Rattle.std.specs.Ordering.{on};
 ghost use Rattle.architecture_outcomes.specs.Outcomes.{IsDecided, IsWitnessed, TellsEachEnd, end_of};
 ghost use Rattle.architecture_outcomes.specs.Visited.{AreMachineStates, TellsEnd};
 ghost use Rattle.flat_model.specs.Flat.{Flat};
 ghost use Rattle.machine_types.specs.Config.{is_within_limits};
+ghost use Rattle.window_machine.specs.Openings.{NeverOpens};
 ghost use Rattle.word_explorer.specs.Orders.{ending_cmp};
 ghost use Rattle.word_explorer.specs.Words.{CanShowEach};
 
@@ -17,7 +18,7 @@ use explorer::Exploring;
 use machine_types::Config;
 use state_search::{Extent, Watch};
 use std::alloc::{AllocError, Global};
-use window_machine::{Allowed, WIDEST};
+use window_machine::{Allowed, Reach, WIDEST};
 
 /// Tells of a search behind another one what both found.
 #[derive(Drop)]
@@ -76,6 +77,11 @@ pub fn explore_architecture<W: Watch>(
 
     // And each other is told as the model's alone.
     ensures alone { IfOk result (λ a. a.machine ≡ Extent.Complete → All (λ o. IsDecided o.way) a.outcomes.items) }
+
+    // The search under the model finds no state only where a hart never comes from reset to an access or its end, or says
+    // that it left out more.
+    ensures opens { IfOk result (λ a. a.reach ≡ Reach.Whole → a.states ≡ 0 → NeverOpens image.now config) }
+    ensures bounded { IfOk result (λ a. a.reach ≢ Reach.LimitMet → a.reach ≢ Reach.OutOfMemory → a.states ≤ exploring.limit) }
 
     // No outcome is told twice.
     ensures order { IfOk result (λ a. IsStrictlySortedBy (on end_of ending_cmp) a.outcomes.items) }
