@@ -57,7 +57,7 @@ lies_behind (x ∷ rest) (suc p) b behind a d e m =
     let ih = lies_behind rest p b behind a d.1 e m in
     omega (arith, place, ih)
 
-at_drop : (order : List Operation) (p : ℕ) (b : Operation) (behind : List Operation) → drop p order ≡ b ∷ behind → slice_get order p ≡ Some b
+pub at_drop : (order : List Operation) (p : ℕ) (b : Operation) (behind : List Operation) → drop p order ≡ b ∷ behind → slice_get order p ≡ Some b
 at_drop [] zero b behind e = absurd (nothing_is b behind e)
 at_drop [] (suc p) b behind e = absurd (nothing_is b behind e)
 at_drop (x ∷ rest) zero b behind e = ap (λ (y : Operation). Some y) (head_is x b rest behind e)

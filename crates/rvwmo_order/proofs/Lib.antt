@@ -16,6 +16,7 @@ pub mod Kept
 pub mod LastStores
 pub mod ListedNames
 pub mod Listing
+pub mod Lowest
 pub mod Marks
 pub mod Noted
 pub mod Opcodes
@@ -30,6 +31,7 @@ pub mod Steps
 pub mod Sweeps
 pub mod Tables
 pub mod Touches
+pub mod Unbroken
 pub mod Verdicts
 pub mod Within
 pub mod Words

@@ -4,6 +4,7 @@ pub mod Answers
 pub mod Indexed
 pub mod Placed
 pub mod Listed
+pub mod Lows
 pub mod Sweeps
 pub mod Marks
 pub mod Sourcing

@@ -13,6 +13,8 @@ ghost use Rattle.rvwmo_order.specs.Scans.{all_rules, first_broken_pair, first_br
 use crate::accesses::{end_of, is_same, is_sc, name_of, read_at, reads, stores_to};
 use crate::bounding::ranked_rows;
 use crate::items::Harts;
+use crate::lows::{is_near, lows_in};
+use crate::near::are_kept;
 use crate::ranking::Ranking;
 use crate::rows::{Row, are_clear};
 use crate::rules::{are_paired, pair_place};
@@ -36,8 +38,7 @@ pub(crate) fn judge(
     requires distinct { AreDistinctOperations index.now }
     ensures { IfOk result (λ verdict. verdict ≡ judged model (byte_at image.now) harts.now index.now) }
 {
-    let rows = ranked_rows(alloc, model, harts, index)?;
-    if let Some((rule, a, b)) = broken_rule(alloc, model, harts, index, &rows)? {
+    if let Some((rule, a, b)) = broken_rule(alloc, model, harts, index)? {
         return Ok(Verdict::Fault(Code::Order(rule), name_of(&a), name_of(&b)));
     }
     if let Some(load) = wrong_load(image, index) {
@@ -51,6 +52,25 @@ pub(crate) fn judge(
 
 // The first rule by which an operation must come before one that stands before it, with the two.
 fn broken_rule(
+    alloc: Global,
+    model: MemoryModel,
+    harts: &Harts,
+    index: &Ranking,
+) -> Result<Option<(Rule, Operation, Operation)>, AllocError>
+    requires gives { GivesEach harts.now index.now }
+    requires distinct { AreDistinctOperations index.now }
+    ensures { IfOk result (λ broken. broken ≡ first_broken_rule model harts.now index.now all_rules) }
+{
+    let lows = lows_in(alloc, index.order())?;
+    if is_near(index.order(), &lows) && are_kept(alloc, model, harts, index, &lows)? {
+        return Ok(None);
+    }
+    let rows = ranked_rows(alloc, model, harts, index)?;
+    broken_by_rows(alloc, model, harts, index, &rows)
+}
+
+// The same, where `rows` bound the ranks of those that must come before each.
+fn broken_by_rows(
     alloc: Global,
     model: MemoryModel,
     harts: &Harts,

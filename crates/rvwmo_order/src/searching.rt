@@ -97,9 +97,9 @@ fn behind(operations: &[Operation], count: usize) -> &[Operation]
     }
 }
 
-// The first of these operations that must come before `b`, by the marks where the rule is one on
-// dependencies.
-fn first_asked(
+/// The first of these operations that must come before `b`, by the marks where the rule is one on
+/// dependencies.
+pub(crate) fn first_asked(
     sweep: &Sweep,
     model: MemoryModel,
     harts: &Harts,

@@ -1,7 +1,7 @@
 use Rattle.std.proofs.Common.{◌≡◌, ap, arith, length, sym}
 use Rattle.rvwmo_order.specs.Scans.{all_rules}
 use Rattle.rvwmo_order.proofs.Clear.{none_broken}
-use Rattle.rvwmo_order.proofs.judging.broken_rule.Goals as goal
+use Rattle.rvwmo_order.proofs.judging.broken_by_rows.Goals as goal
 
 pub returns-then-are_clear : goal.returns-then-are_clear
 returns-then-are_clear c =

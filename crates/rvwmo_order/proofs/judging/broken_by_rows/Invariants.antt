@@ -1,6 +1,6 @@
 use Rattle.std.proofs.Common.{◌≡◌, length}
 use Rattle.rvwmo_order.specs.Scans.{all_rules, first_broken_rule}
-use Rattle.rvwmo_order.proofs.judging.broken_rule.Given as goal
+use Rattle.rvwmo_order.proofs.judging.broken_by_rows.Given as goal
 
 abbrev pub invariant-loop-left : goal.invariant-loop-left
 invariant-loop-left l = first_broken_rule l.model l.harts l.index all_rules ≡ first_broken_rule l.model l.harts l.index l.left
