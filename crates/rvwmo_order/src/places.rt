@@ -45,13 +45,13 @@ impl Numbers {
         }
     }
 
-    // Gives a place a number, and the first time makes room for so many.
-    fn put(&mut self, place: u32, number: u32, count: usize) -> Result<(), AllocError>
+    // Gives a place a number, and the first time makes room for those of a hart's instructions.
+    fn put(&mut self, trace: &Trace, hart: usize, place: u32, number: u32) -> Result<(), AllocError>
         ensures { OnOk result ((k : ℕ) → slice_index_or self.new.numbers.items k 0 ≡ (if k == place then number else slice_index_or self.old.numbers.items k 0)) }
     {
         let index = place as usize;
         if index >= self.numbers.len() {
-            self.reach(count.max(index + 1))?;
+            self.reach(count_in(trace, hart).max(index + 1))?;
         }
         self.numbers[index] = number;
         Ok(())
@@ -122,7 +122,7 @@ impl Places {
     {
         let hart = usize::from(name.hart);
         self.reach(alloc, hart)?;
-        self.lists[hart].put(name.place, number, count_in(trace, hart))
+        self.lists[hart].put(trace, hart, name.place, number)
     }
 
     // Gives a hart a list, where it has none.
