@@ -1,13 +1,14 @@
 -- How many operations a trace has, hart by hart.
-use Rattle.std.proofs.Common.{◌≡◌, ◌+◌, ◌<◌, ◌≤◌, ℕ, suc, Bool, true, false, List, [], ◌∷◌, length, drop, get_or, refl, cond, sym, ap, ◌∙◌, filter, arith}
-use Rattle.std.proofs.lemmas.Bool.{lt-ltb}
-use Rattle.std.proofs.lemmas.List.{at_drop_more, length-append}
+use Rattle.std.proofs.Common.{◌≡◌, ◌+◌, ◌<◌, ◌≤◌, ℕ, suc, Bool, true, false, List, [], ◌∷◌, ◌++◌, length, drop, get_or, refl, cond, sym, ap, ◌∙◌, filter, arith}
+use Rattle.std.proofs.lemmas.Bool.{le-ltb, lt-ltb}
+use Rattle.std.proofs.lemmas.List.{at_drop_more, drop_all, length-append}
 use Rattle.std.proofs.lemmas.List.Sums.{count_by-le-length, length-filter}
 use Rattle.std.specs.Prelude.{nat_lt}
 use Rattle.machine_limits.specs.declared.TheConstants.{MAX_ENTRIES}
 use Rattle.hart.specs.declared.retired.Retired.{Retired}
 use Rattle.memory_model.specs.Items.{has_operation}
 use Rattle.memory_model.specs.Traces.{names_from, names_of_harts}
+use Rattle.trace_recorder.specs.declared.operation.OpId.{OpId}
 
 named_as_given : (id place : ℕ) (es : List Retired) → length (names_from id place es) ≡ length (filter has_operation es)
 named_as_given id place [] = refl
@@ -36,6 +37,14 @@ few_given es few =
 -- more than 4,096 up to a hart are more than 4,096 altogether
 pub too_many : (count more rest all : ℕ) → count + (more + rest) ≡ all → 4096 < count + more → true ≡ nat_lt 4096 all
 too_many count more rest all e l = sym (lt-ltb 4096 all (omega arith))
+
+-- what was named up to the last hart are all
+pub few_named : (hart : ℕ) (es : List (List Retired)) (names : List OpId) → length es ≤ hart → names_of_harts 0 es ≡ names ++ names_of_harts hart (drop hart es) → length names ≤ 4096 → nat_lt 4096 (length (names_of_harts 0 es)) ≡ false
+few_named hart es names past all few =
+    let rest = length-append names (names_of_harts hart (drop hart es)) in
+    let none = ap (λ (xs : List (List Retired)). length (names_of_harts hart xs)) (drop_all hart es past) in
+    let long = ap length all in
+    le-ltb 4096 (length (names_of_harts 0 es)) (omega (arith, rest, none, long, few))
 
 -- ---- those of one hart, one by one
 

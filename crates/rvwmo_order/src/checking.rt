@@ -9,7 +9,7 @@ ghost use Rattle.rvwmo_order.specs.Scans.{judged};
 use crate::error::CheckError;
 use crate::items::Harts;
 use crate::judging::judge;
-use crate::orders::{has_too_many, is_order, names_in, operations_at};
+use crate::orders::{few_names, has_too_many, is_order, operations_at};
 use crate::ranking::Ranking;
 use crate::runs::are_runs;
 use crate::verdict::Verdict;
@@ -43,9 +43,12 @@ pub fn check_model(
     ensures sound { IfOk result (λ v. IsSoundVerdict model trace.now.history order.now v) }
     ensures first { IfOk result (λ v. fault_told v ≡ fault_in model trace.now.history order.now) }
 {
-    if has_too_many(trace) {
-        return Err(unless_no_run(trace, CheckError::TooLong));
-    }
+    let Ok(names) = few_names(alloc, trace) else {
+        if has_too_many(trace) {
+            return Err(unless_no_run(trace, CheckError::TooLong));
+        }
+        return Err(unless_no_run(trace, CheckError::NoMemory));
+    };
     let found = match Harts::of_runs(alloc, trace) {
         Ok(found) => found,
         Err(_) => return Err(unless_no_run(trace, CheckError::NoMemory)),
@@ -53,7 +56,6 @@ pub fn check_model(
     let Some(harts) = found else {
         return Err(CheckError::NotARun);
     };
-    let names = names_in(alloc, trace)?;
     if !is_order(alloc, trace, &harts, &names, order)? {
         return Err(CheckError::NotAnOrder);
     }
