@@ -14,4 +14,6 @@ pub struct Sampled {
     pub unended: u64,
     /// How many runs there were.
     pub runs: u64,
+    /// Whether memory ended before there were as many as were asked for.
+    pub out_of_memory: bool,
 }

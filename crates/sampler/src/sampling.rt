@@ -1,6 +1,6 @@
 //! Random runs.
 
-ghost use Rattle.std.specs.Prelude.{◌≡◌, ◌≤◌, IfOk, IsTrue, length};
+ghost use Rattle.std.specs.Prelude.{◌≡◌, ◌<◌, ◌≤◌, IfOk, IsTrue, OnErr, OnOk, false, length, true};
 ghost use Rattle.flat_model.specs.Shown.{results, told};
 ghost use Rattle.machine_types.specs.Config.{is_within_limits};
 ghost use Rattle.sampler.specs.Sampled.{IsSampled, IsTally, most_events};
@@ -38,8 +38,8 @@ pub struct Sampling {
 
 /// Plays random schedules of the machine, each from reset, and counts how often they come to each end. A
 /// run whose harts haven't all ended after 1,000,000 tried events, or where a limit of the machine is met,
-/// counts as unended. Where memory ends, the runs before are told; the error is that there was none for
-/// the list of their ends. Behind each run `watch` is told how many there were.
+/// counts as unended. Where memory ends, the runs before are told, and that it did; the error is that there
+/// was none for the list of their ends. Behind each run `watch` is told how many there were.
 pub fn sample_ends<W: Watch>(
     alloc: Global,
     image: &Image,
@@ -49,6 +49,10 @@ pub fn sample_ends<W: Watch>(
 ) -> Result<Sampled, AllocError>
     requires limits { IsTrue (is_within_limits config) }
     ensures sampled { IfOk result (IsSampled image.now config) }
+
+    // As many runs are told as were asked for, unless memory ended.
+    ensures all_made { IfOk result (λ s. s.out_of_memory ≡ false → s.runs ≡ sampling.runs) }
+    ensures cut { IfOk result (λ s. s.out_of_memory ≡ true → s.runs < sampling.runs) }
     ensures within { IfOk result (λ s. s.runs ≤ sampling.runs) }
 {
     let program = Program {
@@ -57,18 +61,33 @@ pub fn sample_ends<W: Watch>(
         config,
         most_played: most_played(sampling.shortened, 1),
     };
-    let mut generator = SplitMix64::seed_from_u64(sampling.seed);
     let mut tally = Tally::new(alloc);
+    let out_of_memory = make_runs(&program, sampling, watch, &mut tally).is_err();
+    tally.into_sampled(&program, out_of_memory)
+}
+
+/// Counts as many runs as are asked for. The only error is want of memory; the runs before stay counted.
+fn make_runs<W: Watch>(
+    program: &Program<'_>,
+    sampling: Sampling,
+    watch: &W,
+    tally: &mut Tally,
+) -> Result<(), AllocError>
+    requires few { tally.old.runs ≤ sampling.runs }
+    requires tally { IsTally program.now.image.now program.now.config tally.old }
+    ensures tally { IsTally program.now.image.now program.now.config tally.new }
+    ensures ok { OnOk result (tally.new.runs ≡ sampling.runs) }
+    ensures err { OnErr result (tally.new.runs < sampling.runs) }
+{
+    let mut generator = SplitMix64::seed_from_u64(sampling.seed);
     while tally.runs < sampling.runs {
-        let Ok(schedule) = run(&program, generator.next_u64()) else {
-            break;
+        let Ok(schedule) = run(program, generator.next_u64()) else {
+            return Err(AllocError);
         };
-        if tally.count(&program, schedule).is_err() {
-            break;
-        }
+        tally.count(program, schedule)?;
         watch.made(tally.runs, tally.ends());
     }
-    tally.into_sampled(&program)
+    Ok(())
 }
 
 /// A random schedule, played from reset.

@@ -93,10 +93,15 @@ impl Tally {
     }
 
     /// The ends in their order.
-    pub(crate) fn into_sampled(self, program: &Program<'_>) -> Result<Sampled, AllocError>
+    pub(crate) fn into_sampled(
+        self,
+        program: &Program<'_>,
+        out_of_memory: bool,
+    ) -> Result<Sampled, AllocError>
         requires tally { IsTally program.now.image.now program.now.config self }
         ensures sampled { IfOk result (IsSampled program.now.image.now program.now.config) }
         ensures runs { IfOk result (λ s. s.runs ≡ self.runs) }
+        ensures cut { IfOk result (λ s. s.out_of_memory ≡ out_of_memory) }
     {
         let Tally {
             ends: counted,
@@ -114,6 +119,7 @@ impl Tally {
             times,
             unended,
             runs,
+            out_of_memory,
         })
     }
 }

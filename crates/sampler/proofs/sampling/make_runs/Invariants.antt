@@ -1,10 +1,10 @@
 use Rattle.std.proofs.Common.{◌-◌, ◌≤◌}
 use Rattle.sampler.specs.Sampled.{IsTally}
-use Rattle.sampler.proofs.sampling.sample_ends.Given as goal
+use Rattle.sampler.proofs.sampling.make_runs.Given as goal
 
 abbrev pub invariant-loop-tally : goal.invariant-loop-tally
 invariant-loop-tally g l = record {
-  tally : IsTally l.image l.fn.config l.tally;
+  tally : IsTally l.program.image.now l.program.config l.tally;
   within : l.tally.runs ≤ l.sampling.runs;
 }
 
