@@ -8,3 +8,4 @@ mod WholeTraces
 mod TraceLoops
 mod ImageLoops
 mod NameLaws
+mod Refusals

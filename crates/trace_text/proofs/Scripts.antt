@@ -157,7 +157,7 @@ second_law : Reads (λ (p : ℕ × (ℕ × (ℕ × (ℕ × ℕ)))). codes "rvtl-
     (led_at (codes "rvtl-script 2 ") (pair_at (number_at 32 most) (pair_at (number_at 32 most) (pair_at (number_at 32 most) (pair_at (number_at 32 most) (number_at 10 most))))))
 second_law = led_reads (codes "rvtl-script 2 ") (pair_reads (number_law 32 (omega arith)) (pair_reads (number_law 32 (omega arith)) (pair_reads (number_law 32 (omega arith)) (pair_reads (number_law 32 (omega arith)) (number_law 10 (omega arith))))))
 
-abbrev IsOne : Head → Type 0
+abbrev pub IsOne : Head → Type 0
 IsOne h = is_head h ≡ true
 
 head_first : (h : Head) → is_first_version h.harts h.line ≡ true → head h ≡ first h
@@ -194,7 +194,7 @@ second_takes bytes h rest e =
     let t = seen_takes second_law make_second second (λ h. Unit {0}) (λ x f. (refl, tt)) bytes p.0.0 p.0.1 p.1 in
     subst (λ (y : Head × List ℕ). (bytes ≡ head y.0 ++ y.1) × IsOne y.0) g.1 (t.0 ∙ ap (λ u. u ++ p.0.1) (sym (head_second p.0.0 (not_true _ b.1))), b.0)
 
-head_takes : (bytes : List ℕ) (h : Head) (rest : List ℕ) → head_at bytes ≡ Some (h, rest) → (bytes ≡ head h ++ rest) × IsOne h
+pub head_takes : (bytes : List ℕ) (h : Head) (rest : List ℕ) → head_at bytes ≡ Some (h, rest) → (bytes ≡ head h ++ rest) × IsOne h
 unfolding head_at
 head_takes bytes h rest e =
     elim (either_takes (first_head_at bytes) (second_head_at bytes) (h, rest) e) [
@@ -256,7 +256,7 @@ first_not : (h : Head) (rest : List ℕ) → is_first_version h.harts h.line ≡
 unfolding first_head_at first_fields_at last_two_at
 first_not h rest v = ap (λ t. first_head_at (t ++ rest)) (head_second h v)
 
-head_again : (h : Head) (rest : List ℕ) → is_head h ≡ true → head_at (head h ++ rest) ≡ Some (h, rest)
+pub head_again : (h : Head) (rest : List ℕ) → is_head h ≡ true → head_at (head h ++ rest) ≡ Some (h, rest)
 unfolding head_at
 head_again h rest e = go (is_first_version h.harts h.line) refl
   where
@@ -266,7 +266,7 @@ head_again h rest e = go (is_first_version h.harts h.line) refl
 
 -- ---- a script
 
-abbrev made_of : Head → List Event → Script
+abbrev pub made_of : Head → List Event → Script
 made_of h es = record { harts = h.harts; kib = h.kib; sets = h.sets; ways = h.ways; line = h.line; events = es }
 
 script_takes : (bytes : List ℕ) (s : Script) → script_at bytes ≡ Some s → IsScript s × (bytes ≡ text s)

@@ -11,3 +11,5 @@ pub mod TraceLines
 pub mod TraceHeads
 pub mod TraceLimits
 pub mod TraceSections
+pub mod Refusals
+pub mod Stops

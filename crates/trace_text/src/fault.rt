@@ -1,6 +1,8 @@
 //! Why a text can't be read.
-ghost use Rattle.std.specs.Prelude.{◌≡◌};
+ghost use Rattle.std.specs.Prelude.{◌≡◌, ◌-◌, ◌^◌, ◌<◌, length, drop};
+ghost use Rattle.text_fields.specs.Reading as reads;
 ghost use Rattle.trace_text.specs.Faults.{text_code_number};
+ghost use Rattle.trace_text.specs.Stops.{left_of, line_number, is_parted};
 
 use text_fields::after;
 use thiserror::Error;
@@ -53,7 +55,9 @@ pub(crate) enum Stop {
 }
 
 impl Stop {
-    pub(crate) fn left(self) -> usize {
+    pub(crate) fn left(self) -> usize
+        ensures { result ≡ left_of self }
+    {
         match self {
             Stop::Memory { left } | Stop::Bytes { left } => left,
         }
@@ -61,7 +65,11 @@ impl Stop {
 }
 
 /// The number of the line that begins where so many bytes are left, and those bytes.
-pub(crate) fn line_at(bytes: &[u8], left: usize) -> (usize, &[u8]) {
+pub(crate) fn line_at(bytes: &[u8], left: usize) -> (usize, &[u8])
+    ensures line { line_number bytes.now left < 2 ^ 64 → result.0 ≡ line_number bytes.now left }
+    ensures rest { result.1.now ≡ drop (length bytes.now - left) bytes.now }
+    ensures fits { length bytes.now < 2 ^ 64 }
+{
     let (before, rest) = bytes.split_at(bytes.len().saturating_sub(left));
     let mut line: usize = 1;
     for byte in before {
@@ -79,6 +87,8 @@ pub(crate) fn whole_line(bytes: &[u8]) -> Option<&[u8]> {
 }
 
 /// Whether the first word of a line is this one.
-pub(crate) fn is_word(line: &[u8], word: &[u8]) -> bool {
+pub(crate) fn is_word(line: &[u8], word: &[u8]) -> bool
+    ensures { result ≡ is_parted (reads.after word.now line.now) }
+{
     matches!(after(word, line), Some([b' ' | b'\n', ..]))
 }

@@ -1,10 +1,12 @@
 //! Reading a script.
-ghost use Rattle.std.specs.Prelude.{◌≡◌, length, IfOk};
+ghost use Rattle.std.specs.Prelude.{◌≡◌, length, IfErr, IfOk};
 ghost use Rattle.std.specs.Option.{option_map};
 ghost use Rattle.text_fields.specs.Reading.{all_at};
 ghost use Rattle.trace_text.specs.Scripts.{is_head, text, IsScript};
 ghost use Rattle.trace_text.specs.ScriptReading as reads;
 ghost use Rattle.trace_text.specs.Reading.{Gives, IsReadOrRefused, IsNoMemory};
+ghost use Rattle.trace_text.specs.Refusals.{IsScriptRefusal};
+ghost use Rattle.trace_text.specs.Stops.{IsEventStop, IsScriptStop};
 
 use crate::fault::{Stop, TextError};
 use crate::script::{Events, Head, Script, is_first_version};
@@ -217,7 +219,8 @@ fn head_at(bytes: &[u8]) -> Option<(Head, &[u8])>
 
 #[tactic(auto, using(crate::proofs::Scripts::event_shortens))]
 fn events_of(alloc: Global, bytes: &[u8]) -> Result<Vec<Event>, Stop>
-    ensures { Gives (λ v. v.items) result (all_at reads.event_at (length bytes.now) bytes.now) }
+    ensures value { Gives (λ v. v.items) result (all_at reads.event_at (length bytes.now) bytes.now) }
+    ensures stop { IfErr result (IsEventStop bytes.now) }
 {
     let mut events = Vec::new(alloc);
     let mut rest = bytes;
@@ -237,7 +240,8 @@ fn events_of(alloc: Global, bytes: &[u8]) -> Result<Vec<Event>, Stop>
 
 #[tactic(auto, unfolding(crate::specs::ScriptReading::script_at))]
 fn script_of(alloc: Global, bytes: &[u8]) -> Result<Script, Stop>
-    ensures { Gives (λ s. s) result (reads.script_at bytes.now) }
+    ensures value { Gives (λ s. s) result (reads.script_at bytes.now) }
+    ensures stop { IfErr result (IsScriptStop bytes.now) }
 {
     match head_at(bytes) {
         Some((head, rest)) => {
@@ -256,7 +260,8 @@ fn script_of(alloc: Global, bytes: &[u8]) -> Result<Script, Stop>
 }
 
 fn all(alloc: Global, bytes: &[u8]) -> Result<Script, TextError>
-    ensures { IsReadOrRefused (λ s. s) result (reads.script_at bytes.now) }
+    ensures value { IsReadOrRefused (λ s. s) result (reads.script_at bytes.now) }
+    ensures refused { ¬ IsNoMemory result → IfErr result (IsScriptRefusal bytes.now) }
 {
     match script_of(alloc, bytes) {
         Ok(script) => Ok(script),
@@ -270,6 +275,8 @@ pub fn read_script(alloc: Global, bytes: &[u8]) -> Result<Script, TextError>
     ensures found { IfOk result (λ s. IsScript s × (bytes.now ≡ text s)) }
     // What a script is spelled is read as that script, unless memory runs out.
     ensures only { (s : Script) → IsScript s → bytes.now ≡ text s → ¬ IsNoMemory result → result ≡ Ok s }
+    // The fault names the first line that isn't a script's, and says why, unless memory runs out.
+    ensures refused { ¬ IsNoMemory result → IfErr result (IsScriptRefusal bytes.now) }
 {
     all(alloc, bytes)
 }
