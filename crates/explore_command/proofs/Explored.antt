@@ -11,8 +11,8 @@ use Rattle.command_files.specs.declared.fault.Fault.TheVariants.{OutOfMemory}
 use Rattle.command_settings.specs.declared.wanted.Explore.{Explore}
 use Rattle.elf_loader.specs.Image.{Initial}
 use Rattle.exploration_text.specs.Text.{exploration_text, harts_text}
-use Rattle.explore_command.specs.Exploring.{IsAllowFile, IsExploreFault, IsExplorationTold, IsFoundIn, ExplorationHas, LeavesPart}
-use Rattle.explore_command.specs.Judging.{IsJudged, judgement_of_lines}
+use Rattle.explore_command.specs.Exploring.{IsAllowFile, IsExploreFault, IsExplorationTold, IsFoundIn, ExplorationHas, ExplorationRefusals, LeavesPart}
+use Rattle.explore_command.specs.Judging.{HaveRefusals, IsJudged, judgement_of_lines}
 use Rattle.explore_command.specs.Keeping.{AreKept, IsInNamed, IsScriptOf, SparesOthers}
 use Rattle.explore_command.specs.declared.judging.Judgement.{Judgement}
 use Rattle.explore_command.specs.declared.judging.Judgement.TheVariants.{Allowed}
@@ -78,6 +78,10 @@ module _ (held : Held) (wanted : Explore) (config : Config) (image : Initial) (f
     judged = by;
     whole = memory;
   }
+
+  pub refusals : (old new : Option (List ℕ)) (P : List ℕ → Type 0) → Appends old new (exploration_text found) → HaveRefusals held wanted.allow (map (λ f. harts_text 0 (outcome_of f)) found.outcomes.items) P
+      → ExplorationRefusals held wanted old new P
+  refusals old new P printed so = record { image = image; exploration = found; image_file = file; found = is_found; printed = printed; refusals = so }
 
 pub memory_left : (fault : Fault) (old new : Option (List ℕ)) (Has : (List ℕ → Type 0) → Type 0) → fault ≡ OutOfMemory → Has (Begins old new) → LeavesPart fault old new Has
 memory_left fault old new Has is so = subst (λ f. LeavesPart f old new Has) (sym is) (inr so)

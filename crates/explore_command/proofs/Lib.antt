@@ -2,3 +2,4 @@ pub mod Explored
 pub mod Faults
 pub mod Kept
 mod Lines
+pub mod Refused

@@ -12,7 +12,7 @@ use Rattle.command_files.specs.declared.fault.Fault.TheVariants.{CannotMake, Can
 use Rattle.command_settings.specs.declared.wanted.Explore.{Explore}
 use Rattle.elf_loader.specs.Image.{Initial}
 use Rattle.exploration_text.specs.Text.{exploration_text, harts_text}
-use Rattle.explore_command.specs.Judging.{IsJudged}
+use Rattle.explore_command.specs.Judging.{HaveRefusals, IsJudged}
 use Rattle.explore_command.specs.Keeping.{AreKept, IsInNamed, IsScriptOf, SparesOthers}
 use Rattle.explore_command.specs.declared.judging.Judgement.{Judgement}
 use Rattle.explore_command.specs.declared.judging.Judgement.TheVariants.{Allowed}
@@ -62,6 +62,15 @@ pub record ExplorationHas (held : Held) (wanted : Explore) (P : List ℕ → Typ
   pub image_file : HoldsImage held wanted.raw wanted.image.now wanted.machine.memory image
   pub found : IsFoundIn image (config_named wanted.machine) wanted.states exploration
   pub of_text : P (exploration_text exploration)
+
+-- P holds of what is to be told of the outcomes that were printed, those of the image in the file
+pub record ExplorationRefusals (held : Held) (wanted : Explore) (old new : Option (List ℕ)) (P : List ℕ → Type 0) : Type 0 where
+  pub image : Initial
+  pub exploration : Exploration
+  pub image_file : HoldsImage held wanted.raw wanted.image.now wanted.machine.memory image
+  pub found : IsFoundIn image (config_named wanted.machine) wanted.states exploration
+  pub printed : Appends old new (exploration_text exploration)
+  pub refusals : HaveRefusals held wanted.allow (map (λ f. harts_text 0 (outcome_of f)) exploration.outcomes.items) P
 
 -- ---- what is allowed
 

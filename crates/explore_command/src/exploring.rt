@@ -1,8 +1,9 @@
 //! `rvtl explore`: every end that the machine can bring a program to is found, told, kept and judged.
 
-ghost use Rattle.std.specs.Prelude.{◌≡◌, ◌<◌, Err, IfErr, IfOk};
+ghost use Rattle.std.specs.Prelude.{◌≡◌, ◌<◌, Err, IfErr, IfOk, OnErr};
 ghost use Rattle.command_files.specs.Sizes.{IsOutside};
-ghost use Rattle.explore_command.specs.Exploring.{ComesBeforeJudging, ComesBeforeScripts, ExplorationHas, IsExploreFault, IsExplorationTold, LeavesPart};
+ghost use Rattle.explore_command.specs.Exploring.{ComesBeforeScripts, ExplorationHas, ExplorationRefusals, IsExploreFault, IsExplorationTold, LeavesPart};
+ghost use Rattle.explore_command.specs.Judging.{IsToldBy};
 ghost use Rattle.explore_command.specs.Keeping.{IsScriptFile, SparesOthers};
 
 use crate::asked::Asked;
@@ -31,8 +32,8 @@ impl<P: Progress> Watch for Telling<'_, P> {
 
 /// Judges the machine's size, reads what is allowed, then the image, explores it, prints what is found on
 /// `out`, writes the scripts, and judges the outcomes: `err` tells which ones aren't allowed. Where memory
-/// ends, what was found is printed, written and judged all the same; a fault that comes before leaves `err`
-/// as it was. While it explores, `progress` is told how far it is.
+/// ends, what was found is printed, written and judged all the same; a fault leaves `err` as it was. While it
+/// explores, `progress` is told how far it is.
 pub fn explore_files<'a, F: Files, O: Write, E: Write, P: Progress>(
     alloc: Global,
     files: &mut F,
@@ -49,7 +50,9 @@ pub fn explore_files<'a, F: Files, O: Write, E: Write, P: Progress>(
         (ExplorationHas (F.held files.old) wanted.entry)) }
     ensures spared { SparesOthers (IsScriptFile wanted.entry.scripts) (F.held files.old) (F.held files.new) }
     ensures untouched { IfErr result (λ fault. ComesBeforeScripts fault → F.held files.new ≡ F.held files.old) }
-    ensures silent { IfErr result (λ fault. ComesBeforeJudging fault → E.contents err.new ≡ E.contents err.old) }
+    ensures noted { IfOk result (λ judgement. ExplorationRefusals (F.held files.old) wanted.entry (O.contents out.old) (O.contents out.new)
+        (IsToldBy judgement (E.contents err.old) (E.contents err.new))) }
+    ensures silent { OnErr result (E.contents err.new ≡ E.contents err.old) }
 {
     let asked = Asked::read(alloc, files, wanted)?;
     let watch = Telling { progress };

@@ -1,13 +1,14 @@
 //! Whether the outcomes that were found are those that a file allows.
 
-ghost use Rattle.std.specs.Prelude.{◌≡◌, IfErr, IfOk, map, option_map};
-ghost use Rattle.explore_command.specs.Judging.{are_allowed_lines, judgement_of_lines};
+ghost use Rattle.std.specs.Prelude.{◌≡◌, ◌++◌, IfErr, IfOk, OnErr, OnOk, map, option_map};
+ghost use Rattle.explore_command.specs.Judging.{IsToldBy, judgement_of_lines, refusal_line, refusal_lines, refusals};
 
 use crate::allowing::{Allowed, without_number};
 use crate::findings::Findings;
 use command_files::Fault;
 use std::alloc::{AllocError, Global};
 use std::io::Write;
+use text_fields::put;
 
 /// Whether each outcome is one that is allowed.
 #[derive(Clone, Copy, Debug, PartialEq, Eq)]
@@ -28,12 +29,17 @@ pub fn judge<'a, T: Findings, E: Write>(
     ensures judged { IfOk result (λ judgement. judgement ≡ judgement_of_lines (option_map (λ bytes. bytes.items) allowed.now) (map (T.line found.now) (T.outcomes found.now))) }
     ensures whole { IfOk result (λ judgement. judgement ≡ Judgement.Allowed → T.IsWhole found.now) }
     ensures told { IfErr result (λ fault. fault ≡ Fault.OutOfMemory) }
+    ensures noted { IfOk result (λ judgement. IsToldBy judgement (E.contents err.old) (E.contents err.new) (refusals (option_map (λ bytes. bytes.items) allowed.now) (map (T.line found.now) (T.outcomes found.now)))) }
+    ensures silent { OnErr result (E.contents err.new ≡ E.contents err.old) }
 {
     if let Some(text) = allowed {
-        match are_allowed(alloc, text, found, err) {
-            Ok(true) => {}
-            Ok(false) => return Ok(Judgement::NotAllowed),
-            Err(_) => return Err(Fault::OutOfMemory),
+        let Ok(lines) = refusals_of(alloc, text, found) else {
+            return Err(Fault::OutOfMemory);
+        };
+        if !lines.is_empty() {
+            // Standard error has no other place to tell that it takes no more.
+            let _ = put(err, &lines);
+            return Ok(Judgement::NotAllowed);
         }
     }
     if found.is_whole() {
@@ -43,28 +49,28 @@ pub fn judge<'a, T: Findings, E: Write>(
     }
 }
 
-/// Whether the text has a line for each outcome. Of those for which it has none the numbers are told.
-fn are_allowed<T: Findings, E: Write>(
-    alloc: Global,
-    text: &[u8],
-    found: &T,
-    err: &mut E,
-) -> Result<bool, AllocError>
-    ensures { IfOk result (λ all. all ≡ are_allowed_lines text.now (map (T.line found.now) (T.outcomes found.now))) }
+/// A line with the number of each outcome for which the text has none.
+fn refusals_of<T: Findings>(alloc: Global, text: &[u8], found: &T) -> Result<Vec<u8>, AllocError>
+    ensures { IfOk result (λ lines. lines.items ≡ refusal_lines text.now 1 (map (T.line found.now) (T.outcomes found.now))) }
 {
     let allowed = Allowed::new(alloc, text)?;
+    let mut lines = Vec::new(alloc);
     let mut rest = found.outcomes();
-    let mut number: usize = 1;
-    let mut all = true;
+    let mut number: usize = 0;
     while let [first, tail @ ..] = rest {
+        number += 1;
         let line = found.line(alloc, first)?;
         if !allowed.has(without_number(&line)) {
-            // Standard error has no other place to tell that it takes no more.
-            let _ = writeln!(err, "outcome {number} is not allowed");
-            all = false;
+            add_refusal(alloc, &mut lines, number)?;
         }
         rest = tail;
-        number = number.saturating_add(1);
     }
-    Ok(all)
+    Ok(lines)
+}
+
+fn add_refusal(alloc: Global, lines: &mut Vec<u8>, number: usize) -> Result<(), AllocError>
+    ensures { OnOk result (lines.new.items ≡ lines.old.items ++ refusal_line number) }
+{
+    let line = format!(in alloc; "outcome {number} is not allowed\n")?;
+    lines.extend_from_slice(line.as_bytes())
 }
