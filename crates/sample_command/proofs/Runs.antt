@@ -8,13 +8,13 @@ use Rattle.command_settings.specs.declared.wanted.Explore.{Explore}
 use Rattle.elf_loader.specs.Image.{Initial}
 use Rattle.exploration_text.specs.Sampling.{sampled_text}
 use Rattle.exploration_text.specs.Text.{harts_text}
-use Rattle.explore_command.specs.Judging.{IsJudged}
+use Rattle.explore_command.specs.Judging.{HaveRefusals, IsJudged}
 use Rattle.explore_command.specs.Keeping.{AreKeptFrom, IsInNamed, IsOutcomeScript, SparesOthers}
 use Rattle.explore_command.specs.declared.judging.Judgement.{Judgement}
 use Rattle.explore_command.specs.declared.judging.Judgement.TheVariants.{Allowed}
 use Rattle.explorer.specs.Ends.{outcome_of}
 use Rattle.machine_types.specs.declared.config.Config.{Config}
-use Rattle.sample_command.specs.Sampling.{AreRuns, IsSampleTold, SampleHas}
+use Rattle.sample_command.specs.Sampling.{AreRuns, IsSampleTold, SampleHas, SampleRefusals}
 use Rattle.sampler.specs.declared.sampled.Sampled.{Sampled}
 
 module _ (held : Held) (wanted : Explore) (runs : ℕ) (config : Config) (image : Initial) (found : Sampled)
@@ -39,6 +39,10 @@ module _ (held : Held) (wanted : Explore) (runs : ℕ) (config : Config) (image 
     judged = by;
     whole = whole;
   }
+
+  pub refusals : (old new : Option (List ℕ)) (P : List ℕ → Type 0) → Appends old new (sampled_text found) → HaveRefusals held wanted.allow (map (λ f. harts_text 0 (outcome_of f)) found.ends.items) P
+      → SampleRefusals held wanted runs old new P
+  refusals old new P printed so = record { image = image; found = found; image_file = file; runs_made = are_runs; printed = printed; refusals = so }
 
 -- no fewer runs than were asked for, and no more
 pub all_made : (made runs : ℕ) {most : ℕ} → made ≤ most → most ≡ runs → runs ≤ made → made ≡ runs

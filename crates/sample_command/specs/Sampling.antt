@@ -8,7 +8,7 @@ use Rattle.command_settings.specs.declared.wanted.Explore.{Explore}
 use Rattle.elf_loader.specs.Image.{Initial}
 use Rattle.exploration_text.specs.Sampling.{sampled_text}
 use Rattle.exploration_text.specs.Text.{harts_text}
-use Rattle.explore_command.specs.Judging.{IsJudged}
+use Rattle.explore_command.specs.Judging.{HaveRefusals, IsJudged}
 use Rattle.explore_command.specs.Keeping.{AreKeptFrom, IsInNamed, IsOutcomeScript, SparesOthers}
 use Rattle.explore_command.specs.declared.judging.Judgement.{Judgement}
 use Rattle.explore_command.specs.declared.judging.Judgement.TheVariants.{Allowed}
@@ -41,3 +41,12 @@ pub record SampleHas (held : Held) (wanted : Explore) (runs : ℕ) (P : List ℕ
   pub image_file : HoldsImage held wanted.raw wanted.image.now wanted.machine.memory image
   pub runs_made : AreRuns image (config_named wanted.machine) runs found
   pub of_text : P (sampled_text found)
+
+-- P holds of what is to be told of the ends that were printed, those of runs of the image in the file
+pub record SampleRefusals (held : Held) (wanted : Explore) (runs : ℕ) (old new : Option (List ℕ)) (P : List ℕ → Type 0) : Type 0 where
+  pub image : Initial
+  pub found : Sampled
+  pub image_file : HoldsImage held wanted.raw wanted.image.now wanted.machine.memory image
+  pub runs_made : AreRuns image (config_named wanted.machine) runs found
+  pub printed : Appends old new (sampled_text found)
+  pub refusals : HaveRefusals held wanted.allow (map (λ f. harts_text 0 (outcome_of f)) found.ends.items) P

@@ -1,10 +1,11 @@
 //! `rvtl explore --sample`: random runs are made, and the ends they come to are told, kept and judged.
 
-ghost use Rattle.std.specs.Prelude.{◌≡◌, Err, IfErr, IfOk};
+ghost use Rattle.std.specs.Prelude.{◌≡◌, Err, IfErr, IfOk, OnErr};
 ghost use Rattle.command_files.specs.Sizes.{IsOutside};
-ghost use Rattle.explore_command.specs.Exploring.{ComesBeforeJudging, ComesBeforeScripts, IsExploreFault, LeavesPart};
+ghost use Rattle.explore_command.specs.Exploring.{ComesBeforeScripts, IsExploreFault, LeavesPart};
+ghost use Rattle.explore_command.specs.Judging.{IsToldBy};
 ghost use Rattle.explore_command.specs.Keeping.{IsScriptFile, SparesOthers};
-ghost use Rattle.sample_command.specs.Sampling.{IsSampleTold, SampleHas};
+ghost use Rattle.sample_command.specs.Sampling.{IsSampleTold, SampleHas, SampleRefusals};
 
 use crate::random_runs::Runs;
 use command_files::{Fault, Files};
@@ -30,7 +31,7 @@ impl<P: Progress> Watch for Telling<'_, P> {
 /// Judges the machine's size, reads what is allowed, then the image, makes `runs` random runs that `seed`
 /// determines, prints the ends they came to on `out`, writes their scripts, shortened, and judges them: `err`
 /// tells which ones aren't allowed. Where memory ends, the runs before are printed, written and judged all the
-/// same. While they are made, `progress` is told how far they are.
+/// same; a fault leaves `err` as it was. While they are made, `progress` is told how far they are.
 pub fn sample_files<'a, F: Files, O: Write, E: Write, P: Progress>(
     alloc: Global,
     files: &mut F,
@@ -48,7 +49,9 @@ pub fn sample_files<'a, F: Files, O: Write, E: Write, P: Progress>(
         (SampleHas (F.held files.old) wanted.entry runs)) }
     ensures spared { SparesOthers (IsScriptFile wanted.entry.scripts) (F.held files.old) (F.held files.new) }
     ensures untouched { IfErr result (λ fault. ComesBeforeScripts fault → F.held files.new ≡ F.held files.old) }
-    ensures silent { IfErr result (λ fault. ComesBeforeJudging fault → E.contents err.new ≡ E.contents err.old) }
+    ensures noted { IfOk result (λ judgement. SampleRefusals (F.held files.old) wanted.entry runs (O.contents out.old) (O.contents out.new)
+        (IsToldBy judgement (E.contents err.old) (E.contents err.new))) }
+    ensures silent { OnErr result (E.contents err.new ≡ E.contents err.old) }
 {
     let asked = Asked::read(alloc, files, wanted)?;
     let sampling = Sampling {

@@ -1,11 +1,12 @@
 use Rattle.std.proofs.Common.{◌≡◌, ◌≤◌, ℕ, inl, inr, refl, subst, true}
 use Rattle.command_files.proofs.Left.{handed_up}
 use Rattle.explore_command.proofs.Explored.{all_of, err_more, judged, memory_left, memory_told, ok_both, ok_more, spared, spared_after}
-use Rattle.explore_command.proofs.Faults.{first_left, first_told, folder_late, folder_left, folder_told, memory_last, memory_late, output_left, output_told}
+use Rattle.explore_command.proofs.Faults.{first_left, first_told, folder_late, folder_left, folder_told, memory_late, output_left, output_told}
 use Rattle.explore_command.proofs.Kept.{outcome_file, spares_wider}
+use Rattle.explore_command.proofs.Refused.{refusals_in}
 use Rattle.machine_types.specs.Config.{is_within_limits}
 use Rattle.machine_types.specs.declared.config.Config.{Config}
-use Rattle.sample_command.proofs.Runs.{all, all_made, has}
+use Rattle.sample_command.proofs.Runs.{all, all_made, has, refusals}
 use Rattle.sample_command.proofs.sampling.sample_files.Goals as goal
 
 pub returns-in_err-asked-clause-told : goal.returns-in_err-asked-clause-told
@@ -89,14 +90,13 @@ returns-in_err-keep-clause-untouched g c =
 pub returns-clause-untouched : goal.returns-clause-untouched
 returns-clause-untouched g c = err_more _ _ c.judge.result (λ fault is early. absurd (memory_late fault is early)) c.judge.ensures.told
 
-pub returns-in_err-asked-clause-silent : goal.returns-in_err-asked-clause-silent
-returns-in_err-asked-clause-silent g c = handed_up _ c.from_residual.result _ c.from_residual.ensures.1 (λ early. refl)
-
-pub returns-in_err-print-clause-silent : goal.returns-in_err-print-clause-silent
-returns-in_err-print-clause-silent g c = handed_up _ c.from_residual-in_err-print.result _ c.from_residual-in_err-print.ensures.1 (λ early. refl)
-
-pub returns-in_err-keep-clause-silent : goal.returns-in_err-keep-clause-silent
-returns-in_err-keep-clause-silent g c = handed_up _ c.from_residual-in_err-keep.result _ c.from_residual-in_err-keep.ensures.1 (λ early. refl)
-
-pub returns-clause-silent : goal.returns-clause-silent
-returns-clause-silent g c = err_more _ _ c.judge.result (λ fault is early. absurd (memory_last fault is early)) c.judge.ensures.told
+-- what is told of the ends that were printed
+pub returns-clause-noted : goal.returns-clause-noted
+returns-clause-noted g c =
+    let found = c.in-Ok.ensures in
+    ok_more _ _ c.judge.result
+    (λ judgement so.
+    refusals (g.F.Files.held c.args.files.now) c.args.wanted c.args.runs c.in_ok-asked.asked.config c.in_ok-asked.asked.image c.in-Ok.sampled c.in_ok-asked.ensures.config c.in_ok-asked.ensures.image
+    (record { sampled = found.sampled; within = subst (λ (n : ℕ). c.in-Ok.sampled.runs ≤ n) c.from.ensures found.within })
+    _ _ _ c.in_ok-print.ensures.printed (refusals_in _ c.args.wanted.allow _ _ _ c.in_ok-asked.ensures.allowed so))
+    c.judge.ensures.noted
