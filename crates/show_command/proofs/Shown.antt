@@ -15,7 +15,8 @@ use Rattle.exploration_text.specs.declared.wording.WordName.{WordName}
 use Rattle.exploration_text.specs.Words.{end_text, words_text}
 use Rattle.explore_command.proofs.Explored.{judged}
 use Rattle.explore_command.specs.Exploring.{IsAllowFile, IsExploreFault}
-use Rattle.explore_command.specs.Judging.{IsJudged, judgement_of_lines}
+use Rattle.explore_command.proofs.Refused.{refusals_in}
+use Rattle.explore_command.specs.Judging.{HaveRefusals, IsJudged, judgement_of_lines, refusals}
 use Rattle.explore_command.specs.Keeping.{AreKept, AreKeptFrom, IsInNamed, IsKeptAt, IsScriptOf, SparesOthers, stuck_path}
 use Rattle.explore_command.specs.declared.judging.Judgement.{Judgement}
 use Rattle.explore_command.specs.declared.judging.Judgement.TheVariants.{Allowed}
@@ -26,7 +27,7 @@ use Rattle.flat_exploration.specs.Drained.{Ending}
 use Rattle.machine_types.specs.declared.config.Config.{Config}
 use Rattle.show_command.specs.Asking.{HasProgram, HasUnshown}
 use Rattle.show_command.specs.Keeping.{AreWordsKept, bare_of}
-use Rattle.show_command.specs.Showing.{AreWordsShown, IsFirstOf, IsFoundIn, IsOfFile, IsShowFault, WordsHave}
+use Rattle.show_command.specs.Showing.{AreWordsShown, IsFirstOf, IsFoundIn, IsOfFile, IsShowFault, WordRefusals, WordsHave}
 use Rattle.show_command.specs.Targets.{IsPlaced, IsUnplaced, IsUnshown, name_of, names_of, place_of}
 use Rattle.state_search.specs.declared.findings.Extent.TheVariants as extent
 use Rattle.word_explorer.specs.declared.exploration.WordExploration.{WordExploration}
@@ -41,6 +42,12 @@ pub judged_of : {X : Type 0} (ending : X → Ending) (held : Held) (allow : Opti
     → judgement ≡ judgement_of_lines text (map (λ x. end_text names (ending x)) xs) → IsJudged held allow (map (λ x. end_text told (ending x)) xs) judgement
 judged_of ending held allow text names told xs judgement same read is =
     judged held allow text (map (λ x. end_text told (ending x)) xs) judgement read (is ∙ ap (λ (n : List WordName). judgement_of_lines text (map (λ x. end_text n (ending x)) xs)) same)
+
+-- what is to be told of the lines of ends
+pub told_of : {X : Type 0} (ending : X → Ending) (held : Held) (allow : Option Name) (text : Option (List ℕ)) (names told : List WordName) (xs : List X) (P : List ℕ → Type 0) → names ≡ told → IsAllowFile held allow text
+    → P (refusals text (map (λ x. end_text names (ending x)) xs)) → HaveRefusals held allow (map (λ x. end_text told (ending x)) xs) P
+told_of ending held allow text names told xs P same read so =
+    refusals_in held allow text (map (λ x. end_text told (ending x)) xs) P read (subst (λ (n : List WordName). P (refusals text (map (λ x. end_text n (ending x)) xs))) same so)
 
 -- ---- what was found
 
@@ -60,6 +67,16 @@ module _ (held : Held) (show : Show) (config : Config) (image : Initial) (addres
   -- what holds of the text that these names make, holds of what was found
   pub has : (P : List ℕ → Type 0) → P (words_text names found) → WordsHave held show P
   has P so = record { exploration = found; of_file = of_file; of_text = subst (λ (n : List WordName). P (words_text n found)) names_are so }
+
+  -- and so with what is to be told of its outcomes
+  pub refused : (old new : Option (List ℕ)) (P : List ℕ → Type 0) (text : Option (List ℕ)) → Appends old new (words_text names found) → IsAllowFile held show.explore.allow text
+      → P (refusals text (map (λ f. end_text names (ending_of f)) found.outcomes.items)) → WordRefusals held show old new P
+  refused old new P text printed read so = record {
+    exploration = found;
+    of_file = of_file;
+    printed = subst (λ (n : List WordName). Appends old new (words_text n found)) names_are printed;
+    refusals = told_of ending_of held show.explore.allow text names (names_of show.words.items) found.outcomes.items P names_are read so;
+  }
 
   -- all of it was done
   pub shown : (old new : Option (List ℕ)) (left : Held) (judgement : Judgement) (text : Option (List ℕ)) → Appends old new (words_text names found) → IfSome show.explore.scripts (λ folder. AreWordsKept left show.explore.machine folder.now found)

@@ -14,7 +14,7 @@ use Rattle.command_settings.specs.declared.wanted.Show.{Show}
 use Rattle.elf_loader.specs.Image.{Initial}
 use Rattle.exploration_text.specs.Words.{end_text, words_text}
 use Rattle.explore_command.specs.Exploring.{IsExploreFault}
-use Rattle.explore_command.specs.Judging.{IsJudged}
+use Rattle.explore_command.specs.Judging.{HaveRefusals, IsJudged}
 use Rattle.explore_command.specs.Keeping.{IsInNamed, IsScriptOf, SparesOthers}
 use Rattle.explore_command.specs.declared.judging.Judgement.{Judgement}
 use Rattle.explore_command.specs.declared.judging.Judgement.TheVariants.{Allowed}
@@ -68,6 +68,13 @@ pub record WordsHave (held : Held) (show : Show) (P : List ℕ → Type 0) : Typ
   pub exploration : WordExploration
   pub of_file : IsOfFile held show exploration
   pub of_text : P (words_text (names_of show.words.items) exploration)
+
+-- P holds of what is to be told of the outcomes that were printed
+pub record WordRefusals (held : Held) (show : Show) (old new : Option (List ℕ)) (P : List ℕ → Type 0) : Type 0 where
+  pub exploration : WordExploration
+  pub of_file : IsOfFile held show exploration
+  pub printed : Appends old new (words_text (names_of show.words.items) exploration)
+  pub refusals : HaveRefusals held show.explore.allow (map (λ f. end_text (names_of show.words.items) (ending_of f)) exploration.outcomes.items) P
 
 -- ---- faults
 

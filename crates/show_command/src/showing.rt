@@ -1,12 +1,14 @@
 //! `rvtl explore --show`: every end that the machine can bring a program to is found with words of memory, told, kept
 //! and judged.
 
-ghost use Rattle.std.specs.Prelude.{◌≡◌, ◌⊎◌, ◌<◌, Err, IfErr, IfOk, IfSome, IsNone};
+ghost use Rattle.std.specs.Prelude.{◌≡◌, ◌⊎◌, ◌<◌, Err, IfErr, IfOk, IfSome, IsNone, OnErr};
 ghost use Rattle.command_files.specs.Faults.{Name};
 ghost use Rattle.command_files.specs.Sizes.{IsOutside};
 ghost use Rattle.explore_command.specs.Exploring.{ComesBeforeScripts, LeavesPart};
+ghost use Rattle.explore_command.specs.Judging.{IsToldBy};
 ghost use Rattle.explore_command.specs.Keeping.{IsScriptFile, SparesOthers};
-ghost use Rattle.show_command.specs.Showing.{IsElsewhere, IsFirstOf, IsShowFault, AreWordsShown, WordsHave};
+ghost use Rattle.show_command.specs.Showing.{IsElsewhere, IsFirstOf, IsShowFault, AreWordsShown, WordRefusals, WordsHave};
+ghost use Rattle.text_fields.specs.Writing.{Begins};
 
 use crate::asked::AskedWords;
 use crate::keeping::keep;
@@ -40,7 +42,11 @@ pub fn show_files<'a, F: Files, O: Write, E: Write, P: Progress>(
         (WordsHave (F.held files.old) wanted.now)) }
     ensures spared { SparesOthers (IsScriptFile wanted.now.explore.scripts) (F.held files.old) (F.held files.new) }
     ensures untouched { IfErr result (λ fault. ComesBeforeScripts fault → F.held files.new ≡ F.held files.old) }
+    ensures noted { IfOk result (λ judgement. WordRefusals (F.held files.old) wanted.now (O.contents out.old) (O.contents out.new)
+        (IsToldBy judgement (E.contents err.old) (E.contents err.new))) }
     ensures silent { IfErr result (λ fault. ComesBeforeScripts fault → E.contents err.new ≡ E.contents err.old) }
+    ensures judged_first { OnErr result ((E.contents err.new ≡ E.contents err.old) ⊎ WordRefusals (F.held files.old) wanted.now (O.contents out.old) (O.contents out.new)
+        (Begins (E.contents err.old) (E.contents err.new))) }
 {
     let explore = wanted.explore;
     if let Some(word) = sought_elsewhere(wanted) {

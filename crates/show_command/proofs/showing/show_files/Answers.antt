@@ -1,11 +1,12 @@
-use Rattle.std.proofs.Common.{List, inl, refl, subst, sym, ℕ}
+use Rattle.std.proofs.Common.{List, inl, inr, refl, subst, sym, ℕ}
 use Rattle.command_files.proofs.Left.{handed_up}
 use Rattle.command_files.specs.Faults.{Name}
 use Rattle.explore_command.proofs.Explored.{all_of, err_more, memory_left, ok_both, ok_more, spared, spared_after}
 use Rattle.explore_command.proofs.Faults.{folder_late, folder_left, folder_told, memory_late, output_left}
 use Rattle.explore_command.proofs.Kept.{script_file, spares_wider}
+use Rattle.explore_command.proofs.Refused.{begun_by, on_err_more, on_err_of}
 use Rattle.show_command.proofs.Asking.{asking_left, asking_told}
-use Rattle.show_command.proofs.Shown.{has, show_told, shown}
+use Rattle.show_command.proofs.Shown.{has, refused, show_told, shown}
 use Rattle.show_command.specs.Asking.{HasProgram, IsAskingFault}
 use Rattle.show_command.proofs.showing.show_files.Goals as goal
 
@@ -112,3 +113,34 @@ returns-in_err-keep-clause-silent g c =
 
 pub returns-clause-silent : goal.returns-clause-silent
 returns-clause-silent g c = err_more _ _ c.judge-judgement.result (λ fault is early. absurd (memory_late fault is early)) c.judge-judgement.ensures.told
+
+-- what is told of the outcomes that were printed
+pub returns-clause-noted : goal.returns-clause-noted
+returns-clause-noted g c =
+    let show = c.args.wanted.now in
+    let held = g.F.Files.held c.args.files.now in
+    let asked = c.in_ok-config.field-0 in
+    let found = c.in-Ok.ensures in
+    let program = subst (λ (a : List ℕ). HasProgram held show.explore c.deref.result.now asked.image a) (sym c.deref-2.ensures.value) c.in_ok-config.ensures.program in
+    ok_more _ _ c.judge-judgement.result
+    (λ judgement so.
+    refused held show asked.config asked.image c.deref-2.result.now _ _ c.in-Ok.exploration c.in_ok-config.ensures.config c.deref.ensures.value program c.in_ok-config.ensures.names
+    (record { real = found.real; complete = found.complete; none_stuck = found.none_stuck; some = found.some; stuck = found.stuck; order = found.strict; within = found.within; full = found.full; visited = found.visited })
+    _ _ _ _ c.in_ok-print.ensures.printed c.in_ok-config.ensures.allowed so)
+    c.judge-judgement.ensures.noted
+
+pub returns-in_err-keep-clause-judged_first : goal.returns-in_err-keep-clause-judged_first
+returns-in_err-keep-clause-judged_first g c =
+    let show = c.args.wanted.now in
+    let held = g.F.Files.held c.args.files.now in
+    let asked = c.in_ok-config.field-0 in
+    let found = c.in-Ok.ensures in
+    let program = subst (λ (a : List ℕ). HasProgram held show.explore c.deref.result.now asked.image a) (sym c.deref-2.ensures.value) c.in_ok-config.ensures.program in
+    on_err_of c.from_residual-in_err-keep.result (inr
+    (refused held show asked.config asked.image c.deref-2.result.now _ _ c.in-Ok.exploration c.in_ok-config.ensures.config c.deref.ensures.value program c.in_ok-config.ensures.names
+    (record { real = found.real; complete = found.complete; none_stuck = found.none_stuck; some = found.some; stuck = found.stuck; order = found.strict; within = found.within; full = found.full; visited = found.visited })
+    _ _ _ _ c.in_ok-print.ensures.printed c.in_ok-config.ensures.allowed
+    (begun_by _ _ _ c.judge-judgement.result c.judge-judgement.ensures.noted c.judge-judgement.ensures.silent)))
+
+pub returns-clause-judged_first : goal.returns-clause-judged_first
+returns-clause-judged_first g c = on_err_more c.judge-judgement.result inl c.judge-judgement.ensures.silent
