@@ -30,7 +30,7 @@ use Rattle.text_fields.specs.Writing.{Begins}
 
 -- ---- what is found
 
--- each end is one, and its script leads there; where it says complete no end is missing, and where nothing is stuck an end can always be reached, and one is told;
+-- each end is a flat run's, and its script, where there is one, leads there; where it says complete no end is missing, and where nothing is stuck each flat run can go on to an end, and one is told;
 -- the ends stand in their order, each once; there are states, no more than the limit, as many as it says, that were found
 pub record IsFoundIn (image : Initial) (config : Config) (limit : ℕ) (found : Exploration) : Type 0 where
   pub real : All (IsRealIn image config) found.outcomes.items

@@ -33,7 +33,7 @@ use Rattle.word_explorer.specs.Visited.{AreVisited}
 
 -- ---- what is found
 
--- each end is one, with these words, and its script leads there; where it says complete no end is missing, and where nothing is stuck an end can always be reached, and one is told;
+-- each end is a flat run's, with these words, and its script, where there is one, leads there; where it says complete no end is missing, and where nothing is stuck each flat run can go on to an end, and one is told;
 -- the ends stand in their order, each once; there are states, no more than the limit, as many as it says, that were found
 pub record IsFoundIn (image : Initial) (config : Config) (addresses : List ℕ) (limit : ℕ) (found : WordExploration) : Type 0 where
   pub real : All (IsRealIn image config addresses) found.outcomes.items
