@@ -15,6 +15,7 @@ HEADLINE = [
 TEXTS = [
     ("text_fields", "Writing", "Writes"),
     ("trace_text", "Reading", "IsNoMemory"),
+    ("trace_text", "Refusals", "IsScriptRefusal"),
     ("trace_text", "Scripts", "IsScript"),
     ("trace_text", "Scripts", "text"),
     ("trace_text", "TraceLimits", "IsTrace"),
