@@ -1,0 +1,83 @@
+//! What a hart runs by itself, applied as an event, adopted by a machine and committed to a fabric as a batch.
+
+use super::case::Case;
+use super::fabric::play_fabric;
+use super::machine::{apply, at_reset};
+use super::shown::{Pages, show_machine};
+use anyhow::{Result, ensure};
+use coherent_machine::{AdoptError, Machine};
+use hart::{Batch, run_local};
+use machine_types::{Event, Outcome};
+use std::alloc::Global;
+
+/// The most instructions of one batch.
+const MOST: u32 = 256;
+
+/// What hart 0 runs by itself from where it stands, once more where memory is refused at first.
+fn batch_of(alloc: Global, machine: &Machine) -> Result<Batch> {
+    let views = machine.views();
+    ensure!(views.harts() != 0, "no hart");
+    let image = machine.trace().image();
+    let hart = views.hart(0);
+    match run_local(alloc, image, hart, MOST) {
+        Ok(batch) => Ok(batch),
+        Err(_) => Ok(run_local(alloc, image, hart, MOST)?),
+    }
+}
+
+/// Adopts a batch of hart 0; where memory is wanted, all that the machine shows is to be as it was.
+fn adopt<R: Eprint>(
+    rt: &R,
+    machine: &mut Machine,
+    batch: &Batch,
+    pages: &mut Pages,
+) -> Result<Outcome> {
+    show_machine(&mut pages.before, machine)?;
+    match machine.adopt(0, batch) {
+        Err(AdoptError::NoMemory) => eprintln!(rt; "a batch wants memory")?,
+        answer => return Ok(answer?),
+    }
+    show_machine(&mut pages.after, machine)?;
+    ensure!(
+        pages.after == pages.before,
+        "a batch wanted memory and changed the machine"
+    );
+    Ok(machine.adopt(0, batch)?)
+}
+
+/// A machine that adopts a batch of hart 0 is to show what is expected, and not to adopt it again.
+fn compare_adopted<R: Eprint + AllocGlobal>(
+    rt: &R,
+    case: &Case,
+    batch: &Batch,
+    pages: &mut Pages,
+) -> Result<()> {
+    let mut machine = at_reset(rt, case)?;
+    let outcome = adopt(rt, &mut machine, batch, pages)?;
+    ensure!(outcome == Outcome::Retired, "a batch isn't retired");
+    let once_more = machine.adopt(0, batch);
+    ensure!(
+        once_more == Err(AdoptError::Stale),
+        "a batch is adopted again"
+    );
+    show_machine(&mut pages.after, &machine)?;
+    ensure!(
+        pages.after == pages.expected,
+        "a batch differs from its event"
+    );
+    Ok(())
+}
+
+/// How many instructions hart 0 begins with that it can run by itself. A machine that adopts them, and a fabric that
+/// they are committed to, are to show what a machine shows behind the event `Local` of as many.
+pub fn adopt_first<R: Eprint + AllocGlobal>(rt: &R, case: &Case, pages: &mut Pages) -> Result<u32> {
+    let mut machine = at_reset(rt, case)?;
+    let batch = batch_of(rt.alloc(), &machine)?;
+    let count = u32::try_from(batch.entries().len())?;
+    let outcome = apply(rt, &mut machine, Event::Local { hart: 0, count }, pages)?;
+    ensure!(outcome == Outcome::Retired, "an event isn't retired");
+    show_machine(&mut pages.expected, &machine)?;
+    compare_adopted(rt, case, &batch, pages)?;
+    play_fabric(rt, case, Some(&batch), pages)?;
+    Ok(count)
+}

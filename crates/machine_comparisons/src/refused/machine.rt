@@ -1,0 +1,144 @@
+//! A case's events applied one by one, and replayed as one list. A call that wants memory is made again.
+
+use super::case::Case;
+use super::shown::{Pages, show_machine};
+use anyhow::{Result, bail, ensure};
+use coherent_machine::{ApplyError, Machine, NewError, ReplayError, replay};
+use hart::Status;
+use machine_types::{Event, Outcome};
+use std::io::{self, Write};
+use std::str::from_utf8;
+use trace_text::write_trace;
+
+/// A machine at reset.
+pub fn at_reset<R: Eprint + AllocGlobal>(rt: &R, case: &Case) -> Result<Machine> {
+    let image = case.image(rt.alloc())?;
+    match Machine::new(rt.alloc(), image, case.config) {
+        Err(NewError::NoMemory) => eprintln!(rt; "a machine at reset wants memory")?,
+        made => return Ok(made?),
+    }
+    Ok(Machine::new(rt.alloc(), case.image(rt.alloc())?, case.config)?)
+}
+
+/// Applies an event; one that wants memory is to leave all that the machine shows as it was.
+pub fn apply<R: Eprint>(
+    rt: &R,
+    machine: &mut Machine,
+    event: Event,
+    pages: &mut Pages,
+) -> Result<Outcome> {
+    show_machine(&mut pages.before, machine)?;
+    match machine.apply(event) {
+        Err(ApplyError::NoMemory) => eprintln!(rt; "{event:?} wants memory")?,
+        answer => return Ok(answer?),
+    }
+    show_machine(&mut pages.after, machine)?;
+    ensure!(
+        pages.after == pages.before,
+        "{event:?} wanted memory and changed the machine"
+    );
+    Ok(machine.apply(event)?)
+}
+
+/// Whether an outcome is spelt as its kept line.
+pub fn is_as_kept(outcome: Outcome, kept: &str, page: &mut Vec<u8>) -> io::Result<bool> {
+    page.clear();
+    match outcome {
+        Outcome::Missed(line) => write!(page, "Missed(0x{line:08x})")?,
+        other => write!(page, "{other:?}")?,
+    }
+    Ok(page.as_slice() == kept.as_bytes())
+}
+
+/// Compares each event's outcome.
+fn apply_all<R: Eprint>(
+    rt: &R,
+    case: &Case,
+    machine: &mut Machine,
+    pages: &mut Pages,
+) -> Result<()> {
+    let events = case.script.events.as_slice();
+    let outcomes = from_utf8(&case.outcomes)?;
+    ensure!(
+        events.len() == outcomes.lines().count(),
+        "an outcome is missing"
+    );
+    for (event, kept) in events.iter().zip(outcomes.lines()) {
+        let outcome = apply(rt, machine, *event, pages)?;
+        ensure!(
+            is_as_kept(outcome, kept, &mut pages.after)?,
+            "{event:?}: {outcome:?} for {kept}"
+        );
+    }
+    Ok(())
+}
+
+/// Compares each event's outcome, and what the machine gave at the end.
+pub fn play_events<R: Eprint + AllocGlobal>(rt: &R, case: &Case, pages: &mut Pages) -> Result<()> {
+    let mut machine = at_reset(rt, case)?;
+    apply_all(rt, case, &mut machine, pages)?;
+    compare_ends(case, machine, &mut pages.after)
+}
+
+/// Compares what a replay gave. A want of memory names the event that met it.
+pub fn replay_events<R: Eprint + AllocGlobal>(
+    rt: &R,
+    case: &Case,
+    pages: &mut Pages,
+) -> Result<()> {
+    let events = case.script.events.as_slice();
+    let image = case.image(rt.alloc())?;
+    match replay(rt.alloc(), image, case.config, events) {
+        Ok(machine) => return compare_ends(case, machine, &mut pages.after),
+        Err(ReplayError::New(NewError::NoMemory)) => eprintln!(rt;
+            "replay: a machine at reset wants memory"
+        )?,
+        Err(ReplayError::Event(index, ApplyError::NoMemory)) => {
+            ensure!(index < events.len(), "replay: no event {index}");
+            eprintln!(rt; "replay: event {index} wants memory")?;
+        }
+        Err(error) => bail!("replay: {error:?}"),
+    }
+    let image = case.image(rt.alloc())?;
+    match replay(rt.alloc(), image, case.config, events) {
+        Ok(machine) => compare_ends(case, machine, &mut pages.after),
+        Err(error) => bail!("replay, once more: {error:?}"),
+    }
+}
+
+/// Compares the trace and the harts' ends with the kept ones.
+pub fn compare_ends(case: &Case, machine: Machine, page: &mut Vec<u8>) -> Result<()> {
+    let (trace, outputs) = machine.into_parts();
+    page.clear();
+    write_trace(&trace, page)?;
+    ensure!(
+        page.as_slice() == case.trace.as_slice(),
+        "the trace differs"
+    );
+    write_ends(page, trace.statuses(), &outputs)?;
+    ensure!(page.as_slice() == case.ends.as_slice(), "the ends differ");
+    Ok(())
+}
+
+fn write_ends(page: &mut Vec<u8>, statuses: &[Status], outputs: &[Vec<u32>]) -> io::Result<()> {
+    page.clear();
+    for (hart, (status, output)) in statuses.iter().zip(outputs).enumerate() {
+        write_end(page, hart, *status, output)?;
+    }
+    Ok(())
+}
+
+fn write_end(page: &mut Vec<u8>, hart: usize, status: Status, output: &[u32]) -> io::Result<()> {
+    match status {
+        Status::Running => write!(page, "hart {hart}: run")?,
+        Status::Stopped(code) => write!(page, "hart {hart}: stop {code}")?,
+        Status::Exited(code) => write!(page, "hart {hart}: exit {code}")?,
+    }
+    if !output.is_empty() {
+        write!(page, " output")?;
+    }
+    for number in output {
+        write!(page, " {number}")?;
+    }
+    writeln!(page)
+}
