@@ -1,3 +1,4 @@
 mod Kept
+mod Remarked
 mod Readable
 mod Searched

@@ -2,7 +2,8 @@
 use Rattle.std.proofs.Common.{◌≡◌, ◌≢◌, ℕ, IfSome, List, Option, map, subst}
 use Rattle.std.specs.Io.KnownBytes.{Appends}
 use Rattle.architecture_command.specs.Keeping.{AreWaysKept, IsWayFile}
-use Rattle.architecture_command.specs.Searching.{IsFoundUnder, IsOfFile, IsSearched, SearchHas}
+use Rattle.architecture_command.specs.Searching.{IsFoundUnder, IsOfFile, IsSearchNoted, IsSearched, SearchHas}
+use Rattle.architecture_command.specs.Telling.{AreRemarked}
 use Rattle.architecture_outcomes.specs.declared.architecture.Architecture.{Architecture}
 use Rattle.architecture_outcomes.specs.Outcomes.{end_of}
 use Rattle.architecture_outcomes.specs.Text.{architecture_text}
@@ -14,12 +15,12 @@ use Rattle.elf_loader.specs.Image.{Initial}
 use Rattle.exploration_text.specs.declared.wording.WordName.{WordName}
 use Rattle.exploration_text.specs.Words.{end_text}
 use Rattle.explore_command.specs.Exploring.{IsAllowFile}
-use Rattle.explore_command.specs.Judging.{judgement_of_lines}
+use Rattle.explore_command.specs.Judging.{IsToldBy, judgement_of_lines, refusals}
 use Rattle.explore_command.specs.Keeping.{IsInNamed, SparesOthers}
 use Rattle.explore_command.specs.declared.judging.Judgement.{Judgement}
 use Rattle.explore_command.specs.declared.judging.Judgement.TheVariants.{Allowed}
 use Rattle.machine_types.specs.declared.config.Config.{Config}
-use Rattle.show_command.proofs.Shown.{judged_of}
+use Rattle.show_command.proofs.Shown.{judged_of, told_of}
 use Rattle.show_command.specs.Asking.{HasProgram}
 use Rattle.show_command.specs.Targets.{names_of}
 use Rattle.state_search.specs.declared.findings.Extent.TheVariants as extent
@@ -50,4 +51,15 @@ module _ (held : Held) (wanted : Explore) (words : List Name) (window : ℕ) (co
     spared = spares;
     judged = judged_of end_of held wanted.allow text names (names_of words) found.outcomes.items judgement named read by;
     whole = memory;
+  }
+
+  pub noted : (old new before between after : Option (List ℕ)) (judgement : Judgement) (text : Option (List ℕ)) → Appends old new (architecture_text names found) → AreRemarked wanted.scripts found.outcomes.items before between
+      → IsAllowFile held wanted.allow text → IsToldBy judgement between after (refusals text (map (λ o. end_text names (end_of o)) found.outcomes.items)) → IsSearchNoted held wanted words window judgement old new before after
+  noted old new before between after judgement text printed remarked read told = record {
+    architecture = found;
+    of_file = of_file;
+    printed = subst (λ (n : List WordName). Appends old new (architecture_text n found)) named printed;
+    between = between;
+    remarked = remarked;
+    refusals = told_of end_of held wanted.allow text names (names_of words) found.outcomes.items (IsToldBy judgement between after) named read told;
   }

@@ -4,6 +4,7 @@ use Rattle.std.specs.Io.KnownBytes.{Appends}
 use Rattle.std.specs.List.Sorted.{IsStrictlySortedBy}
 use Rattle.std.specs.Ordering.{on}
 use Rattle.architecture_command.specs.Keeping.{AreWaysKept, IsWayFile}
+use Rattle.architecture_command.specs.Telling.{AreRemarked}
 use Rattle.architecture_outcomes.specs.declared.architecture.Architecture.{Architecture}
 use Rattle.architecture_outcomes.specs.Outcomes.{IsDecided, IsWitnessed, TellsEachEnd, end_of}
 use Rattle.architecture_outcomes.specs.Text.{architecture_text}
@@ -16,7 +17,7 @@ use Rattle.command_settings.specs.declared.wanted.Explore.{Explore}
 use Rattle.elf_loader.specs.Image.{Initial}
 use Rattle.exploration_text.specs.Words.{end_text}
 use Rattle.explore_command.specs.Exploring.{IsExploreFault}
-use Rattle.explore_command.specs.Judging.{IsJudged}
+use Rattle.explore_command.specs.Judging.{HaveRefusals, IsJudged, IsToldBy}
 use Rattle.explore_command.specs.Keeping.{IsInNamed, SparesOthers}
 use Rattle.explore_command.specs.declared.judging.Judgement.{Judgement}
 use Rattle.explore_command.specs.declared.judging.Judgement.TheVariants.{Allowed}
@@ -62,6 +63,15 @@ pub record SearchHas (held : Held) (wanted : Explore) (words : List Name) (windo
   pub architecture : Architecture
   pub of_file : IsOfFile held wanted words window architecture
   pub of_text : P (architecture_text (names_of words) architecture)
+
+-- standard error was told of the traces that show the outcomes that were printed, and then of the outcomes that aren't allowed
+pub record IsSearchNoted (held : Held) (wanted : Explore) (words : List Name) (window : ℕ) (judgement : Judgement) (old new before after : Option (List ℕ)) : Type 0 where
+  pub architecture : Architecture
+  pub of_file : IsOfFile held wanted words window architecture
+  pub printed : Appends old new (architecture_text (names_of words) architecture)
+  pub between : Option (List ℕ)
+  pub remarked : AreRemarked wanted.scripts architecture.outcomes.items before between
+  pub refusals : HaveRefusals held wanted.allow (map (λ o. end_text (names_of words) (end_of o)) architecture.outcomes.items) (IsToldBy judgement between after)
 
 -- as an exploration has them; or one of the words can't be shown
 abbrev pub IsSearchFault : Held → Explore → List Name → Fault → Type 0

@@ -1,14 +1,15 @@
 //! `rvtl explore --architecture`: what a memory model allows a program is sought, told, kept and judged.
 
-ghost use Rattle.std.specs.Prelude.{◌≡◌, ◌<◌, Err, IfErr, IfOk};
+ghost use Rattle.std.specs.Prelude.{◌≡◌, ◌<◌, Err, IfErr, IfOk, OnErr, OnOk};
 ghost use Rattle.architecture_command.specs.Keeping.{IsFileOf};
-ghost use Rattle.architecture_command.specs.Searching.{IsSearchFault, IsSearched, SearchHas};
+ghost use Rattle.architecture_command.specs.Searching.{IsSearchFault, IsSearchNoted, IsSearched, SearchHas};
+ghost use Rattle.architecture_command.specs.Telling.{AreRemarked};
 ghost use Rattle.command_files.specs.Sizes.{IsOutside};
 ghost use Rattle.explore_command.specs.Exploring.{ComesBeforeJudging, ComesBeforeScripts, LeavesPart};
 ghost use Rattle.explore_command.specs.Keeping.{SparesOthers};
 
 use crate::allowed::Searched;
-use crate::telling::tell_overtakings;
+use crate::telling::remarks_on;
 use architecture_outcomes::{Outcome, explore_architecture};
 use command_files::{Fault, Files};
 use command_settings::Explore;
@@ -18,6 +19,7 @@ use progress_line::Progress;
 use show_command::AskedWords;
 use std::alloc::Global;
 use std::io::Write;
+use text_fields::put;
 
 /// Judges the machine's size, reads what is allowed, then the image, looks for the words of memory that are to be shown,
 /// of which there need be none, searches for what the memory model allows with at most `window` operations of a hart
@@ -42,6 +44,7 @@ pub fn architecture_files<'a, F: Files, O: Write, E: Write, P: Progress>(
         (SearchHas (F.held files.old) wanted.entry words.now window)) }
     ensures spared { SparesOthers (IsFileOf wanted.entry.scripts) (F.held files.old) (F.held files.new) }
     ensures untouched { IfErr result (λ fault. ComesBeforeScripts fault → F.held files.new ≡ F.held files.old) }
+    ensures noted { IfOk result (λ judgement. IsSearchNoted (F.held files.old) wanted.entry words.now window judgement (O.contents out.old) (O.contents out.new) (E.contents err.old) (E.contents err.new)) }
     ensures silent { IfErr result (λ fault. ComesBeforeJudging fault → E.contents err.new ≡ E.contents err.old) }
 {
     let AskedWords {
@@ -88,12 +91,16 @@ fn tell<'a, E: Write>(
     err: &mut E,
 ) -> Result<(), Fault<'a>>
     ensures told { IfErr result (λ fault. fault ≡ Fault.OutOfMemory) }
+    ensures remarked { OnOk result (AreRemarked wanted.entry.scripts outcomes.now (E.contents err.old) (E.contents err.new)) }
+    ensures silent { OnErr result (E.contents err.new ≡ E.contents err.old) }
 {
     if wanted.scripts.is_none() {
         return Ok(());
     }
-    match tell_overtakings(alloc, outcomes, err) {
-        Ok(()) => Ok(()),
-        Err(_) => Err(Fault::OutOfMemory),
-    }
+    let Ok(remarks) = remarks_on(alloc, outcomes) else {
+        return Err(Fault::OutOfMemory);
+    };
+    // Standard error has no other place to tell that it takes no more.
+    let _ = put(err, &remarks);
+    Ok(())
 }

@@ -2,7 +2,9 @@ use Rattle.std.proofs.Common.{◌≡◌, ◌∙◌, List, inl, refl, subst, sym,
 use Rattle.command_files.proofs.Left.{handed_up}
 use Rattle.architecture_command.proofs.Kept.{way_file}
 use Rattle.architecture_command.proofs.Readable.{each_has_text}
-use Rattle.architecture_command.proofs.Searched.{has, whole}
+use Rattle.architecture_command.proofs.Searched.{has, noted, whole}
+use Rattle.architecture_command.specs.Telling.{AreRemarked}
+use Rattle.architecture_outcomes.specs.declared.outcome.Outcome.{Outcome}
 use Rattle.explore_command.proofs.Explored.{all_of, err_more, memory_left, memory_told, ok_both, ok_more, spared, spared_after}
 use Rattle.explore_command.proofs.Faults.{folder_late, folder_left, folder_told, memory_last, memory_late, output_left, output_told}
 use Rattle.explore_command.proofs.Kept.{spares_wider}
@@ -146,3 +148,18 @@ returns-in_err-tell-clause-silent g c = handed_up _ c.from_residual-in_err-tell.
 
 pub returns-clause-silent : goal.returns-clause-silent
 returns-clause-silent g c = err_more _ _ c.judge.result (λ fault is early. absurd (memory_last fault is early)) c.judge.ensures.told
+
+-- what is told of the outcomes that were printed
+pub returns-clause-noted : goal.returns-clause-noted
+returns-clause-noted g c =
+    let held = g.F.Files.held c.args.files.now in
+    let asked = c.in_ok-config.field-0 in
+    let found = c.in-Ok.ensures in
+    let program = subst (λ (a : List ℕ). HasProgram held c.args.wanted c.args.words.now asked.image a) (sym c.deref.ensures.value) c.in_ok-config.ensures.program in
+    let remarked = subst (λ (os : List Outcome). AreRemarked c.args.wanted.scripts os (g.E.Write.contents c.args.err.now) (g.E.Write.contents c.tell.new.err)) c.deref-2.ensures.value c.in_ok-tell.ensures.remarked in
+    ok_more _ _ c.judge.result
+    (λ judgement so.
+    noted held c.args.wanted c.args.words.now c.args.window asked.config asked.image c.deref.result.now _ c.in-Ok.architecture c.in_ok-config.ensures.config program c.in_ok-config.ensures.names
+    (record { shown = found.shown; machine = found.machine; alone = found.alone; order = found.order; full = found.full; model = found.model; visited = found.visited; window_is = found.window })
+    _ _ (g.E.Write.contents c.args.err.now) (g.E.Write.contents c.tell.new.err) (g.E.Write.contents c.judge.new.err) judgement _ c.in_ok-print.ensures.printed remarked c.in_ok-config.ensures.allowed so)
+    c.judge.ensures.noted
