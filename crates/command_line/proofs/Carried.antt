@@ -1,5 +1,5 @@
 -- What came of a command is what came of the settings that name it.
-use Rattle.std.proofs.Common.{◌≡◌, ◌≢◌, ℕ, Bool, Err, IfErr, IfOk, List, Ok, OnOk, Option, Result, false, subst, sym, true}
+use Rattle.std.proofs.Common.{◌≡◌, ◌≢◌, ℕ, Bool, Err, IfErr, IfOk, List, Ok, Option, Result, false, subst, sym, true}
 use Rattle.std.specs.Prelude.{nat_lt}
 use Rattle.clap.specs.Words.{Text}
 use Rattle.command_files.specs.Held.{Held}
@@ -44,27 +44,20 @@ module _ (held left : Held) (old new : Option (List ℕ)) (wanted : Settings) wh
   check_came check (Ok NotAllowed) is so = subst (IsFaulty held left old new) (sym is) so
   check_came check (Err fault) is so = tt
 
--- what is put on standard error is what the settings that name the command put there, where that is said
-module _ (held left : Held) (old new : Option (List ℕ)) (wanted : Settings) where
-  pub explore_noted : {T E : Type 0} (explore : Sought) (r : Result T E) → wanted ≡ Explore explore → OnOk r (IsNoted held left old new wanted)
-  explore_noted explore (Ok x) is = subst (IsNoted held left old new) (sym is) tt
-  explore_noted explore (Err fault) is = tt
+-- what is put on standard error is what the settings that name the command put there
+pub all_noted : (held left : Held) (old new before after : Option (List ℕ)) (wanted meant : Settings) (r : Result Judgement Fault) → wanted ≡ meant → IfOk r (λ judgement. IsNoted held left old new before after judgement meant)
+    → IfOk r (λ judgement. IsNoted held left old new before after judgement wanted)
+all_noted held left old new before after wanted meant (Ok judgement) is so = subst (IsNoted held left old new before after judgement) (sym is) so
+all_noted held left old new before after wanted meant (Err fault) is so = tt
 
-  pub show_noted : {T E : Type 0} (show : Shown) (r : Result T E) → wanted ≡ Show show → OnOk r (IsNoted held left old new wanted)
-  show_noted show (Ok x) is = subst (IsNoted held left old new) (sym is) tt
-  show_noted show (Err fault) is = tt
+pub messages_noted : (of_messages : Bool) (before after : Option (List ℕ)) → of_messages ≡ true → CheckNoted NotAllowed of_messages before after
+messages_noted true before after is = tt
+messages_noted false before after is = absurd cc
 
-  pub check_noted : {T E : Type 0} (check : Judging) (r : Result T E) → wanted ≡ Check check → CheckNoted check.messages old new → OnOk r (IsNoted held left old new wanted)
-  check_noted check (Ok x) is so = subst (IsNoted held left old new) (sym is) so
-  check_noted check (Err fault) is so = tt
-
-pub messages_noted : (of_messages : Bool) (old new : Option (List ℕ)) → of_messages ≡ true → CheckNoted of_messages old new
-messages_noted true old new is = tt
-messages_noted false old new is = absurd cc
-
-pub order_noted : (of_messages : Bool) (old new : Option (List ℕ)) → new ≡ old → CheckNoted of_messages old new
-order_noted true old new same = tt
-order_noted false old new same = same
+pub order_noted : (judgement : Judgement) (of_messages : Bool) (before after : Option (List ℕ)) → after ≡ before → CheckNoted judgement of_messages before after
+order_noted Allowed of_messages before after same = same
+order_noted NotAllowed true before after same = tt
+order_noted NotAllowed false before after same = same
 
 -- whatever fault a command tells is one of what the settings name
 pub told_of : (held : Held) (old new : Option (List ℕ)) (wanted meant : Settings) (fault : Fault) → wanted ≡ meant → IsFaultOfCommand held old new meant fault → IsFaultOfCommand held old new wanted fault

@@ -4,14 +4,15 @@ use Rattle.clap.specs.Words.{Text}
 use Rattle.command_files.specs.Held.{Held}
 use Rattle.replay_command.specs.Replaying.{IsCutOff, IsReplayEndTold, IsReplayed}
 use Rattle.explain_command.specs.Explaining.{IsExplained, IsStreamCutOff}
-use Rattle.explore_command.specs.Exploring.{ExplorationHas, IsExplorationTold}
+use Rattle.explore_command.specs.Exploring.{ExplorationHas, ExplorationRefusals, IsExplorationTold}
+use Rattle.explore_command.specs.Judging.{IsToldBy}
 use Rattle.explore_command.specs.Keeping.{IsScriptFile}
 use Rattle.explore_command.specs.declared.judging.Judgement.{Judgement}
 use Rattle.explore_command.specs.declared.judging.Judgement.TheVariants.{Allowed, NotAllowed}
 use Rattle.architecture_command.specs.Keeping.{IsFileOf}
-use Rattle.architecture_command.specs.Searching.{IsSearched, SearchHas}
-use Rattle.sample_command.specs.Sampling.{IsSampleTold, SampleHas}
-use Rattle.show_command.specs.Showing.{AreWordsShown, IsElsewhere, WordsHave}
+use Rattle.architecture_command.specs.Searching.{IsSearchNoted, IsSearched, SearchHas}
+use Rattle.sample_command.specs.Sampling.{IsSampleTold, SampleHas, SampleRefusals}
+use Rattle.show_command.specs.Showing.{AreWordsShown, IsElsewhere, WordRefusals, WordsHave}
 use Rattle.chart_command.specs.Addresses.{address}
 use Rattle.chart_command.specs.Charting.{IsCharted, IsPictureCutOff as IsHalfCharted}
 use Rattle.check_command.specs.Checking.{IsVerdictTold, IsVerdictCutOff}
@@ -104,20 +105,31 @@ IsDone held left old new (Show show) = ShowCame show.explore.architecture Allowe
 IsDone held left old new (Chart chart) = IsCharted held chart.replay chart.line old new
 IsDone held left old new (Check check) = IsClean check.messages held check old new
 
--- a check of an order puts nothing on standard error; of a check of messages it is not said
-abbrev pub CheckNoted : (of_messages : Bool) → Option (List ℕ) → Option (List ℕ) → Type 0
-CheckNoted true old new = Unit {0}
-CheckNoted false old new = new ≡ old
+-- a check puts nothing on standard error; of what it notes of messages that aren't lawful it is not said
+abbrev pub CheckNoted : Judgement → (of_messages : Bool) → (before after : Option (List ℕ)) → Type 0
+CheckNoted Allowed of_messages before after = after ≡ before
+CheckNoted NotAllowed true before after = Unit {0}
+CheckNoted NotAllowed false before after = after ≡ before
 
--- what a command that was carried out has itself put on standard error, beside what is remarked of files: of a replay and of a run a beginning of how their harts ended; of an explanation, a chart and a check of an order nothing; what the others put there is not said
-abbrev pub IsNoted : Held → Held → Option (List ℕ) → Option (List ℕ) → Settings → Type 0
-IsNoted held left old new (Replay replay) = IsReplayEndTold held replay old new
-IsNoted held left old new (Run run) = IsRunEndTold held left run old new
-IsNoted held left old new (Explain explain) = new ≡ old
-IsNoted held left old new (Chart chart) = new ≡ old
-IsNoted held left old new (Check check) = CheckNoted check.messages old new
-IsNoted held left old new (Explore explore) = Unit {0}
-IsNoted held left old new (Show show) = Unit {0}
+-- where the outcomes that were printed are allowed nothing, and else a beginning of the lines that tell which ones aren't; under the memory model, where what shows them was written, behind a beginning of what is told of their traces
+abbrev pub ExploreNoted : (architecture sampled : Bool) → Judgement → Held → Seeking → (old new before after : Option (List ℕ)) → Type 0
+ExploreNoted true sampled judgement held explore old new before after = IsSearchNoted held explore [] explore.window judgement old new before after
+ExploreNoted false true judgement held explore old new before after = SampleRefusals held explore explore.sample old new (IsToldBy judgement before after)
+ExploreNoted false false judgement held explore old new before after = ExplorationRefusals held explore old new (IsToldBy judgement before after)
+
+abbrev pub ShowNoted : (architecture : Bool) → Judgement → Held → Showing → (old new before after : Option (List ℕ)) → Type 0
+ShowNoted true judgement held show old new before after = IsSearchNoted held show.explore show.words.items show.explore.window judgement old new before after
+ShowNoted false judgement held show old new before after = WordRefusals held show old new (IsToldBy judgement before after)
+
+-- what a command that was carried out has itself put on standard error, beside what is remarked of files: of a replay and of a run a beginning of how their harts ended; of an explanation and a chart nothing; of an exploration what tells which outcomes aren't allowed
+abbrev pub IsNoted : Held → Held → (old new before after : Option (List ℕ)) → Judgement → Settings → Type 0
+IsNoted held left old new before after judgement (Replay replay) = IsReplayEndTold held replay before after
+IsNoted held left old new before after judgement (Run run) = IsRunEndTold held left run before after
+IsNoted held left old new before after judgement (Explain explain) = after ≡ before
+IsNoted held left old new before after judgement (Chart chart) = after ≡ before
+IsNoted held left old new before after judgement (Check check) = CheckNoted judgement check.messages before after
+IsNoted held left old new before after judgement (Explore explore) = ExploreNoted explore.architecture (nat_lt 0 explore.sample) judgement held explore old new before after
+IsNoted held left old new before after judgement (Show show) = ShowNoted show.explore.architecture judgement held show old new before after
 
 -- the trace's order, or its messages, are not legal, and the fault that shows it was printed; or the program was explored and an outcome is not allowed
 abbrev pub IsFaulty : Held → Held → Option (List ℕ) → Option (List ℕ) → Settings → Type 0
@@ -168,9 +180,9 @@ HasInRange words P = HasNamed words (λ wanted. (¬ AreMisused wanted) × P want
 unfoldable pub IsCarriedOut : List Text → Held → Held → Option (List ℕ) → Option (List ℕ) → Type 0
 IsCarriedOut words held left old new = IsForHelp words ⊎ HasInRange words (IsDone held left old new)
 
--- the words ask for help, and standard error has nothing new, or it has what the command that they name puts there
-unfoldable pub HasNoted : List Text → Held → Held → Option (List ℕ) → Option (List ℕ) → Type 0
-HasNoted words held left old new = (IsForHelp words × (new ≡ old)) ⊎ HasNamed words (IsNoted held left old new)
+-- the words ask for help, and standard error has nothing new, or it has what the command that they name puts there where all is legal and allowed
+unfoldable pub HasNoted : List Text → Held → Held → (old new before after : Option (List ℕ)) → Type 0
+HasNoted words held left old new before after = (IsForHelp words × (after ≡ before)) ⊎ HasNamed words (IsNoted held left old new before after Allowed)
 
 -- what they name was judged, and it isn't legal, or not allowed
 unfoldable pub IsNotLegal : List Text → Held → Held → Option (List ℕ) → Option (List ℕ) → Type 0

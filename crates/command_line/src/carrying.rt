@@ -1,12 +1,12 @@
 //! What the words ask for is carried out, command by command.
 
-ghost use Rattle.std.specs.Prelude.{◌≡◌, ◌≢◌, ◌⊎◌, ◌<◌, Err, IfErr, IfOk, OnOk, nat_lt};
+ghost use Rattle.std.specs.Prelude.{◌≡◌, ◌≢◌, ◌⊎◌, ◌<◌, Err, IfErr, IfOk, nat_lt};
 ghost use Rattle.clap.specs.Words.{Text};
 ghost use Rattle.command_files.specs.Faults.{LeavesAtFault, Name};
 ghost use Rattle.command_files.specs.Sizes.{IsOutside};
 ghost use Rattle.command_files.specs.Status.{status_of};
 ghost use Rattle.command_line.specs.Telling.{ComesBeforeFiles, IsFaultOfCommand, IsJudgingFault, IsShowingFault, LeavesOf};
-ghost use Rattle.command_line.specs.Running.{Came, CheckCame, CheckNoted, ExploreCame, ExploreHas, MeetsSomeState, IsOutOfRange, IsCheckBroken, IsExploreFile, IsNoted, IsWritten, ShowCame, ShowHas, ShowsElsewhere, strictness_of};
+ghost use Rattle.command_line.specs.Running.{Came, CheckCame, CheckNoted, ExploreCame, ExploreHas, ExploreNoted, MeetsSomeState, IsOutOfRange, IsCheckBroken, IsExploreFile, IsNoted, IsWritten, ShowCame, ShowHas, ShowNoted, ShowsElsewhere, strictness_of};
 ghost use Rattle.explore_command.specs.Exploring.{ComesBeforeScripts, IsExploreFault, LeavesPart};
 ghost use Rattle.explore_command.specs.Keeping.{SparesOthers};
 ghost use Rattle.show_command.specs.Showing.{IsFirstOf};
@@ -51,7 +51,7 @@ pub(crate) fn carry_out<
 ) -> Result<Judgement, Fault<'a>>
     requires room { MeetsSomeState wanted }
     ensures came { IfOk result (Came (F.held files.old) (F.held files.new) (O.contents out.old) (O.contents out.new) wanted.entry) }
-    ensures noted { OnOk result (IsNoted (F.held files.old) (F.held files.new) (E.contents err.old) (E.contents err.new) wanted.entry) }
+    ensures noted { IfOk result (λ judgement. IsNoted (F.held files.old) (F.held files.new) (O.contents out.old) (O.contents out.new) (E.contents err.old) (E.contents err.new) judgement wanted.entry) }
     ensures inside { IfOk result (λ _. ¬ IsOutOfRange wanted.entry) }
     ensures leaves { IfErr result (LeavesOf (F.held files.old) (F.held files.new) (O.contents out.old) (O.contents out.new) wanted.entry) }
     ensures outside { IfErr result (λ fault. IsOutOfRange wanted.entry → status_of fault ≡ 2) }
@@ -96,6 +96,8 @@ fn explored<'a, F: Files, O: Write, E: Write, P: Progress>(
     requires room { 0 < wanted.states }
     ensures came { IfOk result (λ judgement. ExploreCame wanted.entry.architecture (nat_lt 0 wanted.entry.sample) judgement
         (F.held files.old) (F.held files.new) wanted.entry (O.contents out.old) (O.contents out.new)) }
+    ensures noted { IfOk result (λ judgement. ExploreNoted wanted.entry.architecture (nat_lt 0 wanted.entry.sample) judgement
+        (F.held files.old) wanted.entry (O.contents out.old) (O.contents out.new) (E.contents err.old) (E.contents err.new)) }
     ensures outside { IsOutside wanted.entry.machine → result ≡ Err Fault.Configuration }
     ensures told { IfErr result (IsExploreFault (F.held files.old) wanted.entry) }
     ensures unfinished { IfErr result (λ fault. LeavesPart fault (O.contents out.old) (O.contents out.new)
@@ -126,6 +128,8 @@ fn shown<'a, F: Files, O: Write, E: Write, P: Progress>(
     requires room { 0 < wanted.now.explore.states }
     ensures came { IfOk result (λ judgement. ShowCame wanted.now.explore.architecture judgement
         (F.held files.old) (F.held files.new) wanted.now (O.contents out.old) (O.contents out.new)) }
+    ensures noted { IfOk result (λ judgement. ShowNoted wanted.now.explore.architecture judgement
+        (F.held files.old) wanted.now (O.contents out.old) (O.contents out.new) (E.contents err.old) (E.contents err.new)) }
     ensures elsewhere { ShowsElsewhere wanted.now.explore.architecture wanted.now.explore → (word : Name) × IsFirstOf wanted.now.words.items word × (result ≡ Err (Fault.CannotShow word Unshown.Elsewhere)) }
     ensures outside { IsOutside wanted.now.explore.machine → (result ≡ Err Fault.Configuration) ⊎ ShowsElsewhere wanted.now.explore.architecture wanted.now.explore }
     ensures told { IfErr result (IsShowingFault wanted.now.explore.architecture (F.held files.old) wanted.now) }
@@ -164,7 +168,7 @@ fn checked<'a, F: Files, O: Write, E: Write>(
         (IsCheckBroken wanted.entry.messages (F.held files.old) wanted.entry (O.contents out.old) (O.contents out.new))) }
     ensures fitting { IfErr result (λ fault. status_of fault ≢ 2) }
     ensures told { IfErr result (IsJudgingFault wanted.entry.messages (F.held files.old) wanted.entry) }
-    ensures noted { CheckNoted wanted.entry.messages (E.contents err.old) (E.contents err.new) }
+    ensures noted { IfOk result (λ judgement. CheckNoted judgement wanted.entry.messages (E.contents err.old) (E.contents err.new)) }
     ensures spared { F.held files.new ≡ F.held files.old }
 {
     if wanted.messages {

@@ -35,8 +35,8 @@ pub fn run_line<
 >(rt: &R, alloc: Global, words: &[S], files: &mut F, out: &mut O, err: &mut E, progress: &P) -> u8
     ensures status { result ≤ 4 }
     ensures carried_out { result ≡ 0 → IsCarriedOut (map S.text words.now) (F.held files.old) (F.held files.new) (O.contents out.old) (O.contents out.new) }
-    ensures noted { result ≡ 0 → HasNoted (map S.text words.now) (F.held files.old) (F.held files.new) (E.contents err.old) (E.contents err.new) }
-    ensures judged_noted { result ≡ 3 → HasNamed (map S.text words.now) (IsNoted (F.held files.old) (F.held files.new) (E.contents err.old) (E.contents err.new)) }
+    ensures noted { result ≡ 0 → HasNoted (map S.text words.now) (F.held files.old) (F.held files.new) (O.contents out.old) (O.contents out.new) (E.contents err.old) (E.contents err.new) }
+    ensures judged_noted { result ≡ 3 → HasNamed (map S.text words.now) (IsNoted (F.held files.old) (F.held files.new) (O.contents out.old) (O.contents out.new) (E.contents err.old) (E.contents err.new) Judgement.NotAllowed) }
     ensures not_legal { result ≡ 3 → IsNotLegal (map S.text words.now) (F.held files.old) (F.held files.new) (O.contents out.old) (O.contents out.new) }
     ensures unprinted { 0 < result → result ≢ 3 → IsUnprinted (map S.text words.now) (F.held files.old) (F.held files.new) (O.contents out.old) (O.contents out.new) }
     ensures faulted { result ≡ 1 → HasToldFault (map S.text words.now) (F.held files.old) (F.held files.new) (O.contents out.old) (O.contents out.new) }

@@ -1,6 +1,6 @@
 use Rattle.std.proofs.Common.{refl, subst, sym}
 use Rattle.command_files.proofs.Left.{handed_up}
-use Rattle.command_line.proofs.Carried.{all_stay, all_told_of, check_beyond, check_came, check_noted, explain_told, explained, explore_beyond, explore_came, explore_noted, explore_written, show_beyond, show_came, show_noted, show_written, stay_of, told_of}
+use Rattle.command_line.proofs.Carried.{all_noted, all_stay, all_told_of, check_beyond, check_came, explain_told, explained, explore_beyond, explore_came, explore_written, show_beyond, show_came, show_written, stay_of, told_of}
 use Rattle.command_line.proofs.Meant.{beyond_run, journal_alone, no_address, unwritten}
 use Rattle.command_line.proofs.Leaving.{all_left_of, as_told, chart_inside, chart_outside, check_inside, check_outside, explore_inside, explore_outside, left_of, show_inside, show_outside, stream_left}
 use Rattle.command_line.specs.Running.{IsOutOfRange, IsDone, IsNoted, IsWritten}
@@ -194,22 +194,22 @@ returns-in-Check-clause-untouched g c = all_stay _ _ _ c.checked.result c.checke
 
 -- what stands on standard error
 pub returns-in_ok-replay_files-in-Replay-clause-noted : goal.returns-in_ok-replay_files-in-Replay-clause-noted
-returns-in_ok-replay_files-in-Replay-clause-noted g c = subst (IsNoted _ _ _ _) (sym c.in-Replay.is) c.in_ok-replay_files-in-Replay.ensures.ends
+returns-in_ok-replay_files-in-Replay-clause-noted g c = subst (IsNoted _ _ _ _ _ _ _) (sym c.in-Replay.is) c.in_ok-replay_files-in-Replay.ensures.ends
 
 pub returns-in_ok-run_files-in-Run-clause-noted : goal.returns-in_ok-run_files-in-Run-clause-noted
-returns-in_ok-run_files-in-Run-clause-noted g c = subst (IsNoted _ _ _ _) (sym c.in-Run.is) c.in_ok-run_files-in-Run.ensures.ends
+returns-in_ok-run_files-in-Run-clause-noted g c = subst (IsNoted _ _ _ _ _ _ _) (sym c.in-Run.is) c.in_ok-run_files-in-Run.ensures.ends
 
 pub returns-in_ok-explain_files-in-Explain-clause-noted : goal.returns-in_ok-explain_files-in-Explain-clause-noted
-returns-in_ok-explain_files-in-Explain-clause-noted g c = subst (IsNoted _ _ _ _) (sym c.in-Explain.is) refl
+returns-in_ok-explain_files-in-Explain-clause-noted g c = subst (IsNoted _ _ _ _ _ _ _) (sym c.in-Explain.is) refl
 
 pub returns-in_ok-chart_files-in-Chart-clause-noted : goal.returns-in_ok-chart_files-in-Chart-clause-noted
-returns-in_ok-chart_files-in-Chart-clause-noted g c = subst (IsNoted _ _ _ _) (sym c.in-Chart.is) refl
+returns-in_ok-chart_files-in-Chart-clause-noted g c = subst (IsNoted _ _ _ _ _ _ _) (sym c.in-Chart.is) refl
 
 pub returns-in-Explore-clause-noted : goal.returns-in-Explore-clause-noted
-returns-in-Explore-clause-noted g c = explore_noted _ _ _ _ _ c.in-Explore.explore c.explored.result c.in-Explore.is
+returns-in-Explore-clause-noted g c = all_noted _ _ _ _ _ _ _ _ c.explored.result c.in-Explore.is c.explored.ensures.noted
 
 pub returns-in-Show-clause-noted : goal.returns-in-Show-clause-noted
-returns-in-Show-clause-noted g c = show_noted _ _ _ _ _ c.in-Show.show c.shown.result c.in-Show.is
+returns-in-Show-clause-noted g c = all_noted _ _ _ _ _ _ _ _ c.shown.result c.in-Show.is c.shown.ensures.noted
 
 pub returns-in-Check-clause-noted : goal.returns-in-Check-clause-noted
-returns-in-Check-clause-noted g c = check_noted _ _ _ _ _ c.in-Check.check c.checked.result c.in-Check.is c.checked.ensures.noted
+returns-in-Check-clause-noted g c = all_noted _ _ _ _ _ _ _ _ c.checked.result c.in-Check.is c.checked.ensures.noted

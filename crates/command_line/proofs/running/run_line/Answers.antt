@@ -6,7 +6,7 @@ use Rattle.clap.specs.declared.error.kind.ErrorKind.TheVariants.{ArgumentConflic
 use Rattle.command_files.specs.Held.{Held}
 use Rattle.command_line.proofs.Leaving.{either_of, not_both}
 use Rattle.command_line.proofs.Meant.{misused_early, some_states}
-use Rattle.command_line.specs.Running.{AreMisused, Came, HasNamed, HasNoted, IsHalfPrinted, IsCarriedOut, IsNotLegal, IsOutOfRange, IsUnprinted}
+use Rattle.command_line.specs.Running.{AreMisused, Came, HasNamed, HasNoted, IsHalfPrinted, IsCarriedOut, IsNotLegal, IsNoted, IsOutOfRange, IsUnprinted}
 use Rattle.command_line.specs.Telling.{HasToldFault}
 use Rattle.command_settings.specs.Refusals.{IsFitting, IsForHelp, IsHelp, IsRefused, IsUnfit}
 use Rattle.command_settings.specs.Settings.{AreConflicting, IsNamed}
@@ -60,13 +60,13 @@ returns-in-Ok-Allowed-clause-carried_out g c =
 
 pub returns-in-Ok-Allowed-clause-noted : goal.returns-in-Ok-Allowed-clause-noted
 unfolding HasNoted
-returns-in-Ok-Allowed-clause-noted g c = λ _. inr (c.in-Ok.wanted, c.in-Ok.ensures.named, c.in-Ok.ensures.fitting, c.in-Ok-Allowed.ensures.noted)
+returns-in-Ok-Allowed-clause-noted g c = λ _. inr (c.in-Ok.wanted, c.in-Ok.ensures.named, c.in-Ok.ensures.fitting, subst (λ j. IsNoted (g.F.Files.held c.args.files.now) (g.F.Files.held c.carry_out.new.files) (g.O.Write.contents c.args.out.now) (g.O.Write.contents c.carry_out.new.out) (g.E.Write.contents c.args.err.now) (g.E.Write.contents c.carry_out.new.err) j c.in-Ok.wanted) c.in-Ok-Allowed.field-0-is c.in-Ok-Allowed.ensures.noted)
 
 pub returns-in-Ok-NotAllowed-clause-noted : goal.returns-in-Ok-NotAllowed-clause-noted
 returns-in-Ok-NotAllowed-clause-noted g c = λ none. let bad : 3 ≡ 0 = none in cc
 
 pub returns-in-Ok-NotAllowed-clause-judged_noted : goal.returns-in-Ok-NotAllowed-clause-judged_noted
-returns-in-Ok-NotAllowed-clause-judged_noted g c = λ _. (c.in-Ok.wanted, c.in-Ok.ensures.named, c.in-Ok.ensures.fitting, c.in-Ok-NotAllowed.ensures.noted)
+returns-in-Ok-NotAllowed-clause-judged_noted g c = λ _. (c.in-Ok.wanted, c.in-Ok.ensures.named, c.in-Ok.ensures.fitting, subst (λ j. IsNoted (g.F.Files.held c.args.files.now) (g.F.Files.held c.carry_out.new.files) (g.O.Write.contents c.args.out.now) (g.O.Write.contents c.carry_out.new.out) (g.E.Write.contents c.args.err.now) (g.E.Write.contents c.carry_out.new.err) j c.in-Ok.wanted) c.in-Ok-NotAllowed.field-0-is c.in-Ok-NotAllowed.ensures.noted)
 
 pub returns-in-Ok-Allowed-clause-judged_noted : goal.returns-in-Ok-Allowed-clause-judged_noted
 returns-in-Ok-Allowed-clause-judged_noted g c = λ three. let bad : 0 ≡ 3 = three in cc
