@@ -3,6 +3,7 @@ use Rattle.std.specs.Prelude.{unwrap_or}
 use Rattle.trace_text.specs.Reading.{IsNoMemory}
 use Rattle.trace_text.specs.declared.fault.TextError.{TextError}
 use Rattle.trace_text.specs.declared.script.Script.{Script}
+use Rattle.command_files.proofs.NoScript.{no_script_told}
 use Rattle.command_files.proofs.reading.script_in.Goals as goal
 
 abbrev script_or : Script → Result Script TextError → Script
@@ -19,3 +20,8 @@ one_script r script other is only = ap (script_or script) (sym is ∙ only (subs
 pub returns-in-Ok-clause-only : goal.returns-in-Ok-clause-only
 returns-in-Ok-clause-only g c = λ other is held.
     one_script c.read_script.result c.in-Ok.script other c.in-Ok.is (c.read_script.ensures.only other is (c.as_slice.ensures.value ∙ held_bytes _ _ _ c.in_ok-bytes.ensures.bytes held))
+
+pub returns-clause-fault : goal.returns-clause-fault
+returns-clause-fault g c =
+    no_script_told (g.F.Files.held c.args.files.now) c.args.name c.in_ok-bytes.bytes.items c.read_script.result c.in-Err.error c.text.result c.in-Err.is c.in_ok-bytes.ensures.bytes
+    (λ s is_script e. c.read_script.ensures.only s is_script (c.as_slice.ensures.value ∙ e)) c.text.ensures.told c.text.ensures.memory
