@@ -1,5 +1,5 @@
 -- What a search under a memory model has told, written and judged.
-use Rattle.std.specs.Prelude.{◌≡◌, ◌≢◌, ◌⊎◌, ℕ, All, IfSome, List, Option, map, min}
+use Rattle.std.specs.Prelude.{◌≡◌, ◌≢◌, ◌≤◌, ◌⊎◌, ℕ, All, IfSome, List, Option, map, min}
 use Rattle.std.specs.Io.KnownBytes.{Appends}
 use Rattle.std.specs.List.Sorted.{IsStrictlySortedBy}
 use Rattle.std.specs.Ordering.{on}
@@ -27,15 +27,21 @@ use Rattle.show_command.specs.Asking.{HasProgram, HasUnshown}
 use Rattle.show_command.specs.Targets.{names_of}
 use Rattle.state_search.specs.declared.findings.Extent.TheVariants.{Complete, LimitMet}
 use Rattle.state_search.specs.declared.findings.Extent.TheVariants as extent
+use Rattle.window_machine.specs.Openings.{NeverOpens}
 use Rattle.window_machine.specs.declared.left_out.Reach.TheVariants as reach
 use Rattle.word_explorer.specs.Orders.{ending_cmp}
 
--- what is said to show an outcome does; where the machine's own search is complete, each of its outcomes is told as one of the machine, and each other as the model's alone; the outcomes stand in their order, each once; where that search met its limit it found as many states; unless memory ended it, each end among its states is told as the machine's; no window is wider than 64
+-- what is said to show an outcome does; where the machine's own search is complete, each of its outcomes is told as one of the machine, and each other as the model's alone;
+-- the search under the model finds no state only where a hart never comes from reset to an access or its end, or says that it left out more; each search finds no more states than the limit, and says where it met it;
+-- the outcomes stand in their order, each once; unless memory ended the machine's search, each end among its states is told as the machine's; the window told is the one asked for, 64 where that is more
 pub record IsFoundUnder (image : Initial) (config : Config) (addresses : List ℕ) (window limit : ℕ) (found : Architecture) : Type 0 where
   pub shown : All (IsWitnessed image config addresses) found.outcomes.items
   pub machine : found.machine ≡ Complete → TellsEachEnd image config addresses found.outcomes.items
   pub alone : found.machine ≡ Complete → All (λ o. IsDecided o.way) found.outcomes.items
+  pub opens : found.reach ≡ reach.Whole → found.states ≡ 0 → NeverOpens image config
+  pub bounded : found.reach ≢ reach.LimitMet → found.reach ≢ reach.OutOfMemory → found.states ≤ limit
   pub order : IsStrictlySortedBy (on end_of ending_cmp) found.outcomes.items
+  pub within : found.machine_states ≤ limit
   pub full : found.machine ≡ LimitMet → found.machine_states ≡ limit
   pub model : found.model ≡ config.model
   pub visited : (states : List Flat) × AreMachineStates image config addresses found.machine found.machine_states (TellsEnd found.outcomes.items) states

@@ -44,7 +44,7 @@ returns-in_err-print-clause-unfinished g c =
     handed_up _ c.from_residual-in_err-print.result _ c.from_residual-in_err-print.ensures.1
     (output_left _ _ _ _ c.in_err-print.ensures.told
     (has held c.args.wanted c.args.words.now c.args.window asked.config asked.image c.deref.result.now _ c.in-Ok.architecture c.in_ok-config.ensures.config program c.in_ok-config.ensures.names
-    (record { shown = found.shown; machine = found.machine; alone = found.alone; order = found.order; full = found.full; model = found.model; visited = found.visited; window_is = found.window })
+    (record { shown = found.shown; machine = found.machine; alone = found.alone; opens = found.opens; bounded = found.bounded; order = found.order; within = found.within; full = found.full; model = found.model; visited = found.visited; window_is = found.window })
     _ c.in_err-print.ensures.begun))
 
 pub returns-in_err-print-clause-spared : goal.returns-in_err-print-clause-spared
@@ -60,7 +60,7 @@ returns-in_err-keep-clause-unfinished g c =
     let found = c.in-Ok.ensures in
     let program = subst (λ (a : List ℕ). HasProgram held c.args.wanted c.args.words.now asked.image a) (sym c.deref.ensures.value) c.in_ok-config.ensures.program in
     let has_text = has held c.args.wanted c.args.words.now c.args.window asked.config asked.image c.deref.result.now _ c.in-Ok.architecture c.in_ok-config.ensures.config program c.in_ok-config.ensures.names
-    (record { shown = found.shown; machine = found.machine; alone = found.alone; order = found.order; full = found.full; model = found.model; visited = found.visited; window_is = found.window }) in
+    (record { shown = found.shown; machine = found.machine; alone = found.alone; opens = found.opens; bounded = found.bounded; order = found.order; within = found.within; full = found.full; model = found.model; visited = found.visited; window_is = found.window }) in
     handed_up _ c.from_residual-in_err-keep.result _ c.from_residual-in_err-keep.ensures.1
     (folder_left c.args.wanted _ _ _ _ c.in_err-keep.ensures.told (has_text _ (all_of _ _ _ c.in_ok-print.ensures.printed)) (has_text _ c.in_ok-print.ensures.printed))
 
@@ -79,7 +79,7 @@ returns-in_err-tell-clause-unfinished g c =
     handed_up _ c.from_residual-in_err-tell.result _ c.from_residual-in_err-tell.ensures.1
     (memory_left _ _ _ _ c.in_err-tell.ensures.told
     (has held c.args.wanted c.args.words.now c.args.window asked.config asked.image c.deref.result.now _ c.in-Ok.architecture c.in_ok-config.ensures.config program c.in_ok-config.ensures.names
-    (record { shown = found.shown; machine = found.machine; alone = found.alone; order = found.order; full = found.full; model = found.model; visited = found.visited; window_is = found.window })
+    (record { shown = found.shown; machine = found.machine; alone = found.alone; opens = found.opens; bounded = found.bounded; order = found.order; within = found.within; full = found.full; model = found.model; visited = found.visited; window_is = found.window })
     _ (all_of _ _ _ c.in_ok-print.ensures.printed)))
 
 pub returns-in_err-tell-clause-spared : goal.returns-in_err-tell-clause-spared
@@ -94,7 +94,7 @@ returns-clause-searched g c =
     ok_more _ _ c.judge.result
     (λ judgement is.
     whole held c.args.wanted c.args.words.now c.args.window asked.config asked.image c.deref.result.now _ c.in-Ok.architecture c.in_ok-config.ensures.config program c.in_ok-config.ensures.names
-    (record { shown = found.shown; machine = found.machine; alone = found.alone; order = found.order; full = found.full; model = found.model; visited = found.visited; window_is = found.window })
+    (record { shown = found.shown; machine = found.machine; alone = found.alone; opens = found.opens; bounded = found.bounded; order = found.order; within = found.within; full = found.full; model = found.model; visited = found.visited; window_is = found.window })
     _ _ (g.F.Files.held c.keep.new.files) judgement _ c.in_ok-print.ensures.printed c.in_ok-keep.ensures.kept (spared_after _ _ _ _ c.in_ok-config.ensures.stays c.keep.ensures.spared) c.in_ok-config.ensures.allowed is.0 is.1)
     (ok_both _ _ c.judge.result c.judge.ensures.judged c.judge.ensures.whole)
 
@@ -110,7 +110,7 @@ returns-clause-unfinished g c =
     err_more _ _ c.judge.result
     (λ fault is. memory_left fault _ _ _ is
     (has held c.args.wanted c.args.words.now c.args.window asked.config asked.image c.deref.result.now _ c.in-Ok.architecture c.in_ok-config.ensures.config program c.in_ok-config.ensures.names
-    (record { shown = found.shown; machine = found.machine; alone = found.alone; order = found.order; full = found.full; model = found.model; visited = found.visited; window_is = found.window })
+    (record { shown = found.shown; machine = found.machine; alone = found.alone; opens = found.opens; bounded = found.bounded; order = found.order; within = found.within; full = found.full; model = found.model; visited = found.visited; window_is = found.window })
     _ (all_of _ _ _ c.in_ok-print.ensures.printed)))
     c.judge.ensures.told
 
@@ -160,6 +160,6 @@ returns-clause-noted g c =
     ok_more _ _ c.judge.result
     (λ judgement so.
     noted held c.args.wanted c.args.words.now c.args.window asked.config asked.image c.deref.result.now _ c.in-Ok.architecture c.in_ok-config.ensures.config program c.in_ok-config.ensures.names
-    (record { shown = found.shown; machine = found.machine; alone = found.alone; order = found.order; full = found.full; model = found.model; visited = found.visited; window_is = found.window })
+    (record { shown = found.shown; machine = found.machine; alone = found.alone; opens = found.opens; bounded = found.bounded; order = found.order; within = found.within; full = found.full; model = found.model; visited = found.visited; window_is = found.window })
     _ _ (g.E.Write.contents c.args.err.now) (g.E.Write.contents c.tell.new.err) (g.E.Write.contents c.judge.new.err) judgement _ c.in_ok-print.ensures.printed remarked c.in_ok-config.ensures.allowed so)
     c.judge.ensures.noted
