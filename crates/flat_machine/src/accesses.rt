@@ -4,7 +4,7 @@ ghost use Rattle.flat_machine.specs.Accesses.{fetched_of};
 ghost use Rattle.flat_machine.specs.Memories as memory_spec;
 ghost use Rattle.flat_machine.specs.Plans.{meant};
 ghost use Rattle.flat_model.specs.Steps as spec;
-ghost use Rattle.rv32_exec.specs.Width.{bytes_of};
+ghost use Rattle.rv32_exec.specs.Width.{byte_count};
 
 use crate::memory::Memory;
 use crate::node::Node;
@@ -57,8 +57,8 @@ pub(crate) fn plan_load(
     address: u32,
     width: Width,
 ) -> Plan
-    requires aligned { address % bytes_of width ≡ 0 }
-    ensures { meant result ≡ spec.plan_load (memory_spec.bytes_of memory.now) node.now (fetched_of fetched.now) address (bytes_of width) }
+    requires aligned { address % byte_count width ≡ 0 }
+    ensures { meant result ≡ spec.plan_load (memory_spec.bytes_of memory.now) node.now (fetched_of fetched.now) address (byte_count width) }
 {
     let word = word_of(address);
     let (marks, waiting) = node.buffer.forward(word);
@@ -78,9 +78,9 @@ pub(crate) fn plan_store(
     width: Width,
     value: u32,
 ) -> Plan
-    requires aligned { address % bytes_of width ≡ 0 }
-    requires fits { value < 2 ^ (8 * bytes_of width) }
-    ensures { meant result ≡ spec.plan_store node.now (fetched_of fetched.now) address (bytes_of width) value }
+    requires aligned { address % byte_count width ≡ 0 }
+    requires fits { value < 2 ^ (8 * byte_count width) }
+    ensures { meant result ≡ spec.plan_store node.now (fetched_of fetched.now) address (byte_count width) value }
 {
     if node.buffer.fits(word_of(address)) {
         let store = store_of(address, width, value, 0);

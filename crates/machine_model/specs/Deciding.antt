@@ -1,4 +1,4 @@
--- What every kind of event shares when it is decided: fetched instructions, misses.
+-- What every kind of event shares when it is decided: which copy an access needs, and the miss where it isn't held.
 use Rattle.std.specs.Prelude.{ℕ, Option, Some, None}
 use Rattle.client_cache.specs.Cache.{Cache, copy_at, wanted}
 use Rattle.client_cache.specs.Held.{bytes_in}

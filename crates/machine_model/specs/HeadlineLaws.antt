@@ -4,6 +4,6 @@ use Rattle.machine_model.specs.Laws.{Always}
 use Rattle.memory_model.specs.Legal.{keeps_atomicity}
 use Rattle.memory_model.specs.Traces.{completed, instructions, operations_at}
 
--- between the store that an LR returned and the SC paired with it, the completed order has no other hart's store to their word
+-- behind the store that an LR returned and before the SC paired with it, the completed order has no other hart's store to a byte of their word
 abbrev pub AtomicityAlways : Type 0
 AtomicityAlways = Always (λ image config s. IsTrue (keeps_atomicity (instructions s.trace) (operations_at (instructions s.trace) (completed s.trace))))

@@ -1,5 +1,5 @@
 -- What a hart's next instruction comes to: each check in its order, and then the act.
--- RISC-V Unprivileged ISA 20191213: FENCE 2.7, ECALL 2.8, LR and SC 8.2, AMOs 8.4, Ztso 23. The rules of the store buffer are this machine's own: what RVWMO asks of them is chapter 14.1.
+-- RISC-V Unprivileged ISA 20191213: FENCE 2.7, ECALL 2.8, the ordering bits 8.1, LR and SC 8.2, AMOs 8.4, Ztso 23. The rules of the store buffer are this machine's own: what RVWMO asks of them is chapter 14.1.
 use Rattle.std.specs.Prelude.{ℕ, ◌%◌, Bool, true, false, ◌&&◌, ◌||◌, not, ◌==◌, if◌then◌else◌, Option, Some, None}
 use Rattle.elf_loader.specs.Image.{Initial, word_at}
 use Rattle.hart.specs.Run.{is_running, next_stop}

@@ -12,7 +12,7 @@ use Rattle.rv32_decode.specs.declared.instruction.StoreOp.TheVariants as store
 use Rattle.rv32_decode.specs.declared.instruction.SystemOp.TheVariants.{Ecall, Ebreak}
 use Rattle.rv32_exec.specs.Meaning.{Access, Private, Loads, Stores, DoesLr, DoesSc, DoesAmo, Fences, Calls, access_of, stop_of}
 use Rattle.rv32_exec.specs.Actions.{action_of_access, planned, stop_or, width_of}
-use Rattle.rv32_exec.specs.Width.{bytes_of}
+use Rattle.rv32_exec.specs.Width.{byte_count}
 use Rattle.rv32_exec.specs.declared.actions.Action.{Action}
 use Rattle.rv32_exec.specs.declared.actions.Action.TheVariants as action
 
@@ -22,8 +22,8 @@ Goes stop found wanted = (stop ≡ None) × (found ≡ wanted)
 
 abbrev pub Found : (stop : Option ℕ) → Access → Action → Type 0
 Found stop a action.Private = Goes stop a Private
-Found stop a (action.Load address width) = Goes stop a (Loads address (bytes_of width))
-Found stop a (action.Store address width value) = Goes stop a (Stores address (bytes_of width) value)
+Found stop a (action.Load address width) = Goes stop a (Loads address (byte_count width))
+Found stop a (action.Store address width value) = Goes stop a (Stores address (byte_count width) value)
 Found stop a (action.Lr address) = Goes stop a (DoesLr address)
 Found stop a (action.Sc address value) = Goes stop a (DoesSc address value)
 Found stop a (action.Amo address op operand) = Goes stop a (DoesAmo address op operand)
@@ -33,8 +33,8 @@ Found stop a (action.Stop code) = stop ≡ Some code
 
 -- loads and stores are of 1, 2 or 4 bytes
 abbrev IsOfWidth : Access → Type 0
-IsOfWidth (Loads address bytes) = bytes_of (width_of bytes) ≡ bytes
-IsOfWidth (Stores address bytes value) = bytes_of (width_of bytes) ≡ bytes
+IsOfWidth (Loads address bytes) = byte_count (width_of bytes) ≡ bytes
+IsOfWidth (Stores address bytes value) = byte_count (width_of bytes) ≡ bytes
 IsOfWidth Private = Unit {0}
 IsOfWidth (DoesLr address) = Unit {0}
 IsOfWidth (DoesSc address value) = Unit {0}

@@ -2,7 +2,7 @@
 ghost use Rattle.std.specs.Prelude.{◌≡◌, ◌<◌, ◌≤◌, ◌+◌, ◌*◌, ◌%◌, ◌/◌, ◌^◌};
 ghost use Rattle.machine_model.specs.Views.{line_of};
 ghost use Rattle.machine_model.specs.Words.{word_of, word_in, read_from, store_of};
-ghost use Rattle.rv32_exec.specs.Width.{bytes_of};
+ghost use Rattle.rv32_exec.specs.Width.{byte_count};
 ghost use Rattle.store_buffer.specs.ByteMask.{marks_of_access};
 
 use rv32_exec::Width;
@@ -52,15 +52,15 @@ pub(crate) fn word_in(line: &LineData, word: u32) -> [u8; 4]
 
 /// The bytes of an access in its word, as marks: the lowest address first.
 pub fn marks_of(address: u32, size: Width) -> ByteMask
-    requires aligned { address % bytes_of size ≡ 0 }
-    ensures { result ≡ marks_of_access (address % 4) (bytes_of size) }
+    requires aligned { address % byte_count size ≡ 0 }
+    ensures { result ≡ marks_of_access (address % 4) (byte_count size) }
 {
     ByteMask::of_access(address % 4, size.bytes())
 }
 
 /// The number that an access reads, where the bytes of its word are these.
 pub fn read_from(word: [u8; 4], address: u32, size: Width) -> u32
-    ensures { result ≡ read_from word address (bytes_of size) }
+    ensures { result ≡ read_from word address (byte_count size) }
 {
     let number = u32::from_le_bytes(word) >> (8 * (address % 4));
     match size {
@@ -72,9 +72,9 @@ pub fn read_from(word: [u8; 4], address: u32, size: Width) -> u32
 
 /// A store of a number, by the entry at this place of its hart's list.
 pub fn store_of(address: u32, size: Width, value: u32, op: u32) -> Store
-    requires aligned { address % bytes_of size ≡ 0 }
-    requires fits { value < 2 ^ (8 * bytes_of size) }
-    ensures { result ≡ store_of address (bytes_of size) value op }
+    requires aligned { address % byte_count size ≡ 0 }
+    requires fits { value < 2 ^ (8 * byte_count size) }
+    ensures { result ≡ store_of address (byte_count size) value op }
 {
     Store {
         word: word_of(address),

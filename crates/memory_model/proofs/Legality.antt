@@ -6,7 +6,7 @@ use Rattle.std.proofs.lemmas.List.Elements.{recursion_from_All}
 use Rattle.std.specs.Prelude.{IsFalse, nat_eq}
 use Rattle.memory_model.specs.declared.MemoryModel.TheVariants.{Rvwmo, Ztso}
 use Rattle.memory_model.specs.declared.operation.Operation.{Operation}
-use Rattle.memory_model.specs.Operations.{same, precedes, reads, bytes_of, read_at, stores_to, is_amo, writes}
+use Rattle.memory_model.specs.Operations.{same, precedes, reads, addresses_of, read_at, stores_to, is_amo, writes}
 use Rattle.memory_model.specs.Order.{in_order, none_must_precede, candidates, source, last_of, byte_from}
 use Rattle.memory_model.specs.Items.{Item}
 use Rattle.memory_model.specs.Rules.{Rule, rules, preserved, items_of}
@@ -114,7 +114,7 @@ read_right false b e h = absurd (false≢true h)
 pub unwritten_byte_is_images : UnwrittenByteIsImages
 unwritten_byte_is_images model image harts order load x legal there reading byte none =
     let right : returns_sources image order load ≡ true = Each-at (λ a. returns_sources image order a ≡ true) load order (Each-from_list_all (returns_sources image order) order legal.load_values) (Member-from_Contains order load there) in
-    let bytes = Each-from_list_all (λ y. nat_eq (read_at load y) (byte_from image y (source order load y))) (bytes_of load) (read_right (reads load.kind) (list_all (λ y. nat_eq (read_at load y) (byte_from image y (source order load y))) (bytes_of load)) right reading) in
-    let here : nat_eq (read_at load x) (byte_from image x (source order load x)) ≡ true = Each-at (λ y. nat_eq (read_at load y) (byte_from image y (source order load y)) ≡ true) x (bytes_of load) bytes (Member-from_Contains (bytes_of load) x byte) in
+    let bytes = Each-from_list_all (λ y. nat_eq (read_at load y) (byte_from image y (source order load y))) (addresses_of load) (read_right (reads load.kind) (list_all (λ y. nat_eq (read_at load y) (byte_from image y (source order load y))) (addresses_of load)) right reading) in
+    let here : nat_eq (read_at load x) (byte_from image x (source order load x)) ≡ true = Each-at (λ y. nat_eq (read_at load y) (byte_from image y (source order load y)) ≡ true) x (addresses_of load) bytes (Member-from_Contains (addresses_of load) x byte) in
     let empty : candidates order load x ≡ [] = no_candidates order load x (recursion_from_All (λ s. IsFalse (stores_to x s)) order none) in
     eqb-true _ _ here ∙ ap (λ v. byte_from image x (last_of v)) empty

@@ -8,7 +8,7 @@ use Rattle.trace_recorder.specs.declared.operation.OpId.{OpId}
 use Rattle.memory_model.specs.declared.MemoryModel.{MemoryModel}
 use Rattle.memory_model.specs.declared.MemoryModel.TheVariants.{Rvwmo, Ztso}
 use Rattle.memory_model.specs.declared.operation.Operation.{Operation}
-use Rattle.memory_model.specs.Operations.{precedes, reads, bytes_of, read_at, stores_to}
+use Rattle.memory_model.specs.Operations.{precedes, reads, addresses_of, read_at, stores_to}
 use Rattle.memory_model.specs.Order.{Respects, in_order, last_visible, source}
 use Rattle.memory_model.specs.Items.{Item, has_operation, item_of}
 use Rattle.memory_model.specs.Rules.{preserved}
@@ -71,6 +71,6 @@ UnwrittenByteIsImages =
     → IsLegal model image harts order
     → Contains order load
     → IsTrue (reads load.kind)
-    → Contains (bytes_of load) x
+    → Contains (addresses_of load) x
     → All (λ s. IsFalse (stores_to x s)) order
     → read_at load x ≡ image x

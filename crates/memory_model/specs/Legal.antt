@@ -4,7 +4,7 @@ use Rattle.std.specs.Prelude.{ℕ, Bool, ◌&&◌, ◌||◌, not, ◌==◌, if�
 use Rattle.std.specs.List.{list_any, list_all}
 use Rattle.memory_model.specs.declared.MemoryModel.{MemoryModel}
 use Rattle.memory_model.specs.declared.operation.Operation.{Operation}
-use Rattle.memory_model.specs.Operations.{reads, same, bytes_of, stores_to, read_at}
+use Rattle.memory_model.specs.Operations.{reads, same, addresses_of, stores_to, read_at}
 use Rattle.memory_model.specs.Order.{in_order, source, byte_from}
 use Rattle.memory_model.specs.Items.{Item}
 use Rattle.memory_model.specs.Rules.{items_of, paired, preserved}
@@ -17,7 +17,7 @@ keeps_preserved_order model harts order = in_order (preserved model harts order)
 -- ---- 2, load value axiom: each byte that a load returned is the byte of its source
 
 abbrev pub returns_sources : (ℕ → ℕ) → List Operation → Operation → Bool
-returns_sources image order a = not (reads a.kind) || list_all (λ x. read_at a x == byte_from image x (source order a x)) (bytes_of a)
+returns_sources image order a = not (reads a.kind) || list_all (λ x. read_at a x == byte_from image x (source order a x)) (addresses_of a)
 
 abbrev pub keeps_load_values : (ℕ → ℕ) → List Operation → Bool
 keeps_load_values image order = list_all (returns_sources image order) order
@@ -43,7 +43,7 @@ is_atomic_at order r w x =
 
 -- at each byte of r
 abbrev pub is_atomic : List Operation → Operation → Operation → Bool
-is_atomic order r w = list_all (is_atomic_at order r w) (bytes_of r)
+is_atomic order r w = list_all (is_atomic_at order r w) (addresses_of r)
 
 -- for each pair of an LR r and a successful SC w
 abbrev pub keeps_atomicity : List (List Item) → List Operation → Bool

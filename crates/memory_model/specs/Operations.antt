@@ -45,8 +45,8 @@ abbrev pub precedes : Operation → Operation → Bool
 precedes a b = a.hart == b.hart && nat_lt a.place b.place
 
 -- the addresses of an operation's bytes
-abbrev pub bytes_of : Operation → List ℕ
-bytes_of a = range_with_len a.address a.size
+abbrev pub addresses_of : Operation → List ℕ
+addresses_of a = range_with_len a.address a.size
 
 -- x is the address of one of its bytes
 abbrev pub touches : ℕ → Operation → Bool
@@ -60,7 +60,8 @@ stores_to x a = writes a.kind && touches x a
 abbrev pub overlap : Operation → Operation → Bool
 overlap a b = nat_lt a.address (b.address + b.size) && nat_lt b.address (a.address + a.size)
 
--- the byte at x of a number that lies at an address, little endian (chapter 2.6)
+-- the byte at x of a number that lies at an address: the least significant first (chapter 2.6 leaves the order of bytes to
+-- the machine; this one is little endian)
 abbrev pub byte_at : ℕ → ℕ → ℕ → ℕ
 byte_at address number x = number / 256 ^ (x - address) % 256
 

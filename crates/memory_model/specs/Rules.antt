@@ -9,7 +9,7 @@ use Rattle.rv32_decode.specs.declared.instruction.Instr.TheVariants as instr
 use Rattle.memory_model.specs.declared.MemoryModel.{MemoryModel}
 use Rattle.memory_model.specs.declared.operation.Kind.{Kind}
 use Rattle.memory_model.specs.declared.operation.Operation.{Operation}
-use Rattle.memory_model.specs.Operations.{reads, writes, is_lr, is_sc, is_amo, precedes, bytes_of, touches, stores_to, overlap, has_acquire, has_release, has_rcsc}
+use Rattle.memory_model.specs.Operations.{reads, writes, is_lr, is_sc, is_amo, precedes, addresses_of, touches, stores_to, overlap, has_acquire, has_release, has_rcsc}
 use Rattle.memory_model.specs.Order.{source, same_source}
 use Rattle.memory_model.specs.Items.{Item}
 use Rattle.memory_model.specs.Dependencies.{between, has_address_dependency, has_data_dependency, has_control_dependency, has_dependent_address_between}
@@ -56,7 +56,7 @@ has_store_to x (Some m) = stores_to x m
 
 -- b returns a value written by a
 abbrev pub returns_from : List Operation → Operation → Operation → Bool
-returns_from order b a = list_any (λ x. same_source (source order b x) (Some a)) (bytes_of b)
+returns_from order b a = list_any (λ x. same_source (source order b x) (Some a)) (addresses_of b)
 
 -- ---- the rules, of the instructions of their hart and the order, as far as they ask for these
 
@@ -72,7 +72,7 @@ are_from_different_writes items order a b x =
     && not (same_source (source order a x) (source order b x))
 
 abbrev pub rule_2 : List Item → List Operation → (a b : Operation) → Bool
-rule_2 items order a b = reads a.kind && reads b.kind && list_any (are_from_different_writes items order a b) (bytes_of a)
+rule_2 items order a b = reads a.kind && reads b.kind && list_any (are_from_different_writes items order a b) (addresses_of a)
 
 -- 3: a is of an AMO or an SC, and b is a load that returns a value written by a
 abbrev pub rule_3 : List Operation → (a b : Operation) → Bool

@@ -1,4 +1,4 @@
--- What an environment call asks for.
+-- What an environment call asks for. The manual leaves that to the environment (chapter 2.8): these calls are this machine's own.
 use Rattle.std.specs.Prelude.{ℕ, List, Option, Some, None, slice_index}
 use Rattle.rv32_exec.specs.Meaning.{Access, Calls}
 use Rattle.rv32_exec.specs.declared.call.Call.{Call}

@@ -1,4 +1,4 @@
--- Which registers an instruction reads, and for what, and which it writes, as dependencies count them (RISC-V Unprivileged ISA 20191213, chapter 14.1, "Syntactic Dependencies").
+-- Which registers an instruction reads, and for what, and which it writes, as dependencies count them (RISC-V Unprivileged ISA 20191213, chapters 14.1, "Syntactic Dependencies", and 14.3).
 -- x0, FENCE, ECALL and EBREAK take no part.
 use Rattle.std.specs.Prelude.{ℕ, ◌==◌, if◌then◌else◌, List, [], ◌∷◌, ◌++◌, Option, Some, None}
 use Rattle.rv32_decode.specs.declared.instruction.Instr.{Instr}

@@ -3,7 +3,7 @@ use Rattle.std.specs.Prelude.{ℕ}
 use Rattle.rv32_exec.specs.declared.actions.Width.{Width}
 use Rattle.rv32_exec.specs.declared.actions.Width.TheVariants.{Byte, Half, Word}
 
-abbrev pub bytes_of : Width → ℕ
-bytes_of Byte = 1
-bytes_of Half = 2
-bytes_of Word = 4
+abbrev pub byte_count : Width → ℕ
+byte_count Byte = 1
+byte_count Half = 2
+byte_count Word = 4

@@ -2,7 +2,7 @@
 
 ghost use Rattle.std.specs.Prelude.{◌≡◌};
 ghost use Rattle.rv32_exec.specs.Actions.{addressed};
-ghost use Rattle.rv32_exec.specs.Width.{bytes_of};
+ghost use Rattle.rv32_exec.specs.Width.{byte_count};
 
 use rv32_decode::AmoOp;
 
@@ -17,7 +17,7 @@ pub enum Width {
 impl Width {
     /// 1, 2 or 4.
     pub fn bytes(self) -> u32
-        ensures { result ≡ bytes_of self }
+        ensures { result ≡ byte_count self }
     {
         match self {
             Width::Byte => 1,

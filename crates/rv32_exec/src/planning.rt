@@ -6,7 +6,7 @@ ghost use Rattle.rv32_exec.specs.Meaning.{Loads, Stores, access_stop, stop_of_ta
 ghost use Rattle.rv32_exec.specs.Meaning as spec;
 ghost use Rattle.rv32_exec.specs.Memory.{IsMemorySize};
 ghost use Rattle.rv32_exec.specs.Actions.{width_of, action_of_access, action_of, stop_or, planned};
-ghost use Rattle.rv32_exec.specs.Width.{bytes_of};
+ghost use Rattle.rv32_exec.specs.Width.{byte_count};
 
 use crate::actions::{Action, Width};
 use crate::arithmetic::is_taken;
@@ -111,7 +111,7 @@ fn plan_store(op: StoreOp, addr: u32, register: u32, memory_size: u32) -> Action
 fn store(addr: u32, size: Width, value: u32, memory_size: u32) -> Action
     requires { IsMemorySize memory_size }
     ensures { result
-        ≡ stop_or (access_stop 6 7 memory_size addr (bytes_of size)) (Action.Store addr size value) }
+        ≡ stop_or (access_stop 6 7 memory_size addr (byte_count size)) (Action.Store addr size value) }
 {
     plan_write(addr, size, memory_size, Action::Store { addr, size, value })
 }
@@ -119,7 +119,7 @@ fn store(addr: u32, size: Width, value: u32, memory_size: u32) -> Action
 // A write of this size at this address, or why it can't be done in place of its plan.
 fn plan_write(addr: u32, size: Width, memory_size: u32, plan: Action) -> Action
     requires { IsMemorySize memory_size }
-    ensures { result ≡ stop_or (access_stop 6 7 memory_size addr (bytes_of size)) plan }
+    ensures { result ≡ stop_or (access_stop 6 7 memory_size addr (byte_count size)) plan }
 {
     if addr % size.bytes() != 0 {
         Action::Stop(stop::STORE_MISALIGNED)
@@ -134,13 +134,13 @@ fn plan_write(addr: u32, size: Width, memory_size: u32, plan: Action) -> Action
 // the first byte decides.
 fn is_outside(addr: u32, memory_size: u32) -> bool
     requires { IsMemorySize memory_size }
-    ensures { (size : Width) → addr % bytes_of size ≡ 0 → result ≡ spec.is_outside memory_size addr (bytes_of size) }
+    ensures { (size : Width) → addr % byte_count size ≡ 0 → result ≡ spec.is_outside memory_size addr (byte_count size) }
 {
     addr.wrapping_sub(BASE) >= memory_size
 }
 
 fn load_width(op: LoadOp) -> Width
-    ensures bytes { bytes_of result ≡ bytes_loaded op }
+    ensures bytes { byte_count result ≡ bytes_loaded op }
     ensures width { result ≡ width_of (bytes_loaded op) }
 {
     match op {

@@ -1,5 +1,5 @@
 //! Which registers an instruction reads, and for what, and which it writes (RISC-V Unprivileged ISA 20191213,
-//! chapter 14.1, "Syntactic Dependencies"). x0 is never one of them, since nothing comes from it.
+//! chapters 14.1, "Syntactic Dependencies", and 14.3). x0 is never one of them, since nothing comes from it.
 ghost use Rattle.std.specs.Prelude.{◌≡◌, ◌++◌};
 ghost use Rattle.rv32_exec.specs.Uses.{named, registers_in, uses_of};
 

@@ -10,7 +10,7 @@ use Rattle.memory_model.specs.declared.MemoryModel.{MemoryModel}
 use Rattle.memory_model.specs.declared.operation.Operation.{Operation}
 use Rattle.memory_model.specs.Dependencies.{between, has_address_dependency, has_control_dependency, has_data_dependency, has_dependent_address_between, instr_in, uses_in}
 use Rattle.memory_model.specs.Items.{Item}
-use Rattle.memory_model.specs.Operations.{bytes_of, has_rcsc, has_release, is_amo, is_sc, is_lr, overlap, precedes, reads, same, stores_to, touches, writes}
+use Rattle.memory_model.specs.Operations.{addresses_of, has_rcsc, has_release, is_amo, is_sc, is_lr, overlap, precedes, reads, same, stores_to, touches, writes}
 use Rattle.memory_model.specs.Order.{candidates, position_in, same_source, source}
 use Rattle.memory_model.specs.Rules.{are_from_different_writes, asked_by, has_store_to, is_lr_or_sc, items_of, passes_on, returns_from}
 use Rattle.memory_model.proofs.Forms.{same-self, same-swap}
@@ -232,7 +232,7 @@ bounded_by model harts order weights rows a b w r OverlappingStore h m e t =
     let weighs = e.weighs in
     omega (arith, kept, row, come, weighs)
 bounded_by model harts order weights rows a b w r SameByteLoads h m e t =
-    let p = three (reads a.kind) (reads b.kind) (list_any (are_from_different_writes (items_of harts b.hart) order a b) (bytes_of a)) t in
+    let p = three (reads a.kind) (reads b.kind) (list_any (are_from_different_writes (items_of harts b.hart) order a b) (addresses_of a)) t in
     let byte = byte_from (are_from_different_writes (items_of harts b.hart) order a b) a.address a.size p.2 in
     let x : ℕ = byte.x in
     let q = three (touches x b) (not (list_any (λ (m : Item). has_store_to x m.operation) (between (items_of harts b.hart) a b))) (not (same_source (source order a x) (source order b x))) byte.passes in

@@ -12,7 +12,7 @@ use Rattle.memory_model.specs.declared.MemoryModel.{MemoryModel}
 use Rattle.memory_model.specs.declared.operation.Operation.{Operation}
 use Rattle.memory_model.specs.Dependencies.{between, has_control_dependency, has_dependent_address_between, holds, sources, uses_at, uses_in, with_flags}
 use Rattle.memory_model.specs.Items.{Item}
-use Rattle.memory_model.specs.Operations.{bytes_of, precedes, writes}
+use Rattle.memory_model.specs.Operations.{addresses_of, precedes, writes}
 use Rattle.rvwmo_order.specs.Codes.{rule_of}
 use Rattle.rvwmo_order.specs.Marks.{IsBelow, TellsEach, is_source_among, sources_of, asked_at, asked_before, flagged, flags_before, flags_from, is_swept, is_told}
 use Rattle.memory_model.specs.Order.{same_source, source}
@@ -178,7 +178,7 @@ any_mapped p f (x ∷ rest) = ap (λ (b : Bool). p (f x) || b) (any_mapped p f r
 -- by b's sources a store is one whose value b returns
 among_returned : (order : List Operation) (b : Operation) (o : Option Operation) → is_source_among (sources_of DependentStore order b) o ≡ is_returned order b o
 among_returned order b None = refl
-among_returned order b (Some s) = ap (λ (c : Bool). writes s.kind && c) (any_mapped (λ store. same_source store (Some s)) (λ x. source order b x) (bytes_of b))
+among_returned order b (Some s) = ap (λ (c : Bool). writes s.kind && c) (any_mapped (λ store. same_source store (Some s)) (λ x. source order b x) (addresses_of b))
 
 asked_passing : (order : List Operation) (b : Operation) (m : Item) → asked_before DependentStore (sources_of DependentStore order b) m ≡ passing order b m
 asked_passing order b m = ap (λ (c : Bool). cond c ((uses_in m.instr).address ++ (uses_in m.instr).stored) []) (among_returned order b m.operation)

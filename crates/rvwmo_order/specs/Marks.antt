@@ -6,7 +6,7 @@ use Rattle.memory_model.specs.declared.MemoryModel.{MemoryModel}
 use Rattle.memory_model.specs.declared.operation.Operation.{Operation}
 use Rattle.memory_model.specs.Dependencies.{holds, sources, uses_in, with_flags}
 use Rattle.memory_model.specs.Items.{Item}
-use Rattle.memory_model.specs.Operations.{bytes_of, precedes, reads, writes}
+use Rattle.memory_model.specs.Operations.{addresses_of, precedes, reads, writes}
 use Rattle.memory_model.specs.Order.{same_source, source}
 use Rattle.rvwmo_order.specs.Codes.{rule_of}
 use Rattle.rvwmo_order.specs.Sweeps.{addressing, steering}
@@ -39,7 +39,7 @@ asked_at _ u = []
 
 -- the stores that the bytes of b come from, where the rule asks for them
 abbrev pub sources_of : Rule → List Operation → Operation → List (Option Operation)
-sources_of DependentStore order b = map (λ x. source order b x) (bytes_of b)
+sources_of DependentStore order b = map (λ x. source order b x) (addresses_of b)
 sources_of _ order b = []
 
 -- one of these sources is the operation, and it is a store

@@ -117,7 +117,7 @@ fn returns_sources(image: &Image, index: &Ranking, a: &Operation) -> bool
 
 fn has_source_bytes(image: &Image, index: &Ranking, a: &Operation) -> bool
     ensures { result
-        ≡ list_all (λ x. operations.read_at a.now x == orders.byte_from (byte_at image.now) x (orders.source index.now a.now x)) (operations.bytes_of a.now) }
+        ≡ list_all (λ x. operations.read_at a.now x == orders.byte_from (byte_at image.now) x (orders.source index.now a.now x)) (operations.addresses_of a.now) }
 {
     let position = index.position_of(a);
     let ranks = index.ranks_of(position, a);

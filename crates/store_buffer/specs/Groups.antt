@@ -1,6 +1,6 @@
 -- A hart's store buffer as groups of entries. Stores of one group may be performed in any order, but for those to one
 -- word; a group is performed before each newer one (RISC-V Unprivileged ISA 20191213, section 14.1, "Preserved
--- Program Order", rules 1 and 4).
+-- Program Order", rules 1, 4 and 6).
 use Rattle.std.specs.Prelude.{◌≡◌, ℕ, ◌+◌, ◌≤◌, Bool, true, false, ◌&&◌, ◌||◌, not, List, [], ◌∷◌, ◌++◌, length, Option, Some, None, is_some, unwrap_or, nat_lt, if◌then◌else◌}
 use Rattle.std.specs.List.{AllByRecursion as Each}
 use Rattle.machine_limits.specs.declared.TheConstants.{BUFFER_ENTRIES}

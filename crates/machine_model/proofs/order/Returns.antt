@@ -30,7 +30,7 @@ use Rattle.machine_model.proofs.order.Whole.{missing, waiting_at, part_is, tail_
 use Rattle.memory_model.specs.declared.operation.Kind.TheVariants.{Store}
 use Rattle.memory_model.specs.declared.operation.Operation.{Operation}
 use Rattle.memory_model.specs.Legal.{keeps_load_values, returns_sources}
-use Rattle.memory_model.specs.Operations.{bytes_of, reads, read_at, stores_to}
+use Rattle.memory_model.specs.Operations.{addresses_of, reads, read_at, stores_to}
 use Rattle.memory_model.specs.Order.{byte_from, source}
 use Rattle.memory_model.specs.Traces.{completed, image_of, instructions, last_performed, names_from, names_of_harts, names_in, operation_at, operations_at}
 use Rattle.memory_model.proofs.Lists.{Each-append, Each-weaker, Each-both, filter_none, list_all-from_Each}
@@ -132,7 +132,7 @@ all_range p a (suc n) f = and_from _ _ (f a (omega arith) (omega arith)) (all_ra
 returns_right : (image : ℕ → ℕ) (order : List Operation) (a : Operation) → IsRight image a.hart order a → returns_sources image order a ≡ true
 returns_right image order a k = go (reads a.kind) refl
   where
-    go : (c : Bool) → reads a.kind ≡ c → (not c || list_all (λ x. nat_eq (read_at a x) (byte_from image x (source order a x))) (bytes_of a)) ≡ true
+    go : (c : Bool) → reads a.kind ≡ c → (not c || list_all (λ x. nat_eq (read_at a x) (byte_from image x (source order a x))) (addresses_of a)) ≡ true
     go false e = refl
     go true e = all_range (λ x. nat_eq (read_at a x) (byte_from image x (source order a x))) a.address a.size (λ x l m. eq-eqb _ _ (k.right refl e x (and_from _ _ (le-leb a.address x l) (lt-ltb x (a.address + a.size) m))))
 
@@ -151,7 +151,7 @@ load_values s st o v =
     (Each-weaker (λ a. (a.hart < length s.trace.entries) × ((i : HartOf s) → IsRight (image_of s.trace) i.0 order a)) (λ a. returns_sources (image_of s.trace) order a ≡ true)
     (λ a z. let l = z.0 in returns_right (image_of s.trace) order a (z.1 (a.hart, subst (λ n. a.hart < n) st.entries l))) (done s.trace)
     (Each-both (λ a. a.hart < length s.trace.entries) (λ a. (i : HartOf s) → IsRight (image_of s.trace) i.0 order a) (done s.trace) (done_inside s.trace s.trace.performed o.resolved) (each_index (λ (i : HartOf s) a. IsRight (image_of s.trace) i.0 order a) (done s.trace) (λ i. right_whole s st o v i.0 i.1))))
-    (Each-weaker (λ b. b.kind ≡ Store) (λ a. returns_sources (image_of s.trace) order a ≡ true) (λ a e. ap (λ k. not (reads k) || list_all (λ x. nat_eq (read_at a x) (byte_from (image_of s.trace) x (source order a x))) (bytes_of a)) e) (tail_of s) (whole_tail s st o order).stores)))
+    (Each-weaker (λ b. b.kind ≡ Store) (λ a. returns_sources (image_of s.trace) order a ≡ true) (λ a e. ap (λ k. not (reads k) || list_all (λ x. nat_eq (read_at a x) (byte_from (image_of s.trace) x (source order a x))) (addresses_of a)) e) (tail_of s) (whole_tail s st o order).stores)))
 
 -- ---- from reset
 

@@ -5,7 +5,7 @@ ghost use Rattle.machine_model.specs.Views.{size_of_config};
 ghost use Rattle.memory_model.specs.declared.operation.Kind.TheVariants.{Load, Store};
 ghost use Rattle.memory_model.specs.Rules.{fences};
 ghost use Rattle.machine_parts.specs.Accesses.{fetched_of};
-ghost use Rattle.rv32_exec.specs.Width.{bytes_of};
+ghost use Rattle.rv32_exec.specs.Width.{byte_count};
 
 use super::miss::{reading, writing};
 use crate::node::Node;
@@ -59,8 +59,8 @@ pub(crate) fn plan_load(
     width: Width,
 ) -> Plan
     requires line { node.now.cache.shape.size ≡ size_of_config config.now }
-    requires aligned { address % bytes_of width ≡ 0 }
-    ensures { result ≡ spec.plan_load node.now (fetched_of fetched.now) address (bytes_of width) }
+    requires aligned { address % byte_count width ≡ 0 }
+    ensures { result ≡ spec.plan_load node.now (fetched_of fetched.now) address (byte_count width) }
 {
     let word = word_of(address);
     let (marks, waiting) = node.buffer.forward(word);
@@ -83,9 +83,9 @@ pub(crate) fn plan_store(
     width: Width,
     value: u32,
 ) -> Plan
-    requires aligned { address % bytes_of width ≡ 0 }
-    requires fits { value < 2 ^ (8 * bytes_of width) }
-    ensures { result ≡ spec.plan_store node.now (fetched_of fetched.now) address (bytes_of width) value }
+    requires aligned { address % byte_count width ≡ 0 }
+    requires fits { value < 2 ^ (8 * byte_count width) }
+    ensures { result ≡ spec.plan_store node.now (fetched_of fetched.now) address (byte_count width) value }
 {
     if node.buffer.fits(word_of(address)) {
         let store = store_of(address, width, value, fetched.place);

@@ -138,7 +138,7 @@ fn returns_sources(image: &Image, order: &[Operation], a: &Operation) -> bool
 
 fn has_source_bytes(image: &Image, order: &[Operation], a: &Operation) -> bool
     ensures { result
-        ≡ list_all (λ x. operations.read_at a.now x == orders.byte_from (byte_at image.now) x (orders.source order.now a.now x)) (operations.bytes_of a.now) }
+        ≡ list_all (λ x. operations.read_at a.now x == orders.byte_from (byte_at image.now) x (orders.source order.now a.now x)) (operations.addresses_of a.now) }
 {
     (u64::from(a.address)..end_of(a)).all(|x| read_at(a, x)
         == byte_from(image, x, source(order, a, x)))

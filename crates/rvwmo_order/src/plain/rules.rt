@@ -7,7 +7,7 @@ ghost use Rattle.memory_model.specs.Rules as spec;
 ghost use Rattle.memory_model.specs.Dependencies as dependencies;
 ghost use Rattle.memory_model.specs.Dependencies.{between};
 ghost use Rattle.memory_model.specs.Operations as operations;
-ghost use Rattle.memory_model.specs.Operations.{bytes_of};
+ghost use Rattle.memory_model.specs.Operations.{addresses_of};
 ghost use Rattle.rvwmo_order.specs.Scans as scans;
 ghost use Rattle.rvwmo_order.specs.Codes.{rule_of};
 
@@ -63,7 +63,7 @@ fn are_same_byte_loads(items: &Items, order: &[Operation], a: &Operation, b: &Op
 }
 
 fn return_differently(items: &Items, order: &[Operation], a: &Operation, b: &Operation) -> bool
-    ensures { result ≡ list_any (λ x. scans.returns_differently x items.now order.now a.now b.now) (bytes_of a.now) }
+    ensures { result ≡ list_any (λ x. scans.returns_differently x items.now order.now a.now b.now) (addresses_of a.now) }
 {
     (u64::from(a.address)..end_of(a)).any(|x| returns_differently(x, items, order, a, b))
 }

@@ -3,7 +3,7 @@ use Rattle.flat_machine.specs.Accesses.{fetched_of}
 use Rattle.flat_machine.specs.Memories as memory
 use Rattle.flat_model.specs.Flat.{FlatNode}
 use Rattle.rv32_exec.specs.Meaning.{Loads, DoesLr, Stores, DoesAmo, access_of, stop_of}
-use Rattle.rv32_exec.specs.Width.{bytes_of}
+use Rattle.rv32_exec.specs.Width.{byte_count}
 use Rattle.rv32_exec.specs.declared.actions.Action.TheVariants as action
 use Rattle.flat_machine.proofs.FoundPlans.{found, goes_on, seen}
 use Rattle.flat_machine.proofs.stepping.plan_instr.Goals as goal
@@ -13,14 +13,14 @@ returns-in-Load c =
     let hart = c.args.node.now.hart in
     let i = c.args.fetched.now.instr in
     let f = found i hart.pc hart.regs c.args.size c.plan.result (action.Load c.in-Load.addr c.in-Load.size) (seen c.plan.result i c.args.size c.node.inside.hart hart (ap (λ (n : FlatNode). n.hart) c.node.view_is) c.plan.ensures.value) c.in-Load.is in
-    c.plan_load.ensures ∙ goes_on c.args.model (memory.bytes_of c.args.memory.now) c.args.node.now (fetched_of c.args.fetched.now) (stop_of i hart.pc hart.regs c.args.size) (access_of i hart.regs) (Loads c.in-Load.addr (bytes_of c.in-Load.size)) f
+    c.plan_load.ensures ∙ goes_on c.args.model (memory.bytes_of c.args.memory.now) c.args.node.now (fetched_of c.args.fetched.now) (stop_of i hart.pc hart.regs c.args.size) (access_of i hart.regs) (Loads c.in-Load.addr (byte_count c.in-Load.size)) f
 
 pub returns-in-Store : goal.returns-in-Store
 returns-in-Store c =
     let hart = c.args.node.now.hart in
     let i = c.args.fetched.now.instr in
     let f = found i hart.pc hart.regs c.args.size c.plan.result (action.Store c.in-Store.addr c.in-Store.size c.in-Store.value) (seen c.plan.result i c.args.size c.node.inside.hart hart (ap (λ (n : FlatNode). n.hart) c.node.view_is) c.plan.ensures.value) c.in-Store.is in
-    c.plan_store.ensures ∙ goes_on c.args.model (memory.bytes_of c.args.memory.now) c.args.node.now (fetched_of c.args.fetched.now) (stop_of i hart.pc hart.regs c.args.size) (access_of i hart.regs) (Stores c.in-Store.addr (bytes_of c.in-Store.size) c.in-Store.value) f
+    c.plan_store.ensures ∙ goes_on c.args.model (memory.bytes_of c.args.memory.now) c.args.node.now (fetched_of c.args.fetched.now) (stop_of i hart.pc hart.regs c.args.size) (access_of i hart.regs) (Stores c.in-Store.addr (byte_count c.in-Store.size) c.in-Store.value) f
 
 pub returns-in-Lr : goal.returns-in-Lr
 returns-in-Lr c =

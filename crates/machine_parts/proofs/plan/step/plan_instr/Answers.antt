@@ -2,7 +2,7 @@ use Rattle.std.proofs.Common.{◌∙◌, ap}
 use Rattle.machine_model.specs.Views.{Node}
 use Rattle.machine_parts.specs.Accesses.{fetched_of}
 use Rattle.rv32_exec.specs.Meaning.{Fences, Loads, Private, DoesLr, Stores, DoesSc, DoesAmo, access_of, stop_of}
-use Rattle.rv32_exec.specs.Width.{bytes_of}
+use Rattle.rv32_exec.specs.Width.{byte_count}
 use Rattle.rv32_exec.specs.declared.actions.Action.TheVariants as action
 use Rattle.machine_parts.proofs.FoundPlans.{found, goes_on, seen}
 use Rattle.machine_parts.proofs.plan.step.plan_instr.Goals as goal
@@ -12,14 +12,14 @@ returns-in-Load c =
     let hart = c.args.node.now.hart in
     let i = c.args.fetched.now.instr in
     let f = found i hart.pc hart.regs c.args.size c.plan.result (action.Load c.in-Load.addr c.in-Load.size) (seen c.plan.result i c.args.size c.node.inside.hart hart (ap (λ (n : Node). n.hart) c.node.view_is) c.plan.ensures.value) c.in-Load.is in
-    c.plan_load.ensures ∙ goes_on c.args.config.now.model c.args.node.now (fetched_of c.args.fetched.now) (stop_of i hart.pc hart.regs c.args.size) (access_of i hart.regs) (Loads c.in-Load.addr (bytes_of c.in-Load.size)) f
+    c.plan_load.ensures ∙ goes_on c.args.config.now.model c.args.node.now (fetched_of c.args.fetched.now) (stop_of i hart.pc hart.regs c.args.size) (access_of i hart.regs) (Loads c.in-Load.addr (byte_count c.in-Load.size)) f
 
 pub returns-in-Store : goal.returns-in-Store
 returns-in-Store c =
     let hart = c.args.node.now.hart in
     let i = c.args.fetched.now.instr in
     let f = found i hart.pc hart.regs c.args.size c.plan.result (action.Store c.in-Store.addr c.in-Store.size c.in-Store.value) (seen c.plan.result i c.args.size c.node.inside.hart hart (ap (λ (n : Node). n.hart) c.node.view_is) c.plan.ensures.value) c.in-Store.is in
-    c.plan_store.ensures ∙ goes_on c.args.config.now.model c.args.node.now (fetched_of c.args.fetched.now) (stop_of i hart.pc hart.regs c.args.size) (access_of i hart.regs) (Stores c.in-Store.addr (bytes_of c.in-Store.size) c.in-Store.value) f
+    c.plan_store.ensures ∙ goes_on c.args.config.now.model c.args.node.now (fetched_of c.args.fetched.now) (stop_of i hart.pc hart.regs c.args.size) (access_of i hart.regs) (Stores c.in-Store.addr (byte_count c.in-Store.size) c.in-Store.value) f
 
 pub returns-in-Lr : goal.returns-in-Lr
 returns-in-Lr c =
