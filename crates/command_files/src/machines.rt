@@ -1,16 +1,15 @@
 //! Which machine a script is for, and which one the words name.
 
-ghost use Rattle.std.specs.Prelude.{◌≡◌, IfSome, IsNone, true};
+ghost use Rattle.std.specs.Prelude.{◌≡◌, IfSome, IsNone};
 ghost use Rattle.std.specs.List.{AllByRecursion};
-ghost use Rattle.command_files.specs.Sizes.{IsOutside, config_named, config_of, script_named};
-ghost use Rattle.elf_loader.specs.Size.{IsMemoryKib};
-ghost use Rattle.machine_types.specs.Config.{is_within_limits as is_within};
+ghost use Rattle.command_files.specs.Sizes.{IsInside, IsOutside, config_named, config_of, line_named, script_named};
 ghost use Rattle.trace_text.specs.Scripts.{IsEvent};
 
 use command_settings::MachineOptions;
 use elf_loader::is_memory_kib;
 use machine_model::MemoryModel;
 use machine_types::{Config, Event};
+use tl_types::LineSize;
 use trace_text::{Events, Script};
 
 /// The machine that a script is for.
@@ -26,19 +25,28 @@ pub fn config_of(script: &Script, model: MemoryModel) -> Config
     }
 }
 
+/// The size of line that the words name. A number that no line has stands for 16 bytes here, and makes no
+/// machine.
+fn named_line(wanted: MachineOptions) -> LineSize
+    ensures { result ≡ line_named wanted }
+{
+    LineSize::of_bytes(wanted.line).unwrap_or(LineSize::Bytes16)
+}
+
 /// The machine that is wanted, where one of that size can be made.
 pub fn named_config(wanted: MachineOptions) -> Option<Config>
-    ensures config { IfSome result (λ config. (config ≡ config_named wanted) × (is_within config ≡ true) × IsMemoryKib wanted.memory) }
+    ensures config { IfSome result (λ config. (config ≡ config_named wanted) × IsInside wanted) }
     ensures outside { IsNone result → IsOutside wanted }
 {
     let config = Config {
         harts: wanted.harts,
         sets: wanted.sets,
         ways: wanted.ways,
-        line: wanted.line,
+        line: named_line(wanted),
         model: wanted.model,
     };
-    if config.is_within_limits() && is_memory_kib(wanted.memory) {
+    let is_size = LineSize::of_bytes(wanted.line).is_some();
+    if is_size && config.is_within_limits() && is_memory_kib(wanted.memory) {
         Some(config)
     } else {
         None
@@ -56,7 +64,7 @@ pub fn script_of(machine: MachineOptions, events: Vec<Event>) -> Script
         kib: machine.memory,
         sets: machine.sets,
         ways: machine.ways,
-        line: machine.line,
+        line: named_line(machine),
         events: Events::new(events),
     }
 }

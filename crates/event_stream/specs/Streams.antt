@@ -8,6 +8,7 @@ use Rattle.machine_types.specs.declared.event.Event.{Event}
 use Rattle.machine_model.specs.Views.{State, opening}
 use Rattle.text_fields.specs.Fields.{number, word, numbered}
 use Rattle.tl_types.specs.Line.{length_of}
+use Rattle.tl_types.specs.declared.line.LineSize.{LineSize}
 use Rattle.trace_recorder.specs.History.{History}
 use Rattle.trace_text.specs.Scripts.{is_first_version}
 use Rattle.trace_text.specs.Traces.{image}
@@ -17,15 +18,15 @@ use Rattle.event_stream.specs.Lines.{report_lines}
 use Rattle.event_stream.specs.Reports.{StreamEnding, ending, reports}
 use Rattle.event_stream.specs.Reports.StreamEnding.{Reached, Refused, Idle}
 
--- the first two lines, of a machine's harts, its memory in KiB, the address at which the harts begin and how many bytes a line has: as in a trace, but for the first word
-abbrev pub head : ℕ → ℕ → ℕ → ℕ → List ℕ
+-- the first two lines, of a machine's harts, its memory in KiB, the address at which the harts begin and a line's size: as in a trace, but for the first word
+abbrev pub head : ℕ → ℕ → ℕ → LineSize → List ℕ
 head harts kib entry line =
     if is_first_version harts line then codes "rvtl-stream 1\nT " ++ (number 32 harts ++ (number 32 kib ++ (word entry ++ 10 ∷ [])))
-    else codes "rvtl-stream 2\nT " ++ (number 32 harts ++ (number 32 kib ++ ((word entry ++ 32 ∷ []) ++ number 10 line)))
+    else codes "rvtl-stream 2\nT " ++ (number 32 harts ++ (number 32 kib ++ ((word entry ++ 32 ∷ []) ++ number 10 (length_of line))))
 
 -- the head, and memory at reset as in a trace
 abbrev pub opening_lines : History → List ℕ
-opening_lines t = head (length t.statuses) (length t.image.bytes / 1024) t.image.entry (length_of t.line) ++ image t.line t.image.bytes
+opening_lines t = head (length t.statuses) (length t.image.bytes / 1024) t.image.entry t.line ++ image t.line t.image.bytes
 
 -- the lines of events, the first of which has this index, by the names that addresses have
 abbrev pub lines : List Named → Strictness → ℕ → State → List Event → List ℕ

@@ -13,7 +13,6 @@ use client_cache::{ClientCache, Held};
 use coherent_machine::Machine;
 use elf_loader::{BASE, Image};
 use hart::{Hart, can_fetch};
-use machine_parts::line_size;
 use machine_types::Outcome;
 use rv32_decode::{Instr, decode};
 use rv32_exec::plan;
@@ -102,7 +101,7 @@ fn takes_way(cache: &ClientCache, line: u32) -> bool
 pub(crate) fn size_of(machine: &Machine) -> LineSize
     ensures { result ≡ line_size machine.now }
 {
-    line_size(machine.views().config())
+    machine.views().config().line
 }
 
 /// The address of memory's line of this number.

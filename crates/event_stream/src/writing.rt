@@ -9,7 +9,6 @@ ghost use Rattle.event_stream.specs.Writing.{IsStreamUnfinished, IsWholeStream};
 ghost use Rattle.machine_types.specs.Config.{is_within_limits};
 ghost use Rattle.text_fields.specs.Pages.{HasLineRoom, Spells};
 ghost use Rattle.text_fields.specs.Writing.{Writes};
-ghost use Rattle.trace_text.specs.Scripts.{is_first_version};
 
 use crate::closing::put_statuses;
 use crate::disassembly::Disassembly;
@@ -26,20 +25,14 @@ use std::alloc::Global;
 use std::io::{self, Write};
 use text_fields::Page;
 use trace_recorder::Trace;
-use trace_text::put_image;
+use tl_types::LineSize;
+use trace_text::{is_first_version, put_image};
 
-/// The first version is for lines of 16 bytes and at most 4 harts, as a trace's.
-fn is_first_version(harts: usize, line: u32) -> bool
-    ensures { result ≡ is_first_version harts line }
-{
-    line == 16 && harts <= 4
-}
-
-fn spell_head(page: &mut Page, harts: usize, kib: u32, entry: u32, line: u32)
+fn spell_head(page: &mut Page, harts: usize, kib: u32, entry: u32, line: LineSize)
     requires { HasLineRoom page.old }
     ensures { page.new ≡ page.old ++ streams.head harts kib entry line }
 {
-    if is_first_version(harts, line) {
+    if is_first_version(harts as u64, line) {
         page.text(b"rvtl-stream 1\nT ");
         page.number(harts as u64, b' ');
         page.number(kib as u64, b' ');
@@ -51,7 +44,7 @@ fn spell_head(page: &mut Page, harts: usize, kib: u32, entry: u32, line: u32)
         page.number(kib as u64, b' ');
         page.word(entry);
         page.text(b" ");
-        page.number(line as u64, b'\n');
+        page.number(line.bytes() as u64, b'\n');
     }
 }
 
@@ -61,10 +54,10 @@ fn put_opening<W: Write>(page: &mut Page, out: &mut W, trace: &Trace) -> io::Res
     ensures { Spells (W.contents out.old) (W.contents out.new) page.old page.new (streams.opening_lines trace.now.history) result }
 {
     let memory = trace.image().bytes();
-    let width = trace.line_size().bytes();
+    let line = trace.line_size();
     let kib = trace.image().size() / 1024;
-    spell_head(page, trace.harts(), kib, trace.image().entry(), width);
-    put_image(page, out, memory, width)
+    spell_head(page, trace.harts(), kib, trace.image().entry(), line);
+    put_image(page, out, memory, line.bytes())
 }
 
 /// Hands on what was told before an event at which the stream ends, and answers why it does.

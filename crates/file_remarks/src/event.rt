@@ -27,7 +27,7 @@ impl Display for EventRemark<'_> {
         }
         match self.event {
             Event::Drain { word, .. } => address(word, 4, script.kib, f),
-            Event::Evict { line, .. } => address(line, script.line, script.kib, f),
+            Event::Evict { line, .. } => address(line, script.line.bytes(), script.kib, f),
             Event::Local { count, .. } => write!(f, "count {count}: it is 1 to 256"),
             _ => Ok(()),
         }

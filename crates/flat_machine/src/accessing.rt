@@ -4,19 +4,17 @@ ghost use Rattle.flat_machine.specs.States.{flat_of};
 ghost use Rattle.flat_model.specs.Changing as spec;
 ghost use Rattle.flat_model.specs.Flat.{node_at};
 ghost use Rattle.machine_types.specs.Config.{is_within_limits};
-ghost use Rattle.machine_model.specs.Views.{size_of_config};
 ghost use Rattle.reservations.specs.Reservation.{without_line};
 
 use crate::node::Node;
 use crate::state::State;
-use machine_parts::line_size;
 use machine_types::Config;
 
 /// The address of the line that an address lies in.
 fn line_at(config: &Config, address: u32) -> u32
     ensures { result ≡ spec.line_at config.now address }
 {
-    address - address % line_size(config).bytes()
+    address - address % config.line.bytes()
 }
 
 /// The set of that line.
@@ -24,7 +22,7 @@ fn set_at(config: &Config, address: u32) -> u32
     requires limits { IsTrue (is_within_limits config.now) }
     ensures { result ≡ spec.set_at config.now address }
 {
-    line_at(config, address) / line_size(config).bytes() % config.sets
+    line_at(config, address) / config.line.bytes() % config.sets
 }
 
 /// Whether sets hold one line, and the two addresses lie in different lines of one set.
@@ -41,11 +39,11 @@ impl Node {
     /// What an access of an address, the hart's own or another's, leaves of the reservation.
     fn keep_reservation(&mut self, config: &Config, is_own: bool, address: u32)
         requires limits { IsTrue (is_within_limits config.now) }
-        ensures { self.new ≡ record self.old { reserved = if is_own then spec.without_rival config.now address self.old.reserved else without_line (spec.line_at config.now address) (size_of_config config.now) self.old.reserved } }
+        ensures { self.new ≡ record self.old { reserved = if is_own then spec.without_rival config.now address self.old.reserved else without_line (spec.line_at config.now address) config.now.line self.old.reserved } }
     {
         if !is_own {
             self.reservation
-                .lose_line(line_at(config, address), line_size(config));
+                .lose_line(line_at(config, address), config.line);
             return;
         }
         let Some(word) = self.reservation.word() else {

@@ -41,7 +41,7 @@ use Rattle.machine_types.specs.declared.config.Config.{Config}
 use Rattle.machine_model.specs.Changing.{acted, does, drained, performs, performs_own, sent_if_evicted, writes_word}
 use Rattle.machine_model.specs.Deliveries.{delivered, handled, on_grant, on_probe_ack, on_release, with_less, sent_any, sent_if_answered, sent_if_granted, sent_if_handled, sent_probes, taken, with_memory, with_notes}
 use Rattle.machine_model.specs.Ready.{IsReadyAct, IsReadyBody}
-use Rattle.machine_model.specs.Views.{Node, State, line_size, no_node, node_at, opening, opening_node, place_of, sent, size_of_config, with_node}
+use Rattle.machine_model.specs.Views.{Node, State, line_size, no_node, node_at, opening, opening_node, place_of, sent, with_node}
 use Rattle.machine_model.specs.Words.{bytes_of_word}
 use Rattle.machine_model.proofs.Nodes.{node_same}
 use Rattle.memory_model.specs.declared.MemoryModel.{MemoryModel}
@@ -203,14 +203,14 @@ all_at (x ∷ ns) zero d all is = all.0
 all_at (x ∷ ns) (suc h) d all is = all_at ns h d all.1 is
 
 pub node_alone : (s : State) (h : ℕ) → AloneIn s → IsAlone (node_at s h).cache
-node_alone s h all = all_at s.views.nodes h (no_node s) all.each (opens_alone s.views.config.sets s.views.config.ways (size_of_config s.views.config))
+node_alone s h all = all_at s.views.nodes h (no_node s) all.each (opens_alone s.views.config.sets s.views.config.ways s.views.config.line)
 
 pub opening_alone : (image : Initial) (config : Config) → AloneIn (opening image config)
 opening_alone image config = record { each = go (range_with_len 0 config.harts) }
   where
     go : (ids : List ℕ) → AllAlone (prelude.map (opening_node image config) ids)
     go [] = tt
-    go (id ∷ ids) = (opens_alone config.sets config.ways (size_of_config config), go ids)
+    go (id ∷ ids) = (opens_alone config.sets config.ways config.line, go ids)
 
 -- ---- acts
 

@@ -10,7 +10,7 @@ use Rattle.machine_model.specs.declared.act.Deed.{Deed}
 use Rattle.machine_model.specs.declared.act.Deed.TheVariants as deed
 use Rattle.machine_types.specs.declared.config.Config.{Config}
 use Rattle.machine_model.specs.Changing.{put_behind, with_halt}
-use Rattle.machine_model.specs.Views.{line_of, shape_of_config, size_of_config}
+use Rattle.machine_model.specs.Views.{line_of, shape_of_config}
 use Rattle.machine_model.specs.Words.{bytes_of_word}
 use Rattle.memory_model.specs.declared.MemoryModel.{MemoryModel}
 use Rattle.reservations.specs.Reservation.{without_line}
@@ -23,7 +23,7 @@ use Rattle.trace_recorder.specs.History.{entries_of, with_entry, with_performed,
 -- ---- the access of a line
 
 abbrev pub line_at : Config → ℕ → ℕ
-line_at config address = line_of (size_of_config config) address
+line_at config address = line_of config.line address
 
 -- the set of the line that an address lies in
 abbrev pub set_at : Config → ℕ → ℕ
@@ -43,7 +43,7 @@ abbrev pub reservation_after : Config → (h address k : ℕ) → Option ℕ →
 reservation_after config h address k reserved =
     if k == h
     then without_rival config address reserved
-    else without_line (line_at config address) (size_of_config config) reserved
+    else without_line (line_at config address) config.line reserved
 
 -- of each hart, from hart k on
 abbrev pub accessed_from : Config → (h address k : ℕ) → List FlatNode → List FlatNode

@@ -6,7 +6,6 @@ use Rattle.elf_loader.specs.Size.{base}
 use Rattle.hart.specs.declared.state.Hart.{Hart}
 use Rattle.hart.specs.Run.{at_reset}
 use Rattle.machine_types.specs.declared.config.Config.{Config}
-use Rattle.machine_model.specs.Views.{size_of_config}
 use Rattle.store_buffer.specs.ByteMask.{each_place, is_marked}
 use Rattle.store_buffer.specs.Groups.{Groups, no_groups}
 use Rattle.trace_recorder.specs.History as history
@@ -36,7 +35,7 @@ opening image config = record {
   config = config;
   nodes = map (opening_node image config) (range_with_len 0 config.harts);
   memory = image.bytes;
-  trace = history.opening image (size_of_config config) config.harts;
+  trace = history.opening image config.line config.harts;
 }
 
 -- ---- nodes

@@ -13,12 +13,10 @@ use Rattle.host_threads.specs.Due.{HasNoVictim, IsLine, IsLowestSpare, IsSpare}
 use Rattle.machine_types.specs.declared.config.Config.{Config}
 use Rattle.machine_types.specs.Config.{is_set_count, is_within_limits}
 use Rattle.machine_types.proofs.Limits.{limits_of}
-use Rattle.machine_model.specs.Views.{shape_of_config, size_of_config}
-use Rattle.std.specs.Prelude.{unwrap_or}
-use Rattle.tl_types.specs.Line.{length_of, size_of_bytes}
+use Rattle.machine_model.specs.Views.{shape_of_config}
+use Rattle.tl_types.specs.Line.{length_of}
 use Rattle.tl_types.specs.declared.line.LineSize.{LineSize}
 use Rattle.tl_types.specs.declared.line.LineSize.TheVariants.{Bytes16, Bytes64}
-use Rattle.tl_types.proofs.Sizes.{of_each_size}
 
 -- ---- the numbers of a configuration within the limits
 
@@ -51,12 +49,11 @@ whole_below size (suc n) m e below count =
 
 -- lines have the configuration's length, and memory begins with one of set 0
 pub record Sized (config : Config) : Type 0 where
-  pub length : length_of (size_of_config config) ≡ config.line
-  pub some_bytes : 0 < config.line
-  pub few_bytes : config.line ≤ 64
+  pub some_bytes : 0 < length_of config.line
+  pub few_bytes : length_of config.line ≤ 64
   pub some_sets : 0 < config.sets
   pub few_sets : config.sets ≤ MAX_SETS
-  pub whole : base / config.line / config.sets * config.sets * config.line ≡ base
+  pub whole : base / length_of config.line / config.sets * config.sets * length_of config.line ≡ base
 
 some_length : (size : LineSize) → 0 < length_of size
 some_length Bytes16 = omega arith
@@ -66,54 +63,41 @@ short_length : (size : LineSize) → length_of size ≤ 64
 short_length Bytes16 = omega arith
 short_length Bytes64 = omega arith
 
-own_length : (size : LineSize) → length_of (unwrap_or (size_of_bytes (length_of size)) Bytes16) ≡ length_of size
-own_length Bytes16 = refl
-own_length Bytes64 = refl
-
 pub sized : (config : Config) → is_within_limits config ≡ true → Sized config
 sized config within =
     let limits = limits_of config within in
     record {
-      length = of_each_size (λ n. length_of (unwrap_or (size_of_bytes n) Bytes16) ≡ n) own_length config.line limits.line;
-      some_bytes = of_each_size (λ n. 0 < n) some_length config.line limits.line;
-      few_bytes = of_each_size (λ n. n ≤ 64) short_length config.line limits.line;
+      some_bytes = some_length config.line;
+      few_bytes = short_length config.line;
       some_sets = limits.some_sets;
       few_sets = limits.few_sets;
-      whole =
-          of_each_size (λ n. base / n / config.sets * config.sets * n ≡ base)
-          (λ size. eqb-true _ base (whole_below size (suc MAX_SETS) config.sets (all_whole size) (let few = limits.few_sets in omega arith) limits.sets))
-          config.line limits.line;
+      whole = eqb-true _ base (whole_below config.line (suc MAX_SETS) config.sets (all_whole config.line) (let few = limits.few_sets in omega arith) limits.sets);
     }
 
 -- ---- the lines of a set
 
 -- the i-th address of a line in the set
 abbrev pub nth : Config → (set i : ℕ) → ℕ
-nth config set i = (i * config.sets + set) * config.line
-
--- the set of a line, by the configuration's numbers
-set_by_numbers : (config : Config) (line : ℕ) → Sized config → set_of (shape_of_config config) line ≡ line / config.line % config.sets
-set_by_numbers config line s = ap (λ n. line / n % config.sets) s.length
+nth config set i = (i * config.sets + set) * length_of config.line
 
 pub set_of-nth : (config : Config) (set i : ℕ) → Sized config → set < config.sets → set_of (shape_of_config config) (nth config set i) ≡ set
 set_of-nth config set i s below =
-    set_by_numbers config (nth config set i) s ∙ ap (λ q. q % config.sets) (mul-div_cancel (i * config.sets + set) s.some_bytes) ∙ mod-mul-add i config.sets set below
+    ap (λ q. q % config.sets) (mul-div_cancel (i * config.sets + set) s.some_bytes) ∙ mod-mul-add i config.sets set below
 
 pub set_below : (config : Config) (address : ℕ) → Sized config → set_of (shape_of_config config) address < config.sets
-set_below config address s = mod-lt (address / length_of (size_of_config config)) s.some_sets
+set_below config address s = mod-lt (address / length_of config.line) s.some_sets
 
 -- each line of the set is one of them
-pub nth_of : (config : Config) (line : ℕ) → Sized config → line % config.line ≡ 0 → nth config (set_of (shape_of_config config) line) (line / config.line / config.sets) ≡ line
+pub nth_of : (config : Config) (line : ℕ) → Sized config → line % length_of config.line ≡ 0 → nth config (set_of (shape_of_config config) line) (line / length_of config.line / config.sets) ≡ line
 nth_of config line s whole =
-    ap (λ set. nth config set (line / config.line / config.sets)) (set_by_numbers config line s)
-    ∙ ap (λ q. q * config.line) (div-add-mod' (line / config.line) config.sets)
-    ∙ (let e = div-add-mod' line config.line in omega (arith, e, whole))
+    ap (λ q. q * length_of config.line) (div-add-mod' (line / length_of config.line) config.sets)
+    ∙ (let e = div-add-mod' line (length_of config.line) in omega (arith, e, whole))
 
-pub nth-add : (config : Config) (set i : ℕ) → nth config set i + config.sets * config.line ≡ nth config set (i + 1)
+pub nth-add : (config : Config) (set i : ℕ) → nth config set i + config.sets * length_of config.line ≡ nth config set (i + 1)
 nth-add config set i = omega arith
 
 -- the first one in memory
-pub nth_first : (config : Config) (set : ℕ) → Sized config → base + set * config.line ≡ nth config set (base / config.line / config.sets)
+pub nth_first : (config : Config) (set : ℕ) → Sized config → base + set * length_of config.line ≡ nth config set (base / length_of config.line / config.sets)
 nth_first config set s = let e = s.whole in omega (arith, e)
 
 -- they rise
@@ -121,15 +105,15 @@ pub nth_rises : (config : Config) (set i j : ℕ) → nth config set i < nth con
 nth_rises config set i j below =
     lt_of_not-le (λ le.
     let rows : j * config.sets ≤ i * config.sets = mul-le j config.sets i config.sets le (omega arith) in
-    let bytes : nth config set j ≤ nth config set i = mul-le (j * config.sets + set) config.line (i * config.sets + set) config.line (omega arith) (omega arith) in
+    let bytes : nth config set j ≤ nth config set i = mul-le (j * config.sets + set) (length_of config.line) (i * config.sets + set) (length_of config.line) (omega arith) (omega arith) in
     absurd (omega arith))
 
 -- those before the first one in memory are outside
-before_memory : (config : Config) (set i : ℕ) → Sized config → set < config.sets → i < base / config.line / config.sets → nth config set i < base
+before_memory : (config : Config) (set i : ℕ) → Sized config → set < config.sets → i < base / length_of config.line / config.sets → nth config set i < base
 before_memory config set i s below before =
-    let first = base / config.line / config.sets in
+    let first = base / length_of config.line / config.sets in
     let row : i * config.sets + set < config.sets * first = mul-add-lt i config.sets set first before below in
-    let bytes : (i * config.sets + set + 1) * config.line ≤ config.sets * first * config.line = mul-le (i * config.sets + set + 1) config.line (config.sets * first) config.line (omega arith) (omega arith) in
+    let bytes : (i * config.sets + set + 1) * length_of config.line ≤ config.sets * first * length_of config.line = mul-le (i * config.sets + set + 1) (length_of config.line) (config.sets * first) (length_of config.line) (omega arith) (omega arith) in
     let whole = s.whole in
     let some = s.some_bytes in
     omega (arith, bytes, whole, some)
@@ -143,22 +127,22 @@ pub record Walks (config : Config) (c : Cache) (set line : ℕ) : Type 0 where
   pub stands : line ≡ nth config set place
   pub passed : (i : ℕ) → i < place → base ≤ nth config set i → IsSpare c (nth config set i) → ⊥
 
-pub walk_begins : (config : Config) (c : Cache) (address : ℕ) → Sized config → Walks config c (set_of (shape_of_config config) address) (base + address / config.line % config.sets * config.line)
-walk_begins config c address s = subst (λ n. Walks config c (set_of (shape_of_config config) address) (base + n * config.line)) (set_by_numbers config address s) (begins (set_of (shape_of_config config) address) (set_below config address s))
+pub walk_begins : (config : Config) (c : Cache) (address : ℕ) → Sized config → Walks config c (set_of (shape_of_config config) address) (base + address / length_of config.line % config.sets * length_of config.line)
+walk_begins config c address s = begins (set_of (shape_of_config config) address) (set_below config address s)
   where
-    begins : (set : ℕ) → set < config.sets → Walks config c set (base + set * config.line)
+    begins : (set : ℕ) → set < config.sets → Walks config c set (base + set * length_of config.line)
     begins set below = record {
       inside = omega arith;
-      place = base / config.line / config.sets;
+      place = base / length_of config.line / config.sets;
       stands = nth_first config set s;
       passed = λ i before inside spare. absurd (let outside = before_memory config set i s below before in omega arith);
     }
 
-pub walk_goes_on : (config : Config) (c : Cache) (set line : ℕ) → Walks config c set line → (IsSpare c line → ⊥) → Walks config c set (line + config.sets * config.line)
+pub walk_goes_on : (config : Config) (c : Cache) (set line : ℕ) → Walks config c set line → (IsSpare c line → ⊥) → Walks config c set (line + config.sets * length_of config.line)
 walk_goes_on config c set line w none = record {
   inside = omega (arith, w.inside);
   place = w.place + 1;
-  stands = ap (λ n. n + config.sets * config.line) w.stands ∙ nth-add config set w.place;
+  stands = ap (λ n. n + config.sets * length_of config.line) w.stands ∙ nth-add config set w.place;
   passed = λ i before inside spare. elim (lt_or_eq i w.place before) [
     | inl earlier ↦ w.passed i earlier inside spare
     | inr here ↦ none (subst (λ n. IsSpare c n) (ap (λ n. nth config set n) here ∙ sym w.stands) spare)
@@ -177,7 +161,7 @@ not_below a b not = let lt : b < suc a = lt_of_not-le not in omega arith
 -- it passed each spare line of the set that lies below
 no_spare_below : (config : Config) (c : Cache) (set line : ℕ) → Sized config → Walks config c set line → (other : ℕ) → IsLine config other → set_of (shape_of_config config) other ≡ set → other < line → IsSpare c other → ⊥
 no_spare_below config c set line s w other is same lower free =
-    let i = other / config.line / config.sets in
+    let i = other / length_of config.line / config.sets in
     let stands : nth config set i ≡ other = ap (λ k. nth config k i) (sym same) ∙ nth_of config other s is.1 in
     let less : nth config set i < nth config set w.place = subst (λ n. n < nth config set w.place) (sym stands) (subst (λ n. other < n) w.stands lower) in
     w.passed i (nth_rises config set i w.place less) (subst (λ n. base ≤ n) (sym stands) is.0) (subst (λ n. IsSpare c n) (sym stands) free)
@@ -185,7 +169,7 @@ no_spare_below config c set line s w other is same lower free =
 -- where it finds a spare line, that is the lowest
 pub walk_finds : (config : Config) (c : Cache) (set line : ℕ) → Sized config → set < config.sets → Walks config c set line → IsSpare c line → IsLowestSpare config c line
 walk_finds config c set line s below w spare = record {
-  begins = (w.inside, ap (λ n. n % config.line) w.stands ∙ mul-mod_left (w.place * config.sets + set) config.line);
+  begins = (w.inside, ap (λ n. n % length_of config.line) w.stands ∙ mul-mod_left (w.place * config.sets + set) (length_of config.line));
   spare = spare;
   lowest = λ other is same free. not_below other line (λ lower. no_spare_below config c set line s w other is (same ∙ set_of_walk config c set line s below w) lower free);
 }

@@ -12,6 +12,7 @@ use Rattle.machine_model.specs.Events.{hart_of}
 use Rattle.machine_model.specs.Views.{Node, State, node_at, shape_of_config}
 use Rattle.store_buffer.specs.Groups.{drainable, oldest}
 use Rattle.tilelink_channels.specs.Queues.{queue_of}
+use Rattle.tl_types.specs.Line.{length_of}
 
 -- the lines at these addresses belong to one set of a cache
 abbrev pub AreInOneSet : Config → (one other : ℕ) → Type 0
@@ -19,7 +20,7 @@ AreInOneSet config one other = set_of (shape_of_config config) one ≡ set_of (s
 
 -- a line of memory begins here
 abbrev pub IsLine : Config → ℕ → Type 0
-IsLine config line = (base ≤ line) × (line % config.line ≡ 0)
+IsLine config line = (base ≤ line) × (line % length_of config.line ≡ 0)
 
 -- the line is held, and no Acquire of it is outstanding
 pub record IsSpare (c : Cache) (line : ℕ) : Type 0 where

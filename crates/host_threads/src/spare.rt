@@ -29,13 +29,14 @@ pub(crate) fn lowest_spare(
     ensures victim { IfSome result (λ line. IsVictim config.now cache.now address line) }
     ensures none { IfNone result (HasNoVictim config.now size cache.now address) }
 {
-    let set = address / config.line % config.sets;
-    let mut line = BASE + set * config.line;
+    let bytes = config.line.bytes();
+    let set = address / bytes % config.sets;
+    let mut line = BASE + set * bytes;
     while line < BASE + size {
         if is_spare(cache, line) {
             return Some(line);
         }
-        line += config.sets * config.line;
+        line += config.sets * bytes;
     }
     None
 }

@@ -1,5 +1,5 @@
 -- What a machine is at a moment: its views, and the trace of what happened.
-use Rattle.std.specs.Prelude.{ℕ, ◌-◌, ◌/◌, ◌%◌, List, [], length, Option, None, map, slice_set, slice_index_or, unwrap_or}
+use Rattle.std.specs.Prelude.{ℕ, ◌-◌, ◌/◌, ◌%◌, List, [], length, Option, None, map, slice_set, slice_index_or}
 use Rattle.std.specs.List.{range_with_len}
 use Rattle.backing_memory.specs.Memory.{lines_of}
 use Rattle.client_cache.specs.Cache as cache
@@ -14,7 +14,7 @@ use Rattle.hart.specs.Run.{at_reset}
 use Rattle.machine_types.specs.declared.config.Config.{Config}
 use Rattle.store_buffer.specs.Groups.{Groups, no_groups}
 use Rattle.tilelink_channels.specs.Queues.{Waiting, none_waiting, pushed}
-use Rattle.tl_types.specs.Line.{length_of, size_of_bytes}
+use Rattle.tl_types.specs.Line.{length_of}
 use Rattle.tl_types.specs.declared.line.LineData.{LineData}
 use Rattle.tl_types.specs.declared.line.LineSize.{LineSize}
 use Rattle.tl_types.specs.declared.line.LineSize.TheVariants.{Bytes16, Bytes64}
@@ -46,15 +46,12 @@ pub record State : Type 0 where
 
 -- ---- lines
 
-abbrev pub size_of_config : Config → LineSize
-size_of_config config = unwrap_or (size_of_bytes config.line) Bytes16
-
 -- how each cache is laid out
 abbrev pub shape_of_config : Config → Shape
-shape_of_config config = record { sets = config.sets; ways = config.ways; size = size_of_config config }
+shape_of_config config = record { sets = config.sets; ways = config.ways; size = config.line }
 
 abbrev pub line_size : State → LineSize
-line_size s = size_of_config s.views.config
+line_size s = s.views.config.line
 
 -- the address of the line that an address lies in
 abbrev pub line_of : LineSize → ℕ → ℕ
@@ -72,7 +69,7 @@ opening_node image config id = record {
   output = [];
   reserved = None;
   buffer = no_groups;
-  cache = cache.opening config.sets config.ways (size_of_config config);
+  cache = cache.opening config.sets config.ways config.line;
   queues = none_waiting;
 }
 
@@ -80,15 +77,15 @@ abbrev pub opening_views : Initial → Config → Views
 opening_views image config = record {
   config = config;
   nodes = map (opening_node image config) (range_with_len 0 config.harts);
-  memory = lines_of (size_of_config config) image.bytes;
-  notes = directory.opening config.harts (length image.bytes / length_of (size_of_config config));
+  memory = lines_of config.line image.bytes;
+  notes = directory.opening config.harts (length image.bytes / length_of config.line);
   changes = 0;
 }
 
 abbrev pub opening : Initial → Config → State
 opening image config = record {
   views = opening_views image config;
-  trace = history.opening image (size_of_config config) config.harts;
+  trace = history.opening image config.line config.harts;
 }
 
 -- ---- nodes

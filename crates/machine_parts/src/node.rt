@@ -4,7 +4,7 @@ ghost use Rattle.std.specs.Prelude.{◌≡◌, IfOk, IsTrue};
 ghost use Rattle.client_cache.specs.Held.{perm_of};
 ghost use Rattle.machine_types.specs.Config.{is_within_limits};
 ghost use Rattle.machine_model.specs.Deliveries.{is_trunk, kept_reservation};
-ghost use Rattle.machine_model.specs.Views.{opening_node, size_of_config};
+ghost use Rattle.machine_model.specs.Views.{opening_node};
 
 use client_cache::ClientCache;
 use elf_loader::Image;
@@ -58,7 +58,7 @@ impl Node {
         id: u8,
     ) -> Result<Node, AllocError>
         requires limits { IsTrue (is_within_limits config.now) }
-        requires line { size ≡ size_of_config config.now }
+        requires line { size ≡ config.now.line }
         ensures { IfOk result (λ node. node ≡ opening_node image.now config.now id) }
     {
         Ok(Node {

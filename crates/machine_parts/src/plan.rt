@@ -12,11 +12,11 @@ ghost use Rattle.std.specs.Prelude.{◌≡◌, ◌<◌, ◌≤◌, IsTrue, lengt
 ghost use Rattle.machine_model.specs.Changing.{place_at};
 ghost use Rattle.machine_model.specs.Events.{hart_of, is_good, is_piece, names_well, plan_of};
 ghost use Rattle.machine_model.specs.Ready.{IsSound};
-ghost use Rattle.machine_model.specs.Views.{node_at, size_of_config};
+ghost use Rattle.machine_model.specs.Views.{node_at};
 ghost use Rattle.machine_parts.specs.Parts.{state_of};
 
 use crate::node::Node;
-use crate::parts::{Parts, line_size};
+use crate::parts::Parts;
 pub use access::{orders_after_stores, waits_for_stores, write_waits};
 use deliver::plan_deliver;
 use drain::plan_drain;
@@ -58,7 +58,7 @@ impl Parts {
             Event::Step { .. } | Event::Deliver { .. } => true,
             Event::Drain { word, .. } => is_piece(self.trace.image(), word, 4),
             Event::Evict { line, .. } => {
-                is_piece(self.trace.image(), line, line_size(&self.config).bytes())
+                is_piece(self.trace.image(), line, self.config.line.bytes())
             }
             Event::Local { count, .. } => 1 <= count && count <= 256,
         }
@@ -77,7 +77,7 @@ impl Parts {
         requires sound { IsSound (state_of self.now) }
         requires hart { hart < length self.now.nodes.items }
         ensures node { result.now ≡ node_at (state_of self.now) hart }
-        ensures line { result.now.cache.shape.size ≡ size_of_config self.now.config }
+        ensures line { result.now.cache.shape.size ≡ self.now.config.line }
     {
         &self.nodes[hart as usize]
     }

@@ -9,6 +9,7 @@ use machine_types::{Config, Event, Outcome};
 use std::alloc::Global;
 use std::process::Abort;
 use std::test::Fail;
+use tl_types::LineSize;
 
 /// Two private instructions, then a store.
 const TWO_AND_A_STORE: [u32; 3] = [0x80000637, 0x00100693, 0x10d62023];
@@ -42,7 +43,7 @@ fn machine_of(alloc: Global, words: &[u32], harts: u32) -> Result<Machine, Fail>
         harts,
         sets: 4,
         ways: 2,
-        line: 16,
+        line: LineSize::Bytes16,
         model: MemoryModel::Rvwmo,
     };
     Ok(Machine::new(alloc, image_of(alloc, words)?, config)?)

@@ -21,7 +21,7 @@ use std::sync::{Mutex, Wait};
 use std::test::Fail;
 use std::thread;
 use std::thread::Threads;
-use tl_types::{Body, Cap, Channel, Grow, LineData, Msg};
+use tl_types::{Body, Cap, Channel, Grow, LineData, LineSize, Msg};
 use trace_recorder::{Direction, Logged, OpId, Trace};
 
 /// Puts 5 into x10, and ends with it.
@@ -273,7 +273,7 @@ fn play_on<L: Ledger + Send + Sync, R: Threads + Wait + AllocGlobal + Sync>(
         harts,
         sets: 4,
         ways: 2,
-        line: 16,
+        line: LineSize::Bytes16,
         model: MemoryModel::Rvwmo,
     };
     let image = image_of(rt.alloc(), words)?;

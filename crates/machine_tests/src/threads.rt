@@ -15,7 +15,7 @@ use std::sync::atomic::{AtomicBool, AtomicU64, Ordering};
 use std::test::Fail;
 use std::thread;
 use std::thread::Threads;
-use tl_types::Channel;
+use tl_types::{Channel, LineSize};
 use trace_recorder::Trace;
 
 /// More events than any run here takes.
@@ -62,7 +62,7 @@ impl Turn for Always {
     }
 }
 
-fn config_of(harts: u32, line: u32) -> Config {
+fn config_of(harts: u32, line: LineSize) -> Config {
     Config {
         harts,
         sets: 4,
@@ -130,7 +130,7 @@ fn ran_by<G: Gate + Sync, R: Threads + Wait + AllocGlobal + Sync>(
         turns.push(Always(*event))?;
     }
     let image = image_of(alloc, words)?;
-    let config = config_of(harts, 16);
+    let config = config_of(harts, LineSize::Bytes16);
     Ok(run_with(rt, alloc, image, config, limit, gate, turns))
 }
 
@@ -149,7 +149,7 @@ fn is_refused<R: Threads + Wait + Abort + AllocGlobal + Sync>(
 
 #[test]
 fn row_16(rt: HostRuntime) -> Result<(), Fail> {
-    let report = ran_and_replayed(&rt, &EXIT, config_of(1, 16), LIMIT, &Open)?;
+    let report = ran_and_replayed(&rt, &EXIT, config_of(1, LineSize::Bytes16), LIMIT, &Open)?;
     let journal = [Event::Local { hart: 0, count: 1 }, Event::Step { hart: 0 }];
     same(&rt, report.journal.as_slice(), &journal);
     same(&rt, report.receipts.as_slice(), &[2]);
@@ -193,12 +193,12 @@ fn counts_up<R: Threads + Wait + Abort + AllocGlobal + Sync>(
 
 #[test]
 fn row_16_of_four_harts(rt: HostRuntime) -> Result<(), Fail> {
-    counts_up(&rt, config_of(4, 16), 400)
+    counts_up(&rt, config_of(4, LineSize::Bytes16), 400)
 }
 
 #[test]
 fn row_53(rt: HostRuntime) -> Result<(), Fail> {
-    counts_up(&rt, config_of(8, 64), 800)
+    counts_up(&rt, config_of(8, LineSize::Bytes64), 800)
 }
 
 /// The first pass of hart 0 waits for a pass of hart 1 that has seen a length of its own, which waits for
@@ -247,7 +247,7 @@ fn two_harts_meet(rt: HostRuntime) -> Result<(), Fail> {
         seen: [AtomicBool::new(false), AtomicBool::new(false)],
         has_failed: AtomicBool::new(false),
     };
-    let report = ran_and_replayed(&rt, &STORE_BUFFERING, config_of(2, 16), LIMIT, &meeting)?;
+    let report = ran_and_replayed(&rt, &STORE_BUFFERING, config_of(2, LineSize::Bytes16), LIMIT, &meeting)?;
     same(&rt, meeting.has_failed.load(Ordering::SeqCst), false);
     let ends = [Status::Exited(0), Status::Exited(1)];
     same(&rt, report.trace.statuses(), &ends);
@@ -314,7 +314,7 @@ fn has_seen_lengths(progress: &Progress, trace: &Trace) -> bool {
 #[test]
 fn row_25_of_lengths(rt: HostRuntime) -> Result<(), Fail> {
     let progress = Progress::new();
-    let report = ran(&rt, &HUNDRED, config_of(2, 16), LIMIT, &progress)?;
+    let report = ran(&rt, &HUNDRED, config_of(2, LineSize::Bytes16), LIMIT, &progress)?;
     same(&rt, has_seen_lengths(&progress, &report.trace), true);
     Ok(())
 }
@@ -338,7 +338,7 @@ fn row_25_of_numbers(rt: HostRuntime) -> Result<(), Fail> {
 
 #[test]
 fn row_47(rt: HostRuntime) -> Result<(), Fail> {
-    let report = ran(&rt, &SPIN, config_of(1, 16), LIMIT, &Open)?;
+    let report = ran(&rt, &SPIN, config_of(1, LineSize::Bytes16), LIMIT, &Open)?;
     same(&rt, report.journal.len(), 3906);
     let row = Event::Local {
         hart: 0,
@@ -351,14 +351,14 @@ fn row_47(rt: HostRuntime) -> Result<(), Fail> {
 
 #[test]
 fn a_limit_of_one_allows_one_event(rt: HostRuntime) -> Result<(), Fail> {
-    let report = ran_and_replayed(&rt, &EXIT, config_of(1, 16), 1, &Open)?;
+    let report = ran_and_replayed(&rt, &EXIT, config_of(1, LineSize::Bytes16), 1, &Open)?;
     same(&rt, report.journal.len(), 1);
     Ok(())
 }
 
 #[test]
 fn a_hart_spins_while_another_exits(rt: HostRuntime) -> Result<(), Fail> {
-    let report = ran_and_replayed(&rt, &ONE_EXITS, config_of(2, 16), 1000, &Open)?;
+    let report = ran_and_replayed(&rt, &ONE_EXITS, config_of(2, LineSize::Bytes16), 1000, &Open)?;
     same(&rt, report.trace.statuses().len(), 2);
     let last = report.trace.statuses().last().copied();
     same(&rt, last, Some(Status::Running));
@@ -413,7 +413,7 @@ const THREE_LINES: [Event; 20] = [
 fn a_full_set_gives_its_lowest_line_up(rt: HostRuntime) -> Result<(), Fail> {
     let config = Config {
         sets: 1,
-        ..config_of(1, 16)
+        ..config_of(1, LineSize::Bytes16)
     };
     let report = ran(&rt, &THREE_LOADS, config, LIMIT, &Open)?;
     same(&rt, report.journal.as_slice(), &THREE_LINES);
@@ -441,7 +441,7 @@ fn a_bad_event_ends_all_threads(rt: HostRuntime) -> Result<(), Fail> {
 fn a_bad_configuration_is_told(rt: HostRuntime) -> Result<(), Fail> {
     is_refused(&rt, &EXIT, 2, &[STEP], RunError::Config)?;
     let image = image_of(rt.alloc(), &EXIT)?;
-    let answer = run(&rt, rt.alloc(), image, config_of(9, 16), LIMIT, &Open);
+    let answer = run(&rt, rt.alloc(), image, config_of(9, LineSize::Bytes16), LIMIT, &Open);
     same(&rt, answer.err().map(|error| error.number()), Some(1));
     Ok(())
 }

@@ -16,8 +16,7 @@ pub struct Config {
     pub sets: u32,
     /// How many lines a set holds: 1 to `MAX_WAYS`.
     pub ways: u32,
-    /// How many bytes a line has, as a `LineSize`.
-    pub line: u32,
+    pub line: LineSize,
     pub model: MemoryModel,
 }
 
@@ -29,7 +28,6 @@ impl Config {
         (1..=MAX_HARTS).contains(&self.harts)
             && is_set_count(self.sets)
             && (1..=MAX_WAYS).contains(&self.ways)
-            && LineSize::of_bytes(self.line).is_some()
     }
 }
 

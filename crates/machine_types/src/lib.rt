@@ -8,3 +8,4 @@ mod outcome;
 pub use config::{Config, is_set_count};
 pub use event::Event;
 pub use outcome::Outcome;
+pub use tl_types::LineSize;

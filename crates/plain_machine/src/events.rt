@@ -38,7 +38,6 @@ pub(crate) fn is_within_limits(config: &Config) -> bool {
     matches!(config.harts, 1..=8)
         && matches!(config.sets, 1 | 2 | 4 | 8 | 16 | 32 | 64)
         && matches!(config.ways, 1..=4)
-        && matches!(config.line, 16 | 64)
 }
 
 fn hart_of(event: Event) -> u8 {
@@ -95,7 +94,7 @@ impl PlainMachine {
             Event::Step { .. } | Event::Deliver { .. } => true,
             Event::Drain { word, .. } => word == word_of(word) && self.is_inside(word, 4),
             Event::Evict { line, .. } => {
-                let size = self.line_size();
+                let size = self.config.line;
                 line == line_of(size, line) && self.is_inside(line, size.bytes())
             }
             Event::Local { count, .. } => 1 <= count && count <= 256,

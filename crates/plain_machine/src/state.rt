@@ -52,15 +52,6 @@ pub struct PlainMachine {
     pub(crate) log: Vec<Logged>,
 }
 
-/// How many bytes a line has in a machine of this configuration.
-fn size_of_config(config: &Config) -> LineSize {
-    if config.line == 64 {
-        LineSize::Bytes64
-    } else {
-        LineSize::Bytes16
-    }
-}
-
 fn opening_node(alloc: Global, image: &Image, config: &Config, id: u8) -> Node {
     Node {
         hart: Hart::at_reset(id, image.entry(), config.harts),
@@ -68,13 +59,13 @@ fn opening_node(alloc: Global, image: &Image, config: &Config, id: u8) -> Node {
         output: Vec::new(alloc),
         reserved: None,
         buffer: Groups::new(alloc),
-        cache: Cache::new(alloc, config.sets, config.ways, size_of_config(config)),
+        cache: Cache::new(alloc, config.sets, config.ways, config.line),
         queues: Waiting::new(alloc),
     }
 }
 
 fn opening_notes(alloc: Global, image: &Image, config: &Config) -> Result<Vec<Notes>, AllocError> {
-    let lines = match size_of_config(config) {
+    let lines = match config.line {
         LineSize::Bytes16 => image.size() / 16,
         LineSize::Bytes64 => image.size() / 64,
     };
@@ -114,10 +105,6 @@ impl PlainMachine {
         }))
     }
 
-    pub(crate) fn line_size(&self) -> LineSize {
-        size_of_config(&self.config)
-    }
-
     pub(crate) fn node_at(&mut self, hart: u8) -> Option<&mut Node> {
         self.nodes.get_mut(usize::from(hart))
     }
@@ -125,14 +112,14 @@ impl PlainMachine {
     /// The place in memory of the line that begins at an address.
     pub(crate) fn place_of(&self, line: u32) -> usize {
         let offset = line.saturating_sub(BASE) as usize;
-        match self.line_size() {
+        match self.config.line {
             LineSize::Bytes16 => offset / 16,
             LineSize::Bytes64 => offset / 64,
         }
     }
 
     pub(crate) fn line_in_memory(&self, line: u32) -> LineData {
-        match self.line_size() {
+        match self.config.line {
             LineSize::Bytes16 => LineData::Bytes16(self.bytes_at(line)),
             LineSize::Bytes64 => LineData::Bytes64(self.bytes_at(line)),
         }
@@ -191,7 +178,7 @@ impl PlainMachine {
     /// The trace, and what each hart put out; none where the lists are larger than a trace's, which no events
     /// lead to.
     pub fn into_parts(self) -> Result<Option<(Trace, Vec<Vec<u32>>)>, AllocError> {
-        let size = self.line_size();
+        let size = self.config.line;
         let alloc = self.alloc;
         let mut entries = Vec::new(alloc);
         let mut statuses = Vec::new(alloc);

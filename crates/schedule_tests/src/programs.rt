@@ -7,6 +7,7 @@ use machine_model::MemoryModel;
 use machine_types::Config;
 use std::alloc::Global;
 use std::test::Fail;
+use tl_types::LineSize;
 
 pub const X: u32 = 0x8000_0100;
 
@@ -310,7 +311,7 @@ pub fn config_of(harts: u32, ways: u32) -> Config {
         harts,
         sets: 1,
         ways,
-        line: 16,
+        line: LineSize::Bytes16,
         model: MemoryModel::Rvwmo,
     }
 }

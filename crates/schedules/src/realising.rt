@@ -88,7 +88,7 @@ impl Player {
             return Ok(false);
         };
         if let Some(word) = views.reserved(place) {
-            let line = word - word % views.config().line;
+            let line = word - word % views.config().line.bytes();
             self.give_up(hart, line)?;
         }
         Ok(has_stepped(self.apply(Event::Step { hart })?))

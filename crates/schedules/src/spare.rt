@@ -20,14 +20,15 @@ pub(crate) fn lowest_held(
     requires limits { IsTrue (limits.is_within_limits config.now) }
     requires memory { IsMemorySize size }
 {
-    let kept_line = kept.map(|word| word - word % config.line);
-    let set = address / config.line % config.sets;
-    let mut line = BASE + set * config.line;
+    let bytes = config.line.bytes();
+    let kept_line = kept.map(|word| word - word % bytes);
+    let set = address / bytes % config.sets;
+    let mut line = BASE + set * bytes;
     while line < BASE + size {
         if kept_line != Some(line) && cache.copy(line).is_some() {
             return Some(line);
         }
-        line += config.sets * config.line;
+        line += config.sets * bytes;
     }
     None
 }

@@ -11,6 +11,7 @@ use std::fmt::Display;
 use std::io::{self, ErrorKind};
 use std::process::Abort;
 use std::test::Fail;
+use tl_types::LineSize;
 use trace_text::{Events, Script, read_script, read_trace};
 
 /// Scripts that are refused, and what is remarked of each.
@@ -369,7 +370,7 @@ fn events(rt: HostRuntime) -> Result<(), Fail> {
         kib: 4,
         sets: 4,
         ways: 2,
-        line: 16,
+        line: LineSize::Bytes16,
         events: Events::new(Vec::new(rt.alloc())),
     };
     for (event, text) in &EVENTS {

@@ -11,7 +11,7 @@ use std::alloc::Global;
 use std::io::Write;
 use std::process::Abort;
 use std::test::Fail;
-use tl_types::Channel;
+use tl_types::{Channel, LineSize};
 
 const STEP: Event = Event::Step { hart: 0 };
 
@@ -197,11 +197,11 @@ const SMALL: Config = Config {
     harts: 1,
     sets: 4,
     ways: 2,
-    line: 16,
+    line: LineSize::Bytes16,
     model: MemoryModel::Rvwmo,
 };
 
-pub(crate) fn config_of(harts: u32, line: u32) -> Config {
+pub(crate) fn config_of(harts: u32, line: LineSize) -> Config {
     Config {
         harts,
         line,
@@ -268,7 +268,7 @@ fn a_stream_has_each_line_below_its_event(rt: HostRuntime) -> Result<(), Fail> {
 #[test]
 fn a_stream_tells_what_a_hart_puts_out(rt: HostRuntime) -> Result<(), Fail> {
     let (alloc, how) = (rt.alloc(), Strictness::Lenient);
-    let wide = config_of(5, 64);
+    let wide = config_of(5, LineSize::Bytes64);
     is_told(
         &rt,
         alloc,

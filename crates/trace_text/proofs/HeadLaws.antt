@@ -1,21 +1,20 @@
 -- What is read of a trace's header is spelled so, and what is spelled so is read, whatever follows.
 use Rattle.std.proofs.Common.{◌≡◌, ℕ, ◌^◌, ◌<◌, ◌≤◌, Bool, ◌&&◌, true, false, eqb, leb, List, [], ◌∷◌, ◌++◌, Some, None, refl, sym, ap, subst, ◌∙◌, arith, inl, inr}
 use Rattle.std.specs.Prelude.{codes, not}
-use Rattle.std.proofs.lemmas.Bool.{eqb-true, le-leb}
-use Rattle.std.proofs.lemmas.Option.{none-some, same_Some}
+use Rattle.std.proofs.lemmas.Bool.{le-leb}
 use Rattle.text_fields.specs.Fields.{number, word}
-use Rattle.text_fields.specs.Reading.{◌>>=◌, led_at, after, number_at}
-use Rattle.text_fields.proofs.Laws.{Reads, bind_some, some_is, pair_reads, seen_reads, led_reads, ended_reads, guard_reads, number_reads, word_reads, after_takes, behind_takes, chosen, both_true, refit}
-use Rattle.tl_types.specs.Line.{length_of, size_of_bytes}
-use Rattle.tl_types.specs.declared.line.LineSize.{LineSize}
-use Rattle.tl_types.specs.declared.line.LineSize.TheVariants.{Bytes16, Bytes64}
+use Rattle.text_fields.specs.Reading.{led_at, after}
+use Rattle.text_fields.proofs.Laws.{Reads, pair_reads, seen_reads, led_reads, ended_reads, guard_reads, word_reads, after_takes, behind_takes, both_true, refit}
+use Rattle.tl_types.specs.Line.{length_of}
+use Rattle.tl_types.specs.declared.line.LineSize.TheVariants.{Bytes16}
 use Rattle.elf_loader.proofs.Sizes.{kib_passes}
 use Rattle.trace_text.specs.declared.head.TraceHead.{TraceHead}
 use Rattle.trace_text.specs.Scripts.{is_first_version}
 use Rattle.trace_text.specs.TraceHeads.{IsTraceHead}
 use Rattle.trace_text.specs.Traces.{head}
 use Rattle.trace_text.specs.ScriptReading.{most, word_line_at}
-use Rattle.trace_text.specs.TraceLines.{is_trace_head, first_fields_at, first_numbers_at, size_at, word_field_at, second_fields_at, second_numbers_at, head_at}
+use Rattle.trace_text.specs.TraceLines.{is_trace_head, first_fields_at, first_numbers_at, word_field_at, second_fields_at, second_numbers_at, head_at}
+use Rattle.trace_text.proofs.LineSizes.{number_law, size_16, size_reads}
 use Rattle.trace_text.proofs.TraceHeads.{trace_head_bounds}
 
 head_passes : (h : TraceHead) → IsTraceHead h → is_trace_head h ≡ true
@@ -29,9 +28,6 @@ not_true false e = refl
 both_are : (a b : Bool) → a ≡ true → b ≡ true → (a && b) ≡ true
 both_are a b e f = rw (e, f) refl
 
-number_law : (end : ℕ) → end < 48 → Reads (number end) (λ n. n ≤ most) (number_at end most)
-number_law end lt = number_reads end most lt (omega arith)
-
 entry_small : (h : TraceHead) → IsTraceHead h → h.entry < 2 ^ 32
 entry_small h t = omega (arith, t.inside, t.memory.at_most)
 
@@ -41,11 +37,7 @@ abbrev first_numbers : TraceHead → List ℕ
 first_numbers h = number 32 h.harts ++ (number 32 h.kib ++ (word h.entry ++ 10 ∷ []))
 
 abbrev first : TraceHead → Bool
-first h = is_first_version h.harts (length_of h.line)
-
-size_16 : (s : LineSize) → eqb (length_of s) 16 ≡ true → s ≡ Bytes16
-size_16 Bytes16 e = refl
-size_16 Bytes64 e = absurd cc
+first h = is_first_version h.harts h.line
 
 abbrev IsFirst : TraceHead → Type 0
 IsFirst h = IsTraceHead h × (first h ≡ true)
@@ -53,17 +45,16 @@ IsFirst h = IsTraceHead h × (first h ≡ true)
 abbrev FirstFields : TraceHead → Type 0
 FirstFields h = (h.line ≡ Bytes16) × ((h.harts ≤ most) × ((h.kib ≤ most) × (h.entry < 2 ^ 32)))
 
-first_to : (h : TraceHead) → FirstFields h × ((is_trace_head h && is_first_version h.harts 16) ≡ true) → IsFirst h
+first_to : (h : TraceHead) → FirstFields h × ((is_trace_head h && is_first_version h.harts Bytes16) ≡ true) → IsFirst h
 first_to h f =
-    let b = both_true (is_trace_head h) (is_first_version h.harts 16) f.1 in
-    (trace_head_bounds h b.0, ap (λ s. is_first_version h.harts (length_of s)) f.0.0 ∙ b.1)
+    let b = both_true (is_trace_head h) (is_first_version h.harts Bytes16) f.1 in
+    (trace_head_bounds h b.0, ap (λ s. is_first_version h.harts s) f.0.0 ∙ b.1)
 
-first_fro : (h : TraceHead) → IsFirst h → FirstFields h × ((is_trace_head h && is_first_version h.harts 16) ≡ true)
+first_fro : (h : TraceHead) → IsFirst h → FirstFields h × ((is_trace_head h && is_first_version h.harts Bytes16) ≡ true)
 first_fro h f =
-    let v = both_true (eqb (length_of h.line) 16) (leb h.harts 4) f.1 in
-    let line = size_16 h.line v.0 in (
+    let line = size_16 h.harts h.line f.1 in (
       (line, (omega (arith, f.0.few_harts), (f.0.memory.at_most, entry_small h f.0))),
-      both_are (is_trace_head h) (is_first_version h.harts 16) (head_passes h f.0) (ap (λ s. is_first_version h.harts (length_of s)) (sym line) ∙ f.1),
+      both_are (is_trace_head h) (is_first_version h.harts Bytes16) (head_passes h f.0) (ap (λ s. is_first_version h.harts s) (sym line) ∙ f.1),
     )
 
 first_back : (h : TraceHead) → h.line ≡ Bytes16 → ◌≡◌ {A = TraceHead} (record { harts = h.harts; kib = h.kib; entry = h.entry; line = Bytes16 }) h
@@ -73,39 +64,12 @@ first_reads : Reads first_numbers IsFirst first_numbers_at
 unfolding first_numbers_at first_fields_at word_line_at
 first_reads =
     refit
-    (guard_reads (λ h. is_trace_head h && is_first_version h.harts 16)
+    (guard_reads (λ h. is_trace_head h && is_first_version h.harts Bytes16)
     (seen_reads first_numbers FirstFields (λ p. record { harts = p.0; kib = p.1.0; entry = p.1.1; line = Bytes16 }) (λ h. (h.harts, (h.kib, h.entry))) (λ x h. (refl, (refl, h))) (λ h f. (first_back h f.0, f.1))
     (pair_reads (number_law 32 (omega arith)) (pair_reads (number_law 32 (omega arith)) (ended_reads 10 word_reads)))))
     first_to first_fro
 
 -- ---- version 2
-
-size_is : (n : ℕ) (s : LineSize) → size_of_bytes n ≡ Some s → n ≡ length_of s
-size_is n s e =
-    elim (chosen (eqb n 16) (Some Bytes16) _ (Some s) e) [
-      | inl y ↦ eqb-true n 16 y.0 ∙ ap length_of (same_Some Bytes16 s y.1)
-      | inr m ↦ elim (chosen (eqb n 64) (Some Bytes64) None (Some s) m.1) [
-        | inl y ↦ eqb-true n 64 y.0 ∙ ap length_of (same_Some Bytes64 s y.1)
-        | inr m ↦ absurd (none-some s m.1)
-      ]
-    ]
-
-size_takes : (bytes : List ℕ) (s : LineSize) (rest : List ℕ) → size_at bytes ≡ Some (s, rest) → (bytes ≡ number 10 (length_of s) ++ rest) × Unit {0}
-unfolding size_at
-size_takes bytes s rest e =
-    let p = bind_some (number_at 10 most bytes) (λ n. size_of_bytes n.0 >>= λ s. Some (s, n.1)) (s, rest) e in
-    let q = bind_some (size_of_bytes p.0.0) (λ s. Some (s, p.0.1)) (s, rest) p.2 in
-    let t = (number_law 10 (omega arith)).takes bytes p.0.0 p.0.1 p.1 in
-    let made : LineSize × List ℕ = (q.0, p.0.1) in
-    subst (λ (y : LineSize × List ℕ). (bytes ≡ number 10 (length_of y.0) ++ y.1) × Unit {0}) (some_is made (s, rest) q.2) (t.0 ∙ ap (λ n. number 10 n ++ p.0.1) (size_is p.0.0 q.0 q.1), tt)
-
-size_again : (s : LineSize) (rest : List ℕ) → size_at (number 10 (length_of s) ++ rest) ≡ Some (s, rest)
-unfolding size_at
-size_again Bytes16 rest = rw ((number_law 10 (omega arith)).again 16 rest (omega arith)) refl
-size_again Bytes64 rest = rw ((number_law 10 (omega arith)).again 64 rest (omega arith)) refl
-
-size_reads : Reads (λ s. number 10 (length_of s)) (λ s. Unit {0}) size_at
-size_reads = record { takes = size_takes; again = λ s rest h. size_again s rest }
 
 abbrev second_numbers : TraceHead → List ℕ
 second_numbers h = number 32 h.harts ++ (number 32 h.kib ++ ((word h.entry ++ 32 ∷ []) ++ number 10 (length_of h.line)))

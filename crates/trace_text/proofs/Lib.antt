@@ -2,6 +2,7 @@ mod Scripts
 mod TraceWriting
 mod TraceHeads
 mod TraceLaws
+mod LineSizes
 mod HeadLaws
 mod ImageLaws
 mod WholeTraces

@@ -18,8 +18,8 @@ use Rattle.machine_types.specs.Config.{is_within_limits}
 use Rattle.machine_types.proofs.Limits.{limits_of}
 use Rattle.tl_types.specs.Line.{length_of}
 use Rattle.tl_types.specs.declared.line.LineSize.{LineSize}
-use Rattle.tl_types.specs.declared.line.LineSize.TheVariants.{Bytes16, Bytes64}
-use Rattle.tl_types.proofs.Sizes.{of_each_size}
+use Rattle.tl_types.specs.declared.line.LineSize.TheVariants.{Bytes16}
+use Rattle.trace_text.proofs.LineSizes.{number_law, size_16, size_reads}
 use Rattle.trace_text.specs.declared.script.Head.{Head}
 use Rattle.trace_text.specs.Words.{channel}
 use Rattle.trace_text.specs.Scripts.{event, IsEvent, is_first_version, head, config_in, is_head, head_of, text, IsScript}
@@ -27,7 +27,7 @@ use Rattle.trace_text.specs.declared.script.Script.{Script}
 use Rattle.trace_text.specs.declared.fault.TextError.{TextError}
 use Rattle.std.specs.Prelude.{IfOk}
 use Rattle.trace_text.specs.Reading.{IsReadOrRefused, IsNoMemory}
-use Rattle.trace_text.specs.ScriptReading.{channels, word_line_at, channel_at, step_at, drain_at, evict_at, deliver_at, local_at, event_at, most, last_two_at, first_fields_at, first_head_at, second_fields_at, second_head_at, head_at, script_at}
+use Rattle.trace_text.specs.ScriptReading.{channels, word_line_at, channel_at, step_at, drain_at, evict_at, deliver_at, local_at, event_at, most, last_two_at, size_at, ways_and_size_at, first_fields_at, first_head_at, second_fields_at, second_head_at, head_at, script_at}
 
 word_line_reads : Reads (λ w. word w ++ 10 ∷ []) (λ w. w < 2 ^ 32) word_line_at
 unfolding word_line_at
@@ -144,18 +144,15 @@ abbrev first : Head → List ℕ
 first h = codes "rvtl-script 1 " ++ (number 32 h.harts ++ (number 32 h.kib ++ (number 32 h.sets ++ number 10 h.ways)))
 
 abbrev second : Head → List ℕ
-second h = codes "rvtl-script 2 " ++ (number 32 h.harts ++ (number 32 h.kib ++ (number 32 h.sets ++ (number 32 h.ways ++ number 10 h.line))))
-
-number_law : (end : ℕ) → end < 48 → Reads (number end) (λ n. n ≤ most) (number_at end most)
-number_law end lt = number_reads end most lt (omega arith)
+second h = codes "rvtl-script 2 " ++ (number 32 h.harts ++ (number 32 h.kib ++ (number 32 h.sets ++ (number 32 h.ways ++ number 10 (length_of h.line)))))
 
 first_law : Reads (λ (p : ℕ × (ℕ × (ℕ × ℕ))). codes "rvtl-script 1 " ++ (number 32 p.0 ++ (number 32 p.1.0 ++ (number 32 p.1.1.0 ++ number 10 p.1.1.1)))) (λ p. (p.0 ≤ most) × ((p.1.0 ≤ most) × ((p.1.1.0 ≤ most) × (p.1.1.1 ≤ most))))
     (led_at (codes "rvtl-script 1 ") (pair_at (number_at 32 most) (pair_at (number_at 32 most) (pair_at (number_at 32 most) (number_at 10 most)))))
 first_law = led_reads (codes "rvtl-script 1 ") (pair_reads (number_law 32 (omega arith)) (pair_reads (number_law 32 (omega arith)) (pair_reads (number_law 32 (omega arith)) (number_law 10 (omega arith)))))
 
-second_law : Reads (λ (p : ℕ × (ℕ × (ℕ × (ℕ × ℕ)))). codes "rvtl-script 2 " ++ (number 32 p.0 ++ (number 32 p.1.0 ++ (number 32 p.1.1.0 ++ (number 32 p.1.1.1.0 ++ number 10 p.1.1.1.1))))) (λ p. (p.0 ≤ most) × ((p.1.0 ≤ most) × ((p.1.1.0 ≤ most) × ((p.1.1.1.0 ≤ most) × (p.1.1.1.1 ≤ most)))))
-    (led_at (codes "rvtl-script 2 ") (pair_at (number_at 32 most) (pair_at (number_at 32 most) (pair_at (number_at 32 most) (pair_at (number_at 32 most) (number_at 10 most))))))
-second_law = led_reads (codes "rvtl-script 2 ") (pair_reads (number_law 32 (omega arith)) (pair_reads (number_law 32 (omega arith)) (pair_reads (number_law 32 (omega arith)) (pair_reads (number_law 32 (omega arith)) (number_law 10 (omega arith))))))
+second_law : Reads (λ (p : ℕ × (ℕ × (ℕ × (ℕ × LineSize)))). codes "rvtl-script 2 " ++ (number 32 p.0 ++ (number 32 p.1.0 ++ (number 32 p.1.1.0 ++ (number 32 p.1.1.1.0 ++ number 10 (length_of p.1.1.1.1)))))) (λ p. (p.0 ≤ most) × ((p.1.0 ≤ most) × ((p.1.1.0 ≤ most) × ((p.1.1.1.0 ≤ most) × Unit {0}))))
+    (led_at (codes "rvtl-script 2 ") (pair_at (number_at 32 most) (pair_at (number_at 32 most) (pair_at (number_at 32 most) (pair_at (number_at 32 most) size_at)))))
+second_law = led_reads (codes "rvtl-script 2 ") (pair_reads (number_law 32 (omega arith)) (pair_reads (number_law 32 (omega arith)) (pair_reads (number_law 32 (omega arith)) (pair_reads (number_law 32 (omega arith)) size_reads))))
 
 abbrev pub IsOne : Head → Type 0
 IsOne h = is_head h ≡ true
@@ -171,9 +168,9 @@ not_true true e = absurd cc
 not_true false e = refl
 
 abbrev make_first : ℕ × (ℕ × (ℕ × ℕ)) → Head
-make_first p = record { harts = p.0; kib = p.1.0; sets = p.1.1.0; ways = p.1.1.1; line = 16 }
+make_first p = record { harts = p.0; kib = p.1.0; sets = p.1.1.0; ways = p.1.1.1; line = Bytes16 }
 
-abbrev make_second : ℕ × (ℕ × (ℕ × (ℕ × ℕ))) → Head
+abbrev make_second : ℕ × (ℕ × (ℕ × (ℕ × LineSize))) → Head
 make_second p = record { harts = p.0; kib = p.1.0; sets = p.1.1.0; ways = p.1.1.1.0; line = p.1.1.1.1 }
 
 first_takes : (bytes : List ℕ) (h : Head) (rest : List ℕ) → first_head_at bytes ≡ Some (h, rest) → (bytes ≡ head h ++ rest) × IsOne h
@@ -186,9 +183,9 @@ first_takes bytes h rest e =
     subst (λ (y : Head × List ℕ). (bytes ≡ head y.0 ++ y.1) × IsOne y.0) g.1 (t.0 ∙ ap (λ u. u ++ p.0.1) (sym (head_first p.0.0 b.1)), b.0)
 
 second_takes : (bytes : List ℕ) (h : Head) (rest : List ℕ) → second_head_at bytes ≡ Some (h, rest) → (bytes ≡ head h ++ rest) × IsOne h
-unfolding second_head_at second_fields_at last_two_at
+unfolding second_head_at second_fields_at ways_and_size_at
 second_takes bytes h rest e =
-    let p = bind_some (seen_at make_second (led_at (codes "rvtl-script 2 ") (pair_at (number_at 32 most) (pair_at (number_at 32 most) (pair_at (number_at 32 most) (pair_at (number_at 32 most) (number_at 10 most)))))) bytes) (λ x. guarded (is_head x.0 && not (is_first_version x.0.harts x.0.line)) x) (h, rest) e in
+    let p = bind_some (seen_at make_second (led_at (codes "rvtl-script 2 ") (pair_at (number_at 32 most) (pair_at (number_at 32 most) (pair_at (number_at 32 most) (pair_at (number_at 32 most) size_at))))) bytes) (λ x. guarded (is_head x.0 && not (is_first_version x.0.harts x.0.line)) x) (h, rest) e in
     let g = guarded_takes (is_head p.0.0 && not (is_first_version p.0.0.harts p.0.0.line)) p.0 (h, rest) p.2 in
     let b = both_true (is_head p.0.0) (not (is_first_version p.0.0.harts p.0.0.line)) g.0 in
     let t = seen_takes second_law make_second second (λ h. Unit {0}) (λ x f. (refl, tt)) bytes p.0.0 p.0.1 p.1 in
@@ -207,11 +204,6 @@ record Bounds (h : Head) : Type 0 where
   kib : h.kib ≤ most
   sets : h.sets ≤ most
   ways : h.ways ≤ most
-  line : h.line ≤ most
-
-short_line : (size : LineSize) → length_of size ≤ most
-short_line Bytes16 = omega arith
-short_line Bytes64 = omega arith
 
 bounds : (h : Head) → is_head h ≡ true → Bounds h
 bounds h e =
@@ -222,7 +214,6 @@ bounds h e =
       kib = (memory_kib h.kib both.1).at_most;
       sets = omega (arith, limits.few_sets);
       ways = omega (arith, limits.few_ways);
-      line = of_each_size (λ n. n ≤ most) short_line h.line limits.line;
     }
 
 guard_passes : (k : Head → Bool) (m h : Head) (rest : List ℕ) → m ≡ h → k h ≡ true → guarded {A = Head × List ℕ} (k m) (m, rest) ≡ Some (h, rest)
@@ -235,7 +226,7 @@ first_again : (h : Head) (rest : List ℕ) → is_head h ≡ true → is_first_v
 unfolding first_head_at first_fields_at last_two_at
 first_again h rest e v =
     let b = bounds h e in
-    let line : h.line ≡ 16 = eqb-true h.line 16 (both_true (eqb h.line 16) (leb h.harts 4) v).0 in
+    let line : h.line ≡ Bytes16 = size_16 h.harts h.line v in
     let made : make_first (h.harts, (h.kib, (h.sets, h.ways))) ≡ h = rw (← line) refl in
     let read = seen_again first_law make_first (h.harts, (h.kib, (h.sets, h.ways))) rest (b.harts, (b.kib, (b.sets, b.ways))) in
     ap (λ t. first_head_at (t ++ rest)) (head_first h v)
@@ -243,10 +234,10 @@ first_again h rest e v =
     ∙ guard_passes (λ m. is_head m && is_first_version m.harts m.line) (make_first (h.harts, (h.kib, (h.sets, h.ways)))) h rest made (both_are _ _ e v)
 
 second_again : (h : Head) (rest : List ℕ) → is_head h ≡ true → is_first_version h.harts h.line ≡ false → second_head_at (head h ++ rest) ≡ Some (h, rest)
-unfolding second_head_at second_fields_at last_two_at
+unfolding second_head_at second_fields_at ways_and_size_at
 second_again h rest e v =
     let b = bounds h e in
-    let read = seen_again second_law make_second (h.harts, (h.kib, (h.sets, (h.ways, h.line)))) rest (b.harts, (b.kib, (b.sets, (b.ways, b.line)))) in
+    let read = seen_again second_law make_second (h.harts, (h.kib, (h.sets, (h.ways, h.line)))) rest (b.harts, (b.kib, (b.sets, (b.ways, tt)))) in
     let other : not (is_first_version h.harts h.line) ≡ true = ap not v in
     ap (λ t. second_head_at (t ++ rest)) (head_second h v)
     ∙ ap (λ (r : Option (Head × List ℕ)). r >>= λ x. guarded (is_head x.0 && not (is_first_version x.0.harts x.0.line)) x) read

@@ -4,6 +4,9 @@ use Rattle.machine_limits.specs.declared.TheConstants.{MAX_KIB}
 use Rattle.text_fields.specs.Reading.{◌>>=◌, pair_at, seen_at, led_at, ended_at, table_at, number_at, word_at, either, guarded, all_at}
 use Rattle.machine_types.specs.declared.event.Event.{Event}
 use Rattle.machine_types.specs.declared.event.Event.TheVariants.{Step, Drain, Evict, Deliver, Local}
+use Rattle.tl_types.specs.Line.{size_of_bytes}
+use Rattle.tl_types.specs.declared.line.LineSize.{LineSize}
+use Rattle.tl_types.specs.declared.line.LineSize.TheVariants.{Bytes16}
 use Rattle.tl_types.specs.declared.message.Channel.{Channel}
 use Rattle.tl_types.specs.declared.message.Channel.TheVariants.{A, B, C, D, E}
 use Rattle.trace_text.specs.declared.script.Head.{Head}
@@ -42,13 +45,21 @@ event_at bytes = either (step_at bytes) (either (drain_at bytes) (either (evict_
 abbrev pub most : ℕ
 most = MAX_KIB
 
--- the last two numbers of a header
+-- the last two numbers of a header of version 1
 unfoldable pub last_two_at : List ℕ → Option ((ℕ × ℕ) × List ℕ)
 last_two_at bytes = pair_at (number_at 32 most) (number_at 10 most) bytes
 
+-- a line's size, which ends the line of text
+unfoldable pub size_at : List ℕ → Option (LineSize × List ℕ)
+size_at bytes = number_at 10 most bytes >>= λ n. size_of_bytes n.0 >>= λ s. Some (s, n.1)
+
+-- the last two of a header of version 2
+unfoldable pub ways_and_size_at : List ℕ → Option ((ℕ × LineSize) × List ℕ)
+ways_and_size_at bytes = pair_at (number_at 32 most) size_at bytes
+
 unfoldable pub first_fields_at : List ℕ → Option (Head × List ℕ)
 first_fields_at bytes =
-    seen_at (λ p. record { harts = p.0; kib = p.1.0; sets = p.1.1.0; ways = p.1.1.1; line = 16 })
+    seen_at (λ p. record { harts = p.0; kib = p.1.0; sets = p.1.1.0; ways = p.1.1.1; line = Bytes16 })
     (led_at (codes "rvtl-script 1 ") (pair_at (number_at 32 most) (pair_at (number_at 32 most) last_two_at))) bytes
 
 unfoldable pub first_head_at : List ℕ → Option (Head × List ℕ)
@@ -57,7 +68,7 @@ first_head_at bytes = first_fields_at bytes >>= λ x. guarded (is_head x.0 && is
 unfoldable pub second_fields_at : List ℕ → Option (Head × List ℕ)
 second_fields_at bytes =
     seen_at (λ p. record { harts = p.0; kib = p.1.0; sets = p.1.1.0; ways = p.1.1.1.0; line = p.1.1.1.1 })
-    (led_at (codes "rvtl-script 2 ") (pair_at (number_at 32 most) (pair_at (number_at 32 most) (pair_at (number_at 32 most) last_two_at)))) bytes
+    (led_at (codes "rvtl-script 2 ") (pair_at (number_at 32 most) (pair_at (number_at 32 most) (pair_at (number_at 32 most) ways_and_size_at)))) bytes
 
 unfoldable pub second_head_at : List ℕ → Option (Head × List ℕ)
 second_head_at bytes = second_fields_at bytes >>= λ x. guarded (is_head x.0 && not (is_first_version x.0.harts x.0.line)) x

@@ -1,5 +1,5 @@
 -- What a script is, and its one spelling.
-use Rattle.std.specs.Prelude.{◌≡◌, ℕ, ◌<◌, ◌≤◌, ◌^◌, Bool, true, List, [], ◌∷◌, ◌++◌, ◌&&◌, ◌==◌, nat_le, if◌then◌else◌, codes}
+use Rattle.std.specs.Prelude.{◌≡◌, ℕ, ◌<◌, ◌≤◌, ◌^◌, Bool, true, false, List, [], ◌∷◌, ◌++◌, ◌&&◌, nat_le, if◌then◌else◌, codes}
 use Rattle.std.specs.List.{flat_map, AllByRecursion}
 use Rattle.text_fields.specs.Fields.{number, word}
 use Rattle.elf_loader.specs.Size.{is_memory_kib}
@@ -8,6 +8,9 @@ use Rattle.machine_types.specs.declared.config.Config.{Config}
 use Rattle.machine_types.specs.declared.event.Event.{Event}
 use Rattle.machine_types.specs.declared.event.Event.TheVariants.{Step, Drain, Evict, Deliver, Local}
 use Rattle.memory_model.specs.declared.MemoryModel.TheVariants.{Rvwmo}
+use Rattle.tl_types.specs.Line.{length_of}
+use Rattle.tl_types.specs.declared.line.LineSize.{LineSize}
+use Rattle.tl_types.specs.declared.line.LineSize.TheVariants.{Bytes16, Bytes64}
 use Rattle.trace_text.specs.declared.script.Head.{Head}
 use Rattle.trace_text.specs.declared.script.Script.{Script}
 use Rattle.trace_text.specs.Words.{channel}
@@ -33,14 +36,15 @@ IsEvent (Deliver c h) = h ≤ 255
 IsEvent (Local h n) = (h ≤ 255) × (n ≤ 4294967295)
 
 -- Version 1 is exactly lines of 16 bytes with at most 4 harts.
-abbrev pub is_first_version : ℕ → ℕ → Bool
-is_first_version harts line = (line == 16) && nat_le harts 4
+abbrev pub is_first_version : ℕ → LineSize → Bool
+is_first_version harts Bytes16 = nat_le harts 4
+is_first_version harts Bytes64 = false
 
 -- the first line
 abbrev pub head : Head → List ℕ
 head h =
     if is_first_version h.harts h.line then codes "rvtl-script 1 " ++ (number 32 h.harts ++ (number 32 h.kib ++ (number 32 h.sets ++ number 10 h.ways)))
-    else codes "rvtl-script 2 " ++ (number 32 h.harts ++ (number 32 h.kib ++ (number 32 h.sets ++ (number 32 h.ways ++ number 10 h.line))))
+    else codes "rvtl-script 2 " ++ (number 32 h.harts ++ (number 32 h.kib ++ (number 32 h.sets ++ (number 32 h.ways ++ number 10 (length_of h.line)))))
 
 -- a machine of these numbers; the limits are the same under each memory model
 abbrev pub config_in : Head → Config

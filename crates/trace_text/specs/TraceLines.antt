@@ -7,7 +7,7 @@ use Rattle.elf_loader.specs.Size.{base, is_memory_kib}
 use Rattle.hart.specs.declared.retired.Retired.{Retired}
 use Rattle.hart.specs.declared.status.Status.{Status}
 use Rattle.hart.specs.declared.status.Status.TheVariants.{Running, Stopped, Exited}
-use Rattle.tl_types.specs.Line.{length_of, size_of_bytes}
+use Rattle.tl_types.specs.Line.{length_of}
 use Rattle.tl_types.specs.Message.{channel_of}
 use Rattle.tl_types.specs.declared.line.LineSize.{LineSize}
 use Rattle.tl_types.specs.declared.line.LineSize.TheVariants.{Bytes16}
@@ -17,7 +17,7 @@ use Rattle.tl_types.specs.declared.message.Msg.{Msg}
 use Rattle.trace_recorder.specs.declared.operation.OpId.{OpId}
 use Rattle.trace_recorder.specs.declared.logged.Logged.{Logged}
 use Rattle.trace_text.specs.declared.head.TraceHead.{TraceHead}
-use Rattle.trace_text.specs.ScriptReading.{most, word_line_at}
+use Rattle.trace_text.specs.ScriptReading.{most, size_at, word_line_at}
 use Rattle.trace_text.specs.Scripts.{is_first_version}
 use Rattle.trace_text.specs.Traces.{any_set}
 use Rattle.trace_text.specs.TraceReading.{direction_at, message_at, loaded_at, answer_at}
@@ -34,11 +34,7 @@ unfoldable pub first_fields_at : List ℕ → Option (TraceHead × List ℕ)
 first_fields_at bytes = seen_at (λ p. record { harts = p.0; kib = p.1.0; entry = p.1.1; line = Bytes16 }) (pair_at (number_at 32 most) (pair_at (number_at 32 most) word_line_at)) bytes
 
 unfoldable pub first_numbers_at : List ℕ → Option (TraceHead × List ℕ)
-first_numbers_at bytes = first_fields_at bytes >>= λ x. guarded (is_trace_head x.0 && is_first_version x.0.harts 16) x
-
--- a line's size, which ends the line
-unfoldable pub size_at : List ℕ → Option (LineSize × List ℕ)
-size_at bytes = number_at 10 most bytes >>= λ n. size_of_bytes n.0 >>= λ s. Some (s, n.1)
+first_numbers_at bytes = first_fields_at bytes >>= λ x. guarded (is_trace_head x.0 && is_first_version x.0.harts Bytes16) x
 
 -- a word, and the space behind it
 unfoldable pub word_field_at : List ℕ → Option (ℕ × List ℕ)
@@ -49,7 +45,7 @@ second_fields_at bytes =
     seen_at (λ p. record { harts = p.0; kib = p.1.0; entry = p.1.1.0; line = p.1.1.1 }) (pair_at (number_at 32 most) (pair_at (number_at 32 most) (pair_at word_field_at size_at))) bytes
 
 unfoldable pub second_numbers_at : List ℕ → Option (TraceHead × List ℕ)
-second_numbers_at bytes = second_fields_at bytes >>= λ x. guarded (is_trace_head x.0 && not (is_first_version x.0.harts (length_of x.0.line))) x
+second_numbers_at bytes = second_fields_at bytes >>= λ x. guarded (is_trace_head x.0 && not (is_first_version x.0.harts x.0.line)) x
 
 unfoldable pub head_at : List ℕ → Option (TraceHead × List ℕ)
 head_at bytes = behind (after (codes "rvtl-trace 1\nT ") bytes) first_numbers_at (led_at (codes "rvtl-trace 2\nT ") second_numbers_at bytes)

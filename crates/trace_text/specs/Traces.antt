@@ -22,7 +22,7 @@ head_of t = record { harts = length t.statuses; kib = length t.image.bytes / 102
 -- the first two lines
 abbrev pub head : TraceHead → List ℕ
 head h =
-    if is_first_version h.harts (length_of h.line) then codes "rvtl-trace 1\nT " ++ (number 32 h.harts ++ (number 32 h.kib ++ (word h.entry ++ 10 ∷ [])))
+    if is_first_version h.harts h.line then codes "rvtl-trace 1\nT " ++ (number 32 h.harts ++ (number 32 h.kib ++ (word h.entry ++ 10 ∷ [])))
     else codes "rvtl-trace 2\nT " ++ (number 32 h.harts ++ (number 32 h.kib ++ ((word h.entry ++ 32 ∷ []) ++ number 10 (length_of h.line))))
 
 abbrev pub any_set : List ℕ → Bool

@@ -16,7 +16,7 @@ mod trace_reading;
 mod trace_writing;
 
 pub use fault::{TextCode, TextError};
-pub use script::{Events, Script};
+pub use script::{Events, Script, is_first_version};
 pub use script_reading::read_script;
 pub use script_writing::{spell_event, write_script};
 pub use spellings::spell_message;

@@ -4,6 +4,7 @@ ghost use Rattle.trace_text.specs.Scripts.{is_first_version};
 
 use machine_types::Event;
 use std::marker::Model;
+use tl_types::LineSize;
 
 /// Events in the order in which they happen.
 #[derive(Debug, Drop)]
@@ -51,8 +52,7 @@ pub struct Script {
     pub kib: u32,
     pub sets: u32,
     pub ways: u32,
-    /// How many bytes a line has.
-    pub line: u32,
+    pub line: LineSize,
     pub events: Events,
 }
 
@@ -63,12 +63,13 @@ pub(crate) struct Head {
     pub kib: u32,
     pub sets: u32,
     pub ways: u32,
-    pub line: u32,
+    pub line: LineSize,
 }
 
-/// Version 1 has lines of 16 bytes and at most 4 harts; whatever is spelt there isn't in version 2.
-pub(crate) fn is_first_version(harts: u64, line: u32) -> bool
+/// Whether a text of so many harts and such lines is of version 1, which has lines of 16 bytes and at most
+/// 4 harts. Whatever is spelt there isn't in version 2.
+pub fn is_first_version(harts: u64, line: LineSize) -> bool
     ensures { result ≡ is_first_version harts line }
 {
-    line == 16 && harts <= 4
+    matches!(line, LineSize::Bytes16) && harts <= 4
 }

@@ -17,7 +17,7 @@ use machine_types::{Config, Event};
 use memory_model::MemoryModel;
 use std::alloc::Global;
 use text_fields::{after, number_at, word_at};
-use tl_types::Channel;
+use tl_types::{Channel, LineSize};
 
 /// No number of a header is more.
 pub(crate) const MOST: u32 = MAX_KIB;
@@ -146,6 +146,25 @@ fn last_two_at(bytes: &[u8]) -> Option<((u32, u32), &[u8])>
     Some(((first, last), rest))
 }
 
+/// A line's size, which ends the line of text.
+#[tactic(auto, unfolding(crate::specs::ScriptReading::size_at))]
+pub(crate) fn size_at(bytes: &[u8]) -> Option<(LineSize, &[u8])>
+    ensures { option_map (λ x. (x.0, x.1.now)) result ≡ reads.size_at bytes.now }
+{
+    let (width, rest) = number_at(bytes, b'\n', MOST)?;
+    let size = LineSize::of_bytes(width)?;
+    Some((size, rest))
+}
+
+#[tactic(auto, unfolding(crate::specs::ScriptReading::ways_and_size_at))]
+fn ways_and_size_at(bytes: &[u8]) -> Option<((u32, LineSize), &[u8])>
+    ensures { option_map (λ x. (x.0, x.1.now)) result ≡ reads.ways_and_size_at bytes.now }
+{
+    let (ways, rest) = number_at(bytes, b' ', MOST)?;
+    let (line, rest) = size_at(rest)?;
+    Some(((ways, line), rest))
+}
+
 #[tactic(auto, unfolding(crate::specs::ScriptReading::first_fields_at))]
 fn first_fields_at(bytes: &[u8]) -> Option<(Head, &[u8])>
     ensures { option_map (λ x. (x.0, x.1.now)) result ≡ reads.first_fields_at bytes.now }
@@ -159,7 +178,7 @@ fn first_fields_at(bytes: &[u8]) -> Option<(Head, &[u8])>
         kib,
         sets,
         ways,
-        line: 16,
+        line: LineSize::Bytes16,
     };
     Some((head, rest))
 }
@@ -184,7 +203,7 @@ fn second_fields_at(bytes: &[u8]) -> Option<(Head, &[u8])>
     let (harts, rest) = number_at(rest, b' ', MOST)?;
     let (kib, rest) = number_at(rest, b' ', MOST)?;
     let (sets, rest) = number_at(rest, b' ', MOST)?;
-    let ((ways, line), rest) = last_two_at(rest)?;
+    let ((ways, line), rest) = ways_and_size_at(rest)?;
     let head = Head {
         harts,
         kib,

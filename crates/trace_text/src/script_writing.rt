@@ -71,7 +71,7 @@ fn spell_head(page: &mut Page, script: &Script)
         page.number(script.kib as u64, b' ');
         page.number(script.sets as u64, b' ');
         page.number(script.ways as u64, b' ');
-        page.number(script.line as u64, b'\n');
+        page.number(script.line.bytes() as u64, b'\n');
     }
 }
 

@@ -115,7 +115,7 @@ fn is_good(line: &[u8], head: &TraceHead) -> bool
 fn after_head<'a>(fields: &'a [u8], head: &TraceHead) -> Option<&'a [u8]>
     requires { IsTraceHead head.now }
 {
-    let found = if is_first_version(head.harts as u64, head.line.bytes()) {
+    let found = if is_first_version(head.harts as u64, head.line) {
         first_numbers_at(fields)
     } else {
         second_numbers_at(fields)

@@ -51,21 +51,11 @@ pub(crate) fn first_numbers_at(bytes: &[u8]) -> Option<(TraceHead, &[u8])>
     ensures fits { IfSome result (λ x. IsTraceHead x.0) }
 {
     let (head, rest) = first_fields_at(bytes)?;
-    if is_trace_head(&head) && is_first_version(head.harts as u64, 16) {
+    if is_trace_head(&head) && is_first_version(head.harts as u64, LineSize::Bytes16) {
         Some((head, rest))
     } else {
         None
     }
-}
-
-/// A line's size, which ends the line.
-#[tactic(auto, unfolding(crate::specs::TraceLines::size_at))]
-fn size_at(bytes: &[u8]) -> Option<(LineSize, &[u8])>
-    ensures { option_map (λ x. (x.0, x.1.now)) result ≡ reads.size_at bytes.now }
-{
-    let (width, rest) = number_at(bytes, b'\n', MOST)?;
-    let size = LineSize::of_bytes(width)?;
-    Some((size, rest))
 }
 
 /// A word, and the space behind it.
@@ -103,7 +93,7 @@ pub(crate) fn second_numbers_at(bytes: &[u8]) -> Option<(TraceHead, &[u8])>
     ensures fits { IfSome result (λ x. IsTraceHead x.0) }
 {
     let (head, rest) = second_fields_at(bytes)?;
-    if is_trace_head(&head) && !is_first_version(head.harts as u64, head.line.bytes()) {
+    if is_trace_head(&head) && !is_first_version(head.harts as u64, head.line) {
         Some((head, rest))
     } else {
         None

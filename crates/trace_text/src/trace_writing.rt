@@ -22,8 +22,7 @@ fn spell_head(page: &mut Page, head: TraceHead)
     requires { HasLineRoom page.old }
     ensures { page.new ≡ page.old ++ spelled.head head }
 {
-    let line = head.line.bytes();
-    if is_first_version(head.harts as u64, line) {
+    if is_first_version(head.harts as u64, head.line) {
         page.text(b"rvtl-trace 1\nT ");
         page.number(head.harts as u64, b' ');
         page.number(head.kib as u64, b' ');
@@ -35,7 +34,7 @@ fn spell_head(page: &mut Page, head: TraceHead)
         page.number(head.kib as u64, b' ');
         page.word(head.entry);
         page.text(b" ");
-        page.number(line as u64, b'\n');
+        page.number(head.line.bytes() as u64, b'\n');
     }
 }
 

@@ -6,7 +6,6 @@ use Rattle.flat_model.specs.Shown.{told}
 use Rattle.hart.specs.declared.status.Status.{Status}
 use Rattle.hart.specs.Run.{is_running}
 use Rattle.machine_types.specs.declared.config.Config.{Config}
-use Rattle.machine_model.specs.Views.{size_of_config}
 use Rattle.memory_model.specs.declared.MemoryModel.{MemoryModel}
 use Rattle.memory_model.specs.Traces.{IsLegalOrder, IsOrder, are_runs, names_in}
 use Rattle.trace_recorder.specs.History.{History}
@@ -28,7 +27,7 @@ pub record IsAllowed (model : MemoryModel) (t : History) : Type 0 where
 abbrev pub history_of : Initial → Config → Run → History
 history_of image config run = record {
   image = image;
-  line = size_of_config config;
+  line = config.line;
   entries = map (λ list. list.items) run.entries.items;
   statuses = run.statuses.items;
   performed = run.order.items;
@@ -51,7 +50,7 @@ pub record CanBeJudged (image : Initial) (config : Config) (run : Run) : Type 0 
 -- an outcome that the model allows: it is read off lists that are runs of the image from reset to their ends, and these have a legal order of at most 4,096 operations; no message is logged
 pub record IsWitness (image : Initial) (config : Config) (witness : Witness) : Type 0 where
   pub image_is : witness.trace.history.image ≡ image
-  pub line_is : witness.trace.history.line ≡ size_of_config config
+  pub line_is : witness.trace.history.line ≡ config.line
   pub harts : length witness.trace.history.entries ≡ config.harts
   pub limits : IsWithinLimits witness.trace.history
   pub few : length (names_in witness.trace.history) ≤ 4096

@@ -9,7 +9,6 @@ use crate::witness::{Run, Witness};
 use elf_loader::Image;
 use hart::Status;
 use machine_model::MemoryModel;
-use machine_parts::line_size;
 use machine_types::Config;
 use rvwmo_order::{CheckError, Verdict, check_model};
 use std::alloc::{AllocError, Global};
@@ -38,7 +37,7 @@ pub fn judge(
     } = run;
     let harts = results_of(alloc, image, &entries, &statuses)?;
     let copy = image.try_copy(alloc)?;
-    let line = line_size(config);
+    let line = config.line;
     let log = Vec::new(alloc);
     let trace = Trace::from_parts(copy, line, entries, statuses, order, log);
     if is_legal(alloc, &trace, config.model)? {

@@ -1,7 +1,7 @@
 //! The plain flat machine beside the machine, on a stream of events.
 
 use super::pair::image_of_words;
-use super::{LINE_BYTES, WORD};
+use super::WORD;
 use crate::numbers::Numbers;
 use anyhow::{Result, bail, ensure};
 use flat_lockstep::{Counts, Failures, Lockstep};
@@ -9,7 +9,7 @@ use machine_model::MemoryModel;
 use machine_types::{Config, Event};
 use plain_machine::Variant;
 use std::alloc::Global;
-use tl_types::Channel;
+use tl_types::{Channel, LineSize};
 
 /// A word of the next line.
 const RIVAL: u32 = 0x8000_0110;
@@ -90,7 +90,7 @@ pub fn every_flat_event(
         harts: 2,
         sets: 1,
         ways,
-        line: LINE_BYTES,
+        line: LineSize::Bytes16,
         model,
     };
     let image = image_of_words(alloc, &PROGRAM)?;

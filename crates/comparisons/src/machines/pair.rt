@@ -1,6 +1,5 @@
 //! Two machines of one image and configuration.
 
-use super::LINE_BYTES;
 use super::views::{coherent_view, plain_view};
 use crate::images::{ImageKind, image_of};
 use anyhow::{Context, Result, bail, ensure};
@@ -10,6 +9,7 @@ use machine_model::MemoryModel;
 use machine_types::{Config, Event, Outcome};
 use plain_machine::PlainMachine;
 use std::alloc::Global;
+use tl_types::LineSize;
 use trace_text::write_trace;
 
 /// Loads the word at 0x80000100 and stores 1 to it, for ever.
@@ -27,7 +27,7 @@ fn config_of(model: MemoryModel) -> Config {
         harts: 2,
         sets: 1,
         ways: 1,
-        line: LINE_BYTES,
+        line: LineSize::Bytes16,
         model,
     }
 }

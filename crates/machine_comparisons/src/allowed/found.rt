@@ -8,6 +8,7 @@ use machine_model::MemoryModel;
 use machine_types::Config;
 use state_search::Unwatched;
 use std::alloc::Global;
+use tl_types::LineSize;
 use window_machine::{Reach, search};
 use witnesses::Witness;
 
@@ -23,7 +24,7 @@ pub fn config_of(harts: u32, model: MemoryModel) -> Config {
         harts,
         sets: 1,
         ways: 1,
-        line: 16,
+        line: LineSize::Bytes16,
         model,
     }
 }

@@ -14,7 +14,7 @@ use Rattle.machine_types.specs.declared.config.Config.{Config}
 use Rattle.machine_model.specs.Changing.{acted, does, drained, place_at, retired, went_alone}
 use Rattle.machine_model.specs.Events.{is_piece}
 use Rattle.machine_model.specs.Steps.{Fetched}
-use Rattle.machine_model.specs.Views.{Node, State, line_size, node_at, size_of_config}
+use Rattle.machine_model.specs.Views.{Node, State, line_size, node_at}
 use Rattle.machine_model.specs.Words.{bytes_of_word, word_of}
 use Rattle.machine_model.proofs.bytes.Lines.{IsOf, IsWritten, same_bytes, wrote}
 use Rattle.machine_model.proofs.coherence.LinePlaces.{IsPiece, piece}
@@ -57,9 +57,9 @@ agrees_by : (s t : State) (last next : ℕ → LineData) → t.trace.image ≡ s
     → ((q : ℕ) → q % length_of (line_size s) ≡ 0 → IsOf (line_size s) (last_performed s.trace) q (last q) → IsOf (line_size s) (last_performed t.trace) q (next q)) → Agrees s last → Agrees t next
 agrees_by s t last next image config f a q on =
     let size = line_size s in
-    let there : is_piece s.trace.image q (length_of size) ≡ true = subst (λ im. is_piece im q (length_of size) ≡ true) image (subst (λ (c : Config). is_piece t.trace.image q (length_of (size_of_config c)) ≡ true) config on) in
+    let there : is_piece s.trace.image q (length_of size) ≡ true = subst (λ im. is_piece im q (length_of size) ≡ true) image (subst (λ (c : Config). is_piece t.trace.image q (length_of c.line) ≡ true) config on) in
     let p : IsPiece s.trace.image q (length_of size) = piece s.trace.image q (length_of size) there in
-    subst (λ (c : Config). IsOf (size_of_config c) (last_performed t.trace) q (next q)) (sym config) (f q p.aligned (a q there))
+    subst (λ (c : Config). IsOf c.line (last_performed t.trace) q (next q)) (sym config) (f q p.aligned (a q there))
 
 -- ---- nothing is performed that writes
 

@@ -16,7 +16,7 @@ use Rattle.machine_model.specs.Coherent.{IsCoherent}
 use Rattle.machine_model.specs.Events.{IsBad, IsLimited, Moves, after_events, counted, happens, hart_of, is_limited, is_piece, names_well, plan_of, state_by, verdict_by}
 use Rattle.machine_model.specs.JointLaws.{LoadValuesAlways}
 use Rattle.machine_model.specs.Laws.{Always, CoherentAlways}
-use Rattle.machine_model.specs.Views.{State, line_size, node_at, opening, size_of_config}
+use Rattle.machine_model.specs.Views.{State, line_size, node_at, opening}
 use Rattle.machine_model.proofs.bytes.Acts.{Agrees, acted_agrees, agrees_still}
 use Rattle.machine_model.proofs.bytes.Lines.{IsOf, image_line}
 use Rattle.machine_model.proofs.coherence.LineStands.{IsLast, Side, newest}
@@ -80,7 +80,7 @@ events_joint [] s st k j = j
 events_joint (e ∷ events) s st k j = events_joint events (happens s e) (happens_stand s e st) (happens_kept s e st k) (happens_joint s e st k j)
 
 opening_joint : (image : Initial) (config : Config) → length image.bytes % 4096 ≡ 0 → Joint (opening image config)
-opening_joint image config pages = (opening_last image config, record { fit = opening_is_fit image config pages; agrees = λ q on. image_line (size_of_config config) image q on })
+opening_joint image config pages = (opening_last image config, record { fit = opening_is_fit image config pages; agrees = λ q on. image_line config.line image q on })
 
 pub joint_always : Always (λ image config s. Joint s)
 joint_always image config events is within = events_joint events (opening image config) (opening_stand image config) (opening_kept image config) (opening_joint image config is.legal_size.whole_pages)

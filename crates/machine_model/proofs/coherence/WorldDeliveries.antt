@@ -20,7 +20,7 @@ use Rattle.directory.specs.declared.answer.Sent.{Sent}
 use Rattle.directory.specs.declared.answer.Transaction.{Transaction}
 use Rattle.directory.specs.declared.answer.Transaction.TheVariants.{Idle, Probing, Granted}
 use Rattle.machine_model.specs.Deliveries.{grant_body, line_in_memory, on_acquire, on_grant_ack, on_probe_ack, on_release, sent_grant, sent_if_granted, sent_if_handled, sent_probes, taken, with_memory, with_notes}
-use Rattle.machine_model.specs.Views.{Node, State, line_size, node_at, place_of, sent, size_of_config}
+use Rattle.machine_model.specs.Views.{Node, State, line_size, node_at, place_of, sent}
 use Rattle.machine_types.specs.declared.config.Config.{Config}
 use Rattle.machine_model.proofs.coherence.LineKept.{part_of, stored}
 use Rattle.machine_model.proofs.coherence.LinePlaces.{place_inside}
@@ -52,10 +52,10 @@ pub fits_queues : (s t : State) (last : ℕ → LineData) → IsFit s last → K
 fits_queues s t last i k w = record {
   pages = rw k.image i.pages;
   well = subst (λ im. IsWell im (line_size t) (length t.views.nodes) (kit_at t) t.views.notes t.views.memory last) (sym k.image)
-      (subst (λ (c : Config). IsWell s.trace.image (size_of_config c) (length t.views.nodes) (kit_at t) t.views.notes t.views.memory last) (sym k.config)
+      (subst (λ (c : Config). IsWell s.trace.image c.line (length t.views.nodes) (kit_at t) t.views.notes t.views.memory last) (sym k.config)
       (subst (λ count. IsWell s.trace.image (line_size s) count (kit_at t) t.views.notes t.views.memory last) (sym k.count) w));
-  sized = λ j. ap (λ c. c.shape.size) (k.nodes j).0 ∙ i.sized j ∙ ap size_of_config (sym k.config);
-  reserved = λ j. subst (λ (c : Config). HoldsReserved (size_of_config c) (node_at t j)) (sym k.config) (λ word e. rw (k.nodes j).0 (i.reserved j word (sym (k.nodes j).1 ∙ e)));
+  sized = λ j. ap (λ c. c.shape.size) (k.nodes j).0 ∙ i.sized j ∙ ap (λ (c : Config). c.line) (sym k.config);
+  reserved = λ j. subst (λ (c : Config). HoldsReserved c.line (node_at t j)) (sym k.config) (λ word e. rw (k.nodes j).0 (i.reserved j word (sym (k.nodes j).1 ∙ e)));
 }
 
 pub keeps_framed : (s t : State) (h : ℕ) (n : Node) → Framed s t h n → n.cache ≡ (node_at s h).cache → n.reserved ≡ (node_at s h).reserved → KeepsCaches s t
@@ -304,10 +304,10 @@ module _ (s : State) (last : ℕ → LineData) (i : IsFit s last) (h : ℕ) (in_
       w = with_notes (with_line s.views.notes p y) u
 
       at_place : line_at w.views.notes (place_of (line_size w) l) ≡ y
-      at_place = ap (λ c. line_at w.views.notes (place_of (size_of_config c) l)) config ∙ get_or-set_same s.views.notes.lines p y (quiet s.views.notes.harts) inside
+      at_place = ap (λ c. line_at w.views.notes (place_of c.line l)) config ∙ get_or-set_same s.views.notes.lines p y (quiet s.views.notes.harts) inside
 
       twice : (later : Line) → with_line w.views.notes (place_of (line_size w) l) later ≡ with_line s.views.notes p later
-      twice later = ap (λ c. with_line w.views.notes (place_of (size_of_config c) l) later) config ∙ ap (λ ls. record s.views.notes { lines = ls }) (set-set s.views.notes.lines p y later)
+      twice later = ap (λ c. with_line w.views.notes (place_of c.line l) later) config ∙ ap (λ ls. record s.views.notes { lines = ls }) (set-set s.views.notes.lines p y later)
 
       choice : Bool → ℕ → Grow → Option Granting × Line
       choice t r g = if t then (None, y) else (Some (grant_for y r g), granting y r g)

@@ -10,7 +10,7 @@ use Rattle.client_cache.specs.AtLine.{AtLine, KeepsOthers}
 use Rattle.client_cache.specs.Cache.{Cache, copy_at}
 use Rattle.client_cache.specs.Held.{perm_of}
 use Rattle.machine_model.specs.Deliveries.{is_trunk, kept_reservation, taken}
-use Rattle.machine_model.specs.Views.{Node, State, line_of, line_size, node_at, no_node, opening_node, sent, size_of_config, with_node, with_trace}
+use Rattle.machine_model.specs.Views.{Node, State, line_of, line_size, node_at, no_node, opening_node, sent, with_node, with_trace}
 use Rattle.machine_model.proofs.coherence.WorldKept.{Kit, KitChanged, IsWell}
 use Rattle.machine_types.specs.declared.config.Config.{Config}
 use Rattle.reservations.specs.Reservation.{lies_in, without_line}
@@ -95,10 +95,10 @@ pub fits : (s t : State) (h : ℕ) (n : Node) (last next : ℕ → LineData) →
 fits s t h n last next i f w sized reserved = record {
   pages = rw f.image i.pages;
   well = subst (λ im. IsWell im (line_size t) (length t.views.nodes) (kit_at t) t.views.notes t.views.memory next) (sym f.image)
-      (subst (λ (c : Config). IsWell s.trace.image (size_of_config c) (length t.views.nodes) (kit_at t) t.views.notes t.views.memory next) (sym f.config)
+      (subst (λ (c : Config). IsWell s.trace.image c.line (length t.views.nodes) (kit_at t) t.views.notes t.views.memory next) (sym f.config)
       (subst (λ count. IsWell s.trace.image (line_size s) count (kit_at t) t.views.notes t.views.memory next) (sym f.count) w));
-  sized = λ j. at_each (λ j m. m.cache.shape.size ≡ line_size s) s t h n f (sized ∙ i.sized h) i.sized j ∙ ap size_of_config (sym f.config);
-  reserved = λ j. subst (λ (c : Config). HoldsReserved (size_of_config c) (node_at t j)) (sym f.config) (at_each (λ j m. HoldsReserved (line_size s) m) s t h n f reserved i.reserved j);
+  sized = λ j. at_each (λ j m. m.cache.shape.size ≡ line_size s) s t h n f (sized ∙ i.sized h) i.sized j ∙ ap (λ (c : Config). c.line) (sym f.config);
+  reserved = λ j. subst (λ (c : Config). HoldsReserved c.line (node_at t j)) (sym f.config) (at_each (λ j m. HoldsReserved (line_size s) m) s t h n f reserved i.reserved j);
 }
 
 -- ---- reservations

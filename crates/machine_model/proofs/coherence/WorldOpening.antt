@@ -20,7 +20,7 @@ use Rattle.directory.specs.declared.answer.Known.{Known}
 use Rattle.directory.specs.declared.answer.Transaction.{Transaction}
 use Rattle.elf_loader.specs.Image.{Initial}
 use Rattle.machine_model.specs.Coherent.{perm_at}
-use Rattle.machine_model.specs.Views.{Node, State, line_size, node_at, opening, opening_node, place_of, size_of_config}
+use Rattle.machine_model.specs.Views.{Node, State, line_size, node_at, opening, opening_node, place_of}
 use Rattle.machine_types.specs.declared.config.Config.{Config}
 use Rattle.machine_model.proofs.coherence.LineKept.{IsKept}
 use Rattle.machine_model.proofs.coherence.LineStands.{Alone, Holds, Side, Stands, noted_none, noted_writer, quiet_side}
@@ -97,7 +97,7 @@ module _ (image : Initial) (config : Config) where
         });
     outside = λ l off h. quiet_at h l unknown refl;
     notes_room = length-replicate _ (quiet config.harts);
-    memory_room = lines_in (size_of_config config) image.bytes;
+    memory_room = lines_in config.line image.bytes;
     known = λ l on. ap (λ y. length y.known) (entry_quiet l) ∙ length-replicate config.harts unknown ∙ sym (length-map-range_with_len (opening_node image config) 0 config.harts);
     requester = λ l r g on e. cc (e, ap (λ y. y.transaction) (entry_quiet l));
   }

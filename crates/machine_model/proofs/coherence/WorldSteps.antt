@@ -19,7 +19,7 @@ use Rattle.hart.specs.declared.status.Status.{Status}
 use Rattle.hart.specs.declared.status.Status.TheVariants.{Running, Stopped, Exited}
 use Rattle.machine_model.specs.Changing.{does, drained, performs, performs_own, place_at, put_behind, retired, stopped, went_alone, with_buffer, with_entries, with_halt, with_reservation, writes_word}
 use Rattle.machine_model.specs.Deliveries.{is_trunk}
-use Rattle.machine_model.specs.Views.{Node, State, Views, line_of, line_size, node_at, size_of_config, with_node, with_trace}
+use Rattle.machine_model.specs.Views.{Node, State, Views, line_of, line_size, node_at, with_node, with_trace}
 use Rattle.machine_model.specs.Words.{bytes_of_word}
 use Rattle.machine_model.specs.declared.act.Act.{Act}
 use Rattle.machine_model.specs.declared.act.Act.TheVariants as act
@@ -205,5 +205,5 @@ module _ (s : State) (last : ℕ → LineData) (i : IsFit s last) (h : ℕ) (in_
       let in_p : h < length performed.views.nodes = rw (performs_count s h e.ops) in_h in
       let later : ℕ → LineData = wrote_word (line_size performed) last word e.mask e.bytes in
       let w : IsFit (writes_word h word e.mask e.bytes performed) later = writes_fits performed last (performs_fits s last h e.ops i) h in_p word e.mask e.bytes (performs_may s h h e.ops word may) in
-      subst (λ (v : Views). IsFit (drained h word s) (wrote_word (size_of_config v.config) last word e.mask e.bytes)) (performs_nodes s h e.ops)
+      subst (λ (v : Views). IsFit (drained h word s) (wrote_word v.config.line last word e.mask e.bytes)) (performs_nodes s h e.ops)
       (buffer_fits (writes_word h word e.mask e.bytes performed) later w h (rw (length-set performed.views.nodes h _) in_p) (after_take word (node_at s h).buffer))

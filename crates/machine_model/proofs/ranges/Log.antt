@@ -12,7 +12,7 @@ use Rattle.machine_model.specs.Events.{IsBad, IsLimited, Moves, after_events, co
 use Rattle.machine_model.specs.LawfulLog.{IsBeginningOf, is_on, is_sent, sent_on, taken_on}
 use Rattle.machine_model.specs.Laws.{Always, KeepsImageAndConfig}
 use Rattle.machine_model.specs.Ranges.{CarriesWhole, InRangeAlways, IsOfMachine}
-use Rattle.machine_model.specs.Views.{State, line_size, no_node, node_at, opening, size_of_config}
+use Rattle.machine_model.specs.Views.{State, line_size, no_node, node_at, opening}
 use Rattle.machine_model.specs.declared.act.Act.{Act}
 use Rattle.machine_model.specs.declared.act.Act.TheVariants as act
 use Rattle.machine_model.specs.declared.act.Plan.{Plan}
@@ -126,7 +126,7 @@ more_sent s t j is i nodes stays takes all c k in_k =
 
     old : AllByRecursion P (sent_on c k s.trace.log)
     old = subst (λ (im : Initial). AllByRecursion (IsGood im (line_size t)) (sent_on c k s.trace.log)) (sym stays.image)
-        (subst (λ (g : Config). AllByRecursion (IsGood s.trace.image (size_of_config g)) (sent_on c k s.trace.log)) (sym stays.config) (all c k (subst (λ (g : Config). k < g.harts) stays.config in_k)))
+        (subst (λ (g : Config). AllByRecursion (IsGood s.trace.image g.line) (sent_on c k s.trace.log)) (sym stays.config) (all c k (subst (λ (g : Config). k < g.harts) stays.config in_k)))
 
     before : AllByRecursion P (taken_on c k t.trace.log)
     before = let p = takes c k in all_front P (taken_on c k t.trace.log) p.0 (subst (AllByRecursion P) (sym p.1) old)

@@ -6,7 +6,7 @@ use Rattle.machine_types.specs.Config.{is_within_limits}
 use Rattle.machine_model.specs.Events.{after_events, counted, happens, hart_of}
 use Rattle.machine_model.specs.Laws.{KeepsImageAndConfig, QueuesFit}
 use Rattle.machine_model.specs.Ready.{ReadyAlways, SoundAlways}
-use Rattle.machine_model.specs.Views.{State, opening, size_of_config}
+use Rattle.machine_model.specs.Views.{State, opening}
 use Rattle.machine_types.specs.declared.config.Config.{Config}
 use Rattle.machine_types.specs.declared.event.Event.{Event}
 use Rattle.machine_model.proofs.Growth.{happens_follows}
@@ -40,7 +40,7 @@ sound_always image config events is within = record {
   nodes = k.stand.nodes;
   entries = k.stand.entries;
   statuses = k.stand.statuses;
-  line = kept.line ∙ ap size_of_config (sym kept.config);
+  line = kept.line ∙ ap (λ (c : Config). c.line) (sym kept.config);
   noted_harts = k.harts;
   noted_lines = k.fit.well.notes_room;
   lines = k.fit.well.memory_room;

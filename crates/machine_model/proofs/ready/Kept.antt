@@ -16,7 +16,7 @@ use Rattle.machine_model.specs.Changing.{acted, place_at}
 use Rattle.machine_model.specs.Events.{after_events, counted, entries_by, happens, hart_of, is_good, is_limited, is_piece, names_well, plan_of}
 use Rattle.machine_model.specs.Laws.{KeepsImageAndConfig}
 use Rattle.machine_model.specs.Ready.{IsReadyAct, IsReadyBody, shape_of}
-use Rattle.machine_model.specs.Views.{Node, State, line_of, line_size, no_node, node_at, opening, opening_node, place_of, size_of_config}
+use Rattle.machine_model.specs.Views.{Node, State, line_of, line_size, no_node, node_at, opening, opening_node, place_of}
 use Rattle.machine_model.specs.declared.act.Act.{Act}
 use Rattle.machine_model.specs.declared.act.Act.TheVariants as act
 use Rattle.machine_model.specs.declared.act.Deed.{Deed}
@@ -163,7 +163,7 @@ module _ (s : State) (k : IsSized s) (e : Event) (a : Act) (good : is_good s e �
     }
       where
         same_size : line_size s ≡ line_size (counted (acted hart a s))
-        same_size = ap size_of_config (sym stays.config)
+        same_size = ap (λ (c : Config). c.line) (sym stays.config)
 
         there : (l : ℕ) → IsLine (counted (acted hart a s)) l → IsLine s l
         there l on = subst (λ (image : Initial). is_piece image l (length_of (line_size s)) ≡ true) stays.image (subst (λ size. is_piece (acted hart a s).trace.image l (length_of size) ≡ true) (sym same_size) on)
@@ -175,7 +175,7 @@ module _ (s : State) (k : IsSized s) (e : Event) (a : Act) (good : is_good s e �
         shapes j =
             kept.shapes j (no_node (counted (acted hart a s)))
             ∙ (ap (λ (d : Node). (slice_index_or s.views.nodes j d).cache.shape) blank
-            ∙ (k.shapes j ∙ ap (λ (c : Config). record { sets = c.sets; ways = c.ways; size = size_of_config c }) (sym stays.config)))
+            ∙ (k.shapes j ∙ ap (λ (c : Config). record { sets = c.sets; ways = c.ways; size = c.line }) (sym stays.config)))
 
         places : (j : ℕ) → (((j == hart) ≡ true) × (j ≡ hart)) ⊎ (((j == hart) ≡ false) × (j ≡ hart → ⊥)) → length (entries_of (counted (acted hart a s)).trace j) ≤ MAX_ENTRIES
         places j (inl is) = subst (λ i. length (entries_of (counted (acted hart a s)).trace i) ≤ MAX_ENTRIES) (sym is.1) (omega (arith, longer.here, few.few_entries))
@@ -242,13 +242,13 @@ opening_sized image config pages = record {
 }
   where
     size : LineSize
-    size = size_of_config config
+    size = config.line
 
     fit : IsFit (opening image config) (opening_last image config)
     fit = opening_is_fit image config pages
 
-    cells : AllSized (size_of_config config) (lines_of (size_of_config config) image.bytes)
-    cells = lines_sized (size_of_config config) image.bytes
+    cells : AllSized config.line (lines_of config.line image.bytes)
+    cells = lines_sized config.line image.bytes
 
     shapes : (h : ℕ) → (h < config.harts) ⊎ (config.harts ≤ h) → (node_at (opening image config) h).cache.shape ≡ shape_of (opening image config)
     shapes h (inl lt) = ap (λ (n : Node). n.cache.shape) (fresh image config h lt)

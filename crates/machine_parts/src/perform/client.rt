@@ -10,7 +10,7 @@ ghost use Rattle.machine_parts.specs.Handled.{installed, shrunk};
 ghost use Rattle.machine_parts.specs.Parts.{state_of};
 
 use super::messages::send;
-use crate::parts::{Parts, line_size};
+use crate::parts::Parts;
 use client_cache::Probed;
 use tl_types::{Body, Cap, Change, LineData, Msg};
 
@@ -59,7 +59,7 @@ fn shrink(parts: &mut Parts, hart: u8, line: u32, cap: Cap) -> Probed
     ensures state { state_of parts.new ≡ shrunk hart line cap (state_of parts.old) }
     ensures room { parts.new.trace.room ≡ parts.old.trace.room }
 {
-    let size = line_size(&parts.config);
+    let size = parts.config.line;
     let node = &mut parts.nodes[hart as usize];
     let answer = node.cache.on_probe(line, cap);
     node.keep_reservation(size, line);

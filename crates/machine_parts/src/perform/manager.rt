@@ -13,7 +13,7 @@ ghost use Rattle.tl_types.specs.Line.{size_of};
 ghost use Rattle.tl_types.specs.Permission.{left_by};
 
 use super::messages::send;
-use crate::parts::{Parts, line_size};
+use crate::parts::Parts;
 use backing_memory::Memory;
 use directory::{Acquired, Grant, HartSet, Sent};
 use elf_loader::BASE;
@@ -24,7 +24,7 @@ fn place_of(parts: &Parts, line: u32) -> u32
     requires { base ≤ line }
     ensures { result ≡ place_of (line_size (state_of parts.now)) line }
 {
-    (line - BASE) / line_size(&parts.config).bytes()
+    (line - BASE) / parts.config.line.bytes()
 }
 
 /// Data that came with a message go to memory.

@@ -1,7 +1,6 @@
 //! What an instruction comes to by its access: each check in its order, and then the act.
 ghost use Rattle.std.specs.Prelude.{◌≡◌, ◌<◌, ◌*◌, ◌%◌, ◌^◌, slice_index, Some};
 ghost use Rattle.machine_model.specs.Steps as spec;
-ghost use Rattle.machine_model.specs.Views.{size_of_config};
 ghost use Rattle.memory_model.specs.declared.operation.Kind.TheVariants.{Load, Store};
 ghost use Rattle.memory_model.specs.Rules.{fences};
 ghost use Rattle.machine_parts.specs.Accesses.{fetched_of};
@@ -9,7 +8,6 @@ ghost use Rattle.rv32_exec.specs.Width.{byte_count};
 
 use super::miss::{reading, writing};
 use crate::node::Node;
-use crate::parts::line_size;
 use crate::words::{line_of, marks_of, read_from, store_of, word_in, word_of};
 use amo_unit::combine;
 use hart::Retired;
@@ -58,7 +56,7 @@ pub(crate) fn plan_load(
     address: u32,
     width: Width,
 ) -> Plan
-    requires line { node.now.cache.shape.size ≡ size_of_config config.now }
+    requires line { node.now.cache.shape.size ≡ config.now.line }
     requires aligned { address % byte_count width ≡ 0 }
     ensures { result ≡ spec.plan_load node.now (fetched_of fetched.now) address (byte_count width) }
 {
@@ -67,7 +65,7 @@ pub(crate) fn plan_load(
     let bytes = if marks.covers(marks_of(address, width)) {
         waiting
     } else {
-        match reading(&node.cache, line_of(line_size(config), address)) {
+        match reading(&node.cache, line_of(config.line, address)) {
             Ok(line) => marks.lay_over(waiting, word_in(&line, word)),
             Err(miss) => return miss,
         }
@@ -113,14 +111,14 @@ pub fn write_waits(model: MemoryModel, buffer: &StoreBuffer, instr: &Instr, word
 }
 
 pub(crate) fn plan_lr(config: &Config, node: &Node, fetched: &Fetched, address: u32) -> Plan
-    requires line { node.now.cache.shape.size ≡ size_of_config config.now }
+    requires line { node.now.cache.shape.size ≡ config.now.line }
     requires aligned { address % 4 ≡ 0 }
     ensures { result ≡ spec.plan_lr node.now (fetched_of fetched.now) address }
 {
     if waits_for_stores(&node.buffer, &fetched.instr, address) {
         return Plan::Stays(Outcome::MustDrain);
     }
-    match writing(&node.cache, line_of(line_size(config), address)) {
+    match writing(&node.cache, line_of(config.line, address)) {
         Ok(line) => {
             let old = read_from(word_in(&line, address), address, Width::Word);
             retires(node, fetched, Some(old), None, Deed::Lr(address))
@@ -171,14 +169,14 @@ pub(crate) fn plan_amo(
     op: AmoOp,
     operand: u32,
 ) -> Plan
-    requires line { node.now.cache.shape.size ≡ size_of_config config.now }
+    requires line { node.now.cache.shape.size ≡ config.now.line }
     requires aligned { address % 4 ≡ 0 }
     ensures { result ≡ spec.plan_amo config.now.model node.now (fetched_of fetched.now) address op operand }
 {
     if write_waits(config.model, &node.buffer, &fetched.instr, address) {
         return Plan::Stays(Outcome::MustDrain);
     }
-    match writing(&node.cache, line_of(line_size(config), address)) {
+    match writing(&node.cache, line_of(config.line, address)) {
         Ok(line) => {
             let old = read_from(word_in(&line, address), address, Width::Word);
             update(node, fetched, address, op, operand, old)

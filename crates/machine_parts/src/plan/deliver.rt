@@ -14,7 +14,7 @@ ghost use Rattle.tl_types.specs.declared.permission.Cap.{Cap as AnyCap};
 ghost use Rattle.tl_types.specs.declared.permission.Grow.{Grow as AnyGrow};
 
 use crate::node::Node;
-use crate::parts::{Parts, line_size};
+use crate::parts::Parts;
 use client_cache::ClientCache;
 use directory::{Directory, Transaction};
 use elf_loader::BASE;
@@ -73,7 +73,7 @@ fn stalled(parts: &Parts, hart: u8, message: &Msg) -> Option<Outcome>
     let node = &parts.nodes[hart as usize];
     match message.body {
         Body::AcquireBlock(_) => {
-            let place = place_of(line_size(&parts.config), message.line);
+            let place = place_of(parts.config.line, message.line);
             stalled_acquire(&parts.directory, place)
         }
         Body::ProbeBlock(_) => stalled_probe(&node.cache, message.line),

@@ -4,7 +4,6 @@ ghost use Rattle.elf_loader.specs.Image.{word_at};
 ghost use Rattle.elf_loader.specs.Size.{IsMemorySize};
 ghost use Rattle.hart.specs.Run.{next_stop};
 ghost use Rattle.machine_model.specs.Steps as spec;
-ghost use Rattle.machine_model.specs.Views.{size_of_config};
 ghost use Rattle.machine_parts.specs.Accesses.{fetched_of};
 ghost use Rattle.rv32_decode.specs.Rows.{decoded};
 ghost use Rattle.rv32_exec.specs.Meaning.{access_of, stop_of};
@@ -23,7 +22,7 @@ use rv32_exec::{Action, plan, stop};
 /// What an instruction of a running hart comes to, where memory has `size` bytes: its stop, or its access.
 fn plan_instr(config: &Config, size: u32, node: &Node, fetched: &Fetched) -> Plan
     requires memory { IsMemorySize size }
-    requires line { node.now.cache.shape.size ≡ size_of_config config.now }
+    requires line { node.now.cache.shape.size ≡ config.now.line }
     ensures { result ≡ spec.plan_unless (stop_of fetched.now.instr node.now.hart.pc node.now.hart.regs size) (spec.plan_access config.now.model node.now (fetched_of fetched.now) (access_of fetched.now.instr node.now.hart.regs)) }
 {
     match plan(&fetched.instr, node.hart.pc, &node.hart.regs, size) {
@@ -41,7 +40,7 @@ fn plan_instr(config: &Config, size: u32, node: &Node, fetched: &Fetched) -> Pla
 
 /// What the next instruction of a running hart comes to.
 fn plan_next(config: &Config, image: &Image, node: &Node, place: u32) -> Plan
-    requires line { node.now.cache.shape.size ≡ size_of_config config.now }
+    requires line { node.now.cache.shape.size ≡ config.now.line }
     ensures { result ≡ spec.plan_unless (next_stop image.now node.now.hart) (spec.plan_instr config.now.model node.now (word_at image.now node.now.hart.pc) place (decoded (word_at image.now node.now.hart.pc))) }
 {
     if !can_fetch(image, node.hart.pc) {
@@ -57,7 +56,7 @@ fn plan_next(config: &Config, image: &Image, node: &Node, place: u32) -> Plan
 
 /// What the hart's next instruction comes to, which is to stand at this place of its list: it has to run.
 pub(crate) fn plan_step(config: &Config, image: &Image, node: &Node, place: u32) -> Plan
-    requires line { node.now.cache.shape.size ≡ size_of_config config.now }
+    requires line { node.now.cache.shape.size ≡ config.now.line }
     ensures { result ≡ spec.plan_step config.now.model image.now node.now place }
 {
     if node.hart.status.is_running() {

@@ -46,24 +46,16 @@ pub(crate) struct Rules {
 }
 
 impl Rules {
-    pub fn line_size(&self) -> LineSize {
-        if self.config.line == 64 {
-            LineSize::Bytes64
-        } else {
-            LineSize::Bytes16
-        }
-    }
-
     /// How many lines lie before an address's own.
     fn line_number(&self, address: u32) -> u32 {
-        match self.line_size() {
+        match self.config.line {
             LineSize::Bytes16 => address / 16,
             LineSize::Bytes64 => address / 64,
         }
     }
 
     fn is_one_line(&self, one: u32, other: u32) -> bool {
-        let size = self.line_size();
+        let size = self.config.line;
         line_of(size, one) == line_of(size, other)
     }
 

@@ -11,7 +11,7 @@ use Rattle.machine_model.specs.Events.{after_events, counted, happens, hart_of, 
 use Rattle.machine_model.specs.LawfulLog.{may_send}
 use Rattle.machine_model.specs.Laws.{Always, LogLawfulAlways}
 use Rattle.machine_model.proofs.log.Parts.{is_probe_or_grant}
-use Rattle.machine_model.specs.Views.{State, line_size, node_at, opening, place_of, size_of_config}
+use Rattle.machine_model.specs.Views.{State, line_size, node_at, opening, place_of}
 use Rattle.machine_model.specs.declared.act.Act.{Act}
 use Rattle.machine_model.specs.declared.act.Act.TheVariants as act
 use Rattle.machine_model.specs.declared.act.Plan.TheVariants.{Changes}
@@ -94,7 +94,7 @@ opening_governed image config = record {
   below = tt;
   heard = λ k l grow on e.
       let s : State = opening image config in
-      let none : (noted s l).transaction ≡ Idle = ap (λ (y : Line). y.transaction) (same_everywhere (length image.bytes / length_of (size_of_config config)) (quiet config.harts) (place_of (line_size s) l)) in
+      let none : (noted s l).transaction ≡ Idle = ap (λ (y : Line). y.transaction) (same_everywhere (length image.bytes / length_of config.line) (quiet config.harts) (place_of (line_size s) l)) in
       cc (none, e);
   each = λ h m before rest e. absurd (no_last before rest _ e);
 }

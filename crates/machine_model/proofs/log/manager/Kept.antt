@@ -22,7 +22,7 @@ use Rattle.machine_model.specs.Deliveries.{on_grant, on_grant_ack, on_probe, on_
 use Rattle.machine_model.specs.Events.{is_piece}
 use Rattle.machine_model.specs.LawfulLog.{is_acquire, may_send}
 use Rattle.machine_model.proofs.log.Parts.{is_probe_or_grant}
-use Rattle.machine_model.specs.Views.{State, line_size, node_at, place_of, sent, size_of_config, with_node}
+use Rattle.machine_model.specs.Views.{State, line_size, node_at, place_of, sent, with_node}
 use Rattle.machine_model.specs.declared.act.Act.{Act}
 use Rattle.machine_types.specs.declared.config.Config.{Config}
 use Rattle.machine_model.proofs.Growth.{Follows, acted_follows}
@@ -63,8 +63,8 @@ pub same_governed : (s t : State) → SameMessages s t → IsGoverned s → IsGo
 same_governed s t q i = record {
   below = subst (λ (c : Config). AreBelow c.harts t.trace.log) (sym q.config) (subst (AreBelow s.views.config.harts) (sym q.log) i.below);
   heard = λ k l grow on e. subst (λ log. last_heard k l log ≡ Some (AcquireBlock grow)) (sym q.log) (i.heard k l grow
-      (subst (λ (c : Config). is_piece s.trace.image l (length_of (size_of_config c)) ≡ true) q.config (subst (λ (image : Initial). is_piece image l (length_of (line_size t)) ≡ true) q.image on))
-      (subst (λ (c : Config). (line_at s.views.notes (place_of (size_of_config c) l)).transaction ≡ Probing k grow) q.config (q.probing (place_of (line_size t) l) k grow e)));
+      (subst (λ (c : Config). is_piece s.trace.image l (length_of c.line) ≡ true) q.config (subst (λ (image : Initial). is_piece image l (length_of (line_size t)) ≡ true) q.image on))
+      (subst (λ (c : Config). (line_at s.views.notes (place_of c.line l)).transaction ≡ Probing k grow) q.config (q.probing (place_of (line_size t) l) k grow e)));
   each = subst (EachSent Governed) (sym q.log) i.each;
 }
 

@@ -14,13 +14,13 @@ second_parts s v h k w n = simp append_assoc
 pub returns-then-is_first_version : goal.returns-then-is_first_version
 returns-then-is_first_version c =
     let h = c.args.head in
-    let first : is_first_version h.harts (length_of h.line) ≡ true = ap (is_first_version h.harts) (sym c.bytes-line.ensures) ∙ sym c.is_first_version.ensures ∙ c.if-is_first_version.true in
+    let first : is_first_version h.harts h.line ≡ true = sym c.is_first_version.ensures ∙ c.if-is_first_version.true in
     rw (first, c.text-then-is_first_version.ensures.value, c.word.ensures.value, c.number-then-is_first_version.ensures.value, c.number.ensures.value, c.text.ensures.value)
     (first_parts c.args.page.now (codes "rvtl-trace 1\nT ") (number 32 h.harts) (number 32 h.kib) (word h.entry))
 
 pub returns-else-is_first_version : goal.returns-else-is_first_version
 returns-else-is_first_version c =
     let h = c.args.head in
-    let first : is_first_version h.harts (length_of h.line) ≡ false = ap (is_first_version h.harts) (sym c.bytes-line.ensures) ∙ sym c.is_first_version.ensures ∙ c.if-is_first_version.false in
-    rw (first, c.number-else-is_first_version-3.ensures.value, c.text-else-is_first_version-2.ensures.value, c.word-else-is_first_version.ensures.value, c.number-else-is_first_version-2.ensures.value, c.number-else-is_first_version.ensures.value, c.text-else-is_first_version.ensures.value, c.bytes-line.ensures)
+    let first : is_first_version h.harts h.line ≡ false = sym c.is_first_version.ensures ∙ c.if-is_first_version.false in
+    rw (first, c.number-else-is_first_version-3.ensures.value, c.text-else-is_first_version-2.ensures.value, c.word-else-is_first_version.ensures.value, c.number-else-is_first_version-2.ensures.value, c.number-else-is_first_version.ensures.value, c.text-else-is_first_version.ensures.value, c.bytes.ensures)
     (second_parts c.args.page.now (codes "rvtl-trace 2\nT ") (number 32 h.harts) (number 32 h.kib) (word h.entry) (number 10 (length_of h.line)))
