@@ -10,11 +10,11 @@ use Rattle.architecture_outcomes.specs.declared.outcome.Outcome.{Outcome}
 use Rattle.architecture_outcomes.specs.declared.outcome.Way.{Way}
 use Rattle.architecture_outcomes.specs.declared.outcome.Way.TheVariants.{Machine, Model, ModelAlone}
 use Rattle.command_files.specs.Files.{HoldsScript, HoldsTrace}
-use Rattle.command_files.specs.Held.{Held, HoldsBytes}
+use Rattle.command_files.specs.Contents.{Contents, HoldsBytes}
 use Rattle.command_settings.specs.declared.wanted.MachineOptions.{MachineOptions}
 use Rattle.explore_command.proofs.Kept.{spares_more}
 use Rattle.explore_command.specs.Keeping.{FileName, IsInNamed, SparesOthers, outcome_path}
-use Rattle.explorer.specs.declared.found.Script.TheVariants.{Events, Limit, NoMemory, Unrealised}
+use Rattle.explorer.specs.declared.found.Realisation.TheVariants.{Events, Limit, NoMemory, Unrealised}
 use Rattle.trace_recorder.specs.History.{History}
 use Rattle.trace_text.specs.Scripts.{text}
 use Rattle.trace_text.specs.Traces.{text as trace_of}
@@ -57,7 +57,7 @@ is_file folder path number (Model w) is = inr (number, is)
 
 -- ---- what another file's writing leaves
 
-module _ (before after : Held) (machine : MachineOptions) (folder path : FileName) (others : (other : FileName) → other ≢ path → after other ≡ before other) where
+module _ (before after : Contents) (machine : MachineOptions) (folder path : FileName) (others : (other : FileName) → other ≢ path → after other ≡ before other) where
   bytes_stay : (name bytes : FileName) → after name ≡ before name → HoldsBytes before name bytes → HoldsBytes after name bytes
   bytes_stay name bytes same held = subst (λ (o : Option (List ℕ)). IfSome o (λ known. known ≡ bytes)) (sym same) held
 
@@ -97,7 +97,7 @@ way_of_left left front done all last folder path left_is whole path_is =
     subst (λ (os : List Outcome). IsWayFile 1 os folder path) (sym parts) (way_at 1 front done last folder path (path_is ∙ ap (λ (n : ℕ). file_path folder n last.way) count))
 
 -- its writing spares all others
-pub spares_one : (held before after : Held) (machine : MachineOptions) (folder path : FileName) (left front done all : List Outcome) (last : Outcome) → left ≡ front ++ last ∷ [] → left ++ done ≡ all → path ≡ file_path folder (length left) last.way
+pub spares_one : (held before after : Contents) (machine : MachineOptions) (folder path : FileName) (left front done all : List Outcome) (last : Outcome) → left ≡ front ++ last ∷ [] → left ++ done ≡ all → path ≡ file_path folder (length left) last.way
     → ((other : FileName) → other ≢ path → after other ≡ before other) → SparesOthers (IsWayFile 1 all folder) held before → SparesOthers (IsWayFile 1 all folder) held after
 spares_one held before after machine folder path left front done all last left_is whole path_is others =
     spares_more before after machine folder path others (IsWayFile 1 all folder) held (way_of_left left front done all last folder path left_is whole path_is)
@@ -115,13 +115,13 @@ way_file outcomes (Some folder) name is = way_in 1 outcomes folder.now name is
 -- ---- from the last outcome to the first
 
 -- what shows the outcomes behind those that are left is written
-pub record HasKept (held now : Held) (machine : MachineOptions) (folder : FileName) (left all : List Outcome) : Type 0 where
+pub record HasKept (held now : Contents) (machine : MachineOptions) (folder : FileName) (left all : List Outcome) : Type 0 where
   pub done : List Outcome
   pub whole : left ++ done ≡ all
   pub kept : AreWaysKept now machine folder (length left + 1) done
   pub spared : SparesOthers (IsWayFile 1 all folder) held now
 
-pub none_kept : (held : Held) (machine : MachineOptions) (folder : FileName) (all : List Outcome) → HasKept held held machine folder all all
+pub none_kept : (held : Contents) (machine : MachineOptions) (folder : FileName) (all : List Outcome) → HasKept held held machine folder all all
 none_kept held machine folder all = record {
   done = [];
   whole = append-nil all;
@@ -129,7 +129,7 @@ none_kept held machine folder all = record {
   spared = λ other. inl refl;
 }
 
-pub one_more : (held before after : Held) (machine : MachineOptions) (folder path : FileName) (left front all : List Outcome) (last : Outcome) → length all < 2 ^ 64 → left ≡ front ++ last ∷ [] → path ≡ file_path folder (length left) last.way
+pub one_more : (held before after : Contents) (machine : MachineOptions) (folder path : FileName) (left front all : List Outcome) (last : Outcome) → length all < 2 ^ 64 → left ≡ front ++ last ∷ [] → path ≡ file_path folder (length left) last.way
     → ((other : FileName) → other ≢ path → after other ≡ before other) → IsWayKeptAt after machine path last.way → HasKept held before machine folder left all → HasKept held after machine folder front all
 one_more held before after machine folder path left front all last small left_is path_is others written has =
     let count : length left ≡ length front + 1 = ap (λ (xs : List Outcome). length xs) left_is ∙ length-append front (last ∷ []) in

@@ -8,7 +8,7 @@ use Rattle.architecture_outcomes.specs.declared.architecture.Architecture.{Archi
 use Rattle.architecture_outcomes.specs.Outcomes.{end_of}
 use Rattle.architecture_outcomes.specs.Text.{architecture_text}
 use Rattle.command_files.specs.Faults.{Name}
-use Rattle.command_files.specs.Held.{Held}
+use Rattle.command_files.specs.Contents.{Contents}
 use Rattle.command_files.specs.Sizes.{config_named}
 use Rattle.command_settings.specs.declared.wanted.Explore.{Explore}
 use Rattle.elf_loader.specs.Image.{Initial}
@@ -26,7 +26,7 @@ use Rattle.show_command.specs.Targets.{names_of}
 use Rattle.state_search.specs.declared.findings.Extent.TheVariants as extent
 use Rattle.window_machine.specs.declared.left_out.Reach.TheVariants as reach
 
-module _ (held : Held) (wanted : Explore) (words : List Name) (window : ℕ) (config : Config) (image : Initial) (addresses : List ℕ) (names : List WordName) (found : Architecture)
+module _ (held : Contents) (wanted : Explore) (words : List Name) (window : ℕ) (config : Config) (image : Initial) (addresses : List ℕ) (names : List WordName) (found : Architecture)
     (config_is : config ≡ config_named wanted.machine) (program : HasProgram held wanted words image addresses) (named : names ≡ names_of words) (is : IsFoundUnder image config addresses window wanted.states found) where
   of_file : IsOfFile held wanted words window found
   of_file = record {
@@ -39,7 +39,7 @@ module _ (held : Held) (wanted : Explore) (words : List Name) (window : ℕ) (co
   pub has : (P : List ℕ → Type 0) → P (architecture_text names found) → SearchHas held wanted words window P
   has P so = record { architecture = found; of_file = of_file; of_text = subst (λ (n : List WordName). P (architecture_text n found)) named so }
 
-  pub whole : (old new : Option (List ℕ)) (left : Held) (judgement : Judgement) (text : Option (List ℕ)) → Appends old new (architecture_text names found) → IfSome wanted.scripts (λ folder. AreWaysKept left wanted.machine folder.now 1 found.outcomes.items)
+  pub whole : (old new : Option (List ℕ)) (left : Contents) (judgement : Judgement) (text : Option (List ℕ)) → Appends old new (architecture_text names found) → IfSome wanted.scripts (λ folder. AreWaysKept left wanted.machine folder.now 1 found.outcomes.items)
       → SparesOthers (IsInNamed wanted.scripts (IsWayFile 1 found.outcomes.items)) held left
       → IsAllowFile held wanted.allow text → judgement ≡ judgement_of_lines text (map (λ o. end_text names (end_of o)) found.outcomes.items)
       → (judgement ≡ Allowed → (found.machine ≢ extent.OutOfMemory) × (found.reach ≢ reach.OutOfMemory)) → IsSearched held left wanted words window judgement old new

@@ -5,11 +5,11 @@ use Rattle.architecture_outcomes.specs.declared.outcome.Outcome.{Outcome}
 use Rattle.architecture_outcomes.specs.declared.outcome.Way.{Way}
 use Rattle.architecture_outcomes.specs.declared.outcome.Way.TheVariants.{Machine, Model, ModelAlone}
 use Rattle.command_files.specs.Files.{HoldsScript, HoldsTrace}
-use Rattle.command_files.specs.Held.{Held}
+use Rattle.command_files.specs.Contents.{Contents}
 use Rattle.command_files.specs.Sizes.{script_named}
 use Rattle.command_settings.specs.declared.wanted.MachineOptions.{MachineOptions}
 use Rattle.explore_command.specs.Keeping.{FileName, outcome_path}
-use Rattle.explorer.specs.declared.found.Script.TheVariants.{Events, Limit, NoMemory, Unrealised}
+use Rattle.explorer.specs.declared.found.Realisation.TheVariants.{Events, Limit, NoMemory, Unrealised}
 use Rattle.trace_text.specs.TraceLimits.{IsTrace}
 
 -- FOLDER/outcome-NUMBER.trace
@@ -23,7 +23,7 @@ file_path folder number (ModelAlone trace) = trace_path folder number
 file_path folder number (Model trace) = trace_path folder number
 
 -- the file has the script of these events, for the machine that was named, or the trace of the lists and the order
-abbrev pub IsWayKeptAt : Held → MachineOptions → FileName → Way → Type 0
+abbrev pub IsWayKeptAt : Contents → MachineOptions → FileName → Way → Type 0
 IsWayKeptAt left machine path (Machine (Events events)) = HoldsScript left path (script_named machine events.items)
 IsWayKeptAt left machine path (Machine NoMemory) = ⊥
 IsWayKeptAt left machine path (Machine Limit) = ⊥
@@ -38,7 +38,7 @@ HasText (ModelAlone trace) = IsTrace trace.history
 HasText (Model trace) = IsTrace trace.history
 
 -- what shows each outcome, counted from a number on
-abbrev pub AreWaysKept : Held → MachineOptions → FileName → ℕ → List Outcome → Type 0
+abbrev pub AreWaysKept : Contents → MachineOptions → FileName → ℕ → List Outcome → Type 0
 AreWaysKept left machine folder number [] = Unit {0}
 AreWaysKept left machine folder number (o ∷ rest) = IsWayKeptAt left machine (file_path folder number o.way) o.way × AreWaysKept left machine folder (number + 1) rest
 

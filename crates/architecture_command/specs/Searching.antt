@@ -10,7 +10,7 @@ use Rattle.architecture_outcomes.specs.Outcomes.{IsDecided, IsWitnessed, TellsEa
 use Rattle.architecture_outcomes.specs.Text.{architecture_text}
 use Rattle.architecture_outcomes.specs.Visited.{AreMachineStates, TellsEnd}
 use Rattle.command_files.specs.Faults.{Name}
-use Rattle.command_files.specs.Held.{Held}
+use Rattle.command_files.specs.Contents.{Contents}
 use Rattle.command_files.specs.Sizes.{config_named}
 use Rattle.command_files.specs.declared.fault.Fault.{Fault}
 use Rattle.command_settings.specs.declared.wanted.Explore.{Explore}
@@ -48,14 +48,14 @@ pub record IsFoundUnder (image : Initial) (config : Config) (addresses : List �
   pub window_is : found.window ≡ min window 64
 
 -- it was found of the image in the file, with the words where its symbols say
-pub record IsOfFile (held : Held) (wanted : Explore) (words : List Name) (window : ℕ) (architecture : Architecture) : Type 0 where
+pub record IsOfFile (held : Contents) (wanted : Explore) (words : List Name) (window : ℕ) (architecture : Architecture) : Type 0 where
   pub image : Initial
   pub addresses : List ℕ
   pub program : HasProgram held wanted words image addresses
   pub found : IsFoundUnder image (config_named wanted.machine) addresses window wanted.states architecture
 
 -- what was found was printed, what shows it is in the folder, if one was named, and each other file is as before, and it was judged by the file that says what is allowed; it is allowed only where memory sufficed for both searches
-pub record IsSearched (held left : Held) (wanted : Explore) (words : List Name) (window : ℕ) (judgement : Judgement) (old new : Option (List ℕ)) : Type 0 where
+pub record IsSearched (held left : Contents) (wanted : Explore) (words : List Name) (window : ℕ) (judgement : Judgement) (old new : Option (List ℕ)) : Type 0 where
   pub architecture : Architecture
   pub of_file : IsOfFile held wanted words window architecture
   pub printed : Appends old new (architecture_text (names_of words) architecture)
@@ -65,13 +65,13 @@ pub record IsSearched (held left : Held) (wanted : Explore) (words : List Name) 
   pub whole : judgement ≡ Allowed → (architecture.machine ≢ extent.OutOfMemory) × (architecture.reach ≢ reach.OutOfMemory)
 
 -- P holds of the text of what was found
-pub record SearchHas (held : Held) (wanted : Explore) (words : List Name) (window : ℕ) (P : List ℕ → Type 0) : Type 0 where
+pub record SearchHas (held : Contents) (wanted : Explore) (words : List Name) (window : ℕ) (P : List ℕ → Type 0) : Type 0 where
   pub architecture : Architecture
   pub of_file : IsOfFile held wanted words window architecture
   pub of_text : P (architecture_text (names_of words) architecture)
 
 -- standard error was told of the traces that show the outcomes that were printed, and then of the outcomes that aren't allowed
-pub record IsSearchNoted (held : Held) (wanted : Explore) (words : List Name) (window : ℕ) (judgement : Judgement) (old new before after : Option (List ℕ)) : Type 0 where
+pub record IsSearchNoted (held : Contents) (wanted : Explore) (words : List Name) (window : ℕ) (judgement : Judgement) (old new before after : Option (List ℕ)) : Type 0 where
   pub architecture : Architecture
   pub of_file : IsOfFile held wanted words window architecture
   pub printed : Appends old new (architecture_text (names_of words) architecture)
@@ -80,5 +80,5 @@ pub record IsSearchNoted (held : Held) (wanted : Explore) (words : List Name) (w
   pub refusals : HaveRefusals held wanted.allow (map (λ o. end_text (names_of words) (end_of o)) architecture.outcomes.items) (IsToldBy judgement between after)
 
 -- as an exploration has them; or one of the words can't be shown
-abbrev pub IsSearchFault : Held → Explore → List Name → Fault → Type 0
+abbrev pub IsSearchFault : Contents → Explore → List Name → Fault → Type 0
 IsSearchFault held wanted words fault = IsExploreFault held wanted fault ⊎ HasUnshown held wanted words fault

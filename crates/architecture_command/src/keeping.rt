@@ -14,7 +14,7 @@ ghost use Rattle.trace_text.specs.TraceLimits.{IsTrace};
 use architecture_outcomes::{Outcome, Way};
 use command_files::{Fault, Files};
 use explore_command::Folder;
-use explorer::Script;
+use explorer::Realisation;
 use std::alloc::AllocError;
 use trace_recorder::Trace;
 use trace_text::write_trace;
@@ -71,9 +71,9 @@ fn keep_at<'a, F: Files>(
     ensures others { (other : List ℕ) → other ≢ path.now → F.held files.new other ≡ F.held files.old other }
 {
     match way {
-        Way::Machine(Script::Events(events)) => folder.write(files, path, events),
-        Way::Machine(Script::NoMemory) => Err(Fault::OutOfMemory),
-        Way::Machine(Script::Limit | Script::Unrealised) => {
+        Way::Machine(Realisation::Events(events)) => folder.write(files, path, events),
+        Way::Machine(Realisation::NoMemory) => Err(Fault::OutOfMemory),
+        Way::Machine(Realisation::Limit | Realisation::Unrealised) => {
             Err(Fault::CannotMake { file: folder.name })
         }
         Way::ModelAlone(trace) | Way::Model(trace) => put_trace(folder, files, path, trace),

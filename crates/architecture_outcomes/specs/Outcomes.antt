@@ -7,7 +7,7 @@ use Rattle.architecture_outcomes.specs.declared.outcome.Way.{Way}
 use Rattle.architecture_outcomes.specs.declared.outcome.Way.TheVariants.{Machine, Model, ModelAlone}
 use Rattle.elf_loader.specs.Image.{Initial}
 use Rattle.explorer.specs.declared.found.Found.{Found}
-use Rattle.explorer.specs.declared.found.Script.{Script}
+use Rattle.explorer.specs.declared.found.Realisation.{Realisation}
 use Rattle.explorer.specs.Ends.{IsRealIn as IsRealEnd}
 use Rattle.flat_exploration.specs.Drained.{Ending, HasDrained, machine_ending, performed_word}
 use Rattle.flat_exploration.specs.Laws.{none_runs}
@@ -48,7 +48,7 @@ NeverEnds image config addresses ending = (events : List Event) → HasEnded add
 -- ---- what shows an outcome
 
 -- flat events lead to such an end, and so does the machine's script, where there is one
-abbrev pub IsScripted : Initial → Config → (addresses : List ℕ) → Outcome → Script → Type 0
+abbrev pub IsScripted : Initial → Config → (addresses : List ℕ) → Outcome → Realisation → Type 0
 IsScripted image config [] o script = IsRealEnd image config (record { harts = o.harts; script = script }) × (o.words.items ≡ [])
 IsScripted image config (address ∷ rest) o script = IsRealIn image config (address ∷ rest) (record { harts = o.harts; words = o.words; script = script })
 

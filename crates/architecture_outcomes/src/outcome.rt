@@ -2,7 +2,7 @@
 ghost use Rattle.std.specs.Prelude.{◌≡◌};
 ghost use Rattle.architecture_outcomes.specs.Outcomes.{of_witness};
 
-use explorer::Script;
+use explorer::Realisation;
 use flat_model::HartResult;
 use trace_recorder::Trace;
 use witnesses::Witness;
@@ -11,7 +11,7 @@ use witnesses::Witness;
 #[derive(Drop)]
 pub enum Way {
     /// The machine: the events that bring it there, or why there are none.
-    Machine(Script),
+    Machine(Realisation),
     /// A run that the memory model allows, and no schedule of the machine.
     ModelAlone(Trace),
     /// A run that the memory model allows. The machine may come there too: its own search isn't complete.

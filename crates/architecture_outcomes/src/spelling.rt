@@ -7,7 +7,7 @@ ghost use Rattle.exploration_text.specs.Words.{end_text};
 use crate::architecture::Architecture;
 use crate::outcome::{Outcome, Way};
 use exploration_text::{WordName, end_text};
-use explorer::Script;
+use explorer::Realisation;
 use itoa::Buffer;
 use machine_model::MemoryModel;
 use state_search::Extent;
@@ -49,8 +49,8 @@ fn spell_way(into: &mut Vec<u8>, model: MemoryModel, way: &Way) -> Result<(), Al
     ensures { OnOk result (into.new.items ≡ into.old.items ++ text.way_text model way.now) }
 {
     match way {
-        Way::Machine(Script::Events(_)) => into.extend_from_slice(b"this machine")?,
-        Way::Machine(Script::NoMemory | Script::Limit | Script::Unrealised) => {
+        Way::Machine(Realisation::Events(_)) => into.extend_from_slice(b"this machine")?,
+        Way::Machine(Realisation::NoMemory | Realisation::Limit | Realisation::Unrealised) => {
             into.extend_from_slice(b"without a script")?;
         }
         Way::ModelAlone(_) => {

@@ -9,7 +9,7 @@ use Rattle.chart_drawing.specs.declared.sheet.TheConstants.{STYLE}
 use Rattle.chart_command.specs.Charting.{IsAddress, IsChartFault, IsDrawingFault, IsPictureCutOff}
 use Rattle.command_files.specs.Faults.{LeavesAtFault, Name}
 use Rattle.command_files.specs.Files.{HoldsImage, HoldsScript}
-use Rattle.command_files.specs.Held.{Held}
+use Rattle.command_files.specs.Contents.{Contents}
 use Rattle.command_files.specs.Sizes.{config_of}
 use Rattle.command_files.specs.declared.fault.Fault.{Fault}
 use Rattle.command_files.specs.declared.fault.Fault.TheVariants.{CannotWrite, Configuration, Event, OutOfMemory}
@@ -50,14 +50,14 @@ undrawn_at image config wanted events given address style old new error same_con
     subst (λ (c : Config). IsUndrawn image c given address style old new error) same_config (subst (λ (e : List AnEvent). IsUndrawn image config e address style old new error) same_events h)
 
 -- a script, an image and an address whose picture broke off
-pub stopped : (held : Held) (replay : Replay) (line : Option Name) (script : Script) (image : Initial) (address : Option ℕ) (old new : Option (List ℕ))
+pub stopped : (held : Contents) (replay : Replay) (line : Option Name) (script : Script) (image : Initial) (address : Option ℕ) (old new : Option (List ℕ))
     → HoldsScript held replay.script.now script → HoldsImage held replay.raw replay.image.now script.kib image → IsAddress line address
     → IsBegun image (config_of script replay.model) script.events address STYLE.now old new → IsPictureCutOff held replay line old new
 stopped held replay line script image address old new script_file image_file named begun =
     record { script = script; image = image; address = address; script_file = script_file; image_file = image_file; named = named; begun = begun }
 
 -- what the drawing's fault leaves on the output
-pub left_by : (held : Held) (replay : Replay) (line : Option Name) (script : Script) (image : Initial) (address : Option ℕ) (old new : Option (List ℕ)) (error : ChartError) (fault : Fault)
+pub left_by : (held : Contents) (replay : Replay) (line : Option Name) (script : Script) (image : Initial) (address : Option ℕ) (old new : Option (List ℕ)) (error : ChartError) (fault : Fault)
     → HoldsScript held replay.script.now script → HoldsImage held replay.raw replay.image.now script.kib image → IsAddress line address
     → IsUndrawn image (config_of script replay.model) script.events address STYLE.now old new error
     → IsDrawingFault replay.script error fault → LeavesAtFault fault old new (IsPictureCutOff held replay line old new)
@@ -76,7 +76,7 @@ left_by held replay line script image address old new (chart.Writing error) faul
     spoiled old new _ fault told.0 (stopped held replay line script image address old new script_file image_file named h)
 
 -- what the drawing's fault is told as
-pub told_as : (held : Held) (replay : Replay) (line : Option Name) (script : Script) (image : Initial) (address : Option ℕ) (style : List ℕ) (old new : Option (List ℕ)) (error : ChartError) (fault : Fault)
+pub told_as : (held : Contents) (replay : Replay) (line : Option Name) (script : Script) (image : Initial) (address : Option ℕ) (style : List ℕ) (old new : Option (List ℕ)) (error : ChartError) (fault : Fault)
     → HoldsScript held replay.script.now script → HoldsImage held replay.raw replay.image.now script.kib image → IsAddress line address
     → (error ≡ chart.Replay (refusals.New making.Config) → ⊥) → IsUndrawn image (config_of script replay.model) script.events address style old new error
     → IsDrawingFault replay.script error fault → IsChartFault held replay line fault
@@ -107,7 +107,7 @@ told_as held replay line script image address style old new (chart.Writing error
   | inr at ↦ subst (IsChartFault held replay line) (sym at) tt
 ]
 
-pub lost_told : (held : Held) (replay : Replay) (line : Option Name) (fault : Fault) → (fault ≡ CannotWrite) ⊎ (fault ≡ OutOfMemory) → IsChartFault held replay line fault
+pub lost_told : (held : Contents) (replay : Replay) (line : Option Name) (fault : Fault) → (fault ≡ CannotWrite) ⊎ (fault ≡ OutOfMemory) → IsChartFault held replay line fault
 lost_told held replay line fault told = elim told [
   | inl at ↦ subst (IsChartFault held replay line) (sym at) tt
   | inr at ↦ subst (IsChartFault held replay line) (sym at) tt

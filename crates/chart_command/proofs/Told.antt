@@ -5,7 +5,7 @@ use Rattle.coherent_machine.specs.declared.errors.NewError.TheVariants as making
 use Rattle.coherent_machine.specs.declared.errors.ReplayError.TheVariants as refusals
 use Rattle.command_files.specs.Faults.{IsImageFault, IsScriptFault, Name}
 use Rattle.command_files.specs.Files.{HoldsScript}
-use Rattle.command_files.specs.Held.{Held}
+use Rattle.command_files.specs.Contents.{Contents}
 use Rattle.command_files.specs.Status.{status_of}
 use Rattle.command_files.specs.declared.fault.Fault.{Fault}
 use Rattle.command_files.specs.declared.fault.Fault.TheVariants.{BadAddress, BadEvent, BytesAfterTrace, CannotMake, CannotRead, CannotShow, CannotWrite, Check, Configuration, Event, Image, Mismatch, NoThread, NothingHappens, OutOfMemory, Text, TooManyRows}
@@ -14,7 +14,7 @@ use Rattle.run_chart.specs.declared.errors.ChartError.{ChartError}
 use Rattle.run_chart.specs.declared.errors.ChartError.TheVariants as chart
 use Rattle.trace_text.specs.declared.script.Script.{Script}
 
-pub of_address : (held : Held) (replay : Replay) (line : Option Name) (fault : Fault) → IsNoAddress line fault → IsChartFault held replay line fault
+pub of_address : (held : Contents) (replay : Replay) (line : Option Name) (fault : Fault) → IsNoAddress line fault → IsChartFault held replay line fault
 of_address held replay None fault so = absurd so
 of_address held replay (Some word) fault so = subst (IsChartFault held replay (Some word)) (sym so.1) (refl, so.0)
 
@@ -22,7 +22,7 @@ pub address_is_not_write : (line : Option Name) (fault : Fault) → IsNoAddress 
 address_is_not_write None fault so at = so
 address_is_not_write (Some word) fault so at = let bad : BadAddress word ≡ CannotWrite = sym so.1 ∙ at in cc
 
-pub of_chart_script : (held : Held) (replay : Replay) (line : Option Name) (fault : Fault) → IsScriptFault held replay.script fault → IsChartFault held replay line fault
+pub of_chart_script : (held : Contents) (replay : Replay) (line : Option Name) (fault : Fault) → IsScriptFault held replay.script fault → IsChartFault held replay line fault
 of_chart_script held replay line (CannotRead file) is = inl is
 of_chart_script held replay line (CannotMake file) is = absurd is
 of_chart_script held replay line CannotWrite is = absurd is
@@ -41,7 +41,7 @@ of_chart_script held replay line BadEvent is = absurd is
 of_chart_script held replay line Configuration is = absurd is
 of_chart_script held replay line OutOfMemory is = tt
 
-pub of_chart_image : (held : Held) (replay : Replay) (line : Option Name) (script : Script) (fault : Fault) → HoldsScript held replay.script.now script → IsImageFault held replay.raw replay.image script.kib fault
+pub of_chart_image : (held : Contents) (replay : Replay) (line : Option Name) (script : Script) (fault : Fault) → HoldsScript held replay.script.now script → IsImageFault held replay.raw replay.image script.kib fault
     → IsChartFault held replay line fault
 of_chart_image held replay line script (CannotRead file) has is = inr (is, (script, has))
 of_chart_image held replay line script (CannotMake file) has is = absurd is
@@ -68,7 +68,7 @@ four_not_two : ◌≡◌ {A = ℕ} 4 2 → ⊥
 four_not_two e = cc
 
 -- a fault of status 2 tells of a word that names no address
-pub chart_misused : (held : Held) (replay : Replay) (line : Option Name) (fault : Fault) → IsChartFault held replay line fault → status_of fault ≡ 2 → IsNoAddress line fault
+pub chart_misused : (held : Contents) (replay : Replay) (line : Option Name) (fault : Fault) → IsChartFault held replay line fault → status_of fault ≡ 2 → IsNoAddress line fault
 chart_misused held replay line (CannotRead file) so two = absurd (one_not_two two)
 chart_misused held replay line (CannotMake file) so two = absurd (one_not_two two)
 chart_misused held replay line CannotWrite so two = absurd (one_not_two two)

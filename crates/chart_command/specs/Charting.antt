@@ -6,7 +6,7 @@ use Rattle.coherent_machine.specs.declared.errors.ReplayError.{ReplayError}
 use Rattle.coherent_machine.specs.declared.errors.ReplayError.TheVariants as refusals
 use Rattle.command_files.specs.Faults.{IsReplayFault, Name}
 use Rattle.command_files.specs.Files.{HoldsImage, HoldsScript, IsTheScriptIn}
-use Rattle.command_files.specs.Held.{Held}
+use Rattle.command_files.specs.Contents.{Contents}
 use Rattle.command_files.specs.Sizes.{config_of}
 use Rattle.command_files.specs.Status.{IsOutOfMemory, line_at}
 use Rattle.command_files.specs.declared.fault.Fault.{Fault}
@@ -37,7 +37,7 @@ IsNoAddress None fault = ⊥
 IsNoAddress (Some word) fault = (address word.now ≡ None) × (fault ≡ BadAddress word)
 
 -- what was appended is the picture, in the colours and patterns of `STYLE`, of what the script in the one file does with the image in the other
-pub record IsCharted (held : Held) (replay : Replay) (line : Option Name) (old new : Option (List ℕ)) : Type 0 where
+pub record IsCharted (held : Contents) (replay : Replay) (line : Option Name) (old new : Option (List ℕ)) : Type 0 where
   pub script : Script
   pub image : Initial
   pub address : Option ℕ
@@ -48,7 +48,7 @@ pub record IsCharted (held : Held) (replay : Replay) (line : Option Name) (old n
   pub drawn : IsDrawn image (config_of script replay.model) script.events address STYLE.now old new
 
 -- a beginning of that picture was appended, where the output took no more
-pub record IsPictureCutOff (held : Held) (replay : Replay) (line : Option Name) (old new : Option (List ℕ)) : Type 0 where
+pub record IsPictureCutOff (held : Contents) (replay : Replay) (line : Option Name) (old new : Option (List ℕ)) : Type 0 where
   pub script : Script
   pub image : Initial
   pub address : Option ℕ
@@ -58,7 +58,7 @@ pub record IsPictureCutOff (held : Held) (replay : Replay) (line : Option Name) 
   pub begun : IsBegun image (config_of script replay.model) script.events address STYLE.now old new
 
 -- the picture of what the script in the one file does with the image in the other would be too large
-pub record IsNotDrawable (held : Held) (replay : Replay) (line : Option Name) : Type 0 where
+pub record IsNotDrawable (held : Contents) (replay : Replay) (line : Option Name) : Type 0 where
   pub script : Script
   pub image : Initial
   pub address : Option ℕ
@@ -78,7 +78,7 @@ IsDrawingFault script chart.NoMemory told = told ≡ OutOfMemory
 IsDrawingFault script (chart.Writing error) told = ((told ≡ CannotWrite) ⊎ (told ≡ OutOfMemory)) × ((told ≡ OutOfMemory) ↔ (error_kind error ≡ io.OutOfMemory))
 
 -- as in a replay, but a word may name no address, and a picture may be too large
-abbrev pub IsChartFault : Held → Replay → Option Name → Fault → Type 0
+abbrev pub IsChartFault : Contents → Replay → Option Name → Fault → Type 0
 IsChartFault held replay line (BadAddress word) = (line ≡ Some word) × (address word.now ≡ None)
 IsChartFault held replay line (TooManyRows file) = (file ≡ replay.script) × IsNotDrawable held replay line
 IsChartFault held replay line fault = IsReplayFault held replay fault

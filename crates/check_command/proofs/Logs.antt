@@ -2,7 +2,7 @@
 use Rattle.std.proofs.Common.{ℕ, ◌≡◌, ◌∙◌, IfSome, List, None, Option, Some, ap, subst, sym}
 use Rattle.std.specs.Prelude.{◌↔◌}
 use Rattle.check_command.specs.Messages.{HoldsLog, IsLogVerdict}
-use Rattle.command_files.specs.Held.{Held, HoldsBytes}
+use Rattle.command_files.specs.Contents.{Contents, HoldsBytes}
 use Rattle.lawful_log.specs.Laws.{IfUnlawful, IsFirstBreach}
 use Rattle.lawful_log.specs.declared.rule.LogVerdict.{LogVerdict}
 use Rattle.lawful_log.specs.declared.rule.LogVerdict.TheVariants.{Lawful}
@@ -19,7 +19,7 @@ ended_alike None bytes whole same is = tt
 ended_alike (Some of_file) bytes whole same is = ap ended same ∙ is
 
 -- all of it is the text of the trace that was read
-pub log_held : (held : Held) (name bytes read : List ℕ) (t : History) → HoldsBytes held name bytes → read ≡ ended bytes → IsTrace t × (read ≡ text t) → HoldsLog held name t
+pub log_held : (held : Contents) (name bytes read : List ℕ) (t : History) → HoldsBytes held name bytes → read ≡ ended bytes → IsTrace t × (read ≡ text t) → HoldsLog held name t
 log_held held name bytes read t same is found = record {
   is_trace = found.0;
   bytes = ended_alike (held name) bytes (text t) same (sym is ∙ found.1);

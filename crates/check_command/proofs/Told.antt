@@ -1,6 +1,6 @@
 -- Which faults a check hands up.
 use Rattle.std.proofs.Common.{◌≡◌, ◌≢◌, ◌∙◌, ◌⊎◌, ◌↔◌, ℕ, List, Some, inl, inr, refl, subst, sym}
-use Rattle.command_files.specs.Held.{Held, HoldsBytes}
+use Rattle.command_files.specs.Contents.{Contents, HoldsBytes}
 use Rattle.command_files.specs.Faults.{IsTextFault, Name}
 use Rattle.check_command.specs.Checking.{IsCheckFault}
 use Rattle.check_command.specs.Messages.{IsLogFault}
@@ -15,7 +15,7 @@ use Rattle.trace_text.specs.Traces.{text}
 use Rattle.command_files.specs.declared.fault.Fault.{Fault}
 use Rattle.command_files.specs.declared.fault.Fault.TheVariants.{BadAddress, BadEvent, BytesAfterTrace, CannotMake, CannotRead, CannotShow, CannotWrite, Check, Configuration, Event, Image, Mismatch, NoThread, NothingHappens, OutOfMemory, Text, TooManyRows}
 
-pub of_trace : (held : Held) (name : Name) (fault : Fault) → IsTextFault held name fault → IsCheckFault held name fault
+pub of_trace : (held : Contents) (name : Name) (fault : Fault) → IsTextFault held name fault → IsCheckFault held name fault
 of_trace held name (CannotRead file) is = is
 of_trace held name OutOfMemory is = tt
 of_trace held name (Image file error) is = absurd is
@@ -34,7 +34,7 @@ of_trace held name Mismatch is = absurd is
 of_trace held name BadEvent is = absurd is
 of_trace held name Configuration is = absurd is
 
-pub of_log : (held : Held) (name : Name) (fault : Fault) → IsTextFault held name fault → IsLogFault held name fault
+pub of_log : (held : Contents) (name : Name) (fault : Fault) → IsTextFault held name fault → IsLogFault held name fault
 of_log held name (CannotRead file) is = is
 of_log held name OutOfMemory is = tt
 of_log held name (Image file error) is = absurd is
@@ -54,14 +54,14 @@ of_log held name BadEvent is = absurd is
 of_log held name Configuration is = absurd is
 
 -- all of the file is the text of the trace that was read
-pub trace_held : (held : Held) (name bytes read : List ℕ) (t : History) → HoldsBytes held name bytes → read ≡ bytes → IsTrace t × (read ≡ text t) → HoldsTrace held name t
+pub trace_held : (held : Contents) (name bytes read : List ℕ) (t : History) → HoldsBytes held name bytes → read ≡ bytes → IsTrace t × (read ≡ text t) → HoldsTrace held name t
 trace_held held name bytes read t same is found = record {
   is_trace = found.0;
   bytes = subst (HoldsBytes held name) (sym is ∙ found.1) same;
 }
 
 -- an order that isn't judged is refused for a cause that the check tells, or memory ran out
-pub of_refusal : (held : Held) (name : Name) (trace : History) (error : CheckError) (fault : Fault) → HoldsTrace held name.now trace
+pub of_refusal : (held : Contents) (name : Name) (trace : History) (error : CheckError) (fault : Fault) → HoldsTrace held name.now trace
     → (error ≢ NoMemory → refusal trace (completed trace) ≡ Some error) → (fault ≡ Check name error) ⊎ (fault ≡ OutOfMemory) → (fault ≡ OutOfMemory) ↔ (error ≡ NoMemory)
     → IsCheckFault held name fault
 of_refusal held name trace error fault file refused told memory = elim told [
@@ -70,5 +70,5 @@ of_refusal held name trace error fault file refused told memory = elim told [
   | inr none ↦ subst (IsCheckFault held name) (sym none) tt
 ]
 
-pub text_is_not_write : (held : Held) (name : Name) (fault : Fault) → IsTextFault held name fault → fault ≡ CannotWrite → ⊥
+pub text_is_not_write : (held : Contents) (name : Name) (fault : Fault) → IsTextFault held name fault → fault ≡ CannotWrite → ⊥
 text_is_not_write held name fault is at = subst (IsTextFault held name) at is

@@ -4,7 +4,7 @@ use Rattle.std.proofs.lemmas.List.{length-drop, take-append-drop, take_all}
 use Rattle.check_command.specs.Checking.{BeginWithNoTrace, GoOnBehindATrace, IsCheckFault, IsTraceFault}
 use Rattle.check_command.specs.Messages.{IsLogFault}
 use Rattle.command_files.specs.Faults.{Name}
-use Rattle.command_files.specs.Held.{Held, HoldsBytes}
+use Rattle.command_files.specs.Contents.{Contents, HoldsBytes}
 use Rattle.command_files.specs.declared.fault.Fault.{Fault}
 use Rattle.command_files.specs.declared.fault.Fault.TheVariants.{BytesAfterTrace, CannotWrite, OutOfMemory, Text}
 use Rattle.log_text.specs.Ending.{ended}
@@ -40,7 +40,7 @@ no_trace_told bytes name error fault told memory none = elim told [
 pub whole : (bytes : List ℕ) (t : History) (n : ℕ) → IsTrace t × (take n bytes ≡ text t) → length bytes ≤ n → IsTrace t × (bytes ≡ text t)
 whole bytes t n found past = (found.0, sym (take_all n bytes past) ∙ found.1)
 
-module _ (held : Held) (name : Name) (bytes : List ℕ) (holds : HoldsBytes held name.now bytes) where
+module _ (held : Contents) (name : Name) (bytes : List ℕ) (holds : HoldsBytes held name.now bytes) where
   -- such a fault is one of a check
   pub check_told : (read : List ℕ) (fault : Fault) → read ≡ bytes → IsTraceFault read name fault → IsCheckFault held name fault
   check_told read fault same (inl (error, at, none)) = subst (IsCheckFault held name) (sym at) (refl, inr (of_file (held name.now) bytes BeginWithNoTrace holds (subst BeginWithNoTrace same none)))

@@ -1,6 +1,6 @@
 -- What a check has done, and which faults it tells.
 use Rattle.command_files.specs.Files.{HoldsTrace}
-use Rattle.command_files.specs.Held.{HasLongFirstLine, Held}
+use Rattle.command_files.specs.Contents.{HasLongFirstLine, Contents}
 use Rattle.command_files.specs.declared.fault.Fault.TheVariants.{BytesAfterTrace, CannotRead, CannotWrite, Check, OutOfMemory, Text}
 use Rattle.command_files.specs.declared.fault.Fault.{Fault}
 use Rattle.command_files.specs.Faults.{Name}
@@ -38,14 +38,14 @@ pub record IsVerdict (model : MemoryModel) (trace : History) (verdict : Verdict)
   pub first : fault_told verdict ≡ fault_in model trace (completed trace)
 
 -- what was appended is the verdict on the trace in the file
-pub record IsVerdictTold (held : Held) (name : List ℕ) (model : MemoryModel) (verdict : Verdict) (old new : Option (List ℕ)) : Type 0 where
+pub record IsVerdictTold (held : Contents) (name : List ℕ) (model : MemoryModel) (verdict : Verdict) (old new : Option (List ℕ)) : Type 0 where
   pub trace : History
   pub file : HoldsTrace held name trace
   pub judged : IsVerdict model trace verdict
   pub printed : Appends old new (verdict_text verdict)
 
 -- it took no more than a beginning of the verdict on the trace in the file
-pub record IsVerdictCutOff (held : Held) (name : List ℕ) (model : MemoryModel) (old new : Option (List ℕ)) : Type 0 where
+pub record IsVerdictCutOff (held : Contents) (name : List ℕ) (model : MemoryModel) (old new : Option (List ℕ)) : Type 0 where
   pub trace : History
   pub verdict : Verdict
   pub file : HoldsTrace held name trace
@@ -53,7 +53,7 @@ pub record IsVerdictCutOff (held : Held) (name : List ℕ) (model : MemoryModel)
   pub begun : Begins old new (verdict_text verdict)
 
 -- the order of the trace in the file is refused for this cause
-pub record IsUnjudged (held : Held) (name : List ℕ) (error : CheckError) : Type 0 where
+pub record IsUnjudged (held : Contents) (name : List ℕ) (error : CheckError) : Type 0 where
   pub trace : History
   pub file : HoldsTrace held name trace
   pub refused : refusal trace (completed trace) ≡ Some error
@@ -76,11 +76,11 @@ IsTraceFault bytes name fault =
     ((error : TextError) × (fault ≡ Text name error) × BeginWithNoTrace bytes) ⊎ ((fault ≡ BytesAfterTrace name) × GoOnBehindATrace bytes) ⊎ (fault ≡ OutOfMemory)
 
 -- the file begins with no trace's text, or already its first line is longer than that of any text
-abbrev pub IsNoTrace : Held → List ℕ → Type 0
+abbrev pub IsNoTrace : Contents → List ℕ → Type 0
 IsNoTrace held name = HasLongFirstLine held name ⊎ IfSome (held name) BeginWithNoTrace
 
 -- the trace is read first, then its end, then its order is judged
-abbrev pub IsCheckFault : Held → Name → Fault → Type 0
+abbrev pub IsCheckFault : Contents → Name → Fault → Type 0
 IsCheckFault held name (CannotRead file) = file ≡ name
 IsCheckFault held name (Text file error) = (file ≡ name) × IsNoTrace held name.now
 IsCheckFault held name (BytesAfterTrace file) = (file ≡ name) × IfSome (held name.now) GoOnBehindATrace

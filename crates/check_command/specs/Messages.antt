@@ -3,7 +3,7 @@ use Rattle.std.specs.Io.KnownBytes.{Appends}
 use Rattle.std.specs.Prelude.{◌≡◌, ◌↔◌, ◌⊎◌, ℕ, IfSome, List, Option}
 use Rattle.command_files.specs.Faults.{Name}
 use Rattle.check_command.specs.Checking.{BeginWithNoTrace, GoOnBehindATrace}
-use Rattle.command_files.specs.Held.{HasLongFirstLine, Held}
+use Rattle.command_files.specs.Contents.{HasLongFirstLine, Contents}
 use Rattle.command_files.specs.declared.fault.Fault.TheVariants.{BytesAfterTrace, CannotRead, CannotWrite, OutOfMemory, Text}
 use Rattle.command_files.specs.declared.fault.Fault.{Fault}
 use Rattle.lawful_log.specs.Laws.{IfUnlawful, IsFirstBreach}
@@ -19,7 +19,7 @@ use Rattle.trace_text.specs.TraceLimits.{IsTrace}
 use Rattle.trace_text.specs.Traces.{text}
 
 -- the file has the text of this trace, and nothing else; the lines that say how its harts ended may be left out, where all still run
-pub record HoldsLog (held : Held) (name : List ℕ) (trace : History) : Type 0 where
+pub record HoldsLog (held : Contents) (name : List ℕ) (trace : History) : Type 0 where
   pub is_trace : IsTrace trace
   pub bytes : IfSome (held name) (λ known. ended known ≡ text trace)
 
@@ -29,14 +29,14 @@ pub record IsLogVerdict (log : List Logged) (verdict : LogVerdict) : Type 0 wher
   pub unlawful : IfUnlawful verdict (λ rule index. IsFirstBreach log rule index)
 
 -- what was appended is the verdict on the log in the file
-pub record IsLogJudged (held : Held) (name : List ℕ) (verdict : LogVerdict) (old new : Option (List ℕ)) : Type 0 where
+pub record IsLogJudged (held : Contents) (name : List ℕ) (verdict : LogVerdict) (old new : Option (List ℕ)) : Type 0 where
   pub trace : History
   pub file : HoldsLog held name trace
   pub judged : IsLogVerdict trace.log verdict
   pub printed : Appends old new (verdict_text verdict)
 
 -- the output took no more than a beginning of the verdict on the log in the file
-pub record IsLogCutOff (held : Held) (name : List ℕ) (old new : Option (List ℕ)) : Type 0 where
+pub record IsLogCutOff (held : Contents) (name : List ℕ) (old new : Option (List ℕ)) : Type 0 where
   pub trace : History
   pub verdict : LogVerdict
   pub file : HoldsLog held name trace
@@ -44,11 +44,11 @@ pub record IsLogCutOff (held : Held) (name : List ℕ) (old new : Option (List �
   pub begun : Begins old new (verdict_text verdict)
 
 -- the file, with the lines that may be left out, begins with no trace's text, or already its first line is longer than that of any text
-abbrev pub IsNoLog : Held → List ℕ → Type 0
+abbrev pub IsNoLog : Contents → List ℕ → Type 0
 IsNoLog held name = HasLongFirstLine held name ⊎ IfSome (held name) (λ known. BeginWithNoTrace (ended known))
 
 -- the file can't be read, what it holds is no trace, or it goes on behind the trace: a log is lawful or not, and isn't refused
-abbrev pub IsLogFault : Held → Name → Fault → Type 0
+abbrev pub IsLogFault : Contents → Name → Fault → Type 0
 IsLogFault held name (CannotRead file) = file ≡ name
 IsLogFault held name (Text file error) = (file ≡ name) × IsNoLog held name.now
 IsLogFault held name (BytesAfterTrace file) = (file ≡ name) × IfSome (held name.now) (λ known. GoOnBehindATrace (ended known))

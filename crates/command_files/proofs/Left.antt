@@ -1,6 +1,6 @@
 -- What a fault has left on the output, and which faults a caller hands up.
 use Rattle.std.proofs.Common.{◌≡◌, ◌⊎◌, ℕ, Bool, Err, IfErr, IsErrAnd, List, Ok, Option, Result, inl, inr, refl, subst, sym}
-use Rattle.command_files.specs.Held.{Held}
+use Rattle.command_files.specs.Contents.{Contents}
 use Rattle.command_files.specs.Status.{status_of}
 use Rattle.command_files.specs.Faults.{IsImageFault, IsReadFault, IsScriptFault, LeavesAtFault, Name}
 use Rattle.command_files.specs.declared.fault.Fault.{Fault}
@@ -58,15 +58,15 @@ pub handed_up : {T : Type 0} (P : Fault → Type 0) (r : Result T Fault) (fault 
 handed_up P (Ok x) fault is so = absurd is
 handed_up P (Err told) fault is so = subst P (sym is) so
 
-pub script_is_not_write : (held : Held) (name : Name) (fault : Fault) → IsScriptFault held name fault → fault ≡ CannotWrite → ⊥
+pub script_is_not_write : (held : Contents) (name : Name) (fault : Fault) → IsScriptFault held name fault → fault ≡ CannotWrite → ⊥
 script_is_not_write held name fault is at = subst (IsScriptFault held name) at is
 
-pub image_is_not_write : (held : Held) (is_raw : Bool) (name : Name) (kib : ℕ) (fault : Fault) → IsImageFault held is_raw name kib fault → fault ≡ CannotWrite → ⊥
+pub image_is_not_write : (held : Contents) (is_raw : Bool) (name : Name) (kib : ℕ) (fault : Fault) → IsImageFault held is_raw name kib fault → fault ≡ CannotWrite → ⊥
 image_is_not_write held is_raw name kib fault is at = subst (IsImageFault held is_raw name kib) at is
 
 -- an image that is refused behind another file was refused of what all files held before
-pub image_as_before : (now held : Held) (is_raw : Bool) (name : Name) (kib : ℕ) (fault : Fault) → now ≡ held → IsImageFault now is_raw name kib fault → IsImageFault held is_raw name kib fault
-image_as_before now held is_raw name kib fault same is = subst (λ (files : Held). IsImageFault files is_raw name kib fault) same is
+pub image_as_before : (now held : Contents) (is_raw : Bool) (name : Name) (kib : ℕ) (fault : Fault) → now ≡ held → IsImageFault now is_raw name kib fault → IsImageFault held is_raw name kib fault
+image_as_before now held is_raw name kib fault same is = subst (λ (files : Contents). IsImageFault files is_raw name kib fault) same is
 
 pub read_is_not_write : (name : Name) (fault : Fault) → IsReadFault name fault → fault ≡ CannotWrite → ⊥
 read_is_not_write name fault is at = subst (IsReadFault name) at is

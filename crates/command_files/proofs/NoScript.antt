@@ -1,7 +1,7 @@
 -- Which faults tell of a file that was read and holds no script.
 use Rattle.std.proofs.Common.{◌≡◌, ◌≢◌, ◌∙◌, ◌⊎◌, ◌↔◌, ℕ, Err, IfSome, List, None, Ok, Option, Result, Some, inl, inr, refl, subst, sym}
 use Rattle.command_files.specs.Faults.{IsScriptFault, Name}
-use Rattle.command_files.specs.Held.{Held, HoldsBytes}
+use Rattle.command_files.specs.Contents.{Contents, HoldsBytes}
 use Rattle.command_files.specs.declared.fault.Fault.{Fault}
 use Rattle.command_files.specs.declared.fault.Fault.TheVariants.{OutOfMemory, Text}
 use Rattle.trace_text.specs.Reading.{IsNoMemory}
@@ -19,7 +19,7 @@ no_script (Some file) bytes r error is other same only = λ s is_script e.
     let bad = sym is ∙ read in
     cc
 
-pub no_script_told : (held : Held) (name : Name) (bytes : List ℕ) (r : Result Script TextError) (error : TextError) (fault : Fault)
+pub no_script_told : (held : Contents) (name : Name) (bytes : List ℕ) (r : Result Script TextError) (error : TextError) (fault : Fault)
     → r ≡ Err error → HoldsBytes held name.now bytes → ((s : Script) → IsScript s → bytes ≡ text s → ¬ IsNoMemory r → r ≡ Ok s)
     → (fault ≡ Text name error) ⊎ (fault ≡ OutOfMemory) → (fault ≡ OutOfMemory) ↔ (error.code ≡ NoMemory) → IsScriptFault held name fault
 no_script_told held name bytes r error fault is holds only told memory = elim told [

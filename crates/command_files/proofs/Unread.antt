@@ -3,7 +3,7 @@ use Rattle.std.proofs.Common.{◌≡◌, ◌≢◌, ◌∙◌, ◌⊎◌, ◌↔
 use Rattle.std.specs.Result.{IsErrOf}
 use Rattle.command_files.specs.Faults.{IsImageFault, IsLoadFault, Name}
 use Rattle.command_files.specs.Files.{image_answer}
-use Rattle.command_files.specs.Held.{Held, HoldsBytes}
+use Rattle.command_files.specs.Contents.{Contents, HoldsBytes}
 use Rattle.command_files.specs.declared.fault.Fault.{Fault}
 use Rattle.command_files.specs.declared.fault.Fault.TheVariants.{BadAddress, BadEvent, BytesAfterTrace, CannotMake, CannotRead, CannotShow, CannotWrite, Check, Configuration, Event, Image, Mismatch, NoThread, NothingHappens, OutOfMemory, Text, TooManyRows}
 use Rattle.elf_loader.specs.declared.error.LoadError.{LoadError}
@@ -29,7 +29,7 @@ no_image_told is_raw name kib bytes error fault answer told memory = elim told [
 ]
 
 -- what the bytes of a file are refused for its image is
-pub of_bytes : (held : Held) (is_raw : Bool) (name : Name) (kib : ℕ) (bytes : List ℕ) (fault : Fault) → HoldsBytes held name.now bytes → IsLoadFault is_raw bytes name kib fault
+pub of_bytes : (held : Contents) (is_raw : Bool) (name : Name) (kib : ℕ) (bytes : List ℕ) (fault : Fault) → HoldsBytes held name.now bytes → IsLoadFault is_raw bytes name kib fault
     → IsImageFault held is_raw name kib fault
 of_bytes held is_raw name kib bytes (Image file error) holds is = (is.0, record { file = bytes; bytes = holds; refused = is.1 })
 of_bytes held is_raw name kib bytes OutOfMemory holds is = tt
@@ -49,7 +49,7 @@ of_bytes held is_raw name kib bytes Mismatch holds is = absurd is
 of_bytes held is_raw name kib bytes BadEvent holds is = absurd is
 of_bytes held is_raw name kib bytes Configuration holds is = absurd is
 
-pub all_of_bytes : {T : Type 0} (held : Held) (is_raw : Bool) (name : Name) (kib : ℕ) (bytes : List ℕ) (r : Result T Fault) → HoldsBytes held name.now bytes → IfErr r (IsLoadFault is_raw bytes name kib)
+pub all_of_bytes : {T : Type 0} (held : Contents) (is_raw : Bool) (name : Name) (kib : ℕ) (bytes : List ℕ) (r : Result T Fault) → HoldsBytes held name.now bytes → IfErr r (IsLoadFault is_raw bytes name kib)
     → IfErr r (IsImageFault held is_raw name kib)
 all_of_bytes held is_raw name kib bytes (Ok value) holds is = tt
 all_of_bytes held is_raw name kib bytes (Err fault) holds is = of_bytes held is_raw name kib bytes fault holds is

@@ -1,7 +1,7 @@
 -- Which faults tell of a file and of a replay, and what a fault leaves on standard output.
 use Rattle.coherent_machine.specs.Machine.{IsRefusedAt}
 use Rattle.command_files.specs.Files.{HoldsImage, HoldsScript, image_answer}
-use Rattle.command_files.specs.Held.{HasLongFirstLine, Held, HoldsBytes}
+use Rattle.command_files.specs.Contents.{HasLongFirstLine, Contents, HoldsBytes}
 use Rattle.command_files.specs.declared.fault.Fault.TheVariants.{CannotRead, CannotWrite, Event, Image, OutOfMemory, Text}
 use Rattle.command_files.specs.declared.fault.Fault.{Fault}
 use Rattle.command_files.specs.Sizes.{config_of}
@@ -20,15 +20,15 @@ use Rattle.trace_text.specs.declared.script.Script.{Script}
 abbrev pub Name : Type 0
 Name = Bor (List ℕ)
 
-abbrev pub HasScript : Held → List ℕ → Type 0
+abbrev pub HasScript : Contents → List ℕ → Type 0
 HasScript held name = (script : Script) × HoldsScript held name script
 
 -- no script has the bytes of the file as its text, or already its first line is longer than that of any text
-abbrev pub IsNoScript : Held → List ℕ → Type 0
+abbrev pub IsNoScript : Contents → List ℕ → Type 0
 IsNoScript held name = HasLongFirstLine held name ⊎ IfSome (held name) (λ known. (script : Script) → IsScript script → known ≢ scripts.text script)
 
 -- the file, of bare words or an ELF file, is refused by the loader of so many KiB for this cause
-pub record IsNoImage (held : Held) (is_raw : Bool) (name : List ℕ) (kib : ℕ) (error : LoadError) : Type 0 where
+pub record IsNoImage (held : Contents) (is_raw : Bool) (name : List ℕ) (kib : ℕ) (error : LoadError) : Type 0 where
   pub file : List ℕ
   pub bytes : HoldsBytes held name file
   pub refused : image_answer is_raw file (1024 * kib) ≡ Err error
@@ -40,12 +40,12 @@ IsReadFault name OutOfMemory = Unit {0}
 IsReadFault name _ = ⊥
 
 -- or its first line is longer than that of any text
-abbrev pub IsTextFault : Held → Name → Fault → Type 0
+abbrev pub IsTextFault : Contents → Name → Fault → Type 0
 IsTextFault held name (Text file error) = (file ≡ name) × HasLongFirstLine held name.now
 IsTextFault held name fault = IsReadFault name fault
 
 -- or what it holds is no script
-abbrev pub IsScriptFault : Held → Name → Fault → Type 0
+abbrev pub IsScriptFault : Contents → Name → Fault → Type 0
 IsScriptFault held name (Text file error) = (file ≡ name) × IsNoScript held name.now
 IsScriptFault held name fault = IsReadFault name fault
 
@@ -56,17 +56,17 @@ IsLoadFault is_raw bytes name kib OutOfMemory = Unit {0}
 IsLoadFault is_raw bytes name kib _ = ⊥
 
 -- or what it holds is no image, for the cause that is told
-abbrev pub IsImageFault : Held → Bool → Name → ℕ → Fault → Type 0
+abbrev pub IsImageFault : Contents → Bool → Name → ℕ → Fault → Type 0
 IsImageFault held is_raw name kib (Image file error) = (file ≡ name) × IsNoImage held is_raw name.now kib error
 IsImageFault held is_raw name kib fault = IsReadFault name fault
 
 -- the script in the one file gives its image so much memory that the other is refused for this cause
-abbrev pub IsNoImageOf : Held → Replay → LoadError → Type 0
+abbrev pub IsNoImageOf : Contents → Replay → LoadError → Type 0
 IsNoImageOf held replay error =
     (script : Script) × HoldsScript held replay.script.now script × IsNoImage held replay.raw replay.image.now script.kib error
 
 -- the event of this line of the script, the first of which stands on line 2, is refused
-pub record IsEventFault (held : Held) (replay : Replay) (line : ℕ) (error : ApplyError) : Type 0 where
+pub record IsEventFault (held : Contents) (replay : Replay) (line : ℕ) (error : ApplyError) : Type 0 where
   pub script : Script
   pub image : Initial
   pub script_file : HoldsScript held replay.script.now script
@@ -76,7 +76,7 @@ pub record IsEventFault (held : Held) (replay : Replay) (line : ℕ) (error : Ap
   pub refused : IsRefusedAt (opening image (config_of script replay.model)) script.events index error
 
 -- the script is judged first, then the image, then the events
-abbrev pub IsReplayFault : Held → Replay → Fault → Type 0
+abbrev pub IsReplayFault : Contents → Replay → Fault → Type 0
 IsReplayFault held replay (CannotRead file) = (file ≡ replay.script) ⊎ ((file ≡ replay.image) × HasScript held replay.script.now)
 IsReplayFault held replay (Text file error) = (file ≡ replay.script) × IsNoScript held replay.script.now
 IsReplayFault held replay (Image file error) = (file ≡ replay.image) × IsNoImageOf held replay error

@@ -2,6 +2,6 @@ pub mod Composition
 pub mod Ends
 pub mod Faults
 pub mod Files
-pub mod Held
+pub mod Contents
 pub mod Sizes
 pub mod Status

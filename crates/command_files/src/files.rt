@@ -1,7 +1,7 @@
 //! Where the program's files come from, and where it makes one.
 
 ghost use Rattle.std.specs.Prelude.{◌≡◌, ◌≢◌, ℕ, IfOk, List, None, OnOk, Option};
-ghost use Rattle.command_files.specs.Held.{IsUnread, HoldsBytes};
+ghost use Rattle.command_files.specs.Contents.{IsUnread, HoldsBytes};
 
 use std::io::{self, Read};
 

@@ -7,7 +7,7 @@ ghost use Rattle.std.specs.IoError.{error_kind};
 ghost use Rattle.elf_loader.specs.Size.{IsMemoryKib, IsMemorySize};
 ghost use Rattle.command_files.specs.Faults.{IsImageFault, IsLoadFault, IsReadFault, IsScriptFault, IsTextFault};
 ghost use Rattle.command_files.specs.Files.{HoldsImage, HoldsScript, IsTheScriptIn, image_answer};
-ghost use Rattle.command_files.specs.Held.{HoldsBytes};
+ghost use Rattle.command_files.specs.Contents.{HoldsBytes};
 
 use crate::fault::Fault;
 use crate::files::Files;

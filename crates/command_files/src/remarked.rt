@@ -1,7 +1,7 @@
 //! Files with the remark that was made on one of them.
 
 ghost use Rattle.std.specs.Prelude.{◌≡◌, ◌≢◌, ℕ, IfOk, List, OnOk};
-ghost use Rattle.command_files.specs.Held.{IsUnread, HoldsBytes};
+ghost use Rattle.command_files.specs.Contents.{IsUnread, HoldsBytes};
 
 use crate::fault::Fault;
 use crate::files::Files;

@@ -5,7 +5,7 @@ use Rattle.coherent_machine.specs.Machine.{Replayed, replayed_from}
 use Rattle.command_files.specs.Composition.{Leads}
 use Rattle.command_files.specs.Sizes.{config_of}
 use Rattle.command_files.specs.Files.{HoldsImage, image_answer}
-use Rattle.command_files.specs.Held.{Held}
+use Rattle.command_files.specs.Contents.{Contents}
 use Rattle.command_line.specs.Runs.{RunsReplay}
 use Rattle.elf_loader.specs.Image.{Initial}
 use Rattle.elf_loader.specs.declared.error.LoadError.{LoadError}
@@ -28,7 +28,7 @@ image_or d (Ok image) = image
 image_or d _ = d
 
 -- one file is one image
-one_image : (held left : Held) (is_raw other_raw : Bool) (name other : List ℕ) (kib more : ℕ) (image again : Initial) (bytes : List ℕ) → other_raw ≡ is_raw → other ≡ name → more ≡ kib
+one_image : (held left : Contents) (is_raw other_raw : Bool) (name other : List ℕ) (kib more : ℕ) (image again : Initial) (bytes : List ℕ) → other_raw ≡ is_raw → other ≡ name → more ≡ kib
     → held name ≡ Some bytes → left name ≡ Some bytes → HoldsImage held is_raw name kib image → HoldsImage left other_raw other more again → again ≡ image
 one_image held left is_raw other_raw name other kib more image again bytes raw_same name_same kib_same read still one two =
     let first : bytes ≡ one.file = bytes_are (held name) bytes one.file read one.bytes in

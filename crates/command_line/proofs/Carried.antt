@@ -2,7 +2,7 @@
 use Rattle.std.proofs.Common.{◌≡◌, ◌≢◌, ℕ, Bool, Err, IfErr, IfOk, List, Ok, Option, Result, false, subst, sym, true}
 use Rattle.std.specs.Prelude.{nat_lt}
 use Rattle.clap.specs.Words.{Text}
-use Rattle.command_files.specs.Held.{Held}
+use Rattle.command_files.specs.Contents.{Contents}
 use Rattle.command_files.specs.Status.{status_of}
 use Rattle.command_files.specs.declared.fault.Fault.{Fault}
 use Rattle.command_line.proofs.Meant.{beyond_explore, beyond_show, written}
@@ -21,12 +21,12 @@ use Rattle.explore_command.specs.Keeping.{SparesOthers}
 use Rattle.explore_command.specs.declared.judging.Judgement.{Judgement}
 use Rattle.explore_command.specs.declared.judging.Judgement.TheVariants.{Allowed, NotAllowed}
 
-pub explained : (held left : Held) (old new : Option (List ℕ)) (wanted : Settings) (explain : Telling) (strictness : Strictness) → wanted ≡ Explain explain → strictness ≡ strictness_of explain.strict
+pub explained : (held left : Contents) (old new : Option (List ℕ)) (wanted : Settings) (explain : Telling) (strictness : Strictness) → wanted ≡ Explain explain → strictness ≡ strictness_of explain.strict
     → IsExplained held explain.replay strictness explain.state old new → IsDone held left old new wanted
 explained held left old new wanted explain strictness is is_strict told =
     subst (IsDone held left old new) (sym is) (subst (λ s. IsExplained held explain.replay s explain.state old new) is_strict told)
 
-module _ (held left : Held) (old new : Option (List ℕ)) (wanted : Settings) where
+module _ (held left : Contents) (old new : Option (List ℕ)) (wanted : Settings) where
   pub explore_came : (explore : Sought) (r : Result Judgement Fault) → wanted ≡ Explore explore
       → IfOk r (λ judgement. ExploreCame explore.architecture (nat_lt 0 explore.sample) judgement held left explore old new) → IfOk r (Came held left old new wanted)
   explore_came explore (Ok Allowed) is so = subst (IsDone held left old new) (sym is) so
@@ -45,7 +45,7 @@ module _ (held left : Held) (old new : Option (List ℕ)) (wanted : Settings) wh
   check_came check (Err fault) is so = tt
 
 -- what is put on standard error is what the settings that name the command put there
-pub all_noted : (held left : Held) (old new before after : Option (List ℕ)) (wanted meant : Settings) (r : Result Judgement Fault) → wanted ≡ meant → IfOk r (λ judgement. IsNoted held left old new before after judgement meant)
+pub all_noted : (held left : Contents) (old new before after : Option (List ℕ)) (wanted meant : Settings) (r : Result Judgement Fault) → wanted ≡ meant → IfOk r (λ judgement. IsNoted held left old new before after judgement meant)
     → IfOk r (λ judgement. IsNoted held left old new before after judgement wanted)
 all_noted held left old new before after wanted meant (Ok judgement) is so = subst (IsNoted held left old new before after judgement) (sym is) so
 all_noted held left old new before after wanted meant (Err fault) is so = tt
@@ -60,43 +60,43 @@ order_noted NotAllowed true before after same = tt
 order_noted NotAllowed false before after same = same
 
 -- whatever fault a command tells is one of what the settings name
-pub told_of : (held : Held) (old new : Option (List ℕ)) (wanted meant : Settings) (fault : Fault) → wanted ≡ meant → IsFaultOfCommand held old new meant fault → IsFaultOfCommand held old new wanted fault
+pub told_of : (held : Contents) (old new : Option (List ℕ)) (wanted meant : Settings) (fault : Fault) → wanted ≡ meant → IsFaultOfCommand held old new meant fault → IsFaultOfCommand held old new wanted fault
 told_of held old new wanted meant fault is so = subst (λ w. IsFaultOfCommand held old new w fault) (sym is) so
 
-pub all_told_of : (held : Held) (old new : Option (List ℕ)) (wanted meant : Settings) (r : Result Judgement Fault) → wanted ≡ meant → IfErr r (IsFaultOfCommand held old new meant) → IfErr r (IsFaultOfCommand held old new wanted)
+pub all_told_of : (held : Contents) (old new : Option (List ℕ)) (wanted meant : Settings) (r : Result Judgement Fault) → wanted ≡ meant → IfErr r (IsFaultOfCommand held old new meant) → IfErr r (IsFaultOfCommand held old new wanted)
 all_told_of held old new wanted meant (Ok judgement) is so = tt
 all_told_of held old new wanted meant (Err fault) is so = told_of held old new wanted meant fault is so
 
-pub explain_told : (held : Held) (old new : Option (List ℕ)) (explain : Telling) (strictness : Strictness) (fault : Fault) → strictness ≡ strictness_of explain.strict
+pub explain_told : (held : Contents) (old new : Option (List ℕ)) (explain : Telling) (strictness : Strictness) (fault : Fault) → strictness ≡ strictness_of explain.strict
     → IsExplainFault held explain.replay strictness old new fault → IsExplainFault held explain.replay (strictness_of explain.strict) old new fault
 explain_told held old new explain strictness fault is_strict so = subst (λ s. IsExplainFault held explain.replay s old new fault) is_strict so
 
-pub explore_beyond : (held : Held) (old new : Option (List ℕ)) (wanted : Settings) (explore : Sought) (Has : (List ℕ → Type 0) → Type 0) (r : Result Judgement Fault) → wanted ≡ Explore explore → IfErr r (IsExploreFault held explore)
+pub explore_beyond : (held : Contents) (old new : Option (List ℕ)) (wanted : Settings) (explore : Sought) (Has : (List ℕ → Type 0) → Type 0) (r : Result Judgement Fault) → wanted ≡ Explore explore → IfErr r (IsExploreFault held explore)
     → IfErr r (λ fault. LeavesPart fault old new Has) → IfErr r (λ fault. status_of fault ≡ 2 → IsOutOfRange wanted × (new ≡ old))
 explore_beyond held old new wanted explore Has (Ok judgement) is told leaves = tt
 explore_beyond held old new wanted explore Has (Err fault) is told leaves = λ two.
     let it = beyond_explore held old new explore Has fault told leaves two in (subst IsOutOfRange (sym is) it.0, it.1)
 
-pub show_beyond : (held : Held) (old new : Option (List ℕ)) (wanted : Settings) (show : Shown) (Has : (List ℕ → Type 0) → Type 0) (r : Result Judgement Fault) → wanted ≡ Show show → IfErr r (IsShowingFault show.explore.architecture held show)
+pub show_beyond : (held : Contents) (old new : Option (List ℕ)) (wanted : Settings) (show : Shown) (Has : (List ℕ → Type 0) → Type 0) (r : Result Judgement Fault) → wanted ≡ Show show → IfErr r (IsShowingFault show.explore.architecture held show)
     → IfErr r (λ fault. LeavesPart fault old new Has) → IfErr r (λ fault. status_of fault ≡ 2 → IsOutOfRange wanted × (new ≡ old))
 show_beyond held old new wanted show Has (Ok judgement) is told leaves = tt
 show_beyond held old new wanted show Has (Err fault) is told leaves = λ two.
     let it = beyond_show show.explore.architecture held old new show Has fault told leaves two in (subst IsOutOfRange (sym is) it.0, it.1)
 
-pub show_written : (held left : Held) (wanted : Settings) (show : Shown) → wanted ≡ Show show → SparesOthers (IsExploreFile show.explore.architecture show.explore) held left
+pub show_written : (held left : Contents) (wanted : Settings) (show : Shown) → wanted ≡ Show show → SparesOthers (IsExploreFile show.explore.architecture show.explore) held left
     → (name : Text) → left name ≢ held name → IsWritten name wanted
 show_written held left wanted show is spares = λ name changed. subst (IsWritten name) (sym is) (written held left _ spares name changed)
 
-pub explore_written : (held left : Held) (wanted : Settings) (explore : Sought) → wanted ≡ Explore explore → SparesOthers (IsExploreFile explore.architecture explore) held left
+pub explore_written : (held left : Contents) (wanted : Settings) (explore : Sought) → wanted ≡ Explore explore → SparesOthers (IsExploreFile explore.architecture explore) held left
     → (name : Text) → left name ≢ held name → IsWritten name wanted
 explore_written held left wanted explore is spares = λ name changed. subst (IsWritten name) (sym is) (written held left _ spares name changed)
 
 -- what a command says of its files is said of the settings that name it
-pub stay_of : (held left : Held) (wanted meant : Settings) (r : Result Judgement Fault) → wanted ≡ meant → IfErr r (λ fault. ComesBeforeFiles meant fault → left ≡ held) → IfErr r (λ fault. ComesBeforeFiles wanted fault → left ≡ held)
+pub stay_of : (held left : Contents) (wanted meant : Settings) (r : Result Judgement Fault) → wanted ≡ meant → IfErr r (λ fault. ComesBeforeFiles meant fault → left ≡ held) → IfErr r (λ fault. ComesBeforeFiles wanted fault → left ≡ held)
 stay_of held left wanted meant (Ok judgement) is so = tt
 stay_of held left wanted meant (Err fault) is so = λ early. so (subst (λ w. ComesBeforeFiles w fault) is early)
 
-pub all_stay : (held left : Held) (wanted : Settings) (r : Result Judgement Fault) → left ≡ held → IfErr r (λ fault. ComesBeforeFiles wanted fault → left ≡ held)
+pub all_stay : (held left : Contents) (wanted : Settings) (r : Result Judgement Fault) → left ≡ held → IfErr r (λ fault. ComesBeforeFiles wanted fault → left ≡ held)
 all_stay held left wanted (Ok judgement) same = tt
 all_stay held left wanted (Err fault) same = λ early. same
 

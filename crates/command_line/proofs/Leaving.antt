@@ -6,7 +6,7 @@ use Rattle.chart_command.specs.Addresses.{address}
 use Rattle.chart_command.specs.Charting.{IsAddress}
 use Rattle.command_files.proofs.Left.{either}
 use Rattle.command_files.specs.Faults.{Name}
-use Rattle.command_files.specs.Held.{Held}
+use Rattle.command_files.specs.Contents.{Contents}
 use Rattle.command_files.specs.Sizes.{IsOutside}
 use Rattle.command_files.specs.Status.{status_of}
 use Rattle.command_files.specs.declared.fault.Fault.{Fault}
@@ -31,12 +31,12 @@ use Rattle.text_fields.specs.Writing.{Begins}
 
 -- ---- what is left
 
-pub stream_left : (held : Held) (old new : Option (List ℕ)) (explain : Telling) (strictness : Strictness) (fault : Fault) → strictness ≡ strictness_of explain.strict
+pub stream_left : (held : Contents) (old new : Option (List ℕ)) (explain : Telling) (strictness : Strictness) (fault : Fault) → strictness ≡ strictness_of explain.strict
     → LeavesOfStream fault old new (IsStreamCutOff held explain.replay strictness explain.state old new)
     → LeavesOfStream fault old new (IsStreamCutOff held explain.replay (strictness_of explain.strict) explain.state old new)
 stream_left held old new explain strictness fault is so = subst (λ s. LeavesOfStream fault old new (IsStreamCutOff held explain.replay s explain.state old new)) is so
 
-module _ (held left : Held) (old new : Option (List ℕ)) where
+module _ (held left : Contents) (old new : Option (List ℕ)) where
   pub left_of : (wanted meant : Settings) (fault : Fault) → wanted ≡ meant → LeavesOf held left old new meant fault → LeavesOf held left old new wanted fault
   left_of wanted meant fault is so = subst (λ w. LeavesOf held left old new w fault) (sym is) so
 

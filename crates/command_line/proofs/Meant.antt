@@ -9,7 +9,7 @@ use Rattle.chart_command.specs.Charting.{IsNoAddress}
 use Rattle.clap.specs.Words.{Text}
 use Rattle.command_files.proofs.Left.{only_configuration}
 use Rattle.command_files.specs.Faults.{LeavesAtFault, Name}
-use Rattle.command_files.specs.Held.{Held}
+use Rattle.command_files.specs.Contents.{Contents}
 use Rattle.command_files.specs.Sizes.{IsOutside}
 use Rattle.command_files.specs.Status.{status_of}
 use Rattle.command_files.specs.declared.fault.Fault.{Fault}
@@ -39,13 +39,13 @@ some_states words (Run run) named = tt
 some_states words (Check check) named = tt
 
 -- a fault of status 2 tells of a machine that can't be, and leaves the output as it was
-pub beyond_run : (held : Held) (old new : Option (List ℕ)) (run : Asked) (broken : Type 0) (fault : Fault) → IsRunFault held run fault → LeavesAtFault fault old new broken → status_of fault ≡ 2
+pub beyond_run : (held : Contents) (old new : Option (List ℕ)) (run : Asked) (broken : Type 0) (fault : Fault) → IsRunFault held run fault → LeavesAtFault fault old new broken → status_of fault ≡ 2
     → IsOutside run.machine × (new ≡ old)
 beyond_run held old new run broken fault told leaves two =
     let at = only_configuration fault (λ word address. subst (IsRunFault held run) address told) (λ word cause shown. subst (IsRunFault held run) shown told) two in
     (subst (IsRunFault held run) at told, subst (λ f. LeavesAtFault f old new broken) at leaves)
 
-pub beyond_explore : (held : Held) (old new : Option (List ℕ)) (explore : Sought) (Has : (List ℕ → Type 0) → Type 0) (fault : Fault) → IsExploreFault held explore fault → LeavesPart fault old new Has → status_of fault ≡ 2
+pub beyond_explore : (held : Contents) (old new : Option (List ℕ)) (explore : Sought) (Has : (List ℕ → Type 0) → Type 0) (fault : Fault) → IsExploreFault held explore fault → LeavesPart fault old new Has → status_of fault ≡ 2
     → IsOutside explore.machine × (new ≡ old)
 beyond_explore held old new explore Has fault told leaves two =
     let at = only_configuration fault (λ word address. subst (IsExploreFault held explore) address told) (λ word cause shown. subst (IsExploreFault held explore) shown told) two in
@@ -56,14 +56,14 @@ one_is_not_two : (fault other : Fault) → fault ≡ other → status_of other �
 one_is_not_two fault other is one two =
     let bad : 1 ≡ 2 = sym one ∙ (ap status_of (sym is) ∙ two) in cc
 
-unshown_once : (held : Held) (explore : Sought) (words : List Name) (fault : Fault) → HasUnshown held explore words fault → status_of fault ≡ 2 → ⊥
+unshown_once : (held : Contents) (explore : Sought) (words : List Name) (fault : Fault) → HasUnshown held explore words fault → status_of fault ≡ 2 → ⊥
 unshown_once held explore words fault unshown two = elim unshown.unplaced [
   | inl at ↦ one_is_not_two fault _ at.1 refl two
   | inr at ↦ one_is_not_two fault _ at.3 refl two
 ]
 
 -- where no words are to be shown, none can't be
-pub none_unshown : (held : Held) (explore : Sought) (words : List Name) (fault : Fault) → words ≡ [] → IsSearchFault held explore words fault → IsExploreFault held explore fault
+pub none_unshown : (held : Contents) (explore : Sought) (words : List Name) (fault : Fault) → words ≡ [] → IsSearchFault held explore words fault → IsExploreFault held explore fault
 none_unshown held explore words fault none (inl so) = so
 none_unshown held explore words fault none (inr unshown) = absurd (behind_none unshown.first.before (unshown.first.whole ∙ none))
   where
@@ -71,11 +71,11 @@ none_unshown held explore words fault none (inr unshown) = absurd (behind_none u
     behind_none [] is = cc
     behind_none (x ∷ xs) is = cc
 
-pub told_alone : {T : Type 0} (r : Result T Fault) (held : Held) (explore : Sought) (words : List Name) → words ≡ [] → IfErr r (IsSearchFault held explore words) → IfErr r (IsExploreFault held explore)
+pub told_alone : {T : Type 0} (r : Result T Fault) (held : Contents) (explore : Sought) (words : List Name) → words ≡ [] → IfErr r (IsSearchFault held explore words) → IfErr r (IsExploreFault held explore)
 told_alone (Ok done) held explore words none told = tt
 told_alone (Err fault) held explore words none told = none_unshown held explore words fault none told
 
-pub beyond_show : (architecture : Bool) (held : Held) (old new : Option (List ℕ)) (show : Shown) (Has : (List ℕ → Type 0) → Type 0) (fault : Fault) → IsShowingFault architecture held show fault → LeavesPart fault old new Has → status_of fault ≡ 2
+pub beyond_show : (architecture : Bool) (held : Contents) (old new : Option (List ℕ)) (show : Shown) (Has : (List ℕ → Type 0) → Type 0) (fault : Fault) → IsShowingFault architecture held show fault → LeavesPart fault old new Has → status_of fault ≡ 2
     → (IsOutside show.explore.machine ⊎ ShowsElsewhere architecture show.explore) × (new ≡ old)
 beyond_show true held old new show Has fault (inl told) leaves two =
     let it = beyond_explore held old new show.explore Has fault told leaves two in (inl it.0, it.1)
@@ -121,18 +121,18 @@ misused_early (Chart chart) fault two = tt
 misused_early (Check check) fault two = tt
 
 -- a file that changed is one of those that are written
-pub written : (held left : Held) (IsWritten : Text → Type 0) → SparesOthers IsWritten held left → (name : Text) → left name ≢ held name → IsWritten name
+pub written : (held left : Contents) (IsWritten : Text → Type 0) → SparesOthers IsWritten held left → (name : Text) → left name ≢ held name → IsWritten name
 written held left IsWritten spares name changed = elim (spares name) [
   | inl same ↦ absurd (changed same)
   | inr so ↦ so
 ]
 
 -- no file changed
-pub unwritten : (held left : Held) (IsWritten : Text → Type 0) → left ≡ held → (name : Text) → left name ≢ held name → IsWritten name
-unwritten held left IsWritten same name changed = absurd (changed (ap (λ (h : Held). h name) same))
+pub unwritten : (held left : Contents) (IsWritten : Text → Type 0) → left ≡ held → (name : Text) → left name ≢ held name → IsWritten name
+unwritten held left IsWritten same name changed = absurd (changed (ap (λ (h : Contents). h name) same))
 
 -- none but the journal
-pub journal_alone : (held left : Held) (journal : Text) → ((other : Text) → other ≢ journal → left other ≡ held other) → (name : Text) → left name ≢ held name → name ≡ journal
+pub journal_alone : (held left : Contents) (journal : Text) → ((other : Text) → other ≢ journal → left other ≡ held other) → (name : Text) → left name ≢ held name → name ≡ journal
 journal_alone held left journal others name changed = go (bytes_eq name journal) refl
   where
     go : (b : Bool) → bytes_eq name journal ≡ b → name ≡ journal

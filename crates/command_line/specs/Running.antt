@@ -1,7 +1,7 @@
 -- What a run of the program has done, by its status.
 use Rattle.std.specs.Prelude.{◌≡◌, ◌≢◌, ◌⊎◌, ◌<◌, ℕ, [], Bool, false, true, nat_lt, IsSomeAnd, List, None, Option}
 use Rattle.clap.specs.Words.{Text}
-use Rattle.command_files.specs.Held.{Held}
+use Rattle.command_files.specs.Contents.{Contents}
 use Rattle.replay_command.specs.Replaying.{IsCutOff, IsReplayEndTold, IsReplayed}
 use Rattle.explain_command.specs.Explaining.{IsExplained, IsStreamCutOff}
 use Rattle.explore_command.specs.Exploring.{ExplorationHas, ExplorationRefusals, IsExplorationTold}
@@ -44,44 +44,44 @@ strictness_of false = Lenient
 strictness_of true = Strict
 
 -- what a check judges is legal: the messages of the trace, or its order
-abbrev pub IsClean : (of_messages : Bool) → Held → Judging → Option (List ℕ) → Option (List ℕ) → Type 0
+abbrev pub IsClean : (of_messages : Bool) → Contents → Judging → Option (List ℕ) → Option (List ℕ) → Type 0
 IsClean true held check old new = IsLogJudged held check.trace.now Lawful old new
 IsClean false held check old new = IsVerdictTold held check.trace.now check.model Legal old new
 
 -- it is not, and what shows it was printed
-abbrev pub IsUnclean : (of_messages : Bool) → Held → Judging → Option (List ℕ) → Option (List ℕ) → Type 0
+abbrev pub IsUnclean : (of_messages : Bool) → Contents → Judging → Option (List ℕ) → Option (List ℕ) → Type 0
 IsUnclean true held check old new =
     (rule : LogRule) × (index : ℕ) × IsLogJudged held check.trace.now (Unlawful rule index) old new
 IsUnclean false held check old new =
     (code : Code) × (a : OpId) × (b : OpId) × IsVerdictTold held check.trace.now check.model (Fault code a b) old new
 
 -- no more than a beginning of the verdict went out
-abbrev pub IsCheckBroken : (of_messages : Bool) → Held → Judging → Option (List ℕ) → Option (List ℕ) → Type 0
+abbrev pub IsCheckBroken : (of_messages : Bool) → Contents → Judging → Option (List ℕ) → Option (List ℕ) → Type 0
 IsCheckBroken true held check old new = IsLogCutOff held check.trace.now old new
 IsCheckBroken false held check old new = IsVerdictCutOff held check.trace.now check.model old new
 
-abbrev pub CheckCame : Judgement → (of_messages : Bool) → Held → Judging → Option (List ℕ) → Option (List ℕ) → Type 0
+abbrev pub CheckCame : Judgement → (of_messages : Bool) → Contents → Judging → Option (List ℕ) → Option (List ℕ) → Type 0
 CheckCame Allowed = IsClean
 CheckCame NotAllowed = IsUnclean
 
 -- what is found of a program's ends, under the memory model, by random runs or by a search of all that the machine does, was told and judged
-abbrev pub ExploreCame : (architecture sampled : Bool) → Judgement → Held → Held → Seeking → Option (List ℕ) → Option (List ℕ) → Type 0
+abbrev pub ExploreCame : (architecture sampled : Bool) → Judgement → Contents → Contents → Seeking → Option (List ℕ) → Option (List ℕ) → Type 0
 ExploreCame true sampled judgement held left explore old new = IsSearched held left explore [] explore.window judgement old new
 ExploreCame false true judgement held left explore old new = IsSampleTold held left explore explore.sample judgement old new
 ExploreCame false false judgement held left explore old new = IsExplorationTold held left explore judgement old new
 
 -- P holds of the text of it
-abbrev pub ExploreHas : (architecture sampled : Bool) → Held → Seeking → (List ℕ → Type 0) → Type 0
+abbrev pub ExploreHas : (architecture sampled : Bool) → Contents → Seeking → (List ℕ → Type 0) → Type 0
 ExploreHas true sampled held explore = SearchHas held explore [] explore.window
 ExploreHas false true held explore = SampleHas held explore explore.sample
 ExploreHas false false held explore = ExplorationHas held explore
 
 -- the same with words of memory
-abbrev pub ShowCame : (architecture : Bool) → Judgement → Held → Held → Showing → Option (List ℕ) → Option (List ℕ) → Type 0
+abbrev pub ShowCame : (architecture : Bool) → Judgement → Contents → Contents → Showing → Option (List ℕ) → Option (List ℕ) → Type 0
 ShowCame true judgement held left show old new = IsSearched held left show.explore show.words.items show.explore.window judgement old new
 ShowCame false judgement held left show old new = AreWordsShown held left show judgement old new
 
-abbrev pub ShowHas : (architecture : Bool) → Held → Showing → (List ℕ → Type 0) → Type 0
+abbrev pub ShowHas : (architecture : Bool) → Contents → Showing → (List ℕ → Type 0) → Type 0
 ShowHas true held show = SearchHas held show.explore show.words.items show.explore.window
 ShowHas false held show = WordsHave held show
 
@@ -96,7 +96,7 @@ IsExploreFile true explore = IsFileOf explore.scripts
 IsExploreFile false explore = IsScriptFile explore.scripts
 
 -- the script was replayed and its trace printed, or what each of its events did and, where that is wanted, what the machine holds at the end, or a picture of it; the program ran and its journal was kept and its trace printed; it was explored and each outcome is allowed; or the trace's order is legal, or its messages
-abbrev pub IsDone : Held → Held → Option (List ℕ) → Option (List ℕ) → Settings → Type 0
+abbrev pub IsDone : Contents → Contents → Option (List ℕ) → Option (List ℕ) → Settings → Type 0
 IsDone held left old new (Replay replay) = IsReplayed held replay old new
 IsDone held left old new (Explain explain) = IsExplained held explain.replay (strictness_of explain.strict) explain.state old new
 IsDone held left old new (Run run) = IsRun held left run old new
@@ -112,17 +112,17 @@ CheckNoted NotAllowed true before after = Unit {0}
 CheckNoted NotAllowed false before after = after ≡ before
 
 -- where the outcomes that were printed are allowed nothing, and else a beginning of the lines that tell which ones aren't; under the memory model, where what shows them was written, behind a beginning of what is told of their traces
-abbrev pub ExploreNoted : (architecture sampled : Bool) → Judgement → Held → Seeking → (old new before after : Option (List ℕ)) → Type 0
+abbrev pub ExploreNoted : (architecture sampled : Bool) → Judgement → Contents → Seeking → (old new before after : Option (List ℕ)) → Type 0
 ExploreNoted true sampled judgement held explore old new before after = IsSearchNoted held explore [] explore.window judgement old new before after
 ExploreNoted false true judgement held explore old new before after = SampleRefusals held explore explore.sample old new (IsToldBy judgement before after)
 ExploreNoted false false judgement held explore old new before after = ExplorationRefusals held explore old new (IsToldBy judgement before after)
 
-abbrev pub ShowNoted : (architecture : Bool) → Judgement → Held → Showing → (old new before after : Option (List ℕ)) → Type 0
+abbrev pub ShowNoted : (architecture : Bool) → Judgement → Contents → Showing → (old new before after : Option (List ℕ)) → Type 0
 ShowNoted true judgement held show old new before after = IsSearchNoted held show.explore show.words.items show.explore.window judgement old new before after
 ShowNoted false judgement held show old new before after = WordRefusals held show old new (IsToldBy judgement before after)
 
 -- what a command that was carried out has itself put on standard error, beside what is remarked of files: of a replay and of a run a beginning of how their harts ended; of an explanation and a chart nothing; of an exploration what tells which outcomes aren't allowed
-abbrev pub IsNoted : Held → Held → (old new before after : Option (List ℕ)) → Judgement → Settings → Type 0
+abbrev pub IsNoted : Contents → Contents → (old new before after : Option (List ℕ)) → Judgement → Settings → Type 0
 IsNoted held left old new before after judgement (Replay replay) = IsReplayEndTold held replay before after
 IsNoted held left old new before after judgement (Run run) = IsRunEndTold held left run before after
 IsNoted held left old new before after judgement (Explain explain) = after ≡ before
@@ -132,7 +132,7 @@ IsNoted held left old new before after judgement (Explore explore) = ExploreNote
 IsNoted held left old new before after judgement (Show show) = ShowNoted show.explore.architecture judgement held show old new before after
 
 -- the trace's order, or its messages, are not legal, and the fault that shows it was printed; or the program was explored and an outcome is not allowed
-abbrev pub IsFaulty : Held → Held → Option (List ℕ) → Option (List ℕ) → Settings → Type 0
+abbrev pub IsFaulty : Contents → Contents → Option (List ℕ) → Option (List ℕ) → Settings → Type 0
 IsFaulty held left old new (Replay replay) = ⊥
 IsFaulty held left old new (Explain explain) = ⊥
 IsFaulty held left old new (Run run) = ⊥
@@ -142,12 +142,12 @@ IsFaulty held left old new (Chart chart) = ⊥
 IsFaulty held left old new (Check check) = IsUnclean check.messages held check old new
 
 -- what the settings name was done, or shown not to be legal
-abbrev pub Came : Held → Held → Option (List ℕ) → Option (List ℕ) → Settings → Judgement → Type 0
+abbrev pub Came : Contents → Contents → Option (List ℕ) → Option (List ℕ) → Settings → Judgement → Type 0
 Came held left old new wanted Allowed = IsDone held left old new wanted
 Came held left old new wanted NotAllowed = IsFaulty held left old new wanted
 
 -- no more than a beginning of what was to be printed went out: of a stream, all that stands before the event at which it ends
-abbrev pub IsHalfPrinted : Held → Held → Option (List ℕ) → Option (List ℕ) → Settings → Type 0
+abbrev pub IsHalfPrinted : Contents → Contents → Option (List ℕ) → Option (List ℕ) → Settings → Type 0
 IsHalfPrinted held left old new (Replay replay) = IsCutOff held replay old new
 IsHalfPrinted held left old new (Explain explain) = IsStreamCutOff held explain.replay (strictness_of explain.strict) explain.state old new
 IsHalfPrinted held left old new (Run run) = IsRunCutOff held left run old new
@@ -157,7 +157,7 @@ IsHalfPrinted held left old new (Chart chart) = IsHalfCharted held chart.replay 
 IsHalfPrinted held left old new (Check check) = IsCheckBroken check.messages held check old new
 
 -- nothing was printed, or a beginning of a trace, a stream, a verdict or of what was found; or there was help to print, whatever of it went out
-unfoldable pub IsUnprinted : List Text → Held → Held → Option (List ℕ) → Option (List ℕ) → Type 0
+unfoldable pub IsUnprinted : List Text → Contents → Contents → Option (List ℕ) → Option (List ℕ) → Type 0
 IsUnprinted words held left old new = (new ≡ old) ⊎ (IsForHelp words ⊎ HasNamed words (IsHalfPrinted held left old new))
 
 -- the words name a machine that can't be made, or as an address what is none, or words of memory to show where none are shown
@@ -177,15 +177,15 @@ abbrev pub HasInRange : List Text → (Settings → Type 0) → Type 0
 HasInRange words P = HasNamed words (λ wanted. (¬ AreMisused wanted) × P wanted)
 
 -- the words ask for help, or what they name was done
-unfoldable pub IsCarriedOut : List Text → Held → Held → Option (List ℕ) → Option (List ℕ) → Type 0
+unfoldable pub IsCarriedOut : List Text → Contents → Contents → Option (List ℕ) → Option (List ℕ) → Type 0
 IsCarriedOut words held left old new = IsForHelp words ⊎ HasInRange words (IsDone held left old new)
 
 -- the words ask for help, and standard error has nothing new, or it has what the command that they name puts there where all is legal and allowed
-unfoldable pub HasNoted : List Text → Held → Held → (old new before after : Option (List ℕ)) → Type 0
+unfoldable pub HasNoted : List Text → Contents → Contents → (old new before after : Option (List ℕ)) → Type 0
 HasNoted words held left old new before after = (IsForHelp words × (after ≡ before)) ⊎ HasNamed words (IsNoted held left old new before after Allowed)
 
 -- what they name was judged, and it isn't legal, or not allowed
-unfoldable pub IsNotLegal : List Text → Held → Held → Option (List ℕ) → Option (List ℕ) → Type 0
+unfoldable pub IsNotLegal : List Text → Contents → Contents → Option (List ℕ) → Option (List ℕ) → Type 0
 IsNotLegal words held left old new = HasInRange words (IsFaulty held left old new)
 
 -- an exploration may meet a state at least
@@ -202,5 +202,5 @@ IsWritten name (Show show) = IsExploreFile show.explore.architecture show.explor
 IsWritten name _ = ⊥
 
 -- no file but the journal or the scripts of what the words name is another than before
-abbrev pub Spares : List Text → Held → Held → Type 0
+abbrev pub Spares : List Text → Contents → Contents → Type 0
 Spares words held left = (name : Text) → left name ≢ held name → HasNamed words (IsWritten name)

@@ -1,14 +1,14 @@
 -- What a replay of a run's journal prints.
 use Rattle.std.specs.Prelude.{◌≡◌, ℕ, List, Option, Some, true, is_some}
 use Rattle.std.specs.Io.KnownBytes.{Appends}
-use Rattle.command_files.specs.Held.{Held}
+use Rattle.command_files.specs.Contents.{Contents}
 use Rattle.replay_command.specs.Replaying.{IsReplayed}
 use Rattle.run_command.specs.Running.{IsRun}
 use Rattle.command_settings.specs.declared.wanted.Replay.{Replay}
 use Rattle.command_settings.specs.declared.wanted.Run.{Run}
 
 -- the replay is of the run's journal, for the same image under the same model; the journal's bytes are known, and the image's file still has the bytes that it had
-pub record IsOfRun (held left : Held) (run : Run) (replay : Replay) : Type 0 where
+pub record IsOfRun (held left : Contents) (run : Run) (replay : Replay) : Type 0 where
   pub raw : replay.raw ≡ run.raw
   pub model : replay.model ≡ run.machine.model
   pub script : replay.script.now ≡ run.journal.now
@@ -26,5 +26,5 @@ pub record PrintSame (old new before after : Option (List ℕ)) : Type 0 where
 
 -- where a run has left its journal and printed its trace, a replay of that journal prints the same
 abbrev pub RunsReplay : Type 0
-RunsReplay = (held left : Held) (run : Run) (replay : Replay) (old new before after : Option (List ℕ))
+RunsReplay = (held left : Contents) (run : Run) (replay : Replay) (old new before after : Option (List ℕ))
     → IsOfRun held left run replay → IsRun held left run old new → IsReplayed left replay before after → PrintSame old new before after

@@ -6,7 +6,7 @@ use Rattle.chart_command.specs.Charting.{IsChartFault}
 use Rattle.check_command.specs.Checking.{IsCheckFault}
 use Rattle.check_command.specs.Messages.{IsLogFault}
 use Rattle.command_files.specs.Faults.{IsReplayFault, LeavesAtFault}
-use Rattle.command_files.specs.Held.{Held}
+use Rattle.command_files.specs.Contents.{Contents}
 use Rattle.command_files.specs.Status.{status_of}
 use Rattle.command_files.specs.declared.fault.Fault.{Fault}
 use Rattle.command_line.specs.Running.{AreMisused, ExploreHas, HasNamed, ShowHas, IsHalfPrinted, strictness_of}
@@ -21,17 +21,17 @@ use Rattle.run_command.specs.Running.{ComesBeforeJournal, IsRunFault}
 use Rattle.show_command.specs.Showing.{IsShowFault}
 
 -- the messages of a trace can't be judged, or its order
-abbrev pub IsJudgingFault : (of_messages : Bool) → Held → Judging → Fault → Type 0
+abbrev pub IsJudgingFault : (of_messages : Bool) → Contents → Judging → Fault → Type 0
 IsJudgingFault true held check = IsLogFault held check.trace
 IsJudgingFault false held check = IsCheckFault held check.trace
 
 -- words of memory can't be shown, or what the memory model allows can't be told
-abbrev pub IsShowingFault : (architecture : Bool) → Held → Showing → Fault → Type 0
+abbrev pub IsShowingFault : (architecture : Bool) → Contents → Showing → Fault → Type 0
 IsShowingFault true held show = IsSearchFault held show.explore show.words.items
 IsShowingFault false held show = IsShowFault held show
 
 -- each command says which faults it has, of which file, and what that file then holds
-abbrev pub IsFaultOfCommand : Held → Option (List ℕ) → Option (List ℕ) → Settings → Fault → Type 0
+abbrev pub IsFaultOfCommand : Contents → Option (List ℕ) → Option (List ℕ) → Settings → Fault → Type 0
 IsFaultOfCommand held old new (Replay replay) = IsReplayFault held replay
 IsFaultOfCommand held old new (Explain explain) = IsExplainFault held explain.replay (strictness_of explain.strict) old new
 IsFaultOfCommand held old new (Run run) = IsRunFault held run
@@ -41,7 +41,7 @@ IsFaultOfCommand held old new (Chart chart) = IsChartFault held chart.replay cha
 IsFaultOfCommand held old new (Check check) = IsJudgingFault check.messages held check
 
 -- each command says what its faults leave on standard output
-abbrev pub LeavesOf : Held → Held → Option (List ℕ) → Option (List ℕ) → Settings → Fault → Type 0
+abbrev pub LeavesOf : Contents → Contents → Option (List ℕ) → Option (List ℕ) → Settings → Fault → Type 0
 LeavesOf held left old new (Explain explain) fault = LeavesOfStream fault old new (IsHalfPrinted held left old new (Explain explain))
 LeavesOf held left old new (Explore explore) fault = LeavesPart fault old new (ExploreHas explore.architecture (nat_lt 0 explore.sample) held explore)
 LeavesOf held left old new (Show show) fault = LeavesPart fault old new (ShowHas show.explore.architecture held show)
@@ -58,7 +58,7 @@ ComesBeforeFiles (Show show) fault = ComesBeforeScripts fault
 ComesBeforeFiles _ fault = Unit {0}
 
 -- such a fault, of this status, that left this on standard output, and files as they were where it comes before them; settings that don't go together, a machine out of limits and a word out of place have another status
-pub record HasFault (held left : Held) (old new : Option (List ℕ)) (status : ℕ) (wanted : Settings) : Type 0 where
+pub record HasFault (held left : Contents) (old new : Option (List ℕ)) (status : ℕ) (wanted : Settings) : Type 0 where
   pub fault : Fault
   pub told : IsFaultOfCommand held old new wanted fault
   pub leaves : LeavesOf held left old new wanted fault
@@ -67,5 +67,5 @@ pub record HasFault (held left : Held) (old new : Option (List ℕ)) (status : �
   pub inside : ¬ AreMisused wanted
 
 -- what the words name has a fault of status 1, or there was help to print
-unfoldable pub HasToldFault : List Text → Held → Held → Option (List ℕ) → Option (List ℕ) → Type 0
+unfoldable pub HasToldFault : List Text → Contents → Contents → Option (List ℕ) → Option (List ℕ) → Type 0
 HasToldFault words held left old new = IsForHelp words ⊎ HasNamed words (HasFault held left old new 1)

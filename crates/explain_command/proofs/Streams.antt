@@ -23,7 +23,7 @@ use Rattle.command_files.specs.Sizes.{config_of}
 use Rattle.command_files.specs.Files.{HoldsScript}
 use Rattle.elf_symbols.specs.Named.{Named}
 use Rattle.explain_command.specs.Named.{HoldsNamedImage}
-use Rattle.command_files.specs.Held.{Held}
+use Rattle.command_files.specs.Contents.{Contents}
 use Rattle.explain_command.specs.Explaining.{IsExplainFault, IsPartOfStream, IsWholeExplanation, LeavesOfStream, explanation, state_behind, state_if}
 use Rattle.command_files.specs.Faults.{Name}
 use Rattle.command_files.specs.Status.{IsStreamFault}
@@ -111,7 +111,7 @@ whole_at names strictness with_state image config wanted events given old mid ne
     (subst (λ (e : List Event). IsWholeExplanation names strictness with_state image config e old new) same_events here)
 
 -- what a stream's end is told as
-pub told_as : (names : List Named) (held : Held) (replay : Replay) (strictness : Strictness) (with_state : Bool) (script : Script) (image : Initial) (old new : Option (List ℕ)) (error : StreamError) (fault : Fault)
+pub told_as : (names : List Named) (held : Contents) (replay : Replay) (strictness : Strictness) (with_state : Bool) (script : Script) (image : Initial) (old new : Option (List ℕ)) (error : StreamError) (fault : Fault)
     → HoldsScript held replay.script.now script → HoldsNamedImage held replay.raw replay.image.now script.kib image names
     → (error ≡ stream.New making.Config → ⊥) → IsPartOfStream names strictness with_state image (config_of script replay.model) script.events old new error
     → IsStreamFault replay.script error fault → IsExplainFault held replay strictness old new fault
@@ -132,7 +132,7 @@ told_as names held replay strictness with_state script image old new (stream.Wri
   | inr at ↦ subst (IsExplainFault held replay strictness old new) (sym at) tt
 ]
 
-pub lost_told : (held : Held) (replay : Replay) (strictness : Strictness) (old new : Option (List ℕ)) (fault : Fault) → (fault ≡ CannotWrite) ⊎ (fault ≡ OutOfMemory) → IsExplainFault held replay strictness old new fault
+pub lost_told : (held : Contents) (replay : Replay) (strictness : Strictness) (old new : Option (List ℕ)) (fault : Fault) → (fault ≡ CannotWrite) ⊎ (fault ≡ OutOfMemory) → IsExplainFault held replay strictness old new fault
 lost_told held replay strictness old new fault is = elim is [
   | inl at ↦ subst (IsExplainFault held replay strictness old new) (sym at) tt
   | inr at ↦ subst (IsExplainFault held replay strictness old new) (sym at) tt

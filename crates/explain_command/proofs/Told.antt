@@ -1,7 +1,7 @@
 -- Which faults an explanation hands up.
 use Rattle.std.proofs.Common.{◌≡◌, ℕ, Bool, List, Option, inl, inr}
 use Rattle.event_stream.specs.declared.strictness.Strictness.{Strictness}
-use Rattle.command_files.specs.Held.{Held}
+use Rattle.command_files.specs.Contents.{Contents}
 use Rattle.command_files.specs.Status.{status_of}
 use Rattle.command_files.specs.Faults.{IsImageFault, IsScriptFault, Name}
 use Rattle.command_files.specs.Files.{HoldsScript}
@@ -11,7 +11,7 @@ use Rattle.command_files.specs.declared.fault.Fault.TheVariants.{BadAddress, Bad
 use Rattle.command_settings.specs.declared.wanted.Replay.{Replay}
 use Rattle.trace_text.specs.declared.script.Script.{Script}
 
-pub of_explained_script : (held : Held) (replay : Replay) (strictness : Strictness) (old new : Option (List ℕ)) (fault : Fault) → IsScriptFault held replay.script fault → IsExplainFault held replay strictness old new fault
+pub of_explained_script : (held : Contents) (replay : Replay) (strictness : Strictness) (old new : Option (List ℕ)) (fault : Fault) → IsScriptFault held replay.script fault → IsExplainFault held replay strictness old new fault
 of_explained_script held replay strictness old new (CannotRead file) is = inl is
 of_explained_script held replay strictness old new (Text file error) is = is
 of_explained_script held replay strictness old new OutOfMemory is = tt
@@ -30,7 +30,7 @@ of_explained_script held replay strictness old new Mismatch is = absurd is
 of_explained_script held replay strictness old new BadEvent is = absurd is
 of_explained_script held replay strictness old new Configuration is = absurd is
 
-pub of_explained_image : (held : Held) (replay : Replay) (strictness : Strictness) (old new : Option (List ℕ)) (script : Script) (fault : Fault) → HoldsScript held replay.script.now script
+pub of_explained_image : (held : Contents) (replay : Replay) (strictness : Strictness) (old new : Option (List ℕ)) (script : Script) (fault : Fault) → HoldsScript held replay.script.now script
     → IsImageFault held replay.raw replay.image script.kib fault → IsExplainFault held replay strictness old new fault
 of_explained_image held replay strictness old new script (CannotRead file) has is = inr (is, (script, has))
 of_explained_image held replay strictness old new script (Image file error) has is = (is.0, (script, has, is.1))
@@ -50,7 +50,7 @@ of_explained_image held replay strictness old new script Mismatch has is = absur
 of_explained_image held replay strictness old new script BadEvent has is = absurd is
 of_explained_image held replay strictness old new script Configuration has is = absurd is
 
-pub explain_never_misused : (held : Held) (replay : Replay) (strictness : Strictness) (old new : Option (List ℕ)) (fault : Fault) → IsExplainFault held replay strictness old new fault → status_of fault ≡ 2 → ⊥
+pub explain_never_misused : (held : Contents) (replay : Replay) (strictness : Strictness) (old new : Option (List ℕ)) (fault : Fault) → IsExplainFault held replay strictness old new fault → status_of fault ≡ 2 → ⊥
 explain_never_misused held replay strictness old new CannotWrite so two = cc
 explain_never_misused held replay strictness old new OutOfMemory so two = cc
 explain_never_misused held replay strictness old new (CannotRead file) so two = cc
@@ -70,7 +70,7 @@ explain_never_misused held replay strictness old new BadEvent so two = cc
 explain_never_misused held replay strictness old new Configuration so two = so
 
 -- a file's fault leaves the output as it was
-pub script_left : (held : Held) (name : Name) (old new : Option (List ℕ)) (cut : Type 0) (fault : Fault) → IsScriptFault held name fault → new ≡ old → LeavesOfStream fault old new cut
+pub script_left : (held : Contents) (name : Name) (old new : Option (List ℕ)) (cut : Type 0) (fault : Fault) → IsScriptFault held name fault → new ≡ old → LeavesOfStream fault old new cut
 script_left held name old new cut CannotWrite is same = absurd is
 script_left held name old new cut OutOfMemory is same = inl same
 script_left held name old new cut (CannotRead file) is same = same
@@ -89,7 +89,7 @@ script_left held name old new cut Mismatch is same = absurd is
 script_left held name old new cut BadEvent is same = absurd is
 script_left held name old new cut Configuration is same = absurd is
 
-pub image_left : (held : Held) (is_raw : Bool) (name : Name) (kib : ℕ) (old new : Option (List ℕ)) (cut : Type 0) (fault : Fault) → IsImageFault held is_raw name kib fault → new ≡ old → LeavesOfStream fault old new cut
+pub image_left : (held : Contents) (is_raw : Bool) (name : Name) (kib : ℕ) (old new : Option (List ℕ)) (cut : Type 0) (fault : Fault) → IsImageFault held is_raw name kib fault → new ≡ old → LeavesOfStream fault old new cut
 image_left held is_raw name kib old new cut CannotWrite is same = absurd is
 image_left held is_raw name kib old new cut OutOfMemory is same = inl same
 image_left held is_raw name kib old new cut (CannotRead file) is same = same

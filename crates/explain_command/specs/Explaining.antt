@@ -2,7 +2,7 @@
 use Rattle.coherent_machine.specs.Machine.{Refuses}
 use Rattle.command_files.specs.Sizes.{config_of}
 use Rattle.command_files.specs.Files.{HoldsScript, IsTheScriptIn}
-use Rattle.command_files.specs.Held.{Held}
+use Rattle.command_files.specs.Contents.{Contents}
 use Rattle.command_files.specs.Status.{line_at}
 use Rattle.command_files.specs.declared.fault.Fault.TheVariants.{Event as Refused, NothingHappens}
 use Rattle.command_files.specs.declared.fault.Fault.{Fault}
@@ -52,7 +52,7 @@ pub record IsWholeExplanation (names : List Named) (strictness : Strictness) (wi
   pub sent : Appends old new (explanation names strictness with_state image config events)
 
 -- what was appended is the explanation that the script in the one file means for the image in the other: of each event what it did, all of them, by the names in the image's file, and what the machine holds at the end, where it is to be told
-pub record IsExplained (held : Held) (replay : Replay) (strictness : Strictness) (with_state : Bool) (old new : Option (List ℕ)) : Type 0 where
+pub record IsExplained (held : Contents) (replay : Replay) (strictness : Strictness) (with_state : Bool) (old new : Option (List ℕ)) : Type 0 where
   pub script : Script
   pub image : Initial
   pub names : List Named
@@ -71,7 +71,7 @@ IsPartOfStream names strictness with_state image config events old new (stream.I
 IsPartOfStream names strictness with_state image config events old new (stream.Writing error) = Begins old new (explanation names strictness with_state image config events)
 
 -- such a part went out of the explanation that the script in the one file means for the image in the other
-pub record IsStreamCutOff (held : Held) (replay : Replay) (strictness : Strictness) (with_state : Bool) (old new : Option (List ℕ)) : Type 0 where
+pub record IsStreamCutOff (held : Contents) (replay : Replay) (strictness : Strictness) (with_state : Bool) (old new : Option (List ℕ)) : Type 0 where
   pub script : Script
   pub image : Initial
   pub names : List Named
@@ -81,7 +81,7 @@ pub record IsStreamCutOff (held : Held) (replay : Replay) (strictness : Strictne
   pub part : IsPartOfStream names strictness with_state image (config_of script replay.model) script.events old new error
 
 -- the event of this line of the script comes to such a verdict, and the stream up to there went out
-pub record IsToldUpTo (held : Held) (replay : Replay) (strictness : Strictness) (line : ℕ) (IsSuch : Verdict → Type 0) (old new : Option (List ℕ)) : Type 0 where
+pub record IsToldUpTo (held : Contents) (replay : Replay) (strictness : Strictness) (line : ℕ) (IsSuch : Verdict → Type 0) (old new : Option (List ℕ)) : Type 0 where
   pub script : Script
   pub image : Initial
   pub names : List Named
@@ -92,7 +92,7 @@ pub record IsToldUpTo (held : Held) (replay : Replay) (strictness : Strictness) 
   pub cut : IsCut strictness (opening image (config_of script replay.model)) script.events index IsSuch (stream_up_to names strictness image (config_of script replay.model)) old new
 
 -- as in a replay, but an event that is refused comes behind what the events before it did, and so does one that changes nothing, where the stream is strict
-abbrev pub IsExplainFault : Held → Replay → Strictness → Option (List ℕ) → Option (List ℕ) → Fault → Type 0
+abbrev pub IsExplainFault : Contents → Replay → Strictness → Option (List ℕ) → Option (List ℕ) → Fault → Type 0
 IsExplainFault held replay strictness old new (Refused file line error) = (file ≡ replay.script) × IsToldUpTo held replay strictness line (Refuses error) old new
 IsExplainFault held replay strictness old new (NothingHappens file line outcome) =
     (file ≡ replay.script) × ((strictness ≡ Strict) × IsToldUpTo held replay strictness line (λ v. v ≡ Keeps outcome) old new)

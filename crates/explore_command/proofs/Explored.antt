@@ -4,7 +4,7 @@ use Rattle.std.proofs.lemmas.List.{append-nil}
 use Rattle.std.specs.Io.KnownBytes.{Appends}
 use Rattle.command_files.specs.Faults.{Name}
 use Rattle.command_files.specs.Files.{HoldsImage}
-use Rattle.command_files.specs.Held.{Held}
+use Rattle.command_files.specs.Contents.{Contents}
 use Rattle.command_files.specs.Sizes.{config_named}
 use Rattle.command_files.specs.declared.fault.Fault.{Fault}
 use Rattle.command_files.specs.declared.fault.Fault.TheVariants.{OutOfMemory}
@@ -39,24 +39,24 @@ pub all_of : (old new : Option (List ℕ)) (text : List ℕ) → Appends old new
 all_of old new text sent = record { front = text; rest = []; parts = sym (append-nil text); sent = sent }
 
 -- files that are all as before
-pub spared : (IsWritten : List ℕ → Type 0) (held left : Held) → left ≡ held → SparesOthers IsWritten held left
-spared IsWritten held left same name = inl (ap (λ (h : Held). h name) same)
+pub spared : (IsWritten : List ℕ → Type 0) (held left : Contents) → left ≡ held → SparesOthers IsWritten held left
+spared IsWritten held left same name = inl (ap (λ (h : Contents). h name) same)
 
 -- and those that one step spares behind others that leave all as before
-pub spared_after : (IsWritten : List ℕ → Type 0) (held mid left : Held) → mid ≡ held → SparesOthers IsWritten mid left → SparesOthers IsWritten held left
+pub spared_after : (IsWritten : List ℕ → Type 0) (held mid left : Contents) → mid ≡ held → SparesOthers IsWritten mid left → SparesOthers IsWritten held left
 spared_after IsWritten held mid left same spares name = elim (spares name) [
-  | inl still ↦ inl (still ∙ ap (λ (h : Held). h name) same)
+  | inl still ↦ inl (still ∙ ap (λ (h : Contents). h name) same)
   | inr written ↦ inr written
 ]
 
 -- what one file's bytes say of the lines, all files say
-pub judged : (held : Held) (allow : Option Name) (text : Option (List ℕ)) (lines : List (List ℕ)) (judgement : Judgement) → IsAllowFile held allow text → judgement ≡ judgement_of_lines text lines → IsJudged held allow lines judgement
+pub judged : (held : Contents) (allow : Option Name) (text : Option (List ℕ)) (lines : List (List ℕ)) (judgement : Judgement) → IsAllowFile held allow text → judgement ≡ judgement_of_lines text lines → IsJudged held allow lines judgement
 judged held None None lines judgement read is = is
 judged held None (Some text) lines judgement read is = absurd read
 judged held (Some file) None lines judgement read is = absurd read
 judged held (Some file) (Some text) lines judgement read is = (text, read, is)
 
-module _ (held : Held) (wanted : Explore) (config : Config) (image : Initial) (found : Exploration)
+module _ (held : Contents) (wanted : Explore) (config : Config) (image : Initial) (found : Exploration)
     (config_is : config ≡ config_named wanted.machine) (file : HoldsImage held wanted.raw wanted.image.now wanted.machine.memory image) (is : IsFoundIn image config wanted.states found) where
   is_found : IsFoundIn image (config_named wanted.machine) wanted.states found
   is_found = subst (λ (c : Config). IsFoundIn image c wanted.states found) config_is is
@@ -64,7 +64,7 @@ module _ (held : Held) (wanted : Explore) (config : Config) (image : Initial) (f
   pub has : (P : List ℕ → Type 0) → P (exploration_text found) → ExplorationHas held wanted P
   has P so = record { image = image; exploration = found; image_file = file; found = is_found; of_text = so }
 
-  pub whole : (old new : Option (List ℕ)) (left : Held) (judgement : Judgement) → Appends old new (exploration_text found) → IfSome wanted.scripts (λ folder. AreKept left wanted.machine folder.now found)
+  pub whole : (old new : Option (List ℕ)) (left : Contents) (judgement : Judgement) → Appends old new (exploration_text found) → IfSome wanted.scripts (λ folder. AreKept left wanted.machine folder.now found)
       → SparesOthers (IsInNamed wanted.scripts (IsScriptOf (length found.outcomes.items) found.stuck)) held left
       → IsJudged held wanted.allow (map (λ f. harts_text 0 (outcome_of f)) found.outcomes.items) judgement → (judgement ≡ Allowed → found.extent ≢ extent.OutOfMemory) → IsExplorationTold held left wanted judgement old new
   whole old new left judgement told kept spares by memory = record {
@@ -86,5 +86,5 @@ module _ (held : Held) (wanted : Explore) (config : Config) (image : Initial) (f
 pub memory_left : (fault : Fault) (old new : Option (List ℕ)) (Has : (List ℕ → Type 0) → Type 0) → fault ≡ OutOfMemory → Has (Begins old new) → LeavesPart fault old new Has
 memory_left fault old new Has is so = subst (λ f. LeavesPart f old new Has) (sym is) (inr so)
 
-pub memory_told : (held : Held) (explore : Explore) (fault : Fault) → fault ≡ OutOfMemory → IsExploreFault held explore fault
+pub memory_told : (held : Contents) (explore : Explore) (fault : Fault) → fault ≡ OutOfMemory → IsExploreFault held explore fault
 memory_told held explore fault is = subst (IsExploreFault held explore) (sym is) tt

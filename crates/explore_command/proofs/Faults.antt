@@ -2,7 +2,7 @@
 use Rattle.std.proofs.Common.{◌≡◌, ◌∙◌, ◌⊎◌, ℕ, List, None, Option, Some, ap, inl, inr, subst, sym, refl}
 use Rattle.std.specs.Io.KnownBytes.{Appends}
 use Rattle.command_files.specs.Faults.{IsReadFault, Name}
-use Rattle.command_files.specs.Held.{Held}
+use Rattle.command_files.specs.Contents.{Contents}
 use Rattle.command_files.specs.declared.fault.Fault.{Fault}
 use Rattle.command_files.specs.declared.fault.Fault.TheVariants.{BadAddress, BadEvent, BytesAfterTrace, CannotMake, CannotRead, CannotShow, CannotWrite, Check, Configuration, Event, Image, Mismatch, NoThread, NothingHappens, OutOfMemory, Text, TooManyRows}
 use Rattle.command_settings.specs.declared.wanted.Explore.{Explore}
@@ -19,7 +19,7 @@ no_other : (allow : Option Name) (fault : Fault) → ((name : Name) → IsReadFa
 no_other None fault never so = so
 no_other (Some name) fault never so = never name so
 
-reading_told : (held : Held) (explore : Explore) (fault : Fault) → IsReadingFault held explore fault → IsExploreFault held explore fault
+reading_told : (held : Contents) (explore : Explore) (fault : Fault) → IsReadingFault held explore fault → IsExploreFault held explore fault
 reading_told held explore (CannotRead file) (inl so) = inr (named_read explore explore.allow file refl so)
 reading_told held explore (CannotRead file) (inr so) = inl so
 reading_told held explore (CannotMake file) (inl so) = absurd (no_other explore.allow (CannotMake file) (λ name is. is) so)
@@ -54,7 +54,7 @@ reading_told held explore Configuration (inl so) = absurd (no_other explore.allo
 reading_told held explore Configuration (inr so) = absurd so
 reading_told held explore OutOfMemory so = tt
 
-reading_left : (held : Held) (explore : Explore) (fault : Fault) (old new : Option (List ℕ)) (Has : (List ℕ → Type 0) → Type 0) → IsReadingFault held explore fault → new ≡ old → LeavesPart fault old new Has
+reading_left : (held : Contents) (explore : Explore) (fault : Fault) (old new : Option (List ℕ)) (Has : (List ℕ → Type 0) → Type 0) → IsReadingFault held explore fault → new ≡ old → LeavesPart fault old new Has
 reading_left held explore (CannotRead file) old new Has so same = same
 reading_left held explore (CannotMake file) old new Has (inl so) same = absurd (no_other explore.allow (CannotMake file) (λ name is. is) so)
 reading_left held explore (CannotMake file) old new Has (inr so) same = absurd so
@@ -75,17 +75,17 @@ reading_left held explore BadEvent old new Has so same = same
 reading_left held explore Configuration old new Has so same = same
 reading_left held explore OutOfMemory old new Has so same = inl same
 
-pub first_told : (held : Held) (explore : Explore) (fault : Fault) → IsFirstFault held explore fault → IsExploreFault held explore fault
+pub first_told : (held : Contents) (explore : Explore) (fault : Fault) → IsFirstFault held explore fault → IsExploreFault held explore fault
 first_told held explore fault (inl at) = subst (IsExploreFault held explore) (sym at.0) at.1
 first_told held explore fault (inr so) = reading_told held explore fault so
 
-pub first_left : (held : Held) (explore : Explore) (fault : Fault) (old new : Option (List ℕ)) (Has : (List ℕ → Type 0) → Type 0) → IsFirstFault held explore fault → new ≡ old → LeavesPart fault old new Has
+pub first_left : (held : Contents) (explore : Explore) (fault : Fault) (old new : Option (List ℕ)) (Has : (List ℕ → Type 0) → Type 0) → IsFirstFault held explore fault → new ≡ old → LeavesPart fault old new Has
 first_left held explore fault old new Has (inl at) same = subst (λ f. LeavesPart f old new Has) (sym at.0) same
 first_left held explore fault old new Has (inr so) same = reading_left held explore fault old new Has so same
 
 -- ---- the output and the folder
 
-pub output_told : (held : Held) (explore : Explore) (fault : Fault) → (fault ≡ CannotWrite) ⊎ (fault ≡ OutOfMemory) → IsExploreFault held explore fault
+pub output_told : (held : Contents) (explore : Explore) (fault : Fault) → (fault ≡ CannotWrite) ⊎ (fault ≡ OutOfMemory) → IsExploreFault held explore fault
 output_told held explore fault is = elim is [
   | inl at ↦ subst (IsExploreFault held explore) (sym at) tt
   | inr at ↦ subst (IsExploreFault held explore) (sym at) tt
@@ -104,7 +104,7 @@ folder_fault (Some name) fault so = elim so [
   | inr at ↦ inr at
 ]
 
-pub folder_told : (held : Held) (explore : Explore) (fault : Fault) → IsNamedBy explore.scripts IsFolderFault fault → IsExploreFault held explore fault
+pub folder_told : (held : Contents) (explore : Explore) (fault : Fault) → IsNamedBy explore.scripts IsFolderFault fault → IsExploreFault held explore fault
 folder_told held explore fault so = elim (folder_fault explore.scripts fault so) [
   | inl at ↦ subst (IsExploreFault held explore) (sym at.2) at.1
   | inr at ↦ subst (IsExploreFault held explore) (sym at) tt

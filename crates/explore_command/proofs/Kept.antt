@@ -6,7 +6,7 @@ use Rattle.std.proofs.lemmas.Fmt.{decimal_injective}
 use Rattle.std.proofs.lemmas.List.{append_cancel_left, append_cancel_right, append_assoc, append-nil, drop_more, length-append, length-drop, take-append-drop}
 use Rattle.std.proofs.lemmas.Slice.Eq.{bytes_eq-Decides}
 use Rattle.command_files.specs.Files.{HoldsScript}
-use Rattle.command_files.specs.Held.{Held, HoldsBytes}
+use Rattle.command_files.specs.Contents.{Contents, HoldsBytes}
 use Rattle.command_files.specs.Sizes.{config_named, config_of, script_named}
 use Rattle.command_files.proofs.Limits.{script_within}
 use Rattle.elf_loader.specs.Size.{IsMemoryKib}
@@ -18,8 +18,8 @@ use Rattle.explore_command.specs.Keeping.{AreKept, AreKeptFrom, FileName, IsInNa
 use Rattle.explorer.specs.declared.exploration.Exploration.{Exploration}
 use Rattle.explorer.specs.declared.exploration.Stuck.{Stuck}
 use Rattle.explorer.specs.declared.found.Found.{Found}
-use Rattle.explorer.specs.declared.found.Script.{Script}
-use Rattle.explorer.specs.declared.found.Script.TheVariants.{Events, Limit, NoMemory, Unrealised}
+use Rattle.explorer.specs.declared.found.Realisation.{Realisation}
+use Rattle.explorer.specs.declared.found.Realisation.TheVariants.{Events, Limit, NoMemory, Unrealised}
 use Rattle.trace_text.specs.Scripts.{IsEvent, text}
 use Rattle.trace_text.specs.declared.script.Script.{Script as Text}
 
@@ -43,7 +43,7 @@ on_ok P Q (Ok x) more so = more so
 on_ok P Q (Err e) more so = tt
 
 -- a file of such a script's text has the script
-pub script_held : (left : Held) (path : FileName) (machine : MachineOptions) (script : Text) (items events : List Event) → script ≡ script_named machine items → items ≡ events
+pub script_held : (left : Contents) (path : FileName) (machine : MachineOptions) (script : Text) (items events : List Event) → script ≡ script_named machine items → items ≡ events
     → is_within_limits (config_named machine) ≡ true → IsMemoryKib machine.memory → AllByRecursion IsEvent script.events → HoldsBytes left path (text script) → HoldsScript left path (script_named machine events)
 script_held left path machine script items events script_is items_is within sized spelt bytes =
     subst (HoldsScript left path) (script_is ∙ ap (script_named machine) items_is) (record {
@@ -56,14 +56,14 @@ script_held left path machine script items events script_is items_is within size
 
 -- ---- what another file's writing leaves
 
-module _ (before after : Held) (machine : MachineOptions) (folder path : FileName) (others : (other : FileName) → other ≢ path → after other ≡ before other) where
+module _ (before after : Contents) (machine : MachineOptions) (folder path : FileName) (others : (other : FileName) → other ≢ path → after other ≡ before other) where
   holds : (name : FileName) (script : Text) → after name ≡ before name → HoldsScript before name script → HoldsScript after name script
   holds name script same held = record {
     is_script = held.is_script;
     bytes = subst (λ (o : Option (List ℕ)). IfSome o (λ known. known ≡ text script)) (sym same) held.bytes;
   }
 
-  kept_at : (name : FileName) (script : Script) → name ≢ path → IsKeptAt before machine name script → IsKeptAt after machine name script
+  kept_at : (name : FileName) (script : Realisation) → name ≢ path → IsKeptAt before machine name script → IsKeptAt after machine name script
   kept_at name (Events events) another kept = holds name _ (others name another) kept
   kept_at name NoMemory another kept = kept
   kept_at name Limit another kept = kept
@@ -77,7 +77,7 @@ module _ (before after : Held) (machine : MachineOptions) (folder path : FileNam
     kept_from (number + 1) xs (λ n from below. differs n (omega (arith, from)) (omega (arith, below))) kept.1,
   )
 
-  pub spares_more : (IsWritten : FileName → Type 0) (held : Held) → IsWritten path → SparesOthers IsWritten held before → SparesOthers IsWritten held after
+  pub spares_more : (IsWritten : FileName → Type 0) (held : Contents) → IsWritten path → SparesOthers IsWritten held before → SparesOthers IsWritten held after
   spares_more IsWritten held is spared other = go (bytes_eq other path) refl
     where
       go : (b : Bool) → bytes_eq other path ≡ b → (after other ≡ held other) ⊎ IsWritten other
@@ -94,13 +94,13 @@ module _ (before after : Held) (machine : MachineOptions) (folder path : FileNam
 -- ---- from the last outcome to the first
 
 -- the outcomes behind those that are left have their scripts
-pub record HasKept (held now : Held) (machine : MachineOptions) (folder : FileName) (left all : List Found) : Type 0 where
+pub record HasKept (held now : Contents) (machine : MachineOptions) (folder : FileName) (left all : List Found) : Type 0 where
   pub done : List Found
   pub whole : left ++ done ≡ all
   pub kept : AreKeptFrom now machine folder (length left + 1) done
   pub spared : SparesOthers (IsOutcomeScript (length all) folder) held now
 
-pub none_kept : (held : Held) (machine : MachineOptions) (folder : FileName) (all : List Found) → HasKept held held machine folder all all
+pub none_kept : (held : Contents) (machine : MachineOptions) (folder : FileName) (all : List Found) → HasKept held held machine folder all all
 none_kept held machine folder all = record {
   done = [];
   whole = append-nil all;
@@ -115,7 +115,7 @@ one_of left front all done path folder last left_is whole path_is =
     let total : length left + length done ≡ length all = sym (length-append left done) ∙ ap (λ (xs : List Found). length xs) whole in
     (length front, omega (arith, count, total), path_is ∙ ap (outcome_path folder) count)
 
-pub one_more : (held before after : Held) (machine : MachineOptions) (folder path : FileName) (left front all : List Found) (last : Found) → length all < 2 ^ 64 → left ≡ front ++ last ∷ [] → path ≡ outcome_path folder (length left)
+pub one_more : (held before after : Contents) (machine : MachineOptions) (folder path : FileName) (left front all : List Found) (last : Found) → length all < 2 ^ 64 → left ≡ front ++ last ∷ [] → path ≡ outcome_path folder (length left)
     → ((other : FileName) → other ≢ path → after other ≡ before other) → IsKeptAt after machine path last.script → HasKept held before machine folder left all → HasKept held after machine folder front all
 one_more held before after machine folder path left front all last small left_is path_is others written has =
     let count : length left ≡ length front + 1 = ap (λ (xs : List Found). length xs) left_is ∙ length-append front (last ∷ []) in
@@ -148,7 +148,7 @@ last_is xs x d some is =
 
 -- ---- all scripts
 
-pub all_kept : (before after : Held) (machine : MachineOptions) (folder path : FileName) (e : Exploration) (outcomes : List Found) (stuck : Stuck) → ((other : FileName) → other ≢ path → after other ≡ before other)
+pub all_kept : (before after : Contents) (machine : MachineOptions) (folder path : FileName) (e : Exploration) (outcomes : List Found) (stuck : Stuck) → ((other : FileName) → other ≢ path → after other ≡ before other)
     → path ≡ stuck_path folder → outcomes ≡ e.outcomes.items → e.stuck ≡ Some stuck → AreKeptFrom before machine folder 1 outcomes → IsKeptAt after machine path stuck.script → AreKept after machine folder e
 all_kept before after machine folder path e outcomes stuck others path_is outcomes_are stuck_is kept here = (
   subst (AreKeptFrom after machine folder 1) outcomes_are
@@ -159,13 +159,13 @@ all_kept before after machine folder path e outcomes stuck others path_is outcom
 -- ---- which files those are
 
 -- more files may be written
-pub spares_wider : (IsWritten MayBe : FileName → Type 0) (held left : Held) → ((name : FileName) → IsWritten name → MayBe name) → SparesOthers IsWritten held left → SparesOthers MayBe held left
+pub spares_wider : (IsWritten MayBe : FileName → Type 0) (held left : Contents) → ((name : FileName) → IsWritten name → MayBe name) → SparesOthers IsWritten held left → SparesOthers MayBe held left
 spares_wider IsWritten MayBe held left wider spares name = elim (spares name) [
   | inl still ↦ inl still
   | inr is ↦ inr (wider name is)
 ]
 
-pub outcome_spared : (outcomes : List Found) (e : Exploration) (folder : FileName) (held left : Held) → outcomes ≡ e.outcomes.items → SparesOthers (IsOutcomeScript (length outcomes) folder) held left
+pub outcome_spared : (outcomes : List Found) (e : Exploration) (folder : FileName) (held left : Contents) → outcomes ≡ e.outcomes.items → SparesOthers (IsOutcomeScript (length outcomes) folder) held left
     → SparesOthers (IsScriptOf (length e.outcomes.items) e.stuck folder) held left
 outcome_spared outcomes e folder held left same = spares_wider _ _ held left
     (λ name is. inl (subst (λ (xs : List Found). IsOutcomeScript (length xs) folder name) same is))

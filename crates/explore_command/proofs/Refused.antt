@@ -4,7 +4,7 @@ use Rattle.std.proofs.lemmas.Bool.{eqb-true, false≢true}
 use Rattle.std.proofs.lemmas.List.{append-nil, append_assoc, take_all}
 use Rattle.std.specs.Io.KnownBytes.{Appends}
 use Rattle.command_files.specs.Faults.{Name}
-use Rattle.command_files.specs.Held.{Held}
+use Rattle.command_files.specs.Contents.{Contents}
 use Rattle.command_files.specs.declared.fault.Fault.{Fault}
 use Rattle.explore_command.specs.Allowing.{is_allowed_line, without_number}
 use Rattle.explore_command.specs.Exploring.{IsAllowFile}
@@ -81,7 +81,7 @@ one_told {X} line text number (x ∷ xs) first default lines new all is_allowed 
     ∙ (ap (λ (b : Bool). lines ++ ((if b then [] else refusal_line number) ++ more)) (sym here) ∙ so)))
 
 -- what one file's bytes make to be told, all files do
-pub refusals_in : (held : Held) (allow : Option Name) (text : Option (List ℕ)) (lines : List (List ℕ)) (P : List ℕ → Type 0) → IsAllowFile held allow text → P (refusals text lines) → HaveRefusals held allow lines P
+pub refusals_in : (held : Contents) (allow : Option Name) (text : Option (List ℕ)) (lines : List (List ℕ)) (P : List ℕ → Type 0) → IsAllowFile held allow text → P (refusals text lines) → HaveRefusals held allow lines P
 refusals_in held None None lines P read so = so
 refusals_in held None (Some text) lines P read so = absurd read
 refusals_in held (Some file) None lines P read so = absurd read

@@ -5,7 +5,7 @@ use Rattle.std.specs.List.Sorted.{IsStrictlySortedBy}
 use Rattle.std.specs.Ordering.{on}
 use Rattle.command_files.specs.Faults.{IsImageFault, IsNoImage, IsReadFault, Name}
 use Rattle.command_files.specs.Files.{HoldsImage}
-use Rattle.command_files.specs.Held.{Held, HoldsBytes}
+use Rattle.command_files.specs.Contents.{Contents, HoldsBytes}
 use Rattle.command_files.specs.Sizes.{IsOutside, config_named}
 use Rattle.command_files.specs.declared.fault.Fault.{Fault}
 use Rattle.command_files.specs.declared.fault.Fault.TheVariants.{CannotMake, CannotRead, CannotWrite, Configuration, Image, OutOfMemory}
@@ -44,7 +44,7 @@ pub record IsFoundIn (image : Initial) (config : Config) (limit : ℕ) (found : 
   pub visited : (states : List Flat) × AreVisited image config found states
 
 -- what was found of the image in the file was printed, its scripts are in the folder, if one was named, and each other file is as before, and it was judged by the file that says what is allowed; it is allowed only where memory sufficed for all states, or for as many as were asked for
-pub record IsExplorationTold (held left : Held) (wanted : Explore) (judgement : Judgement) (old new : Option (List ℕ)) : Type 0 where
+pub record IsExplorationTold (held left : Contents) (wanted : Explore) (judgement : Judgement) (old new : Option (List ℕ)) : Type 0 where
   pub image : Initial
   pub exploration : Exploration
   pub image_file : HoldsImage held wanted.raw wanted.image.now wanted.machine.memory image
@@ -56,7 +56,7 @@ pub record IsExplorationTold (held left : Held) (wanted : Explore) (judgement : 
   pub whole : judgement ≡ Allowed → exploration.extent ≢ extent.OutOfMemory
 
 -- P holds of the text of what was found of the image in the file
-pub record ExplorationHas (held : Held) (wanted : Explore) (P : List ℕ → Type 0) : Type 0 where
+pub record ExplorationHas (held : Contents) (wanted : Explore) (P : List ℕ → Type 0) : Type 0 where
   pub image : Initial
   pub exploration : Exploration
   pub image_file : HoldsImage held wanted.raw wanted.image.now wanted.machine.memory image
@@ -64,7 +64,7 @@ pub record ExplorationHas (held : Held) (wanted : Explore) (P : List ℕ → Typ
   pub of_text : P (exploration_text exploration)
 
 -- P holds of what is to be told of the outcomes that were printed, those of the image in the file
-pub record ExplorationRefusals (held : Held) (wanted : Explore) (old new : Option (List ℕ)) (P : List ℕ → Type 0) : Type 0 where
+pub record ExplorationRefusals (held : Contents) (wanted : Explore) (old new : Option (List ℕ)) (P : List ℕ → Type 0) : Type 0 where
   pub image : Initial
   pub exploration : Exploration
   pub image_file : HoldsImage held wanted.raw wanted.image.now wanted.machine.memory image
@@ -75,7 +75,7 @@ pub record ExplorationRefusals (held : Held) (wanted : Explore) (old new : Optio
 -- ---- what is allowed
 
 -- these are the bytes of the file that was named, if one was
-abbrev pub IsAllowFile : Held → Option Name → Option (List ℕ) → Type 0
+abbrev pub IsAllowFile : Contents → Option Name → Option (List ℕ) → Type 0
 IsAllowFile held None None = Unit {0}
 IsAllowFile held None (Some text) = ⊥
 IsAllowFile held (Some file) None = ⊥
@@ -89,11 +89,11 @@ IsNamedBy None IsOf fault = ⊥
 IsNamedBy (Some file) IsOf fault = IsOf file fault
 
 -- the file that says what is allowed, or the image, can't be read or used
-abbrev pub IsReadingFault : Held → Explore → Fault → Type 0
+abbrev pub IsReadingFault : Contents → Explore → Fault → Type 0
 IsReadingFault held explore fault = IsNamedBy explore.allow IsReadFault fault ⊎ IsImageFault held explore.raw explore.image explore.machine.memory fault
 
 -- or the machine is out of limits
-abbrev pub IsFirstFault : Held → Explore → Fault → Type 0
+abbrev pub IsFirstFault : Contents → Explore → Fault → Type 0
 IsFirstFault held explore fault = ((fault ≡ Configuration) × IsOutside explore.machine) ⊎ IsReadingFault held explore fault
 
 -- a script can't be written into the folder, or memory ran out
@@ -101,7 +101,7 @@ abbrev pub IsFolderFault : Name → Fault → Type 0
 IsFolderFault folder fault = (fault ≡ CannotMake folder) ⊎ (fault ≡ OutOfMemory)
 
 -- which faults there are, and of which file; the image is refused for the cause that is told
-abbrev pub IsExploreFault : Held → Explore → Fault → Type 0
+abbrev pub IsExploreFault : Contents → Explore → Fault → Type 0
 IsExploreFault held explore Configuration = IsOutside explore.machine
 IsExploreFault held explore (CannotRead file) = (file ≡ explore.image) ⊎ (explore.allow ≡ Some file)
 IsExploreFault held explore (Image file error) = (file ≡ explore.image) × IsNoImage held explore.raw explore.image.now explore.machine.memory error

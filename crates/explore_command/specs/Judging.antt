@@ -2,7 +2,7 @@
 use Rattle.std.specs.Prelude.{ℕ, ◌≡◌, ◌+◌, ◌∷◌, ◌++◌, [], Bool, List, None, Option, Some, codes, decimal, if◌then◌else◌}
 use Rattle.std.specs.List.{list_all}
 use Rattle.command_files.specs.Faults.{Name}
-use Rattle.command_files.specs.Held.{Held, HoldsBytes}
+use Rattle.command_files.specs.Contents.{Contents, HoldsBytes}
 use Rattle.explore_command.specs.Allowing.{is_allowed_line, without_number}
 use Rattle.explore_command.specs.declared.judging.Judgement.{Judgement}
 use Rattle.explore_command.specs.declared.judging.Judgement.TheVariants.{Allowed, NotAllowed}
@@ -18,7 +18,7 @@ judgement_of_lines None lines = Allowed
 judgement_of_lines (Some text) lines = if are_allowed_lines text lines then Allowed else NotAllowed
 
 -- the judgement on these lines, by the file that was named, if one was
-abbrev pub IsJudged : Held → Option Name → List (List ℕ) → Judgement → Type 0
+abbrev pub IsJudged : Contents → Option Name → List (List ℕ) → Judgement → Type 0
 IsJudged held None lines judgement = judgement ≡ Allowed
 IsJudged held (Some file) lines judgement = (text : List ℕ) × HoldsBytes held file.now text × (judgement ≡ judgement_of_lines (Some text) lines)
 
@@ -38,7 +38,7 @@ refusals None lines = []
 refusals (Some text) lines = refusal_lines text 1 lines
 
 -- P holds of what is to be told of these lines, by the file that was named, if one was
-abbrev pub HaveRefusals : Held → Option Name → List (List ℕ) → (List ℕ → Type 0) → Type 0
+abbrev pub HaveRefusals : Contents → Option Name → List (List ℕ) → (List ℕ → Type 0) → Type 0
 HaveRefusals held None lines P = P []
 HaveRefusals held (Some file) lines P = (text : List ℕ) × HoldsBytes held file.now text × P (refusal_lines text 1 lines)
 

@@ -3,7 +3,7 @@
 ghost use Rattle.std.specs.Prelude.{◌≡◌, ◌≢◌, IfErr, IfOk, IfSome, List, OnOk, length, true, ℕ};
 ghost use Rattle.std.specs.String.{string_bytes};
 ghost use Rattle.command_files.specs.Files.{HoldsScript};
-ghost use Rattle.command_files.specs.Held.{Held, HoldsBytes};
+ghost use Rattle.command_files.specs.Contents.{Contents, HoldsBytes};
 ghost use Rattle.command_files.specs.Sizes.{config_named, script_named};
 ghost use Rattle.command_settings.specs.declared.wanted.MachineOptions.{MachineOptions};
 ghost use Rattle.elf_loader.specs.Size.{IsMemoryKib};
@@ -14,7 +14,7 @@ ghost use Rattle.trace_text.specs.Scripts.{text};
 
 use command_files::{Fault, Files, script_of, unmade};
 use command_settings::{Explore, MachineOptions};
-use explorer::{Exploration, Found, Script as Way};
+use explorer::{Exploration, Found, Realisation};
 use machine_types::Event;
 use std::alloc::{AllocError, Global};
 use trace_text::{Script, write_script};
@@ -33,7 +33,7 @@ pub trait Keepable {
     ghost HasTexts: { Self → Type 0 };
 
     // The folder has it, for the machine that was named.
-    ghost AreKept: { Self → Held → MachineOptions → FileName → Type 0 };
+    ghost AreKept: { Self → Contents → MachineOptions → FileName → Type 0 };
 
     // The file is one of those that have it in this folder.
     ghost IsFileOf: { Self → FileName → FileName → Type 0 };
@@ -131,7 +131,7 @@ impl<'a> Folder<'a> {
     }
 
     /// Writes the file of this path, if there are events to write.
-    fn keep_at<F: Files>(&self, files: &mut F, path: &str, way: &Way) -> Result<(), Fault<'a>>
+    fn keep_at<F: Files>(&self, files: &mut F, path: &str, way: &Realisation) -> Result<(), Fault<'a>>
         requires within { is_within_limits (config_named self.now.machine) ≡ true }
         requires memory { IsMemoryKib self.now.machine.memory }
         ensures kept { OnOk result (IsKeptAt (F.held files.new) self.now.machine path.now way.now) }
@@ -139,9 +139,9 @@ impl<'a> Folder<'a> {
         ensures others { (other : List ℕ) → other ≢ path.now → F.held files.new other ≡ F.held files.old other }
     {
         match way {
-            Way::Events(events) => self.write(files, path, events),
-            Way::NoMemory => Err(Fault::OutOfMemory),
-            Way::Limit | Way::Unrealised => Err(Fault::CannotMake { file: self.name }),
+            Realisation::Events(events) => self.write(files, path, events),
+            Realisation::NoMemory => Err(Fault::OutOfMemory),
+            Realisation::Limit | Realisation::Unrealised => Err(Fault::CannotMake { file: self.name }),
         }
     }
 

@@ -13,7 +13,7 @@ mod stuck;
 pub use effort::{Exploring, most_played};
 pub use exploration::{Exploration, Stuck};
 pub use exploring::{States, explore};
-pub use found::{Found, Script};
+pub use found::{Found, Realisation};
 pub use laws::{each_end_is_seen, ends_are_real, stuck_is_seen};
 pub use ranks::compare;
 pub use scripts::Program;

@@ -2,7 +2,7 @@
 use Rattle.std.proofs.Common.{◌≡◌, ◌∙◌, refl, sym, subst, ℕ, ◌+◌, List, [], ◌∷◌, IsTrue}
 use Rattle.coherent_machine.specs.Machine.{IsReached, KeepsHeadline, Replayed, replayed_from, unless_refused}
 use Rattle.elf_loader.specs.Image.{Initial, IsImage}
-use Rattle.locked_fabric.specs.Held.{AreMoves, Held, IsReplay, reset_of}
+use Rattle.locked_fabric.specs.FabricState.{AreMoves, FabricState, IsReplay, reset_of}
 use Rattle.machine_types.specs.declared.config.Config.{Config}
 use Rattle.machine_types.specs.declared.event.Event.{Event}
 use Rattle.machine_types.specs.declared.outcome.Outcome.{Outcome}
@@ -13,7 +13,7 @@ use Rattle.machine_model.specs.Laws.{IsHeadline}
 use Rattle.machine_model.specs.Views.{State, opening}
 
 -- a machine of this image and configuration is where its journal leads from their reset
-pub leads_to : (image : Initial) (config : Config) (held : Held) (journal : List Event) (machine : State)
+pub leads_to : (image : Initial) (config : Config) (held : FabricState) (journal : List Event) (machine : State)
     → held.machine.trace.image ≡ image → held.machine.views.config ≡ config → IsReplay held → journal ≡ held.journal → machine ≡ held.machine
     → after_events (opening image config) journal ≡ machine
 leads_to image config held journal machine of_image of_config replay of_journal of_machine =
@@ -50,7 +50,7 @@ none_refused i s [] all = refl
 none_refused i s (e ∷ events) all = goes_on i (replayed_from (i + 1) (happens s e) events) (verdict s e) all.0.0 all.0.1 all.0.2 ∙ none_refused (i + 1) (happens s e) events all.1
 
 -- the journal of a machine of this image and configuration
-pub moves_from : (image : Initial) (config : Config) (held : Held) (journal : List Event) → held.machine.trace.image ≡ image → held.machine.views.config ≡ config → AreMoves (reset_of held) held.journal → journal ≡ held.journal
+pub moves_from : (image : Initial) (config : Config) (held : FabricState) (journal : List Event) → held.machine.trace.image ≡ image → held.machine.views.config ≡ config → AreMoves (reset_of held) held.journal → journal ≡ held.journal
     → AreMoves (opening image config) journal
 moves_from image config held journal of_image of_config moves of_journal =
     subst (λ (events : List Event). AreMoves (opening image config) events) (sym of_journal)

@@ -2,7 +2,7 @@
 use Rattle.std.proofs.Common.{◌≡◌, ◌∙◌, ⊎_elim, ap, ℕ, ◌+◌, ◌≤◌, List, arith}
 use Rattle.std.specs.declared.result.Result.{Result}
 use Rattle.host_threads.specs.Pace.{IsPaced}
-use Rattle.locked_fabric.specs.Held.{Answered, Does, Held}
+use Rattle.locked_fabric.specs.FabricState.{Answered, Does, FabricState}
 use Rattle.locked_fabric.specs.Turns.{Draws, DrewInVain, DrewNumber, Leaves}
 use Rattle.locked_fabric.specs.declared.taken.Taken.{Taken}
 use Rattle.locked_fabric.specs.declared.taken.Taken.TheVariants.{Nothing, Over, HeldBack, Tried}
@@ -32,28 +32,28 @@ none_is_lost limit old new =
 
 -- ---- an event counts at most once
 
-book_grows : (v : Verdict) (event : Event) (old : Held) (result : Result Outcome ApplyError) (new : Held) → Does v event old result new → new.book ≤ old.book + 1
-book_grows IsBad event old result new does = omega (arith, ap (λ (held : Held). held.book) does.1)
-book_grows (Keeps o) event old result new does = omega (arith, ap (λ (held : Held). held.book) does.1)
-book_grows IsLimited event old result new does = omega (arith, ap (λ (held : Held). held.book) does.1)
-book_grows (Moves o moved) event old result new does = omega (arith, ap (λ (held : Held). held.book) does.1)
+book_grows : (v : Verdict) (event : Event) (old : FabricState) (result : Result Outcome ApplyError) (new : FabricState) → Does v event old result new → new.book ≤ old.book + 1
+book_grows IsBad event old result new does = omega (arith, ap (λ (held : FabricState). held.book) does.1)
+book_grows (Keeps o) event old result new does = omega (arith, ap (λ (held : FabricState). held.book) does.1)
+book_grows IsLimited event old result new does = omega (arith, ap (λ (held : FabricState). held.book) does.1)
+book_grows (Moves o moved) event old result new does = omega (arith, ap (λ (held : FabricState). held.book) does.1)
 
-answer_counts : (event : Event) (result : Result Outcome ApplyError) (old new : Held) → Answered old event result new → new.book ≤ old.book + 1
+answer_counts : (event : Event) (result : Result Outcome ApplyError) (old new : FabricState) → Answered old event result new → new.book ≤ old.book + 1
 answer_counts event result old new answered =
     ⊎_elim
-    (λ kept. omega (arith, ap (λ (held : Held). held.book) kept.1))
+    (λ kept. omega (arith, ap (λ (held : FabricState). held.book) kept.1))
     (book_grows (verdict old.machine event) event old result new)
     answered
 
-pub counts_once : (event : Event) (result : Result Outcome ApplyError) (before after : ℕ) (new : Held) → Applied event result before after new → after ≤ before + 1
+pub counts_once : (event : Event) (result : Result Outcome ApplyError) (before after : ℕ) (new : FabricState) → Applied event result before after new → after ≤ before + 1
 counts_once event result before after new applied = omega (arith, applied.counted, answer_counts event result applied.old new applied.answered)
 
 -- ---- a turn under one lock
 
-same_book : (found left : Held) (count counted : ℕ) → left ≡ found → counted + found.book ≡ count + left.book → counted ≡ count
-same_book found left count counted same counts = omega (arith, counts, ap (λ (held : Held). held.book) same)
+same_book : (found left : FabricState) (count counted : ℕ) → left ≡ found → counted + found.book ≡ count + left.book → counted ≡ count
+same_book found left count counted same counts = omega (arith, counts, ap (λ (held : FabricState). held.book) same)
 
-pub paced_took : (limit : ℕ) (taken : Taken) (found left : Held) (before after : View) (count counted : ℕ) → Leaves taken found left → Draws limit taken before after → counted + found.book ≡ count + left.book
+pub paced_took : (limit : ℕ) (taken : Taken) (found left : FabricState) (before after : View) (count counted : ℕ) → Leaves taken found left → Draws limit taken before after → counted + found.book ≡ count + left.book
     → IsPaced limit before count → IsPaced limit after counted
 paced_took limit Nothing found left before after count counted leaves draws counts paced =
     omega (arith, paced, same_book found left count counted leaves counts, ap (λ (v : View). below limit v.drawn) draws)
@@ -65,7 +65,7 @@ paced_took limit (Tried number event came) found left before after count counted
     omega (arith, paced, counts, answer_counts event came found left leaves, number_counts limit number before after draws)
 
 -- an event that is held back may still be counted
-pub paced_back : (limit number : ℕ) (found left : Held) (before after : View) (count counted : ℕ) → DrewNumber limit number before after → left ≡ found → counted + found.book ≡ count + left.book
+pub paced_back : (limit number : ℕ) (found left : FabricState) (before after : View) (count counted : ℕ) → DrewNumber limit number before after → left ≡ found → counted + found.book ≡ count + left.book
     → IsPaced limit before count → IsPaced limit after (counted + 1)
 paced_back limit number found left before after count counted drew same counts paced =
     omega (arith, paced, same_book found left count counted same counts, number_counts limit number before after drew)

@@ -7,7 +7,7 @@ use Rattle.hart.specs.declared.status.Status.{Status}
 use Rattle.host_threads.specs.Errors.{goes_on}
 use Rattle.host_threads.specs.Telling.{CountsTo, Reports, Tells, has_ended, longest_with}
 use Rattle.host_threads.specs.declared.report.Fault.{Fault}
-use Rattle.locked_fabric.specs.Held.{Answered, Does, Held, journalled}
+use Rattle.locked_fabric.specs.FabricState.{Answered, Does, FabricState, journalled}
 use Rattle.locked_fabric.specs.Port.{Applied, Left, seen_in}
 use Rattle.locked_fabric.specs.Turns.{Draws, DrewInVain, IsPick, Leaves}
 use Rattle.locked_fabric.specs.declared.taken.Taken.{Taken}
@@ -25,47 +25,47 @@ use Rattle.progress_board.specs.declared.view.View.{View}
 
 -- ---- what counts
 
-counts_none : (old new : Held) (count counted : ℕ) → new ≡ old → counted + old.book ≡ count + new.book → CountsTo count counted new
-counts_none old new count counted same counts = inl (omega (arith, counts, ap (λ (held : Held). held.book) same))
+counts_none : (old new : FabricState) (count counted : ℕ) → new ≡ old → counted + old.book ≡ count + new.book → CountsTo count counted new
+counts_none old new count counted same counts = inl (omega (arith, counts, ap (λ (held : FabricState). held.book) same))
 
-counts_one : (event : Event) (old new : Held) (moved : State) (count counted : ℕ) → new ≡ journalled old event moved → counted + old.book ≡ count + new.book → CountsTo count counted new
+counts_one : (event : Event) (old new : FabricState) (moved : State) (count counted : ℕ) → new ≡ journalled old event moved → counted + old.book ≡ count + new.book → CountsTo count counted new
 counts_one event old new moved count counted is counts =
-    inr (omega (arith, counts, ap (λ (held : Held). held.book) is), (event, (old.journal, ap (λ (held : Held). held.journal) is)))
+    inr (omega (arith, counts, ap (λ (held : FabricState). held.book) is), (event, (old.journal, ap (λ (held : FabricState). held.journal) is)))
 
-by_verdict : (v : Verdict) (event : Event) (old new : Held) (result : Result Outcome ApplyError) (count counted : ℕ) → Does v event old result new → counted + old.book ≡ count + new.book → CountsTo count counted new
+by_verdict : (v : Verdict) (event : Event) (old new : FabricState) (result : Result Outcome ApplyError) (count counted : ℕ) → Does v event old result new → counted + old.book ≡ count + new.book → CountsTo count counted new
 by_verdict IsBad event old new result count counted does counts = counts_none old new count counted does.1 counts
 by_verdict (Keeps o) event old new result count counted does counts = counts_none old new count counted does.1 counts
 by_verdict IsLimited event old new result count counted does counts = counts_none old new count counted does.1 counts
 by_verdict (Moves o moved) event old new result count counted does counts = counts_one event old new moved count counted does.1 counts
 
-by_answer : (event : Event) (old new : Held) (result : Result Outcome ApplyError) (count counted : ℕ) → Answered old event result new → counted + old.book ≡ count + new.book → CountsTo count counted new
+by_answer : (event : Event) (old new : FabricState) (result : Result Outcome ApplyError) (count counted : ℕ) → Answered old event result new → counted + old.book ≡ count + new.book → CountsTo count counted new
 by_answer event old new result count counted answered counts =
     ⊎_elim
     (λ kept. counts_none old new count counted kept.1 counts)
     (λ does. by_verdict (verdict old.machine event) event old new result count counted does counts)
     answered
 
-pub applied_counts : (event : Event) (result : Result Outcome ApplyError) (count counted : ℕ) (left : Held) → Applied event result count counted left → CountsTo count counted left
+pub applied_counts : (event : Event) (result : Result Outcome ApplyError) (count counted : ℕ) (left : FabricState) → Applied event result count counted left → CountsTo count counted left
 applied_counts event result count counted left applied = by_answer event applied.old left result count counted applied.answered applied.counted
 
-pub taken_counts : (taken : Taken) (found left : Held) (count counted : ℕ) → Leaves taken found left → counted + found.book ≡ count + left.book → CountsTo count counted left
+pub taken_counts : (taken : Taken) (found left : FabricState) (count counted : ℕ) → Leaves taken found left → counted + found.book ≡ count + left.book → CountsTo count counted left
 taken_counts Nothing found left count counted leaves counts = counts_none found left count counted leaves counts
 taken_counts Over found left count counted leaves counts = counts_none found left count counted leaves counts
 taken_counts (HeldBack number event) found left count counted leaves counts = counts_none found left count counted leaves counts
 taken_counts (Tried number event came) found left count counted leaves counts = by_answer event found left came count counted leaves counts
 
 -- where nothing is applied, nothing counts
-pub held_counts : (found left : Held) (count counted : ℕ) → left ≡ found → counted + found.book ≡ count + left.book → counted ≡ count
-held_counts found left count counted same counts = omega (arith, counts, ap (λ (held : Held). held.book) same)
+pub held_counts : (found left : FabricState) (count counted : ℕ) → left ≡ found → counted + found.book ≡ count + left.book → counted ≡ count
+held_counts found left count counted same counts = omega (arith, counts, ap (λ (held : FabricState). held.book) same)
 
-refused : (v : Verdict) (event : Event) (error : ApplyError) (old new : Held) → Does v event old (Err error) new → new ≡ old
+refused : (v : Verdict) (event : Event) (error : ApplyError) (old new : FabricState) → Does v event old (Err error) new → new ≡ old
 refused IsBad event error old new does = does.1
 refused (Keeps o) event error old new does = does.1
 refused IsLimited event error old new does = does.1
 refused (Moves o moved) event error old new does = absurd (cc (does.0))
 
 -- an error counts nothing
-pub refused_counts : (event : Event) (came : Result Outcome ApplyError) (found left : Held) (count counted : ℕ) → Answered found event came left → counted + found.book ≡ count + left.book → OnErr came (counted ≡ count)
+pub refused_counts : (event : Event) (came : Result Outcome ApplyError) (found left : FabricState) (count counted : ℕ) → Answered found event came left → counted + found.book ≡ count + left.book → OnErr came (counted ≡ count)
 refused_counts event (Ok outcome) found left count counted answered counts = tt
 refused_counts event (Err error) found left count counted answered counts =
     held_counts found left count counted (⊎_elim (λ kept. kept.1) (λ does. refused (verdict found.machine event) event error found left does) answered) counts
@@ -148,7 +148,7 @@ unchanged count counted same = subst (λ (n : ℕ). false ≡ not (n == count)) 
     true_of : (n : ℕ) → (n == n) ≡ true
     true_of n = let same : n ≡ n = refl in grind (arith, nat_tests)
 
-pub reports : (hart own count counted ended : ℕ) (changed : Bool) (seen : Option (ℕ × Status)) (old mid new : View) (left : Held)
+pub reports : (hart own count counted ended : ℕ) (changed : Bool) (seen : Option (ℕ × Status)) (old mid new : View) (left : FabricState)
     → CountsTo count counted left → ended ≡ counted → changed ≡ not (counted == count) → seen ≡ seen_in left.machine.trace own → own ≡ hart → IsUntold old mid → Tells changed seen mid new
     → Reports hart count ended old new left
 reports hart own count counted ended changed seen old mid new left counts same is saw mine untold tells =

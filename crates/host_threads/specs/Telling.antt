@@ -2,7 +2,7 @@
 use Rattle.std.specs.Prelude.{◌≡◌, ◌⊎◌, ℕ, ◌+◌, ◌==◌, ◌||◌, Bool, true, false, not, max, Option, Some, None, if◌then◌else◌}
 use Rattle.hart.specs.Run.{is_running}
 use Rattle.hart.specs.declared.status.Status.{Status}
-use Rattle.locked_fabric.specs.Held.{Held}
+use Rattle.locked_fabric.specs.FabricState.{FabricState}
 use Rattle.locked_fabric.specs.Port.{IsLast, seen_in}
 use Rattle.machine_types.specs.declared.event.Event.{Event}
 use Rattle.progress_board.specs.declared.view.View.{View}
@@ -23,10 +23,10 @@ pub record Tells (changed : Bool) (seen : Option (ℕ × Status)) (old new : Vie
   pub bit : new.halted ≡ (has_ended seen || old.halted)
 
 -- a share counts no event more; or it counts one, which changed the machine, and stands last in the journal of the fabric that was left
-abbrev pub CountsTo : (count counted : ℕ) → Held → Type 0
+abbrev pub CountsTo : (count counted : ℕ) → FabricState → Type 0
 CountsTo count counted left = (counted ≡ count) ⊎ ((counted ≡ count + 1) × ((event : Event) × IsLast event left))
 
 -- behind a turn that left this fabric the board is told of the hart as it stands there, and of its length exactly where the turn's event counts
-pub record Reports (hart count counted : ℕ) (old new : View) (left : Held) : Type 0 where
+pub record Reports (hart count counted : ℕ) (old new : View) (left : FabricState) : Type 0 where
   pub counts : CountsTo count counted left
   pub tells : Tells (not (counted == count)) (seen_in left.machine.trace hart) old new

@@ -10,7 +10,7 @@ use Rattle.machine_model.specs.Views.{State}
 use Rattle.machine_parts.specs.declared.errors.ApplyError.{ApplyError}
 use Rattle.machine_parts.specs.declared.errors.ApplyError.TheVariants.{NoMemory}
 use Rattle.machine_parts.specs.Applying.{Answers}
-use Rattle.locked_fabric.specs.Held.{Held, Answered, Does, journalled}
+use Rattle.locked_fabric.specs.FabricState.{FabricState, Answered, Does, journalled}
 
 -- where the number of changes stays, the machine does
 pub still : ChangesAreCounted → (old : State) (e : Event) (o : Outcome) (new : State) → Answers (verdict old e) old (Ok o) new → new.views.changes ≡ old.views.changes → new ≡ old
@@ -34,11 +34,11 @@ moves old e o new answers differ = by_verdict (verdict old e) answers
     by_verdict (Moves p moved) a = elim a [ inl x ↦ cc (x.0, x.1) | inr x ↦ absurd (cc (x.0)) ]
 
 -- an event that moved the machine is journalled
-pub answered_moved : (old : Held) (e : Event) (o : Outcome) (new : State) → verdict old.machine e ≡ Moves o new → Answered old e (Ok o) (journalled old e new)
+pub answered_moved : (old : FabricState) (e : Event) (o : Outcome) (new : State) → verdict old.machine e ≡ Moves o new → Answered old e (Ok o) (journalled old e new)
 answered_moved old e o new is = inr (subst (λ (v : Verdict). Does v e old (Ok o) (journalled old e new)) (sym is) (refl, refl))
 
 -- an answer with which the number of changes stays
-pub answered_still : ChangesAreCounted → (old : Held) (e : Event) (o : Outcome) (new : State) → Answers (verdict old.machine e) old.machine (Ok o) new → new.views.changes ≡ old.machine.views.changes → Answered old e (Ok o) (record old { machine = new })
+pub answered_still : ChangesAreCounted → (old : FabricState) (e : Event) (o : Outcome) (new : State) → Answers (verdict old.machine e) old.machine (Ok o) new → new.views.changes ≡ old.machine.views.changes → Answered old e (Ok o) (record old { machine = new })
 answered_still law old e o new answers same = inr (by_verdict (verdict old.machine e) refl answers)
   where
     by_verdict : (v : Verdict) → verdict old.machine e ≡ v → Answers v old.machine (Ok o) new → Does v e old (Ok o) (record old { machine = new })
@@ -49,7 +49,7 @@ answered_still law old e o new answers same = inr (by_verdict (verdict old.machi
         elim a [ inl x ↦ absurd (let more = law old.machine e p moved is in let changes = ap (λ (s : State). s.views.changes) x.1 in omega arith) | inr x ↦ absurd (cc (x.0)) ]
 
 -- a machine's refusal is the fabric's
-pub refused : (old : Held) (e : Event) (error : ApplyError) (new : State) → Answers (verdict old.machine e) old.machine (Err error) new → Answered old e (Err error) old
+pub refused : (old : FabricState) (e : Event) (error : ApplyError) (new : State) → Answers (verdict old.machine e) old.machine (Err error) new → Answered old e (Err error) old
 refused old e error new answers = by_verdict (verdict old.machine e) answers
   where
     by_verdict : (v : Verdict) → Answers v old.machine (Err error) new → (◌≡◌ {A = Result Outcome ApplyError} (Err error) (Err NoMemory) × (old ≡ old)) ⊎ Does v e old (Err error) old

@@ -1,3 +1,3 @@
-pub mod Held
+pub mod FabricState
 pub mod Port
 pub mod Turns

@@ -24,7 +24,7 @@ use Rattle.progress_board.specs.declared.seat.Seat.{Seat}
 use Rattle.trace_recorder.specs.History.{History, entries_of}
 use Rattle.locked_fabric.specs.contracts.port.Port.{the_row}
 use Rattle.locked_fabric.specs.declared.port.Port.{Port}
-use Rattle.locked_fabric.specs.Held.{Held, Answered, IsKept, journalled}
+use Rattle.locked_fabric.specs.FabricState.{FabricState, Answered, IsKept, journalled}
 
 -- ---- what a port has
 
@@ -38,19 +38,19 @@ share_of port = port.share
 -- ---- what it tells of the fabric
 
 -- the call gave the lock back with a fabric that keeps what each fabric keeps, and this holds of it: which fabric it is, a caller can't know
-abbrev pub Left : (Held → Type 0) → Type 0
-Left P = (held : Held) × IsKept held × P held
+abbrev pub Left : (FabricState → Type 0) → Type 0
+Left P = (held : FabricState) × IsKept held × P held
 
 -- this fabric was left by one, which kept the same, that answered so to the event, and the book grew as the share did
-pub record Applied (event : Event) (result : Result Outcome ApplyError) (before after : ℕ) (new : Held) : Type 0 where
-  pub old : Held
+pub record Applied (event : Event) (result : Result Outcome ApplyError) (before after : ℕ) (new : FabricState) : Type 0 where
+  pub old : FabricState
   pub kept : IsKept old
   pub answered : Answered old event result new
   pub counted : after + old.book ≡ before + new.book
 
 -- this fabric was left by one, which kept the same, that took the row so, and the book grew as the share did: Stale where the row isn't current, else Empty, else Limit, else the event that the row is
-pub record Committed (row : Row) (result : Result Outcome AdoptError) (before after : ℕ) (new : Held) : Type 0 where
-  pub old : Held
+pub record Committed (row : Row) (result : Result Outcome AdoptError) (before after : ℕ) (new : FabricState) : Type 0 where
+  pub old : FabricState
   pub kept : IsKept old
   pub stale : result ≢ Err NoMemory → (result ≡ Err Stale) ↔ (IsCurrent row.first.id row old.machine → ⊥)
   pub empty : result ≢ Err NoMemory → (result ≡ Err Empty) ↔ (IsCurrent row.first.id row old.machine × (row.entries ≡ []))
@@ -63,7 +63,7 @@ pub record Committed (row : Row) (result : Result Outcome AdoptError) (before af
   pub counted : after + old.book ≡ before + new.book
 
 -- the event stands last in the journal
-abbrev pub IsLast : Event → Held → Type 0
+abbrev pub IsLast : Event → FabricState → Type 0
 IsLast event held = (earlier : List Event) × (held.journal ≡ earlier ++ event ∷ [])
 
 -- the length of a hart's list and its status, where there is such a hart

@@ -6,7 +6,7 @@ use Rattle.machine_model.specs.Views.{State}
 use Rattle.progress_board.specs.declared.view.View.{View}
 use Rattle.locked_fabric.specs.declared.taken.Taken.{Taken}
 use Rattle.locked_fabric.specs.declared.taken.Taken.TheVariants.{Nothing, Over, HeldBack, Tried}
-use Rattle.locked_fabric.specs.Held.{Answered, Held}
+use Rattle.locked_fabric.specs.FabricState.{Answered, FabricState}
 
 -- the seat's view, once it drew this number
 abbrev pub with_number : View → ℕ → View
@@ -36,7 +36,7 @@ IsHeldAsAnswered Answers (Tried number event came) = Answers false
 IsHeldAsAnswered Answers _ = Unit {0}
 
 -- an event that is tried is applied, and nothing else is
-abbrev pub Leaves : Taken → (old new : Held) → Type 0
+abbrev pub Leaves : Taken → (old new : FabricState) → Type 0
 Leaves (Tried number event came) old new = Answered old event came new
 Leaves _ old new = new ≡ old
 
@@ -48,7 +48,7 @@ Draws limit (HeldBack number event) old new = DrewNumber limit number old new
 Draws limit (Tried number event came) old new = DrewNumber limit number old new
 
 -- a turn came to this: it found a fabric and left one, drew from a seat, and a share that counted so many events counts so many
-pub record Takes (Picks : State → Option Event → Type 0) (Answers : Bool → Type 0) (limit : ℕ) (taken : Taken) (old new : Held) (before after : View) (count counted : ℕ) : Type 0 where
+pub record Takes (Picks : State → Option Event → Type 0) (Answers : Bool → Type 0) (limit : ℕ) (taken : Taken) (old new : FabricState) (before after : View) (count counted : ℕ) : Type 0 where
   pub pick : IsPick Picks taken old.machine
   pub held : IsHeldAsAnswered Answers taken
   pub leaves : Leaves taken old new

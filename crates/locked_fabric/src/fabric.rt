@@ -2,7 +2,7 @@
 
 ghost use Rattle.std.specs.Prelude.{◌≡◌, ◌≢◌, ◌+◌, ◌↔◌, [], length, replicate, sum, false, IsTrue, Err, IfOk, OnOk, OnErr};
 ghost use Rattle.coherent_machine.specs.Adopting.{IsCurrent, local_of};
-ghost use Rattle.locked_fabric.specs.Held.{Answered, IsKept, journalled, opened};
+ghost use Rattle.locked_fabric.specs.FabricState.{Answered, IsKept, journalled, opened};
 ghost use Rattle.locked_fabric.specs.Turns.{Takes};
 ghost use Rattle.machine_types.specs.Config.{is_within_limits};
 ghost use Rattle.machine_model.specs.Events.{Verdict, happens, verdict};
@@ -39,11 +39,11 @@ pub struct Fabric<L: Ledger> {
 
 impl<L: Ledger> Model for Fabric<L> {
     ghost use Rattle.std.specs.Prelude.{◌≡◌, ◌≤◌, [], vec_capacity};
-    ghost use Rattle.locked_fabric.specs.Held.{Held, IsKept};
+    ghost use Rattle.locked_fabric.specs.FabricState.{FabricState, IsKept};
     ghost use Rattle.std.specs.Coded.{codes};
     ghost use Rattle.machine_parts.specs.Codes.{cache_coded};
 
-    ghost Value = { Held };
+    ghost Value = { FabricState };
 
     ghost coded = { Prim.hlevel (codes, cache_coded) };
 

@@ -42,7 +42,7 @@ pub struct Port<'a, L: Ledger> {
 
 impl<'a, L: Ledger> Port<'a, L> {
     ghost use Rattle.std.specs.Prelude.{ℕ};
-    ghost use Rattle.locked_fabric.specs.Held.{Held, IsKept};
+    ghost use Rattle.locked_fabric.specs.FabricState.{FabricState, IsKept};
     ghost use Rattle.locked_fabric.specs.Turns.{Takes};
     ghost use Rattle.progress_board.specs.Seat.{IsSeatOf, view};
     ghost use Rattle.locked_fabric.specs.Port.{Applied, Committed, IsLast, Left, LendsSeat, hart_at, seat_of, share_of};
@@ -79,7 +79,7 @@ impl<'a, L: Ledger> Port<'a, L> {
     ) -> Taken
         requires { IsSeatOf numbers.now.board.now (seat_of self.old) }
         ensures seat { IsSeatOf numbers.now.board.now (seat_of self.new) }
-        ensures takes { Left (λ left. (found : Held) × IsKept found × (picked : T) × T.sees picked left.machine turn.new
+        ensures takes { Left (λ left. (found : FabricState) × IsKept found × (picked : T) × T.sees picked left.machine turn.new
             × Takes (λ machine event. T.picks turn.old machine last event picked) (λ held. T.withholds picked held) numbers.now.limit result
             found left (view (seat_of self.old)) (view (seat_of self.new)) (share_of self.old) (share_of self.new)) }
     {

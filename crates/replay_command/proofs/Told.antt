@@ -1,6 +1,6 @@
 -- Which faults a replay hands up.
 use Rattle.std.proofs.Common.{◌≡◌, inl, inr}
-use Rattle.command_files.specs.Held.{Held}
+use Rattle.command_files.specs.Contents.{Contents}
 use Rattle.command_files.specs.Status.{status_of}
 use Rattle.command_files.specs.Faults.{IsImageFault, IsScriptFault}
 use Rattle.command_files.specs.Files.{HoldsScript}
@@ -10,7 +10,7 @@ use Rattle.command_files.specs.declared.fault.Fault.TheVariants.{BadAddress, Bad
 use Rattle.command_settings.specs.declared.wanted.Replay.{Replay}
 use Rattle.trace_text.specs.declared.script.Script.{Script}
 
-pub of_script : (held : Held) (replay : Replay) (fault : Fault) → IsScriptFault held replay.script fault → IsReplayFault held replay fault
+pub of_script : (held : Contents) (replay : Replay) (fault : Fault) → IsScriptFault held replay.script fault → IsReplayFault held replay fault
 of_script held replay (CannotRead file) is = inl is
 of_script held replay (Text file error) is = is
 of_script held replay OutOfMemory is = tt
@@ -29,7 +29,7 @@ of_script held replay Mismatch is = absurd is
 of_script held replay BadEvent is = absurd is
 of_script held replay Configuration is = absurd is
 
-pub of_image : (held : Held) (replay : Replay) (script : Script) (fault : Fault) → HoldsScript held replay.script.now script → IsImageFault held replay.raw replay.image script.kib fault
+pub of_image : (held : Contents) (replay : Replay) (script : Script) (fault : Fault) → HoldsScript held replay.script.now script → IsImageFault held replay.raw replay.image script.kib fault
     → IsReplayFault held replay fault
 of_image held replay script (CannotRead file) has is = inr (is, (script, has))
 of_image held replay script (Image file error) has is = (is.0, (script, has, is.1))
@@ -49,7 +49,7 @@ of_image held replay script Mismatch has is = absurd is
 of_image held replay script BadEvent has is = absurd is
 of_image held replay script Configuration has is = absurd is
 
-pub replay_never_misused : (held : Held) (replay : Replay) (fault : Fault) → IsReplayFault held replay fault → status_of fault ≡ 2 → ⊥
+pub replay_never_misused : (held : Contents) (replay : Replay) (fault : Fault) → IsReplayFault held replay fault → status_of fault ≡ 2 → ⊥
 replay_never_misused held replay CannotWrite so two = cc
 replay_never_misused held replay OutOfMemory so two = cc
 replay_never_misused held replay (CannotRead file) so two = cc

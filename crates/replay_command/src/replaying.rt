@@ -3,7 +3,7 @@
 ghost use Rattle.std.specs.Prelude.{◌≡◌, IfErr, IfOk, OnOk};
 ghost use Rattle.elf_loader.specs.Size.{IsMemoryKib};
 ghost use Rattle.command_files.specs.Files.{HoldsImage, HoldsScript, IsTheScriptIn};
-ghost use Rattle.command_files.specs.Held.{HoldsBytes};
+ghost use Rattle.command_files.specs.Contents.{HoldsBytes};
 ghost use Rattle.replay_command.specs.Replaying.{IsCutOff, IsReplayEndTold, IsReplayed};
 ghost use Rattle.command_files.specs.Faults.{IsImageFault, IsReadFault, IsScriptFault, LeavesAtFault};
 ghost use Rattle.command_files.specs.Faults.{IsReplayFault};

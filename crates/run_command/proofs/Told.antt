@@ -1,12 +1,12 @@
 -- Which faults a run hands up.
-use Rattle.command_files.specs.Held.{Held}
+use Rattle.command_files.specs.Contents.{Contents}
 use Rattle.command_files.specs.Faults.{IsImageFault}
 use Rattle.run_command.specs.Running.{IsRunFault}
 use Rattle.command_files.specs.declared.fault.Fault.{Fault}
 use Rattle.command_files.specs.declared.fault.Fault.TheVariants.{BadAddress, BadEvent, BytesAfterTrace, CannotMake, CannotRead, CannotShow, CannotWrite, Check, Configuration, Event, Image, Mismatch, NoThread, NothingHappens, OutOfMemory, Text, TooManyRows}
 use Rattle.command_settings.specs.declared.wanted.Run.{Run}
 
-pub of_run_image : (held : Held) (run : Run) (fault : Fault) → IsImageFault held run.raw run.image run.machine.memory fault → IsRunFault held run fault
+pub of_run_image : (held : Contents) (run : Run) (fault : Fault) → IsImageFault held run.raw run.image run.machine.memory fault → IsRunFault held run fault
 of_run_image held run (CannotRead file) is = is
 of_run_image held run (Image file error) is = is
 of_run_image held run OutOfMemory is = tt

@@ -4,7 +4,7 @@ use Rattle.command_files.specs.Ends.{ends_of}
 use Rattle.command_files.specs.Sizes.{config_of, IsOutside, config_named}
 use Rattle.command_files.specs.Files.{HoldsImage, HoldsScript}
 use Rattle.command_files.specs.Faults.{IsNoImage}
-use Rattle.command_files.specs.Held.{Held}
+use Rattle.command_files.specs.Contents.{Contents}
 use Rattle.command_files.specs.declared.fault.Fault.TheVariants.{BadEvent, CannotMake, CannotRead, CannotWrite, Configuration, Image, Mismatch, NoThread, OutOfMemory}
 use Rattle.command_files.specs.declared.fault.Fault.{Fault}
 use Rattle.command_settings.specs.declared.wanted.Run.{Run}
@@ -18,7 +18,7 @@ use Rattle.trace_text.specs.Traces.{text}
 use Rattle.trace_text.specs.declared.script.Script.{Script}
 
 -- the run of the image in the one file has left this script in the other: it is for the machine that was named, and has no more events than were asked for
-pub record IsJournalled (held left : Held) (run : Run) (image : Initial) (script : Script) : Type 0 where
+pub record IsJournalled (held left : Contents) (run : Run) (image : Initial) (script : Script) : Type 0 where
   pub image_file : HoldsImage held run.raw run.image.now run.machine.memory image
   pub config : config_of script run.machine.model ≡ config_named run.machine
   pub memory : script.kib ≡ run.machine.memory
@@ -26,7 +26,7 @@ pub record IsJournalled (held left : Held) (run : Run) (image : Initial) (script
   pub limit : length script.events ≤ run.limit
 
 -- and what was appended is the text of the trace that this script means for that image
-pub record IsRun (held left : Held) (run : Run) (old new : Option (List ℕ)) : Type 0 where
+pub record IsRun (held left : Contents) (run : Run) (old new : Option (List ℕ)) : Type 0 where
   pub script : Script
   pub image : Initial
   pub reached : State
@@ -34,7 +34,7 @@ pub record IsRun (held left : Held) (run : Run) (old new : Option (List ℕ)) : 
   pub composed : IsComposition image script run.machine.model old new reached
 
 -- the run's script is kept, and the output took no more than a beginning of the text of the trace that it means
-pub record IsRunCutOff (held left : Held) (run : Run) (old new : Option (List ℕ)) : Type 0 where
+pub record IsRunCutOff (held left : Contents) (run : Run) (old new : Option (List ℕ)) : Type 0 where
   pub script : Script
   pub image : Initial
   pub reached : State
@@ -43,7 +43,7 @@ pub record IsRunCutOff (held left : Held) (run : Run) (old new : Option (List �
   pub begun : Begins old new (text reached.trace)
 
 -- the run's script is kept, and a beginning of the lines that tell how its harts ended went out
-pub record IsRunEndTold (held left : Held) (run : Run) (old new : Option (List ℕ)) : Type 0 where
+pub record IsRunEndTold (held left : Contents) (run : Run) (old new : Option (List ℕ)) : Type 0 where
   pub script : Script
   pub image : Initial
   pub reached : State
@@ -52,7 +52,7 @@ pub record IsRunEndTold (held left : Held) (run : Run) (old new : Option (List �
   pub begun : Begins old new (ends_of reached)
 
 -- the machine's size is judged first, then the image, then the run, then the journal is written
-abbrev pub IsRunFault : Held → Run → Fault → Type 0
+abbrev pub IsRunFault : Contents → Run → Fault → Type 0
 IsRunFault held run Configuration = IsOutside run.machine
 IsRunFault held run (CannotRead file) = file ≡ run.image
 IsRunFault held run (Image file error) = (file ≡ run.image) × IsNoImage held run.raw run.image.now run.machine.memory error

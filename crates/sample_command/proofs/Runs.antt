@@ -2,7 +2,7 @@
 use Rattle.std.proofs.Common.{◌≡◌, ◌≤◌, ℕ, IfSome, List, Option, arith, length, map, subst}
 use Rattle.std.specs.Io.KnownBytes.{Appends}
 use Rattle.command_files.specs.Files.{HoldsImage}
-use Rattle.command_files.specs.Held.{Held}
+use Rattle.command_files.specs.Contents.{Contents}
 use Rattle.command_files.specs.Sizes.{config_named}
 use Rattle.command_settings.specs.declared.wanted.Explore.{Explore}
 use Rattle.elf_loader.specs.Image.{Initial}
@@ -17,7 +17,7 @@ use Rattle.machine_types.specs.declared.config.Config.{Config}
 use Rattle.sample_command.specs.Sampling.{AreRuns, IsSampleTold, SampleHas, SampleRefusals}
 use Rattle.sampler.specs.declared.sampled.Sampled.{Sampled}
 
-module _ (held : Held) (wanted : Explore) (runs : ℕ) (config : Config) (image : Initial) (found : Sampled)
+module _ (held : Contents) (wanted : Explore) (runs : ℕ) (config : Config) (image : Initial) (found : Sampled)
     (config_is : config ≡ config_named wanted.machine) (file : HoldsImage held wanted.raw wanted.image.now wanted.machine.memory image) (are : AreRuns image config runs found) where
   are_runs : AreRuns image (config_named wanted.machine) runs found
   are_runs = subst (λ (c : Config). AreRuns image c runs found) config_is are
@@ -25,7 +25,7 @@ module _ (held : Held) (wanted : Explore) (runs : ℕ) (config : Config) (image 
   pub has : (P : List ℕ → Type 0) → P (sampled_text found) → SampleHas held wanted runs P
   has P so = record { image = image; found = found; image_file = file; runs_made = are_runs; of_text = so }
 
-  pub all : (old new : Option (List ℕ)) (left : Held) (judgement : Judgement) → Appends old new (sampled_text found) → IfSome wanted.scripts (λ folder. AreKeptFrom left wanted.machine folder.now 1 found.ends.items)
+  pub all : (old new : Option (List ℕ)) (left : Contents) (judgement : Judgement) → Appends old new (sampled_text found) → IfSome wanted.scripts (λ folder. AreKeptFrom left wanted.machine folder.now 1 found.ends.items)
       → SparesOthers (IsInNamed wanted.scripts (IsOutcomeScript (length found.ends.items))) held left
       → IsJudged held wanted.allow (map (λ f. harts_text 0 (outcome_of f)) found.ends.items) judgement → (judgement ≡ Allowed → found.runs ≡ runs) → IsSampleTold held left wanted runs judgement old new
   all old new left judgement printed kept spares by whole = record {

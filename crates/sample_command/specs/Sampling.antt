@@ -2,7 +2,7 @@
 use Rattle.std.specs.Prelude.{◌≡◌, ℕ, ◌≤◌, IfSome, List, Option, length, map}
 use Rattle.std.specs.Io.KnownBytes.{Appends}
 use Rattle.command_files.specs.Files.{HoldsImage}
-use Rattle.command_files.specs.Held.{Held}
+use Rattle.command_files.specs.Contents.{Contents}
 use Rattle.command_files.specs.Sizes.{config_named}
 use Rattle.command_settings.specs.declared.wanted.Explore.{Explore}
 use Rattle.elf_loader.specs.Image.{Initial}
@@ -23,7 +23,7 @@ pub record AreRuns (image : Initial) (config : Config) (runs : ℕ) (found : Sam
   pub within : found.runs ≤ runs
 
 -- what runs of the image in the file came to was printed, its scripts are in the folder, if one was named, and each other file is as before, and it was judged by the file that says what is allowed; it is allowed only where all runs were made
-pub record IsSampleTold (held left : Held) (wanted : Explore) (runs : ℕ) (judgement : Judgement) (old new : Option (List ℕ)) : Type 0 where
+pub record IsSampleTold (held left : Contents) (wanted : Explore) (runs : ℕ) (judgement : Judgement) (old new : Option (List ℕ)) : Type 0 where
   pub image : Initial
   pub found : Sampled
   pub image_file : HoldsImage held wanted.raw wanted.image.now wanted.machine.memory image
@@ -35,7 +35,7 @@ pub record IsSampleTold (held left : Held) (wanted : Explore) (runs : ℕ) (judg
   pub whole : judgement ≡ Allowed → found.runs ≡ runs
 
 -- P holds of the text of what runs of the image in the file came to
-pub record SampleHas (held : Held) (wanted : Explore) (runs : ℕ) (P : List ℕ → Type 0) : Type 0 where
+pub record SampleHas (held : Contents) (wanted : Explore) (runs : ℕ) (P : List ℕ → Type 0) : Type 0 where
   pub image : Initial
   pub found : Sampled
   pub image_file : HoldsImage held wanted.raw wanted.image.now wanted.machine.memory image
@@ -43,7 +43,7 @@ pub record SampleHas (held : Held) (wanted : Explore) (runs : ℕ) (P : List ℕ
   pub of_text : P (sampled_text found)
 
 -- P holds of what is to be told of the ends that were printed, those of runs of the image in the file
-pub record SampleRefusals (held : Held) (wanted : Explore) (runs : ℕ) (old new : Option (List ℕ)) (P : List ℕ → Type 0) : Type 0 where
+pub record SampleRefusals (held : Contents) (wanted : Explore) (runs : ℕ) (old new : Option (List ℕ)) (P : List ℕ → Type 0) : Type 0 where
   pub image : Initial
   pub found : Sampled
   pub image_file : HoldsImage held wanted.raw wanted.image.now wanted.machine.memory image

@@ -5,8 +5,8 @@ use Rattle.std.specs.Map.{keys_of, lookup, values_of}
 use Rattle.std.proofs.lemmas.List.Sums.{count_by-le-length, sum_by-cons}
 use Rattle.elf_loader.specs.Image.{Initial}
 use Rattle.explorer.specs.declared.found.Found.{Found}
-use Rattle.explorer.specs.declared.found.Script.{Script}
-use Rattle.explorer.specs.declared.found.Script.TheVariants.{Events, Limit, NoMemory, Unrealised}
+use Rattle.explorer.specs.declared.found.Realisation.{Realisation}
+use Rattle.explorer.specs.declared.found.Realisation.TheVariants.{Events, Limit, NoMemory, Unrealised}
 use Rattle.explorer.specs.Ends.{outcome_of}
 use Rattle.explorer.specs.Orders.{same_outcome}
 use Rattle.explorer.specs.Ranks.{outcome_cmp}
@@ -101,7 +101,7 @@ end_counted image config counted after unended runs n end told are reached short
         ap (λ o. unwrap_or o 0) (updates found) ∙ (times_behind test (n + 1) _ ∙ ap (λ m. cond test (m + 1) (times_of found counted)) times)
 
     -- the run's own events are counted, and not those of the script that is told
-    go : (script : Script) → LeadsToEnd image config (outcome_of end) script → IsShort script → AreCounted image config after unended (runs + 1)
+    go : (script : Realisation) → LeadsToEnd image config (outcome_of end) script → IsShort script → AreCounted image config after unended (runs + 1)
     go (Events events) leads few =
         one_ended image config events.items (record { replays = leads.replays; moves = leads.moves; within = few }) counted unended runs are told after (ap all_ended leads.there ∙ reached.0) (leads.there ∙ sym alike) step
     go NoMemory leads few = absurd leads

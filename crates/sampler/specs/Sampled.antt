@@ -6,8 +6,8 @@ use Rattle.std.specs.Map.{keys_of, lookup, values_of}
 use Rattle.std.specs.Ordering.{is_eq, on}
 use Rattle.elf_loader.specs.Image.{Initial}
 use Rattle.explorer.specs.declared.found.Found.{Found}
-use Rattle.explorer.specs.declared.found.Script.{Script}
-use Rattle.explorer.specs.declared.found.Script.TheVariants.{Events}
+use Rattle.explorer.specs.declared.found.Realisation.{Realisation}
+use Rattle.explorer.specs.declared.found.Realisation.TheVariants.{Events}
 use Rattle.explorer.specs.Ends.{outcome_of}
 use Rattle.explorer.specs.Ranks.{outcome_cmp}
 use Rattle.flat_model.specs.Shown.{Result, results}
@@ -25,7 +25,7 @@ abbrev pub all_ended : List Result → Bool
 all_ended [] = true
 all_ended (r ∷ rs) = not (is_running r.status) && all_ended rs
 
-abbrev pub LeadsToEnd : Initial → Config → List Result → Script → Type 0
+abbrev pub LeadsToEnd : Initial → Config → List Result → Realisation → Type 0
 LeadsToEnd image config outcome (Events events) = LeadsThere image config (HasResults outcome) events.items
 LeadsToEnd image config outcome _ = ⊥
 
@@ -60,7 +60,7 @@ pub record IsSampledRun (image : Initial) (config : Config) (events : List Event
   pub within : length events ≤ most_events
 
 -- the script has no more events than a run tries
-abbrev pub IsShort : Script → Type 0
+abbrev pub IsShort : Realisation → Type 0
 IsShort (Events events) = length events.items ≤ most_events
 IsShort _ = ⊥
 

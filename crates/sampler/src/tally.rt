@@ -7,7 +7,7 @@ ghost use Rattle.sampler.specs.Sampled.{IsRealEnd, IsSampled, IsShort, IsTally, 
 ghost use Rattle.schedules.specs.Schedules.{EachMoves, Replays, led};
 
 use crate::sampled::Sampled;
-use explorer::{Found, Program, Script};
+use explorer::{Found, Program, Realisation};
 use flat_model::HartResult;
 use schedules::{HartResults, Schedule};
 use std::alloc::{AllocError, Global};
@@ -68,7 +68,7 @@ impl Tally {
         }
         let end = Found {
             harts: results,
-            script: Script::Events(events),
+            script: Realisation::Events(events),
         };
         self.count_end(program, end)
     }
@@ -147,9 +147,9 @@ fn kept(program: &Program<'_>, end: Found, is_new: bool) -> Found
 {
     let Found { harts, script } = end;
     let script = match script {
-        Script::Events(events) if is_new => {
+        Realisation::Events(events) if is_new => {
             let goal = HartResults { harts: &harts };
-            Script::Events(program.shortened(events, &goal))
+            Realisation::Events(program.shortened(events, &goal))
         }
         script => script,
     };

@@ -1,7 +1,7 @@
 -- What is known of a search that shows words of memory before it begins, and what its first faults say and leave.
 use Rattle.std.proofs.Common.{◌≡◌, ◌⊎◌, ℕ, List, Option, inl, inr, subst, sym}
 use Rattle.command_files.specs.Faults.{Name}
-use Rattle.command_files.specs.Held.{Held}
+use Rattle.command_files.specs.Contents.{Contents}
 use Rattle.command_files.specs.declared.fault.Fault.{Fault}
 use Rattle.command_files.specs.declared.fault.Fault.TheVariants.{CannotShow}
 use Rattle.command_files.specs.declared.fault.Unshown.{Unshown}
@@ -15,10 +15,10 @@ use Rattle.show_command.specs.Asking.{HasProgram, HasUnshown, IsAskingFault}
 use Rattle.show_command.specs.Targets.{AreAddressesOf, IsUnplaced, IsUnshown}
 use Rattle.word_explorer.specs.Words.{CanShowEach}
 
-module _ (held first : Held) (explore : Explore) (words : List Name) (image : Initial) (symbols : List Named) (same : first ≡ held)
+module _ (held first : Contents) (explore : Explore) (words : List Name) (image : Initial) (symbols : List Named) (same : first ≡ held)
     (file : HoldsNamedImage first explore.raw explore.image.now explore.machine.memory image symbols) where
   image_file : HoldsNamedImage held explore.raw explore.image.now explore.machine.memory image symbols
-  image_file = subst (λ (h : Held). HoldsNamedImage h explore.raw explore.image.now explore.machine.memory image symbols) same file
+  image_file = subst (λ (h : Contents). HoldsNamedImage h explore.raw explore.image.now explore.machine.memory image symbols) same file
 
   pub program : (addresses : List ℕ) → AreAddressesOf symbols words addresses → CanShowEach image addresses → HasProgram held explore words image addresses
   program addresses placed inside = record { symbols = symbols; image_file = image_file; placed = placed; inside = inside }
@@ -32,7 +32,7 @@ unplaced_is : (image : Initial) (symbols : List Named) (word : Name) (fault : Fa
 unplaced_is image symbols word fault (inl (none, is)) = (_, is)
 unplaced_is image symbols word fault (inr (place, at, never, is)) = (_, is)
 
-module _ (held : Held) (explore : Explore) (words : List Name) (fault : Fault) where
+module _ (held : Contents) (explore : Explore) (words : List Name) (fault : Fault) where
   pub asking_told : IsAskingFault held explore words fault → IsExploreFault held explore fault ⊎ HasUnshown held explore words fault
   asking_told (inl so) = inl (first_told held explore fault so)
   asking_told (inr so) = inr so

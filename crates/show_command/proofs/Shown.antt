@@ -4,7 +4,7 @@ use Rattle.std.proofs.lemmas.List.{append_assoc, length-drop, length-map, map-ap
 use Rattle.std.proofs.lemmas.List.Elements.{All-nil, All-push}
 use Rattle.std.specs.Io.KnownBytes.{Appends}
 use Rattle.command_files.specs.Faults.{Name}
-use Rattle.command_files.specs.Held.{Held}
+use Rattle.command_files.specs.Contents.{Contents}
 use Rattle.command_files.specs.Sizes.{config_named}
 use Rattle.command_files.specs.declared.fault.Fault.{Fault}
 use Rattle.command_settings.specs.declared.wanted.MachineOptions.{MachineOptions}
@@ -38,20 +38,20 @@ use Rattle.word_explorer.specs.Words.{CanShow}
 -- ---- what is allowed
 
 -- the judgement on the lines of ends, by the names that the words have
-pub judged_of : {X : Type 0} (ending : X → Ending) (held : Held) (allow : Option Name) (text : Option (List ℕ)) (names told : List WordName) (xs : List X) (judgement : Judgement) → names ≡ told → IsAllowFile held allow text
+pub judged_of : {X : Type 0} (ending : X → Ending) (held : Contents) (allow : Option Name) (text : Option (List ℕ)) (names told : List WordName) (xs : List X) (judgement : Judgement) → names ≡ told → IsAllowFile held allow text
     → judgement ≡ judgement_of_lines text (map (λ x. end_text names (ending x)) xs) → IsJudged held allow (map (λ x. end_text told (ending x)) xs) judgement
 judged_of ending held allow text names told xs judgement same read is =
     judged held allow text (map (λ x. end_text told (ending x)) xs) judgement read (is ∙ ap (λ (n : List WordName). judgement_of_lines text (map (λ x. end_text n (ending x)) xs)) same)
 
 -- what is to be told of the lines of ends
-pub told_of : {X : Type 0} (ending : X → Ending) (held : Held) (allow : Option Name) (text : Option (List ℕ)) (names told : List WordName) (xs : List X) (P : List ℕ → Type 0) → names ≡ told → IsAllowFile held allow text
+pub told_of : {X : Type 0} (ending : X → Ending) (held : Contents) (allow : Option Name) (text : Option (List ℕ)) (names told : List WordName) (xs : List X) (P : List ℕ → Type 0) → names ≡ told → IsAllowFile held allow text
     → P (refusals text (map (λ x. end_text names (ending x)) xs)) → HaveRefusals held allow (map (λ x. end_text told (ending x)) xs) P
 told_of ending held allow text names told xs P same read so =
     refusals_in held allow text (map (λ x. end_text told (ending x)) xs) P read (subst (λ (n : List WordName). P (refusals text (map (λ x. end_text n (ending x)) xs))) same so)
 
 -- ---- what was found
 
-module _ (held : Held) (show : Show) (config : Config) (image : Initial) (addresses : List ℕ) (words : List Name) (names : List WordName) (found : WordExploration) (config_is : config ≡ config_named show.explore.machine)
+module _ (held : Contents) (show : Show) (config : Config) (image : Initial) (addresses : List ℕ) (words : List Name) (names : List WordName) (found : WordExploration) (config_is : config ≡ config_named show.explore.machine)
     (words_are : words ≡ show.words.items) (program : HasProgram held show.explore words image addresses) (named : names ≡ names_of words) (is : IsFoundIn image config addresses show.explore.states found) where
   pub of_file : IsOfFile held show found
   of_file = record {
@@ -79,7 +79,7 @@ module _ (held : Held) (show : Show) (config : Config) (image : Initial) (addres
   }
 
   -- all of it was done
-  pub shown : (old new : Option (List ℕ)) (left : Held) (judgement : Judgement) (text : Option (List ℕ)) → Appends old new (words_text names found) → IfSome show.explore.scripts (λ folder. AreWordsKept left show.explore.machine folder.now found)
+  pub shown : (old new : Option (List ℕ)) (left : Contents) (judgement : Judgement) (text : Option (List ℕ)) → Appends old new (words_text names found) → IfSome show.explore.scripts (λ folder. AreWordsKept left show.explore.machine folder.now found)
       → SparesOthers (IsInNamed show.explore.scripts (IsScriptOf (length found.outcomes.items) found.stuck)) held left → IsAllowFile held show.explore.allow text
       → judgement ≡ judgement_of_lines text (map (λ f. end_text names (ending_of f)) found.outcomes.items) → (judgement ≡ Allowed → found.extent ≢ extent.OutOfMemory) → AreWordsShown held left show judgement old new
   shown old new left judgement text printed kept spares read by whole = record {
@@ -92,7 +92,7 @@ module _ (held : Held) (show : Show) (config : Config) (image : Initial) (addres
     whole = whole;
   }
 
-pub show_told : (held : Held) (show : Show) (fault : Fault) → IsExploreFault held show.explore fault ⊎ HasUnshown held show.explore show.words.items fault → IsShowFault held show fault
+pub show_told : (held : Contents) (show : Show) (fault : Fault) → IsExploreFault held show.explore fault ⊎ HasUnshown held show.explore show.words.items fault → IsShowFault held show fault
 show_told held show fault (inl so) = inl so
 show_told held show fault (inr so) = inr (inl so)
 
@@ -107,7 +107,7 @@ one_bare before left end bare all new whole popped is pushed so =
     ap (λ (xs : List Found). map bare_of left ++ xs) back ∙ (sym (append_assoc (map bare_of left) (bare ∷ []) (reverse all)) ∙ (ap (λ (xs : List Found). xs ++ reverse all) (sym front) ∙ so))
 
 -- scripts are kept as they are of the ends without words
-pub kept_bare : (left : Held) (machine : MachineOptions) (folder : List ℕ) (e : Exploration) (found : WordExploration) → e.outcomes.items ≡ map bare_of found.outcomes.items → e.stuck ≡ found.stuck
+pub kept_bare : (left : Contents) (machine : MachineOptions) (folder : List ℕ) (e : Exploration) (found : WordExploration) → e.outcomes.items ≡ map bare_of found.outcomes.items → e.stuck ≡ found.stuck
     → AreKept left machine folder e → AreWordsKept left machine folder found
 kept_bare left machine folder e found items stuck kept = (
   subst (AreKeptFrom left machine folder 1) items kept.0,
@@ -115,7 +115,7 @@ kept_bare left machine folder e found items stuck kept = (
 )
 
 -- and spare the same other files
-pub spared_bare : (held left : Held) (folder : List ℕ) (e : Exploration) (found : WordExploration) → e.outcomes.items ≡ map bare_of found.outcomes.items → e.stuck ≡ found.stuck
+pub spared_bare : (held left : Contents) (folder : List ℕ) (e : Exploration) (found : WordExploration) → e.outcomes.items ≡ map bare_of found.outcomes.items → e.stuck ≡ found.stuck
     → SparesOthers (IsScriptOf (length e.outcomes.items) e.stuck folder) held left → SparesOthers (IsScriptOf (length found.outcomes.items) found.stuck folder) held left
 spared_bare held left folder e found items stuck spares =
     let count : length e.outcomes.items ≡ length found.outcomes.items = ap (λ (xs : List Found). length xs) items ∙ length-map found.outcomes.items bare_of in

@@ -4,7 +4,7 @@ use Rattle.std.specs.Io.KnownBytes.{Appends}
 use Rattle.std.specs.List.Sorted.{IsStrictlySortedBy}
 use Rattle.std.specs.Ordering.{on}
 use Rattle.command_files.specs.Faults.{Name}
-use Rattle.command_files.specs.Held.{Held}
+use Rattle.command_files.specs.Contents.{Contents}
 use Rattle.command_files.specs.Sizes.{config_named}
 use Rattle.command_files.specs.declared.fault.Fault.{Fault}
 use Rattle.command_files.specs.declared.fault.Fault.TheVariants.{CannotShow}
@@ -47,14 +47,14 @@ pub record IsFoundIn (image : Initial) (config : Config) (addresses : List ℕ) 
   pub visited : (states : List Flat) × AreVisited image config addresses found states
 
 -- the exploration is of the image in the file, and the words lie where its symbols say
-pub record IsOfFile (held : Held) (show : Show) (exploration : WordExploration) : Type 0 where
+pub record IsOfFile (held : Contents) (show : Show) (exploration : WordExploration) : Type 0 where
   pub image : Initial
   pub addresses : List ℕ
   pub program : HasProgram held show.explore show.words.items image addresses
   pub found : IsFoundIn image (config_named show.explore.machine) addresses show.explore.states exploration
 
 -- what was found was printed, its scripts are in the folder, if one was named, and each other file is as before, and it was judged by the file that says what is allowed; it is allowed only where memory sufficed for all states, or for as many as were asked for
-pub record AreWordsShown (held left : Held) (show : Show) (judgement : Judgement) (old new : Option (List ℕ)) : Type 0 where
+pub record AreWordsShown (held left : Contents) (show : Show) (judgement : Judgement) (old new : Option (List ℕ)) : Type 0 where
   pub exploration : WordExploration
   pub of_file : IsOfFile held show exploration
   pub printed : Appends old new (words_text (names_of show.words.items) exploration)
@@ -64,13 +64,13 @@ pub record AreWordsShown (held left : Held) (show : Show) (judgement : Judgement
   pub whole : judgement ≡ Allowed → exploration.extent ≢ extent.OutOfMemory
 
 -- P holds of the text of what was found
-pub record WordsHave (held : Held) (show : Show) (P : List ℕ → Type 0) : Type 0 where
+pub record WordsHave (held : Contents) (show : Show) (P : List ℕ → Type 0) : Type 0 where
   pub exploration : WordExploration
   pub of_file : IsOfFile held show exploration
   pub of_text : P (words_text (names_of show.words.items) exploration)
 
 -- P holds of what is to be told of the outcomes that were printed
-pub record WordRefusals (held : Held) (show : Show) (old new : Option (List ℕ)) (P : List ℕ → Type 0) : Type 0 where
+pub record WordRefusals (held : Contents) (show : Show) (old new : Option (List ℕ)) (P : List ℕ → Type 0) : Type 0 where
   pub exploration : WordExploration
   pub of_file : IsOfFile held show exploration
   pub printed : Appends old new (words_text (names_of show.words.items) exploration)
@@ -88,7 +88,7 @@ IsFirstOf [] word = Unit {0}
 IsFirstOf (first ∷ rest) word = word ≡ first
 
 -- as an exploration has them; or words can't be shown, the first of which is told
-abbrev pub IsShowFault : Held → Show → Fault → Type 0
+abbrev pub IsShowFault : Contents → Show → Fault → Type 0
 IsShowFault held show fault =
     IsExploreFault held show.explore fault
     ⊎ (HasUnshown held show.explore show.words.items fault

@@ -5,7 +5,7 @@ use Rattle.chart_command.proofs.Told.{address_is_not_write, chart_misused, drawi
 use Rattle.command_files.proofs.Left.{handed_up, image_as_before, image_is_not_write, left, script_is_not_write, spoiled}
 use Rattle.command_files.proofs.Limits.{machine_within, memory_within}
 use Rattle.command_files.specs.Files.{HoldsImage}
-use Rattle.command_files.specs.Held.{Held}
+use Rattle.command_files.specs.Contents.{Contents}
 use Rattle.machine_types.specs.Config.{is_within_limits}
 use Rattle.chart_command.proofs.charting.chart_files.Goals as goal
 
@@ -41,7 +41,7 @@ returns-in_err-image-clause-told g c =
 pub returns-in-Err-clause-unfinished : goal.returns-in-Err-clause-unfinished
 returns-in-Err-clause-unfinished g c =
     left_by _ c.args.wanted c.args.line c.in_ok-script.script c.in_ok-image.image c.in_ok-address.address _ _ c.in-Err.error _ c.in_ok-script.ensures.script
-    (subst (λ (held : Held). HoldsImage held c.args.wanted.raw c.args.wanted.image.now c.in_ok-script.script.kib c.in_ok-image.image) c.in_ok-script.ensures.stays c.in_ok-image.ensures.image)
+    (subst (λ (held : Contents). HoldsImage held c.args.wanted.raw c.args.wanted.image.now c.in_ok-script.script.kib c.in_ok-image.image) c.in_ok-script.ensures.stays c.in_ok-image.ensures.image)
     c.in_ok-address.ensures.named
     (undrawn_at _ _ _ _ _ _ _ _ _ c.in-Err.error c.config_of-config.ensures c.as_slice-events.ensures c.in-Err.ensures.undrawn)
     c.fault_of-fault.ensures
@@ -55,7 +55,7 @@ returns-in-Err-clause-misused g c = λ two.
 pub returns-in-Err-clause-told : goal.returns-in-Err-clause-told
 returns-in-Err-clause-told g c =
     told_as _ c.args.wanted c.args.line c.in_ok-script.script c.in_ok-image.image c.in_ok-address.address _ _ _ c.in-Err.error _ c.in_ok-script.ensures.script
-    (subst (λ (held : Held). HoldsImage held c.args.wanted.raw c.args.wanted.image.now c.in_ok-script.script.kib c.in_ok-image.image) c.in_ok-script.ensures.stays c.in_ok-image.ensures.image)
+    (subst (λ (held : Contents). HoldsImage held c.args.wanted.raw c.args.wanted.image.now c.in_ok-script.script.kib c.in_ok-image.image) c.in_ok-script.ensures.stays c.in_ok-image.ensures.image)
     c.in_ok-address.ensures.named
     (λ at. false≢true (sym (c.write_chart-drawn.ensures.limits.0 (c.in-Err.is ∙ ap Err at)) ∙ (ap is_within_limits c.config_of-config.ensures ∙ machine_within c.in_ok-script.script c.args.wanted.model c.in_ok-script.ensures.script.is_script)))
     (undrawn_at _ _ _ _ _ _ _ _ _ c.in-Err.error c.config_of-config.ensures c.as_slice-events.ensures c.in-Err.ensures.undrawn)
@@ -68,7 +68,7 @@ returns-in-Ok-clause-charted g c = record {
   address = c.in_ok-address.address;
   script_file = c.in_ok-script.ensures.script;
   image_file =
-      subst (λ (held : Held). HoldsImage held c.args.wanted.raw c.args.wanted.image.now c.in_ok-script.script.kib c.in_ok-image.image)
+      subst (λ (held : Contents). HoldsImage held c.args.wanted.raw c.args.wanted.image.now c.in_ok-script.script.kib c.in_ok-image.image)
       c.in_ok-script.ensures.stays c.in_ok-image.ensures.image;
   only = c.in_ok-script.ensures.only;
   named = c.in_ok-address.ensures.named;
@@ -79,7 +79,7 @@ pub returns-clause-unfinished : goal.returns-clause-unfinished
 returns-clause-unfinished g c =
     spoiled _ _ _ _ c.writing.ensures.told
     (stopped _ c.args.wanted c.args.line c.in_ok-script.script c.in_ok-image.image c.in_ok-address.address _ _ c.in_ok-script.ensures.script
-    (subst (λ (held : Held). HoldsImage held c.args.wanted.raw c.args.wanted.image.now c.in_ok-script.script.kib c.in_ok-image.image) c.in_ok-script.ensures.stays c.in_ok-image.ensures.image)
+    (subst (λ (held : Contents). HoldsImage held c.args.wanted.raw c.args.wanted.image.now c.in_ok-script.script.kib c.in_ok-image.image) c.in_ok-script.ensures.stays c.in_ok-image.ensures.image)
     c.in_ok-address.ensures.named
     (begun_at _ _ _ _ _ _ _ _ _ c.config_of-config.ensures c.as_slice-events.ensures (drawn_begun _ _ _ _ _ _ _ _ c.flush.ensures.bytes c.in_default.ensures.drawn)))
 

@@ -3,7 +3,7 @@ use Rattle.clap.specs.Words.{Text, kind_of}
 use Rattle.clap.specs.declared.error.Error.{Error}
 use Rattle.clap.specs.declared.error.kind.ErrorKind.{ErrorKind}
 use Rattle.clap.specs.declared.error.kind.ErrorKind.TheVariants.{ArgumentConflict, DisplayHelp, DisplayVersion}
-use Rattle.command_files.specs.Held.{Held}
+use Rattle.command_files.specs.Contents.{Contents}
 use Rattle.command_line.proofs.Leaving.{either_of, not_both}
 use Rattle.command_line.proofs.Meant.{misused_early, some_states}
 use Rattle.command_line.specs.Running.{AreMisused, Came, HasNamed, HasNoted, IsHalfPrinted, IsCarriedOut, IsNotLegal, IsNoted, IsOutOfRange, IsUnprinted}
@@ -42,7 +42,7 @@ well_used : (wanted : Settings) → (AreConflicting wanted → ⊥) → ¬ IsOut
 well_used wanted agreeing inside (inl conflict) = agreeing conflict
 well_used wanted agreeing inside (inr outside) = inside outside
 
-stopped : (words : List Text) (held left : Held) (old new : Option (List ℕ)) (wanted : Settings) → IsNamed words wanted → IsFitting words → (new ≡ old) ⊎ IsHalfPrinted held left old new wanted
+stopped : (words : List Text) (held left : Contents) (old new : Option (List ℕ)) (wanted : Settings) → IsNamed words wanted → IsFitting words → (new ≡ old) ⊎ IsHalfPrinted held left old new wanted
     → IsUnprinted words held left old new
 unfolding IsUnprinted
 stopped words held left old new wanted named fitting so = elim so [

@@ -3,7 +3,7 @@ use Rattle.std.proofs.lemmas.Bool.{false≢true}
 use Rattle.event_stream.specs.declared.errors.StreamError.TheVariants as stream
 use Rattle.machine_types.specs.Config.{is_within_limits}
 use Rattle.explain_command.specs.Named.{HoldsNamedImage}
-use Rattle.command_files.specs.Held.{Held}
+use Rattle.command_files.specs.Contents.{Contents}
 use Rattle.command_files.proofs.Left.{handed_up, image_as_before}
 use Rattle.explain_command.proofs.Told.{image_left, of_explained_image, of_explained_script, script_left}
 use Rattle.command_files.proofs.Limits.{machine_within, memory_within}
@@ -39,7 +39,7 @@ returns-in-Ok-clause-explained g c = record {
   names = c.in_ok-named.named.names;
   script_file = c.in_ok-script.ensures.script;
   image_file =
-      subst (λ (held : Held). HoldsNamedImage held c.args.wanted.raw c.args.wanted.image.now c.in_ok-script.script.kib c.in_ok-named.named.image c.in_ok-named.named.names)
+      subst (λ (held : Contents). HoldsNamedImage held c.args.wanted.raw c.args.wanted.image.now c.in_ok-script.script.kib c.in_ok-named.named.image c.in_ok-named.named.names)
       c.in_ok-script.ensures.stays c.in_ok-named.ensures.image;
   only = c.in_ok-script.ensures.only;
   whole = whole_at c.in_ok-named.named.names _ _ _ _ _ _ _ _ _ _ c.config_of-config.ensures c.as_slice-events.ensures c.flush.ensures.bytes c.in-Ok.ensures.whole;
@@ -57,7 +57,7 @@ returns-in-Err-clause-unfinished g c =
       error = part.0;
       script_file = c.in_ok-script.ensures.script;
       image_file =
-          subst (λ (held : Held). HoldsNamedImage held c.args.wanted.raw c.args.wanted.image.now c.in_ok-script.script.kib c.in_ok-named.named.image c.in_ok-named.named.names)
+          subst (λ (held : Contents). HoldsNamedImage held c.args.wanted.raw c.args.wanted.image.now c.in_ok-script.script.kib c.in_ok-named.named.image c.in_ok-named.named.names)
           c.in_ok-script.ensures.stays c.in_ok-named.ensures.image;
       part = part_at c.in_ok-named.named.names _ _ _ _ _ _ _ _ _ _ c.config_of-config.ensures c.as_slice-events.ensures part.1;
     })
@@ -73,7 +73,7 @@ returns-clause-unfinished g c = cut_left _ _ _ _ c.in-Err-told.error _ (λ at. f
   error = c.in-Err-told.error;
   script_file = c.in_ok-script.ensures.script;
   image_file =
-      subst (λ (held : Held). HoldsNamedImage held c.args.wanted.raw c.args.wanted.image.now c.in_ok-script.script.kib c.in_ok-named.named.image c.in_ok-named.named.names)
+      subst (λ (held : Contents). HoldsNamedImage held c.args.wanted.raw c.args.wanted.image.now c.in_ok-script.script.kib c.in_ok-named.named.image c.in_ok-named.named.names)
       c.in_ok-script.ensures.stays c.in_ok-named.ensures.image;
   part = part_at c.in_ok-named.named.names _ _ _ _ _ _ _ _ _ _ c.config_of-config.ensures c.as_slice-events.ensures
       (part_on c.in_ok-named.named.names c.args.strictness c.args.with_state c.in_ok-named.named.image c.config_of-config.result c.as_slice-events.result.now (g.O.Write.contents c.args.out.now) (g.O.Write.contents c.tell-told.new.out)
@@ -83,7 +83,7 @@ returns-clause-unfinished g c = cut_left _ _ _ _ c.in-Err-told.error _ (λ at. f
 pub returns-clause-told : goal.returns-clause-told
 returns-clause-told g c =
     told_as c.in_ok-named.named.names _ c.args.wanted c.args.strictness c.args.with_state c.in_ok-script.script c.in_ok-named.named.image _ _ c.in-Err-told.error _ c.in_ok-script.ensures.script
-    (subst (λ (held : Held). HoldsNamedImage held c.args.wanted.raw c.args.wanted.image.now c.in_ok-script.script.kib c.in_ok-named.named.image c.in_ok-named.named.names) c.in_ok-script.ensures.stays c.in_ok-named.ensures.image)
+    (subst (λ (held : Contents). HoldsNamedImage held c.args.wanted.raw c.args.wanted.image.now c.in_ok-script.script.kib c.in_ok-named.named.image c.in_ok-named.named.names) c.in_ok-script.ensures.stays c.in_ok-named.ensures.image)
     (λ at. false≢true (sym (c.in-Err-told.ensures.limits at) ∙ (ap is_within_limits c.config_of-config.ensures ∙ machine_within c.in_ok-script.script c.args.wanted.model c.in_ok-script.ensures.script.is_script)))
     (part_at c.in_ok-named.named.names _ _ _ _ _ _ _ _ _ _ c.config_of-config.ensures c.as_slice-events.ensures
     (part_on c.in_ok-named.named.names c.args.strictness c.args.with_state c.in_ok-named.named.image c.config_of-config.result c.as_slice-events.result.now (g.O.Write.contents c.args.out.now) (g.O.Write.contents c.tell-told.new.out)

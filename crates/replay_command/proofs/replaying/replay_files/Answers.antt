@@ -19,7 +19,7 @@ use Rattle.machine_model.specs.Views.{opening}
 use Rattle.machine_parts.specs.declared.errors.ApplyError.{ApplyError}
 use Rattle.trace_text.specs.declared.script.Script.{Script}
 use Rattle.command_files.specs.Files.{HoldsImage, HoldsScript}
-use Rattle.command_files.specs.Held.{Held}
+use Rattle.command_files.specs.Contents.{Contents}
 use Rattle.command_files.proofs.Ended.{ends_begun}
 use Rattle.command_files.proofs.Left.{handed_up, image_as_before, image_is_not_write, left, script_is_not_write, spoiled}
 use Rattle.replay_command.proofs.Told.{of_image, of_script}
@@ -28,7 +28,7 @@ use Rattle.command_files.proofs.Written.{all_begun, kept_on}
 use Rattle.replay_command.proofs.replaying.replay_files.Goals as goal
 
 -- what a refused replay is told as
-told_of : {T : Type 0} (held : Held) (replay : Replay) (script : Script) (image : Initial) (r : Result T CompositionError) (refusal : ReplayError) (fault : Fault)
+told_of : {T : Type 0} (held : Contents) (replay : Replay) (script : Script) (image : Initial) (r : Result T CompositionError) (refusal : ReplayError) (fault : Fault)
     → HoldsScript held replay.script.now script → HoldsImage held replay.raw replay.image.now script.kib image
     → (r ≡ Err (composition.Replay (New Config)) → is_within_limits (config_of script replay.model) ≡ false) → r ≡ Err (composition.Replay refusal)
     → IsFirstRefusal (opening image (config_of script replay.model)) script.events refusal
@@ -64,7 +64,7 @@ no_write replay refusal fault told at = elim told [
   ]
 ]
 
-either_told : (held : Held) (replay : Replay) (fault : Fault) → (fault ≡ CannotWrite) ⊎ (fault ≡ OutOfMemory) → IsReplayFault held replay fault
+either_told : (held : Contents) (replay : Replay) (fault : Fault) → (fault ≡ CannotWrite) ⊎ (fault ≡ OutOfMemory) → IsReplayFault held replay fault
 either_told held replay fault is = elim is [
   | inl at ↦ subst (IsReplayFault held replay) (sym at) tt
   | inr at ↦ subst (IsReplayFault held replay) (sym at) tt
@@ -79,7 +79,7 @@ returns-clause-replayed g c =
       reached = c.in-Ok.machine;
       script_file = c.in_ok-script.ensures.script;
       image_file =
-          subst (λ (held : Held). HoldsImage held c.args.wanted.raw c.args.wanted.image.now c.in_ok-script.script.kib c.in_ok-image.image)
+          subst (λ (held : Contents). HoldsImage held c.args.wanted.raw c.args.wanted.image.now c.in_ok-script.script.kib c.in_ok-image.image)
           c.in_ok-script.ensures.stays c.in_ok-image.ensures.image;
       only = c.in_ok-script.ensures.only;
       composed = record {
@@ -101,7 +101,7 @@ returns-clause-ends g c =
       reached = machine;
       script_file = c.in_ok-script.ensures.script;
       image_file =
-          subst (λ (held : Held). HoldsImage held c.args.wanted.raw c.args.wanted.image.now c.in_ok-script.script.kib c.in_ok-image.image)
+          subst (λ (held : Contents). HoldsImage held c.args.wanted.raw c.args.wanted.image.now c.in_ok-script.script.kib c.in_ok-image.image)
           c.in_ok-script.ensures.stays c.in_ok-image.ensures.image;
       replayed = c.in-Ok.ensures.written.replayed;
       begun = ends_begun (g.E.Write.contents c.args.err.now) (g.E.Write.contents c.print_ends.new.err) machine _ c.statuses.result.now _ c.print_ends.result c.statuses.ensures told.ensures.trace (ap (map (λ output. output.items)) c.as_slice.ensures.value ∙ told.ensures.outputs) c.print_ends.ensures;
@@ -136,7 +136,7 @@ returns-in-Err-Replay-clause-unfinished g c =
 pub returns-in-Err-Replay-clause-told : goal.returns-in-Err-Replay-clause-told
 returns-in-Err-Replay-clause-told g c =
     told_of _ c.args.wanted c.in_ok-script.script c.in_ok-image.image c.replay_and_write.result c.in-Err-Replay.error _ c.in_ok-script.ensures.script
-    (subst (λ (held : Held). HoldsImage held c.args.wanted.raw c.args.wanted.image.now c.in_ok-script.script.kib c.in_ok-image.image) c.in_ok-script.ensures.stays c.in_ok-image.ensures.image)
+    (subst (λ (held : Contents). HoldsImage held c.args.wanted.raw c.args.wanted.image.now c.in_ok-script.script.kib c.in_ok-image.image) c.in_ok-script.ensures.stays c.in_ok-image.ensures.image)
     c.replay_and_write.ensures.limits.0 (c.in-Err-Replay.is ∙ ap Err c.in-Err-Replay.field-0-is) (rw c.in-Err-Replay.field-0-is at c.in-Err-Replay.ensures.unfinished).1
     c.replay-fault.ensures.told c.replay-fault.ensures.configuration
 
@@ -150,7 +150,7 @@ returns-in-Err-clause-unfinished g c =
       reached = c.in-Ok.machine;
       script_file = c.in_ok-script.ensures.script;
       image_file =
-          subst (λ (held : Held). HoldsImage held c.args.wanted.raw c.args.wanted.image.now c.in_ok-script.script.kib c.in_ok-image.image)
+          subst (λ (held : Contents). HoldsImage held c.args.wanted.raw c.args.wanted.image.now c.in_ok-script.script.kib c.in_ok-image.image)
           c.in_ok-script.ensures.stays c.in_ok-image.ensures.image;
       replayed = composed.replayed;
       begun = all_begun _ _ _ _ composed.printed c.flush.ensures.bytes;

@@ -1,7 +1,7 @@
 use Rattle.std.proofs.Common.{◌≡◌, ◌∙◌, ◌⊎◌, ◌≤◌, ℕ, List, Option, ap, arith, inl, inr, length, map, subst, sym, true}
 use Rattle.command_files.specs.Sizes.{config_of, config_named, script_named}
 use Rattle.command_files.specs.Files.{HoldsImage}
-use Rattle.command_files.specs.Held.{Held, HoldsBytes}
+use Rattle.command_files.specs.Contents.{Contents, HoldsBytes}
 use Rattle.run_command.specs.Running.{ComesBeforeJournal, IsJournalled, IsRunFault}
 use Rattle.host_threads.specs.Replays.{end_of_journal}
 use Rattle.command_files.specs.declared.fault.Fault.{Fault}
@@ -28,7 +28,7 @@ use Rattle.command_files.proofs.Limits.{script_within}
 use Rattle.command_files.proofs.Replays.{leads_there, readable}
 use Rattle.run_command.proofs.running.run_files.Goals as goal
 
-kept : (held left : Held) (run : Run) (config : Config) (image : Initial) (script : Script) (events : List Event) → script ≡ script_named run.machine events → config ≡ config_named run.machine
+kept : (held left : Contents) (run : Run) (config : Config) (image : Initial) (script : Script) (events : List Event) → script ≡ script_named run.machine events → config ≡ config_named run.machine
     → is_within_limits config ≡ true → IsMemoryKib run.machine.memory → HoldsImage held run.raw run.image.now run.machine.memory image → AllByRecursion IsEvent script.events
     → HoldsBytes left run.journal.now (script_text script) → length events ≤ run.limit → IsJournalled held left run image script
 kept held left run config image script events script_is config_is within sized image_file spelt bytes few =
@@ -54,7 +54,7 @@ printed_same old new t u same is = subst (λ (h : History). Appends old new (tex
 begun_same : (old new : Option (List ℕ)) (t u : History) → t ≡ u → Begins old new (text t) → Begins old new (text u)
 begun_same old new t u same is = subst (λ (h : History). Begins old new (text h)) same is
 
-either_told : (held : Held) (run : Run) (fault : Fault) → (fault ≡ CannotWrite) ⊎ (fault ≡ OutOfMemory) → IsRunFault held run fault
+either_told : (held : Contents) (run : Run) (fault : Fault) → (fault ≡ CannotWrite) ⊎ (fault ≡ OutOfMemory) → IsRunFault held run fault
 either_told held run fault is = elim is [
   | inl at ↦ subst (IsRunFault held run) (sym at) tt
   | inr at ↦ subst (IsRunFault held run) (sym at) tt
@@ -97,7 +97,7 @@ returns-in_err-print-clause-unfinished g c =
     }))
 
 pub returns-in_err-print-clause-spared : goal.returns-in_err-print-clause-spared
-returns-in_err-print-clause-spared g c = λ other another. c.keep.ensures.others other another ∙ ap (λ (h : Held). h other) c.in_ok-image.ensures.stays
+returns-in_err-print-clause-spared g c = λ other another. c.keep.ensures.others other another ∙ ap (λ (h : Contents). h other) c.in_ok-image.ensures.stays
 
 pub returns-clause-ran : goal.returns-clause-ran
 returns-clause-ran g c =
@@ -142,7 +142,7 @@ returns-clause-ends g c =
     }
 
 pub returns-clause-spared : goal.returns-clause-spared
-returns-clause-spared g c = λ other another. c.keep.ensures.others other another ∙ ap (λ (h : Held). h other) c.in_ok-image.ensures.stays
+returns-clause-spared g c = λ other another. c.keep.ensures.others other another ∙ ap (λ (h : Contents). h other) c.in_ok-image.ensures.stays
 
 pub returns-in_err-print-clause-untouched : goal.returns-in_err-print-clause-untouched
 returns-in_err-print-clause-untouched g c =

@@ -1,13 +1,13 @@
 use Rattle.std.proofs.Common.{rules, ◌∙◌, ap, sym}
 use Rattle.machine_model.specs.Views.{State}
-use Rattle.locked_fabric.specs.Held.{Held}
+use Rattle.locked_fabric.specs.FabricState.{FabricState}
 use Rattle.locked_fabric.proofs.Answering.{answered_still, moves, still}
 use Rattle.locked_fabric.proofs.Kept.{kept_moved, kept_still}
 use Rattle.locked_fabric.proofs.fabric.Fabric.apply.Goals as goal
 
 pub invariant_of-self-then-changes : goal.invariant_of-self-then-changes
 invariant_of-self-then-changes g c =
-    let was : Held = record { machine = c.self.inside.machine; journal = c.self.inside.journal.items; book = c.self.inside.book.total } in
+    let was : FabricState = record { machine = c.self.inside.machine; journal = c.self.inside.journal.items; book = c.self.inside.book.total } in
     let after = c.changes.ensures ∙ ap (λ (s : State). s.views.changes) c.views-2.ensures in
     let before = c.changes-changes.ensures ∙ ap (λ (s : State). s.views.changes) c.views.ensures in
     let is = moves was.machine c.args.event c.in_ok-outcome.outcome c.apply.new.self c.in_ok-outcome.ensures.answers (λ same. c.if-changes.true (after ∙ same ∙ sym before)) in (
@@ -21,7 +21,7 @@ invariant_of-self-then-changes g c =
 
 pub invariant_of-self-else-changes : goal.invariant_of-self-else-changes
 invariant_of-self-else-changes g c =
-    let was : Held = record { machine = c.self.inside.machine; journal = c.self.inside.journal.items; book = c.self.inside.book.total } in
+    let was : FabricState = record { machine = c.self.inside.machine; journal = c.self.inside.journal.items; book = c.self.inside.book.total } in
     let after = c.changes.ensures ∙ ap (λ (s : State). s.views.changes) c.views-2.ensures in
     let before = c.changes-changes.ensures ∙ ap (λ (s : State). s.views.changes) c.views.ensures in
     let is = still c.changes_are_counted.ensures was.machine c.args.event c.in_ok-outcome.outcome c.apply.new.self c.in_ok-outcome.ensures.answers (sym after ∙ c.if-changes.false ∙ before) in (
@@ -34,7 +34,7 @@ invariant_of-self-else-changes g c =
 
 pub returns-else-changes-clause-answers : goal.returns-else-changes-clause-answers
 returns-else-changes-clause-answers g c =
-    let was : Held = record { machine = c.self.inside.machine; journal = c.self.inside.journal.items; book = c.self.inside.book.total } in
+    let was : FabricState = record { machine = c.self.inside.machine; journal = c.self.inside.journal.items; book = c.self.inside.book.total } in
     let after = c.changes.ensures ∙ ap (λ (s : State). s.views.changes) c.views-2.ensures in
     let before = c.changes-changes.ensures ∙ ap (λ (s : State). s.views.changes) c.views.ensures in
     rw (← c.self.view_is, c.reserve.ensures.items)

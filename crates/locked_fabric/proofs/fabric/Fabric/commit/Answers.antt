@@ -1,12 +1,12 @@
 use Rattle.std.proofs.Common.{rules}
 use Rattle.coherent_machine.specs.Adopting.{local_of}
-use Rattle.locked_fabric.specs.Held.{Held}
+use Rattle.locked_fabric.specs.FabricState.{FabricState}
 use Rattle.locked_fabric.proofs.Kept.{kept_moved}
 use Rattle.locked_fabric.proofs.fabric.Fabric.commit.Goals as goal
 
 pub invariant_of-self-2 : goal.invariant_of-self-2
 invariant_of-self-2 g c =
-    let was : Held = record { machine = c.self.inside.machine; journal = c.self.inside.journal.items; book = c.self.inside.book.total } in (
+    let was : FabricState = record { machine = c.self.inside.machine; journal = c.self.inside.journal.items; book = c.self.inside.book.total } in (
       rw (c.push_reserved.ensures.items, c.reserve.ensures.items, c.add.ensures.book, c.first.ensures.first, c.entries.ensures.entries)
           (kept_moved c.changes_are_counted.ensures was (local_of c.args.batch.now.first.id c.args.batch.now) c.in_ok-outcome.outcome c.adopt.new.self
           (rw c.first.ensures.first at c.in_ok-outcome.ensures.retired).0

@@ -1,7 +1,7 @@
 use Rattle.std.proofs.Common.{◌≡◌, ap, rules, subst}
 use Rattle.std.proofs.lemmas.Result.{on_ok_weaker}
 use Rattle.machine_model.specs.Views.{State}
-use Rattle.locked_fabric.specs.Held.{Held}
+use Rattle.locked_fabric.specs.FabricState.{FabricState}
 use Rattle.locked_fabric.proofs.port.Port.commit.Goals as goal
 
 pub returns-clause-answers : goal.returns-clause-answers
@@ -32,5 +32,5 @@ returns-clause-journalled g c =
     on_ok_weaker c.commit-committed.result (λ is. (
       c.commit-committed.new.self,
       after.left,
-      (c.deref_mut.result.now.journal, ap (λ (held : Held). held.journal) is),
+      (c.deref_mut.result.now.journal, ap (λ (held : FabricState). held.journal) is),
     )) after.ok

@@ -3,8 +3,8 @@ use Rattle.std.specs.Prelude.{◌≡◌, ◌++◌, ℕ, ◌==◌, false, List, O
 use Rattle.std.specs.List.{list_any}
 
 -- the bytes of the file of each name, where they are known
-abbrev pub Held : Type 0
-Held = List ℕ → Option (List ℕ)
+abbrev pub Contents : Type 0
+Contents = List ℕ → Option (List ℕ)
 
 -- a reader of the file still has all of it to read
 abbrev pub IsUnread : Option (List ℕ) → Option (List ℕ) → Type 0
@@ -12,9 +12,9 @@ IsUnread None left = Unit {0}
 IsUnread (Some bytes) left = left ≡ Some bytes
 
 -- a file of these bytes, where they are known
-abbrev pub HoldsBytes : Held → List ℕ → List ℕ → Type 0
+abbrev pub HoldsBytes : Contents → List ℕ → List ℕ → Type 0
 HoldsBytes held name bytes = IfSome (held name) (λ known. known ≡ bytes)
 
 -- no line ends in the first 65536 bytes of the file, where they are known
-abbrev pub HasLongFirstLine : Held → List ℕ → Type 0
+abbrev pub HasLongFirstLine : Contents → List ℕ → Type 0
 HasLongFirstLine held name = IfSome (held name) (λ known. (first : List ℕ) × (rest : List ℕ) × (known ≡ first ++ rest) × (length first ≡ 65536) × (list_any (λ byte. byte == 10) first ≡ false))
