@@ -2,7 +2,6 @@
 ghost use Rattle.std.specs.Prelude.{◌≡◌, ◌+◌, ◌<◌, ◌≤◌, ◌∷◌, ◌++◌, [], codes, length};
 ghost use Rattle.coherent_machine.specs.Machine.{IsReached};
 ghost use Rattle.event_stream.specs.Closing as closing;
-ghost use Rattle.machine_limits.specs.declared.TheConstants.{MAX_HARTS};
 ghost use Rattle.text_fields.specs.Fields.{numbered};
 ghost use Rattle.text_fields.specs.Pages.{HasLineRoom, Spells, size};
 ghost use Rattle.trace_text.specs.Traces.{status_ended};
@@ -39,7 +38,7 @@ pub(crate) fn reason(code: u8) -> &'static str
 
 fn error_name(error: ApplyError) -> &'static str
     ensures value { result.now ≡ closing.error_name error }
-    ensures len { length result.now ≤ MAX_HARTS }
+    ensures len { length result.now ≤ 8 }
 {
     match error {
         ApplyError::BadEvent => "BadEvent",

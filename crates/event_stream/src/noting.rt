@@ -3,7 +3,6 @@ ghost use Rattle.std.specs.Prelude.{◌≡◌, ◌+◌, ◌<◌, ◌≤◌, ◌+
 ghost use Rattle.directory.specs.Directory.{line_at};
 ghost use Rattle.directory.specs.Lines.{known_at};
 ghost use Rattle.event_stream.specs.Noted as noted;
-ghost use Rattle.machine_limits.specs.declared.TheConstants.{MAX_HARTS};
 ghost use Rattle.text_fields.specs.Pages.{HasLineRoom, Spells, size};
 ghost use Rattle.trace_text.specs.Words as words;
 
@@ -16,7 +15,7 @@ use tl_types::{Grow, Perm};
 
 fn perm_name(perm: Perm) -> &'static [u8]
     ensures value { result.now ≡ noted.perm_name perm }
-    ensures len { length result.now ≤ MAX_HARTS }
+    ensures len { length result.now ≤ 8 }
 {
     match perm {
         Perm::Nothing => b" Nothing",

@@ -131,7 +131,12 @@ impl<'a> Folder<'a> {
     }
 
     /// Writes the file of this path, if there are events to write.
-    fn keep_at<F: Files>(&self, files: &mut F, path: &str, way: &Realisation) -> Result<(), Fault<'a>>
+    fn keep_at<F: Files>(
+        &self,
+        files: &mut F,
+        path: &str,
+        way: &Realisation,
+    ) -> Result<(), Fault<'a>>
         requires within { is_within_limits (config_named self.now.machine) ≡ true }
         requires memory { IsMemoryKib self.now.machine.memory }
         ensures kept { OnOk result (IsKeptAt (F.held files.new) self.now.machine path.now way.now) }
@@ -141,7 +146,9 @@ impl<'a> Folder<'a> {
         match way {
             Realisation::Events(events) => self.write(files, path, events),
             Realisation::NoMemory => Err(Fault::OutOfMemory),
-            Realisation::Limit | Realisation::Unrealised => Err(Fault::CannotMake { file: self.name }),
+            Realisation::Limit | Realisation::Unrealised => Err(Fault::CannotMake {
+                file: self.name,
+            }),
         }
     }
 

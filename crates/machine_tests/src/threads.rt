@@ -247,7 +247,13 @@ fn two_harts_meet(rt: HostRuntime) -> Result<(), Fail> {
         seen: [AtomicBool::new(false), AtomicBool::new(false)],
         has_failed: AtomicBool::new(false),
     };
-    let report = ran_and_replayed(&rt, &STORE_BUFFERING, config_of(2, LineSize::Bytes16), LIMIT, &meeting)?;
+    let report = ran_and_replayed(
+        &rt,
+        &STORE_BUFFERING,
+        config_of(2, LineSize::Bytes16),
+        LIMIT,
+        &meeting,
+    )?;
     same(&rt, meeting.has_failed.load(Ordering::SeqCst), false);
     let ends = [Status::Exited(0), Status::Exited(1)];
     same(&rt, report.trace.statuses(), &ends);
@@ -314,7 +320,13 @@ fn has_seen_lengths(progress: &Progress, trace: &Trace) -> bool {
 #[test]
 fn row_25_of_lengths(rt: HostRuntime) -> Result<(), Fail> {
     let progress = Progress::new();
-    let report = ran(&rt, &HUNDRED, config_of(2, LineSize::Bytes16), LIMIT, &progress)?;
+    let report = ran(
+        &rt,
+        &HUNDRED,
+        config_of(2, LineSize::Bytes16),
+        LIMIT,
+        &progress,
+    )?;
     same(&rt, has_seen_lengths(&progress, &report.trace), true);
     Ok(())
 }
@@ -358,7 +370,13 @@ fn a_limit_of_one_allows_one_event(rt: HostRuntime) -> Result<(), Fail> {
 
 #[test]
 fn a_hart_spins_while_another_exits(rt: HostRuntime) -> Result<(), Fail> {
-    let report = ran_and_replayed(&rt, &ONE_EXITS, config_of(2, LineSize::Bytes16), 1000, &Open)?;
+    let report = ran_and_replayed(
+        &rt,
+        &ONE_EXITS,
+        config_of(2, LineSize::Bytes16),
+        1000,
+        &Open,
+    )?;
     same(&rt, report.trace.statuses().len(), 2);
     let last = report.trace.statuses().last().copied();
     same(&rt, last, Some(Status::Running));
@@ -441,7 +459,14 @@ fn a_bad_event_ends_all_threads(rt: HostRuntime) -> Result<(), Fail> {
 fn a_bad_configuration_is_told(rt: HostRuntime) -> Result<(), Fail> {
     is_refused(&rt, &EXIT, 2, &[STEP], RunError::Config)?;
     let image = image_of(rt.alloc(), &EXIT)?;
-    let answer = run(&rt, rt.alloc(), image, config_of(9, LineSize::Bytes16), LIMIT, &Open);
+    let answer = run(
+        &rt,
+        rt.alloc(),
+        image,
+        config_of(9, LineSize::Bytes16),
+        LIMIT,
+        &Open,
+    );
     same(&rt, answer.err().map(|error| error.number()), Some(1));
     Ok(())
 }

@@ -1,7 +1,7 @@
 //! The plain flat machine beside the machine, on a stream of events.
 
-use super::pair::image_of_words;
 use super::WORD;
+use super::pair::image_of_words;
 use crate::numbers::Numbers;
 use anyhow::{Result, bail, ensure};
 use flat_lockstep::{Counts, Failures, Lockstep};
