@@ -32,7 +32,7 @@ use Rattle.window_machine.specs.declared.left_out.Reach.TheVariants as reach
 use Rattle.word_explorer.specs.Orders.{ending_cmp}
 
 -- what is said to show an outcome does; where the machine's own search is complete, each of its outcomes is told as one of the machine, and each other as the model's alone;
--- the search under the model finds no state only where a hart never comes from reset to an access or its end, or says that it left out more; each search finds no more states than the limit, and says where it met it;
+-- the search under the model finds no state only where a hart never comes from reset to an access or its end, or says that it left out more; the machine's search finds no more states than the limit, and says where it met it; the model's finds no more, unless it says that it met a limit or that memory ended;
 -- the outcomes stand in their order, each once; unless memory ended the machine's search, each end among its states is told as the machine's; the window told is the one asked for, 64 where that is more
 pub record IsFoundUnder (image : Initial) (config : Config) (addresses : List ℕ) (window limit : ℕ) (found : Architecture) : Type 0 where
   pub shown : All (IsWitnessed image config addresses) found.outcomes.items

@@ -12,7 +12,7 @@ ghost use Rattle.machine_types.specs.Config.{is_within_limits};
 ghost use Rattle.trace_text.specs.TraceLimits.{IsTrace};
 
 use architecture_outcomes::{Outcome, Way};
-use command_files::{Fault, Files};
+use command_files::{Fault, Files, unmade};
 use explore_command::Folder;
 use explorer::Realisation;
 use std::alloc::AllocError;
@@ -98,6 +98,6 @@ fn put_trace<'a, F: Files>(
     }
     match files.write(path, bytes.as_slice()) {
         Ok(()) => Ok(()),
-        Err(error) => Err(Fault::making(folder.name, error)),
+        Err(error) => Err(unmade(folder.alloc, files, folder.name, error)),
     }
 }

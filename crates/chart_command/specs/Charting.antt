@@ -8,7 +8,7 @@ use Rattle.command_files.specs.Faults.{IsReplayFault, Name}
 use Rattle.command_files.specs.Files.{HoldsImage, HoldsScript, IsTheScriptIn}
 use Rattle.command_files.specs.Contents.{Contents}
 use Rattle.command_files.specs.Sizes.{config_of}
-use Rattle.command_files.specs.Status.{IsOutOfMemory, line_at}
+use Rattle.command_files.specs.Status.{IsOutOfMemory, script_line_of}
 use Rattle.command_files.specs.declared.fault.Fault.{Fault}
 use Rattle.command_files.specs.declared.fault.Fault.TheVariants.{BadAddress, CannotWrite, Configuration, Event, OutOfMemory, TooManyRows}
 use Rattle.command_settings.specs.declared.wanted.Replay.{Replay}
@@ -70,7 +70,7 @@ pub record IsNotDrawable (held : Contents) (replay : Replay) (line : Option Name
 -- which fault tells why a script's run is not drawn
 abbrev pub IsDrawingFault : Name → ChartError → Fault → Type 0
 IsDrawingFault script (chart.Replay refusal) told =
-    ((told ≡ Configuration) ⊎ ((told ≡ OutOfMemory) ⊎ ((index : ℕ) × (error : ApplyError) × (refusal ≡ refusals.Event index error) × (told ≡ Event script (line_at index) error))))
+    ((told ≡ Configuration) ⊎ ((told ≡ OutOfMemory) ⊎ ((index : ℕ) × (error : ApplyError) × (refusal ≡ refusals.Event index error) × (told ≡ Event script (script_line_of index) error))))
     × ((told ≡ Configuration) ↔ (refusal ≡ refusals.New making.Config))
     × ((told ≡ OutOfMemory) ↔ IsOutOfMemory refusal)
 IsDrawingFault script chart.TooManyRows told = told ≡ TooManyRows script

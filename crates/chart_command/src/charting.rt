@@ -43,7 +43,7 @@ fn fault_of<'a>(script: &'a str, error: ChartError) -> Fault<'a>
 /// Reads and judges the address, the script, then the image, applies the events, and prints on `out` the
 /// picture of what happened, an SVG document. `line` is an address in the line of memory whose messages, bars
 /// and rows alone are drawn. A picture has at most 400 rows and bars. Where there is a fault, nothing is printed, but
-/// after `cannot write` a beginning of the picture.
+/// after `cannot write` or `out of memory` perhaps a beginning of the picture.
 pub fn chart_files<'a, F: Files, O: Write>(
     alloc: Global,
     files: &mut F,

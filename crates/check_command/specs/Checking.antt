@@ -1,9 +1,9 @@
 -- What a check has done, and which faults it tells.
 use Rattle.command_files.specs.Files.{HoldsTrace}
-use Rattle.command_files.specs.Contents.{HasLongFirstLine, Contents}
+use Rattle.command_files.specs.Contents.{Contents}
 use Rattle.command_files.specs.declared.fault.Fault.TheVariants.{BytesAfterTrace, CannotRead, CannotWrite, Check, OutOfMemory, Text}
 use Rattle.command_files.specs.declared.fault.Fault.{Fault}
-use Rattle.command_files.specs.Faults.{Name}
+use Rattle.command_files.specs.Faults.{IsLongFirst, Name}
 use Rattle.memory_model.specs.Traces.{IsLegalOrder, completed}
 use Rattle.memory_model.specs.Verdict.{fault_in}
 use Rattle.memory_model.specs.declared.MemoryModel.{MemoryModel}
@@ -76,13 +76,13 @@ IsTraceFault bytes name fault =
     ((error : TextError) × (fault ≡ Text name error) × BeginWithNoTrace bytes) ⊎ ((fault ≡ BytesAfterTrace name) × GoOnBehindATrace bytes) ⊎ (fault ≡ OutOfMemory)
 
 -- the file begins with no trace's text, or already its first line is longer than that of any text
-abbrev pub IsNoTrace : Contents → List ℕ → Type 0
-IsNoTrace held name = HasLongFirstLine held name ⊎ IfSome (held name) BeginWithNoTrace
+abbrev pub IsNoTrace : Contents → List ℕ → TextError → Type 0
+IsNoTrace held name error = IsLongFirst held name error ⊎ IfSome (held name) BeginWithNoTrace
 
 -- the trace is read first, then its end, then its order is judged
 abbrev pub IsCheckFault : Contents → Name → Fault → Type 0
 IsCheckFault held name (CannotRead file) = file ≡ name
-IsCheckFault held name (Text file error) = (file ≡ name) × IsNoTrace held name.now
+IsCheckFault held name (Text file error) = (file ≡ name) × IsNoTrace held name.now error
 IsCheckFault held name (BytesAfterTrace file) = (file ≡ name) × IfSome (held name.now) GoOnBehindATrace
 IsCheckFault held name (Check file error) = (file ≡ name) × IsUnjudged held name.now error
 IsCheckFault held name CannotWrite = Unit {0}

@@ -1,9 +1,9 @@
 -- What a check of messages has done.
 use Rattle.std.specs.Io.KnownBytes.{Appends}
 use Rattle.std.specs.Prelude.{◌≡◌, ◌↔◌, ◌⊎◌, ℕ, IfSome, List, Option}
-use Rattle.command_files.specs.Faults.{Name}
+use Rattle.command_files.specs.Faults.{IsLongFirst, Name}
 use Rattle.check_command.specs.Checking.{BeginWithNoTrace, GoOnBehindATrace}
-use Rattle.command_files.specs.Contents.{HasLongFirstLine, Contents}
+use Rattle.command_files.specs.Contents.{Contents}
 use Rattle.command_files.specs.declared.fault.Fault.TheVariants.{BytesAfterTrace, CannotRead, CannotWrite, OutOfMemory, Text}
 use Rattle.command_files.specs.declared.fault.Fault.{Fault}
 use Rattle.lawful_log.specs.Laws.{IfUnlawful, IsFirstBreach}
@@ -17,6 +17,7 @@ use Rattle.trace_recorder.specs.History.{History}
 use Rattle.trace_recorder.specs.declared.logged.Logged.{Logged}
 use Rattle.trace_text.specs.TraceLimits.{IsTrace}
 use Rattle.trace_text.specs.Traces.{text}
+use Rattle.trace_text.specs.declared.fault.TextError.{TextError}
 
 -- the file has the text of this trace, and nothing else; the lines that say how its harts ended may be left out, where all still run
 pub record HoldsLog (held : Contents) (name : List ℕ) (trace : History) : Type 0 where
@@ -44,13 +45,13 @@ pub record IsLogCutOff (held : Contents) (name : List ℕ) (old new : Option (Li
   pub begun : Begins old new (verdict_text verdict)
 
 -- the file, with the lines that may be left out, begins with no trace's text, or already its first line is longer than that of any text
-abbrev pub IsNoLog : Contents → List ℕ → Type 0
-IsNoLog held name = HasLongFirstLine held name ⊎ IfSome (held name) (λ known. BeginWithNoTrace (ended known))
+abbrev pub IsNoLog : Contents → List ℕ → TextError → Type 0
+IsNoLog held name error = IsLongFirst held name error ⊎ IfSome (held name) (λ known. BeginWithNoTrace (ended known))
 
 -- the file can't be read, what it holds is no trace, or it goes on behind the trace: a log is lawful or not, and isn't refused
 abbrev pub IsLogFault : Contents → Name → Fault → Type 0
 IsLogFault held name (CannotRead file) = file ≡ name
-IsLogFault held name (Text file error) = (file ≡ name) × IsNoLog held name.now
+IsLogFault held name (Text file error) = (file ≡ name) × IsNoLog held name.now error
 IsLogFault held name (BytesAfterTrace file) = (file ≡ name) × IfSome (held name.now) (λ known. GoOnBehindATrace (ended known))
 IsLogFault held name CannotWrite = Unit {0}
 IsLogFault held name OutOfMemory = Unit {0}

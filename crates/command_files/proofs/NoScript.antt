@@ -1,28 +1,33 @@
 -- Which faults tell of a file that was read and holds no script.
-use Rattle.std.proofs.Common.{◌≡◌, ◌≢◌, ◌∙◌, ◌⊎◌, ◌↔◌, ℕ, Err, IfSome, List, None, Ok, Option, Result, Some, inl, inr, refl, subst, sym}
+use Rattle.std.proofs.Common.{◌≡◌, ◌≢◌, ◌∙◌, ◌⊎◌, ◌↔◌, ℕ, Err, IfErr, List, Ok, Result, inl, inr, refl, subst, sym}
 use Rattle.command_files.specs.Faults.{IsScriptFault, Name}
 use Rattle.command_files.specs.Contents.{Contents, HoldsBytes}
 use Rattle.command_files.specs.declared.fault.Fault.{Fault}
 use Rattle.command_files.specs.declared.fault.Fault.TheVariants.{OutOfMemory, Text}
 use Rattle.trace_text.specs.Reading.{IsNoMemory}
+use Rattle.trace_text.specs.Refusals.{IsScriptRefusal}
 use Rattle.trace_text.specs.Scripts.{IsScript, text}
 use Rattle.trace_text.specs.declared.fault.TextCode.TheVariants.{NoMemory}
 use Rattle.trace_text.specs.declared.fault.TextError.{TextError}
 use Rattle.trace_text.specs.declared.script.Script.{Script}
 
-no_script : (known : Option (List ℕ)) (bytes : List ℕ) (r : Result Script TextError) (error : TextError) → r ≡ Err error → error.code ≢ NoMemory
-    → IfSome known (λ file. file ≡ bytes) → ((s : Script) → IsScript s → bytes ≡ text s → ¬ IsNoMemory r → r ≡ Ok s)
-    → IfSome known (λ file. (s : Script) → IsScript s → file ≢ text s)
-no_script None bytes r error is other same only = tt
-no_script (Some file) bytes r error is other same only = λ s is_script e.
-    let read = only s is_script (sym same ∙ e) (subst (λ (x : Result Script TextError). ¬ IsNoMemory x) (sym is) other) in
-    let bad = sym is ∙ read in
-    cc
+module _ (bytes : List ℕ) (r : Result Script TextError) (error : TextError) (is : r ≡ Err error)
+    (only : (s : Script) → IsScript s → bytes ≡ text s → ¬ IsNoMemory r → r ≡ Ok s) (refused : ¬ IsNoMemory r → IfErr r (IsScriptRefusal bytes)) where
 
-pub no_script_told : (held : Contents) (name : Name) (bytes : List ℕ) (r : Result Script TextError) (error : TextError) (fault : Fault)
-    → r ≡ Err error → HoldsBytes held name.now bytes → ((s : Script) → IsScript s → bytes ≡ text s → ¬ IsNoMemory r → r ≡ Ok s)
-    → (fault ≡ Text name error) ⊎ (fault ≡ OutOfMemory) → (fault ≡ OutOfMemory) ↔ (error.code ≡ NoMemory) → IsScriptFault held name fault
-no_script_told held name bytes r error fault is holds only told memory = elim told [
-  | inl at ↦ subst (IsScriptFault held name) (sym at) (refl, inr (no_script (held name.now) bytes r error is (λ no. let bad : Text name error ≡ OutOfMemory = sym at ∙ memory.1 no in cc) holds only))
-  | inr at ↦ subst (IsScriptFault held name) (sym at) tt
-]
+  aside : error.code ≢ NoMemory → ¬ IsNoMemory r
+  aside other = subst (λ (x : Result Script TextError). ¬ IsNoMemory x) (sym is) other
+
+  no_script : error.code ≢ NoMemory → (s : Script) → IsScript s → bytes ≢ text s
+  no_script other s is_script e = let bad = sym is ∙ only s is_script e (aside other) in cc
+
+  at_line : error.code ≢ NoMemory → IsScriptRefusal bytes error
+  at_line other = subst (λ (x : Result Script TextError). IfErr x (IsScriptRefusal bytes)) is (refused (aside other))
+
+  pub no_script_told : (held : Contents) (name : Name) (fault : Fault) → HoldsBytes held name.now bytes
+      → (fault ≡ Text name error) ⊎ (fault ≡ OutOfMemory) → (fault ≡ OutOfMemory) ↔ (error.code ≡ NoMemory) → IsScriptFault held name fault
+  no_script_told held name fault holds told memory = elim told [
+    | inl at ↦
+      let other : error.code ≢ NoMemory = λ no. let bad : Text name error ≡ OutOfMemory = sym at ∙ memory.1 no in cc in
+      subst (IsScriptFault held name) (sym at) (refl, inr (record { file = bytes; bytes = holds; none = no_script other; refused = at_line other }))
+    | inr at ↦ subst (IsScriptFault held name) (sym at) tt
+  ]

@@ -42,17 +42,17 @@ status_of Configuration = 2
 status_of OutOfMemory = 4
 
 -- the line of the script on which the event of this index stands, the first on line 2, as far as a number of 64 bits tells it
-abbrev pub line_at : ℕ → ℕ
-line_at index = min (index + 2) (2 ^ 64 - 1)
+abbrev pub script_line_of : ℕ → ℕ
+script_line_of index = min (index + 2) (2 ^ 64 - 1)
 
 -- which fault tells why a stream of this script is not whole
 abbrev pub IsStreamFault : Bor (List ℕ) → StreamError → Fault → Type 0
 IsStreamFault script (stream.New making.Config) told = told ≡ Configuration
 IsStreamFault script (stream.New making.NoMemory) told = told ≡ OutOfMemory
 IsStreamFault script (stream.Refused index applying.NoMemory) told = told ≡ OutOfMemory
-IsStreamFault script (stream.Refused index applying.BadEvent) told = told ≡ Event script (line_at index) applying.BadEvent
-IsStreamFault script (stream.Refused index applying.Limit) told = told ≡ Event script (line_at index) applying.Limit
-IsStreamFault script (stream.Idle index outcome) told = told ≡ NothingHappens script (line_at index) outcome
+IsStreamFault script (stream.Refused index applying.BadEvent) told = told ≡ Event script (script_line_of index) applying.BadEvent
+IsStreamFault script (stream.Refused index applying.Limit) told = told ≡ Event script (script_line_of index) applying.Limit
+IsStreamFault script (stream.Idle index outcome) told = told ≡ NothingHappens script (script_line_of index) outcome
 IsStreamFault script (stream.Writing error) told = ((told ≡ CannotWrite) ⊎ (told ≡ OutOfMemory)) × ((told ≡ OutOfMemory) ↔ (error_kind error ≡ io.OutOfMemory))
 
 -- no memory for the machine, or for what an event adds

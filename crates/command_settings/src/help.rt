@@ -116,7 +116,7 @@ With --show, the final word at an address or symbol stands behind the harts, and
 no store waits:
   1  hart 0: exit 0   hart 1: exit 0   counter = 0x00000002
 With --scripts, events that an outcome doesn't need are left out of its script. At most 1,000,000 events
-are played to find them, and 40,000,000 for all outcomes.
+are played to find them, and 40,000,000 for all outcomes (of random runs, 1,000,000 for each).
 The machine carries loads out as they retire, so that what a missing fence between two loads allows is
 not among the outcomes. With --architecture it is: behind each outcome stands whether this machine shows
 it, or the memory model alone allows it; its words are those behind all operations. The last line is

@@ -6,7 +6,7 @@ use Rattle.std.specs.List.{filter_map, list_all, range_with_len}
 use Rattle.elf_symbols.specs.Named.{Named}
 use Rattle.elf_loader.specs.Elf.{half_at, long_at}
 
--- printable, and no mapping symbol as $x, which marks what stands there instead of naming it
+-- printable, and none that begins with $, as mapping symbols ($x) do, which mark what stands there instead of naming it
 abbrev pub is_told : List ℕ → Bool
 is_told name = nat_lt 0 (length name) && not (slice_index name 0 == 36) && list_all is_ascii_graphic name
 

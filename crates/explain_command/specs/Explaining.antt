@@ -3,7 +3,7 @@ use Rattle.coherent_machine.specs.Machine.{Refuses}
 use Rattle.command_files.specs.Sizes.{config_of}
 use Rattle.command_files.specs.Files.{HoldsScript, IsTheScriptIn}
 use Rattle.command_files.specs.Contents.{Contents}
-use Rattle.command_files.specs.Status.{line_at}
+use Rattle.command_files.specs.Status.{script_line_of}
 use Rattle.command_files.specs.declared.fault.Fault.TheVariants.{Event as Refused, NothingHappens}
 use Rattle.command_files.specs.declared.fault.Fault.{Fault}
 use Rattle.command_settings.specs.declared.wanted.Replay.{Replay}
@@ -88,7 +88,7 @@ pub record IsToldUpTo (held : Contents) (replay : Replay) (strictness : Strictne
   pub script_file : HoldsScript held replay.script.now script
   pub image_file : HoldsNamedImage held replay.raw replay.image.now script.kib image names
   pub index : ℕ
-  pub place : line ≡ line_at index
+  pub place : line ≡ script_line_of index
   pub cut : IsCut strictness (opening image (config_of script replay.model)) script.events index IsSuch (stream_up_to names strictness image (config_of script replay.model)) old new
 
 -- as in a replay, but an event that is refused comes behind what the events before it did, and so does one that changes nothing, where the stream is strict

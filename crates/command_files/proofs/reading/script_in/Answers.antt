@@ -1,6 +1,7 @@
-use Rattle.std.proofs.Common.{◌≡◌, ◌∙◌, ℕ, IfSome, List, None, Ok, Option, Result, Some, ap, subst, sym}
+use Rattle.std.proofs.Common.{◌≡◌, ◌∙◌, ℕ, IfErr, IfSome, List, None, Ok, Option, Result, Some, ap, subst, sym}
 use Rattle.std.specs.Prelude.{unwrap_or}
 use Rattle.trace_text.specs.Reading.{IsNoMemory}
+use Rattle.trace_text.specs.Refusals.{IsScriptRefusal}
 use Rattle.trace_text.specs.declared.fault.TextError.{TextError}
 use Rattle.trace_text.specs.declared.script.Script.{Script}
 use Rattle.command_files.proofs.NoScript.{no_script_told}
@@ -23,5 +24,7 @@ returns-in-Ok-clause-only g c = λ other is held.
 
 pub returns-clause-fault : goal.returns-clause-fault
 returns-clause-fault g c =
-    no_script_told (g.F.Files.held c.args.files.now) c.args.name c.in_ok-bytes.bytes.items c.read_script.result c.in-Err.error c.text.result c.in-Err.is c.in_ok-bytes.ensures.bytes
-    (λ s is_script e. c.read_script.ensures.only s is_script (c.as_slice.ensures.value ∙ e)) c.text.ensures.told c.text.ensures.memory
+    no_script_told c.in_ok-bytes.bytes.items c.read_script.result c.in-Err.error c.in-Err.is
+    (λ s is_script e. c.read_script.ensures.only s is_script (c.as_slice.ensures.value ∙ e))
+    (λ other. subst (λ (bytes : List ℕ). IfErr c.read_script.result (IsScriptRefusal bytes)) c.as_slice.ensures.value (c.read_script.ensures.refused other))
+    (g.F.Files.held c.args.files.now) c.args.name c.text.result c.in_ok-bytes.ensures.bytes c.text.ensures.told c.text.ensures.memory
