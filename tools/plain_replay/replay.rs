@@ -171,7 +171,7 @@ fn replayed(image: &[u8], script: &[u8]) -> Option<Vec<u8>> {
     let script = texts::read_script(script)?;
     let image = raw(Global, image, size_of_kib(script.kib)?).ok()?;
     let line = if script.line == 16 { LineSize::Bytes16 } else { LineSize::Bytes64 };
-    let config = Config { harts: script.harts, sets: script.sets, ways: script.ways, line: line.bytes(), model: MemoryModel::Rvwmo };
+    let config = Config { harts: script.harts, sets: script.sets, ways: script.ways, line, model: MemoryModel::Rvwmo };
     let mut machine = Machine::new(Global, image, config).ok()?;
     for event in &script.events {
         machine.apply(event_of(event)).ok()?;
@@ -227,7 +227,7 @@ impl Random {
 
 fn script_of(harts: u32) -> Option<Vec<u8>> {
     let image: Vec<u8> = PROGRAM.iter().flat_map(|word| word.to_le_bytes()).collect();
-    let config = Config { harts, sets: 2, ways: 2, line: 16, model: MemoryModel::Rvwmo };
+    let config = Config { harts, sets: 2, ways: 2, line: LineSize::Bytes16, model: MemoryModel::Rvwmo };
     let mut machine = Machine::new(Global, raw(Global, &image, size_of_kib(4)?).ok()?, config).ok()?;
     let (mut random, mut moved, mut idle) = (Random(88172645463325252), 0, 0);
     let mut events = Vec::new();

@@ -13,7 +13,7 @@ use rv32_decode::decode;
 use rv32_exec::{Action, plan};
 use std::sync::atomic::{AtomicBool, AtomicU64, Ordering};
 use std::sync::{Mutex, MutexGuard};
-use tl_types::Channel;
+use tl_types::{Channel, LineSize};
 
 const MOST_ALONE: u32 = 256;
 const MOST_HARTS: usize = 8;
@@ -139,8 +139,8 @@ impl Rounds<'_> {
 
     fn lowest_spare(&self, views: &Views<'_>, address: u32) -> Option<u32> {
         let cache = views.cache(usize::from(self.hart));
-        let stride = self.config.sets * self.config.line;
-        let first = BASE + address / self.config.line % self.config.sets * self.config.line;
+        let stride = self.config.sets * self.config.line.bytes();
+        let first = BASE + address / self.config.line.bytes() % self.config.sets * self.config.line.bytes();
         (first..BASE + self.image.size()).step_by(stride as usize).find(|line| {
             cache.copy(*line).is_some() && !cache.is_acquiring(*line)
         })
@@ -380,7 +380,7 @@ fn main() {
     let model = if model == "ztso" { MemoryModel::Ztso } else { MemoryModel::Rvwmo };
     let limit: u64 = limit.parse().unwrap();
     let image = load(Global, &std::fs::read(file).unwrap(), 64 * 1024).unwrap();
-    let config = Config { harts, sets: 4, ways: 2, line: 16, model };
+    let config = Config { harts, sets: 4, ways: 2, line: LineSize::Bytes16, model };
     let own = image.try_copy(Global).unwrap();
     let machine = Machine::new(Global, image, config).ok().unwrap();
     let lock = Mutex::new(Fabric { machine, journal: Vec::new() });
