@@ -10,3 +10,4 @@ mod TraceLoops
 mod ImageLoops
 mod NameLaws
 mod Refusals
+mod TraceRefusals

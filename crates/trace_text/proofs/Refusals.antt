@@ -102,7 +102,7 @@ refused_of bytes stop least left line rest code is same small w numbered at faul
 
 -- ---- first words
 
-word_is : (word line : List ℕ) → list_any is_blank word ≡ false → is_parted (after word line) ≡ true → first_word line ≡ word
+pub word_is : (word line : List ℕ) → list_any is_blank word ≡ false → is_parted (after word line) ≡ true → first_word line ≡ word
 word_is [] [] none e = refl
 word_is [] (b ∷ line) none e = ap (λ t. cond t [] (b ∷ first_word line)) e
 word_is (t ∷ word) [] none e = absurd cc
@@ -150,7 +150,7 @@ is_deliver line e = (Deliver A 0, word_is (codes "deliver") line refl e)
 pub is_local : (line : List ℕ) → is_parted (after (codes "local") line) ≡ true → IsEventWord (first_word line)
 is_local line e = (Local 0 0, word_is (codes "local") line refl e)
 
-not_both : (b : Bool) → b ≡ true → b ≡ false → ⊥
+pub not_both : (b : Bool) → b ≡ true → b ≡ false → ⊥
 not_both true e f = cc
 not_both false e f = cc
 

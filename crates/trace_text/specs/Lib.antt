@@ -13,3 +13,5 @@ pub mod TraceLimits
 pub mod TraceSections
 pub mod Refusals
 pub mod Stops
+pub mod TraceRefusals
+pub mod TraceStops

@@ -80,12 +80,6 @@ pub(crate) fn line_at(bytes: &[u8], left: usize) -> (usize, &[u8])
     (line, rest)
 }
 
-/// The first line of these bytes with its line feed, where it has one.
-pub(crate) fn whole_line(bytes: &[u8]) -> Option<&[u8]> {
-    let end = bytes.iter().position(|byte| *byte == b'\n')?;
-    bytes.get(..=end)
-}
-
 /// Whether the first word of a line is this one.
 pub(crate) fn is_word(line: &[u8], word: &[u8]) -> bool
     ensures { result ≡ is_parted (reads.after word.now line.now) }

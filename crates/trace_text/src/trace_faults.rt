@@ -1,8 +1,12 @@
 //! Which line of a trace can't be read, and why. Only a refused trace comes here.
+ghost use Rattle.std.specs.Prelude.{◌≡◌, ◌↔◌, IsTrue, true};
 ghost use Rattle.trace_text.specs.Reading.{IsFaultOf};
+ghost use Rattle.trace_text.specs.Refusals.{has_line_feed, first_word};
 ghost use Rattle.trace_text.specs.TraceHeads.{IsTraceHead};
+ghost use Rattle.trace_text.specs.TraceRefusals.{IsLineWord, IsTraceRefusal};
+ghost use Rattle.trace_text.specs.TraceStops.{IsHeaderLeft, IsHeaderCode, IsLineCode};
 
-use crate::fault::{Stop, TextCode, TextError, is_word, line_at, whole_line};
+use crate::fault::{Stop, TextCode, TextError, is_word, line_at};
 use crate::head::TraceHead;
 use crate::message_reading::data_at;
 use crate::script::is_first_version;
@@ -15,70 +19,87 @@ use text_fields::{after, number_at, word_at};
 
 /// The fault of a trace whose reader stopped there.
 pub(crate) fn trace_fault(bytes: &[u8], stop: Stop) -> TextError
-    ensures { IsFaultOf stop result }
+    ensures memory { IsFaultOf stop result }
+    ensures refused { ¬ (result.code ≡ TextCode.NoMemory) → IsTraceRefusal bytes.now result }
 {
-    let (line, rest) = line_at(bytes, stop.left());
     match stop {
-        Stop::Memory { .. } => TextError {
-            line,
-            code: TextCode::NoMemory,
-        },
-        Stop::Bytes { .. } => fault_at(bytes, line, rest),
+        Stop::Memory { left } => {
+            let (line, _) = line_at(bytes, left);
+            TextError {
+                line,
+                code: TextCode::NoMemory,
+            }
+        }
+        Stop::Bytes { left } => fault_at(bytes, left),
     }
 }
 
-/// The fault of the line that begins where these are left.
-fn fault_at(bytes: &[u8], line: usize, rest: &[u8]) -> TextError {
-    let Some((head, _)) = head_at(bytes) else {
-        return header_fault(bytes);
-    };
-    let code = match whole_line(rest) {
-        Some(text) => code_of(text, &head),
-        None => TextCode::End,
-    };
-    TextError { line, code }
+/// The fault of the line that begins where so many bytes are left, or of the header's line that is none.
+fn fault_at(bytes: &[u8], left: usize) -> TextError
+    ensures { IsTraceRefusal bytes.now result }
+{
+    match head_at(bytes) {
+        None => {
+            let (line, rest) = line_at(bytes, header_left(bytes));
+            TextError {
+                line,
+                code: header_code(rest),
+            }
+        }
+        Some((head, _)) => {
+            let (line, rest) = line_at(bytes, left);
+            TextError {
+                line,
+                code: code_at(rest, &head),
+            }
+        }
+    }
 }
 
-/// What is wrong with a whole line that isn't the one that may stand there.
-fn code_of(text: &[u8], head: &TraceHead) -> TextCode
+/// What is wrong with the line that begins here, behind a header.
+fn code_at(rest: &[u8], head: &TraceHead) -> TextCode
     requires { IsTraceHead head.now }
+    ensures { IsLineCode result rest.now }
 {
-    if !is_known(text) {
+    if !rest.contains(&b'\n') {
+        TextCode::End
+    } else if !is_known(rest) {
         TextCode::Word
-    } else if is_good(text, head) {
+    } else if is_good(rest, head) {
         TextCode::Order
     } else {
         TextCode::Fields
     }
 }
 
-/// The fault of a header: its second line's, where the first is good.
-fn header_fault(bytes: &[u8]) -> TextError {
-    let second = match after(b"rvtl-trace 1\n", bytes) {
-        Some(rest) => Some(rest),
-        None => after(b"rvtl-trace 2\n", bytes),
-    };
-    match second {
-        Some(rest) => TextError {
-            line: 2,
-            code: header_code(rest),
-        },
-        None => TextError {
-            line: 1,
-            code: header_code(bytes),
-        },
+/// How many bytes are left from the header's line that is none: the second, where the first is good.
+fn header_left(bytes: &[u8]) -> usize
+    ensures { IsHeaderLeft bytes.now result }
+{
+    if let Some(rest) = after(b"rvtl-trace 1\n", bytes) {
+        return rest.len();
     }
+    if let Some(rest) = after(b"rvtl-trace 2\n", bytes) {
+        return rest.len();
+    }
+    bytes.len()
 }
 
-fn header_code(rest: &[u8]) -> TextCode {
-    match whole_line(rest) {
-        None => TextCode::End,
-        Some(_) => TextCode::Header,
+fn header_code(rest: &[u8]) -> TextCode
+    ensures { IsHeaderCode result rest.now }
+{
+    if rest.contains(&b'\n') {
+        TextCode::Header
+    } else {
+        TextCode::End
     }
 }
 
 /// Whether the first word of a line is that of a trace's line.
-fn is_known(line: &[u8]) -> bool {
+fn is_known(line: &[u8]) -> bool
+    requires { has_line_feed line.now ≡ true }
+    ensures { IsTrue result ↔ IsLineWord (first_word line.now) }
+{
     is_word(line, b"rvtl-trace")
         || is_word(line, b"T")
         || is_word(line, b"I")
@@ -88,7 +109,7 @@ fn is_known(line: &[u8]) -> bool {
         || is_word(line, b"H")
 }
 
-/// Whether a line with its line feed is one that a trace with this header may have somewhere.
+/// Whether a line that a trace with this header may have somewhere stands here.
 fn is_good(line: &[u8], head: &TraceHead) -> bool
     requires { IsTraceHead head.now }
 {
@@ -109,7 +130,7 @@ fn is_good(line: &[u8], head: &TraceHead) -> bool
     } else {
         after(b"rvtl-trace 2\n", line)
     };
-    matches!(found, Some([]))
+    found.is_some()
 }
 
 fn after_head<'a>(fields: &'a [u8], head: &TraceHead) -> Option<&'a [u8]>

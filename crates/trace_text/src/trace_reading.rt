@@ -1,5 +1,5 @@
 //! Reading a trace.
-ghost use Rattle.std.specs.Prelude.{◌≡◌, ◌<◌, ◌≤◌, ◌/◌, ◌∷◌, ◌++◌, ℕ, List, length, map, take, IfOk};
+ghost use Rattle.std.specs.Prelude.{◌≡◌, ◌<◌, ◌≤◌, ◌/◌, ◌∷◌, ◌++◌, ℕ, List, length, map, take, IfOk, IfErr};
 ghost use Rattle.std.specs.Option.{option_map};
 ghost use Rattle.text_fields.specs.Fields.{number};
 ghost use Rattle.text_fields.specs.Reading.{numbered_at};
@@ -8,6 +8,7 @@ ghost use Rattle.trace_recorder.specs.History.{History};
 ghost use Rattle.trace_text.specs.Reading.{Gives, IsReadOrRefused, IsNoMemory};
 ghost use Rattle.trace_text.specs.TraceLimits.{IsTrace, IsReadAs, NoTextBeginsAnother};
 ghost use Rattle.trace_text.specs.TraceHeads.{IsTraceHead};
+ghost use Rattle.trace_text.specs.TraceRefusals.{IsTraceRefusal};
 ghost use Rattle.trace_text.specs.TraceSections as reads;
 ghost use Rattle.trace_text.specs.Traces.{text};
 ghost use Rattle.trace_text.specs.Widths.{IsWidth};
@@ -192,7 +193,8 @@ fn trace_of(alloc: Global, bytes: &[u8]) -> Result<(Trace, &[u8]), Stop>
 
 #[tactic(auto, using(crate::proofs::WholeTraces::trace_shortens))]
 fn counted(alloc: Global, bytes: &[u8]) -> Result<(Trace, usize), TextError>
-    ensures { IsReadOrRefused (λ x. (x.0.history, x.1)) result (reads.counted bytes.now (reads.trace_at bytes.now)) }
+    ensures value { IsReadOrRefused (λ x. (x.0.history, x.1)) result (reads.counted bytes.now (reads.trace_at bytes.now)) }
+    ensures refused { ¬ IsNoMemory result → IfErr result (IsTraceRefusal bytes.now) }
 {
     match trace_of(alloc, bytes) {
         Ok((trace, rest)) => Ok((trace, bytes.len() - rest.len())),
@@ -207,6 +209,8 @@ pub fn read_trace(alloc: Global, bytes: &[u8]) -> Result<(Trace, usize), TextErr
     ensures count { IfOk result (λ x. x.1 ≡ length (text x.0.history)) }
     // What a trace is spelled is read as that trace, whatever follows it, unless memory runs out.
     ensures only { (t : History) (more : List ℕ) → IsTrace t → bytes.now ≡ text t ++ more → ¬ IsNoMemory result → IsReadAs t result }
+    // The fault names a line by the line feeds before it, and says what is wrong there, unless memory runs out.
+    ensures refused { ¬ IsNoMemory result → IfErr result (IsTraceRefusal bytes.now) }
 {
     counted(alloc, bytes)
 }

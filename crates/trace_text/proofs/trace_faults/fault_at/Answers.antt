@@ -1,0 +1,12 @@
+use Rattle.trace_text.proofs.TraceRefusals.{refused_ahead, refused_behind}
+use Rattle.trace_text.proofs.trace_faults.fault_at.Goals as goal
+
+pub returns-in-None : goal.returns-in-None
+returns-in-None c =
+    refused_ahead c.args.bytes.now c.header_left.result c.line_at-line.result.0 c.line_at-line.result.1.now c.header_code.result
+    c.in-None.ensures.value c.header_left.ensures c.line_at-line.ensures.line c.line_at-line.ensures.rest c.header_code.ensures
+
+pub returns-in-Some : goal.returns-in-Some
+returns-in-Some c =
+    refused_behind c.args.bytes.now c.in-Some.head _ c.args.left c.line_at-line-in-Some.result.0 c.line_at-line-in-Some.result.1.now c.code_at.result
+    c.in-Some.ensures.value c.line_at-line-in-Some.ensures.fits c.line_at-line-in-Some.ensures.line c.line_at-line-in-Some.ensures.rest c.code_at.ensures
