@@ -1,202 +1,117 @@
-//! A private cache: its copies by line, and the lines of which an Acquire is outstanding or a Release is
-//! unanswered.
+//! A private cache: what it has to do with each line.
 
-use crate::words::{Marks, with_word};
-use std::alloc::{AllocError, Global};
-use tl_types::{Cap, Change, Grow, LineData, LineSize, Perm, shrink};
+use crate::deciding::{Act, Plan};
+use crate::words::{Marks, line_of, lines_below, write_word};
+use machine_types::{Config, Outcome};
+use std::alloc::AllocError;
+use tl_types::{Cap, Grow, LineData, Perm};
 
 /// Acquires that may be outstanding, and Releases that may be unanswered.
 const TRACKERS: usize = 4;
 
-/// A copy of a line.
-#[derive(Clone, Copy, Debug, PartialEq, Eq)]
-pub(crate) enum Held {
-    Branch(LineData),
-    Trunk { dirty: bool, bytes: LineData },
-}
-
-impl Held {
-    pub fn perm(&self) -> Perm {
-        match self {
-            Held::Branch(_) => Perm::Branch,
-            Held::Trunk { .. } => Perm::Trunk,
-        }
-    }
-
-    pub fn bytes_in(&self) -> LineData {
-        match *self {
-            Held::Branch(bytes) | Held::Trunk { bytes, .. } => bytes,
-        }
-    }
-
-    /// The bytes that memory lacks.
-    fn dirty_in(&self) -> Option<LineData> {
-        match *self {
-            Held::Trunk { dirty: true, bytes } => Some(bytes),
-            Held::Trunk { dirty: false, .. } | Held::Branch(_) => None,
-        }
-    }
-}
-
-/// A copy with this permission that isn't dirty.
-fn clean_copy(perm: Perm, bytes: LineData) -> Option<Held> {
-    match perm {
-        Perm::Nothing => None,
-        Perm::Branch => Some(Held::Branch(bytes)),
-        Perm::Trunk => Some(Held::Trunk {
-            dirty: false,
-            bytes,
-        }),
-    }
-}
-
-/// What a miss comes to.
-#[derive(Clone, Copy, Debug, PartialEq, Eq)]
-pub(crate) enum Want {
-    WaitRelease,
-    WaitGrant,
-    NoTracker,
-    SetFull,
-    Missed(Grow),
-}
-
-/// What a Probe comes to.
-#[derive(Clone, Copy, Debug, PartialEq, Eq)]
-pub(crate) enum Probed {
-    Releasing,
-    Answered {
-        change: Change,
-        bytes: Option<LineData>,
-    },
-}
-
-/// What giving a line up comes to.
-#[derive(Clone, Copy, Debug, PartialEq, Eq)]
-pub(crate) enum Evict {
-    NotHeld,
-    AcquirePending,
-    ReleaseFull,
-    Evicted {
-        change: Change,
-        bytes: Option<LineData>,
-    },
-}
-
-/// A copy and the address of its line.
-#[derive(Clone, Copy, Debug, PartialEq, Eq)]
-pub(crate) struct Copied {
+/// What a cache has to do with a line.
+#[derive(Clone, Copy)]
+pub(crate) struct Known {
     pub line: u32,
-    pub held: Held,
+    /// What it may do with its copy; it has none where that is nothing.
+    pub perm: Perm,
+    /// Whether memory lacks the copy's bytes.
+    pub is_dirty: bool,
+    pub bytes: LineData,
+    /// Whether its Acquire is outstanding.
+    pub is_acquiring: bool,
+    /// Whether its Release is unanswered.
+    pub is_releasing: bool,
 }
 
-#[derive(Debug, Drop)]
+#[derive(Drop)]
 pub(crate) struct Cache {
-    sets: u32,
-    ways: u32,
-    pub size: LineSize,
-    pub copies: Vec<Copied>,
-    pub acquiring: Vec<u32>,
-    pub releasing: Vec<u32>,
+    pub config: Config,
+    /// The lines that it has had to do with.
+    pub lines: Vec<Known>,
 }
 
 impl Cache {
-    pub fn new(alloc: Global, sets: u32, ways: u32, size: LineSize) -> Cache {
-        Cache {
-            sets,
-            ways,
-            size,
-            copies: Vec::new(alloc),
-            acquiring: Vec::new(alloc),
-            releasing: Vec::new(alloc),
+    pub fn known(&self, line: u32) -> Known {
+        for known in self.lines.iter() {
+            if known.line == line {
+                return *known;
+            }
+        }
+        Known {
+            line,
+            perm: Perm::Nothing,
+            is_dirty: false,
+            bytes: LineData::Bytes16([0; 16]),
+            is_acquiring: false,
+            is_releasing: false,
         }
     }
 
-    pub fn copy_at(&self, line: u32) -> Option<Held> {
-        let copied = self.copies.iter().find(|copied| copied.line == line)?;
-        Some(copied.held)
-    }
-
-    pub fn perm_at(&self, line: u32) -> Perm {
-        self.copy_at(line).map_or(Perm::Nothing, |held| held.perm())
-    }
-
-    /// The line's copy becomes this, or goes.
-    fn put(&mut self, line: u32, copy: Option<Held>) -> Result<(), AllocError> {
-        self.copies.retain(|copied| copied.line != line);
-        if let Some(held) = copy {
-            self.copies.push(Copied { line, held })?;
+    /// What is known of a line becomes this.
+    pub fn put(&mut self, known: Known) -> Result<(), AllocError> {
+        let mut is_there = false;
+        for other in self.lines.iter_mut() {
+            if other.line == known.line {
+                *other = known;
+                is_there = true;
+            }
+        }
+        if !is_there {
+            self.lines.push(known)?;
         }
         Ok(())
-    }
-
-    fn set_of(&self, line: u32) -> u32 {
-        let place = match self.size {
-            LineSize::Bytes16 => line / 16,
-            LineSize::Bytes64 => line / 64,
-        };
-        place.checked_rem(self.sets).unwrap_or(0)
     }
 
     /// How many lines of this line's set are held or have an Acquire outstanding, each counted once.
-    fn taken(&self, line: u32) -> usize {
-        let set = self.set_of(line);
-        let held = self.copies.iter().map(|copied| copied.line);
-        let asked = self
-            .acquiring
-            .iter()
-            .copied()
-            .filter(|asked| self.copy_at(*asked).is_none());
-        held.chain(asked)
-            .filter(|other| self.set_of(*other) == set)
-            .count()
-    }
-
-    fn is_set_full(&self, line: u32) -> bool {
-        self.copy_at(line).is_none() && self.taken(line) >= self.ways as usize
-    }
-
-    /// A miss on a line: what it waits for, or the Acquire.
-    pub fn wanted(&self, line: u32, grow: Grow) -> Want {
-        if self.releasing.contains(&line) {
-            Want::WaitRelease
-        } else if self.acquiring.contains(&line) {
-            Want::WaitGrant
-        } else if self.acquiring.len() >= TRACKERS {
-            Want::NoTracker
-        } else if self.is_set_full(line) {
-            Want::SetFull
-        } else {
-            Want::Missed(grow)
-        }
-    }
-
-    /// An Acquire of the line is outstanding from now on.
-    pub fn after_wanted(&mut self, line: u32) -> Result<(), AllocError> {
-        self.acquiring.push(line)?;
-        Ok(())
-    }
-
-    /// A Probe waits for the answer of this cache's own Release of the line.
-    pub fn probed(&self, line: u32, cap: Cap) -> Probed {
-        if self.releasing.contains(&line) {
-            return Probed::Releasing;
-        }
-        let (_, change) = shrink(self.perm_at(line), cap);
-        Probed::Answered {
-            change,
-            bytes: self.copy_at(line).and_then(|held| held.dirty_in()),
-        }
-    }
-
-    /// The copy after a Probe that was answered.
-    pub fn after_probed(&mut self, line: u32, cap: Cap) -> Result<(), AllocError> {
-        match self.copy_at(line) {
-            None => Ok(()),
-            Some(held) => {
-                let (perm, _) = shrink(held.perm(), cap);
-                self.put(line, clean_copy(perm, held.bytes_in()))
+    fn taken(&self, line: u32) -> u32 {
+        let size = self.config.line;
+        let set = lines_below(size, line).checked_rem(self.config.sets);
+        let mut taken = 0u32;
+        for known in self.lines.iter() {
+            let other_set = lines_below(size, known.line).checked_rem(self.config.sets);
+            if other_set == set && (known.perm != Perm::Nothing || known.is_acquiring) {
+                taken = taken.saturating_add(1);
             }
         }
+        taken
+    }
+
+    /// What a miss on a line waits for; nothing where its Acquire goes out.
+    fn wanted(&self, known: &Known) -> Option<Outcome> {
+        let mut acquires = 0usize;
+        for other in self.lines.iter() {
+            acquires = acquires.saturating_add(usize::from(other.is_acquiring));
+        }
+        if known.is_releasing {
+            Some(Outcome::WaitRelease)
+        } else if known.is_acquiring {
+            Some(Outcome::WaitGrant)
+        } else if acquires >= TRACKERS {
+            Some(Outcome::NoTracker)
+        } else if known.perm == Perm::Nothing && self.taken(known.line) >= self.config.ways {
+            Some(Outcome::SetFull)
+        } else {
+            None
+        }
+    }
+
+    /// The miss on the line of an address that is to be read or written; none where its copy serves.
+    pub fn plan_miss(&self, address: u32, writes: bool) -> Option<Plan> {
+        let known = self.known(line_of(self.config.line, address));
+        let grow = match (known.perm, writes) {
+            (Perm::Nothing, false) => Grow::NtoB,
+            (Perm::Nothing, true) => Grow::NtoT,
+            (Perm::Branch, true) => Grow::BtoT,
+            (Perm::Branch, false) | (Perm::Trunk, _) => return None,
+        };
+        Some(match self.wanted(&known) {
+            Some(outcome) => Plan::Stays(outcome),
+            None => Plan::Changes(Act::Miss {
+                line: known.line,
+                grow,
+            }),
+        })
     }
 
     /// A Grant answers the line's Acquire: the copy is clean, of its bytes or, without any, of its own.
@@ -206,62 +121,50 @@ impl Cache {
         cap: Cap,
         bytes: Option<LineData>,
     ) -> Result<(), AllocError> {
-        let own = self.copy_at(line).map(|held| held.bytes_in());
-        let copy = bytes
-            .or(own)
-            .and_then(|bytes| clean_copy(cap.perm(), bytes));
-        self.put(line, copy)?;
-        self.acquiring.retain(|asked| *asked != line);
-        Ok(())
+        let mut known = self.known(line);
+        known.perm = cap.perm();
+        known.is_dirty = false;
+        known.is_acquiring = false;
+        if let Some(bytes) = bytes {
+            known.bytes = bytes;
+        }
+        self.put(known)
     }
 
-    /// A ReleaseAck answers the line's Release.
-    pub fn after_answered(&mut self, line: u32) {
-        self.releasing.retain(|released| *released != line);
-    }
-
-    pub fn evicted(&self, line: u32) -> Evict {
-        let Some(held) = self.copy_at(line) else {
-            return Evict::NotHeld;
-        };
-        if self.acquiring.contains(&line) {
-            return Evict::AcquirePending;
+    /// What giving a line up comes to.
+    pub fn plan_evict(&self, line: u32) -> Plan {
+        let mut releases = 0usize;
+        for other in self.lines.iter() {
+            releases = releases.saturating_add(usize::from(other.is_releasing));
         }
-        if self.releasing.len() >= TRACKERS {
-            return Evict::ReleaseFull;
+        let known = self.known(line);
+        if known.perm == Perm::Nothing {
+            Plan::Stays(Outcome::NotHeld)
+        } else if known.is_acquiring {
+            Plan::Stays(Outcome::AcquirePending)
+        } else if releases >= TRACKERS {
+            Plan::Stays(Outcome::ReleaseFull)
+        } else {
+            Plan::Changes(Act::Evict(line))
         }
-        let (_, change) = shrink(held.perm(), Cap::ToN);
-        Evict::Evicted {
-            change,
-            bytes: held.dirty_in(),
-        }
-    }
-
-    /// The line's copy is gone, and its Release unanswered.
-    pub fn after_evicted(&mut self, line: u32) -> Result<(), AllocError> {
-        self.put(line, None)?;
-        self.releasing.push(line)?;
-        Ok(())
     }
 
     /// The marked bytes of a word of a held line are written; the copy is dirty, also where they stay the
     /// same.
     pub fn word_written(
         &mut self,
-        line: u32,
         word: u32,
         marks: Marks,
         bytes: [u8; 4],
     ) -> Result<(), AllocError> {
-        match self.copy_at(line) {
-            None => Ok(()),
-            Some(held) => {
-                let copy = Held::Trunk {
-                    dirty: true,
-                    bytes: with_word(&held.bytes_in(), word, marks, bytes),
-                };
-                self.put(line, Some(copy))
-            }
+        let line = line_of(self.config.line, word);
+        let place = word.saturating_sub(line) as usize;
+        let mut known = self.known(line);
+        known.is_dirty = true;
+        match &mut known.bytes {
+            LineData::Bytes16(line) => write_word(line, place, marks, bytes),
+            LineData::Bytes64(line) => write_word(line, place, marks, bytes),
         }
+        self.put(known)
     }
 }

@@ -1,160 +1,87 @@
 //! What each act changes.
 
-use crate::cache::Evict;
+use crate::cache::Known;
 use crate::deciding::{Act, Deed};
 use crate::state::PlainMachine;
-use crate::steps::{after_instr, next_alone};
-use crate::words::{Marks, line_of};
+use crate::steps::next_alone;
 use hart::{Retired, Status};
-use machine_model::MemoryModel;
-use machine_types::Outcome;
 use rv32_decode::Instr;
 use std::alloc::AllocError;
-use tl_types::{Body, Grow, Msg};
+use tl_types::{Body, Cap, Grow, Msg, Perm, shrink};
 use trace_recorder::OpId;
 
-/// A whole word.
-const ALL_BYTES: Marks = [true; 4];
-
 impl PlainMachine {
-    fn performs(&mut self, hart: u8, place: u32) -> Result<(), AllocError> {
-        self.performed.push(OpId { hart, place })?;
-        Ok(())
-    }
-
-    /// The operation of the instruction that retires is performed.
-    fn performs_own(&mut self, hart: u8) -> Result<(), AllocError> {
-        match self.node_at(hart) {
-            Some(node) => {
-                let place = node.place();
-                self.performs(hart, place)
-            }
-            None => Ok(()),
-        }
-    }
-
-    fn with_reservation(&mut self, hart: u8, reserved: Option<u32>) {
-        if let Some(node) = self.node_at(hart) {
-            node.reserved = reserved;
-        }
-    }
-
-    /// The marked bytes of a word are written to the hart's copy.
-    fn writes_word(
+    /// Where the instruction's operation is performed it is so first, and what it writes at once goes to the
+    /// hart's copy.
+    fn retired(
         &mut self,
         hart: u8,
-        word: u32,
-        marks: Marks,
-        bytes: [u8; 4],
+        entry: Retired,
+        instr: &Instr,
+        deed: &Deed,
     ) -> Result<(), AllocError> {
-        match self.node_at(hart) {
-            Some(node) => {
-                let line = line_of(node.cache.size, word);
-                node.cache.word_written(line, word, marks, bytes)
-            }
-            None => Ok(()),
-        }
-    }
-
-    /// What an instruction does as it retires.
-    fn does(&mut self, hart: u8, deed: Deed) -> Result<(), AllocError> {
-        match deed {
-            Deed::Private => Ok(()),
-            Deed::Load => self.performs_own(hart),
-            Deed::Output(_) | Deed::Store(_) | Deed::Seal => self.does_aside(hart, deed),
-            Deed::Lr(word) => {
-                self.performs_own(hart)?;
-                self.with_reservation(hart, Some(word));
-                Ok(())
-            }
-            Deed::Fail => {
-                self.with_reservation(hart, None);
-                Ok(())
-            }
-            Deed::Sc { word, value } => {
-                self.performs_own(hart)?;
-                self.writes_word(hart, word, ALL_BYTES, value.to_le_bytes())?;
-                self.with_reservation(hart, None);
-                Ok(())
-            }
-            Deed::Amo { word, value } => {
-                self.performs_own(hart)?;
-                self.writes_word(hart, word, ALL_BYTES, value.to_le_bytes())
-            }
-        }
-    }
-
-    /// What performs nothing: a number is put out, a store waits, the open group is closed.
-    fn does_aside(&mut self, hart: u8, deed: Deed) -> Result<(), AllocError> {
-        let alloc = self.alloc;
-        let model = self.config.model;
-        let Some(node) = self.node_at(hart) else {
+        let Some(node) = self.nodes.get_mut(usize::from(hart)) else {
             return Ok(());
         };
-        match deed {
-            Deed::Output(number) => node.output.push(number)?,
-            Deed::Store(store) => match model {
-                MemoryModel::Rvwmo => node.buffer.after_put(alloc, &store)?,
-                MemoryModel::Ztso => node.buffer.after_put_single(alloc, &store)?,
-            },
-            Deed::Seal => node.buffer.after_seal(alloc)?,
-            _ => {}
+        if deed.is_performed() {
+            let place = node.state.place();
+            self.performed.push(OpId { hart, place })?;
         }
-        Ok(())
-    }
-
-    /// The hart moves on, and its list has one more entry.
-    fn retired(&mut self, hart: u8, entry: Retired, instr: &Instr) -> Result<(), AllocError> {
-        if let Some(node) = self.node_at(hart) {
-            node.hart = after_instr(&node.hart, &entry, instr);
-            node.entries.push(entry)?;
+        if let Deed::Sc { word, value } | Deed::Amo { word, value } = deed {
+            node.cache
+                .word_written(*word, [true; 4], value.to_le_bytes())?;
         }
-        Ok(())
-    }
-
-    fn stopped(&mut self, hart: u8, code: u8) {
-        if let Some(node) = self.node_at(hart) {
-            node.hart.status = Status::Stopped(code);
-        }
+        node.state
+            .retired(self.alloc, self.config.model, entry, instr, deed)
     }
 
     /// An Acquire takes a tracker, and goes out.
     fn missed(&mut self, hart: u8, line: u32, grow: Grow) -> Result<(), AllocError> {
-        if let Some(node) = self.node_at(hart) {
-            node.cache.after_wanted(line)?;
+        if let Some(node) = self.nodes.get_mut(usize::from(hart)) {
+            let mut known = node.cache.known(line);
+            known.is_acquiring = true;
+            node.cache.put(known)?;
         }
         let body = Body::AcquireBlock(grow);
         self.sent(hart, Msg { line, body })
     }
 
-    /// The word's entry leaves the oldest group, its stores are performed in program order, and the copy is
-    /// written.
+    /// The stores of the word's entry are performed in program order, the copy is written, and the entry
+    /// leaves the oldest group.
     fn drained(&mut self, hart: u8, word: u32) -> Result<(), AllocError> {
-        let Some(node) = self.node_at(hart) else {
+        let Some(node) = self.nodes.get_mut(usize::from(hart)) else {
             return Ok(());
         };
-        let Some(entry) = node.buffer.after_take(word) else {
-            return Ok(());
-        };
-        for place in entry.ops.iter() {
-            self.performs(hart, *place)?;
+        if let Some(entry) = node.state.buffer.drainable(word) {
+            for place in entry.ops.iter() {
+                let place = *place;
+                self.performed.push(OpId { hart, place })?;
+            }
+            node.cache.word_written(word, entry.mask, entry.bytes)?;
         }
-        self.writes_word(hart, word, entry.mask, entry.bytes)
+        node.state.buffer.after_take(word);
+        Ok(())
     }
 
     /// The cache gives a line up.
     fn given_up(&mut self, hart: u8, line: u32) -> Result<(), AllocError> {
-        let Some(node) = self.node_at(hart) else {
+        let Some(node) = self.nodes.get_mut(usize::from(hart)) else {
             return Ok(());
         };
-        let Evict::Evicted { change, bytes } = node.cache.evicted(line) else {
-            return Ok(());
-        };
-        node.cache.after_evicted(line)?;
+        let known = node.cache.known(line);
+        let (perm, change) = shrink(known.perm, Cap::ToN);
+        node.cache.put(Known {
+            perm,
+            is_dirty: false,
+            is_releasing: true,
+            ..known
+        })?;
         node.kept_reservation(line);
-        let body = match bytes {
-            None => Body::Release(change),
-            Some(bytes) => Body::ReleaseData { change, bytes },
+        let bytes = known.bytes;
+        let body = if known.is_dirty {
+            Body::ReleaseData { change, bytes }
+        } else {
+            Body::Release(change)
         };
         self.sent(hart, Msg { line, body })
     }
@@ -165,42 +92,28 @@ impl PlainMachine {
             return Ok(());
         };
         for _ in 0..count {
-            if let Some((entry, next)) = next_alone(&self.image, &node.hart) {
-                node.entries.push(entry)?;
-                node.hart = next;
+            if let Some((entry, next)) = next_alone(&self.image, &node.state.hart) {
+                node.state.entries.push(entry)?;
+                node.state.hart = next;
             }
         }
         Ok(())
     }
 
-    pub(crate) fn acted(&mut self, hart: u8, act: Act) -> Result<(), AllocError> {
+    pub(crate) fn acted(&mut self, hart: u8, act: &Act) -> Result<(), AllocError> {
         match act {
             Act::Stop(code) => {
-                self.stopped(hart, code);
+                if let Some(node) = self.nodes.get_mut(usize::from(hart)) {
+                    node.state.hart.status = Status::Stopped(*code);
+                }
                 Ok(())
             }
-            Act::Retire { entry, instr, deed } => {
-                self.does(hart, deed)?;
-                self.retired(hart, entry, &instr)
-            }
-            Act::Miss { line, grow } => self.missed(hart, line, grow),
-            Act::Drain(word) => self.drained(hart, word),
-            Act::Evict(line) => self.given_up(hart, line),
+            Act::Retire { entry, instr, deed } => self.retired(hart, *entry, instr, deed),
+            Act::Miss { line, grow } => self.missed(hart, *line, *grow),
+            Act::Drain(word) => self.drained(hart, *word),
+            Act::Evict(line) => self.given_up(hart, *line),
             Act::Deliver(message) => self.delivered(hart, message),
-            Act::Local(count) => self.went_alone(hart, count),
+            Act::Local(count) => self.went_alone(hart, *count),
         }
-    }
-}
-
-/// What comes of an act of this hart, by its status behind it.
-pub(crate) fn outcome_of(act: &Act, status: Status) -> Outcome {
-    match (act, status) {
-        (Act::Stop(code), _) => Outcome::Stopped(*code),
-        (Act::Retire { .. }, Status::Exited(code)) => Outcome::Exited(code),
-        (Act::Retire { .. } | Act::Local(_), _) => Outcome::Retired,
-        (Act::Miss { line, .. }, _) => Outcome::Missed(*line),
-        (Act::Drain(_), _) => Outcome::Drained,
-        (Act::Evict(_), _) => Outcome::Evicted,
-        (Act::Deliver(_), _) => Outcome::Delivered,
     }
 }

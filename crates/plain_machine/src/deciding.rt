@@ -1,15 +1,13 @@
-//! What an event comes to before anything changes, and what every kind of event shares when it is decided:
-//! misses.
+//! What an event comes to before anything changes.
 
 use crate::buffer::Store;
-use crate::cache::{Cache, Held, Want};
-use hart::Retired;
+use hart::{Retired, Status};
 use machine_types::Outcome;
 use rv32_decode::Instr;
-use tl_types::{Grow, LineData, Msg};
+use tl_types::{Grow, Msg};
 
 /// What an event comes to.
-#[derive(Clone, Copy, Debug, PartialEq, Eq)]
+#[derive(Clone, Copy)]
 pub(crate) enum Plan {
     /// Nothing changes; the outcome says why.
     Stays(Outcome),
@@ -17,7 +15,7 @@ pub(crate) enum Plan {
 }
 
 /// A change of the machine, by the hart that the event names.
-#[derive(Clone, Copy, Debug, PartialEq, Eq)]
+#[derive(Clone, Copy)]
 pub(crate) enum Act {
     Stop(u8),
     Retire {
@@ -36,11 +34,12 @@ pub(crate) enum Act {
 }
 
 /// What an instruction that retires does beside its hart's pc and registers.
-#[derive(Clone, Copy, Debug, PartialEq, Eq)]
+#[derive(Clone, Copy)]
 pub(crate) enum Deed {
     Private,
     Output(u32),
-    Load,
+    /// All its bytes may wait in the buffer.
+    Load { address: u32, is_covered: bool },
     Store(Store),
     Seal,
     Lr(u32),
@@ -49,30 +48,25 @@ pub(crate) enum Deed {
     Amo { word: u32, value: u32 },
 }
 
-/// A miss on a line, by the cache's rule.
-pub(crate) fn plan_miss(cache: &Cache, line: u32, grow: Grow) -> Plan {
-    match cache.wanted(line, grow) {
-        Want::WaitRelease => Plan::Stays(Outcome::WaitRelease),
-        Want::WaitGrant => Plan::Stays(Outcome::WaitGrant),
-        Want::NoTracker => Plan::Stays(Outcome::NoTracker),
-        Want::SetFull => Plan::Stays(Outcome::SetFull),
-        Want::Missed(grow) => Plan::Changes(Act::Miss { line, grow }),
+impl Deed {
+    /// Its operation is performed as it retires.
+    pub fn is_performed(&self) -> bool {
+        matches!(
+            self,
+            Deed::Load { .. } | Deed::Lr(_) | Deed::Sc { .. } | Deed::Amo { .. }
+        )
     }
 }
 
-/// A line's bytes that may be read, or the miss where there is no copy.
-pub(crate) fn reading(cache: &Cache, line: u32) -> Result<LineData, Plan> {
-    match cache.copy_at(line) {
-        None => Err(plan_miss(cache, line, Grow::NtoB)),
-        Some(held) => Ok(held.bytes_in()),
-    }
-}
-
-/// A line's bytes that may be written, or the miss without Trunk.
-pub(crate) fn writing(cache: &Cache, line: u32) -> Result<LineData, Plan> {
-    match cache.copy_at(line) {
-        None => Err(plan_miss(cache, line, Grow::NtoT)),
-        Some(Held::Branch(_)) => Err(plan_miss(cache, line, Grow::BtoT)),
-        Some(Held::Trunk { bytes, .. }) => Ok(bytes),
+/// What comes of an act of a hart, by its status behind it.
+pub(crate) fn outcome_of(act: &Act, status: Status) -> Outcome {
+    match (act, status) {
+        (Act::Stop(code), _) => Outcome::Stopped(*code),
+        (Act::Retire { .. }, Status::Exited(code)) => Outcome::Exited(code),
+        (Act::Retire { .. } | Act::Local(_), _) => Outcome::Retired,
+        (Act::Miss { line, .. }, _) => Outcome::Missed(*line),
+        (Act::Drain(_), _) => Outcome::Drained,
+        (Act::Evict(_), _) => Outcome::Evicted,
+        (Act::Deliver(_), _) => Outcome::Delivered,
     }
 }

@@ -1,12 +1,12 @@
 //! What the message in front of a queue comes to, and what its delivery changes.
 
-use crate::cache::Probed;
+use crate::cache::Known;
 use crate::deciding::{Act, Plan};
-use crate::notes::{Acquired, Granting, Notes, Transaction};
+use crate::notes::{Noted, Transaction, conflicts};
 use crate::state::{Node, PlainMachine};
 use machine_types::Outcome;
 use std::alloc::AllocError;
-use tl_types::{Body, Cap, Change, Channel, Grow, LineData, Msg, Perm};
+use tl_types::{Body, Cap, Change, Channel, Grow, LineData, Msg, Perm, shrink};
 
 /// How many GrantAcks may wait.
 const ROOM_OF_E: usize = 4;
@@ -14,123 +14,134 @@ const ROOM_OF_E: usize = 4;
 impl PlainMachine {
     /// Only the front of a queue is looked at.
     pub(crate) fn plan_deliver(&self, node: &Node, channel: Channel) -> Plan {
-        let Some(message) = node.queues.front_of(channel) else {
+        let Some(message) = node.queues.queue_of(channel).first() else {
             return Plan::Stays(Outcome::Empty);
         };
-        match self.stall_of(node, &message) {
-            Some(stall) => Plan::Stays(stall),
-            None => Plan::Changes(Act::Deliver(message)),
-        }
-    }
-
-    fn stall_of(&self, node: &Node, message: &Msg) -> Option<Outcome> {
-        let is_stalled = match message.body {
-            Body::AcquireBlock(_) => {
-                let notes = self.notes.get(self.place_of(message.line));
-                notes.is_some_and(|notes| notes.transaction != Transaction::Idle)
-            }
-            Body::ProbeBlock(cap) => node.cache.probed(message.line, cap) == Probed::Releasing,
-            Body::Grant(_) | Body::GrantData { .. } => node.queues.e.len() >= ROOM_OF_E,
-            _ => false,
-        };
-        if !is_stalled {
-            return None;
-        }
+        let line = message.line;
+        let acks = node.queues.queue_of(Channel::E).len();
         match message.body {
-            Body::AcquireBlock(_) => Some(Outcome::Busy),
-            Body::ProbeBlock(_) => Some(Outcome::Releasing),
-            _ => Some(Outcome::AckFull),
+            Body::AcquireBlock(_) if self.notes_of(line).transaction != Transaction::Idle => {
+                Plan::Stays(Outcome::Busy)
+            }
+            Body::ProbeBlock(_) if node.cache.known(line).is_releasing => {
+                Plan::Stays(Outcome::Releasing)
+            }
+            Body::Grant(_) | Body::GrantData { .. } if acks >= ROOM_OF_E => {
+                Plan::Stays(Outcome::AckFull)
+            }
+            _ => Plan::Changes(Act::Deliver(*message)),
         }
     }
 
-    fn notes_of(&mut self, line: u32) -> Option<&mut Notes> {
-        let place = self.place_of(line);
-        self.notes.get_mut(place)
-    }
-
-    fn sent_grant(&mut self, line: u32, grant: Granting) -> Result<(), AllocError> {
-        let body = if grant.with_data {
-            Body::GrantData {
-                cap: grant.cap,
-                bytes: self.line_in_memory(line),
-            }
+    /// The Grant is sent, by the record at that moment, which takes what it grants. It is without data
+    /// where the requester asks to write what it reads, and its record still is Branch.
+    fn granted(&mut self, line: u32, requester: u8, grow: Grow) -> Result<(), AllocError> {
+        let mut notes = self.notes_of(line);
+        let noted = notes.noted_of(requester);
+        let cap = grow.granted();
+        let body = if grow == Grow::BtoT && noted.perm == Perm::Branch {
+            Body::Grant(cap)
         } else {
-            Body::Grant(grant.cap)
+            let bytes = self.line_in_memory(line);
+            Body::GrantData { cap, bytes }
         };
-        self.sent(grant.hart, Msg { line, body })
+        notes.note(
+            requester,
+            Noted {
+                perm: cap.perm(),
+                ..noted
+            },
+        );
+        notes.transaction = Transaction::Granted(requester);
+        self.with_notes(line, notes);
+        self.sent(requester, Msg { line, body })
     }
 
-    /// An Acquire: Probes to those who stand in its way, or the Grant.
-    fn on_acquire(&mut self, hart: u8, line: u32, grow: Grow) -> Result<(), AllocError> {
-        let alloc = self.alloc;
-        let Some(notes) = self.notes_of(line) else {
-            return Ok(());
-        };
-        match notes.acquired(alloc, hart, grow)? {
-            Acquired::Busy => Ok(()),
-            Acquired::Probes { cap, harts } => {
-                for probed in harts {
-                    let body = Body::ProbeBlock(cap);
-                    self.sent(probed, Msg { line, body })?;
-                }
-                Ok(())
+    /// An Acquire: Probes to those who stand in its way, rising, or the Grant where there are none.
+    fn on_acquire(&mut self, requester: u8, line: u32, grow: Grow) -> Result<(), AllocError> {
+        let mut notes = self.notes_of(line);
+        let body = Body::ProbeBlock(match grow {
+            Grow::NtoB => Cap::ToB,
+            Grow::NtoT | Grow::BtoT => Cap::ToN,
+        });
+        for hart in 0..8u8 {
+            let perm = notes.noted_of(hart).perm;
+            if hart != requester && conflicts(grow, perm) {
+                let is_awaited = true;
+                notes.note(hart, Noted { perm, is_awaited });
+                self.sent(hart, Msg { line, body })?;
             }
-            Acquired::Grants(grant) => self.sent_grant(line, grant),
         }
+        if !notes.is_any_awaited() {
+            return self.granted(line, requester, grow);
+        }
+        notes.transaction = Transaction::Probing { requester, grow };
+        self.with_notes(line, notes);
+        Ok(())
     }
 
-    /// A ProbeAck: its data goes to memory, and the last one that was awaited sends the Grant.
+    /// A ProbeAck: its data goes to memory, the record becomes what the change ends in, and the hart is no
+    /// longer awaited. The last one of a transaction sends its Grant.
     fn on_probe_ack(
         &mut self,
         hart: u8,
         line: u32,
         change: Change,
-        bytes: Option<LineData>,
+        bytes: Option<&LineData>,
     ) -> Result<(), AllocError> {
-        self.with_memory(line, bytes);
-        let Some(notes) = self.notes_of(line) else {
-            return Ok(());
-        };
-        match notes.probe_acked(hart, change) {
-            Some(grant) => self.sent_grant(line, grant),
-            None => Ok(()),
+        if let Some(bytes) = bytes {
+            self.with_memory(line, bytes);
+        }
+        let mut notes = self.notes_of(line);
+        let (perm, is_awaited) = (change.left(), false);
+        notes.note(hart, Noted { perm, is_awaited });
+        self.with_notes(line, notes);
+        match notes.transaction {
+            Transaction::Probing { requester, grow } if !notes.is_any_awaited() => {
+                self.granted(line, requester, grow)
+            }
+            _ => Ok(()),
         }
     }
 
-    /// A Release: its data goes to memory, and it is answered at once.
+    /// A Release, in every state of the transaction: its data goes to memory, nothing is left, awaited harts
+    /// stay awaited, and it is answered at once.
     fn on_release(
         &mut self,
         hart: u8,
         line: u32,
-        bytes: Option<LineData>,
+        bytes: Option<&LineData>,
     ) -> Result<(), AllocError> {
-        self.with_memory(line, bytes);
-        if let Some(notes) = self.notes_of(line) {
-            notes.released(hart);
+        if let Some(bytes) = bytes {
+            self.with_memory(line, bytes);
         }
+        let mut notes = self.notes_of(line);
+        let noted = notes.noted_of(hart);
+        let perm = Perm::Nothing;
+        notes.note(hart, Noted { perm, ..noted });
+        self.with_notes(line, notes);
         let body = Body::ReleaseAck;
         self.sent(hart, Msg { line, body })
     }
 
-    fn on_grant_ack(&mut self, line: u32) {
-        if let Some(notes) = self.notes_of(line) {
-            notes.grant_acked();
-        }
-    }
-
     /// A Probe: the copy shrinks, and its answer says to what.
     fn on_probe(&mut self, hart: u8, line: u32, cap: Cap) -> Result<(), AllocError> {
-        let Some(node) = self.node_at(hart) else {
+        let Some(node) = self.nodes.get_mut(usize::from(hart)) else {
             return Ok(());
         };
-        let Probed::Answered { change, bytes } = node.cache.probed(line, cap) else {
-            return Ok(());
-        };
-        node.cache.after_probed(line, cap)?;
+        let known = node.cache.known(line);
+        let (perm, change) = shrink(known.perm, cap);
+        node.cache.put(Known {
+            perm,
+            is_dirty: false,
+            ..known
+        })?;
         node.kept_reservation(line);
-        let body = match bytes {
-            None => Body::ProbeAck(change),
-            Some(bytes) => Body::ProbeAckData { change, bytes },
+        let bytes = known.bytes;
+        let body = if known.is_dirty {
+            Body::ProbeAckData { change, bytes }
+        } else {
+            Body::ProbeAck(change)
         };
         self.sent(hart, Msg { line, body })
     }
@@ -143,53 +154,44 @@ impl PlainMachine {
         cap: Cap,
         bytes: Option<LineData>,
     ) -> Result<(), AllocError> {
-        if let Some(node) = self.node_at(hart) {
+        if let Some(node) = self.nodes.get_mut(usize::from(hart)) {
             node.cache.after_granted(line, cap, bytes)?;
         }
         let body = Body::GrantAck;
         self.sent(hart, Msg { line, body })
     }
 
-    fn on_release_ack(&mut self, hart: u8, line: u32) {
-        if let Some(node) = self.node_at(hart) {
-            node.cache.after_answered(line);
-        }
+    /// A ReleaseAck: the line's Release is answered.
+    fn on_release_ack(&mut self, hart: u8, line: u32) -> Result<(), AllocError> {
+        let Some(node) = self.nodes.get_mut(usize::from(hart)) else {
+            return Ok(());
+        };
+        let mut known = node.cache.known(line);
+        known.is_releasing = false;
+        node.cache.put(known)
     }
 
-    pub(crate) fn delivered(&mut self, hart: u8, message: Msg) -> Result<(), AllocError> {
-        self.taken(hart, message)?;
+    pub(crate) fn delivered(&mut self, hart: u8, message: &Msg) -> Result<(), AllocError> {
+        self.taken(hart, *message)?;
         let line = message.line;
-        match message.body {
-            Body::AcquireBlock(grow) => self.on_acquire(hart, line, grow),
-            Body::ProbeBlock(cap) => self.on_probe(hart, line, cap),
-            Body::ProbeAck(change) => self.on_probe_ack(hart, line, change, None),
+        match &message.body {
+            Body::AcquireBlock(grow) => self.on_acquire(hart, line, *grow),
+            Body::ProbeBlock(cap) => self.on_probe(hart, line, *cap),
+            Body::ProbeAck(change) => self.on_probe_ack(hart, line, *change, None),
             Body::ProbeAckData { change, bytes } => {
-                self.on_probe_ack(hart, line, change, Some(bytes))
+                self.on_probe_ack(hart, line, *change, Some(bytes))
             }
             Body::Release(_) => self.on_release(hart, line, None),
             Body::ReleaseData { bytes, .. } => self.on_release(hart, line, Some(bytes)),
-            Body::Grant(cap) => self.on_grant(hart, line, cap, None),
-            Body::GrantData { cap, bytes } => self.on_grant(hart, line, cap, Some(bytes)),
-            Body::ReleaseAck => {
-                self.on_release_ack(hart, line);
-                Ok(())
-            }
+            Body::Grant(cap) => self.on_grant(hart, line, *cap, None),
+            Body::GrantData { cap, bytes } => self.on_grant(hart, line, *cap, Some(*bytes)),
+            Body::ReleaseAck => self.on_release_ack(hart, line),
             Body::GrantAck => {
-                self.on_grant_ack(line);
+                let mut notes = self.notes_of(line);
+                notes.transaction = Transaction::Idle;
+                self.with_notes(line, notes);
                 Ok(())
             }
-        }
-    }
-}
-
-impl Node {
-    /// A reservation of a word of the line lasts while the copy is Trunk.
-    pub(crate) fn kept_reservation(&mut self, line: u32) {
-        let is_kept = self.cache.perm_at(line) == Perm::Trunk;
-        let size = self.cache.size.bytes();
-        let is_in_line = |word: u32| word >= line && word - line < size;
-        if !is_kept && self.reserved.is_some_and(is_in_line) {
-            self.reserved = None;
         }
     }
 }

@@ -1,13 +1,12 @@
 //! The event meaning: which events are good, what each comes to and changes.
 
-use crate::cache::Evict;
-use crate::changing::outcome_of;
-use crate::deciding::{Act, Plan, writing};
+use crate::deciding::{Act, Plan, outcome_of};
 use crate::state::{Node, PlainMachine};
-use crate::steps::{next_alone, plan_step};
-use crate::words::{line_of, word_of};
+use crate::steps::{fetch, next_alone, retires, stall_of};
+use crate::words::{bytes_at, line_of, word_of};
 use elf_loader::BASE;
 use machine_types::{Config, Event, Outcome};
+use rv32_exec::Action;
 use std::alloc::AllocError;
 
 /// Events that may change a machine.
@@ -16,7 +15,7 @@ const MOST_CHANGES: u32 = 4_000_000;
 const MOST_ENTRIES: usize = 1_000_000;
 
 /// Why an event isn't applied.
-#[derive(Clone, Copy, Debug, PartialEq, Eq)]
+#[derive(Clone, Copy, Debug)]
 pub enum Refusal {
     /// The event names a hart, word, line or count that the machine hasn't.
     BadEvent,
@@ -50,62 +49,50 @@ fn hart_of(event: Event) -> u8 {
     }
 }
 
-fn plan_drain(node: &Node, word: u32) -> Plan {
-    if !node.buffer.has(word) {
-        return Plan::Stays(Outcome::NoEntry);
-    }
-    if !node.buffer.drainable(word) {
-        return Plan::Stays(Outcome::NotOldest);
-    }
-    match writing(&node.cache, line_of(node.cache.size, word)) {
-        Ok(_) => Plan::Changes(Act::Drain(word)),
-        Err(miss) => miss,
-    }
-}
-
-fn plan_evict(node: &Node, line: u32) -> Plan {
-    match node.cache.evicted(line) {
-        Evict::NotHeld => Plan::Stays(Outcome::NotHeld),
-        Evict::AcquirePending => Plan::Stays(Outcome::AcquirePending),
-        Evict::ReleaseFull => Plan::Stays(Outcome::ReleaseFull),
-        Evict::Evicted { .. } => Plan::Changes(Act::Evict(line)),
-    }
-}
-
-/// How many entries an act adds to its hart's list.
-fn entries_by(act: &Act) -> usize {
-    match act {
-        Act::Retire { .. } => 1,
-        Act::Local(count) => *count as usize,
-        _ => 0,
-    }
-}
-
 impl PlainMachine {
-    /// So many bytes at an address lie in memory.
-    fn is_inside(&self, address: u32, bytes: u32) -> bool {
-        let end = u64::from(BASE) + u64::from(self.image.size());
-        address >= BASE && u64::from(address) + u64::from(bytes) <= end
+    /// The instruction's own stalls come first; then it may need a copy that isn't there, unless all that it
+    /// loads waits in the buffer.
+    fn plan_step(&self, node: &Node) -> Plan {
+        let fetched = match fetch(&self.image, &node.state.hart) {
+            Ok(fetched) => fetched,
+            Err(plan) => return plan,
+        };
+        if let Some(stall) = stall_of(self.config.model, &node.state, &fetched) {
+            return Plan::Stays(stall);
+        }
+        let (address, writes) = match fetched.access {
+            Action::Load { addr, size } if !node.state.buffer.covers(addr, size) => (addr, false),
+            Action::Lr { addr } | Action::Amo { addr, .. } => (addr, true),
+            _ => return retires(&node.state, &fetched, [0; 4]),
+        };
+        if let Some(miss) = node.cache.plan_miss(address, writes) {
+            return miss;
+        }
+        let line = line_of(self.config.line, address);
+        let known = node.cache.known(line);
+        let place = word_of(address).saturating_sub(line) as usize;
+        retires(
+            &node.state,
+            &fetched,
+            bytes_at(known.bytes.as_slice(), place),
+        )
     }
 
-    /// What the event names beside its hart is there.
-    fn names_well(&self, event: Event) -> bool {
-        match event {
-            Event::Step { .. } | Event::Deliver { .. } => true,
-            Event::Drain { word, .. } => word == word_of(word) && self.is_inside(word, 4),
-            Event::Evict { line, .. } => {
-                let size = self.config.line;
-                line == line_of(size, line) && self.is_inside(line, size.bytes())
-            }
-            Event::Local { count, .. } => 1 <= count && count <= 256,
+    fn plan_drain(&self, node: &Node, word: u32) -> Plan {
+        match (
+            node.state.plan_drain(word),
+            node.cache.plan_miss(word, true),
+        ) {
+            (Plan::Changes(_), Some(miss)) => miss,
+            (plan, _) => plan,
         }
     }
 
     fn plan_local(&self, node: &Node, count: u32) -> Plan {
-        if !node.hart.status.is_running() {
+        if !node.state.hart.status.is_running() {
             return Plan::Stays(Outcome::Halted);
         }
-        let mut hart = node.hart;
+        let mut hart = node.state.hart;
         for _ in 0..count {
             match next_alone(&self.image, &hart) {
                 Some((_, next)) => hart = next,
@@ -115,19 +102,40 @@ impl PlainMachine {
         Plan::Changes(Act::Local(count))
     }
 
-    fn plan_of(&self, node: &Node, event: Event) -> Plan {
+    /// So many bytes at an address lie in memory.
+    fn is_inside(&self, address: u32, bytes: u32) -> bool {
+        let end = u64::from(BASE) + u64::from(self.image.size());
+        address >= BASE && u64::from(address) + u64::from(bytes) <= end
+    }
+
+    /// What an event comes to; none where what it names beside its hart isn't there.
+    fn plan_of(&self, node: &Node, event: Event) -> Option<Plan> {
+        let size = self.config.line;
         match event {
-            Event::Step { .. } => plan_step(self.config.model, &self.image, node),
-            Event::Drain { word, .. } => plan_drain(node, word),
-            Event::Evict { line, .. } => plan_evict(node, line),
-            Event::Deliver { channel, .. } => self.plan_deliver(node, channel),
-            Event::Local { count, .. } => self.plan_local(node, count),
+            Event::Step { .. } => Some(self.plan_step(node)),
+            Event::Drain { word, .. } if word == word_of(word) && self.is_inside(word, 4) => {
+                Some(self.plan_drain(node, word))
+            }
+            Event::Evict { line, .. }
+                if line == line_of(size, line) && self.is_inside(line, size.bytes()) => {
+                Some(node.cache.plan_evict(line))
+            }
+            Event::Deliver { channel, .. } => Some(self.plan_deliver(node, channel)),
+            Event::Local { count, .. } if 1 <= count && count <= 256 => {
+                Some(self.plan_local(node, count))
+            }
+            _ => None,
         }
     }
 
     /// So many events have changed the machine, or the hart's list would pass its length.
     fn is_limited(&self, node: &Node, act: &Act) -> bool {
-        let entries = node.entries.len().saturating_add(entries_by(act));
+        let more = match act {
+            Act::Retire { .. } => 1,
+            Act::Local(count) => *count as usize,
+            _ => 0,
+        };
+        let entries = node.state.entries.len().saturating_add(more);
         self.changes >= MOST_CHANGES || entries > MOST_ENTRIES
     }
 
@@ -136,19 +144,17 @@ impl PlainMachine {
     pub fn apply(&mut self, event: Event) -> Result<Outcome, Refusal> {
         let hart = hart_of(event);
         let node = self.nodes.get(usize::from(hart)).ok_or(Refusal::BadEvent)?;
-        if !self.names_well(event) {
-            return Err(Refusal::BadEvent);
-        }
         let act = match self.plan_of(node, event) {
-            Plan::Stays(outcome) => return Ok(outcome),
-            Plan::Changes(act) => act,
+            None => return Err(Refusal::BadEvent),
+            Some(Plan::Stays(outcome)) => return Ok(outcome),
+            Some(Plan::Changes(act)) => act,
         };
         if self.is_limited(node, &act) {
             return Err(Refusal::Limit);
         }
-        self.acted(hart, act)?;
+        self.acted(hart, &act)?;
         self.changes = self.changes.saturating_add(1);
         let node = self.nodes.get(usize::from(hart)).ok_or(Refusal::BadEvent)?;
-        Ok(outcome_of(&act, node.hart.status))
+        Ok(outcome_of(&act, node.state.hart.status))
     }
 }

@@ -1,7 +1,7 @@
-//! What every event means, as a plain and slow program over lists, to compare machines with. Each function
-//! is named as the definition of the event meaning that it follows, and shares nothing with the parts that
-//! a machine is built of: only instructions, images, messages and traces are theirs too. Beside it stands
-//! the flat meaning as such a program.
+//! What every event means, as a plain and slow program over lists, to compare machines with. A function that
+//! follows a definition of the event meaning has its name, and none shares anything with the parts that a
+//! machine is built of: only instructions, images, messages and traces are theirs too. Beside it stands the
+//! flat meaning as such a program.
 #![tactic(auto)]
 
 mod buffer;
@@ -11,6 +11,7 @@ mod deciding;
 mod deliveries;
 mod events;
 mod flat;
+mod hart_state;
 mod notes;
 mod queues;
 mod state;

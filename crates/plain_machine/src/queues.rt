@@ -1,16 +1,16 @@
 //! The messages that wait between one hart's cache and the manager.
 
-use std::alloc::{AllocError, Global};
+use std::alloc::Global;
 use tl_types::{Channel, Msg};
 
 /// A list for each channel, the first sent in front.
-#[derive(Debug, Drop)]
+#[derive(Drop)]
 pub(crate) struct Waiting {
-    pub a: Vec<Msg>,
-    pub b: Vec<Msg>,
-    pub c: Vec<Msg>,
-    pub d: Vec<Msg>,
-    pub e: Vec<Msg>,
+    a: Vec<Msg>,
+    b: Vec<Msg>,
+    c: Vec<Msg>,
+    d: Vec<Msg>,
+    e: Vec<Msg>,
 }
 
 impl Waiting {
@@ -34,31 +34,13 @@ impl Waiting {
         }
     }
 
-    fn queue_of_mut(&mut self, channel: Channel) -> &mut Vec<Msg> {
+    pub fn queue_of_mut(&mut self, channel: Channel) -> &mut Vec<Msg> {
         match channel {
             Channel::A => &mut self.a,
             Channel::B => &mut self.b,
             Channel::C => &mut self.c,
             Channel::D => &mut self.d,
             Channel::E => &mut self.e,
-        }
-    }
-
-    pub fn front_of(&self, channel: Channel) -> Option<Msg> {
-        self.queue_of(channel).first().copied()
-    }
-
-    /// A message goes to the back of its own channel's queue.
-    pub fn pushed(&mut self, message: Msg) -> Result<(), AllocError> {
-        self.queue_of_mut(message.channel()).push(message)?;
-        Ok(())
-    }
-
-    /// The message in front leaves.
-    pub fn popped(&mut self, channel: Channel) {
-        let queue = self.queue_of_mut(channel);
-        if !queue.is_empty() {
-            queue.remove(0);
         }
     }
 }

@@ -1,41 +1,28 @@
 //! What a machine is at a moment.
 
-use crate::buffer::Groups;
 use crate::cache::Cache;
 use crate::events::is_within_limits;
+use crate::hart_state::HartState;
 use crate::notes::Notes;
 use crate::queues::Waiting;
+use crate::words::{bytes_at, lines_below};
 use elf_loader::{BASE, Image};
-use hart::{Hart, Retired};
 use machine_types::Config;
 use std::alloc::{AllocError, Global};
-use tl_types::{LineData, LineSize, Msg};
+use tl_types::{LineData, LineSize, Msg, Perm};
 use trace_recorder::{Direction, Logged, OpId, Trace, are_within_limits};
 
 /// What belongs to one hart.
-#[derive(Debug, Drop)]
+#[derive(Drop)]
 pub(crate) struct Node {
-    pub hart: Hart,
-    /// What it has retired.
-    pub entries: Vec<Retired>,
-    /// The numbers that it put out.
-    pub output: Vec<u32>,
-    pub reserved: Option<u32>,
-    pub buffer: Groups,
+    pub state: HartState,
     pub cache: Cache,
     pub queues: Waiting,
 }
 
-impl Node {
-    /// How many instructions have retired: the place of the next one.
-    pub fn place(&self) -> u32 {
-        u32::try_from(self.entries.len()).unwrap_or(u32::MAX)
-    }
-}
-
 /// A machine that does what the event meaning says, in lists. Where memory is refused amid an event it is
 /// left as it then stands.
-#[derive(Debug, Drop)]
+#[derive(Drop)]
 pub struct PlainMachine {
     pub(crate) alloc: Global,
     pub(crate) config: Config,
@@ -54,26 +41,25 @@ pub struct PlainMachine {
 
 fn opening_node(alloc: Global, image: &Image, config: &Config, id: u8) -> Node {
     Node {
-        hart: Hart::at_reset(id, image.entry(), config.harts),
-        entries: Vec::new(alloc),
-        output: Vec::new(alloc),
-        reserved: None,
-        buffer: Groups::new(alloc),
-        cache: Cache::new(alloc, config.sets, config.ways, config.line),
+        state: HartState::at_reset(alloc, image, config, id),
+        cache: Cache {
+            config: *config,
+            lines: Vec::new(alloc),
+        },
         queues: Waiting::new(alloc),
     }
 }
 
-fn opening_notes(alloc: Global, image: &Image, config: &Config) -> Result<Vec<Notes>, AllocError> {
-    let lines = match config.line {
-        LineSize::Bytes16 => image.size() / 16,
-        LineSize::Bytes64 => image.size() / 64,
-    };
-    let mut notes = Vec::new(alloc);
-    for _ in 0..lines {
-        notes.push(Notes::quiet(alloc, config.harts as usize)?)?;
+impl Node {
+    /// A reservation of a word of the line lasts while the copy is Trunk.
+    pub fn kept_reservation(&mut self, line: u32) {
+        if let Some(word) = self.state.reserved {
+            let is_in_line = word >= line && word - line < self.cache.config.line.bytes();
+            if is_in_line && self.cache.known(line).perm != Perm::Trunk {
+                self.state.reserved = None;
+            }
+        }
     }
-    Ok(notes)
 }
 
 impl PlainMachine {
@@ -86,73 +72,75 @@ impl PlainMachine {
         if !is_within_limits(&config) {
             return Ok(None);
         }
-        let mut nodes = Vec::new(alloc);
-        for id in 0..8u8 {
-            if u32::from(id) < config.harts {
-                nodes.push(opening_node(alloc, &image, &config, id))?;
-            }
-        }
-        Ok(Some(PlainMachine {
+        let mut machine = PlainMachine {
             alloc,
             config,
-            nodes,
-            memory: image.bytes().to_vec(alloc)?,
-            notes: opening_notes(alloc, &image, &config)?,
             image,
+            nodes: Vec::new(alloc),
+            memory: Vec::new(alloc),
+            notes: Vec::new(alloc),
             changes: 0,
             performed: Vec::new(alloc),
             log: Vec::new(alloc),
-        }))
+        };
+        machine.reset()?;
+        Ok(Some(machine))
     }
 
-    pub(crate) fn node_at(&mut self, hart: u8) -> Option<&mut Node> {
-        self.nodes.get_mut(usize::from(hart))
+    /// Memory is the image's, nobody has a line, and each hart is about to start.
+    fn reset(&mut self) -> Result<(), AllocError> {
+        self.memory.extend_from_slice(self.image.bytes())?;
+        for _ in 0..lines_below(self.config.line, self.image.size()) {
+            self.notes.push(Notes::quiet())?;
+        }
+        for id in 0..8u8 {
+            if u32::from(id) < self.config.harts {
+                self.nodes
+                    .push(opening_node(self.alloc, &self.image, &self.config, id))?;
+            }
+        }
+        Ok(())
     }
 
-    /// The place in memory of the line that begins at an address.
-    pub(crate) fn place_of(&self, line: u32) -> usize {
-        let offset = line.saturating_sub(BASE) as usize;
-        match self.config.line {
-            LineSize::Bytes16 => offset / 16,
-            LineSize::Bytes64 => offset / 64,
+    /// What is noted of the line that begins at an address.
+    pub(crate) fn notes_of(&self, line: u32) -> Notes {
+        let place = lines_below(self.config.line, line.saturating_sub(BASE)) as usize;
+        match self.notes.get(place) {
+            Some(notes) => *notes,
+            None => Notes::quiet(),
+        }
+    }
+
+    /// What is noted of a line becomes this.
+    pub(crate) fn with_notes(&mut self, line: u32, notes: Notes) {
+        let place = lines_below(self.config.line, line.saturating_sub(BASE)) as usize;
+        if let Some(kept) = self.notes.get_mut(place) {
+            *kept = notes;
         }
     }
 
     pub(crate) fn line_in_memory(&self, line: u32) -> LineData {
+        let place = line.saturating_sub(BASE) as usize;
         match self.config.line {
-            LineSize::Bytes16 => LineData::Bytes16(self.bytes_at(line)),
-            LineSize::Bytes64 => LineData::Bytes64(self.bytes_at(line)),
+            LineSize::Bytes16 => LineData::Bytes16(bytes_at(&self.memory, place)),
+            LineSize::Bytes64 => LineData::Bytes64(bytes_at(&self.memory, place)),
         }
-    }
-
-    fn bytes_at<const N: usize>(&self, line: u32) -> [u8; N] {
-        let mut bytes = [0; N];
-        let start = line.saturating_sub(BASE) as usize;
-        if let Some(rest) = self.memory.get(start..) {
-            for (byte, kept) in bytes.iter_mut().zip(rest) {
-                *byte = *kept;
-            }
-        }
-        bytes
     }
 
     /// Data that comes with an answer goes to memory.
-    pub(crate) fn with_memory(&mut self, line: u32, data: Option<LineData>) {
-        let Some(data) = data else {
-            return;
-        };
-        let start = line.saturating_sub(BASE) as usize;
-        if let Some(rest) = self.memory.as_mut_slice().get_mut(start..) {
+    pub(crate) fn with_memory(&mut self, line: u32, data: &LineData) {
+        let place = line.saturating_sub(BASE) as usize;
+        if let Some(rest) = self.memory.as_mut_slice().get_mut(place..) {
             for (kept, byte) in rest.iter_mut().zip(data.as_slice()) {
                 *kept = *byte;
             }
         }
     }
 
-    /// A message goes into its queue of a hart, and into the log.
+    /// A message goes to the back of its channel's queue of a hart, and into the log.
     pub(crate) fn sent(&mut self, hart: u8, message: Msg) -> Result<(), AllocError> {
-        if let Some(node) = self.node_at(hart) {
-            node.queues.pushed(message)?;
+        if let Some(node) = self.nodes.get_mut(usize::from(hart)) {
+            node.queues.queue_of_mut(message.channel()).push(message)?;
         }
         self.log.push(Logged {
             direction: Direction::Sent,
@@ -169,8 +157,11 @@ impl PlainMachine {
             hart,
             message,
         })?;
-        if let Some(node) = self.node_at(hart) {
-            node.queues.popped(message.channel());
+        if let Some(node) = self.nodes.get_mut(usize::from(hart)) {
+            let queue = node.queues.queue_of_mut(message.channel());
+            if !queue.is_empty() {
+                queue.remove(0);
+            }
         }
         Ok(())
     }
@@ -184,9 +175,10 @@ impl PlainMachine {
         let mut statuses = Vec::new(alloc);
         let mut outputs = Vec::new(alloc);
         for node in self.nodes {
-            statuses.push(node.hart.status)?;
-            entries.push(node.entries)?;
-            outputs.push(node.output)?;
+            let state = node.state;
+            statuses.push(state.hart.status)?;
+            entries.push(state.entries)?;
+            outputs.push(state.output)?;
         }
         if !are_within_limits(&entries) {
             return Ok(None);

@@ -1,94 +1,57 @@
 //! What a hart's next instruction comes to: each check in its order, and then the act.
 
 use crate::buffer::Groups;
-use crate::deciding::{Act, Deed, Plan, reading, writing};
-use crate::state::Node;
-use crate::words::{
-    covers, laid_over, line_of, marks_of_access, read_from, store_of, word_in, word_of,
-};
+use crate::deciding::{Act, Deed, Plan};
+use crate::hart_state::HartState;
+use crate::words::{read_from, store_of, word_of, write_word};
 use amo_unit::combine;
 use bitflags::Flags;
 use elf_loader::Image;
 use hart::{Hart, Retired, Status};
 use machine_model::MemoryModel;
 use machine_types::Outcome;
-use rv32_decode::{AmoOp, FenceSet, Instr, Register, SystemOp, decode};
+use rv32_decode::{FenceSet, Instr, Register, SystemOp, decode};
 use rv32_exec::{Action, Regs, Width, finish, plan, stop};
 
 /// An instruction that a hart is about to retire.
-#[derive(Clone, Copy, Debug)]
+#[derive(Clone, Copy)]
 pub(crate) struct Fetched {
     pub word: u32,
     pub instr: Instr,
-    /// How many instructions stand before it in the hart's list.
-    pub place: u32,
+    /// What it will do.
+    pub access: Action,
 }
 
-/// What stands in the hart's list where it retires.
-pub(crate) fn entry_of(
-    hart: &Hart,
-    fetched: &Fetched,
-    loaded: Option<u32>,
-    sc_ok: Option<bool>,
-) -> Retired {
-    Retired {
-        pc: hart.pc,
-        word: fetched.word,
-        loaded,
-        sc_ok,
+/// A running hart's next instruction, or what its step comes to without one: the hart has to run; then come
+/// the stops.
+pub(crate) fn fetch(image: &Image, hart: &Hart) -> Result<Fetched, Plan> {
+    if !hart.status.is_running() {
+        return Err(Plan::Stays(Outcome::Halted));
     }
-}
-
-fn retires(
-    node: &Node,
-    fetched: &Fetched,
-    loaded: Option<u32>,
-    sc_ok: Option<bool>,
-    deed: Deed,
-) -> Plan {
-    Plan::Changes(Act::Retire {
-        entry: entry_of(&node.hart, fetched, loaded, sc_ok),
-        instr: fetched.instr,
-        deed,
-    })
-}
-
-/// A byte that waits in the buffer wins over the copy's; where all wait there, no copy is needed.
-fn plan_load(node: &Node, fetched: &Fetched, address: u32, size: Width) -> Plan {
-    let word = word_of(address);
-    let (marks, waiting) = node.buffer.forwarded(word);
-    let bytes = if covers(marks, marks_of_access(address % 4, size)) {
-        waiting
-    } else {
-        match reading(&node.cache, line_of(node.cache.size, address)) {
-            Ok(line) => laid_over(marks, waiting, word_in(&line, word)),
-            Err(miss) => return miss,
-        }
+    if !image.has_word(hart.pc) {
+        return Err(Plan::Changes(Act::Stop(stop::FETCH_OUTSIDE)));
+    }
+    let word = image.word(hart.pc);
+    let Some(instr) = decode(word) else {
+        return Err(Plan::Changes(Act::Stop(stop::ILLEGAL)));
     };
-    let loaded = read_from(bytes, address, size);
-    retires(node, fetched, Some(loaded), None, Deed::Load)
-}
-
-fn plan_store(node: &Node, fetched: &Fetched, address: u32, size: Width, value: u32) -> Plan {
-    if node.buffer.fits(word_of(address)) {
-        let store = store_of(address, size, value, fetched.place);
-        retires(node, fetched, None, None, Deed::Store(store))
-    } else {
-        Plan::Stays(Outcome::BufferFull)
-    }
-}
-
-/// The instruction's bit rl.
-fn has_release(instr: &Instr) -> bool {
-    match instr {
-        Instr::Lr { bits, .. } | Instr::Sc { bits, .. } | Instr::Amo { bits, .. } => bits.release,
-        _ => false,
+    match plan(&instr, hart.pc, &hart.regs, image.size()) {
+        Action::Stop(code) => Err(Plan::Changes(Act::Stop(code))),
+        access => Ok(Fetched {
+            word,
+            instr,
+            access,
+        }),
     }
 }
 
 /// A release bit waits for all stores, and each access for those to its own word.
-pub(crate) fn waits_for_stores(buffer: &Groups, instr: &Instr, word: u32) -> bool {
-    (has_release(instr) && !buffer.is_empty()) || buffer.has(word)
+fn waits_for_stores(buffer: &Groups, instr: &Instr, word: u32) -> bool {
+    let has_release = match instr {
+        Instr::Lr { bits, .. } | Instr::Sc { bits, .. } | Instr::Amo { bits, .. } => bits.release,
+        _ => false,
+    };
+    (has_release && !buffer.is_empty()) || buffer.has(word)
 }
 
 /// A write that is performed at once passes no sealed group, and under Ztso no store.
@@ -96,58 +59,6 @@ pub(crate) fn write_waits(model: MemoryModel, buffer: &Groups, instr: &Instr, wo
     match model {
         MemoryModel::Rvwmo => waits_for_stores(buffer, instr, word) || buffer.has_sealed(),
         MemoryModel::Ztso => !buffer.is_empty(),
-    }
-}
-
-fn plan_lr(node: &Node, fetched: &Fetched, address: u32) -> Plan {
-    if waits_for_stores(&node.buffer, &fetched.instr, address) {
-        return Plan::Stays(Outcome::MustDrain);
-    }
-    match writing(&node.cache, line_of(node.cache.size, address)) {
-        Ok(line) => {
-            let old = read_from(word_in(&line, address), address, Width::Word);
-            retires(node, fetched, Some(old), None, Deed::Lr(address))
-        }
-        Err(miss) => miss,
-    }
-}
-
-/// Without its reservation a store conditional fails at once.
-fn plan_sc(model: MemoryModel, node: &Node, fetched: &Fetched, address: u32, value: u32) -> Plan {
-    if node.reserved != Some(address) {
-        return retires(node, fetched, None, Some(false), Deed::Fail);
-    }
-    if write_waits(model, &node.buffer, &fetched.instr, address) {
-        return Plan::Stays(Outcome::MustDrain);
-    }
-    let deed = Deed::Sc {
-        word: address,
-        value,
-    };
-    retires(node, fetched, None, Some(true), deed)
-}
-
-fn plan_amo(
-    model: MemoryModel,
-    node: &Node,
-    fetched: &Fetched,
-    address: u32,
-    op: AmoOp,
-    operand: u32,
-) -> Plan {
-    if write_waits(model, &node.buffer, &fetched.instr, address) {
-        return Plan::Stays(Outcome::MustDrain);
-    }
-    match writing(&node.cache, line_of(node.cache.size, address)) {
-        Ok(line) => {
-            let old = read_from(word_in(&line, address), address, Width::Word);
-            let deed = Deed::Amo {
-                word: address,
-                value: combine(op, old, operand),
-            };
-            retires(node, fetched, Some(old), None, deed)
-        }
-        Err(miss) => miss,
     }
 }
 
@@ -166,125 +77,151 @@ fn orders_after_stores(instr: &Instr) -> (bool, bool) {
     }
 }
 
-/// What a fence does; none where it has to wait. One that orders stores before loads waits until no store
-/// waits; one that orders stores before stores closes the open group.
-pub(crate) fn fence_deed(buffer: &Groups, instr: &Instr) -> Option<Deed> {
-    let (before_loads, before_stores) = orders_after_stores(instr);
-    if before_loads && !buffer.is_empty() {
-        return None;
-    }
-    Some(if before_stores {
-        Deed::Seal
+/// What an instruction waits for in its own hart's store buffer. A fence that orders stores before loads
+/// waits until no store waits.
+pub(crate) fn stall_of(
+    model: MemoryModel,
+    state: &HartState,
+    fetched: &Fetched,
+) -> Option<Outcome> {
+    let buffer = &state.buffer;
+    let instr = &fetched.instr;
+    let must_drain = match fetched.access {
+        Action::Store { addr, .. } if !buffer.fits(word_of(addr)) => {
+            return Some(Outcome::BufferFull);
+        }
+        Action::Lr { addr } => waits_for_stores(buffer, instr, addr),
+        // Without its reservation a store conditional fails at once.
+        Action::Sc { addr, .. } => {
+            state.reserved == Some(addr) && write_waits(model, buffer, instr, addr)
+        }
+        Action::Amo { addr, .. } => write_waits(model, buffer, instr, addr),
+        Action::Fence => orders_after_stores(instr).0 && !buffer.is_empty(),
+        _ => false,
+    };
+    if must_drain {
+        Some(Outcome::MustDrain)
     } else {
-        Deed::Private
-    })
-}
-
-fn plan_fence(node: &Node, fetched: &Fetched) -> Plan {
-    match fence_deed(&node.buffer, &fetched.instr) {
-        Some(deed) => retires(node, fetched, None, None, deed),
-        None => Plan::Stays(Outcome::MustDrain),
+        None
     }
 }
 
-/// The number of an environment call, and its argument.
+/// What a load gives, where a byte that waits in the buffer wins over that of the word beneath.
+fn loaded_by(buffer: &Groups, address: u32, size: Width, word: [u8; 4]) -> u32 {
+    let (marks, waiting) = buffer.forwarded(word_of(address));
+    let mut bytes = word;
+    write_word(&mut bytes, 0, marks, waiting);
+    read_from(bytes, address, size)
+}
+
+/// The number of an environment call, and its argument. 0 ends the hart, 1 puts a number out.
 fn call_of(regs: &Regs) -> (u32, u32) {
     (regs.get(Register::new(17)), regs.get(Register::new(10)))
 }
 
-/// 0 ends the hart, 1 puts a number out.
-pub(crate) fn call_deed(regs: &Regs) -> Deed {
-    let (number, argument) = call_of(regs);
-    if number == 0 {
-        Deed::Private
-    } else {
-        Deed::Output(argument)
+/// What an instruction does that orders or calls: a fence that orders stores before stores closes the open
+/// group.
+fn deed_aside(instr: &Instr, regs: &Regs) -> Deed {
+    match (instr, call_of(regs)) {
+        (Instr::System(SystemOp::Ecall), (0, _)) => Deed::Private,
+        (Instr::System(SystemOp::Ecall), (_, argument)) => Deed::Output(argument),
+        _ if orders_after_stores(instr).1 => Deed::Seal,
+        _ => Deed::Private,
     }
 }
 
-/// A running hart's next instruction and what it will do; or the code with which the hart stops before it.
-pub(crate) fn next_access(image: &Image, hart: &Hart, place: u32) -> Result<(Fetched, Action), u8> {
-    if !image.has_word(hart.pc) {
-        return Err(stop::FETCH_OUTSIDE);
-    }
-    let word = image.word(hart.pc);
-    let Some(instr) = decode(word) else {
-        return Err(stop::ILLEGAL);
+/// The instruction retires, where nothing stands in its way. The word that it reads has these bytes.
+pub(crate) fn retires(state: &HartState, fetched: &Fetched, word: [u8; 4]) -> Plan {
+    let number = u32::from_le_bytes(word);
+    let (loaded, sc_ok, deed) = match fetched.access {
+        Action::Load {
+            addr: address,
+            size,
+        } => {
+            let is_covered = state.buffer.covers(address, size);
+            let loaded = loaded_by(&state.buffer, address, size, word);
+            let deed = Deed::Load {
+                address,
+                is_covered,
+            };
+            (Some(loaded), None, deed)
+        }
+        Action::Store { addr, size, value } => {
+            let store = store_of(addr, size, value, state.place());
+            (None, None, Deed::Store(store))
+        }
+        Action::Lr { addr } => (Some(number), None, Deed::Lr(addr)),
+        Action::Sc { addr: word, value } if state.reserved == Some(word) => {
+            (None, Some(true), Deed::Sc { word, value })
+        }
+        Action::Sc { .. } => (None, Some(false), Deed::Fail),
+        Action::Amo {
+            addr: word,
+            op,
+            operand,
+        } => {
+            let value = combine(op, number, operand);
+            (Some(number), None, Deed::Amo { word, value })
+        }
+        _ => (None, None, deed_aside(&fetched.instr, &state.hart.regs)),
     };
-    let access = plan(&instr, hart.pc, &hart.regs, image.size());
-    Ok((Fetched { word, instr, place }, access))
+    retires_as(state, fetched, loaded, sc_ok, deed)
 }
 
-/// The hart has to run; then come the stops.
-pub(crate) fn plan_step(model: MemoryModel, image: &Image, node: &Node) -> Plan {
-    if !node.hart.status.is_running() {
-        return Plan::Stays(Outcome::Halted);
-    }
-    match next_access(image, &node.hart, node.place()) {
-        Ok((fetched, access)) => plan_access(model, node, &fetched, access),
-        Err(code) => Plan::Changes(Act::Stop(code)),
-    }
+/// What stands in the hart's list then is what the instruction loaded and whether its SC succeeded.
+pub(crate) fn retires_as(
+    state: &HartState,
+    fetched: &Fetched,
+    loaded: Option<u32>,
+    sc_ok: Option<bool>,
+    deed: Deed,
+) -> Plan {
+    let entry = Retired {
+        pc: state.hart.pc,
+        word: fetched.word,
+        loaded,
+        sc_ok,
+    };
+    let instr = fetched.instr;
+    Plan::Changes(Act::Retire { entry, instr, deed })
 }
 
-fn plan_access(model: MemoryModel, node: &Node, fetched: &Fetched, access: Action) -> Plan {
-    match access {
-        Action::Private => retires(node, fetched, None, None, Deed::Private),
-        Action::Load { addr, size } => plan_load(node, fetched, addr, size),
-        Action::Store { addr, size, value } => plan_store(node, fetched, addr, size, value),
-        Action::Lr { addr } => plan_lr(node, fetched, addr),
-        Action::Sc { addr, value } => plan_sc(model, node, fetched, addr, value),
-        Action::Amo { addr, op, operand } => plan_amo(model, node, fetched, addr, op, operand),
-        Action::Fence => plan_fence(node, fetched),
-        Action::Call => retires(node, fetched, None, None, call_deed(&node.hart.regs)),
-        Action::Stop(code) => Plan::Changes(Act::Stop(code)),
-    }
-}
-
-/// The number that an entry's instruction read: for a store conditional 0 where it succeeded and 1 where it
-/// failed.
-fn number_read(entry: &Retired) -> Option<u32> {
-    match entry.sc_ok {
+/// The hart after it retired an entry. It runs on, but after an environment call of number 0, which ends it
+/// with its argument modulo 256.
+pub(crate) fn after_instr(hart: &Hart, entry: &Retired, instr: &Instr) -> Hart {
+    // A store conditional reads 0 where it succeeded and 1 where it failed.
+    let number_read = match entry.sc_ok {
         None => entry.loaded,
         Some(ok) => Some(u32::from(!ok)),
-    }
-}
-
-/// A hart runs on, but after an environment call of number 0, which ends it with its argument modulo 256.
-fn status_after(instr: &Instr, regs: &Regs) -> Status {
-    match (instr, call_of(regs)) {
+    };
+    let mut regs = hart.regs;
+    let pc = finish(instr, hart.pc, &mut regs, number_read);
+    let status = match (instr, call_of(&hart.regs)) {
         (Instr::System(SystemOp::Ecall), (0, argument)) => Status::Exited((argument % 256) as u8),
         _ => Status::Running,
-    }
-}
-
-/// The hart after it retired an entry.
-pub(crate) fn after_instr(hart: &Hart, entry: &Retired, instr: &Instr) -> Hart {
-    let mut regs = hart.regs;
-    let pc = finish(instr, hart.pc, &mut regs, number_read(entry));
+    };
     Hart {
         id: hart.id,
         pc,
         regs,
-        status: status_after(instr, &hart.regs),
+        status,
     }
 }
 
 /// The next entry of a running hart and the hart behind it, where it is of a private instruction that
 /// doesn't stop.
 pub(crate) fn next_alone(image: &Image, hart: &Hart) -> Option<(Retired, Hart)> {
-    if !hart.status.is_running() || !image.has_word(hart.pc) {
+    let Ok(fetched) = fetch(image, hart) else {
         return None;
-    }
-    let word = image.word(hart.pc);
-    let instr = decode(word)?;
-    if plan(&instr, hart.pc, &hart.regs, image.size()) != Action::Private {
+    };
+    if fetched.access != Action::Private {
         return None;
     }
     let entry = Retired {
         pc: hart.pc,
-        word,
+        word: fetched.word,
         loaded: None,
         sc_ok: None,
     };
-    Some((entry, after_instr(hart, &entry, &instr)))
+    Some((entry, after_instr(hart, &entry, &fetched.instr)))
 }

@@ -1,14 +1,12 @@
 //! What can be asked of a machine, to compare it with another.
 
-use crate::buffer::Groups;
-use crate::cache::Held;
 use crate::notes::Transaction;
 use crate::state::{Node, PlainMachine};
 use hart::Hart;
 use tl_types::{Channel, LineData, Msg, Perm};
 
 /// What belongs to one hart of a machine.
-#[derive(Clone, Copy, Debug)]
+#[derive(Clone, Copy)]
 pub struct NodeView<'a> {
     node: &'a Node,
 }
@@ -16,64 +14,56 @@ pub struct NodeView<'a> {
 impl<'a> NodeView<'a> {
     /// The hart as it stands.
     pub fn hart(&self) -> Hart {
-        self.node.hart
-    }
-
-    /// The numbers that the hart put out, the first one first.
-    pub fn output(&self) -> &'a [u32] {
-        &self.node.output
+        self.node.state.hart
     }
 
     /// The word that the hart has reserved.
     pub fn reserved(&self) -> Option<u32> {
-        self.node.reserved
-    }
-
-    fn buffer(&self) -> &'a Groups {
-        &self.node.buffer
+        self.node.state.reserved
     }
 
     /// Whether no store waits.
     pub fn is_buffer_empty(&self) -> bool {
-        self.buffer().is_empty()
+        self.node.state.buffer.is_empty()
     }
 
     /// Whether a group of stores is closed.
     pub fn has_sealed(&self) -> bool {
-        self.buffer().has_sealed()
+        self.node.state.buffer.has_sealed()
     }
 
     /// Which bytes of the word wait in the store buffer, and the newest of each.
     pub fn forwarded(&self, word: u32) -> ([bool; 4], [u8; 4]) {
-        self.buffer().forwarded(word)
+        self.node.state.buffer.forwarded(word)
     }
 
     /// The cache's permission for a line.
     pub fn perm(&self, line: u32) -> Perm {
-        self.node.cache.perm_at(line)
+        self.node.cache.known(line).perm
     }
 
     /// The bytes of the cache's copy of a line.
     pub fn bytes(&self, line: u32) -> Option<LineData> {
-        self.node.cache.copy_at(line).map(|held| held.bytes_in())
+        let known = self.node.cache.known(line);
+        match known.perm {
+            Perm::Nothing => None,
+            Perm::Branch | Perm::Trunk => Some(known.bytes),
+        }
     }
 
     /// Whether the cache's copy of a line was written.
     pub fn is_dirty(&self, line: u32) -> bool {
-        matches!(
-            self.node.cache.copy_at(line),
-            Some(Held::Trunk { dirty: true, .. })
-        )
+        self.node.cache.known(line).is_dirty
     }
 
     /// Whether an Acquire of the line is outstanding.
     pub fn is_acquiring(&self, line: u32) -> bool {
-        self.node.cache.acquiring.contains(&line)
+        self.node.cache.known(line).is_acquiring
     }
 
     /// Whether a Release of the line is unanswered.
     pub fn is_releasing(&self, line: u32) -> bool {
-        self.node.cache.releasing.contains(&line)
+        self.node.cache.known(line).is_releasing
     }
 
     /// The messages that wait in the queue of a channel, the first sent in front.
@@ -101,22 +91,16 @@ impl PlainMachine {
 
     /// What the manager's record of a line says that a hart has.
     pub fn record(&self, line: u32, hart: u8) -> Perm {
-        let notes = self.notes.get(self.place_of(line));
-        notes.map_or(Perm::Nothing, |notes| notes.perm_of(hart))
+        self.notes_of(line).noted_of(hart).perm
     }
 
     /// Whether a hart's ProbeAck of a line is awaited.
     pub fn is_awaited(&self, line: u32, hart: u8) -> bool {
-        let Some(notes) = self.notes.get(self.place_of(line)) else {
-            return false;
-        };
-        let known = notes.known.get(usize::from(hart));
-        known.is_some_and(|known| known.awaited)
+        self.notes_of(line).noted_of(hart).is_awaited
     }
 
     /// Where a line's transaction stands.
     pub fn transaction(&self, line: u32) -> Transaction {
-        let notes = self.notes.get(self.place_of(line));
-        notes.map_or(Transaction::Idle, |notes| notes.transaction)
+        self.notes_of(line).transaction
     }
 }

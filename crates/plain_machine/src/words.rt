@@ -1,9 +1,9 @@
-//! Words of lines, and the bytes of an access in a word (RISC-V Unprivileged ISA 20191213, section 2.6; where
-//! it leaves the byte order open, this machine is little endian).
+//! Words of lines and of memory, and the bytes of an access in a word (RISC-V Unprivileged ISA 20191213,
+//! section 2.6; where it leaves the byte order open, this machine is little endian).
 
 use crate::buffer::Store;
 use rv32_exec::Width;
-use tl_types::{LineData, LineSize};
+use tl_types::LineSize;
 
 /// Which of a word's four bytes, the one at its address first.
 pub(crate) type Marks = [bool; 4];
@@ -21,66 +21,59 @@ pub(crate) fn line_of(size: LineSize, address: u32) -> u32 {
     }
 }
 
-/// The byte of a line at an address, which is there at its remainder by the line's size.
-fn byte_in(line: &LineData, address: u32) -> u8 {
-    match line {
-        LineData::Bytes16(bytes) => bytes[(address % 16) as usize],
-        LineData::Bytes64(bytes) => bytes[(address % 64) as usize],
+/// How many lines lie below that of an address.
+pub(crate) fn lines_below(size: LineSize, address: u32) -> u32 {
+    match size {
+        LineSize::Bytes16 => address / 16,
+        LineSize::Bytes64 => address / 64,
     }
 }
 
-fn set_byte(line: &mut LineData, address: u32, byte: u8) {
-    match line {
-        LineData::Bytes16(bytes) => bytes[(address % 16) as usize] = byte,
-        LineData::Bytes64(bytes) => bytes[(address % 64) as usize] = byte,
-    }
-}
-
-/// The four bytes of an aligned word in its line.
-pub(crate) fn word_in(line: &LineData, word: u32) -> [u8; 4] {
-    [
-        byte_in(line, word),
-        byte_in(line, word | 1),
-        byte_in(line, word | 2),
-        byte_in(line, word | 3),
-    ]
-}
-
-/// The line after the marked bytes of an aligned word were written.
-pub(crate) fn with_word(line: &LineData, word: u32, marks: Marks, bytes: [u8; 4]) -> LineData {
-    let mut written = *line;
-    for k in 0..4u32 {
-        let place = k as usize;
-        if marks[place] {
-            set_byte(&mut written, word | k, bytes[place]);
+/// So many of the bytes from a place on, and 0 behind the last one.
+pub(crate) fn bytes_at<const N: usize>(bytes: &[u8], place: usize) -> [u8; N] {
+    let mut found = [0; N];
+    if let Some(rest) = bytes.get(place..) {
+        for (byte, kept) in found.iter_mut().zip(rest) {
+            *byte = *kept;
         }
     }
-    written
+    found
 }
 
-/// The marked bytes of the upper word, and the others of the lower.
-pub(crate) fn laid_over(marks: Marks, upper: [u8; 4], lower: [u8; 4]) -> [u8; 4] {
-    let mut bytes = lower;
+/// The marked bytes of a word are written to the bytes from a place on.
+pub(crate) fn write_word(bytes: &mut [u8], place: usize, marks: Marks, word: [u8; 4]) {
+    if let Some(rest) = bytes.get_mut(place..) {
+        for (byte, (mark, written)) in rest.iter_mut().zip(marks.iter().zip(word.iter())) {
+            if *mark {
+                *byte = *written;
+            }
+        }
+    }
+}
+
+/// The marked bytes of the upper word go over those of the lower one, where they are marked then, too.
+pub(crate) fn overlay(
+    marks: &mut Marks,
+    bytes: &mut [u8; 4],
+    upper_marks: Marks,
+    upper_bytes: [u8; 4],
+) {
     for k in 0..4 {
-        if marks[k] {
-            bytes[k] = upper[k];
+        if upper_marks[k] {
+            marks[k] = true;
+            bytes[k] = upper_bytes[k];
         }
     }
-    bytes
 }
 
-/// The bytes of an access: so many, from this place of its word on.
-pub(crate) fn marks_of_access(offset: u32, size: Width) -> Marks {
-    let is_marked = |k: u32| k >= offset && k - offset < size.bytes();
-    [is_marked(0), is_marked(1), is_marked(2), is_marked(3)]
-}
-
-/// Whether it marks all that are needed.
-pub(crate) fn covers(marks: Marks, needed: Marks) -> bool {
-    needed
-        .iter()
-        .zip(marks.iter())
-        .all(|(need, mark)| !*need || *mark)
+/// The bytes of an access in its word.
+pub(crate) fn marks_of_access(address: u32, size: Width) -> Marks {
+    let offset = address % 4;
+    let mut marks = [false; 4];
+    for (k, mark) in (0..4u32).zip(marks.iter_mut()) {
+        *mark = k >= offset && k - offset < size.bytes();
+    }
+    marks
 }
 
 /// What an access reads, where the bytes of its word are these.
@@ -97,7 +90,7 @@ pub(crate) fn read_from(word: [u8; 4], address: u32, size: Width) -> u32 {
 pub(crate) fn store_of(address: u32, size: Width, value: u32, op: u32) -> Store {
     Store {
         word: word_of(address),
-        mask: marks_of_access(address % 4, size),
+        mask: marks_of_access(address, size),
         value: (value << (8 * (address % 4))).to_le_bytes(),
         op,
     }

@@ -1,11 +1,11 @@
 //! Which reservations an access of memory ends.
 
-use crate::words::line_of;
+use crate::deciding::Deed;
+use crate::words::lines_below;
 use machine_types::Config;
-use tl_types::LineSize;
 
 /// The flat meaning, or a wrong one that differs from it in one rule.
-#[derive(Clone, Copy, Debug, PartialEq, Eq)]
+#[derive(Clone, Copy)]
 pub enum Variant {
     /// The flat meaning itself.
     Right,
@@ -22,7 +22,7 @@ pub enum Variant {
 }
 
 /// How memory is accessed.
-#[derive(Clone, Copy, Debug, PartialEq, Eq)]
+#[derive(Clone, Copy)]
 pub(crate) enum Kind {
     Read,
     /// By an SC or an AMO.
@@ -31,7 +31,7 @@ pub(crate) enum Kind {
 }
 
 /// An access of memory by a hart.
-#[derive(Clone, Copy, Debug, PartialEq, Eq)]
+#[derive(Clone, Copy)]
 pub(crate) struct Accessed {
     pub hart: u8,
     pub address: u32,
@@ -39,61 +39,46 @@ pub(crate) struct Accessed {
 }
 
 /// By what accesses end reservations.
-#[derive(Clone, Copy, Debug)]
+#[derive(Clone, Copy)]
 pub(crate) struct Rules {
     pub config: Config,
     pub variant: Variant,
 }
 
 impl Rules {
-    /// How many lines lie before an address's own.
-    fn line_number(&self, address: u32) -> u32 {
-        match self.config.line {
-            LineSize::Bytes16 => address / 16,
-            LineSize::Bytes64 => address / 64,
+    /// Where and how an instruction that retires accesses memory; a load wholly from the buffer doesn't.
+    pub fn access_by(&self, deed: &Deed) -> Option<(u32, Kind)> {
+        match (deed, self.variant) {
+            (Deed::Load { address, .. }, Variant::BufferedLoadsAccess)
+            | (
+                Deed::Load {
+                    address,
+                    is_covered: false,
+                },
+                _,
+            )
+            | (Deed::Lr(address), _) => Some((*address, Kind::Read)),
+            (Deed::Sc { word, .. } | Deed::Amo { word, .. }, _) => Some((*word, Kind::Write)),
+            _ => None,
         }
     }
 
-    fn is_one_line(&self, one: u32, other: u32) -> bool {
-        let size = self.config.line;
-        line_of(size, one) == line_of(size, other)
-    }
-
-    fn is_one_set(&self, one: u32, other: u32) -> bool {
-        let set = |address| self.line_number(address).checked_rem(self.config.sets);
-        set(one) == set(other)
-    }
-
-    /// Sets hold one line, and the two addresses lie in different lines of one set.
-    fn are_rivals(&self, one: u32, other: u32) -> bool {
-        self.config.ways == 1 && self.is_one_set(one, other) && !self.is_one_line(one, other)
-    }
-
-    fn ends_others(&self, kind: Kind) -> bool {
-        match self.variant {
-            Variant::OnlyWritesEnd => kind != Kind::Read,
-            Variant::DrainsEndNothing => kind != Kind::Drain,
-            _ => true,
+    /// Whether an access ends a hart's reservation of a word: another hart's that of a word of the same line,
+    /// and its own, where sets hold one line, that of a word of another line of the set.
+    pub fn ends(&self, accessed: &Accessed, hart: u8, word: u32) -> bool {
+        let line = lines_below(self.config.line, accessed.address);
+        let reserved = lines_below(self.config.line, word);
+        let sets = self.config.sets;
+        let is_one_set = line.checked_rem(sets) == reserved.checked_rem(sets);
+        match (self.variant, accessed.kind) {
+            (Variant::NoRivals, _) if hart == accessed.hart => false,
+            _ if hart == accessed.hart => {
+                self.config.ways == 1 && is_one_set && line != reserved
+            }
+            (Variant::OnlyWritesEnd, Kind::Read) | (Variant::DrainsEndNothing, Kind::Drain) => {
+                false
+            }
+            _ => line == reserved,
         }
-    }
-
-    fn ends_own(&self) -> bool {
-        self.variant != Variant::NoRivals
-    }
-
-    /// What an access leaves of a hart's reservation.
-    pub fn reservation_after(
-        &self,
-        accessed: Accessed,
-        hart: u8,
-        reserved: Option<u32>,
-    ) -> Option<u32> {
-        let word = reserved?;
-        let ends = if hart == accessed.hart {
-            self.ends_own() && self.are_rivals(accessed.address, word)
-        } else {
-            self.ends_others(accessed.kind) && self.is_one_line(accessed.address, word)
-        };
-        if ends { None } else { Some(word) }
     }
 }
