@@ -1,7 +1,7 @@
 -- Bytes that aren't read as a trace begin with none, and bytes behind one are told of.
 use Rattle.std.proofs.Common.{◌≡◌, ◌∙◌, ◌<◌, ◌≤◌, ◌-◌, ◌⊎◌, ◌↔◌, ◌++◌, ℕ, IfSome, List, None, Option, Some, ap, arith, drop, inl, inr, length, refl, subst, sym, take}
 use Rattle.std.proofs.lemmas.List.{length-drop, take-append-drop, take_all}
-use Rattle.check_command.specs.Checking.{BeginWithNoTrace, GoOnBehindATrace, IsCheckFault, IsTraceFault}
+use Rattle.check_command.specs.Checking.{GoOnBehindATrace, IsCheckFault, IsNoTraceText, IsTraceFault}
 use Rattle.check_command.specs.Messages.{IsLogFault}
 use Rattle.command_files.specs.Faults.{Name}
 use Rattle.command_files.specs.Contents.{Contents, HoldsBytes}
@@ -30,7 +30,7 @@ of_file (Some file) bytes P same so = subst P (sym same) so
 
 -- what can't be read begins with no trace
 pub no_trace_told : (bytes : List ℕ) (name : Name) (error : TextError) (fault : Fault) → (fault ≡ Text name error) ⊎ (fault ≡ OutOfMemory) → (fault ≡ OutOfMemory) ↔ (error.code ≡ NoMemory)
-    → ((error.code ≡ NoMemory → ⊥) → BeginWithNoTrace bytes) → IsTraceFault bytes name fault
+    → ((error.code ≡ NoMemory → ⊥) → IsNoTraceText bytes error) → IsTraceFault bytes name fault
 no_trace_told bytes name error fault told memory none = elim told [
   | inl at ↦ inl (error, at, none (λ wanting. let bad : Text name error ≡ OutOfMemory = sym at ∙ memory.1 wanting in cc))
   | inr at ↦ inr (inr at)
@@ -43,14 +43,14 @@ whole bytes t n found past = (found.0, sym (take_all n bytes past) ∙ found.1)
 module _ (held : Contents) (name : Name) (bytes : List ℕ) (holds : HoldsBytes held name.now bytes) where
   -- such a fault is one of a check
   pub check_told : (read : List ℕ) (fault : Fault) → read ≡ bytes → IsTraceFault read name fault → IsCheckFault held name fault
-  check_told read fault same (inl (error, at, none)) = subst (IsCheckFault held name) (sym at) (refl, inr (of_file (held name.now) bytes BeginWithNoTrace holds (subst BeginWithNoTrace same none)))
+  check_told read fault same (inl (error, at, none)) = subst (IsCheckFault held name) (sym at) (refl, inr (of_file (held name.now) bytes (λ known. IsNoTraceText known error) holds (subst (λ known. IsNoTraceText known error) same none)))
   check_told read fault same (inr (inl (at, more))) = subst (IsCheckFault held name) (sym at) (refl, of_file (held name.now) bytes GoOnBehindATrace holds (subst GoOnBehindATrace same more))
   check_told read fault same (inr (inr at)) = subst (IsCheckFault held name) (sym at) tt
 
   -- and of a check of messages
   pub log_told : (read : List ℕ) (fault : Fault) → read ≡ ended bytes → IsTraceFault read name fault → IsLogFault held name fault
   log_told read fault same (inl (error, at, none)) =
-      subst (IsLogFault held name) (sym at) (refl, inr (of_file (held name.now) bytes (λ known. BeginWithNoTrace (ended known)) holds (subst BeginWithNoTrace same none)))
+      subst (IsLogFault held name) (sym at) (refl, inr (of_file (held name.now) bytes (λ known. IsNoTraceText (ended known) error) holds (subst (λ known. IsNoTraceText known error) same none)))
   log_told read fault same (inr (inl (at, more))) =
       subst (IsLogFault held name) (sym at) (refl, of_file (held name.now) bytes (λ known. GoOnBehindATrace (ended known)) holds (subst GoOnBehindATrace same more))
   log_told read fault same (inr (inr at)) = subst (IsLogFault held name) (sym at) tt

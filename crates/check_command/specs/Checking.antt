@@ -20,6 +20,7 @@ use Rattle.trace_recorder.specs.History.{History}
 use Rattle.trace_recorder.specs.declared.operation.OpId.{OpId}
 use Rattle.trace_text.specs.TraceLimits.{IsTrace}
 use Rattle.trace_text.specs.Traces.{text}
+use Rattle.trace_text.specs.TraceRefusals.{IsTraceRefusal}
 use Rattle.trace_text.specs.declared.fault.TextError.{TextError}
 
 -- an operation as HART:PLACE
@@ -62,6 +63,11 @@ pub record IsUnjudged (held : Contents) (name : List ℕ) (error : CheckError) :
 abbrev pub BeginWithNoTrace : List ℕ → Type 0
 BeginWithNoTrace bytes = (trace : History) (more : List ℕ) → IsTrace trace → bytes ≢ text trace ++ more
 
+-- these bytes begin with no trace's text, and this is the line at which they can't be read as one, and why
+pub record IsNoTraceText (bytes : List ℕ) (error : TextError) : Type 0 where
+  pub none : BeginWithNoTrace bytes
+  pub refused : IsTraceRefusal bytes error
+
 -- bytes follow a trace's text
 pub record GoOnBehindATrace (bytes : List ℕ) : Type 0 where
   pub trace : History
@@ -73,11 +79,11 @@ pub record GoOnBehindATrace (bytes : List ℕ) : Type 0 where
 -- the bytes of the file aren't a trace's text: they begin with none, or go on behind it
 abbrev pub IsTraceFault : List ℕ → Name → Fault → Type 0
 IsTraceFault bytes name fault =
-    ((error : TextError) × (fault ≡ Text name error) × BeginWithNoTrace bytes) ⊎ ((fault ≡ BytesAfterTrace name) × GoOnBehindATrace bytes) ⊎ (fault ≡ OutOfMemory)
+    ((error : TextError) × (fault ≡ Text name error) × IsNoTraceText bytes error) ⊎ ((fault ≡ BytesAfterTrace name) × GoOnBehindATrace bytes) ⊎ (fault ≡ OutOfMemory)
 
 -- the file begins with no trace's text, or already its first line is longer than that of any text
 abbrev pub IsNoTrace : Contents → List ℕ → TextError → Type 0
-IsNoTrace held name error = IsLongFirst held name error ⊎ IfSome (held name) BeginWithNoTrace
+IsNoTrace held name error = IsLongFirst held name error ⊎ IfSome (held name) (λ known. IsNoTraceText known error)
 
 -- the trace is read first, then its end, then its order is judged
 abbrev pub IsCheckFault : Contents → Name → Fault → Type 0

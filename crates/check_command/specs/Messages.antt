@@ -2,7 +2,7 @@
 use Rattle.std.specs.Io.KnownBytes.{Appends}
 use Rattle.std.specs.Prelude.{◌≡◌, ◌↔◌, ◌⊎◌, ℕ, IfSome, List, Option}
 use Rattle.command_files.specs.Faults.{IsLongFirst, Name}
-use Rattle.check_command.specs.Checking.{BeginWithNoTrace, GoOnBehindATrace}
+use Rattle.check_command.specs.Checking.{GoOnBehindATrace, IsNoTraceText}
 use Rattle.command_files.specs.Contents.{Contents}
 use Rattle.command_files.specs.declared.fault.Fault.TheVariants.{BytesAfterTrace, CannotRead, CannotWrite, OutOfMemory, Text}
 use Rattle.command_files.specs.declared.fault.Fault.{Fault}
@@ -46,7 +46,7 @@ pub record IsLogCutOff (held : Contents) (name : List ℕ) (old new : Option (Li
 
 -- the file, with the lines that may be left out, begins with no trace's text, or already its first line is longer than that of any text
 abbrev pub IsNoLog : Contents → List ℕ → TextError → Type 0
-IsNoLog held name error = IsLongFirst held name error ⊎ IfSome (held name) (λ known. BeginWithNoTrace (ended known))
+IsNoLog held name error = IsLongFirst held name error ⊎ IfSome (held name) (λ known. IsNoTraceText (ended known) error)
 
 -- the file can't be read, what it holds is no trace, or it goes on behind the trace: a log is lawful or not, and isn't refused
 abbrev pub IsLogFault : Contents → Name → Fault → Type 0
