@@ -16,6 +16,7 @@ TEXTS = [
     ("text_fields", "Writing", "Writes"),
     ("trace_text", "Reading", "IsNoMemory"),
     ("trace_text", "Refusals", "IsScriptRefusal"),
+    ("trace_text", "TraceRefusals", "IsTraceRefusal"),
     ("trace_text", "Scripts", "IsScript"),
     ("trace_text", "Scripts", "text"),
     ("trace_text", "TraceLimits", "IsTrace"),
