@@ -13,7 +13,6 @@ use Rattle.trace_text.specs.declared.script.Script.{Script}
 
 module _ (bytes : List ℕ) (r : Result Script TextError) (error : TextError) (is : r ≡ Err error)
     (only : (s : Script) → IsScript s → bytes ≡ text s → ¬ IsNoMemory r → r ≡ Ok s) (refused : ¬ IsNoMemory r → IfErr r (IsScriptRefusal bytes)) where
-
   aside : error.code ≢ NoMemory → ¬ IsNoMemory r
   aside other = subst (λ (x : Result Script TextError). ¬ IsNoMemory x) (sym is) other
 
@@ -27,7 +26,7 @@ module _ (bytes : List ℕ) (r : Result Script TextError) (error : TextError) (i
       → (fault ≡ Text name error) ⊎ (fault ≡ OutOfMemory) → (fault ≡ OutOfMemory) ↔ (error.code ≡ NoMemory) → IsScriptFault held name fault
   no_script_told held name fault holds told memory = elim told [
     | inl at ↦
-      let other : error.code ≢ NoMemory = λ no. let bad : Text name error ≡ OutOfMemory = sym at ∙ memory.1 no in cc in
-      subst (IsScriptFault held name) (sym at) (refl, inr (record { file = bytes; bytes = holds; none = no_script other; refused = at_line other }))
+        let other : error.code ≢ NoMemory = λ no. let bad : Text name error ≡ OutOfMemory = sym at ∙ memory.1 no in cc in
+        subst (IsScriptFault held name) (sym at) (refl, inr (record { file = bytes; bytes = holds; none = no_script other; refused = at_line other }))
     | inr at ↦ subst (IsScriptFault held name) (sym at) tt
   ]
