@@ -16,4 +16,4 @@ returns-clause-once g c = strict _ _ c.in_ok-without_words.ensures c.in_ok-outco
 
 pub returns-clause-visited : goal.returns-clause-visited
 returns-clause-visited g c =
-    let visited = c.in_ok-outcomes.ensures.visited in (visited.0, wordless_states c.args.image.now c.args.config _ _ visited.0 c.in_ok-without_words.ensures visited.1)
+    let visited = c.in_ok-outcomes.ensures.visited in (visited.0, wordless_states c.args.image.now c.args.config c.in_ok-outcomes.field-0 _ visited.0 c.in_ok-without_words.ensures visited.1)
