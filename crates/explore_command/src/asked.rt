@@ -3,7 +3,7 @@
 ghost use Rattle.std.specs.Prelude.{◌≡◌, Err, IfErr, IfOk, option_map, true};
 ghost use Rattle.command_files.specs.Faults.{IsReadFault};
 ghost use Rattle.command_files.specs.Files.{HoldsImage};
-ghost use Rattle.command_files.specs.Sizes.{IsOutside, config_named};
+ghost use Rattle.command_files.specs.Sizes.{IsInside, IsOutside, config_named};
 ghost use Rattle.elf_loader.specs.Size.{IsMemoryKib};
 ghost use Rattle.explore_command.specs.Exploring.{IsAllowFile, IsFirstFault, IsNamedBy};
 ghost use Rattle.machine_types.specs.Config.{is_within_limits};
@@ -31,6 +31,7 @@ impl Asked {
         wanted: Explore<'a>,
     ) -> Result<Asked, Fault<'a>>
         ensures config { IfOk result (λ asked. asked.config ≡ config_named wanted.entry.machine) }
+        ensures size { IfOk result (λ asked. IsInside wanted.entry.machine) }
         ensures within { IfOk result (λ asked. is_within_limits asked.config ≡ true) }
         ensures memory { IfOk result (λ asked. IsMemoryKib wanted.entry.machine.memory) }
         ensures image { IfOk result (λ asked. HoldsImage (F.held files.old) wanted.entry.raw wanted.entry.image.now wanted.entry.machine.memory asked.image) }

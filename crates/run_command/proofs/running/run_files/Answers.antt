@@ -1,5 +1,5 @@
 use Rattle.std.proofs.Common.{◌≡◌, ◌∙◌, ◌⊎◌, ◌≤◌, ℕ, List, Option, ap, arith, inl, inr, length, map, subst, sym, true}
-use Rattle.command_files.specs.Sizes.{config_of, config_named, script_named}
+use Rattle.command_files.specs.Sizes.{IsInside, config_of, config_named, script_named}
 use Rattle.command_files.specs.Files.{HoldsImage}
 use Rattle.command_files.specs.Contents.{Contents, HoldsBytes}
 use Rattle.run_command.specs.Running.{ComesBeforeJournal, IsJournalled, IsRunFault}
@@ -28,10 +28,9 @@ use Rattle.command_files.proofs.Limits.{script_within}
 use Rattle.command_files.proofs.Replays.{leads_there, readable}
 use Rattle.run_command.proofs.running.run_files.Goals as goal
 
-kept : (held left : Contents) (run : Run) (config : Config) (image : Initial) (script : Script) (events : List Event) → script ≡ script_named run.machine events → config ≡ config_named run.machine
-    → is_within_limits config ≡ true → IsMemoryKib run.machine.memory → HoldsImage held run.raw run.image.now run.machine.memory image → AllByRecursion IsEvent script.events
+kept : (held left : Contents) (run : Run) (image : Initial) (script : Script) (events : List Event) → script ≡ script_named run.machine events → IsInside run.machine → HoldsImage held run.raw run.image.now run.machine.memory image → AllByRecursion IsEvent script.events
     → HoldsBytes left run.journal.now (script_text script) → length events ≤ run.limit → IsJournalled held left run image script
-kept held left run config image script events script_is config_is within sized image_file spelt bytes few =
+kept held left run image script events script_is inside image_file spelt bytes few =
     let config_same : config_of script run.machine.model ≡ config_named run.machine = ap (λ (s : Script). config_of s run.machine.model) script_is in
     let memory_same = ap (λ (s : Script). s.kib) script_is in
     record {
@@ -40,7 +39,7 @@ kept held left run config image script events script_is config_is within sized i
       memory = memory_same;
       journal_file = record {
         is_script = record {
-          head = script_within script run.machine.model (subst (λ (c : Config). is_within_limits c ≡ true) (config_is ∙ sym config_same) within) (subst IsMemoryKib (sym memory_same) sized);
+          head = script_within script run.machine.model (subst (λ (c : Config). is_within_limits c ≡ true) (sym config_same) inside.limits) (subst IsMemoryKib (sym memory_same) inside.memory);
           events = spelt;
         };
         bytes = bytes;
@@ -91,7 +90,7 @@ returns-in_err-print-clause-unfinished g c =
       script = script;
       image = image;
       reached = s;
-      kept = kept _ _ run c.in-Some.config image script c.in-Ok.report.journal.items same named.0 named.1 named.2 c.in_ok-image.ensures.image c.script_of-script.ensures.events c.in_ok-keep.ensures.kept (omega (arith, c.in-Ok.ensures.limit.events, c.from-limit.ensures));
+      kept = kept _ _ run image script c.in-Ok.report.journal.items same named.1 c.in_ok-image.ensures.image c.script_of-script.ensures.events c.in_ok-keep.ensures.kept (omega (arith, c.in-Ok.ensures.limit.events, c.from-limit.ensures));
       replayed = leads_there image script run.machine.model c.in-Some.config c.in-Ok.report.journal.items s config_same (sym (ap (λ (t : Script). t.events) same)) c.in-Ok.ensures.replays;
       begun = begun_same _ _ _ _ c.in-Ok.ensures.report.trace c.in_err-print.ensures.begun;
     }))
@@ -113,7 +112,7 @@ returns-clause-ran g c =
       script = script;
       image = image;
       reached = s;
-      kept = kept _ _ run c.in-Some.config image script c.in-Ok.report.journal.items same named.0 named.1 named.2 c.in_ok-image.ensures.image c.script_of-script.ensures.events c.in_ok-keep.ensures.kept (omega (arith, c.in-Ok.ensures.limit.events, c.from-limit.ensures));
+      kept = kept _ _ run image script c.in-Ok.report.journal.items same named.1 c.in_ok-image.ensures.image c.script_of-script.ensures.events c.in_ok-keep.ensures.kept (omega (arith, c.in-Ok.ensures.limit.events, c.from-limit.ensures));
       composed = record {
         replayed = leads_there image script run.machine.model c.in-Some.config c.in-Ok.report.journal.items s config_same (sym (ap (λ (t : Script). t.events) same)) c.in-Ok.ensures.replays;
         printed = printed_same _ _ _ _ trace_same c.in_ok-print.ensures.printed;
@@ -136,7 +135,7 @@ returns-clause-ends g c =
       script = script;
       image = image;
       reached = s;
-      kept = kept _ _ run c.in-Some.config image script c.in-Ok.report.journal.items same named.0 named.1 named.2 c.in_ok-image.ensures.image c.script_of-script.ensures.events c.in_ok-keep.ensures.kept (omega (arith, c.in-Ok.ensures.limit.events, c.from-limit.ensures));
+      kept = kept _ _ run image script c.in-Ok.report.journal.items same named.1 c.in_ok-image.ensures.image c.script_of-script.ensures.events c.in_ok-keep.ensures.kept (omega (arith, c.in-Ok.ensures.limit.events, c.from-limit.ensures));
       replayed = leads_there image script run.machine.model c.in-Some.config c.in-Ok.report.journal.items s config_same (sym (ap (λ (t : Script). t.events) same)) c.in-Ok.ensures.replays;
       begun = ends_begun (g.E.Write.contents c.args.err.now) (g.E.Write.contents c.print_ends.new.err) s _ c.statuses.result.now _ c.print_ends.result c.statuses.ensures c.in-Ok.ensures.report.trace (ap (map (λ output. output.items)) c.as_slice.ensures.value ∙ c.in-Ok.ensures.report.outputs) c.print_ends.ensures;
     }
