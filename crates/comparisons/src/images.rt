@@ -4,7 +4,7 @@ use anyhow::{Context, Result, bail};
 use elf_loader::{Image, load, raw, size_of_kib};
 use std::alloc::Global;
 
-#[derive(Clone, Copy, Debug, PartialEq, Eq)]
+#[derive(Clone, Copy)]
 pub enum ImageKind {
     /// Bare words.
     Raw,

@@ -5,6 +5,7 @@ mod changes;
 mod logs;
 mod orders;
 mod plain;
+mod traces;
 
 use anyhow::Result;
 use std::io::Write;

@@ -29,23 +29,29 @@ const EVENTS: u32 = 100_000;
 /// The event of a number below 18: nine for each hart.
 fn event_of(number: u32) -> Event {
     let hart = if number < 9 { 0 } else { 1 };
-    let deliver = |channel| Event::Deliver { channel, hart };
-    match number % 9 {
-        0 => Event::Step { hart },
-        1 => Event::Drain { hart, word: WORD },
-        2 => Event::Evict { hart, line: WORD },
-        3 => Event::Local { hart, count: 1 },
-        4 => deliver(Channel::A),
-        5 => deliver(Channel::B),
-        6 => deliver(Channel::C),
-        7 => deliver(Channel::D),
-        _ => deliver(Channel::E),
-    }
+    let channel = match number % 9 {
+        0 => return Event::Step { hart },
+        1 => return Event::Drain { hart, word: WORD },
+        2 => return Event::Evict { hart, line: WORD },
+        3 => return Event::Local { hart, count: 1 },
+        4 => Channel::A,
+        5 => Channel::B,
+        6 => Channel::C,
+        7 => Channel::D,
+        _ => Channel::E,
+    };
+    Event::Deliver { channel, hart }
 }
 
 /// Plays the stream, and fails at the first difference, or where an outcome isn't met that is expected.
 fn every_event(alloc: Global, model: MemoryModel) -> Result<()> {
     let mut pair = Pair::at_reset(alloc, model)?;
+    play(&mut pair)?;
+    ensure!(pair.has_one_trace(alloc)?, "traces differ");
+    Ok(())
+}
+
+fn play(pair: &mut Pair) -> Result<()> {
     let mut numbers = Numbers::from_seed(1);
     let mut met = Met::nothing();
     for index in 1..=EVENTS {
@@ -58,7 +64,6 @@ fn every_event(alloc: Global, model: MemoryModel) -> Result<()> {
     if let Some(outcome) = met.missing() {
         bail!("{outcome:?} isn't met");
     }
-    ensure!(pair.has_one_trace(alloc)?, "traces differ");
     Ok(())
 }
 

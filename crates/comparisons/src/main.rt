@@ -5,6 +5,7 @@
 mod images;
 mod judges;
 mod kept;
+mod lockstep;
 mod machines;
 mod numbers;
 

@@ -1,24 +1,27 @@
 //! Other messages in the place of one.
 
-use std::alloc::{AllocError, Global};
 use tl_types::{Body, Cap, Change, Grow};
 use trace_recorder::Logged;
 
-/// The entry with a message of another kind, of another hart, and with another permission if it names one.
-pub fn other_entries(alloc: Global, entry: Logged) -> Result<Vec<Logged>, AllocError> {
-    let mut others = Vec::new(alloc);
+/// The entry with a message of another kind.
+pub fn of_other_kind(entry: Logged) -> Logged {
     let mut other = entry;
     other.message.body = other_kind(entry.message.body);
-    others.push(other)?;
-    other = entry;
+    other
+}
+
+/// The entry with another hart.
+pub fn of_other_hart(entry: Logged) -> Logged {
+    let mut other = entry;
     other.hart = if entry.hart == 0 { 1 } else { 0 };
-    others.push(other)?;
-    if let Some(body) = other_permission(entry.message.body) {
-        other = entry;
-        other.message.body = body;
-        others.push(other)?;
-    }
-    Ok(others)
+    other
+}
+
+/// The entry with another permission, if its message names one.
+pub fn with_other_permission(entry: Logged) -> Option<Logged> {
+    let mut other = entry;
+    other.message.body = other_permission(entry.message.body)?;
+    Some(other)
 }
 
 // The same kind of message with another permission, if it names one.

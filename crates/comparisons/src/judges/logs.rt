@@ -2,15 +2,15 @@
 //! doubled, exchanged with the next one, or changed in permission, kind or hart, and compares the verdicts
 //! with those of a plain body that counts in the log anew at each entry.
 
+use super::traces::Traces;
 use super::{changes, plain};
-use anyhow::{Context, Result, bail, ensure};
+use anyhow::{Result, bail, ensure};
 use lawful_log::{LogRule, LogVerdict, check_log};
 use std::alloc::Global;
 use std::fs;
 use std::io::Write;
 use std::rt::Files;
 use trace_recorder::Logged;
-use trace_text::read_trace;
 
 /// The file has this many traces, one behind another, each of its T line and its log.
 const TRACES: usize = 24;
@@ -29,44 +29,27 @@ struct Judged {
     lawful: usize,
     /// In the order of `LogRule::ALL`.
     broken: [usize; 8],
+    /// The changed log that is being judged.
+    log: Vec<Logged>,
 }
 
 /// Judges each log and its changes, and says how many break which rule.
 pub fn judge_logs<R: Files + AllocGlobal, W: Write>(rt: &R, out: &mut W) -> Result<()> {
+    let mut judged = Judged {
+        lawful: 0,
+        broken: [0; 8],
+        log: Vec::new(rt.alloc()),
+    };
     let bytes = fs::read(rt, "logs")?;
-    let mut rest = bytes.as_slice();
-    let mut judged = Judged::none();
-    for number in 0..TRACES {
-        let Ok((trace, length)) = read_trace(rt.alloc(), rest) else {
-            bail!("trace {number} can't be read");
-        };
-        ensure!(
-            judge(rt.alloc(), trace.log())? == LogVerdict::Lawful,
-            "the log of trace {number} isn't lawful"
-        );
-        judged.judge_changed(rt.alloc(), trace.log())?;
-        rest = rest.get(length..).context("a trace beyond the file")?;
-    }
-    ensure!(rest.is_empty(), "the file has more traces");
-    writeln!(
-        out,
-        "{TRACES} logs are lawful; of their changed logs, judged alike, so many are"
-    )?;
-    writeln!(out, "lawful {}", judged.lawful)?;
-    for (rule, number) in LogRule::ALL.iter().zip(&judged.broken) {
-        writeln!(out, "{rule} {number}")?;
-    }
-    Ok(())
+    judged.judge_all(rt.alloc(), &bytes)?;
+    judged.print(out)
 }
 
 /// Judges the logs of wrong machines, and says of each which rule it breaks, and at which entry.
 pub fn judge_wrong<R: Files + AllocGlobal, W: Write>(rt: &R, out: &mut W) -> Result<()> {
     for name in WRONG {
         let bytes = fs::read(rt, name)?;
-        let Ok((trace, _)) = read_trace(rt.alloc(), &bytes) else {
-            bail!("{name} can't be read");
-        };
-        match judge(rt.alloc(), trace.log())? {
+        match judge_first(rt.alloc(), &bytes)? {
             LogVerdict::Lawful => bail!("{name} is lawful"),
             LogVerdict::Unlawful { rule, index } => writeln!(out, "{name}: {rule} {index}")?,
         }
@@ -74,23 +57,68 @@ pub fn judge_wrong<R: Files + AllocGlobal, W: Write>(rt: &R, out: &mut W) -> Res
     Ok(())
 }
 
+// The verdict on the log of the trace that stands first.
+fn judge_first(alloc: Global, bytes: &[u8]) -> Result<LogVerdict> {
+    let trace = Traces { rest: bytes }.next(alloc)?;
+    judge(alloc, trace.log())
+}
+
 impl Judged {
-    fn none() -> Judged {
-        Judged {
-            lawful: 0,
-            broken: [0; 8],
+    fn judge_all(&mut self, alloc: Global, bytes: &[u8]) -> Result<()> {
+        let mut file = Traces { rest: bytes };
+        for number in 0..TRACES {
+            let trace = file.next(alloc)?;
+            ensure!(
+                self.judge_log(alloc, trace.log())?,
+                "the log of trace {number} isn't lawful"
+            );
         }
+        ensure!(file.rest.is_empty(), "the file has more traces");
+        Ok(())
     }
 
-    // Judges the log with each of its entries changed.
-    fn judge_changed(&mut self, alloc: Global, log: &[Logged]) -> Result<()> {
+    // Judges the log with each of its entries changed; whether it is lawful itself.
+    fn judge_log(&mut self, alloc: Global, log: &[Logged]) -> Result<bool> {
         for index in 0..log.len() {
-            for changed in changed_at(alloc, log, index)? {
-                match judge(alloc, &changed)? {
-                    LogVerdict::Lawful => self.lawful = self.lawful.saturating_add(1),
-                    LogVerdict::Unlawful { rule, .. } => self.count_broken(rule),
-                }
-            }
+            self.judge_changed(alloc, log, index)?;
+        }
+        Ok(judge(alloc, log)? == LogVerdict::Lawful)
+    }
+
+    // Judges the log with one entry left out, doubled, exchanged with the next, or changed.
+    fn judge_changed(&mut self, alloc: Global, log: &[Logged], index: usize) -> Result<()> {
+        let Some(entry) = log.get(index).copied() else {
+            return Ok(());
+        };
+        let before = &log[..index];
+        let behind = &log[index + 1..];
+        self.judge_joined(alloc, before, &[], behind)?;
+        self.judge_joined(alloc, before, &[entry, entry], behind)?;
+        if let Some((next, others)) = behind.split_first() {
+            self.judge_joined(alloc, before, &[*next, entry], others)?;
+        }
+        self.judge_joined(alloc, before, &[changes::of_other_kind(entry)], behind)?;
+        self.judge_joined(alloc, before, &[changes::of_other_hart(entry)], behind)?;
+        if let Some(other) = changes::with_other_permission(entry) {
+            self.judge_joined(alloc, before, &[other], behind)?;
+        }
+        Ok(())
+    }
+
+    fn judge_joined(
+        &mut self,
+        alloc: Global,
+        before: &[Logged],
+        between: &[Logged],
+        behind: &[Logged],
+    ) -> Result<()> {
+        self.log.clear();
+        self.log.extend_from_slice(before)?;
+        self.log.extend_from_slice(between)?;
+        self.log.extend_from_slice(behind)?;
+        match judge(alloc, &self.log)? {
+            LogVerdict::Lawful => self.lawful = self.lawful.saturating_add(1),
+            LogVerdict::Unlawful { rule, .. } => self.count_broken(rule),
         }
         Ok(())
     }
@@ -102,38 +130,18 @@ impl Judged {
             }
         }
     }
-}
 
-// The log with one entry left out, doubled, exchanged with the next, or changed.
-fn changed_at(alloc: Global, log: &[Logged], index: usize) -> Result<Vec<Vec<Logged>>> {
-    let mut changed = Vec::new(alloc);
-    let Some(entry) = log.get(index).copied() else {
-        return Ok(changed);
-    };
-    let before = &log[..index];
-    let behind = &log[index + 1..];
-    changed.push(joined(alloc, before, &[], behind)?)?;
-    changed.push(joined(alloc, before, &[entry, entry], behind)?)?;
-    if let Some((next, others)) = behind.split_first() {
-        changed.push(joined(alloc, before, &[*next, entry], others)?)?;
+    fn print<W: Write>(&self, out: &mut W) -> Result<()> {
+        writeln!(
+            out,
+            "{TRACES} logs are lawful; of their changed logs, judged alike, so many are"
+        )?;
+        writeln!(out, "lawful {}", self.lawful)?;
+        for (rule, number) in LogRule::ALL.iter().zip(&self.broken) {
+            writeln!(out, "{rule} {number}")?;
+        }
+        Ok(())
     }
-    for other in changes::other_entries(alloc, entry)? {
-        changed.push(joined(alloc, before, &[other], behind)?)?;
-    }
-    Ok(changed)
-}
-
-fn joined(
-    alloc: Global,
-    before: &[Logged],
-    between: &[Logged],
-    behind: &[Logged],
-) -> Result<Vec<Logged>> {
-    let mut log = Vec::new(alloc);
-    log.extend_from_slice(before)?;
-    log.extend_from_slice(between)?;
-    log.extend_from_slice(behind)?;
-    Ok(log)
 }
 
 // The verdict on a log; it fails where the two bodies answer differently.

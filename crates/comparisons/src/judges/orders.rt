@@ -2,14 +2,14 @@
 //! two neighbouring performed operations exchanged, under both memory models, and compares what they answer.
 //! A file has one trace behind another.
 
-use anyhow::{Context, Result, bail, ensure};
+use super::traces::Traces;
+use anyhow::{Result, bail, ensure};
 use rvwmo_order::{MemoryModel, plain};
 use std::alloc::Global;
 use std::fs;
 use std::io::Write;
 use std::rt::Files;
 use trace_recorder::{OpId, Trace};
-use trace_text::read_trace;
 
 /// The files, each with how many traces it has.
 const FILES: [(&str, usize); 3] = [("rows", 74), ("programs", 200), ("shapes", 137)];
@@ -17,46 +17,65 @@ const FILES: [(&str, usize); 3] = [("rows", 74), ("programs", 200), ("shapes", 1
 /// Judges each file, and says how many orders were judged alike.
 pub fn judge_files<R: Files + AllocGlobal, W: Write>(rt: &R, out: &mut W) -> Result<()> {
     for (name, traces) in FILES {
-        let orders = judge_file(rt, name, traces)?;
+        let bytes = fs::read(rt, name)?;
+        let orders = judge_file(rt.alloc(), name, &bytes, traces)?;
         writeln!(out, "{name}: {traces} traces, {orders} orders judged alike")?;
     }
     Ok(())
 }
 
 // Compares the verdicts on so many traces, and says how many orders were judged.
-fn judge_file<R: Files + AllocGlobal>(rt: &R, name: &str, traces: usize) -> Result<usize> {
-    let bytes = fs::read(rt, name)?;
-    let mut rest = bytes.as_slice();
-    let mut orders = 0_usize;
+fn judge_file(alloc: Global, name: &str, bytes: &[u8], traces: usize) -> Result<usize> {
+    let mut file = Traces { rest: bytes };
+    let mut orders = 0usize;
     for number in 0..traces {
-        let Ok((trace, length)) = read_trace(rt.alloc(), rest) else {
-            bail!("{name}: trace {number} can't be read");
-        };
-        for model in [MemoryModel::Rvwmo, MemoryModel::Ztso] {
-            let judged = judge_trace(rt.alloc(), &trace, model).with_context(
-                || format!(in rt.alloc(); "{name}: trace {number}"),
-            )?;
-            orders = orders.saturating_add(judged);
+        match judge_next(alloc, &mut file) {
+            Ok(judged) => orders = orders.saturating_add(judged),
+            Err(error) => bail!("{name}: trace {number}: {error}"),
         }
-        rest = rest.get(length..).context("a trace beyond its file")?;
     }
-    ensure!(rest.is_empty(), "{name} has more traces");
+    ensure!(file.rest.is_empty(), "{name} has more traces");
     Ok(orders)
+}
+
+fn judge_next(alloc: Global, file: &mut Traces<'_>) -> Result<usize> {
+    let trace = file.next(alloc)?;
+    let rvwmo = judge_trace(alloc, &trace, MemoryModel::Rvwmo)?;
+    let ztso = judge_trace(alloc, &trace, MemoryModel::Ztso)?;
+    Ok(rvwmo.saturating_add(ztso))
 }
 
 // Compares the verdicts on a trace's completed order, and on that with each two neighbours exchanged.
 fn judge_trace(alloc: Global, trace: &Trace, model: MemoryModel) -> Result<usize> {
-    let mut order = rvwmo_order::completed(alloc, trace)?;
+    let mut order = completed(alloc, trace)?;
+    let performed = trace.performed().len();
+    compare_each(alloc, trace, &mut order, performed, model)?;
+    Ok(performed.max(1))
+}
+
+// The trace's completed order, which both bodies find.
+fn completed(alloc: Global, trace: &Trace) -> Result<Vec<OpId>> {
+    let order = rvwmo_order::completed(alloc, trace)?;
     let plain = plain::completed(alloc, trace)?;
     ensure!(order == plain, "completed orders differ");
-    let performed = trace.performed().len();
-    compare(alloc, trace, &order, model)?;
+    Ok(order)
+}
+
+fn compare_each(
+    alloc: Global,
+    trace: &Trace,
+    order: &mut [OpId],
+    performed: usize,
+    model: MemoryModel,
+) -> Result<()> {
+    ensure!(performed <= order.len(), "an order is too short");
+    compare(alloc, trace, order, model)?;
     for behind in 1..performed {
         order.swap(behind - 1, behind);
-        compare(alloc, trace, &order, model)?;
+        compare(alloc, trace, order, model)?;
         order.swap(behind - 1, behind);
     }
-    Ok(performed.max(1))
+    Ok(())
 }
 
 // Fails where the two bodies answer differently.

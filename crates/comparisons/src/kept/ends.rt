@@ -1,9 +1,8 @@
 //! Explores the examples of the repository, and prints each end that is found. What is wanted is kept beside
 //! it: ends that were worked out by hand, and numbers of states that another explorer has counted.
 
+use super::said::Said;
 use command_files::SystemFiles;
-use command_line::run_line;
-use progress_line::Silent;
 use std::io::{self, Write};
 use std::rt::Files;
 use std::sync::Wait;
@@ -131,47 +130,37 @@ const ALLOWED: [&str; 27] = [
     "--architecture --harts 2 --show word early_store_fenced.elf",
 ];
 
-/// What a command printed, and its status.
-#[derive(Drop)]
-struct Told {
-    status: u8,
-    out: Vec<u8>,
-    err: Vec<u8>,
-}
-
 /// Explores each example.
 pub fn explore_all<R: Files + Threads + Wait + Sync + AllocGlobal, W: Write>(
     rt: &R,
     out: &mut W,
 ) -> io::Result<()> {
+    let mut said = Said::nothing(rt.alloc());
     for words in EXPLORED {
-        let told = explored(rt, words)?;
-        writeln!(out, "{words}: status {}", told.status)?;
-        out.write_all(told.out.as_slice())?;
-        out.write_all(told.err.as_slice())?;
+        explore(rt, words, &mut said)?;
+        writeln!(out, "{words}: status {}", said.status)?;
+        out.write_all(&said.out)?;
+        out.write_all(&said.err)?;
     }
     for words in ALLOWED {
-        let told = explored(rt, words)?;
-        writeln!(out, "{words}: status {}", told.status)?;
-        out.write_all(but_last_line(told.out.as_slice()))?;
+        explore(rt, words, &mut said)?;
+        writeln!(out, "{words}: status {}", said.status)?;
+        out.write_all(but_last_line(&said.out))?;
     }
     Ok(())
 }
 
-fn explored<R: Files + Threads + Wait + Sync + AllocGlobal>(
+fn explore<R: Files + Threads + Wait + Sync + AllocGlobal>(
     rt: &R,
     asked: &str,
-) -> io::Result<Told> {
-    let alloc = rt.alloc();
-    let mut words = vec![in alloc; "rvtl", "explore"]?;
+    said: &mut Said,
+) -> io::Result<()> {
+    let mut words = vec![in rt.alloc(); "rvtl", "explore"]?;
     for word in asked.split_whitespace() {
         words.push(word)?;
     }
-    let mut out = Vec::new(alloc);
-    let mut err = Vec::new(alloc);
-    let mut files = SystemFiles::new(rt);
-    let status = run_line(rt, alloc, &words, &mut files, &mut out, &mut err, &Silent);
-    Ok(Told { status, out, err })
+    said.ask(rt, &words, &mut SystemFiles::new(rt));
+    Ok(())
 }
 
 /// The text without its last line.

@@ -1,9 +1,8 @@
 //! Plays the examples of the repository, and prints how each ends: the trace's last lines, what the harts put
 //! out, and the status with which it is explained.
 
+use super::said::Said;
 use command_files::SystemFiles;
-use command_line::run_line;
-use progress_line::Silent;
 use std::io::{self, Write};
 use std::rt::Files;
 use std::sync::Wait;
@@ -30,47 +29,30 @@ pub fn play_all<R: Files + Threads + Wait + Sync + AllocGlobal, W: Write>(
     rt: &R,
     out: &mut W,
 ) -> io::Result<()> {
+    let mut said = Said::nothing(rt.alloc());
     for name in EXAMPLES {
-        play(rt, name, out)?;
+        ask(rt, "replay", name, &mut said)?;
+        writeln!(out, "{name}")?;
+        out.write_all(last_lines(&said.out))?;
+        out.write_all(&said.err)?;
+        ask(rt, "explain", name, &mut said)?;
+        writeln!(out, "explained: status {}", said.status)?;
     }
     Ok(())
 }
 
-fn play<R: Files + Threads + Wait + Sync + AllocGlobal, W: Write>(
+fn ask<R: Files + Threads + Wait + Sync + AllocGlobal>(
     rt: &R,
+    command: &str,
     name: &str,
-    out: &mut W,
+    said: &mut Said,
 ) -> io::Result<()> {
     let alloc = rt.alloc();
     let image = format!(in alloc; "{name}.elf")?;
     let script = format!(in alloc; "{name}.script")?;
-    let words = ["rvtl", "replay", image.as_str(), script.as_str()];
-    let mut trace = Vec::new(alloc);
-    let mut ends = Vec::new(alloc);
-    run_line(
-        rt,
-        alloc,
-        &words,
-        &mut SystemFiles::new(rt),
-        &mut trace,
-        &mut ends,
-        &Silent,
-    );
-    writeln!(out, "{name}")?;
-    out.write_all(last_lines(trace.as_slice()))?;
-    out.write_all(ends.as_slice())?;
-    let words = ["rvtl", "explain", image.as_str(), script.as_str()];
-    let mut stream = Vec::new(alloc);
-    let status = run_line(
-        rt,
-        alloc,
-        &words,
-        &mut SystemFiles::new(rt),
-        &mut stream,
-        &mut ends,
-        &Silent,
-    );
-    writeln!(out, "explained: status {status}")
+    let words = ["rvtl", command, image.as_str(), script.as_str()];
+    said.ask(rt, &words, &mut SystemFiles::new(rt));
+    Ok(())
 }
 
 /// The last lines of a text.

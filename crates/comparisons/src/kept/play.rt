@@ -1,14 +1,15 @@
 //! A script played on an image.
 
+use super::case::Case;
 use super::machines::Playable;
-use crate::images::{ImageKind, image_of};
-use anyhow::{Result, bail};
+use crate::images::ImageKind;
+use anyhow::Result;
 use hart::Status;
-use machine_model::MemoryModel;
-use machine_types::{Config, Outcome};
+use machine_types::{Event, Outcome};
 use std::alloc::Global;
 use std::io::{self, Write};
-use trace_text::{Script, read_script, write_trace};
+use trace_recorder::Trace;
+use trace_text::write_trace;
 
 /// What a play gave, as text.
 #[derive(Drop)]
@@ -20,53 +21,61 @@ pub struct Played {
     pub ends: Vec<u8>,
 }
 
-pub fn config_of(script: &Script, model: MemoryModel) -> Config {
-    Config {
-        harts: script.harts,
-        sets: script.sets,
-        ways: script.ways,
-        line: script.line,
-        model,
-    }
-}
-
-pub fn play<M: Playable + Drop>(
-    alloc: Global,
-    kind: ImageKind,
-    image: &[u8],
-    script: &[u8],
-    model: MemoryModel,
-) -> Result<Played> {
-    let Ok(script) = read_script(alloc, script) else {
-        bail!("no script");
-    };
-    let image = image_of(alloc, kind, image, script.kib)?;
-    let mut machine = M::at_reset(alloc, image, config_of(&script, model))?;
-    let mut outcomes = Vec::new(alloc);
-    for event in script.events.as_slice() {
-        let outcome = machine.happen(*event)?;
-        write_outcome(&mut outcomes, outcome)?;
-    }
-    let (history, outputs) = machine.ended()?;
-    let mut trace = Vec::new(alloc);
-    write_trace(&history, &mut trace)?;
-    let mut ends = Vec::new(alloc);
-    for (hart, output) in outputs.iter().enumerate() {
-        if let Some(status) = history.statuses().get(hart) {
-            write_end(&mut ends, hart, *status, output)?;
+impl Played {
+    pub fn nothing(alloc: Global) -> Played {
+        Played {
+            outcomes: Vec::new(alloc),
+            trace: Vec::new(alloc),
+            ends: Vec::new(alloc),
         }
     }
-    Ok(Played {
-        outcomes,
-        trace,
-        ends,
-    })
-}
 
-fn write_outcome(out: &mut Vec<u8>, outcome: Outcome) -> io::Result<()> {
-    match outcome {
-        Outcome::Missed(line) => writeln!(out, "Missed(0x{line:08x})"),
-        other => writeln!(out, "{other:?}"),
+    /// Plays a case, in place of what was played before.
+    pub fn play<M: Playable + Drop>(&mut self, alloc: Global, case: &Case) -> Result<()> {
+        self.outcomes.clear();
+        self.trace.clear();
+        self.ends.clear();
+        let script = case.read_script(alloc)?;
+        let (image, config) = case.opening(alloc, &script)?;
+        let mut machine = M::at_reset(alloc, image, config)?;
+        self.play_events(&mut machine, script.events.as_slice())?;
+        let (trace, outputs) = machine.ended()?;
+        self.write_ends(&trace, &outputs)?;
+        Ok(())
+    }
+
+    fn play_events<M: Playable>(&mut self, machine: &mut M, events: &[Event]) -> Result<()> {
+        for event in events {
+            match machine.happen(*event)? {
+                Outcome::Missed(line) => writeln!(&mut self.outcomes, "Missed(0x{line:08x})")?,
+                outcome => writeln!(&mut self.outcomes, "{outcome:?}")?,
+            }
+        }
+        Ok(())
+    }
+
+    fn write_ends(&mut self, trace: &Trace, outputs: &[Vec<u32>]) -> io::Result<()> {
+        write_trace(trace, &mut self.trace)?;
+        for (hart, (status, output)) in trace.statuses().iter().zip(outputs).enumerate() {
+            write_end(&mut self.ends, hart, *status, output)?;
+        }
+        Ok(())
+    }
+
+    /// What isn't as kept of the case; the outcomes of programs from ELF files aren't kept.
+    pub fn difference(&self, case: &Case) -> Option<&'static str> {
+        if let ImageKind::Raw = case.kind {
+            if self.outcomes.as_slice() != case.outcomes.as_slice() {
+                return Some("outcomes differ");
+            }
+        }
+        if self.trace.as_slice() != case.trace.as_slice() {
+            return Some("trace differs");
+        }
+        if self.ends.as_slice() != case.ends.as_slice() {
+            return Some("ends differ");
+        }
+        None
     }
 }
 

@@ -3,12 +3,11 @@
 //! why in one line.
 
 use super::memory::{File, MemoryFiles};
+use super::said::Said;
 use super::spoiling::{cut, reset};
 use crate::images::ImageKind;
 use crate::numbers::Numbers;
-use anyhow::{Result, ensure};
-use command_line::run_line;
-use progress_line::Silent;
+use anyhow::{Result, bail, ensure};
 use std::fs;
 use std::rt::Files;
 use std::sync::Wait;
@@ -43,27 +42,30 @@ fn words_for(kind: ImageKind) -> &'static [&'static str] {
 /// Spoils each file in each way, and runs the program over what comes of it.
 pub fn spoil_all<R: Files + Threads + Wait + Sync + AllocGlobal>(rt: &R) -> Result<()> {
     let mut stream = Numbers::from_seed(1);
+    let mut said = Said::nothing(rt.alloc());
     for (image, script, kind) in REPLAYS {
         let image = fs::read(rt, image)?;
         let script = fs::read(rt, script)?;
         let image = File {
             name: "image",
-            bytes: image.as_slice(),
+            bytes: &image,
         };
         let script = File {
             name: "script",
-            bytes: script.as_slice(),
+            bytes: &script,
         };
-        spoil(rt, words_for(kind), image, script, &mut stream)?;
-        spoil(rt, words_for(kind), script, image, &mut stream)?;
+        let words = words_for(kind);
+        spoil(rt, words, image, script, &mut stream, &mut said)?;
+        spoil(rt, words, script, image, &mut stream, &mut said)?;
     }
     for trace in TRACES {
         let bytes = fs::read(rt, trace)?;
         let trace = File {
             name: "trace",
-            bytes: bytes.as_slice(),
+            bytes: &bytes,
         };
-        spoil(rt, &["rvtl", "check", "trace"], trace, trace, &mut stream)?;
+        let words = ["rvtl", "check", "trace"];
+        spoil(rt, &words, trace, trace, &mut stream, &mut said)?;
     }
     Ok(())
 }
@@ -75,46 +77,49 @@ fn spoil<R: Threads + Wait + Sync + AllocGlobal>(
     file: File<'_>,
     other: File<'_>,
     stream: &mut Numbers,
+    said: &mut Said,
 ) -> Result<()> {
+    let name = file.name;
     for tenths in 0..10 {
-        ends_well(rt, words, file.name, cut(file.bytes, tenths), other)?;
+        let bytes = cut(file.bytes, tenths);
+        let files = [File { name, bytes }, other];
+        said.ask(rt, words, &mut MemoryFiles { files: &files });
+        ends_well(said)?;
     }
+    let mut spoiled = Vec::new(rt.alloc());
     for _ in 0..RESETS {
-        let spoiled = reset(rt.alloc(), file.bytes, stream)?;
-        ends_well(rt, words, file.name, spoiled.as_slice(), other)?;
+        reset(&mut spoiled, file.bytes, stream)?;
+        let bytes = spoiled.as_slice();
+        let files = [File { name, bytes }, other];
+        said.ask(rt, words, &mut MemoryFiles { files: &files });
+        ends_well(said)?;
     }
     Ok(())
 }
 
 /// The program's status is one of its five. Where it is neither a success nor a verdict, the one line that it
 /// tells is its own, and nothing else is printed.
-fn ends_well<R: Threads + Wait + Sync + AllocGlobal>(
-    rt: &R,
-    words: &[&str],
-    name: &str,
-    bytes: &[u8],
-    other: File<'_>,
-) -> Result<()> {
-    let alloc = rt.alloc();
-    let spoiled = [File { name, bytes }, other];
-    let mut files = MemoryFiles { files: &spoiled };
-    let mut out = Vec::new(alloc);
-    let mut err = Vec::new(alloc);
-    let status = run_line(rt, alloc, words, &mut files, &mut out, &mut err, &Silent);
-    match status {
-        0 => ensure!(!out.is_empty(), "a success printed nothing"),
-        3 => ensure!(out.starts_with(b"fault "), "no fault was printed"),
+fn ends_well(said: &Said) -> Result<()> {
+    match said.status {
+        0 => ensure!(!said.out.is_empty(), "a success printed nothing"),
+        3 => ensure!(said.out.starts_with(b"fault "), "no fault was printed"),
         1 | 2 | 4 => {
-            ensure!(is_named_line(err.as_slice()), "no line of the program's");
-            ensure!(out.is_empty(), "something was printed before a failure");
+            ensure!(is_named_line(&said.err), "no line of the program's");
+            ensure!(
+                said.out.is_empty(),
+                "something was printed before a failure"
+            );
         }
-        _ => ensure!(false, "no such status: {status}"),
+        status => bail!("no such status: {status}"),
     }
     Ok(())
 }
 
 /// One line, which begins with the program's name.
 fn is_named_line(text: &[u8]) -> bool {
-    let newlines = text.iter().filter(|byte| **byte == b'\n').count();
+    let mut newlines = 0usize;
+    for byte in text {
+        newlines = newlines.saturating_add(usize::from(*byte == b'\n'));
+    }
     text.starts_with(b"rvtl: ") && text.ends_with(b"\n") && newlines == 1
 }

@@ -1,7 +1,7 @@
 //! What is done to a file's bytes: they are cut short, or some of them are set.
 
 use crate::numbers::Numbers;
-use std::alloc::{AllocError, Global};
+use std::alloc::AllocError;
 
 /// A number below the limit, or 0 where there is none. Of 24 bits, unlike `Numbers::below`: files may have more
 /// than 64 KiB.
@@ -20,9 +20,9 @@ pub fn cut(bytes: &[u8], tenths: usize) -> &[u8] {
     &bytes[..length.min(bytes.len())]
 }
 
-/// The bytes, but for one to three of them.
-pub fn reset(alloc: Global, bytes: &[u8], stream: &mut Numbers) -> Result<Vec<u8>, AllocError> {
-    let mut spoiled = Vec::new(alloc);
+/// The spoiled bytes become these, but for one to three of them.
+pub fn reset(spoiled: &mut Vec<u8>, bytes: &[u8], stream: &mut Numbers) -> Result<(), AllocError> {
+    spoiled.clear();
     spoiled.extend_from_slice(bytes)?;
     let limit = u32::try_from(bytes.len()).unwrap_or(u32::MAX);
     for _ in 0..=below(stream, 3) {
@@ -31,5 +31,5 @@ pub fn reset(alloc: Global, bytes: &[u8], stream: &mut Numbers) -> Result<Vec<u8
             *byte = next_byte(stream);
         }
     }
-    Ok(spoiled)
+    Ok(())
 }

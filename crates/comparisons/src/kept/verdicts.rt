@@ -1,9 +1,8 @@
 //! Judges kept traces under a memory model, and prints the status and what the program prints of each. What is wanted is
 //! kept beside it: verdicts that other implementations of the same rules have given.
 
+use super::said::Said;
 use command_files::SystemFiles;
-use command_line::run_line;
-use progress_line::Silent;
 use std::io::{self, Write};
 use std::rt::Files;
 use std::sync::Wait;
@@ -73,26 +72,24 @@ pub fn judge_all<R: Files + Threads + Wait + Sync + AllocGlobal, W: Write>(
     rt: &R,
     out: &mut W,
 ) -> io::Result<()> {
+    let mut said = Said::nothing(rt.alloc());
     for (name, model) in CASES {
-        print_verdict(rt, name, model, out)?;
+        judge(rt, name, model, &mut said)?;
+        write!(out, "{name}: status {}: ", said.status)?;
+        out.write_all(&said.out)?;
+        out.write_all(&said.err)?;
     }
     Ok(())
 }
 
-fn print_verdict<R: Files + Threads + Wait + Sync + AllocGlobal, W: Write>(
+fn judge<R: Files + Threads + Wait + Sync + AllocGlobal>(
     rt: &R,
     name: &str,
     model: &str,
-    out: &mut W,
+    said: &mut Said,
 ) -> io::Result<()> {
-    let alloc = rt.alloc();
-    let trace = format!(in alloc; "{name}.trace")?;
+    let trace = format!(in rt.alloc(); "{name}.trace")?;
     let words = ["rvtl", "check", "--model", model, trace.as_str()];
-    let mut said = Vec::new(alloc);
-    let mut err = Vec::new(alloc);
-    let mut files = SystemFiles::new(rt);
-    let status = run_line(rt, alloc, &words, &mut files, &mut said, &mut err, &Silent);
-    write!(out, "{name}: status {status}: ")?;
-    out.write_all(said.as_slice())?;
-    out.write_all(err.as_slice())
+    said.ask(rt, &words, &mut SystemFiles::new(rt));
+    Ok(())
 }

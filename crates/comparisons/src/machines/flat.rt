@@ -2,9 +2,9 @@
 
 use super::WORD;
 use super::pair::image_of_words;
+use crate::lockstep::{Counts, Failures, Lockstep};
 use crate::numbers::Numbers;
 use anyhow::{Result, bail, ensure};
-use flat_lockstep::{Counts, Failures, Lockstep};
 use machine_model::MemoryModel;
 use machine_types::{Config, Event};
 use plain_machine::Variant;
@@ -62,20 +62,20 @@ const PROGRAM: [u32; 20] = [
 /// The event of a number below 64: 32 for each hart.
 fn event_of(number: u32) -> Event {
     let hart = if number < 32 { 0 } else { 1 };
-    let deliver = |channel| Event::Deliver { channel, hart };
-    match number % 32 {
-        0..=1 => Event::Drain { hart, word: WORD },
-        2..=3 => Event::Drain { hart, word: RIVAL },
-        4 => Event::Evict { hart, line: WORD },
-        5 => Event::Evict { hart, line: RIVAL },
-        6 => Event::Local { hart, count: 1 },
-        7..=10 => deliver(Channel::A),
-        11..=14 => deliver(Channel::B),
-        15..=18 => deliver(Channel::C),
-        19..=22 => deliver(Channel::D),
-        23..=26 => deliver(Channel::E),
-        _ => Event::Step { hart },
-    }
+    let channel = match number % 32 {
+        0..=1 => return Event::Drain { hart, word: WORD },
+        2..=3 => return Event::Drain { hart, word: RIVAL },
+        4 => return Event::Evict { hart, line: WORD },
+        5 => return Event::Evict { hart, line: RIVAL },
+        6 => return Event::Local { hart, count: 1 },
+        7..=10 => Channel::A,
+        11..=14 => Channel::B,
+        15..=18 => Channel::C,
+        19..=22 => Channel::D,
+        23..=26 => Channel::E,
+        _ => return Event::Step { hart },
+    };
+    Event::Deliver { channel, hart }
 }
 
 /// Plays so many events of the stream, and fails at the first difference, or where no SC succeeds, or none
@@ -95,18 +95,24 @@ pub fn every_flat_event(
     };
     let image = image_of_words(alloc, &PROGRAM)?;
     let mut lockstep = Lockstep::at_reset(alloc, image, config, Variant::Right, Failures::Follow)?;
+    play(&mut lockstep, events)?;
+    Ok(lockstep.counts)
+}
+
+fn play(lockstep: &mut Lockstep, events: u32) -> Result<()> {
     let mut numbers = Numbers::from_seed(1);
     for index in 1..=events {
         let event = event_of(numbers.below(64));
-        if let Err(difference) = lockstep.apply(event) {
+        let mut difference = lockstep.apply(event)?;
+        if index % 1000 == 0 {
+            difference = difference.or(lockstep.compares_all());
+        }
+        if let Some(difference) = difference {
             bail!("{event:?}, the event {index}: {difference}");
         }
-        if index % 1000 == 0 {
-            lockstep.compares_all()?;
-        }
     }
-    let counts = lockstep.counts();
+    let counts = lockstep.counts;
     ensure!(counts.successes > 0, "no SC succeeds");
     ensure!(counts.failures > 0, "no SC fails for no reason");
-    Ok(counts)
+    Ok(())
 }

@@ -22,7 +22,7 @@ const EXPECTED: [Outcome; 14] = [
 ];
 
 /// How often each expected outcome was met.
-#[derive(Clone, Copy, Debug)]
+#[derive(Clone, Copy)]
 pub struct Met {
     counts: [u32; 14],
 }

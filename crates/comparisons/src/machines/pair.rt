@@ -1,6 +1,6 @@
 //! Two machines of one image and configuration.
 
-use super::views::{coherent_view, plain_view};
+use super::views::is_same_view;
 use crate::images::{ImageKind, image_of};
 use anyhow::{Context, Result, bail, ensure};
 use coherent_machine::Machine;
@@ -10,6 +10,7 @@ use machine_types::{Config, Event, Outcome};
 use plain_machine::PlainMachine;
 use std::alloc::Global;
 use tl_types::LineSize;
+use trace_recorder::Trace;
 use trace_text::write_trace;
 
 /// Loads the word at 0x80000100 and stores 1 to it, for ever.
@@ -72,21 +73,24 @@ impl Pair {
 
     /// Whether the machines are the same, as far as they can be asked of this word.
     pub fn is_alike(&self, word: u32) -> bool {
-        self.plain.changes() == self.coherent.views().changes()
-            && (0..2).all(|hart| {
-                let expected = plain_view(&self.plain, hart, word);
-                expected.is_some() && expected == coherent_view(&self.coherent, hart, word)
-            })
+        let views = self.coherent.views();
+        self.plain.changes() == views.changes()
+            && is_same_view(&self.plain, &views, 0, word)
+            && is_same_view(&self.plain, &views, 1, word)
     }
 
     /// Whether the texts of both traces, and what the harts put out, are the same.
     pub fn has_one_trace(self, alloc: Global) -> Result<bool> {
         let (expected, expected_outputs) = self.plain.into_parts()?.context("a trace")?;
         let (trace, outputs) = self.coherent.into_parts();
-        let mut expected_text = Vec::new(alloc);
-        write_trace(&expected, &mut expected_text)?;
-        let mut text = Vec::new(alloc);
-        write_trace(&trace, &mut text)?;
-        Ok(text == expected_text && outputs == expected_outputs)
+        Ok(has_one_text(alloc, &expected, &trace)? && outputs == expected_outputs)
     }
+}
+
+fn has_one_text(alloc: Global, expected: &Trace, trace: &Trace) -> Result<bool> {
+    let mut expected_text = Vec::new(alloc);
+    let mut text = Vec::new(alloc);
+    write_trace(expected, &mut expected_text)?;
+    write_trace(trace, &mut text)?;
+    Ok(text == expected_text)
 }

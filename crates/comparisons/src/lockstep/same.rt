@@ -1,24 +1,20 @@
 //! When a hart of a machine and a flat hart are the same.
 
-use crate::difference::Difference;
 use coherent_machine::Views;
 use plain_machine::FlatView;
 use store_buffer::StoreBuffer;
 use trace_recorder::Trace;
 
-fn is_same_entry(flat: &plain_machine::Entry, entry: &store_buffer::Entry) -> bool {
-    entry.word == flat.word
-        && entry.mask.marks() == flat.mask
-        && entry.bytes == flat.bytes
-        && entry.ops.as_slice() == flat.ops.as_slice()
-}
-
 fn is_same_group(flat: &[plain_machine::Entry], group: &[store_buffer::Entry]) -> bool {
-    flat.len() == group.len()
-        && flat
-            .iter()
-            .zip(group)
-            .all(|(flat, entry)| is_same_entry(flat, entry))
+    let mut is_same = flat.len() == group.len();
+    for (flat, entry) in flat.iter().zip(group) {
+        is_same = is_same
+            && entry.word == flat.word
+            && entry.mask.marks() == flat.mask
+            && entry.bytes == flat.bytes
+            && entry.ops.as_slice() == flat.ops.as_slice();
+    }
+    is_same
 }
 
 fn is_same_buffer(flat: &FlatView<'_>, buffer: &StoreBuffer) -> bool {
@@ -34,28 +30,28 @@ fn is_same_buffer(flat: &FlatView<'_>, buffer: &StoreBuffer) -> bool {
 
 /// In what a hart differs from its flat hart, but for what it retired before its last instruction. Where it
 /// has no reservation the flat one may be any.
-pub(crate) fn difference_of(
+pub fn difference_of(
     flat: &FlatView<'_>,
     views: &Views<'_>,
     trace: &Trace,
     hart: usize,
-) -> Option<Difference> {
+) -> Option<&'static str> {
     if hart >= views.harts() || hart >= trace.harts() || views.hart(hart) != flat.hart() {
-        return Some(Difference::Hart);
+        return Some("a hart differs");
     }
     if views.output(hart) != flat.output() {
-        return Some(Difference::Output);
+        return Some("an output differs");
     }
     if !is_same_buffer(flat, views.buffer(hart)) {
-        return Some(Difference::Buffer);
+        return Some("a store buffer differs");
     }
     let reserved = views.reserved(hart);
     if reserved.is_some() && reserved != flat.reserved() {
-        return Some(Difference::Reservation);
+        return Some("a reservation differs");
     }
     let entries = trace.entries(hart);
     if entries.len() != flat.entries().len() || entries.last() != flat.entries().last() {
-        return Some(Difference::List);
+        return Some("a list differs");
     }
     None
 }

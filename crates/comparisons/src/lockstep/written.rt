@@ -7,52 +7,24 @@ use rv32_exec::Action;
 use std::alloc::{AllocError, Global};
 use trace_recorder::OpId;
 
-/// What an instruction writes: so many bytes of a number.
-#[derive(Clone, Copy, Debug, PartialEq, Eq)]
+/// What an instruction writes once it is performed: so many bytes of a number.
+#[derive(Clone, Copy)]
 struct Write {
+    operation: OpId,
     address: u32,
     bytes: usize,
     value: u32,
 }
 
-/// A write that isn't performed yet.
-#[derive(Clone, Copy, Debug, PartialEq, Eq)]
-struct Waiting {
-    operation: OpId,
-    write: Write,
-}
-
 /// What was performed, and what waits to be.
-#[derive(Debug, Drop)]
-pub(crate) struct Written {
+#[derive(Drop)]
+pub struct Written {
     memory: Vec<u8>,
-    waiting: Vec<Waiting>,
+    writes: Vec<Write>,
     /// How many operations of the performed order are written.
     performed: usize,
     /// The word of memory that was written last.
     last: u32,
-}
-
-/// What a retired instruction writes, by what it was going to do.
-fn write_of(access: Action, entry: &Retired) -> Option<Write> {
-    match access {
-        Action::Store { addr, size, value } => Some(Write {
-            address: addr,
-            bytes: size.bytes() as usize,
-            value,
-        }),
-        Action::Sc { addr, value } if entry.sc_ok == Some(true) => Some(Write {
-            address: addr,
-            bytes: 4,
-            value,
-        }),
-        Action::Amo { addr, op, operand } => Some(Write {
-            address: addr,
-            bytes: 4,
-            value: combine(op, entry.loaded?, operand),
-        }),
-        _ => None,
-    }
 }
 
 /// The place in memory of an address.
@@ -64,7 +36,7 @@ impl Written {
     pub fn at_reset(alloc: Global, image: &Image) -> Result<Written, AllocError> {
         Ok(Written {
             memory: image.bytes().to_vec(alloc)?,
-            waiting: Vec::new(alloc),
+            writes: Vec::new(alloc),
             performed: 0,
             last: BASE,
         })
@@ -77,35 +49,32 @@ impl Written {
         access: Action,
         entry: &Retired,
     ) -> Result<(), AllocError> {
-        if let Some(write) = write_of(access, entry) {
-            self.waiting.push(Waiting { operation, write })?;
-        }
+        let (address, bytes, value) = match (access, entry.loaded) {
+            (Action::Store { addr, size, value }, _) => (addr, size.bytes() as usize, value),
+            (Action::Sc { addr, value }, _) if entry.sc_ok == Some(true) => (addr, 4, value),
+            (Action::Amo { addr, op, operand }, Some(old)) => (addr, 4, combine(op, old, operand)),
+            _ => return Ok(()),
+        };
+        self.writes.push(Write {
+            operation,
+            address,
+            bytes,
+            value,
+        })?;
         Ok(())
     }
 
-    fn writes(&mut self, write: Write) {
-        self.last = write.address - write.address % 4;
-        let bytes = write.value.to_le_bytes();
-        if let Some(rest) = self
-            .memory
-            .as_mut_slice()
-            .get_mut(place_of(write.address)..)
-        {
-            for (kept, byte) in rest.iter_mut().zip(bytes.iter().take(write.bytes)) {
-                *kept = *byte;
-            }
-        }
-    }
-
     fn performs(&mut self, operation: OpId) {
-        let place = self
-            .waiting
-            .iter()
-            .position(|waiting| waiting.operation == operation);
-        if let Some(place) = place {
-            if place < self.waiting.len() {
-                let waiting = self.waiting.remove(place);
-                self.writes(waiting.write);
+        for write in self.writes.iter() {
+            if write.operation == operation {
+                self.last = write.address - write.address % 4;
+                let bytes = write.value.to_le_bytes();
+                let place = place_of(write.address);
+                if let Some(rest) = self.memory.as_mut_slice().get_mut(place..) {
+                    for (kept, byte) in rest.iter_mut().zip(bytes.iter().take(write.bytes)) {
+                        *kept = *byte;
+                    }
+                }
             }
         }
     }

@@ -1,0 +1,47 @@
+//! What the command line says.
+
+use command_files::Files;
+use command_line::run_line;
+use progress_line::Silent;
+use std::alloc::Global;
+use std::sync::Wait;
+use std::thread::Threads;
+
+/// What the command line printed, and its status.
+#[derive(Drop)]
+pub struct Said {
+    pub status: u8,
+    pub out: Vec<u8>,
+    pub err: Vec<u8>,
+}
+
+impl Said {
+    pub fn nothing(alloc: Global) -> Said {
+        Said {
+            status: 0,
+            out: Vec::new(alloc),
+            err: Vec::new(alloc),
+        }
+    }
+
+    /// Runs the command line, in place of what was said before.
+    pub fn ask<R: Threads + Wait + Sync + AllocGlobal, F: Files>(
+        &mut self,
+        rt: &R,
+        words: &[&str],
+        files: &mut F,
+    ) {
+        let alloc = rt.alloc();
+        self.out = Vec::new(alloc);
+        self.err = Vec::new(alloc);
+        self.status = run_line(
+            rt,
+            alloc,
+            words,
+            files,
+            &mut self.out,
+            &mut self.err,
+            &Silent,
+        );
+    }
+}
