@@ -79,22 +79,30 @@ fn spoil<R: Threads + Wait + Sync + AllocGlobal>(
     stream: &mut Numbers,
     said: &mut Said,
 ) -> Result<()> {
-    let name = file.name;
     for tenths in 0..10 {
-        let bytes = cut(file.bytes, tenths);
-        let files = [File { name, bytes }, other];
-        said.ask(rt, words, &mut MemoryFiles { files: &files });
-        ends_well(said)?;
+        run_over(rt, words, file.name, cut(file.bytes, tenths), other, said)?;
     }
     let mut spoiled = Vec::new(rt.alloc());
     for _ in 0..RESETS {
         reset(&mut spoiled, file.bytes, stream)?;
-        let bytes = spoiled.as_slice();
-        let files = [File { name, bytes }, other];
-        said.ask(rt, words, &mut MemoryFiles { files: &files });
-        ends_well(said)?;
+        run_over(rt, words, file.name, spoiled.as_slice(), other, said)?;
     }
     Ok(())
+}
+
+/// Runs the program over the bytes of a spoiled file, beside one that stays as it is.
+fn run_over<R: Threads + Wait + Sync + AllocGlobal>(
+    rt: &R,
+    words: &[&str],
+    name: &str,
+    bytes: &[u8],
+    other: File<'_>,
+    said: &mut Said,
+) -> Result<()> {
+    let spoiled = [File { name, bytes }, other];
+    let mut files = MemoryFiles { files: &spoiled };
+    said.ask(rt, words, &mut files);
+    ends_well(said)
 }
 
 /// The program's status is one of its five. Where it is neither a success nor a verdict, the one line that it
