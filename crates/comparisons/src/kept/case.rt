@@ -101,7 +101,7 @@ impl Case {
         Ok((image, config))
     }
 
-    pub fn model_name(&self) -> &'static str {
+    pub fn model_name(&self) -> &str {
         match self.model {
             MemoryModel::Rvwmo => "rvwmo",
             MemoryModel::Ztso => "ztso",

@@ -24,18 +24,15 @@ use std::sync::Wait;
 use std::thread::Threads;
 
 /// Asks the command line for a command that takes an image and a script.
-fn ask<R: Files + Threads + Wait + Sync + AllocGlobal>(
+fn ask<'a, R: Files + Threads + Wait + Sync + AllocGlobal>(
     rt: &R,
-    command: &'static str,
-    case: &Case,
+    command: &'a str,
+    case: &'a Case,
     said: &mut Said,
-) -> Result<()> {
-    let alloc = rt.alloc();
+) {
     let model = case.model_name();
-    let image = format!(in alloc; "{}", case.image_path.as_str())?;
-    let script = format!(in alloc; "{}", case.script_path.as_str())?;
-    let image = image.as_str();
-    let script = script.as_str();
+    let image = case.image_path.as_str();
+    let script = case.script_path.as_str();
     let mut files = SystemFiles::new(rt);
     match case.kind {
         ImageKind::Raw => {
@@ -47,7 +44,6 @@ fn ask<R: Files + Threads + Wait + Sync + AllocGlobal>(
             said.ask(rt, &words, &mut files);
         }
     }
-    Ok(())
 }
 
 /// What the command line said of a case that it replayed and isn't as kept.
@@ -128,7 +124,7 @@ impl Stage {
         let plain = self.played.difference(&self.case);
         self.played.play::<Machine>(alloc, &self.case)?;
         let coherent = self.played.difference(&self.case);
-        ask(rt, "replay", &self.case, &mut self.said)?;
+        ask(rt, "replay", &self.case, &mut self.said);
         let program = printed_difference(&self.said, &self.case);
         writeln!(
             out,
@@ -156,9 +152,9 @@ impl Stage {
         if let Some((difference, event)) = difference {
             bail!("{name}: flat machine: {difference} behind event {event}");
         }
-        ask(rt, "chart", &self.case, &mut self.said)?;
+        ask(rt, "chart", &self.case, &mut self.said);
         is_drawn(name, &self.case, &self.said)?;
-        ask(rt, "explain", &self.case, &mut self.said)?;
+        ask(rt, "explain", &self.case, &mut self.said);
         is_explained(name, &self.case, &self.said)
     }
 
