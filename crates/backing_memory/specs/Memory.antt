@@ -20,8 +20,8 @@ lines_of size.Bytes64 bytes = map data_of.Bytes64 (pieces_of 64 bytes)
 abbrev pub no_line : LineData
 no_line = data_of.Bytes16 []
 
-abbrev pub line_at : List LineData → ℕ → LineData
-line_at lines k = slice_index_or lines k no_line
+abbrev pub line_data : List LineData → ℕ → LineData
+line_data lines k = slice_index_or lines k no_line
 
 -- how many lines 1 MiB has at most
 abbrev pub FitsMemory : List LineData → Type 0

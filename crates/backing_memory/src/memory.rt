@@ -1,6 +1,6 @@
 //! Main memory as lines of one size.
 ghost use Rattle.std.specs.Prelude.{◌≡◌, ◌<◌, IfOk, length, slice_set};
-ghost use Rattle.backing_memory.specs.Memory.{FitsMemory, line_at, lines_of, pieces_of};
+ghost use Rattle.backing_memory.specs.Memory.{FitsMemory, line_data, lines_of, pieces_of};
 ghost use Rattle.tl_types.specs.Line.{size_of};
 
 use elf_loader::Image;
@@ -65,7 +65,7 @@ impl Memory {
     /// The bytes of line `i`.
     pub fn line(&self, i: u32) -> LineData
         requires { i < length self.now }
-        ensures { result ≡ line_at self.now i }
+        ensures { result ≡ line_data self.now i }
     {
         match &self.lines {
             Lines::Bytes16(lines) => LineData::Bytes16(lines[i as usize]),
@@ -76,7 +76,7 @@ impl Memory {
     /// Makes line `i` these bytes, as many as it has.
     pub fn set_line(&mut self, i: u32, line: LineData)
         requires inside { i < length self.old }
-        requires fits { size_of line ≡ size_of (line_at self.old i) }
+        requires fits { size_of line ≡ size_of (line_data self.old i) }
         ensures { self.new ≡ slice_set self.old i line }
     {
         match &mut self.lines {

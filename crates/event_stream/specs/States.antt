@@ -2,7 +2,7 @@
 use Rattle.std.specs.Prelude.{ℕ, ◌*◌, if◌then◌else◌, List, [], ◌∷◌, ◌++◌, length, take, drop, codes}
 use Rattle.std.specs.List.{flat_map, range_with_len}
 use Rattle.std.specs.Str.{bytes_eq}
-use Rattle.backing_memory.specs.Memory.{line_at}
+use Rattle.backing_memory.specs.Memory.{line_data}
 use Rattle.machine_model.specs.Views.{State, line_size}
 use Rattle.text_fields.specs.Fields.{hex, word}
 use Rattle.tl_types.specs.Line.{bytes_of, length_of}
@@ -26,7 +26,7 @@ abbrev pub changed_line : ℕ → (reset bytes : List ℕ) → List ℕ
 changed_line line reset bytes = if bytes_eq bytes reset then [] else data_line line bytes
 
 abbrev pub changed_at : State → ℕ → List ℕ
-changed_at s k = changed_line (line_address s k) (piece (line_size s) k s.trace.image.bytes) (bytes_of (line_at s.views.memory k))
+changed_at s k = changed_line (line_address s k) (piece (line_size s) k s.trace.image.bytes) (bytes_of (line_data s.views.memory k))
 
 abbrev pub changed_lines : State → List ℕ
 changed_lines s = flat_map (changed_at s) (range_with_len 0 (length s.views.memory))

@@ -11,8 +11,8 @@ use crate::state::State;
 use machine_types::Config;
 
 /// The address of the line that an address lies in.
-fn line_at(config: &Config, address: u32) -> u32
-    ensures { result ≡ spec.line_at config.now address }
+fn line_of_address(config: &Config, address: u32) -> u32
+    ensures { result ≡ spec.line_of_address config.now address }
 {
     address - address % config.line.bytes()
 }
@@ -22,7 +22,7 @@ fn set_at(config: &Config, address: u32) -> u32
     requires limits { IsTrue (is_within_limits config.now) }
     ensures { result ≡ spec.set_at config.now address }
 {
-    line_at(config, address) / config.line.bytes() % config.sets
+    line_of_address(config, address) / config.line.bytes() % config.sets
 }
 
 /// Whether sets hold one line, and the two addresses lie in different lines of one set.
@@ -32,18 +32,18 @@ fn are_rivals(config: &Config, one: u32, other: u32) -> bool
 {
     config.ways == 1
         && set_at(config, one) == set_at(config, other)
-        && line_at(config, one) != line_at(config, other)
+        && line_of_address(config, one) != line_of_address(config, other)
 }
 
 impl Node {
     /// What an access of an address, the hart's own or another's, leaves of the reservation.
     fn keep_reservation(&mut self, config: &Config, is_own: bool, address: u32)
         requires limits { IsTrue (is_within_limits config.now) }
-        ensures { self.new ≡ record self.old { reserved = if is_own then spec.without_rival config.now address self.old.reserved else without_line (spec.line_at config.now address) config.now.line self.old.reserved } }
+        ensures { self.new ≡ record self.old { reserved = if is_own then spec.without_rival config.now address self.old.reserved else without_line (spec.line_of_address config.now address) config.now.line self.old.reserved } }
     {
         if !is_own {
             self.reservation
-                .lose_line(line_at(config, address), config.line);
+                .lose_line(line_of_address(config, address), config.line);
             return;
         }
         let Some(word) = self.reservation.word() else {

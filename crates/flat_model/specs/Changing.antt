@@ -22,16 +22,16 @@ use Rattle.trace_recorder.specs.History.{entries_of, with_entry, with_performed,
 
 -- ---- the access of a line
 
-abbrev pub line_at : Config → ℕ → ℕ
-line_at config address = line_of config.line address
+abbrev pub line_of_address : Config → ℕ → ℕ
+line_of_address config address = line_of config.line address
 
 -- the set of the line that an address lies in
 abbrev pub set_at : Config → ℕ → ℕ
-set_at config address = set_of (shape_of_config config) (line_at config address)
+set_at config address = set_of (shape_of_config config) (line_of_address config address)
 
 -- sets hold one line, and the two addresses lie in different lines of one set
 abbrev pub are_rivals : Config → ℕ → ℕ → Bool
-are_rivals config one other = config.ways == 1 && set_at config one == set_at config other && not (line_at config one == line_at config other)
+are_rivals config one other = config.ways == 1 && set_at config one == set_at config other && not (line_of_address config one == line_of_address config other)
 
 -- of its own accesses a hart's reservation ends by that of a rival
 abbrev pub without_rival : Config → ℕ → Option ℕ → Option ℕ
@@ -43,7 +43,7 @@ abbrev pub reservation_after : Config → (h address k : ℕ) → Option ℕ →
 reservation_after config h address k reserved =
     if k == h
     then without_rival config address reserved
-    else without_line (line_at config address) config.line reserved
+    else without_line (line_of_address config address) config.line reserved
 
 -- of each hart, from hart k on
 abbrev pub accessed_from : Config → (h address k : ℕ) → List FlatNode → List FlatNode

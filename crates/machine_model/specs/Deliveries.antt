@@ -1,6 +1,6 @@
 -- What the message in front of a queue comes to, and what its delivery changes (TileLink 1.8.1, "TL-C"). That a Release is answered also while its line is probed, and which Grants go without data, is this machine's own.
 use Rattle.std.specs.Prelude.{ℕ, Bool, true, false, if◌then◌else◌, List, [], ◌∷◌, Option, Some, None, length, nat_le, slice_set}
-use Rattle.backing_memory.specs.Memory.{line_at}
+use Rattle.backing_memory.specs.Memory.{line_data}
 use Rattle.client_cache.specs.Cache.{Cache, copy_at, probed, granted, answered}
 use Rattle.client_cache.specs.Held.{perm_of}
 use Rattle.client_cache.specs.declared.answers.Probed.{Probed}
@@ -68,7 +68,7 @@ abbrev pub with_notes : Notes → State → State
 with_notes notes s = record s { views = record s.views { notes = notes } }
 
 abbrev pub line_in_memory : State → ℕ → LineData
-line_in_memory s line = line_at s.views.memory (place_of (line_size s) line)
+line_in_memory s line = line_data s.views.memory (place_of (line_size s) line)
 
 -- data that comes with an answer goes to memory
 abbrev pub with_memory : ℕ → Option LineData → State → State

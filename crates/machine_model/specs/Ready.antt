@@ -2,7 +2,7 @@
 use Rattle.std.specs.Prelude.{ℕ, ◌≡◌, ◌≢◌, ◌<◌, ◌≤◌, ◌/◌, ◌%◌, Bool, false, List, length, Contains, IsTrue, Some}
 use Rattle.std.specs.FinSet as set
 use Rattle.machine_limits.specs.declared.TheConstants.{MAX_CHANGES, MAX_ENTRIES}
-use Rattle.backing_memory.specs.Memory.{line_at}
+use Rattle.backing_memory.specs.Memory.{line_data}
 use Rattle.client_cache.specs.declared.shape.Shape.{Shape}
 use Rattle.elf_loader.specs.Image.{IsImage}
 use Rattle.machine_model.specs.declared.act.Act.{Act}
@@ -48,7 +48,7 @@ pub record IsSound (s : State) : Type 0 where
   pub noted_harts : s.views.notes.harts ≡ s.views.config.harts
   pub noted_lines : length s.views.notes.lines ≡ line_count s
   pub lines : length s.views.memory ≡ line_count s
-  pub sizes : (i : ℕ) → i < length s.views.memory → size_of (line_at s.views.memory i) ≡ line_size s
+  pub sizes : (i : ℕ) → i < length s.views.memory → size_of (line_data s.views.memory i) ≡ line_size s
   pub shapes : (h : ℕ) → (node_at s h).cache.shape ≡ shape_of s
   pub queued : (h : ℕ) (channel : Channel) (m : Msg) → Contains (queue_of (node_at s h).queues channel) m → IsTrue (is_piece s.trace.image m.line (length_of (line_size s)))
   pub changes : s.views.changes ≤ MAX_CHANGES

@@ -1,6 +1,6 @@
 -- What the handling of a message rests on, once the message is taken.
 use Rattle.std.specs.Prelude.{ℕ, ◌≡◌, ◌<◌, ◌≤◌, List, length, Option, Some, None, slice_set}
-use Rattle.backing_memory.specs.Memory.{line_at}
+use Rattle.backing_memory.specs.Memory.{line_data}
 use Rattle.client_cache.specs.Cache.{granted, probed}
 use Rattle.directory.specs.declared.answer.Sent.{Sent}
 use Rattle.directory.specs.declared.answer.Sent.TheVariants.{Probes, Granting}
@@ -16,7 +16,7 @@ use Rattle.tl_types.specs.declared.permission.Cap.{Cap}
 pub record HasLine (line : ℕ) (s : State) : Type 0 where
   pub low : base ≤ line
   pub kept : place_of (line_size s) line < length s.views.memory
-  pub size : size_of (line_at s.views.memory (place_of (line_size s) line)) ≡ line_size s
+  pub size : size_of (line_data s.views.memory (place_of (line_size s) line)) ≡ line_size s
   pub noted : place_of (line_size s) line < length s.views.notes.lines
 
 -- data that came with a message are as many bytes as a line has

@@ -2,7 +2,6 @@ pub mod Arithmetic
 pub mod Calls
 pub mod Laws
 pub mod Meaning
-pub mod Memory
 pub mod Actions
 pub mod Registers
 pub mod Uses

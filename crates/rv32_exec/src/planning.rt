@@ -4,7 +4,7 @@ ghost use Rattle.std.specs.Prelude.{◌≡◌, ◌%◌, ◌*◌, ◌^◌, ℕ, n
 ghost use Rattle.rv32_exec.specs.Arithmetic.{bytes_loaded, bytes_stored};
 ghost use Rattle.rv32_exec.specs.Meaning.{Loads, Stores, access_stop, stop_of_target, meaning};
 ghost use Rattle.rv32_exec.specs.Meaning as spec;
-ghost use Rattle.rv32_exec.specs.Memory.{IsMemorySize};
+ghost use Rattle.elf_loader.specs.Size.{IsMemorySize};
 ghost use Rattle.rv32_exec.specs.Actions.{width_of, action_of_access, action_of, stop_or, planned};
 ghost use Rattle.rv32_exec.specs.Width.{byte_count};
 

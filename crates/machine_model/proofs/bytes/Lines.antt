@@ -5,8 +5,8 @@ use Rattle.std.proofs.lemmas.Bool.{cases_lt, eq-eqb}
 use Rattle.std.proofs.lemmas.Bool.Decides.{eqb_tells}
 use Rattle.std.proofs.lemmas.List.{get_or-drop, get_or-take, length-drop, length-set, length-take-le}
 use Rattle.std.proofs.lemmas.Option.{slice_get-get_or}
-use Rattle.backing_memory.specs.Memory.{line_at, lines_of}
-use Rattle.backing_memory.specs.Places.{bytes-line_at, size-line_at}
+use Rattle.backing_memory.specs.Memory.{line_data, lines_of}
+use Rattle.backing_memory.specs.Places.{bytes-line_data, size-line_data}
 use Rattle.client_cache.specs.Word.{with_marked, with_word}
 use Rattle.elf_loader.specs.Image.{Initial, byte_at}
 use Rattle.machine_model.specs.Events.{is_piece}
@@ -188,12 +188,12 @@ in_image : (size : LineSize) (l n k : ℕ) → l % length_of size ≡ 0 → 2147
 in_image Bytes16 l n k a low high = record { room = omega (arith, a, low, high); place = omega (arith, a, low) }
 in_image Bytes64 l n k a low high = record { room = omega (arith, a, low, high); place = omega (arith, a, low) }
 
-pub image_line : (size : LineSize) (image : Initial) (l : ℕ) → is_piece image l (length_of size) ≡ true → IsOf size (byte_at image) l (line_at (lines_of size image.bytes) (place_of size l))
+pub image_line : (size : LineSize) (image : Initial) (l : ℕ) → is_piece image l (length_of size) ≡ true → IsOf size (byte_at image) l (line_data (lines_of size image.bytes) (place_of size l))
 image_line size image l on = record {
-  sized = size-line_at size image.bytes (place_of size l) (place_inside image size l on);
-  whole = ap length (bytes-line_at size image.bytes (place_of size l) (place_inside image size l on)) ∙ counted;
+  sized = size-line_data size image.bytes (place_of size l) (place_inside image size l on);
+  whole = ap length (bytes-line_data size image.bytes (place_of size l) (place_inside image size l on)) ∙ counted;
   bytes = λ k b.
-      ap (λ xs. slice_get xs k) (bytes-line_at size image.bytes (place_of size l) (place_inside image size l on))
+      ap (λ xs. slice_get xs k) (bytes-line_data size image.bytes (place_of size l) (place_inside image size l on))
       ∙ (slice_get-get_or (take (length_of size) (drop start image.bytes)) k 0 (subst (λ n. k < n) (sym counted) b)
       ∙ ap Some (get_or-take (length_of size) (drop start image.bytes) k 0 b ∙ (get_or-drop start image.bytes k 0 ∙ ap (slice_index image.bytes) (is_in k).place)));
 }

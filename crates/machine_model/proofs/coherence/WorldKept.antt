@@ -54,7 +54,7 @@ module _ (image : Initial) (size : LineSize) (harts : ℕ) where
   LineKept f y bytes l last = IsKept (sides f y l) bytes y.transaction last
 
   pub record IsWell (f : ℕ → Kit) (notes : Notes) (cells : List LineData) (last : ℕ → LineData) : Type 0 where
-    pub kept : (l : ℕ) → is_line l ≡ true → LineKept f (entry notes l) (memory.line_at cells (place l)) l (last l)
+    pub kept : (l : ℕ) → is_line l ≡ true → LineKept f (entry notes l) (memory.line_data cells (place l)) l (last l)
     pub outside : (l : ℕ) → is_line l ≡ false → (h : ℕ) → side (f h) unknown l ≡ quiet_side
     pub notes_room : length notes.lines ≡ count_of image size
     pub memory_room : length cells ≡ count_of image size
@@ -67,7 +67,7 @@ module _ (image : Initial) (size : LineSize) (harts : ℕ) where
       LineKept k y bytes l (next l) → length y.known ≡ harts → ((r : ℕ) (g : Grow) → y.transaction ≡ Probing r g → r < harts) →
       IsWell k (with_line notes (place l) y) (slice_set cells (place l) bytes) next
   step f k notes cells last next l y bytes on i elsewhere same_last here known requester = record {
-    kept = split (λ q. is_line q ≡ true → LineKept k (entry after q) (memory.line_at store (place q)) q (next q)) l
+    kept = split (λ q. is_line q ≡ true → LineKept k (entry after q) (memory.line_data store (place q)) q (next q)) l
         (λ e. rw (entry_here, cell_here) here)
         (λ q ne e. rw (entry_there q ne e, cell_there q ne e, same_last q ne) (kept.same _ _ _ _ _ (i.kept q e) (λ h. elsewhere q ne h (known_at (entry notes q) h))));
     outside = λ q e h. elsewhere q (λ s. cc (on, e, ap is_line s)) h unknown ∙ i.outside q e h;
@@ -95,10 +95,10 @@ module _ (image : Initial) (size : LineSize) (harts : ℕ) where
       entry_there : (q : ℕ) → q ≢ l → is_line q ≡ true → entry after q ≡ entry notes q
       entry_there q ne e = get_or-set_other notes.lines (place l) (place q) y (quiet notes.harts) (apart q ne e)
 
-      cell_here : memory.line_at store (place l) ≡ bytes
+      cell_here : memory.line_data store (place l) ≡ bytes
       cell_here = get_or-set_same cells (place l) bytes memory.no_line (rw i.memory_room inside)
 
-      cell_there : (q : ℕ) → q ≢ l → is_line q ≡ true → memory.line_at store (place q) ≡ memory.line_at cells (place q)
+      cell_there : (q : ℕ) → q ≢ l → is_line q ≡ true → memory.line_data store (place q) ≡ memory.line_data cells (place q)
       cell_there q ne e = get_or-set_other cells (place l) (place q) bytes memory.no_line (apart q ne e)
 
   -- a message in front of a queue is about one of the lines
@@ -111,15 +111,15 @@ module _ (image : Initial) (size : LineSize) (harts : ℕ) where
 
   module _ (f k : ℕ → Kit) (notes : Notes) (cells : List LineData) (last : ℕ → LineData) (l : ℕ) (on : is_line l ≡ true) (i : IsWell f notes cells last) where
     -- notes and memory stay
-    pub still : (y : Line) (bytes : LineData) → entry notes l ≡ y → memory.line_at cells (place l) ≡ bytes → IsWell k (with_line notes (place l) y) (slice_set cells (place l) bytes) last → IsWell k notes cells last
+    pub still : (y : Line) (bytes : LineData) → entry notes l ≡ y → memory.line_data cells (place l) ≡ bytes → IsWell k (with_line notes (place l) y) (slice_set cells (place l) bytes) last → IsWell k notes cells last
     still y bytes e m w = subst (λ (c : List LineData). IsWell k notes c last) (ap (slice_set cells (place l)) (sym m) ∙ set-get_or cells (place l) memory.no_line)
         (subst (λ (ls : List Line). IsWell k (record notes { lines = ls }) (slice_set cells (place l) bytes) last) (ap (slice_set notes.lines (place l)) (sym e) ∙ set-get_or notes.lines (place l) (quiet notes.harts)) w)
 
     -- one hart acts alone
     pub acts : (h : ℕ) (x : Kit) → KitChanged f k h x → ((q : ℕ) → q ≢ l → (z : Known) → side x z q ≡ side (f h) z q) →
         Moves (last l) (part_of (entry notes l).transaction h) (sides f (entry notes l) l h) (side x (known_at (entry notes l) h) l) → IsWell k notes cells last
-    acts h x c elsewhere moves = still (entry notes l) (memory.line_at cells (place l)) refl refl
-        (step f k notes cells last last l (entry notes l) (memory.line_at cells (place l)) on i
+    acts h x c elsewhere moves = still (entry notes l) (memory.line_data cells (place l)) refl refl
+        (step f k notes cells last last l (entry notes l) (memory.line_data cells (place l)) on i
         (λ q ne. split (λ j. (z : Known) → side (k j) z q ≡ side (f j) z q) h (λ z. rw c.here (elsewhere q ne z)) (λ j nj z. rw (c.there j nj) refl))
         (λ q ne. refl)
         (kept.moved (sides f (entry notes l) l) _ _ _ _ (i.kept l on) h _ (record { here = ap (λ (y : Kit). side y (known_at (entry notes l) h) l) c.here; there = λ j nj. ap (λ (y : Kit). side y (known_at (entry notes l) j) l) (c.there j nj) }) moves)
@@ -130,8 +130,8 @@ module _ (image : Initial) (size : LineSize) (harts : ℕ) where
         ((q : ℕ) → q ≢ l → next q ≡ last q) → next l ≡ bytes → is_trunk (perm_of (side (f h) unknown l).copy) ≡ true → IsWell k notes cells next
     writes h next bytes x c elsewhere here others newest may =
         subst (λ (m : List LineData). IsWell k notes m next) (set-get_or cells (place l) memory.no_line)
-        (subst (λ (ls : List Line). IsWell k (record notes { lines = ls }) (slice_set cells (place l) (memory.line_at cells (place l))) next) (set-get_or notes.lines (place l) (quiet notes.harts))
-        (step f k notes cells last next l (entry notes l) (memory.line_at cells (place l)) on i
+        (subst (λ (ls : List Line). IsWell k (record notes { lines = ls }) (slice_set cells (place l) (memory.line_data cells (place l))) next) (set-get_or notes.lines (place l) (quiet notes.harts))
+        (step f k notes cells last next l (entry notes l) (memory.line_data cells (place l)) on i
         (λ q ne. split (λ j. (z : Known) → side (k j) z q ≡ side (f j) z q) h (λ z. rw c.here (elsewhere q ne z)) (λ j nj z. rw (c.there j nj) refl))
         others
         (rw newest (kept.written (sides f (entry notes l) l) _ _ _ _ (i.kept l on) h bytes (record { here = ap (λ (y : Kit). side y (known_at (entry notes l) h) l) c.here ∙ here (known_at (entry notes l) h); there = λ j nj. ap (λ (y : Kit). side y (known_at (entry notes l) j) l) (c.there j nj) }) may))

@@ -92,7 +92,7 @@ module _ (image : Initial) (size : LineSize) (harts : ℕ) (f k : ℕ → Kit) (
   own = entry image size harts notes l
 
   abbrev at_home : LineData
-  at_home = memory.line_at cells (place image size harts l)
+  at_home = memory.line_data cells (place image size harts l)
 
   abbrev given_notes : Line → Notes
   given_notes y = with_line notes (place image size harts l) y

@@ -85,11 +85,11 @@ module _ (image : Initial) (config : Config) where
 
   -- the lines' last writes at reset
   abbrev pub opening_last : ℕ → LineData
-  opening_last l = memory.line_at s.views.memory (place_of (line_size s) l)
+  opening_last l = memory.line_data s.views.memory (place_of (line_size s) l)
 
   opening_well : IsWell image (line_size s) (length s.views.nodes) (kit_at s) s.views.notes s.views.memory opening_last
   opening_well = record {
-    kept = λ l on. subst (λ (t : Transaction). IsKept (λ h. side (kit_at s h) (known_at (line_at s.views.notes (place_of (line_size s) l)) h) l) (memory.line_at s.views.memory (place_of (line_size s) l)) t (memory.line_at s.views.memory (place_of (line_size s) l)))
+    kept = λ l on. subst (λ (t : Transaction). IsKept (λ h. side (kit_at s h) (known_at (line_at s.views.notes (place_of (line_size s) l)) h) l) (memory.line_data s.views.memory (place_of (line_size s) l)) t (memory.line_data s.views.memory (place_of (line_size s) l)))
         (sym (ap (λ y. y.transaction) (entry_quiet l))) (record {
           stands = λ h. subst (Stands _ Alone) (sym (quiet_at h l _ (known_quiet l h))) (Holds Alone None tt tt);
           apart = λ a b ne e. ap (λ (x : Side). x.noted) (quiet_at b l _ (known_quiet l b));

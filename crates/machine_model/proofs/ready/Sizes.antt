@@ -5,7 +5,7 @@ use Rattle.std.specs.FinMap as map
 use Rattle.std.specs.FinSet as set
 use Rattle.machine_limits.specs.declared.TheConstants.{TRACKERS}
 use native.Mathlib.Omega.{arith}
-use Rattle.backing_memory.specs.Memory.{line_at}
+use Rattle.backing_memory.specs.Memory.{line_data}
 use Rattle.client_cache.specs.Cache.{Cache, copy_at, wanted, probed, probed_copy, granted, answered, evicted, evicted_copy, is_set_full, word_written, word_written_in}
 use Rattle.client_cache.specs.Held.{eviction_of}
 use Rattle.client_cache.specs.Word.{with_word}
@@ -103,7 +103,7 @@ word_size (data_of.Bytes64 line) word marks bytes = refl
 
 module _ (size : LineSize) where
   abbrev pub AllSized : List LineData → Type 0
-  AllSized cells = (k : ℕ) → k < length cells → size_of (line_at cells k) ≡ size
+  AllSized cells = (k : ℕ) → k < length cells → size_of (line_data cells k) ≡ size
 
   set_sized : (cells : List LineData) (place : ℕ) (bytes : LineData) → size_of bytes ≡ size → AllSized cells → AllSized (slice_set cells place bytes)
   set_sized [] place bytes e all k lt = all k lt

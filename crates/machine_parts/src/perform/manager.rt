@@ -1,7 +1,7 @@
 //! What the manager does with a message that it has taken.
 
 ghost use Rattle.std.specs.Prelude.{◌≡◌, ◌≢◌, ◌<◌, ◌≤◌, All, length};
-ghost use Rattle.backing_memory.specs.Memory.{line_at};
+ghost use Rattle.backing_memory.specs.Memory.{line_data};
 ghost use Rattle.directory.specs.Directory.{SendsToHarts};
 ghost use Rattle.elf_loader.specs.Size.{base};
 ghost use Rattle.machine_model.specs.Deliveries.{grant_body, line_in_memory, on_acquire, on_grant_ack, on_probe_ack, on_release, sent_any, sent_grant, sent_probes};
@@ -30,7 +30,7 @@ fn place_of(parts: &Parts, line: u32) -> u32
 /// Data that came with a message go to memory.
 fn write_back(memory: &mut Memory, place: u32, bytes: Option<LineData>)
     requires place { place < length memory.old }
-    requires bytes { HasSize (size_of (line_at memory.old place)) bytes }
+    requires bytes { HasSize (size_of (line_data memory.old place)) bytes }
     ensures { memory.new ≡ written_back place bytes memory.old }
 {
     if let Some(bytes) = bytes {
