@@ -5,6 +5,7 @@ use super::{
     Ran, began, breaks_anywhere, gave, image_of, is_no_usage, line, line_over, replay, texts, told,
 };
 use crate::same::{same, same_of};
+use std::process::Abort;
 use std::sync::Wait;
 use std::test::Fail;
 use std::thread::Threads;
@@ -165,12 +166,25 @@ fn a_script_leads_to_its_outcome(rt: HostRuntime) -> Result<(), Fail> {
     Ok(())
 }
 
-#[test]
-fn a_full_folder_is_told(rt: HostRuntime) -> Result<(), Fail> {
-    let image = image_of(rt.alloc(), &STORE_BUFFERING)?;
+/// An exploration of a program on two harts, whose files find no room: its status, and what it tells and remarks.
+fn finds_no_room<R: Abort + Threads + Wait + Sync + AllocGlobal>(
+    rt: &R,
+    program: &[u32],
+    words: &[&str],
+    outcomes: &str,
+) -> Result<(), Fail> {
+    let image = image_of(rt.alloc(), program)?;
     let files = [File::whole("image", &image)];
     let mut files = MemoryFiles::new(rt.alloc(), &files);
     files.is_full = true;
+    let ran = line_over(rt, words, &mut files);
+    began(rt, &ran, 1, outcomes, "rvtl: folder: cannot write\n");
+    same(rt, files.last_remark(), "no space is left");
+    Ok(())
+}
+
+#[test]
+fn a_full_folder_is_told(rt: HostRuntime) -> Result<(), Fail> {
     let words = [
         "rvtl",
         "explore",
@@ -181,9 +195,21 @@ fn a_full_folder_is_told(rt: HostRuntime) -> Result<(), Fail> {
         "folder",
         "image",
     ];
-    let ran = line_over(&rt, &words, &mut files);
-    began(&rt, &ran, 1, OUTCOMES, "rvtl: folder: cannot write\n");
-    Ok(())
+    finds_no_room(&rt, &STORE_BUFFERING, &words, OUTCOMES)
+}
+
+/// The last outcome, of which a file is written first, is one that the machine never comes to, so that it has a trace:
+/// of the message its other bit is put out.
+#[test]
+fn a_folder_too_full_for_a_trace_is_told(rt: HostRuntime) -> Result<(), Fail> {
+    let mut program = MESSAGE_PASSING;
+    program[14] = 0x0016_c513;
+    let outcomes = "1  hart 0: exit 0   hart 1: exit 0 output 0 0   this machine
+2  hart 0: exit 0   hart 1: exit 0 output 0 1   this machine
+3  hart 0: exit 0   hart 1: exit 0 output 1 0   this machine
+4  hart 0: exit 0   hart 1: exit 0 output 1 1   RVWMO alone
+";
+    finds_no_room(&rt, &program, &SEARCHING, outcomes)
 }
 
 #[test]
@@ -295,6 +321,19 @@ fn what_the_model_allows(rt: HostRuntime) -> Result<(), Fail> {
     Ok(())
 }
 
+/// What the model allows two harts, with files of what shows it.
+const SEARCHING: [&str; 9] = [
+    "rvtl",
+    "explore",
+    "--raw",
+    "--harts",
+    "2",
+    "--architecture",
+    "--scripts",
+    "folder",
+    "image",
+];
+
 /// `rvtl explore --raw --architecture` of a program on so many harts.
 fn explore_model<R: Threads + Wait + Sync + AllocGlobal>(
     rt: &R,
@@ -344,18 +383,7 @@ fn what_would_forbid_an_outcome(rt: HostRuntime) -> Result<(), Fail> {
     let image = image_of(rt.alloc(), &MESSAGE_PASSING)?;
     let files = [File::whole("image", &image)];
     let mut files = MemoryFiles::new(rt.alloc(), &files);
-    let words = [
-        "rvtl",
-        "explore",
-        "--raw",
-        "--harts",
-        "2",
-        "--architecture",
-        "--scripts",
-        "folder",
-        "image",
-    ];
-    let ran = line_over(&rt, &words, &mut files);
+    let ran = line_over(&rt, &SEARCHING, &mut files);
     let outcomes = "1  hart 0: exit 0   hart 1: exit 0 output 0 0   this machine
 2  hart 0: exit 0   hart 1: exit 0 output 0 1   this machine
 3  hart 0: exit 0   hart 1: exit 0 output 1 0   RVWMO alone

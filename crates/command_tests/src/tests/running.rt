@@ -165,6 +165,7 @@ fn journals_that_break(rt: HostRuntime) -> Result<(), Fail> {
     let words = ["rvtl", "run", "--raw", "--journal", "j", "image"];
     let ran = line_over(&rt, &words, &mut full);
     gave(&rt, &ran, 1, "", "rvtl: j: cannot write\n");
+    same(&rt, full.last_remark(), "no space is left");
     Ok(())
 }
 
