@@ -1,34 +1,12 @@
--- The lines of how harts ended, part by part.
+-- The lines of how harts ended.
 use Rattle.std.proofs.Common.{◌≡◌, ℕ, ◌+◌, ◌-◌, ◌≤◌, List, [], ◌∷◌, ◌++◌, ◌∙◌, Ok, Err, Option, Result, append_assoc, ap, ap₂, arith, drop, get_or, length, map, refl, suc, subst, sym, take}
 use Rattle.std.proofs.lemmas.List.{append-nil}
 use Rattle.std.proofs.Math.Seq.{take-length}
-use Rattle.std.specs.Io.KnownBytes.{Appends}
-use Rattle.std.specs.List.{flat_map}
-use Rattle.std.specs.Prelude.{codes, decimal}
-use Rattle.command_files.specs.Ends.{end_line, end_lines, ends_of, number_text, output_text, status_text}
+use Rattle.command_files.specs.Ends.{end_line, end_lines, ends_of}
 use Rattle.hart.specs.declared.status.Status.{Status}
 use Rattle.machine_model.specs.Views.{Node, State}
-use Rattle.text_fields.proofs.Written.{Going, going_as, going_more, going_starts}
 use Rattle.text_fields.specs.Writing.{Begins, Writes}
 use Rattle.trace_recorder.specs.History.{History}
-
--- what stands before a hart's status
-abbrev pub lead : ℕ → List ℕ
-lead hart = codes "hart " ++ (decimal hart ++ codes ": ")
-
-module _ (hart : ℕ) (status : Status) (output : List ℕ) where
-  abbrev pub behind_lead : List ℕ
-  behind_lead = status_text status ++ (output_text output ++ codes "\n")
-
-  pub at_lead : (a : Option (List ℕ)) → Going a a (lead hart ++ behind_lead) (end_line hart status output)
-  at_lead a = going_as a a (end_line hart status output) (lead hart ++ behind_lead) (end_line hart status output) (ap (λ (t : List ℕ). codes "hart " ++ t) (sym (append_assoc (decimal hart) (codes ": ") behind_lead))) (going_starts a (end_line hart status output))
-
-  pub at_status : (a b : Option (List ℕ)) → Appends a b (lead hart) → Going a b behind_lead (end_line hart status output)
-  at_status a b sent = going_more a a b (lead hart) behind_lead (end_line hart status output) (at_lead a) sent
-
-pub some_output : (output : List ℕ) → 1 ≤ length output → output_text output ≡ codes " output" ++ flat_map number_text output
-some_output [] some = absurd (omega (arith, some))
-some_output (n ∷ ns) some = refl
 
 behind_first : {X : Type 0} (xs : List X) → take (suc (length xs) - 1) xs ≡ xs
 behind_first xs = let less : suc (length xs) - 1 ≡ length xs = omega arith in ap (λ n. take n xs) less ∙ take-length xs

@@ -1,13 +1,13 @@
 //! How harts ended, as lines.
 
 ghost use Rattle.std.specs.Prelude.{map};
-ghost use Rattle.std.specs.List.{flat_map};
-ghost use Rattle.command_files.specs.Ends.{end_line, end_lines, number_text, output_text, status_text};
+ghost use Rattle.command_files.specs.Ends.{end_line, end_lines};
 ghost use Rattle.text_fields.specs.Writing.{Writes};
 
 use hart::Status;
+use hart_ends::put_end;
 use std::io::{self, Write};
-use text_fields::{Piece, put, put_pieces};
+use text_fields::put;
 
 /// How each hart ended, and what it put out, each on a line of its own. After the writer's fault a beginning of these
 /// lines went out.
@@ -36,40 +36,6 @@ pub fn print_ends<E: Write>(
 fn print_end<E: Write>(hart: usize, status: Status, output: &[u32], err: &mut E) -> io::Result<()>
     ensures { Writes (E.contents err.old) (E.contents err.new) (end_line hart status output.now) result }
 {
-    let number = Piece::Number(hart as u64);
-    put_pieces(err, &[Piece::Text(b"hart "), number, Piece::Text(b": ")])?;
-    print_status(status, err)?;
-    print_output(output, err)?;
+    put_end(hart, status, output, err)?;
     put(err, b"\n")
-}
-
-fn print_status<E: Write>(status: Status, err: &mut E) -> io::Result<()>
-    ensures { Writes (E.contents err.old) (E.contents err.new) (status_text status) result }
-{
-    let (word, code): (&[u8], u8) = match status {
-        Status::Running => return put(err, b"run"),
-        Status::Stopped(code) => (b"stop ", code),
-        Status::Exited(code) => (b"exit ", code),
-    };
-    put_pieces(err, &[Piece::Text(word), Piece::Number(u64::from(code))])
-}
-
-fn print_output<E: Write>(output: &[u32], err: &mut E) -> io::Result<()>
-    ensures { Writes (E.contents err.old) (E.contents err.new) (output_text output.now) result }
-{
-    if output.is_empty() {
-        return Ok(());
-    }
-    put(err, b" output")?;
-    print_numbers(output, err)
-}
-
-fn print_numbers<E: Write>(numbers: &[u32], err: &mut E) -> io::Result<()>
-    ensures { Writes (E.contents err.old) (E.contents err.new) (flat_map number_text numbers.now) result }
-{
-    for number in numbers {
-        let number = Piece::Number(u64::from(*number));
-        put_pieces(err, &[Piece::Text(b" "), number])?;
-    }
-    Ok(())
 }

@@ -4,37 +4,23 @@ use Rattle.explorer.specs.declared.exploration.Exploration.{Exploration}
 use Rattle.explorer.specs.declared.exploration.Stuck.{Stuck}
 use Rattle.explorer.specs.Ends.{outcomes_of}
 use Rattle.flat_model.specs.Shown.{Result}
-use Rattle.hart.specs.declared.status.Status.{Status}
-use Rattle.hart.specs.declared.status.Status.TheVariants.{Running, Stopped, Exited}
+use Rattle.hart_ends.specs.Ends.{hart_text}
 use Rattle.state_search.specs.declared.findings.Extent.{Extent}
 use Rattle.state_search.specs.declared.findings.Extent.TheVariants.{Complete, LimitMet, OutOfMemory}
 
 -- ---- harts
 
-abbrev pub status_text : Status → List ℕ
-status_text Running = codes "run"
-status_text (Stopped code) = codes "stop " ++ decimal code
-status_text (Exited code) = codes "exit " ++ decimal code
-
-abbrev pub numbers_text : List ℕ → List ℕ
-numbers_text [] = []
-numbers_text (n ∷ ns) = codes " " ++ (decimal n ++ numbers_text ns)
-
-abbrev pub output_text : List ℕ → List ℕ
-output_text [] = []
-output_text (n ∷ ns) = codes " output" ++ numbers_text (n ∷ ns)
-
 abbrev pub gap_before : ℕ → List ℕ
 gap_before zero = codes "  "
 gap_before (suc h) = codes "   "
 
-abbrev pub hart_text : ℕ → Result → List ℕ
-hart_text h r = gap_before h ++ (codes "hart " ++ (decimal h ++ (codes ": " ++ (status_text r.status ++ output_text r.output))))
+abbrev pub hart_field : ℕ → Result → List ℕ
+hart_field h r = gap_before h ++ hart_text h r.status r.output
 
 -- from hart h on
 abbrev pub harts_text : ℕ → List Result → List ℕ
 harts_text h [] = []
-harts_text h (r ∷ rs) = hart_text h r ++ harts_text (h + 1) rs
+harts_text h (r ∷ rs) = hart_field h r ++ harts_text (h + 1) rs
 
 -- ---- lines
 

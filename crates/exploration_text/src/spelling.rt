@@ -7,7 +7,7 @@ ghost use Rattle.flat_model.specs.Shown.{told};
 
 use explorer::{Exploration, Found, Stuck};
 use flat_model::HartResult;
-use hart::Status;
+use hart_ends::put_end;
 use itoa::Buffer;
 use state_search::Extent;
 use std::alloc::{AllocError, Global};
@@ -18,47 +18,6 @@ pub(crate) fn spell_number(into: &mut Vec<u8>, number: u64) -> Result<(), AllocE
     let mut digits = Buffer::new();
     into.extend_from_slice(digits.format(number).as_bytes())?;
     Ok(())
-}
-
-fn spell_status(into: &mut Vec<u8>, status: Status) -> Result<(), AllocError>
-    ensures { OnOk result (into.new.items ≡ into.old.items ++ text.status_text status) }
-{
-    match status {
-        Status::Running => {
-            into.extend_from_slice(b"run")?;
-            Ok(())
-        }
-        Status::Stopped(code) => {
-            into.extend_from_slice(b"stop ")?;
-            spell_number(into, u64::from(code))
-        }
-        Status::Exited(code) => {
-            into.extend_from_slice(b"exit ")?;
-            spell_number(into, u64::from(code))
-        }
-    }
-}
-
-pub(crate) fn spell_numbers(into: &mut Vec<u8>, numbers: &[u32]) -> Result<(), AllocError>
-    ensures { OnOk result (into.new.items ≡ into.old.items ++ text.numbers_text numbers.now) }
-{
-    let mut rest = numbers;
-    while let [first, tail @ ..] = rest {
-        into.extend_from_slice(b" ")?;
-        spell_number(into, u64::from(*first))?;
-        rest = tail;
-    }
-    Ok(())
-}
-
-fn spell_output(into: &mut Vec<u8>, output: &[u32]) -> Result<(), AllocError>
-    ensures { OnOk result (into.new.items ≡ into.old.items ++ text.output_text output.now) }
-{
-    if output.is_empty() {
-        return Ok(());
-    }
-    into.extend_from_slice(b" output")?;
-    spell_numbers(into, output)
 }
 
 fn spell_gap(into: &mut Vec<u8>, hart: usize) -> Result<(), AllocError>
@@ -73,14 +32,13 @@ fn spell_gap(into: &mut Vec<u8>, hart: usize) -> Result<(), AllocError>
 }
 
 fn spell_hart(into: &mut Vec<u8>, hart: usize, ended: &HartResult) -> Result<(), AllocError>
-    ensures { OnOk result (into.new.items ≡ into.old.items ++ text.hart_text hart (result_of ended.now)) }
+    ensures { OnOk result (into.new.items ≡ into.old.items ++ text.hart_field hart (result_of ended.now)) }
 {
     spell_gap(into, hart)?;
-    into.extend_from_slice(b"hart ")?;
-    spell_number(into, hart as u64)?;
-    into.extend_from_slice(b": ")?;
-    spell_status(into, ended.status)?;
-    spell_output(into, &ended.output)
+    if put_end(hart, ended.status, &ended.output, into).is_err() {
+        return Err(AllocError);
+    }
+    Ok(())
 }
 
 pub(crate) fn spell_harts(into: &mut Vec<u8>, harts: &[HartResult]) -> Result<(), AllocError>

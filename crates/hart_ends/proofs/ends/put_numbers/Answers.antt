@@ -1,9 +1,9 @@
 use Rattle.std.proofs.Common.{◌≡◌, ◌++◌, [], get_or, rules, subst}
 use Rattle.std.specs.Prelude.{codes, decimal}
-use Rattle.command_files.specs.Ends.{number_text}
+use Rattle.hart_ends.specs.Ends.{number_text}
 use Rattle.text_fields.proofs.Written.{stops, begins_at}
 use Rattle.text_fields.specs.Writing.{Begins}
-use Rattle.command_files.proofs.ends.print_numbers.Goals as goal
+use Rattle.hart_ends.proofs.ends.put_numbers.Goals as goal
 
 pub returns-in_err-put_pieces : goal.returns-in_err-put_pieces
 returns-in_err-put_pieces g c =
