@@ -12,7 +12,7 @@ use Rattle.architecture_outcomes.specs.Outcomes.{HasEachMachineEnd, IsMachine, I
 use Rattle.architecture_outcomes.specs.Visited.{wordless}
 use Rattle.elf_loader.specs.Image.{Initial}
 use Rattle.explorer.specs.declared.found.Found.{Found}
-use Rattle.explorer.specs.Ends.{IsRealIn as IsRealEnd}
+use Rattle.explorer.specs.Ends.{IsRealIn as IsRealResult}
 use Rattle.explorer.specs.Ends.{outcome_of as results_of}
 use Rattle.explorer.specs.Ends.{outcomes_of as all_results_of}
 use Rattle.explorer.specs.Outcomes.{HasEachEnd as HasEachResult}
@@ -56,19 +56,19 @@ at_none P [] none so = so
 at_none P (address ∷ rest) none so = let bad = eqb-true (length (address ∷ rest)) 0 none in absurd (omega (arith, bad))
 
 module _ (image : Initial) (config : Config) where
-  witnessed : (f : Found) (o : Outcome) → IsOf f o → IsRealEnd image config f → IsWitnessed image config [] o
+  witnessed : (f : Found) (o : Outcome) → IsOf f o → IsRealResult image config f → IsWitnessed image config [] o
   witnessed f o is real =
-      let scripted = subst (λ (harts : Vec HartResult). IsRealEnd image config (record { harts = harts; script = f.script })) (sym is.harts) real in
+      let scripted = subst (λ (harts : Vec HartResult). IsRealResult image config (record { harts = harts; script = f.script })) (sym is.harts) real in
       subst (IsWitnessedBy image config [] o) (sym is.way) (scripted, is.words)
 
-  witnessed_each : (fs : List Found) (os : List Outcome) → AllZip IsOf fs os → AllByRecursion (IsRealEnd image config) fs → AllByRecursion (IsWitnessed image config []) os
+  witnessed_each : (fs : List Found) (os : List Outcome) → AllZip IsOf fs os → AllByRecursion (IsRealResult image config) fs → AllByRecursion (IsWitnessed image config []) os
   witnessed_each [] [] are real = tt
   witnessed_each [] (o ∷ os) are real = absurd are
   witnessed_each (f ∷ fs) [] are real = absurd are
   witnessed_each (f ∷ fs) (o ∷ os) are real = (witnessed f o are.0 real.0, witnessed_each fs os are.1 real.1)
 
-  pub all_witnessed : (fs : List Found) (os : List Outcome) → AllZip IsOf fs os → All (IsRealEnd image config) fs → All (IsWitnessed image config []) os
-  all_witnessed fs os are real = All-from_recursion (IsWitnessed image config []) os (witnessed_each fs os are (recursion_from_All (IsRealEnd image config) fs real))
+  pub all_witnessed : (fs : List Found) (os : List Outcome) → AllZip IsOf fs os → All (IsRealResult image config) fs → All (IsWitnessed image config []) os
+  all_witnessed fs os are real = All-from_recursion (IsWitnessed image config []) os (witnessed_each fs os are (recursion_from_All (IsRealResult image config) fs real))
 
   pub each_end : (fs : List Found) (os : List Outcome) → AllZip IsOf fs os → HasEachResult image config (all_results_of fs) → HasEachMachineEnd image config [] (ends_of os)
   each_end fs os are each events ended =

@@ -8,7 +8,7 @@ use Rattle.architecture_outcomes.specs.declared.outcome.Way.TheVariants.{Machine
 use Rattle.elf_loader.specs.Image.{Initial}
 use Rattle.explorer.specs.declared.found.Found.{Found}
 use Rattle.explorer.specs.declared.found.Realisation.{Realisation}
-use Rattle.explorer.specs.Ends.{IsRealIn as IsRealEnd}
+use Rattle.explorer.specs.Ends.{IsRealIn as IsRealResult}
 use Rattle.flat_exploration.specs.Drained.{Ending, HasDrained, machine_ending, performed_word}
 use Rattle.flat_exploration.specs.Laws.{none_runs}
 use Rattle.machine_model.specs.Views.{State}
@@ -49,7 +49,7 @@ NeverEnds image config addresses ending = (events : List Event) → HasEnded add
 
 -- flat events lead to such an end, and so does the machine's script, where there is one
 abbrev pub IsScripted : Initial → Config → (addresses : List ℕ) → Outcome → Realisation → Type 0
-IsScripted image config [] o script = IsRealEnd image config (record { harts = o.harts; script = script }) × (o.words.items ≡ [])
+IsScripted image config [] o script = IsRealResult image config (record { harts = o.harts; script = script }) × (o.words.items ≡ [])
 IsScripted image config (address ∷ rest) o script = IsRealIn image config (address ∷ rest) (record { harts = o.harts; words = o.words; script = script })
 
 -- lists that are runs of the image from reset to their ends have a legal order, and the results are read off them; the words are what loads read behind that order, which has all operations

@@ -17,7 +17,7 @@ use Rattle.client_cache.specs.declared.slot.Slot.{Slot}
 use Rattle.client_cache.specs.Shape.{set_of}
 use Rattle.client_cache.specs.Row.{is_used, holds, place_at, IsClear}
 use Rattle.client_cache.specs.Cache.{put}
-use Rattle.client_cache.specs.Array.{IsSetRow, IsLaidOut, row_of, add_copy, add_row, copies_below, copies_of, copy_in, acquiring_in, place_of}
+use Rattle.client_cache.specs.Array.{IsSetRow, IsLaidOut, slots_of_set, add_copy, add_row, copies_below, copies_of, copy_in, acquiring_in, place_of}
 use Rattle.client_cache.proofs.Rows.{shown, holds_parts, holds_from, not_held, held_unused}
 use Rattle.client_cache.proofs.Writes.{place_at-set, IsRow-set}
 
@@ -122,7 +122,7 @@ pub rows_apart : (s t ways : ℕ) → s < t → s * ways + ways ≤ t * ways
 rows_apart s t ways l = let low : suc s ≤ t = omega arith in omega (arith, mul-le-mul_right ways low, suc-mul s ways)
 
 -- a write of one slot of the array, seen row by row
-pub row_elsewhere : (shape : Shape) (slots : List Slot) (s t i : ℕ) (x : Slot) → i < shape.ways → t ≢ s → row_of shape (set slots (s * shape.ways + i) x) t ≡ row_of shape slots t
+pub row_elsewhere : (shape : Shape) (slots : List Slot) (s t i : ℕ) (x : Slot) → i < shape.ways → t ≢ s → slots_of_set shape (set slots (s * shape.ways + i) x) t ≡ slots_of_set shape slots t
 row_elsewhere shape slots s t i x l n = elim (cases_lt t s) [
   | inl below ↦
       let apart = rows_apart t s shape.ways below in
@@ -134,10 +134,10 @@ row_elsewhere shape slots s t i x l n = elim (cases_lt t s) [
       ap (take shape.ways) (drop-set-lt (t * shape.ways) slots (s * shape.ways + i) x (omega arith))
 ]
 
-pub row_here : (shape : Shape) (slots : List Slot) (s i : ℕ) (x : Slot) → i < shape.ways → row_of shape (set slots (s * shape.ways + i) x) s ≡ set (row_of shape slots s) i x
+pub row_here : (shape : Shape) (slots : List Slot) (s i : ℕ) (x : Slot) → i < shape.ways → slots_of_set shape (set slots (s * shape.ways + i) x) s ≡ set (slots_of_set shape slots s) i x
 row_here shape slots s i x l = ap (take shape.ways) (drop-set-add (s * shape.ways) slots i x) ∙ take-set-lt shape.ways (drop (s * shape.ways) slots) i x l
 
-pub length-row : (shape : Shape) (slots : List Slot) (s : ℕ) → length slots ≡ shape.sets * shape.ways → s < shape.sets → length (row_of shape slots s) ≡ shape.ways
+pub length-row : (shape : Shape) (slots : List Slot) (s : ℕ) → length slots ≡ shape.sets * shape.ways → s < shape.sets → length (slots_of_set shape slots s) ≡ shape.ways
 length-row shape slots s room l =
     let apart = rows_apart s shape.sets shape.ways l in
     simp (length-take, length-drop) (omega (arith, apart))
@@ -146,13 +146,13 @@ length-row shape slots s room l =
 pub get-copies_of : (shape : Shape) (slots : List Slot) (acquiring : FinSet nat_cmp) → IsLaidOut shape slots acquiring → (q : ℕ) → get (copies_of shape slots) q ≡ copy_in (place_of shape slots q)
 unfolding copies_of
 get-copies_of shape slots acquiring h q =
-    get-copies_below shape shape.sets (row_of shape slots) q h.rows
+    get-copies_below shape shape.sets (slots_of_set shape slots) q h.rows
     ∙ ap (λ b. cond b (copy_in (place_of shape slots q)) None) (let low = h.sets_low in let e : nat_lt (set_of shape q) shape.sets ≡ true = grind (arith, low) in e)
 
 -- a place is written where it may stand
 pub record IsWrite (shape : Shape) (slots : List Slot) (line i : ℕ) (p : Place) : Type 0 where
   pub within : i < shape.ways
-  pub clear : IsClear line (row_of shape slots (set_of shape line)) i
+  pub clear : IsClear line (slots_of_set shape slots (set_of shape line)) i
   pub named : p.line ≡ line
 
 abbrev pub after_write : Shape → List Slot → ℕ → ℕ → Place → List Slot
@@ -164,10 +164,10 @@ place_case shape slots acquiring line i p h w q (inl same) =
     let low = h.sets_low in
     let here = row_here shape slots (set_of shape line) i (record { place = p }) w.within in
     let long = length-row shape slots (set_of shape line) h.room (omega arith) in
-    ap (λ s. place_at q (row_of shape (after_write shape slots line i p) s)) same
+    ap (λ s. place_at q (slots_of_set shape (after_write shape slots line i p) s)) same
     ∙ ap (place_at q) here
-    ∙ place_at-set q line (row_of shape slots (set_of shape line)) i p (let within = w.within in omega (arith, long)) w.clear w.named
-    ∙ ap (λ s. cond (nat_eq q line) (shown p) (place_at q (row_of shape slots s))) (sym same)
+    ∙ place_at-set q line (slots_of_set shape slots (set_of shape line)) i p (let within = w.within in omega (arith, long)) w.clear w.named
+    ∙ ap (λ s. cond (nat_eq q line) (shown p) (place_at q (slots_of_set shape slots s))) (sym same)
 place_case shape slots acquiring line i p h w q (inr n) =
     let differs : nat_eq q line ≡ false = not_same q line (λ e. n (ap (λ k. set_of shape k) e)) in
     ap (place_at q) (row_elsewhere shape slots (set_of shape line) (set_of shape q) i (record { place = p }) w.within n)
@@ -196,13 +196,13 @@ acquiring_in-shown p = go p.copy p.acquiring
     go None false = refl
 
 rows_case : (shape : Shape) (slots : List Slot) (acquiring : FinSet nat_cmp) (line i : ℕ) (p : Place) → IsLaidOut shape slots acquiring → IsWrite shape slots line i p
-    → (s : ℕ) → s < shape.sets → (s ≡ (set_of shape line)) ⊎ (s ≢ (set_of shape line)) → IsSetRow shape s (row_of shape (after_write shape slots line i p) s)
+    → (s : ℕ) → s < shape.sets → (s ≡ (set_of shape line)) ⊎ (s ≢ (set_of shape line)) → IsSetRow shape s (slots_of_set shape (after_write shape slots line i p) s)
 rows_case shape slots acquiring line i p h w s l (inl same) =
     let here = row_here shape slots (set_of shape line) i (record { place = p }) w.within in
     let low = h.sets_low in
     let long = length-row shape slots (set_of shape line) h.room (omega arith) in
-    let done = IsRow-set shape (set_of shape line) line (row_of shape slots (set_of shape line)) i p (let within = w.within in omega (arith, long)) w.clear w.named refl (h.rows (set_of shape line) (omega arith)) in
-    subst (λ k. IsSetRow shape k (row_of shape (after_write shape slots line i p) k)) (sym same) (subst (IsSetRow shape (set_of shape line)) (sym here) done)
+    let done = IsRow-set shape (set_of shape line) line (slots_of_set shape slots (set_of shape line)) i p (let within = w.within in omega (arith, long)) w.clear w.named refl (h.rows (set_of shape line) (omega arith)) in
+    subst (λ k. IsSetRow shape k (slots_of_set shape (after_write shape slots line i p) k)) (sym same) (subst (IsSetRow shape (set_of shape line)) (sym here) done)
 rows_case shape slots acquiring line i p h w s l (inr n) =
     subst (IsSetRow shape s) (sym (row_elsewhere shape slots (set_of shape line) s i (record { place = p }) w.within n)) (h.rows s l)
 

@@ -16,7 +16,7 @@ use Rattle.client_cache.specs.Distinct.{IsDistinct}
 use Rattle.client_cache.specs.Shape.{set_of}
 use Rattle.client_cache.specs.Row.{is_used, place_at, AllUsed}
 use Rattle.client_cache.specs.Cache.{Cache, lines_in_set}
-use Rattle.client_cache.specs.Array.{IsSetRow, IsLaidOut, row_of, copies_of, copy_in, acquiring_in, place_of}
+use Rattle.client_cache.specs.Array.{IsSetRow, IsLaidOut, slots_of_set, copies_of, copy_in, acquiring_in, place_of}
 use Rattle.client_cache.proofs.Lines.{len-distinct}
 use Rattle.client_cache.proofs.Copies.{get-copies_of, not_home}
 
@@ -61,7 +61,7 @@ keys-get m q = contains-from_list nat_cmp_total (map.keys m) q ∙ sym (contains
 
 -- the lines of a set that callers count are those of its row
 pub lines_in_set-used : (c : Cache) (slots : List Slot) → IsLaidOut c.shape slots c.acquiring → c.copies ≡ copies_of c.shape slots → (line : ℕ)
-    → lines_in_set c line ≡ from_list (used_lines (row_of c.shape slots (set_of c.shape line)))
+    → lines_in_set c line ≡ from_list (used_lines (slots_of_set c.shape slots (set_of c.shape line)))
 lines_in_set-used c slots h same line = same_set nat_cmp_total nat_cmp-IsAntisymmetric _ _ (λ q.
     contains-retain (fset.union (from_list (map.keys c.copies)) c.acquiring) (λ k. nat_eq (set_of c.shape k) (set_of c.shape line)) q
     (λ x tie. ap (λ k. nat_eq (set_of c.shape k) (set_of c.shape line)) (sym (nat_cmp-IsAntisymmetric q x tie)))
@@ -69,16 +69,16 @@ lines_in_set-used c slots h same line = same_set nat_cmp_total nat_cmp-IsAntisym
     (contains-union nat_cmp_total (from_list (map.keys c.copies)) c.acquiring q
     ∙ ap (λ b. b || fset.contains c.acquiring q) (keys-get c.copies q ∙ ap (λ m. is_some (get m q)) same ∙ ap is_some (get-copies_of c.shape slots c.acquiring h q))
     ∙ ap (λ b. is_some (copy_in (place_of c.shape slots q)) || b) (h.tracked q)
-    ∙ used_place q (row_of c.shape slots (set_of c.shape q)))
+    ∙ used_place q (slots_of_set c.shape slots (set_of c.shape q)))
     ∙ go q (cases_eq (set_of c.shape q) (set_of c.shape line))
-    ∙ sym (any_used q (row_of c.shape slots (set_of c.shape line)))
-    ∙ sym (contains-from_list_nat (used_lines (row_of c.shape slots (set_of c.shape line))) q))
+    ∙ sym (any_used q (slots_of_set c.shape slots (set_of c.shape line)))
+    ∙ sym (contains-from_list_nat (used_lines (slots_of_set c.shape slots (set_of c.shape line))) q))
   where
     go : (q : ℕ) → ((set_of c.shape q) ≡ (set_of c.shape line)) ⊎ ((set_of c.shape q) ≢ (set_of c.shape line))
-        → (is_some (place_of c.shape slots q) && nat_eq (set_of c.shape q) (set_of c.shape line)) ≡ is_some (place_at q (row_of c.shape slots (set_of c.shape line)))
+        → (is_some (place_of c.shape slots q) && nat_eq (set_of c.shape q) (set_of c.shape line)) ≡ is_some (place_at q (slots_of_set c.shape slots (set_of c.shape line)))
     go q (inl e) =
         let t : nat_eq (set_of c.shape q) (set_of c.shape line) ≡ true = grind (arith, e) in
-        rw t (and_true _ ∙ ap (λ s. is_some (place_at q (row_of c.shape slots s))) e)
+        rw t (and_true _ ∙ ap (λ s. is_some (place_at q (slots_of_set c.shape slots s))) e)
       where
         and_true : (b : Bool) → (b && true) ≡ b
         and_true true = refl
@@ -86,14 +86,14 @@ lines_in_set-used c slots h same line = same_set nat_cmp_total nat_cmp-IsAntisym
     go q (inr n) =
         let f : nat_eq (set_of c.shape q) (set_of c.shape line) ≡ false = grind (arith, n) in
         let low = h.sets_low in
-        rw f (and_false _ ∙ sym (ap is_some (not_home c.shape (set_of c.shape line) (row_of c.shape slots (set_of c.shape line)) q (h.rows (set_of c.shape line) (omega arith)) n)))
+        rw f (and_false _ ∙ sym (ap is_some (not_home c.shape (set_of c.shape line) (slots_of_set c.shape slots (set_of c.shape line)) q (h.rows (set_of c.shape line) (omega arith)) n)))
       where
         and_false : (b : Bool) → (b && false) ≡ false
         and_false true = refl
         and_false false = refl
 
 pub len-lines_in_set : (c : Cache) (slots : List Slot) → IsLaidOut c.shape slots c.acquiring → c.copies ≡ copies_of c.shape slots → (line : ℕ)
-    → fset.len (lines_in_set c line) ≡ length (used_lines (row_of c.shape slots (set_of c.shape line)))
+    → fset.len (lines_in_set c line) ≡ length (used_lines (slots_of_set c.shape slots (set_of c.shape line)))
 len-lines_in_set c slots h same line =
     let low = h.sets_low in
     ap fset.len (lines_in_set-used c slots h same line)

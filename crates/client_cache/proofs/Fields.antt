@@ -14,7 +14,7 @@ use Rattle.client_cache.specs.declared.answers.Want.TheVariants.{SetFull, Missed
 use Rattle.client_cache.specs.Shape.{set_of}
 use Rattle.client_cache.specs.Row.{IsAt}
 use Rattle.client_cache.specs.Cache.{Cache, put, copy_at, lines_in_set, is_set_full, wanted}
-use Rattle.client_cache.specs.Array.{IsLaidOut, IsRoom, IsFull, row_of, copies_of, copy_in, acquiring_in, place_of}
+use Rattle.client_cache.specs.Array.{IsLaidOut, IsRoom, IsFull, slots_of_set, copies_of, copy_in, acquiring_in, place_of}
 use Rattle.client_cache.proofs.Copies.{get-copies_of, length-row, IsWrite, after_write, IsPlaced-write, copies_of-write, put-same}
 use Rattle.client_cache.proofs.Counts.{used_place, len-lines_in_set, length-all_used, length-free}
 use Rattle.client_cache.proofs.Rooms.{write_found, write_room, tells_same, tells_insert}
@@ -28,7 +28,7 @@ IsOrdered s = IsLaidOut s.array.shape s.array.slots.items s.acquiring
 
 -- where a search found the line
 abbrev pub IsFound : Inside → ℕ → ℕ → Place → Type 0
-IsFound s line way p = IsAt line (row_of s.array.shape s.array.slots.items (set_of s.array.shape line)) way p
+IsFound s line way p = IsAt line (slots_of_set s.array.shape s.array.slots.items (set_of s.array.shape line)) way p
 
 -- what callers see of the line that was searched for
 pub copy_at-seen : (s : Inside) → IsOrdered s → (x : Cache) → seen s ≡ x → (line : ℕ) → copy_at x line ≡ copy_in (place_of s.array.shape s.array.slots.items line)
@@ -89,7 +89,7 @@ is_set_full-full : (s : Inside) → IsOrdered s → (line : ℕ) → IsFull s.ar
 is_set_full-full s h line f =
     let low = h.sets_low in
     let count = len-lines_in_set (seen s) s.array.slots.items h refl line in
-    let all = length-all_used (row_of s.array.shape s.array.slots.items (set_of s.array.shape line)) f.used in
+    let all = length-all_used (slots_of_set s.array.shape s.array.slots.items (set_of s.array.shape line)) f.used in
     let long = length-row s.array.shape s.array.slots.items (set_of s.array.shape line) h.room (omega arith) in
     let none : copy_at (seen s) line ≡ None = copy_at-seen s h (seen s) refl line ∙ ap copy_in f.missing in
     let full : nat_le s.array.shape.ways (fset.len (lines_in_set (seen s) line)) ≡ true = rw (count, all, long) (grind arith) in
@@ -103,13 +103,13 @@ is_set_full-room s h line way copy r none = go (place_of s.array.shape s.array.s
         let free = r.free missing in
         let low = h.sets_low in
         let count = len-lines_in_set (seen s) s.array.slots.items h refl line in
-        let less = length-free (row_of s.array.shape s.array.slots.items (set_of s.array.shape line)) way (record { place = free.here.0 }) free.here.1.0 free.here.1.1 in
+        let less = length-free (slots_of_set s.array.shape s.array.slots.items (set_of s.array.shape line)) way (record { place = free.here.0 }) free.here.1.0 free.here.1.1 in
         let long = length-row s.array.shape s.array.slots.items (set_of s.array.shape line) h.room (omega arith) in
         omega (arith, count, less, long)
 
     held : (p : Place) → place_of s.array.shape s.array.slots.items line ≡ Some p → is_some (copy_at (seen s) line) ≡ true
     held p is =
-        let both = used_place line (row_of s.array.shape s.array.slots.items (set_of s.array.shape line)) in
+        let both = used_place line (slots_of_set s.array.shape s.array.slots.items (set_of s.array.shape line)) in
         let plain : acquiring_in (place_of s.array.shape s.array.slots.items line) ≡ false = sym (h.tracked line) ∙ none in
         ap is_some (copy_at-seen s h (seen s) refl line) ∙ left_true _ _ (both ∙ ap is_some is) plain
       where

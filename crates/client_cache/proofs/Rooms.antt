@@ -16,18 +16,18 @@ use Rattle.client_cache.specs.declared.slot.Place.{Place}
 use Rattle.client_cache.specs.declared.slot.Slot.{Slot}
 use Rattle.client_cache.specs.Shape.{set_of}
 use Rattle.client_cache.specs.Row.{free_slot, place_at, IsAt, IsFreeAt}
-use Rattle.client_cache.specs.Array.{IsSetRow, IsLaidOut, IsRoom, row_of, copies_of, copy_in, acquiring_in, place_of}
+use Rattle.client_cache.specs.Array.{IsSetRow, IsLaidOut, IsRoom, slots_of_set, copies_of, copy_in, acquiring_in, place_of}
 use Rattle.client_cache.proofs.Writes.{clear_at, clear_free}
 use Rattle.client_cache.proofs.Copies.{get-copies_of, length-row, IsWrite, same_copies, rows_apart}
 
 pub room_found : (shape : Shape) (slots : List Slot) (line way : ℕ) (p : Place) → 0 < shape.sets → length slots ≡ shape.sets * shape.ways
-    → IsSetRow shape (set_of shape line) (row_of shape slots (set_of shape line)) → IsAt line (row_of shape slots (set_of shape line)) way p → IsRoom shape slots line way p.copy
+    → IsSetRow shape (set_of shape line) (slots_of_set shape slots (set_of shape line)) → IsAt line (slots_of_set shape slots (set_of shape line)) way p → IsRoom shape slots line way p.copy
 room_found shape slots line way p low room row at =
     let long = length-row shape slots (set_of shape line) room (omega arith) in
     let within = at.within in
     record {
       within = omega (arith, long);
-      clear = clear_at shape (set_of shape line) line (row_of shape slots (set_of shape line)) way p row at.here at.held;
+      clear = clear_at shape (set_of shape line) line (slots_of_set shape slots (set_of shape line)) way p row at.here at.held;
       same = sym (ap copy_in at.first);
       free = λ none. absurd (some_none p (sym at.first ∙ none));
     }
@@ -36,20 +36,20 @@ room_found shape slots line way p low room row at =
     some_none p bad = cc
 
 pub room_free : (shape : Shape) (slots : List Slot) (line way : ℕ) → 0 < shape.sets → length slots ≡ shape.sets * shape.ways
-    → place_of shape slots line ≡ None → IsFreeAt (row_of shape slots (set_of shape line)) way → IsRoom shape slots line way None
+    → place_of shape slots line ≡ None → IsFreeAt (slots_of_set shape slots (set_of shape line)) way → IsRoom shape slots line way None
 room_free shape slots line way low room none at =
     let long = length-row shape slots (set_of shape line) room (omega arith) in
     let within = at.within in
     record {
       within = omega (arith, long);
-      clear = clear_free line (row_of shape slots (set_of shape line)) way (record { place = at.here.0 }) at.here.1.0 at.here.1.1 none;
+      clear = clear_free line (slots_of_set shape slots (set_of shape line)) way (record { place = at.here.0 }) at.here.1.0 at.here.1.1 none;
       same = sym (ap copy_in none);
       free = λ _. at;
     }
 
 -- a place that was found may be written
 pub write_found : (shape : Shape) (slots : List Slot) (acquiring : FinSet nat_cmp) (line way : ℕ) (p p' : Place) → IsLaidOut shape slots acquiring
-    → IsAt line (row_of shape slots (set_of shape line)) way p → p'.line ≡ line → IsWrite shape slots line way p'
+    → IsAt line (slots_of_set shape slots (set_of shape line)) way p → p'.line ≡ line → IsWrite shape slots line way p'
 write_found shape slots acquiring line way p p' h at named =
     let low = h.sets_low in
     let r = room_found shape slots line way p low h.room (h.rows (set_of shape line) (omega arith)) at in
@@ -92,7 +92,7 @@ IsRow-free shape s (suc n) = (λ u. absurd (false_true u), λ u. absurd (false_t
     false_true : false ≡ true → ⊥
     false_true bad = cc
 
-row_of-free : (shape : Shape) (s : ℕ) → s < shape.sets → row_of shape (replicate (shape.sets * shape.ways) free_slot) s ≡ replicate shape.ways free_slot
+row_of-free : (shape : Shape) (s : ℕ) → s < shape.sets → slots_of_set shape (replicate (shape.sets * shape.ways) free_slot) s ≡ replicate shape.ways free_slot
 row_of-free shape s l =
     let apart = rows_apart s shape.sets shape.ways l in
     ap (take shape.ways) (drop-replicate (s * shape.ways) (shape.sets * shape.ways) free_slot) ∙ take-replicate shape.ways (shape.sets * shape.ways - s * shape.ways) free_slot (omega (arith, apart))

@@ -14,8 +14,8 @@ use Rattle.client_cache.specs.Shape.{set_of}
 use Rattle.client_cache.specs.Row.{is_used, place_at, IsClear, IsFreeAt, AllUsed}
 
 -- the slots of a set
-abbrev pub row_of : Shape → List Slot → ℕ → List Slot
-row_of shape slots s = take shape.ways (drop (s * shape.ways) slots)
+abbrev pub slots_of_set : Shape → List Slot → ℕ → List Slot
+slots_of_set shape slots s = take shape.ways (drop (s * shape.ways) slots)
 
 abbrev pub add_copy : ℕ → Option Held → FinMap nat_cmp Held → FinMap nat_cmp Held
 add_copy line None m = m
@@ -32,7 +32,7 @@ copies_below (suc n) row = add_row (row n) (copies_below n row)
 
 -- the copies of all sets
 unfoldable pub copies_of : Shape → List Slot → FinMap nat_cmp Held
-copies_of shape slots = copies_below shape.sets (row_of shape slots)
+copies_of shape slots = copies_below shape.sets (slots_of_set shape slots)
 
 abbrev pub copy_in : Option Place → Option Held
 copy_in None = None
@@ -44,7 +44,7 @@ acquiring_in (Some p) = p.acquiring
 
 -- what a line has in its set's row
 abbrev pub place_of : Shape → List Slot → ℕ → Option Place
-place_of shape slots line = place_at line (row_of shape slots (set_of shape line))
+place_of shape slots line = place_at line (slots_of_set shape slots (set_of shape line))
 
 -- each line of a row belongs to its set, and stands there once
 abbrev pub IsSetRow : Shape → ℕ → List Slot → Type 0
@@ -57,17 +57,17 @@ pub record IsLaidOut (shape : Shape) (slots : List Slot) (acquiring : FinSet nat
   pub ways_low : 0 < shape.ways
   pub ways_high : shape.ways ≤ MAX_WAYS
   pub room : length slots ≡ shape.sets * shape.ways
-  pub rows : (s : ℕ) → s < shape.sets → IsSetRow shape s (row_of shape slots s)
+  pub rows : (s : ℕ) → s < shape.sets → IsSetRow shape s (slots_of_set shape slots s)
   pub tracked : (line : ℕ) → set.contains acquiring line ≡ acquiring_in (place_of shape slots line)
 
 -- the line's slot, or one that is free for it: where it is, and the copy that the line has
 pub record IsRoom (shape : Shape) (slots : List Slot) (line way : ℕ) (copy : Option Held) : Type 0 where
   pub within : way < shape.ways
-  pub clear : IsClear line (row_of shape slots (set_of shape line)) way
+  pub clear : IsClear line (slots_of_set shape slots (set_of shape line)) way
   pub same : copy ≡ copy_in (place_of shape slots line)
-  pub free : place_of shape slots line ≡ None → IsFreeAt (row_of shape slots (set_of shape line)) way
+  pub free : place_of shape slots line ≡ None → IsFreeAt (slots_of_set shape slots (set_of shape line)) way
 
 -- no slot of the set is free, and none is the line's
 pub record IsFull (shape : Shape) (slots : List Slot) (line : ℕ) : Type 0 where
   pub missing : place_of shape slots line ≡ None
-  pub used : AllUsed (row_of shape slots (set_of shape line))
+  pub used : AllUsed (slots_of_set shape slots (set_of shape line))

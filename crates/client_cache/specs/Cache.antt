@@ -68,11 +68,12 @@ wanted c line grow =
     else if is_set_full c line then (SetFull, c)
     else (Missed grow, record c { acquiring = set.insert c.acquiring line })
 
--- a Probe waits for the answer of this cache's own Release of the line
+-- a Probe of what the cache has
 abbrev pub probed_copy : Cache → ℕ → Cap → Option Held → Probed × Cache
 probed_copy c line cap None = (Answered (shrunk_by Nothing cap).1 None, c)
 probed_copy c line cap (Some h) = (answer_of cap h, record c { copies = put c.copies line (shrunk_copy cap h) })
 
+-- a Probe waits for the answer of this cache's own Release of the line
 abbrev pub probed : Cache → ℕ → Cap → Probed × Cache
 probed c line cap = if set.contains c.releasing line then (Releasing, c) else probed_copy c line cap (copy_at c line)
 

@@ -3,7 +3,7 @@ ghost use Rattle.std.specs.Prelude.{◌≡◌, ◌<◌, ◌≤◌, ◌+◌, ◌*
 ghost use Rattle.machine_limits.specs.declared.TheConstants.{MAX_SETS, MAX_WAYS};
 ghost use Rattle.client_cache.specs.Row.{IsAt, free_slot};
 ghost use Rattle.client_cache.specs.Shape.{set_of};
-ghost use Rattle.client_cache.specs.Array.{row_of, place_of, copy_in, IsSetRow, IsRoom, IsFull};
+ghost use Rattle.client_cache.specs.Array.{slots_of_set, place_of, copy_in, IsSetRow, IsRoom, IsFull};
 
 use crate::held::Held;
 use crate::shape::Shape;
@@ -49,7 +49,7 @@ impl Array {
 
     /// The slots of a line's set.
     fn row(&self, line: u32) -> &[Slot]
-        ensures { result.now ≡ row_of self.now.shape self.now.slots.items (set_of self.now.shape line) }
+        ensures { result.now ≡ slots_of_set self.now.shape self.now.slots.items (set_of self.now.shape line) }
     {
         let start = self.start(line);
         &self.slots[start..start + self.shape.ways as usize]
@@ -57,7 +57,7 @@ impl Array {
 
     /// The way of its set at which a line stands, and what stands there.
     pub fn find<L: Ledger>(&self, line: u32, ticks: &mut Ticks<L>) -> Option<(usize, Place)>
-        ensures found { IfSome result (λ r. IsAt line (row_of self.now.shape self.now.slots.items (set_of self.now.shape line)) r.0 r.1) }
+        ensures found { IfSome result (λ r. IsAt line (slots_of_set self.now.shape self.now.slots.items (set_of self.now.shape line)) r.0 r.1) }
         ensures missing { IfNone result (place_of self.now.shape self.now.slots.items line ≡ None) }
         ensures looks { ticks.new ≤ ticks.old + self.now.shape.ways }
     {
@@ -81,7 +81,7 @@ impl Array {
         line: u32,
         ticks: &mut Ticks<L>,
     ) -> Option<(usize, Option<Held>)>
-        requires { IsSetRow self.now.shape (set_of self.now.shape line) (row_of self.now.shape self.now.slots.items (set_of self.now.shape line)) }
+        requires { IsSetRow self.now.shape (set_of self.now.shape line) (slots_of_set self.now.shape self.now.slots.items (set_of self.now.shape line)) }
         ensures room { IfSome result (λ r. IsRoom self.now.shape self.now.slots.items line r.0 r.1) }
         ensures full { IfNone result (IsFull self.now.shape self.now.slots.items line) }
         ensures looks { ticks.new ≤ ticks.old + 2 * self.now.shape.ways }

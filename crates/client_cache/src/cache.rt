@@ -134,7 +134,7 @@ impl ClientCache {
     }
 
     /// Writes the marked bytes of an aligned word of a Trunk copy, which is dirty from then on, also
-    /// where none is marked. The word lies in the line.
+    /// where none is marked. The word's place in the line is its remainder by the line's size.
     pub fn write_word_counted<L: Ledger>(
         &mut self,
         line: u32,

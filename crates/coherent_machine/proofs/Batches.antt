@@ -7,7 +7,7 @@ use Rattle.elf_loader.specs.Image.{Initial, word_at}
 use Rattle.rv32_decode.specs.Rows.{decoded}
 use Rattle.hart.specs.declared.retired.Retired.{Retired}
 use Rattle.hart.specs.declared.state.Hart.{Hart}
-use Rattle.hart.specs.Local.{IsRow, Row, are_private_steps, can_go_alone, is_done_alone, is_private_step, next_entry, private_row, row_of}
+use Rattle.hart.specs.Local.{IsPrivateRow, PrivateRow, are_private_steps, can_go_alone, is_done_alone, is_private_step, next_entry, private_row, private_row_from}
 use Rattle.hart.specs.Run.{after, can_fetch, is_running, reached}
 use Rattle.machine_model.specs.declared.act.Act.TheVariants as act
 use Rattle.machine_types.specs.declared.outcome.Outcome.{Outcome}
@@ -70,17 +70,17 @@ row_is image hart (entry ∷ rest) a w =
     ∙ (sym (ap (λ (e : Retired). e ∷ private_row image (after hart e) (length rest)) same)
     ∙ ap (λ (r : List Retired). entry ∷ r) (row_is image (after hart entry) rest s.1 v.1))
 
-abbrev row_by : Hart → Hart → List Retired → Row
+abbrev row_by : Hart → Hart → List Retired → PrivateRow
 row_by first last entries = record { first = first; last = last; entries = entries }
 
 -- a current row is what its hart does next
-pub next_row : (h : ℕ) (row : Row) (s : State) → IsRow row → IsCurrent h row s → IsNext h row s
+pub next_row : (h : ℕ) (row : PrivateRow) (s : State) → IsPrivateRow row → IsCurrent h row s → IsNext h row s
 next_row h row s r c =
     let image = s.trace.image in
     let n = length row.entries in
     ap (λ (last : Hart). row_by row.first last row.entries) r.leads
     ∙ (ap (λ (entries : List Retired). row_by row.first (reached row.first entries) entries) (sym (row_is image row.first row.entries r.alone c.words))
-    ∙ ap (λ (first : Hart). row_of image first n) (sym c.stands))
+    ∙ ap (λ (first : Hart). private_row_from image first n) (sym c.stands))
 
 -- ---- answers to the event
 
@@ -104,12 +104,12 @@ never_bad_by true moved s new result a e = absurd (cc (a.0, e))
 never_bad_by false moved s new result a e = elim a [ inl x ↦ absurd (cc (x.0, e)) | inr x ↦ absurd (cc (x.0, e)) ]
 
 -- a current row that isn't empty
-pub record Fits (h : ℕ) (row : Row) (s : State) : Type 0 where
-  pub is_row : IsRow row
+pub record Fits (h : ℕ) (row : PrivateRow) (s : State) : Type 0 where
+  pub is_row : IsPrivateRow row
   pub current : IsCurrent h row s
   pub some : row.entries ≢ []
 
-pub fits_by : (h : ℕ) (row : Row) (s t : State) (entries : List Retired) (b : Bool) → IsRow row → entries ≡ row.entries → t ≡ s → IsCurrent h row t → b ≡ nat_eq (length entries) 0 → b ≡ false → Fits h row s
+pub fits_by : (h : ℕ) (row : PrivateRow) (s t : State) (entries : List Retired) (b : Bool) → IsPrivateRow row → entries ≡ row.entries → t ≡ s → IsCurrent h row t → b ≡ nat_eq (length entries) 0 → b ≡ false → Fits h row s
 fits_by h row s t entries b r e v c l f = record {
   is_row = r;
   current = subst (IsCurrent h row) v c;
@@ -117,22 +117,22 @@ fits_by h row s t entries b r e v c l f = record {
 }
 
 -- the machine after the row
-abbrev went : ℕ → Row → State → State
+abbrev went : ℕ → PrivateRow → State → State
 went h row s = counted (went_alone h (length row.entries) s)
 
-verdict_fits : (h : ℕ) (row : Row) (s : State) → Fits h row s → verdict s (local_of h row) ≡ limits_or (is_limited s h (act.Local (length row.entries))) (went h row s)
+verdict_fits : (h : ℕ) (row : PrivateRow) (s : State) → Fits h row s → verdict s (local_of h row) ≡ limits_or (is_limited s h (act.Local (length row.entries))) (went h row s)
 verdict_fits h row s f = verdict_is h row s f.current.there f.is_row.few f.some (next_row h row s f.is_row f.current)
 
-answers_by : (h : ℕ) (row : Row) (s new : State) (result : Result Outcome ApplyError) → Fits h row s → Answers (verdict s (local_of h row)) s result new → Answers (limits_or (is_limited s h (act.Local (length row.entries))) (went h row s)) s result new
+answers_by : (h : ℕ) (row : PrivateRow) (s new : State) (result : Result Outcome ApplyError) → Fits h row s → Answers (verdict s (local_of h row)) s result new → Answers (limits_or (is_limited s h (act.Local (length row.entries))) (went h row s)) s result new
 answers_by h row s new result f a = subst (λ (v : Verdict). Answers v s result new) (verdict_fits h row s f) a
 
-pub limited_when : (h : ℕ) (row : Row) (s new : State) (result : Result Outcome ApplyError) → Fits h row s → Answers (verdict s (local_of h row)) s result new → result ≡ Err Limit → verdict s (local_of h row) ≡ IsLimited
+pub limited_when : (h : ℕ) (row : PrivateRow) (s new : State) (result : Result Outcome ApplyError) → Fits h row s → Answers (verdict s (local_of h row)) s result new → result ≡ Err Limit → verdict s (local_of h row) ≡ IsLimited
 limited_when h row s new result f a e = verdict_fits h row s f ∙ limited_by (is_limited s h (act.Local (length row.entries))) (went h row s) s new result (answers_by h row s new result f a) e
 
-pub moved_when : (h : ℕ) (row : Row) (s new : State) (o : Outcome) (result : Result Outcome ApplyError) → Fits h row s → Answers (verdict s (local_of h row)) s result new → result ≡ Ok o → (verdict s (local_of h row) ≡ Moves o new) × (o ≡ outcome.Retired)
+pub moved_when : (h : ℕ) (row : PrivateRow) (s new : State) (o : Outcome) (result : Result Outcome ApplyError) → Fits h row s → Answers (verdict s (local_of h row)) s result new → result ≡ Ok o → (verdict s (local_of h row) ≡ Moves o new) × (o ≡ outcome.Retired)
 moved_when h row s new o result f a e =
     let m = moved_by (is_limited s h (act.Local (length row.entries))) (went h row s) s new o result (answers_by h row s new result f a) e in
     (verdict_fits h row s f ∙ m.0, m.1)
 
-pub never_bad : (h : ℕ) (row : Row) (s new : State) (result : Result Outcome ApplyError) → Fits h row s → Answers (verdict s (local_of h row)) s result new → result ≡ Err BadEvent → ⊥
+pub never_bad : (h : ℕ) (row : PrivateRow) (s new : State) (result : Result Outcome ApplyError) → Fits h row s → Answers (verdict s (local_of h row)) s result new → result ≡ Err BadEvent → ⊥
 never_bad h row s new result f a e = never_bad_by (is_limited s h (act.Local (length row.entries))) (went h row s) s new result (answers_by h row s new result f a) e

@@ -2,7 +2,7 @@
 use Rattle.std.specs.Prelude.{ℕ, ◌≡◌, ◌<◌, ◌==◌, Bool, true, ◌&&◌, IsTrue, List, [], ◌∷◌, length}
 use Rattle.elf_loader.specs.Image.{Initial, word_at}
 use Rattle.hart.specs.declared.retired.Retired.{Retired}
-use Rattle.hart.specs.Local.{Row}
+use Rattle.hart.specs.Local.{PrivateRow}
 use Rattle.hart.specs.Run.{can_fetch}
 use Rattle.machine_types.specs.declared.event.Event.{Event}
 use Rattle.machine_types.specs.declared.event.Event.TheVariants.{Local}
@@ -16,13 +16,13 @@ have_words image [] = true
 have_words image (entry ∷ rest) = can_fetch image entry.pc && entry.word == word_at image entry.pc && have_words image rest
 
 -- the hart is there, stands where the row begins, and the row's words are the image's
-pub record IsCurrent (hart : ℕ) (row : Row) (s : State) : Type 0 where
+pub record IsCurrent (hart : ℕ) (row : PrivateRow) (s : State) : Type 0 where
   pub there : hart < length s.views.nodes
   pub stands : (node_at s hart).hart ≡ row.first
   pub words : IsTrue (have_words s.trace.image row.entries)
 
 -- the event that a row of a hart is
-abbrev pub local_of : ℕ → Row → Event
+abbrev pub local_of : ℕ → PrivateRow → Event
 local_of hart row = Local hart (length row.entries)
 
 -- the errors by their numbers, in the order of testing

@@ -1,7 +1,7 @@
 //! The machine, and the calls on it.
 
 ghost use Rattle.std.specs.Prelude.{◌≡◌, ◌≢◌, ◌↔◌, ◌<◌, [], Err, IfErr, IfOk, IsTrue, OnOk, OnErr, false, length, map};
-ghost use Rattle.hart.specs.Local.{IsRow};
+ghost use Rattle.hart.specs.Local.{IsPrivateRow};
 ghost use Rattle.machine_types.specs.Config as limits;
 ghost use Rattle.machine_model.specs.Events.{Verdict, happens, verdict};
 ghost use Rattle.machine_model.specs.LawfulLog.{IsLawfulLog};
@@ -135,7 +135,7 @@ impl Machine {
 
     // Commits a current row as the event that it is.
     fn commit(&mut self, hart: u8, batch: &Batch) -> Result<Outcome, ApplyError>
-        requires row { IsRow batch.now }
+        requires row { IsPrivateRow batch.now }
         requires current { IsCurrent hart batch.now self.old }
         requires some { batch.now.entries ≢ [] }
         ensures answers { Answers (verdict self.old (local_of hart batch.now)) self.old result self.new }

@@ -19,7 +19,8 @@ to 64, WAYS (lines a set) 1 to 4, LINE 16 or 64. Then comes an event a line:
   drain HART ADDRESS     a store leaves the store buffer for the cache
   evict HART ADDRESS     the cache gives a line up
   deliver CHANNEL HART   the oldest message on channel A, B, C, D or E arrives
-  local HART COUNT       so many instructions at once, 1 to 256, that touch no memory
+  local HART COUNT       so many instructions at once, 1 to 256, that touch no memory, fence
+                         nothing and call nothing
 ADDRESS is 0x and 8 lower-case digits, of a word to drain or a line to evict. One blank stands between
 words, and a line feed alone ends each line.
 
@@ -140,7 +141,8 @@ pub(crate) const CHECK_HELP: &str =
 PLACE counts the hart's R lines from 0. Codes 1 to 13 are the rules of preserved program order, by which
 the first has to be performed before the second:
    1 the second is a store, and they overlap
-   2 both load a byte to which no store stands between them, from different stores
+   2 both load a byte to which no store stands between them, from different writes
+     (the image is one)
    3 the second loads what the first, an AMO or SC, wrote
    4 a FENCE orders them
    5 the first acquires, as every load does under Ztso
@@ -149,7 +151,7 @@ the first has to be performed before the second:
    8 they are an LR and its SC
    9 the second's address depends on the first
   10 what the second stores depends on the first
-  11 the second is a store, behind a branch that depends on the first
+  11 the second is a store, behind a branch or a JALR that depends on the first
   12 the second loads from a store between them that depends on the first
   13 the second is a store, behind an access whose address depends on the first
 14 is the load value axiom (both are the load), 15 the atomicity axiom (an LR and its SC).

@@ -18,21 +18,21 @@ use Rattle.directory.specs.declared.entry.Entry.{Entry}
 use Rattle.directory.specs.Harts.{has, harts_below}
 use Rattle.directory.specs.Lines.{Line, unknown, known_at, noted, acknowledged, granting}
 use Rattle.directory.specs.Directory.{quiet}
-use Rattle.directory.specs.Entries.{perm_of, known_of, line_of, IsNoted}
+use Rattle.directory.specs.Entries.{perm_of, known_of, notes_of_entry, IsNoted}
 use Rattle.directory.proofs.Masks.{gone, stays}
 
 -- what is noted of a hart that is there
-pub known_at-line_of : (harts : ℕ) (e : Entry) (h : ℕ) → h < harts → known_at (line_of harts e) h ≡ known_of e h
-unfolding line_of
+pub known_at-line_of : (harts : ℕ) (e : Entry) (h : ℕ) → h < harts → known_at (notes_of_entry harts e) h ≡ known_of e h
+unfolding notes_of_entry
 known_at-line_of harts e h l = get_or-map-range_with_len (known_of e) 0 harts h h unknown l (omega arith)
 
-pub length-line_of : (harts : ℕ) (e : Entry) → length (line_of harts e).known ≡ harts
-unfolding line_of
+pub length-line_of : (harts : ℕ) (e : Entry) → length (notes_of_entry harts e).known ≡ harts
+unfolding notes_of_entry
 length-line_of harts e = length-map-range_with_len (known_of e) 0 harts
 
 -- one hart's part is replaced
-pub line_of-put : (harts : ℕ) (e later : Entry) (h : ℕ) (k : Known) → h < harts → known_of later h ≡ k → ((i : ℕ) → i < harts → i ≢ h → known_of later i ≡ known_of e i) → line_of harts later ≡ record { known = slice_set (line_of harts e).known h k; transaction = later.transaction }
-unfolding line_of
+pub line_of-put : (harts : ℕ) (e later : Entry) (h : ℕ) (k : Known) → h < harts → known_of later h ≡ k → ((i : ℕ) → i < harts → i ≢ h → known_of later i ≡ known_of e i) → notes_of_entry harts later ≡ record { known = slice_set (notes_of_entry harts e).known h k; transaction = later.transaction }
+unfolding notes_of_entry
 line_of-put harts e later h k l here others =
     let xs : List Known = map (known_of e) (range_with_len 0 harts) in
     let long : length (set xs h k) ≡ harts = simp length-set (length-map-range_with_len (known_of e) 0 harts) in
@@ -51,12 +51,12 @@ line_of-put harts e later h k l here others =
         ∙ sym (others i u d)
 
 -- the record of one hart becomes another permission
-pub line_of-noted : (harts : ℕ) (e later : Entry) (h : ℕ) (perm : Perm) → IsNoted e later h perm → h < harts → harts ≤ 8 → line_of harts later ≡ noted (line_of harts e) h perm
-unfolding line_of
+pub line_of-noted : (harts : ℕ) (e later : Entry) (h : ℕ) (perm : Perm) → IsNoted e later h perm → h < harts → harts ≤ 8 → notes_of_entry harts later ≡ noted (notes_of_entry harts e) h perm
+unfolding notes_of_entry
 line_of-noted harts e later h perm n l few =
     line_of-put harts e later h (record { perm = perm; awaited = has e.awaited h }) l here others
-    ∙ ap (λ (t : Transaction). record { known = slice_set (line_of harts e).known h (record { perm = perm; awaited = has e.awaited h }); transaction = t }) n.transaction
-    ∙ ap (λ (k : Known). record { known = slice_set (line_of harts e).known h (record k { perm = perm }); transaction = e.transaction }) (sym (known_at-line_of harts e h l))
+    ∙ ap (λ (t : Transaction). record { known = slice_set (notes_of_entry harts e).known h (record { perm = perm; awaited = has e.awaited h }); transaction = t }) n.transaction
+    ∙ ap (λ (k : Known). record { known = slice_set (notes_of_entry harts e).known h (record k { perm = perm }); transaction = e.transaction }) (sym (known_at-line_of harts e h l))
   where
     here : known_of later h ≡ record { perm = perm; awaited = has e.awaited h }
     here =
@@ -72,16 +72,16 @@ line_of-noted harts e later h perm n l few =
         let w : later.awaited ≡ e.awaited = n.awaited in
         rw (p, w) refl
 
-pub line_of-quiet : (harts : ℕ) → line_of harts (record { sharers = []; awaited = []; owner = None; transaction = Idle }) ≡ quiet harts
-unfolding line_of
+pub line_of-quiet : (harts : ℕ) → notes_of_entry harts (record { sharers = []; awaited = []; owner = None; transaction = Idle }) ≡ quiet harts
+unfolding notes_of_entry
 line_of-quiet harts = ap (λ (known : List Known). record { known = known; transaction = Idle }) (sym (splat_is_map (range_with_len 0 harts) harts unknown (length-range_with_len 0 harts)))
 
 -- a hart's ProbeAck was taken
-pub line_of-acknowledged : (harts : ℕ) (e later : Entry) (h : ℕ) (change : Change) (w : List ℕ) → IsNoted e later h (left_by change) → w ≡ harts_below 8 (λ i. not (nat_eq i h) && has later.awaited i) → h < harts → harts ≤ 8 → line_of harts (record later { awaited = w }) ≡ acknowledged (line_of harts e) h change
-unfolding line_of
+pub line_of-acknowledged : (harts : ℕ) (e later : Entry) (h : ℕ) (change : Change) (w : List ℕ) → IsNoted e later h (left_by change) → w ≡ harts_below 8 (λ i. not (nat_eq i h) && has later.awaited i) → h < harts → harts ≤ 8 → notes_of_entry harts (record later { awaited = w }) ≡ acknowledged (notes_of_entry harts e) h change
+unfolding notes_of_entry
 line_of-acknowledged harts e later h change w n w_is l few =
     line_of-put harts e (record later { awaited = w }) h (record { perm = left_by change; awaited = false }) l here others
-    ∙ ap (λ (t : Transaction). record { known = slice_set (line_of harts e).known h (record { perm = left_by change; awaited = false }); transaction = t }) n.transaction
+    ∙ ap (λ (t : Transaction). record { known = slice_set (notes_of_entry harts e).known h (record { perm = left_by change; awaited = false }); transaction = t }) n.transaction
   where
     here : known_of (record later { awaited = w }) h ≡ record { perm = left_by change; awaited = false }
     here =
@@ -98,15 +98,15 @@ line_of-acknowledged harts e later h change w n w_is l few =
         rw (p, a) refl
 
 -- the Grant was sent
-pub line_of-granting : (harts : ℕ) (e later : Entry) (h : ℕ) (grow : Grow) → IsNoted e later h (named_by (granted_for grow)) → h < harts → harts ≤ 8 → line_of harts (record later { transaction = Granted h }) ≡ granting (line_of harts e) h grow
-unfolding line_of
+pub line_of-granting : (harts : ℕ) (e later : Entry) (h : ℕ) (grow : Grow) → IsNoted e later h (named_by (granted_for grow)) → h < harts → harts ≤ 8 → notes_of_entry harts (record later { transaction = Granted h }) ≡ granting (notes_of_entry harts e) h grow
+unfolding notes_of_entry
 line_of-granting harts e later h grow n l few =
     ap (λ (x : Line). record x { transaction = Granted h }) (line_of-noted harts e later h (named_by (granted_for grow)) n l few)
 
-pub line_of-ended : (harts : ℕ) (e : Entry) → line_of harts (record e { transaction = Idle }) ≡ record (line_of harts e) { transaction = Idle }
-unfolding line_of
+pub line_of-ended : (harts : ℕ) (e : Entry) → notes_of_entry harts (record e { transaction = Idle }) ≡ record (notes_of_entry harts e) { transaction = Idle }
+unfolding notes_of_entry
 line_of-ended harts e = refl
 
-pub line_of-transaction : (harts : ℕ) (e : Entry) → (line_of harts e).transaction ≡ e.transaction
-unfolding line_of
+pub line_of-transaction : (harts : ℕ) (e : Entry) → (notes_of_entry harts e).transaction ≡ e.transaction
+unfolding notes_of_entry
 line_of-transaction harts e = refl

@@ -21,11 +21,11 @@ perm_of e hart = if is_owner e.owner hart then Trunk else if has e.sharers hart 
 abbrev pub known_of : Entry → ℕ → Known
 known_of e hart = record { perm = perm_of e hart; awaited = has e.awaited hart }
 
-unfoldable pub line_of : ℕ → Entry → Line
-line_of harts e = record { known = map (known_of e) (range_with_len 0 harts); transaction = e.transaction }
+unfoldable pub notes_of_entry : ℕ → Entry → Line
+notes_of_entry harts e = record { known = map (known_of e) (range_with_len 0 harts); transaction = e.transaction }
 
 abbrev pub lines_of : ℕ → List Slot → List Line
-lines_of harts slots = map (λ (s : Slot). line_of harts s.entry) slots
+lines_of harts slots = map (λ (s : Slot). notes_of_entry harts s.entry) slots
 
 -- an owner other than this hart
 abbrev pub other_than : Option ℕ → ℕ → Option ℕ

@@ -4,7 +4,7 @@ ghost use Rattle.tl_types.specs.Permission.{left_by};
 ghost use Rattle.directory.specs.Harts.{has, harts_below};
 ghost use Rattle.directory.specs.Lines.{known_at, conflicts, probe_cap, needs_data, probed, grant_for, granting, acquired, acquired_by, answered_in, acknowledged, probe_acked, released, grant_acked};
 ghost use Rattle.directory.specs.Directory.{AnswersHarts, quiet};
-ghost use Rattle.directory.specs.Entries.{perm_of, known_of, line_of, other_than, IsNoted, OwnerBelow, is_asked_back, IsSoundEntry};
+ghost use Rattle.directory.specs.Entries.{perm_of, known_of, notes_of_entry, other_than, IsNoted, OwnerBelow, is_asked_back, IsSoundEntry};
 
 use crate::answer::{Acquired, Grant, Known, Sent, Transaction};
 use crate::harts::HartSet;
@@ -51,7 +51,7 @@ fn needs_data(grow: Grow, perm: Perm) -> bool
 impl Entry {
     /// Nobody has the line.
     pub fn new() -> Entry
-        ensures line { (harts : ℕ) → line_of harts result ≡ quiet harts }
+        ensures line { (harts : ℕ) → notes_of_entry harts result ≡ quiet harts }
         ensures sound { (harts : ℕ) → IsSoundEntry harts result }
     {
         Entry {
@@ -140,8 +140,8 @@ impl Entry {
     fn grant(self, requester: u8, grow: Grow) -> (Grant, Entry)
         requires numbered { requester < 8 }
         requires alone { other_than self.owner requester ≡ None }
-        ensures grant { (harts : ℕ) → requester < harts → result.0 ≡ grant_for (line_of harts self) requester grow }
-        ensures line { (harts : ℕ) → requester < harts → harts ≤ 8 → line_of harts result.1 ≡ granting (line_of harts self) requester grow }
+        ensures grant { (harts : ℕ) → requester < harts → result.0 ≡ grant_for (notes_of_entry harts self) requester grow }
+        ensures line { (harts : ℕ) → requester < harts → harts ≤ 8 → notes_of_entry harts result.1 ≡ granting (notes_of_entry harts self) requester grow }
         ensures sound { (harts : ℕ) → requester < harts → harts ≤ 8 → IsSoundEntry harts self → IsSoundEntry harts result.1 }
     {
         let cap = grow.granted();
@@ -163,7 +163,7 @@ impl Entry {
     fn begin(self, requester: u8, grow: Grow) -> (Acquired, Entry)
         requires numbered { requester < 8 }
         requires sound { IsSoundEntry 8 self }
-        ensures meaning { (harts : ℕ) → requester < harts → harts ≤ 8 → IsSoundEntry harts self → (result.0, line_of harts result.1) ≡ acquired_by (line_of harts self) requester grow (probed (line_of harts self) requester grow) }
+        ensures meaning { (harts : ℕ) → requester < harts → harts ≤ 8 → IsSoundEntry harts self → (result.0, notes_of_entry harts result.1) ≡ acquired_by (notes_of_entry harts self) requester grow (probed (notes_of_entry harts self) requester grow) }
         ensures harts { (harts : ℕ) → requester < harts → harts ≤ 8 → IsSoundEntry harts self → AnswersHarts harts result.0 }
         ensures sound { (harts : ℕ) → requester < harts → harts ≤ 8 → IsSoundEntry harts self → IsSoundEntry harts result.1 }
     {
@@ -187,7 +187,7 @@ impl Entry {
     pub fn acquire(self, requester: u8, grow: Grow) -> (Acquired, Entry)
         requires numbered { requester < 8 }
         requires sound { IsSoundEntry 8 self }
-        ensures meaning { (harts : ℕ) → requester < harts → harts ≤ 8 → IsSoundEntry harts self → (result.0, line_of harts result.1) ≡ acquired (line_of harts self) requester grow }
+        ensures meaning { (harts : ℕ) → requester < harts → harts ≤ 8 → IsSoundEntry harts self → (result.0, notes_of_entry harts result.1) ≡ acquired (notes_of_entry harts self) requester grow }
         ensures harts { (harts : ℕ) → requester < harts → harts ≤ 8 → IsSoundEntry harts self → AnswersHarts harts result.0 }
         ensures sound { (harts : ℕ) → requester < harts → harts ≤ 8 → IsSoundEntry harts self → IsSoundEntry harts result.1 }
     {
@@ -201,7 +201,7 @@ impl Entry {
     fn acknowledge(self, hart: u8, change: Change) -> Entry
         requires numbered { hart < 8 }
         requires shrinks { left_by change ≢ Perm.Trunk }
-        ensures line { (harts : ℕ) → hart < harts → harts ≤ 8 → line_of harts result ≡ acknowledged (line_of harts self) hart change }
+        ensures line { (harts : ℕ) → hart < harts → harts ≤ 8 → notes_of_entry harts result ≡ acknowledged (notes_of_entry harts self) hart change }
         ensures sound { (harts : ℕ) → hart < harts → harts ≤ 8 → IsSoundEntry harts self → IsSoundEntry harts result }
     {
         let noted = self.note(hart, change.left());
@@ -215,7 +215,7 @@ impl Entry {
     fn answer(self, requester: u8, grow: Grow) -> (Option<Grant>, Entry)
         requires numbered { requester < 8 }
         requires asked { IsTrue (is_asked_back self.owner self.awaited requester) }
-        ensures meaning { (harts : ℕ) → requester < harts → harts ≤ 8 → IsSoundEntry harts self → (result.0, line_of harts result.1) ≡ answered_in (Transaction.Probing requester grow) (line_of harts self) }
+        ensures meaning { (harts : ℕ) → requester < harts → harts ≤ 8 → IsSoundEntry harts self → (result.0, notes_of_entry harts result.1) ≡ answered_in (Transaction.Probing requester grow) (notes_of_entry harts self) }
         ensures harts { (harts : ℕ) → requester < harts → harts ≤ 8 → IsSoundEntry harts self → IfSome result.0 (λ grant. grant.hart < harts) }
         ensures sound { (harts : ℕ) → requester < harts → harts ≤ 8 → IsSoundEntry harts self → IsSoundEntry harts result.1 }
     {
@@ -231,7 +231,7 @@ impl Entry {
         requires numbered { hart < 8 }
         requires shrinks { left_by change ≢ Perm.Trunk }
         requires sound { IsSoundEntry 8 self }
-        ensures meaning { (harts : ℕ) → hart < harts → harts ≤ 8 → IsSoundEntry harts self → (result.0, line_of harts result.1) ≡ probe_acked (line_of harts self) hart change }
+        ensures meaning { (harts : ℕ) → hart < harts → harts ≤ 8 → IsSoundEntry harts self → (result.0, notes_of_entry harts result.1) ≡ probe_acked (notes_of_entry harts self) hart change }
         ensures harts { (harts : ℕ) → hart < harts → harts ≤ 8 → IsSoundEntry harts self → IfSome result.0 (λ grant. grant.hart < harts) }
         ensures sound { (harts : ℕ) → hart < harts → harts ≤ 8 → IsSoundEntry harts self → IsSoundEntry harts result.1 }
     {
@@ -245,7 +245,7 @@ impl Entry {
     /// A Release is taken.
     pub fn release(self, hart: u8) -> Entry
         requires { hart < 8 }
-        ensures line { (harts : ℕ) → hart < harts → harts ≤ 8 → line_of harts result ≡ released (line_of harts self) hart }
+        ensures line { (harts : ℕ) → hart < harts → harts ≤ 8 → notes_of_entry harts result ≡ released (notes_of_entry harts self) hart }
         ensures sound { (harts : ℕ) → hart < harts → harts ≤ 8 → IsSoundEntry harts self → IsSoundEntry harts result }
     {
         self.note(hart, Perm::Nothing)
@@ -253,7 +253,7 @@ impl Entry {
 
     /// A GrantAck is taken.
     pub fn grant_ack(self) -> Entry
-        ensures line { (harts : ℕ) → line_of harts result ≡ grant_acked (line_of harts self) }
+        ensures line { (harts : ℕ) → notes_of_entry harts result ≡ grant_acked (notes_of_entry harts self) }
         ensures sound { (harts : ℕ) → IsSoundEntry harts self → IsSoundEntry harts result }
     {
         Entry {

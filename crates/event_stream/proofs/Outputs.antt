@@ -18,7 +18,7 @@ use Rattle.hart.specs.Local.{private_row}
 use Rattle.hart.specs.Run.{after_instr, reached}
 use Rattle.hart.specs.declared.state.Hart.{Hart}
 use Rattle.hart.specs.declared.status.Status.TheVariants.{Stopped}
-use Rattle.machine_model.specs.Changing.{acted, does, drained, outcome_of_act, performs, performs_own, place_at, put_behind, release_body, retired, sent_if_evicted, with_buffer, with_entries, with_halt, with_reservation, writes_word}
+use Rattle.machine_model.specs.Changing.{acted, does, drained, outcome_of_act, performs, performs_own, next_place, put_behind, release_body, retired, sent_if_evicted, with_buffer, with_entries, with_halt, with_reservation, writes_word}
 use Rattle.machine_model.specs.Deliveries.{grant_body, handled, line_in_memory, on_probe_ack, probe_ack_body, sent_any, sent_grant, sent_if_answered, sent_if_granted, sent_if_handled, sent_probes, taken, with_less, with_memory, with_notes}
 use Rattle.machine_model.specs.Events.{Verdict, counted, happens, hart_of, is_good, is_limited, plan_of, state_by, verdict_by}
 use Rattle.machine_model.specs.LawfulLog.{IsBeginningOf}
@@ -182,7 +182,7 @@ buffer_silent : (h : ℕ) (b : Groups) (s : State) → Silent s (with_buffer h b
 buffer_silent h b s = node_silent h (record (node_at s h) { buffer = b }) s refl
 
 own_silent : (h : ℕ) (s : State) → Silent s (performs_own h s)
-own_silent h s = performs_silent h (place_at s h ∷ []) s
+own_silent h s = performs_silent h (next_place s h ∷ []) s
 
 update_silent : (h word value : ℕ) (s : State) → Silent s (writes_word h word (marks_of_access 0 4) (bytes_of_word value) (performs_own h s))
 update_silent h word value s = λ k. write_silent h word (marks_of_access 0 4) (bytes_of_word value) (performs_own h s) k ∙ own_silent h s k

@@ -20,12 +20,12 @@ abbrev pub unended : List ℕ → List ℕ
 unended line = take (length line - 1) line
 
 -- the event as its script spells it, behind the number of its line there; and its outcome
-abbrev pub line_of : List ℕ → Event → Outcome → List ℕ
-line_of line e o = codes "E " ++ (line ++ (32 ∷ (unended (script.event e) ++ (32 ∷ (outcome o ++ 10 ∷ [])))))
+abbrev pub event_text : List ℕ → Event → Outcome → List ℕ
+event_text line e o = codes "E " ++ (line ++ (32 ∷ (unended (script.event e) ++ (32 ∷ (outcome o ++ 10 ∷ [])))))
 
 -- lines are counted from 1, and the script's first line is its head
 abbrev pub event_line : ℕ → Event → Outcome → List ℕ
-event_line index e o = line_of (decimal (index + 2)) e o
+event_line index e o = event_text (decimal (index + 2)) e o
 
 -- the instruction, by the names that addresses have
 abbrev pub disassembled : List Named → ℕ → Option Instr → List ℕ

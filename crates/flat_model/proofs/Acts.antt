@@ -45,7 +45,7 @@ use Rattle.machine_types.specs.declared.config.Config.{Config}
 use Rattle.machine_types.specs.declared.event.Event.{Event}
 use Rattle.machine_types.specs.declared.event.Event.TheVariants as event
 use Rattle.machine_types.specs.declared.outcome.Outcome.TheVariants as outcome
-use Rattle.machine_model.specs.Changing.{acted, does, drained, place_at, went_alone}
+use Rattle.machine_model.specs.Changing.{acted, does, drained, next_place, went_alone}
 use Rattle.machine_model.specs.Coherent.{IsCoherent}
 use Rattle.machine_model.specs.Deliveries.{plan_body, plan_front, unless_acks_full, unless_busy, unless_releasing}
 use Rattle.machine_model.specs.Events.{evict_by, hart_of, names_well, plan_of}
@@ -202,16 +202,16 @@ module _ (s : State) (f : Flat) (is : Base s) (v : Shows s f) (h : ℕ) (in_h : 
   follows =
       let model = s.views.config.model in
       let image = s.trace.image in
-      let place = place_at s h in
+      let place = next_place s h in
       let same : of_flat.node_at f h ≡ seen n r = seen_is n (of_flat.node_at f h) (v.nodes h in_h) in
       let step : flat_events.plan_of f (flat_event.Step h) ≡ flat_steps.plan_step model image f.memory (seen n r) place =
-      ap (λ (c : Config). flat_steps.plan_step c.model f.trace.image f.memory (of_flat.node_at f h) (flat.place_at f h)) v.config
-      ∙ (ap (λ i. flat_steps.plan_step model i f.memory (of_flat.node_at f h) (flat.place_at f h)) image_is
-      ∙ (ap (λ m. flat_steps.plan_step model image f.memory m (flat.place_at f h)) same
+      ap (λ (c : Config). flat_steps.plan_step c.model f.trace.image f.memory (of_flat.node_at f h) (flat.next_place f h)) v.config
+      ∙ (ap (λ i. flat_steps.plan_step model i f.memory (of_flat.node_at f h) (flat.next_place f h)) image_is
+      ∙ (ap (λ m. flat_steps.plan_step model image f.memory m (flat.next_place f h)) same
       ∙ ap (flat_steps.plan_step model image f.memory (seen n r)) (same_place h s f (sees s f v)))) in
       let fail : flat_events.plan_of f (flat_event.Fail h) ≡ flat_steps.plan_fail image (seen n r) place =
-      ap (λ i. flat_steps.plan_fail i (of_flat.node_at f h) (flat.place_at f h)) image_is
-      ∙ (ap (λ m. flat_steps.plan_fail image m (flat.place_at f h)) same
+      ap (λ i. flat_steps.plan_fail i (of_flat.node_at f h) (flat.next_place f h)) image_is
+      ∙ (ap (λ m. flat_steps.plan_fail image m (flat.next_place f h)) same
       ∙ ap (flat_steps.plan_fail image (seen n r)) (same_place h s f (sees s f v))) in
       subst (λ p. Follows n p (flat_events.plan_of f (flat_event.Fail h)) (plan_of s (event.Step h))) (sym step)
       (subst (λ q. Follows n (flat_steps.plan_step model image f.memory (seen n r) place) q (plan_of s (event.Step h))) (sym fail)

@@ -4,7 +4,7 @@ use Rattle.std.specs.Prelude.{is_none, slice_set}
 use Rattle.std.proofs.lemmas.Bool.{false≢true, and_parts, lt-ltb}
 use Rattle.std.proofs.lemmas.List.{get_or-set_same, length-set, set-get_or, set-set}
 use Rattle.elf_loader.specs.Image.{Initial, word_at}
-use Rattle.flat_model.specs.Changing.{place_at}
+use Rattle.flat_model.specs.Changing.{next_place}
 use Rattle.flat_model.specs.declared.event.FlatEvent.{FlatEvent}
 use Rattle.flat_model.specs.declared.event.FlatEvent.TheVariants as event
 use Rattle.flat_model.specs.Events.{IsBad, after_events, flat_by, happens, plan_of, verdict_by}
@@ -70,7 +70,7 @@ step_is f h l g =
     let a = alone image hart g in
     let x = found hart (decoded (word_at image hart.pc)) a.done in
     let entry = next_entry image hart in
-    let plan : plan_of f (event.Step h) ≡ Retires entry x.0 deed.Private None = step_alone f.config.model image f.memory (node_at f h) (place_at f h) x.0 a.running (no_stop image hart x.0 a.fetched x.1 x.2 x.3) x.1 x.2 in
+    let plan : plan_of f (event.Step h) ≡ Retires entry x.0 deed.Private None = step_alone f.config.model image f.memory (node_at f h) (next_place f h) x.0 a.running (no_stop image hart x.0 a.fetched x.1 x.2 x.3) x.1 x.2 in
     let is : after_instr hart entry (Some x.0) ≡ after hart entry = ap (after_instr hart entry) (sym x.1) in
     let on : (after hart entry).status ≡ Running = running_is (after hart entry).status (after-running image hart g) in
     ap (λ (b : Bool). flat_by f (cond b (verdict_by f h (plan_of f (event.Step h))) IsBad)) (lt-ltb h (length f.nodes) l)

@@ -25,7 +25,7 @@ use Rattle.machine_model.proofs.order.Bytes.{place_at}
 use Rattle.machine_model.proofs.order.Joint.{coherent_holds}
 use Rattle.machine_model.proofs.order.Last.{bytes_by}
 use Rattle.machine_model.proofs.order.Returns.{AllHold}
-use Rattle.memory_model.specs.Operations.{byte_at as number_byte}
+use Rattle.memory_model.specs.Operations.{byte_of_number as number_byte}
 use Rattle.memory_model.specs.Traces.{last_performed}
 use Rattle.store_buffer.specs.ByteMask.{each_place, is_marked, marks_of_access}
 use Rattle.tl_types.specs.Line.{bytes_of, length_of, size_of}

@@ -13,7 +13,7 @@ use Rattle.hart.specs.declared.state.Hart.{Hart}
 use Rattle.hart.specs.declared.status.Status.{Status}
 use Rattle.hart.specs.declared.status.Status.TheVariants.{Running, Stopped, Exited}
 use Rattle.hart.specs.Run.{after_instr}
-use Rattle.machine_model.specs.Changing.{does, drained, performs, performs_own, place_at, put_behind, retired, stopped, with_buffer, with_halt, with_reservation, writes_word}
+use Rattle.machine_model.specs.Changing.{does, drained, performs, performs_own, next_place, put_behind, retired, stopped, with_buffer, with_halt, with_reservation, writes_word}
 use Rattle.machine_model.specs.Views.{Node, State, node_at, with_node, with_trace}
 use Rattle.machine_model.specs.Words.{bytes_of_word}
 use Rattle.machine_types.specs.declared.config.Config.{Config}
@@ -141,11 +141,11 @@ sees_performs h [] s f v = v
 sees_performs h (place ∷ places) s f v =
     sees_performs h places _ _ (sees_trace (with_performed (record { hart = h; place = place }) s.trace) (with_performed (record { hart = h; place = place }) f.trace) s f (ap (with_performed (record { hart = h; place = place })) v.trace) v)
 
-pub same_place : (h : ℕ) (s : State) (f : Flat) → Sees s f → flat.place_at f h ≡ place_at s h
+pub same_place : (h : ℕ) (s : State) (f : Flat) → Sees s f → flat.next_place f h ≡ next_place s h
 same_place h s f v = ap (λ (t : History). length (entries_of t h)) v.trace
 
 sees_own : (h : ℕ) (s : State) (f : Flat) → Sees s f → Sees (performs_own h s) (flat.performs_own h f)
-sees_own h s f v = subst (λ p. Sees (performs_own h s) (flat.performs h (p ∷ []) f)) (sym (same_place h s f v)) (sees_performs h (place_at s h ∷ []) s f v)
+sees_own h s f v = subst (λ p. Sees (performs_own h s) (flat.performs h (p ∷ []) f)) (sym (same_place h s f v)) (sees_performs h (next_place s h ∷ []) s f v)
 
 -- ---- deeds
 

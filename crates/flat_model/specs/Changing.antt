@@ -57,8 +57,8 @@ accessed h (Some address) f = record f { nodes = accessed_from f.config h addres
 -- ---- the trace
 
 -- how many instructions of a hart have retired: the place of its next one
-abbrev pub place_at : Flat → ℕ → ℕ
-place_at f h = length (entries_of f.trace h)
+abbrev pub next_place : Flat → ℕ → ℕ
+next_place f h = length (entries_of f.trace h)
 
 -- these operations of a hart are performed, one after the other
 abbrev pub performs : ℕ → List ℕ → Flat → Flat
@@ -67,7 +67,7 @@ performs h (place ∷ places) f = performs h places (with_trace (with_performed 
 
 -- the operation of the instruction that retires is performed
 abbrev pub performs_own : ℕ → Flat → Flat
-performs_own h f = performs h (place_at f h ∷ []) f
+performs_own h f = performs h (next_place f h ∷ []) f
 
 -- ---- what an instruction does as it retires
 

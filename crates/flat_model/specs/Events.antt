@@ -1,6 +1,6 @@
 -- The flat meaning: which events are good, what each comes to and changes, and what a list of events leads to.
 use Rattle.std.specs.Prelude.{ℕ, List, [], ◌∷◌, Some, length, nat_lt, if◌then◌else◌}
-use Rattle.flat_model.specs.Changing.{accessed, does, drained, place_at, retired, stopped}
+use Rattle.flat_model.specs.Changing.{accessed, does, drained, next_place, retired, stopped}
 use Rattle.flat_model.specs.declared.event.FlatEvent.{FlatEvent}
 use Rattle.flat_model.specs.declared.event.FlatEvent.TheVariants as event
 use Rattle.flat_model.specs.Flat.{Flat, node_at}
@@ -18,9 +18,9 @@ hart_of (event.Fail h) = h
 -- ---- what an event comes to
 
 abbrev pub plan_of : Flat → FlatEvent → FlatPlan
-plan_of f (event.Step h) = plan_step f.config.model f.trace.image f.memory (node_at f h) (place_at f h)
+plan_of f (event.Step h) = plan_step f.config.model f.trace.image f.memory (node_at f h) (next_place f h)
 plan_of f (event.Drain h word) = plan_drain (node_at f h) word
-plan_of f (event.Fail h) = plan_fail f.trace.image (node_at f h) (place_at f h)
+plan_of f (event.Fail h) = plan_fail f.trace.image (node_at f h) (next_place f h)
 
 -- ---- the meaning
 

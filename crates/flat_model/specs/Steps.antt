@@ -138,7 +138,7 @@ abbrev pub plan_fail_instr : FlatNode → (word place : ℕ) → Option Instr �
 plan_fail_instr n word place None = Refused
 plan_fail_instr n word place (Some i) = plan_fail_access n (record { word = word; instr = i; place = place }) (access_of i n.hart.regs)
 
--- an address that stops is refused
+-- an instruction that stops is refused
 abbrev pub refused_if : Bool → FlatPlan → FlatPlan
 refused_if stops go = if stops then Refused else go
 

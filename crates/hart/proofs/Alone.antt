@@ -9,7 +9,7 @@ use Rattle.rv32_exec.specs.Meaning.{Access, Private, Loads, Stores, DoesLr, Does
 use Rattle.hart.specs.declared.retired.Retired.{Retired}
 use Rattle.hart.specs.declared.state.Hart.{Hart}
 use Rattle.hart.specs.Local.{is_private, is_done_alone, can_go_alone, next_entry, private_row}
-use Rattle.hart.specs.Run.{after, after_instr, are_steps, can_fetch, does, has_answers, is_running, is_step, reached, status_after}
+use Rattle.hart.specs.Run.{after, after_instr, are_steps, can_fetch, can_do, has_answers, is_running, is_step, reached, status_after}
 use Rattle.hart.proofs.Rows.{stop_of-private, private_runs_on}
 
 pub private_is : (a : Access) → is_private a ≡ true → a ≡ Private
@@ -23,7 +23,7 @@ private_is Fences e = absurd (false≢true e)
 private_is (Calls number argument) e = absurd (false≢true e)
 
 -- what an instruction that is done alone does, whatever memory's size
-does-alone : (size : ℕ) (image : Initial) (hart : Hart) (o : Option Instr) → is_done_alone hart o ≡ true → does size hart (next_entry image hart) o ≡ true
+does-alone : (size : ℕ) (image : Initial) (hart : Hart) (o : Option Instr) → is_done_alone hart o ≡ true → can_do size hart (next_entry image hart) o ≡ true
 does-alone size image hart None e = e
 does-alone size image hart (Some i) e =
     let p = and_parts (is_private (access_of i hart.regs)) (is_none (stop_of i hart.pc hart.regs 0)) e in

@@ -10,7 +10,7 @@ use Rattle.hart.specs.declared.retired.Retired.{Retired}
 use Rattle.hart.specs.declared.state.Hart.{Hart}
 use Rattle.hart.specs.declared.status.Status.{Status}
 use Rattle.hart.specs.declared.status.Status.TheVariants.{Running, Stopped, Exited}
-use Rattle.hart.specs.Run.{after, after_instr, are_steps, at_reset, can_fetch, does, has_answers, is_code, is_exit, is_run, is_running, is_step, next_stop, number_read, reached, status_after, status_fits}
+use Rattle.hart.specs.Run.{after, after_instr, are_steps, at_reset, can_fetch, can_do, has_answers, is_code, is_exit, is_run, is_running, is_step, next_stop, number_read, reached, status_after, status_fits}
 use Rattle.hart.specs.Ends.{access_at, IsExit, EndsInExit, EndsAsItsList, RunsEndAsTheirLists}
 
 -- ---- what a step says
@@ -20,11 +20,11 @@ runs_at image hart entry = is_running hart.status
 
 pub step_runs : (image : Initial) (hart : Hart) (entry : Retired) → is_step image hart entry ≡ true → is_running hart.status ≡ true
 step_runs image hart entry e =
-    (and_parts (is_running hart.status) (nat_eq entry.pc hart.pc) (and_parts (is_running hart.status && nat_eq entry.pc hart.pc) (can_fetch image hart.pc) (and_parts (is_running hart.status && nat_eq entry.pc hart.pc && can_fetch image hart.pc) (nat_eq entry.word (word_at image hart.pc)) (and_parts (is_running hart.status && nat_eq entry.pc hart.pc && can_fetch image hart.pc && nat_eq entry.word (word_at image hart.pc)) (does (length image.bytes) hart entry (decoded entry.word)) e).0).0).0).0
+    (and_parts (is_running hart.status) (nat_eq entry.pc hart.pc) (and_parts (is_running hart.status && nat_eq entry.pc hart.pc) (can_fetch image hart.pc) (and_parts (is_running hart.status && nat_eq entry.pc hart.pc && can_fetch image hart.pc) (nat_eq entry.word (word_at image hart.pc)) (and_parts (is_running hart.status && nat_eq entry.pc hart.pc && can_fetch image hart.pc && nat_eq entry.word (word_at image hart.pc)) (can_do (length image.bytes) hart entry (decoded entry.word)) e).0).0).0).0
 
-pub step_does : (image : Initial) (hart : Hart) (entry : Retired) → is_step image hart entry ≡ true → does (length image.bytes) hart entry (decoded entry.word) ≡ true
+pub step_does : (image : Initial) (hart : Hart) (entry : Retired) → is_step image hart entry ≡ true → can_do (length image.bytes) hart entry (decoded entry.word) ≡ true
 step_does image hart entry e =
-    (and_parts (is_running hart.status && nat_eq entry.pc hart.pc && can_fetch image hart.pc && nat_eq entry.word (word_at image hart.pc)) (does (length image.bytes) hart entry (decoded entry.word)) e).1
+    (and_parts (is_running hart.status && nat_eq entry.pc hart.pc && can_fetch image hart.pc && nat_eq entry.word (word_at image hart.pc)) (can_do (length image.bytes) hart entry (decoded entry.word)) e).1
 
 -- ---- lists of steps
 
@@ -59,7 +59,7 @@ exit_access (DoesSc address value) code e = cc
 exit_access (DoesAmo address op operand) code e = cc
 exit_access Fences code e = cc
 
-exit_instr : (size code : ℕ) (hart : Hart) (entry : Retired) (o : Option Instr) → does size hart entry o ≡ true → (after_instr hart entry o).status ≡ Exited code → (argument : ℕ) × (access_at hart o ≡ Calls 0 argument) × (argument % 256 ≡ code)
+exit_instr : (size code : ℕ) (hart : Hart) (entry : Retired) (o : Option Instr) → can_do size hart entry o ≡ true → (after_instr hart entry o).status ≡ Exited code → (argument : ℕ) × (access_at hart o ≡ Calls 0 argument) × (argument % 256 ≡ code)
 exit_instr size code hart entry None d e = absurd (false≢true d)
 exit_instr size code hart entry (Some i) d e = exit_access (access_of i hart.regs) code e
 

@@ -14,7 +14,7 @@ use Rattle.hart.specs.declared.retired.Retired.{Retired}
 use Rattle.hart.specs.declared.state.Hart.{Hart}
 use Rattle.hart.specs.declared.status.Status.TheVariants.{Running}
 use Rattle.hart.specs.Run.{after, can_fetch, is_running, reached, status_after}
-use Rattle.hart.specs.Local.{is_done_alone, can_go_alone, next_entry, next_step, private_row, is_private_step, are_private_steps, IsRow, is_private, Row, row_of}
+use Rattle.hart.specs.Local.{is_done_alone, can_go_alone, next_entry, next_step, private_row, is_private_step, are_private_steps, IsPrivateRow, is_private, PrivateRow, private_row_from}
 
 goes_alone : (image : Initial) (hart : Hart) → can_go_alone image hart ≡ true → is_private_step hart (next_entry image hart) ≡ true
 goes_alone image hart e =
@@ -39,7 +39,7 @@ row_few image hart (suc n) = go (can_go_alone image hart) (row_few image (after 
     go true h = omega arith
     go false h = omega arith
 
-pub row_of-IsRow : (image : Initial) (hart : Hart) (n : ℕ) → n ≤ 256 → IsRow (row_of image hart n)
+pub row_of-IsRow : (image : Initial) (hart : Hart) (n : ℕ) → n ≤ 256 → IsPrivateRow (private_row_from image hart n)
 row_of-IsRow image hart n l = let f = row_few image hart n in record { few = omega arith; alone = row_alone image hart n; leads = refl }
 
 -- what the row of a hart is while there is room
@@ -103,7 +103,7 @@ pair entry hart = (entry, hart)
 
 -- ---- the longest row, step by step
 
-abbrev pub row_with : Hart → Hart → List Retired → Row
+abbrev pub row_with : Hart → Hart → List Retired → PrivateRow
 row_with first last entries = record { first = first; last = last; entries = entries }
 
 pub record Taken (image : Initial) (hart : Hart) (entry : Retired) (next : Hart) : Type 0 where
@@ -189,10 +189,10 @@ pub row_done : (image : Initial) (hart last : Hart) (items : List Retired) (most
     → private_row image hart most ≡ items ++ private_row image last room
     → last ≡ reached hart items
     → private_row image last room ≡ []
-    → record { first = hart; last = last; entries = items } ≡ row_of image hart most
+    → record { first = hart; last = last; entries = items } ≡ private_row_from image hart most
 row_done image hart last items most room row leads none =
     let e : items ≡ private_row image hart most = sym (row ∙ (ap (λ (r : List Retired). items ++ r) none ∙ append-nil items)) in
     ap (λ (h : Hart). row_with hart h items) leads ∙ ap (λ (es : List Retired). row_with hart (reached hart es) es) e
 
-pub the_row : (image : Initial) (hart last : Hart) (items : List Retired) (most : ℕ) → most ≤ 256 → record { first = hart; last = last; entries = items } ≡ row_of image hart most → IsRow (record { first = hart; last = last; entries = items })
-the_row image hart last items most few e = subst IsRow (sym e) (row_of-IsRow image hart most few)
+pub the_row : (image : Initial) (hart last : Hart) (items : List Retired) (most : ℕ) → most ≤ 256 → record { first = hart; last = last; entries = items } ≡ private_row_from image hart most → IsPrivateRow (record { first = hart; last = last; entries = items })
+the_row image hart last items most few e = subst IsPrivateRow (sym e) (row_of-IsRow image hart most few)

@@ -52,17 +52,17 @@ are_private_steps hart [] = true
 are_private_steps hart (entry ∷ rest) = is_private_step hart entry && are_private_steps (after hart entry) rest
 
 -- a row with the hart before it and the hart after it
-pub record Row : Type 0 where
+pub record PrivateRow : Type 0 where
   pub first : Hart
   pub last : Hart
   pub entries : List Retired
 
 -- at most 256 entries, all of private instructions that don't stop, which lead from the first hart to the last; so the first hart is running where there are any
-pub record IsRow (row : Row) : Type 0 where
+pub record IsPrivateRow (row : PrivateRow) : Type 0 where
   pub few : length row.entries ≤ 256
   pub alone : IsTrue (are_private_steps row.first row.entries)
   pub leads : row.last ≡ reached row.first row.entries
 
 -- the longest row of a hart, up to a number
-abbrev pub row_of : Initial → Hart → ℕ → Row
-row_of image hart most = record { first = hart; last = reached hart (private_row image hart most); entries = private_row image hart most }
+abbrev pub private_row_from : Initial → Hart → ℕ → PrivateRow
+private_row_from image hart most = record { first = hart; last = reached hart (private_row image hart most); entries = private_row image hart most }

@@ -58,14 +58,14 @@ abbrev pub can_fetch : Initial → ℕ → Bool
 can_fetch image pc = nat_le base pc && nat_le (pc + 4) (end_of image)
 
 -- the instruction doesn't stop at this hart, where memory has `size` bytes, and the entry has what it read
-abbrev pub does : ℕ → Hart → Retired → Option Instr → Bool
-does size hart entry None = false
-does size hart entry (Some i) = is_none (stop_of i hart.pc hart.regs size) && has_answers (access_of i hart.regs) entry
+abbrev pub can_do : ℕ → Hart → Retired → Option Instr → Bool
+can_do size hart entry None = false
+can_do size hart entry (Some i) = is_none (stop_of i hart.pc hart.regs size) && has_answers (access_of i hart.regs) entry
 
 -- a running hart can retire this entry: it stands at the hart's pc, has the image's word, and its instruction doesn't stop
 abbrev pub is_step : Initial → Hart → Retired → Bool
 is_step image hart entry =
-    is_running hart.status && entry.pc == hart.pc && can_fetch image hart.pc && entry.word == word_at image hart.pc && does (length image.bytes) hart entry (decoded entry.word)
+    is_running hart.status && entry.pc == hart.pc && can_fetch image hart.pc && entry.word == word_at image hart.pc && can_do (length image.bytes) hart entry (decoded entry.word)
 
 -- ---- a list
 

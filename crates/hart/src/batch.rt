@@ -1,7 +1,7 @@
 //! Rows of instructions that a hart does alone.
 ghost use Rattle.std.specs.Prelude.{◌≡◌, ◌≤◌, IfOk, Some, None, if◌then◌else◌};
 ghost use Rattle.elf_loader.specs.Size.{IsMemorySize};
-ghost use Rattle.hart.specs.Local.{IsRow, can_go_alone, is_done_alone, next_entry, next_step, row_of, with_effect};
+ghost use Rattle.hart.specs.Local.{IsPrivateRow, can_go_alone, is_done_alone, next_entry, next_step, private_row_from, with_effect};
 ghost use Rattle.hart.specs.Run.{after};
 ghost use Rattle.rv32_exec.specs.Meaning.{effect_of};
 
@@ -23,20 +23,20 @@ pub struct Batch {
 }
 
 impl Model for Batch {
-    ghost use Rattle.hart.specs.Local.{Row, IsRow};
+    ghost use Rattle.hart.specs.Local.{PrivateRow, IsPrivateRow};
 
-    ghost Value = { Row };
+    ghost Value = { PrivateRow };
 
     ghost view = { λ b. record { first = b.first; last = b.last; entries = b.entries.items } };
 
-    ghost invariant = { λ b. IsRow (record { first = b.first; last = b.last; entries = b.entries.items }) };
+    ghost invariant = { λ b. IsPrivateRow (record { first = b.first; last = b.last; entries = b.entries.items }) };
 }
 
 impl Batch {
     /// The hart that the row starts from.
     pub fn first(&self) -> &Hart
         ensures first { result.now ≡ self.now.first }
-        ensures row { IsRow self.now }
+        ensures row { IsPrivateRow self.now }
     {
         &self.first
     }
@@ -44,7 +44,7 @@ impl Batch {
     /// The hart that it leads to.
     pub fn last(&self) -> &Hart
         ensures last { result.now ≡ self.now.last }
-        ensures row { IsRow self.now }
+        ensures row { IsPrivateRow self.now }
     {
         &self.last
     }
@@ -52,7 +52,7 @@ impl Batch {
     /// The retired instructions, the first one first.
     pub fn entries(&self) -> &[Retired]
         ensures entries { result.now ≡ self.now.entries }
-        ensures row { IsRow self.now }
+        ensures row { IsPrivateRow self.now }
     {
         &self.entries
     }
@@ -63,7 +63,7 @@ impl Batch {
 pub fn run_local(alloc: Global, image: &Image, hart: &Hart, max: u32) -> Result<Batch, AllocError>
     requires some { 1 ≤ max }
     requires few { max ≤ 256 }
-    ensures { IfOk result (λ batch. batch ≡ row_of image.now hart.now max) }
+    ensures { IfOk result (λ batch. batch ≡ private_row_from image.now hart.now max) }
 {
     let mut entries = Vec::new(alloc);
     let mut last = *hart;

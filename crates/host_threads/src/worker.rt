@@ -2,7 +2,7 @@
 
 ghost use Rattle.std.specs.Prelude.{◌≡◌, ◌≢◌, ◌+◌, ◌==◌, false, true, Ok, IfOk, None, OnErr, OnOk, not};
 ghost use Rattle.coherent_machine.specs.Adopting.{local_of};
-ghost use Rattle.hart.specs.Local.{row_of};
+ghost use Rattle.hart.specs.Local.{private_row_from};
 ghost use Rattle.host_threads.specs.Errors.{goes_on};
 ghost use Rattle.host_threads.specs.Pace.{IsPaced};
 ghost use Rattle.host_threads.specs.Telling.{CountsTo, Reports, Tells, has_ended, longest_with};
@@ -205,7 +205,7 @@ impl<'a, L: Ledger, T: Turn + Drop> Worker<'a, L, T> {
         ensures seat { seat_of self.new.port ≡ seat_of self.old.port }
         ensures came { OnOk result (Left (λ left. CountsTo (counted_by self.old) (counted_by self.new) left × (seen_by self.new ≡ seen_in left.machine.trace self.old.hart))) }
         ensures uncounted { OnErr result (counted_by self.new ≡ counted_by self.old) }
-        ensures row { let row = row_of self.old.common.now.image self.old.turn.stood 256 in
+        ensures row { let row = private_row_from self.old.common.now.image self.old.turn.stood 256 in
             OnOk result (Left (IsLast (local_of row.first.id row))) }
         ensures err { OnErr result (IsPaced self.new.common.now.limit (view (seat_of self.new.port)) (share_of self.new.port + 1)) }
     {

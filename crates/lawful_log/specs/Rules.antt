@@ -28,7 +28,7 @@ has_question (GrantData cap bytes) h line log = is_some (asked_by_next h line lo
 has_question ReleaseAck h line log = is_owed is_release is_release_ack (concerns h line) log
 has_question GrantAck h line log = is_owed is_grant is_grant_ack (concerns h line) log
 
--- a Grant gives the permission that was asked for; where nothing was asked that is the last rule's matter
+-- a Grant gives the permission that was asked for; where nothing was asked that is `question`'s matter
 abbrev pub is_asked : Option Grow → Cap → Bool
 is_asked None cap = true
 is_asked (Some grow) cap = is_for grow cap

@@ -8,7 +8,7 @@ use mir.Syntax.{named}
 use Rattle.coherent_machine.specs.Adopting.{IsCurrent, local_of}
 use Rattle.coherent_machine.specs.declared.errors.AdoptError.{AdoptError}
 use Rattle.coherent_machine.specs.declared.errors.AdoptError.TheVariants.{Stale, Empty, Limit, NoMemory}
-use Rattle.hart.specs.Local.{Row}
+use Rattle.hart.specs.Local.{PrivateRow}
 use Rattle.hart.specs.declared.state.Hart.{Hart}
 use Rattle.hart.specs.declared.status.Status.{Status}
 use Rattle.hart.specs.declared.status.Status.TheVariants.{Running}
@@ -49,7 +49,7 @@ pub record Applied (event : Event) (result : Result Outcome ApplyError) (before 
   pub counted : after + old.book ≡ before + new.book
 
 -- this fabric was left by one, which kept the same, that took the row so, and the book grew as the share did: Stale where the row isn't current, else Empty, else Limit, else the event that the row is
-pub record Committed (row : Row) (result : Result Outcome AdoptError) (before after : ℕ) (new : FabricState) : Type 0 where
+pub record Committed (row : PrivateRow) (result : Result Outcome AdoptError) (before after : ℕ) (new : FabricState) : Type 0 where
   pub old : FabricState
   pub kept : IsKept old
   pub stale : result ≢ Err NoMemory → (result ≡ Err Stale) ↔ (IsCurrent row.first.id row old.machine → ⊥)

@@ -1,10 +1,11 @@
 -- A trace's text that ends behind its messages.
 use Rattle.std.specs.Prelude.{ℕ, List, [], ◌∷◌, ◌++◌, Option, Some, None, ◌==◌, if◌then◌else◌, codes, replicate, reverse}
+use Rattle.std.specs.Option.{option_or}
 use Rattle.machine_limits.specs.declared.TheConstants.{MAX_HARTS}
 use Rattle.hart.specs.declared.status.Status.{Status}
 use Rattle.hart.specs.declared.status.Status.TheVariants.{Running}
 use Rattle.text_fields.specs.Fields.{numbered}
-use Rattle.text_fields.specs.Reading.{◌>>=◌, after, behind, either, number_at}
+use Rattle.text_fields.specs.Reading.{◌>>=◌, after, behind, number_at}
 use Rattle.trace_text.specs.Traces.{status}
 
 -- read from its end on, what a line begins with
@@ -26,7 +27,7 @@ harts_in None = 0
 harts_in (Some found) = found.0
 
 abbrev pub harts_told : List ℕ → ℕ
-harts_told bytes = harts_in (either (after (codes "rvtl-trace 1\nT ") bytes) (after (codes "rvtl-trace 2\nT ") bytes) >>= number_at 32 MAX_HARTS)
+harts_told bytes = harts_in (option_or (after (codes "rvtl-trace 1\nT ") bytes) (after (codes "rvtl-trace 2\nT ") bytes) >>= number_at 32 MAX_HARTS)
 
 -- harts whose end the text doesn't tell, since its last line begins with another letter than H
 abbrev pub unended_by : Option ℕ → ℕ → ℕ

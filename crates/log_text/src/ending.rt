@@ -10,8 +10,7 @@ use std::alloc::AllocError;
 use text_fields::{after, number_at};
 
 /// Ends a trace's text whose last line doesn't say how a hart ended: with a line for each of its harts, that
-/// it still runs. Any other text stays. The only error is want of memory; then the text has a beginning of
-/// those lines.
+/// it still runs. Any other text stays. The only error is want of memory.
 pub fn end_text(bytes: &mut Vec<u8>) -> Result<(), AllocError>
     ensures { OnOk result (bytes.new.items ≡ ended bytes.old.items) }
 {

@@ -24,7 +24,7 @@ use Rattle.machine_model.specs.declared.act.Plan.{Plan}
 use Rattle.machine_model.specs.declared.act.Plan.TheVariants as plan
 use Rattle.machine_types.specs.declared.event.Event.{Event}
 use Rattle.machine_types.specs.declared.outcome.Outcome.{Outcome}
-use Rattle.machine_model.specs.Changing.{acted, does, outcome_of_act, performs_own, place_at, performs, with_halt, with_entries, retired, sent_if_evicted}
+use Rattle.machine_model.specs.Changing.{acted, does, outcome_of_act, performs_own, next_place, performs, with_halt, with_entries, retired, sent_if_evicted}
 use Rattle.machine_model.specs.Deliveries.{handled, taken, sent_probes, sent_any, sent_if_handled, sent_if_granted, sent_if_answered, with_memory, with_notes, with_less, on_probe_ack}
 use Rattle.machine_model.specs.Events.{Verdict, counted, verdict, verdict_by, state_by, happens, is_good, is_limited, plan_of, hart_of}
 use Rattle.machine_model.specs.Laws.{Grows, KeepsImageAndConfig}
@@ -159,7 +159,7 @@ performs_follows h [] s = still s s refl refl refl
 performs_follows h (place ∷ places) s = follows_then _ _ _ (record { grows = record { performed = begins_with s.trace.performed _; entries = λ k. begins _; log = begins _ }; stays = record { image = refl; line = refl; config = refl }; changes = refl }) (performs_follows h places _)
 
 own_follows : (h : ℕ) (s : State) → Follows s (performs_own h s)
-own_follows h s = performs_follows h (place_at s h ∷ []) s
+own_follows h s = performs_follows h (next_place s h ∷ []) s
 
 does_follows : (model : MemoryModel) (h : ℕ) (d : Deed) (s : State) → Follows s (does model h d s)
 does_follows model h deed.Private s = still s s refl refl refl

@@ -14,7 +14,7 @@ use Rattle.directory.specs.declared.answer.Sent.{Sent}
 use Rattle.directory.specs.declared.answer.Sent.TheVariants.{Probes, Granting as Grants}
 use Rattle.machine_model.specs.declared.act.Deed.{Deed}
 use Rattle.machine_model.specs.declared.act.Deed.TheVariants as deed
-use Rattle.machine_model.specs.Changing.{does, performs, performs_own, place_at, missed, drained, given_up, sent_if_evicted, writes_word}
+use Rattle.machine_model.specs.Changing.{does, performs, performs_own, next_place, missed, drained, given_up, sent_if_evicted, writes_word}
 use Rattle.machine_model.specs.Deliveries.{delivered, handled, taken, sent_probes, sent_any, sent_if_handled, sent_if_granted, sent_if_answered, with_memory, with_notes, with_less, on_probe_ack, on_release, on_grant}
 use Rattle.machine_model.specs.Views.{Node, State, line_size, place_of, node_at, with_node, with_trace, sent}
 use Rattle.machine_model.specs.Words.{bytes_of_word}
@@ -173,7 +173,7 @@ performs_keeps h [] s = harts_not s
 performs_keeps h (place ∷ places) s = harts_then s _ _ (record { image = refl; config = refl; entries = refl; statuses = refl; count = refl; harts = λ k. refl }) (performs_keeps h places (with_trace (with_performed (record { hart = h; place = place }) s.trace) s))
 
 own_keeps : (h : ℕ) (s : State) → KeepsHarts s (performs_own h s)
-own_keeps h s = performs_keeps h (place_at s h ∷ []) s
+own_keeps h s = performs_keeps h (next_place s h ∷ []) s
 
 writes_keeps : (h word : ℕ) (marks : List Bool) (bytes : List ℕ) (s : State) → KeepsHarts s (writes_word h word marks bytes s)
 writes_keeps h word marks bytes s = node_keeps h _ s refl

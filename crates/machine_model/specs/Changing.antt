@@ -34,8 +34,8 @@ use Rattle.trace_recorder.specs.History.{History, entries_of, with_entry, with_p
 -- ---- the trace
 
 -- how many instructions of a hart have retired: the place of its next one
-abbrev pub place_at : State → ℕ → ℕ
-place_at s h = length (entries_of s.trace h)
+abbrev pub next_place : State → ℕ → ℕ
+next_place s h = length (entries_of s.trace h)
 
 -- these operations of a hart are performed, one after the other
 abbrev pub performs : ℕ → List ℕ → State → State
@@ -44,7 +44,7 @@ performs h (place ∷ places) s = performs h places (with_trace (with_performed 
 
 -- the operation of the instruction that retires is performed
 abbrev pub performs_own : ℕ → State → State
-performs_own h s = performs h (place_at s h ∷ []) s
+performs_own h s = performs h (next_place s h ∷ []) s
 
 abbrev pub with_halt : ℕ → Status → History → History
 with_halt h Running t = t

@@ -16,7 +16,7 @@ use Rattle.machine_types.specs.declared.event.Event.{Event}
 use Rattle.machine_types.specs.declared.event.Event.TheVariants as event
 use Rattle.machine_types.specs.declared.outcome.Outcome.{Outcome}
 use Rattle.machine_types.specs.declared.outcome.Outcome.TheVariants as outcome
-use Rattle.machine_model.specs.Changing.{place_at, acted, outcome_of_act}
+use Rattle.machine_model.specs.Changing.{next_place, acted, outcome_of_act}
 use Rattle.machine_model.specs.Deciding.{writing}
 use Rattle.machine_model.specs.Deliveries.{plan_deliver}
 use Rattle.machine_model.specs.Steps.{plan_step}
@@ -76,7 +76,7 @@ plan_local image n count =
     else Stays outcome.NotLocal
 
 abbrev pub plan_of : State → Event → Plan
-plan_of s (event.Step h) = plan_step s.views.config.model s.trace.image (node_at s h) (place_at s h)
+plan_of s (event.Step h) = plan_step s.views.config.model s.trace.image (node_at s h) (next_place s h)
 plan_of s (event.Drain h word) = plan_drain (node_at s h) word
 plan_of s (event.Evict h line) = plan_evict (node_at s h) line
 plan_of s (event.Deliver channel h) = plan_deliver s h (node_at s h) channel
@@ -92,7 +92,7 @@ entries_by _ = 0
 
 -- so many events have changed the machine, or the hart's list would pass its length
 abbrev pub is_limited : State → ℕ → Act → Bool
-is_limited s h a = nat_le MAX_CHANGES s.views.changes || nat_lt MAX_ENTRIES (place_at s h + entries_by a)
+is_limited s h a = nat_le MAX_CHANGES s.views.changes || nat_lt MAX_ENTRIES (next_place s h + entries_by a)
 
 -- ---- the meaning
 

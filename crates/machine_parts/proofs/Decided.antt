@@ -12,7 +12,7 @@ use Rattle.machine_types.specs.declared.event.Event.{Event}
 use Rattle.machine_types.specs.declared.outcome.Outcome.{Outcome}
 use Rattle.machine_model.specs.declared.act.Act.TheVariants as act
 use Rattle.machine_types.specs.declared.outcome.Outcome.TheVariants.{Stopped}
-use Rattle.machine_model.specs.Changing.{acted, outcome_by, outcome_of_act, place_at}
+use Rattle.machine_model.specs.Changing.{acted, outcome_by, outcome_of_act, next_place}
 use Rattle.machine_model.specs.Events.{Verdict, counted, entries_by, hart_of, is_good, is_limited, plan_of, verdict, verdict_by}
 use Rattle.machine_model.specs.Events.Verdict.{IsBad, Keeps, IsLimited, Moves}
 use Rattle.machine_model.specs.Ready.{AreReady, IsReady}
@@ -58,10 +58,10 @@ ready s h e a own all is =
     let found = acts s e a is in
     subst (λ (k : ℕ). IsReady k a s) (sym own) (all e a found.good found.plan found.fits)
 
-pub in_list : (s : State) (h : ℕ) (e : Event) (a : Act) → h ≡ hart_of e → decided s e ≡ Ok (Changes a) → place_at s h + entries_by a ≤ MAX_ENTRIES
+pub in_list : (s : State) (h : ℕ) (e : Event) (a : Act) → h ≡ hart_of e → decided s e ≡ Ok (Changes a) → next_place s h + entries_by a ≤ MAX_ENTRIES
 in_list s h e a own is =
-    let limits = or_parts (nat_le MAX_CHANGES s.views.changes) (nat_lt MAX_ENTRIES (place_at s (hart_of e) + entries_by a)) (acts s e a is).fits in
-    subst (λ (k : ℕ). place_at s k + entries_by a ≤ MAX_ENTRIES) (sym own) (ltb-false MAX_ENTRIES (place_at s (hart_of e) + entries_by a) limits.1)
+    let limits = or_parts (nat_le MAX_CHANGES s.views.changes) (nat_lt MAX_ENTRIES (next_place s (hart_of e) + entries_by a)) (acts s e a is).fits in
+    subst (λ (k : ℕ). next_place s k + entries_by a ≤ MAX_ENTRIES) (sym own) (ltb-false MAX_ENTRIES (next_place s (hart_of e) + entries_by a) limits.1)
 
 -- ---- the verdict
 

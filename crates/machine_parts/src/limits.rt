@@ -2,7 +2,7 @@
 
 ghost use Rattle.std.specs.Prelude.{◌≡◌, ◌+◌, ◌<◌, ◌≤◌, ◌^◌, ℕ, IsOk, IsTrue, OnOk, false, length};
 ghost use Rattle.machine_model.specs.declared.act.Act.{Act};
-ghost use Rattle.machine_model.specs.Changing.{place_at, outcome_of_act};
+ghost use Rattle.machine_model.specs.Changing.{next_place, outcome_of_act};
 ghost use Rattle.machine_model.specs.Changing.{outcome_by as spec_outcome_by};
 ghost use Rattle.machine_model.specs.Events.{entries_by as spec_entries_by, is_limited as spec_is_limited};
 ghost use Rattle.machine_model.specs.Ready.{IsReadyAct, IsSound};
@@ -24,7 +24,7 @@ pub(crate) fn is_limited(parts: &Parts, hart: u8, act: &Act) -> bool
     requires sound { IsSound (state_of parts.now) }
     requires hart { hart < length parts.now.nodes.items }
     ensures exact { result ≡ spec_is_limited (state_of parts.now) hart act.now }
-    ensures fits { result ≡ false → place_at (state_of parts.now) hart + spec_entries_by act.now ≤ MAX_ENTRIES }
+    ensures fits { result ≡ false → next_place (state_of parts.now) hart + spec_entries_by act.now ≤ MAX_ENTRIES }
 {
     let entries = parts.trace.entries(hart as usize).len();
     parts.changes >= MAX_CHANGES || entries + entries_by(act) > MAX_ENTRIES

@@ -35,7 +35,7 @@ pub(crate) fn perform(parts: &mut Parts, hart: u8, act: &Act) -> Result<(), Allo
     requires sound { IsSound (state_of parts.old) }
     requires hart { hart < length parts.old.nodes.items }
     requires ready { IsReady hart act.now (state_of parts.old) }
-    requires fits { changing.place_at (state_of parts.old) hart + events.entries_by act.now ≤ MAX_ENTRIES }
+    requires fits { changing.next_place (state_of parts.old) hart + events.entries_by act.now ≤ MAX_ENTRIES }
     requires room { HasNeeded hart (needs_of (state_of parts.old) hart act.now) parts.old.trace.room }
     ensures ok { OnOk result (state_of parts.new ≡ changing.acted hart act.now (state_of parts.old)) }
     ensures err { OnErr result (state_of parts.new ≡ state_of parts.old) }

@@ -9,7 +9,7 @@ mod miss;
 mod step;
 
 ghost use Rattle.std.specs.Prelude.{◌≡◌, ◌<◌, ◌≤◌, IsTrue, length};
-ghost use Rattle.machine_model.specs.Changing.{place_at};
+ghost use Rattle.machine_model.specs.Changing.{next_place};
 ghost use Rattle.machine_model.specs.Events.{hart_of, is_good, is_piece, names_well, plan_of};
 ghost use Rattle.machine_model.specs.Ready.{IsSound};
 ghost use Rattle.machine_model.specs.Views.{node_at};
@@ -86,7 +86,7 @@ impl Parts {
     fn place_at(&self, hart: u8) -> u32
         requires sound { IsSound (state_of self.now) }
         requires hart { hart < length self.now.nodes.items }
-        ensures { result ≡ place_at (state_of self.now) hart }
+        ensures { result ≡ next_place (state_of self.now) hart }
     {
         self.trace.entries(hart as usize).len() as u32
     }

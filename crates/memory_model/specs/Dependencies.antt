@@ -1,6 +1,7 @@
 -- Dependencies through registers (RISC-V Unprivileged ISA 20191213, chapter 14.1, "Syntactic Dependencies", and 14.3).
--- Every instruction carries from each of its sources to its destination, which asks at least what the standard asks. An SC
--- that failed writes its destination too (chapter 8.2), so a dependency through that register ends there.
+-- Every instruction carries from each of its sources to its destination, which asks at least what the standard asks, but in one
+-- place: an SC that failed writes its destination too (chapter 8.2), so a dependency through that register ends there, where the
+-- table of 14.3 has that destination of an SC that succeeded alone.
 use Rattle.std.specs.Prelude.{ℕ, Bool, true, false, ◌&&◌, ◌||◌, nat_lt, List, [], ◌∷◌, ◌++◌, Option, Some, None, filter, replicate, slice_get, slice_index_or, slice_set}
 use Rattle.std.specs.List.{list_any}
 use Rattle.rv32_decode.specs.declared.instruction.Instr.{Instr}

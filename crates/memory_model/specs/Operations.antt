@@ -62,15 +62,15 @@ overlap a b = nat_lt a.address (b.address + b.size) && nat_lt b.address (a.addre
 
 -- the byte at x of a number that lies at an address: the least significant first (chapter 2.6 leaves the order of bytes to
 -- the machine; this one is little endian)
-abbrev pub byte_at : ℕ → ℕ → ℕ → ℕ
-byte_at address number x = number / 256 ^ (x - address) % 256
+abbrev pub byte_of_number : ℕ → ℕ → ℕ → ℕ
+byte_of_number address number x = number / 256 ^ (x - address) % 256
 
 -- the byte at x that an operation read, and the one that it wrote
 abbrev pub read_at : Operation → ℕ → ℕ
-read_at a x = byte_at a.address a.read x
+read_at a x = byte_of_number a.address a.read x
 
 abbrev pub written_at : Operation → ℕ → ℕ
-written_at a x = byte_at a.address a.written x
+written_at a x = byte_of_number a.address a.written x
 
 -- it has an acquire annotation: by its bit aq (chapter 8.1), and under Ztso as a load, an LR or an AMO (chapter 23)
 abbrev pub has_acquire : MemoryModel → Operation → Bool

@@ -82,7 +82,7 @@ fn reason(rule: Rule) -> &'static str {
     match rule {
         Rule::OverlappingStore => "the second is a store to a byte of the first",
         Rule::SameByteLoads =>
-            "both load a byte, from different stores, and no store to it is between",
+            "both load a byte, from different writes, and no store to it is between",
         Rule::AtomicSource => "the second loads what the first, an AMO or SC, wrote",
         Rule::Fence => "a FENCE between them orders them",
         Rule::Acquire => "the first acquires, as each load does under Ztso",
@@ -91,7 +91,8 @@ fn reason(rule: Rule) -> &'static str {
         Rule::Pair => "they are an LR and its SC",
         Rule::Address => "the second's address depends on the first",
         Rule::Data => "what the second stores depends on the first",
-        Rule::Control => "the second is a store, behind a branch that depends on the first",
+        Rule::Control =>
+            "the second is a store, behind a branch or a JALR that depends on the first",
         Rule::DependentStore => {
             "the second loads what a store between them wrote, which depends on the first"
         }

@@ -1,6 +1,7 @@
 -- What a hart's core did in an event.
 use Rattle.std.specs.Prelude.{ℕ, ◌==◌, Bool, true, false, List, [], ◌∷◌, ◌++◌, Option, Some, None, map, slice_get, if◌then◌else◌}
 use Rattle.std.specs.List.{flat_map}
+use Rattle.std.specs.Option.{option_to_list}
 use Rattle.chart_rows.specs.declared.rows.Note.{Note}
 use Rattle.chart_rows.specs.declared.rows.Note.TheVariants as note
 use Rattle.event_stream.specs.Reports.{Report}
@@ -9,10 +10,6 @@ use Rattle.machine_types.specs.declared.outcome.Outcome.{Outcome}
 use Rattle.machine_types.specs.declared.outcome.Outcome.TheVariants.{Exited, Stopped}
 use Rattle.trace_recorder.specs.History.{History, entries_of}
 use Rattle.trace_recorder.specs.declared.operation.OpId.{OpId}
-
-abbrev pub listed : Option Note → List Note
-listed None = []
-listed (Some n) = n ∷ []
 
 abbrev pub as_performed : Option Retired → Option Note
 as_performed None = None
@@ -23,7 +20,7 @@ abbrev pub performed : History → OpId → Option Note
 performed t op = as_performed (slice_get (entries_of t op.hart) op.place)
 
 abbrev pub performed_note : History → OpId → List Note
-performed_note t op = listed (performed t op)
+performed_note t op = option_to_list (performed t op)
 
 -- what was performed, where nothing retired: what retires tells by itself what it performed
 abbrev pub stores : History → List Retired → List OpId → List Note
@@ -50,4 +47,4 @@ end _ = None
 
 -- what retired, or else what was performed; what was put out; the reservation; the hart's end
 abbrev pub notes : History → Report → Option ℕ → Option ℕ → List Note
-notes t r before now = (((map note.Retired r.entries ++ stores t r.entries r.performed) ++ map note.PutOut r.output) ++ listed (reservation before now)) ++ listed (end r.outcome)
+notes t r before now = (((map note.Retired r.entries ++ stores t r.entries r.performed) ++ map note.PutOut r.output) ++ option_to_list (reservation before now)) ++ option_to_list (end r.outcome)

@@ -1,11 +1,11 @@
 -- Words of the opcodes whose rows look at funct7.
 use Rattle.std.proofs.Common.{◌≡◌, ℕ, ◌/◌, ◌%◌, cond, Some, None, refl, ◌∙◌, arith, bit_and, lit<}
 use Rattle.std.specs.Prelude.{◌==◌, nat_eq}
-use Rattle.std.specs.Option.{option_map}
+use Rattle.std.specs.Option.{option_map, option_or}
 use Rattle.rv32_decode.specs.Fields.{rd_of, rs1_of, rs2_of, imm_i}
 use Rattle.rv32_decode.specs.Rows.{Row, Name, rows, is_in, decoded, instr_of, is_tso}
 use Rattle.rv32_decode.specs.Rows as name
-use Rattle.rv32_decode.specs.Decoding.{immediate_of, shift_of, register_of, or_else}
+use Rattle.rv32_decode.specs.Decoding.{immediate_of, shift_of, register_of}
 use Rattle.rv32_decode.specs.declared.instruction.Instr.TheVariants as instr
 use Rattle.rv32_decode.specs.declared.instruction.ShiftOp.TheVariants as shift
 use Rattle.rv32_decode.specs.declared.instruction.RegisterOp.TheVariants as register
@@ -14,9 +14,9 @@ use Rattle.rv32_decode.proofs.Table.{decoded_among}
 use Rattle.rv32_decode.proofs.Cases.{by_eight, under, test_7, choose, found}
 
 pub decoded_immediate : (w : ℕ) → w % 128 ≡ 0x13
-    → decoded w ≡ or_else (option_map (λ op. instr.Immediate op (rd_of w) (rs1_of w) (imm_i w)) (immediate_of (w / 4096 % 8))) (option_map (λ op. instr.Shift op (rd_of w) (rs1_of w) (rs2_of w)) (shift_of (w / 4096 % 8) (w / 33554432 % 128)))
+    → decoded w ≡ option_or (option_map (λ op. instr.Immediate op (rd_of w) (rs1_of w) (imm_i w)) (immediate_of (w / 4096 % 8))) (option_map (λ op. instr.Shift op (rd_of w) (rs1_of w) (rs2_of w)) (shift_of (w / 4096 % 8) (w / 33554432 % 128)))
 decoded_immediate w o =
-    by_eight (λ f. w / 4096 % 8 ≡ f → decoded w ≡ or_else (option_map (λ op. instr.Immediate op (rd_of w) (rs1_of w) (imm_i w)) (immediate_of f)) (option_map (λ op. instr.Shift op (rd_of w) (rs1_of w) (rs2_of w)) (shift_of f (w / 33554432 % 128))))
+    by_eight (λ f. w / 4096 % 8 ≡ f → decoded w ≡ option_or (option_map (λ op. instr.Immediate op (rd_of w) (rs1_of w) (imm_i w)) (immediate_of f)) (option_map (λ op. instr.Shift op (rd_of w) (rs1_of w) (rs2_of w)) (shift_of f (w / 33554432 % 128))))
     (λ e. decoded_among w 0x13 0 o e ∙ found w (name.row 0x707f 0x0013 (name.Immediate immediate.Addi)) (under w 0x13 0 o e))
     (λ e. decoded_among w 0x13 1 o e ∙ (choose (λ (r : Row). instr_of r.name w) (λ op. instr.Shift op (rd_of w) (rs1_of w) (rs2_of w)) (name.row 0xfe00707f 0x00001013 (name.Shift shift.Slli)) shift.Slli (nat_eq (bit_and w 0xfe00707f) 0x00001013) (w / 33554432 % 128 == 0) (None) (None) (test_7 w 0x13 1 0 (lit< tt) o e) refl refl))
     (λ e. decoded_among w 0x13 2 o e ∙ found w (name.row 0x707f 0x2013 (name.Immediate immediate.Slti)) (under w 0x13 2 o e))

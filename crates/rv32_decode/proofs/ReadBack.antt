@@ -1,8 +1,8 @@
 -- The instruction that a word with fields is, where opcode and funct3 tell it, is the one that the word was put together for.
 use Rattle.std.proofs.Common.{◌≡◌, ℕ, ◌+◌, ◌*◌, ◌/◌, ◌%◌, ◌^◌, ◌<◌, Option, Some, None, cond, refl, ap, ◌∙◌, arith, lit<}
-use Rattle.std.specs.Option.{option_map}
+use Rattle.std.specs.Option.{option_map, option_or}
 use Rattle.std.specs.Prelude.{◌==◌}
-use Rattle.rv32_decode.specs.Decoding.{branch_of, load_of, store_of, immediate_of, or_else}
+use Rattle.rv32_decode.specs.Decoding.{branch_of, load_of, store_of, immediate_of}
 use Rattle.rv32_decode.specs.Encoding.{part, branch_low, branch_high, jump_high, branch_funct3, load_funct3, store_funct3, immediate_funct3, encoded}
 use Rattle.rv32_decode.specs.Fields.{rd_of, rs1_of, rs2_of, imm_i, imm_s, imm_b, imm_u, imm_j}
 use Rattle.rv32_decode.specs.Ranges.{IsSigned, IsMultiple}
@@ -120,11 +120,11 @@ store_found w op rs1 rs2 offset h b l s =
     ∙ parts
 
 immediate_found : (w : ℕ) (op : ImmediateOp) (rd rs1 imm : ℕ) (others : Option Instr) → rd_of w ≡ rd → rs1_of w ≡ rs1 → imm_i w ≡ imm → w / 4096 % 8 ≡ immediate_funct3 op
-    → or_else (option_map (λ op. instr.Immediate op (rd_of w) (rs1_of w) (imm_i w)) (immediate_of (w / 4096 % 8))) others ≡ Some (instr.Immediate op rd rs1 imm)
+    → option_or (option_map (λ op. instr.Immediate op (rd_of w) (rs1_of w) (imm_i w)) (immediate_of (w / 4096 % 8))) others ≡ Some (instr.Immediate op rd rs1 imm)
 immediate_found w op rd rs1 imm others d f i e =
     let parts : Some (instr.Immediate op (rd_of w) (rs1_of w) (imm_i w)) ≡ Some (instr.Immediate op rd rs1 imm) = cc (d, f, i) in
-    ap (λ f. or_else (option_map (λ op. instr.Immediate op (rd_of w) (rs1_of w) (imm_i w)) (immediate_of f)) others) e
-    ∙ ap (λ o. or_else (option_map (λ op. instr.Immediate op (rd_of w) (rs1_of w) (imm_i w)) o) others) (immediate_named op)
+    ap (λ f. option_or (option_map (λ op. instr.Immediate op (rd_of w) (rs1_of w) (imm_i w)) (immediate_of f)) others) e
+    ∙ ap (λ o. option_or (option_map (λ op. instr.Immediate op (rd_of w) (rs1_of w) (imm_i w)) o) others) (immediate_named op)
     ∙ parts
 
 -- ---- the words of instructions

@@ -1,8 +1,8 @@
 -- The same of the words that funct7 tells apart, and of a FENCE.
 use Rattle.std.proofs.Common.{◌≡◌, ℕ, ◌+◌, ◌*◌, ◌/◌, ◌%◌, ◌^◌, ◌<◌, ◌&&◌, Some, None, cond, refl, ap, ◌∙◌, arith, lit<}
-use Rattle.std.specs.Option.{option_map}
+use Rattle.std.specs.Option.{option_map, option_or}
 use Rattle.std.specs.Prelude.{◌==◌}
-use Rattle.rv32_decode.specs.Decoding.{immediate_of, shift_of, register_of, or_else}
+use Rattle.rv32_decode.specs.Decoding.{immediate_of, shift_of, register_of}
 use Rattle.rv32_decode.specs.Encoding.{shift_funct3, shift_funct7, register_funct3, register_funct7, encoded}
 use Rattle.rv32_decode.specs.Fence.{Sets}
 use Rattle.rv32_decode.specs.Fields.{rd_of, rs1_of, rs2_of, imm_i, fences_of}
@@ -103,8 +103,8 @@ shift_found w op rd rs1 amount h b =
     let amount_is : rs2_of w ≡ amount = second w (amount + shift_funct7 op * 2 ^ 5) amount (shift_funct7 op) h.high refl b in
     let parts : Some (instr.Shift op (rd_of w) (rs1_of w) (rs2_of w)) ≡ Some (instr.Shift op rd rs1 amount) = cc (h.destination, h.first, amount_is) in
     decoded_immediate w h.opcode
-    ∙ ap (λ f. or_else (option_map (λ op. instr.Immediate op (rd_of w) (rs1_of w) (imm_i w)) (immediate_of f)) (option_map (λ op. instr.Shift op (rd_of w) (rs1_of w) (rs2_of w)) (shift_of f (w / 33554432 % 128)))) h.funct3
-    ∙ ap (λ o. or_else (option_map (λ op. instr.Immediate op (rd_of w) (rs1_of w) (imm_i w)) o) (option_map (λ op. instr.Shift op (rd_of w) (rs1_of w) (rs2_of w)) (shift_of (shift_funct3 op) (w / 33554432 % 128)))) (not_immediate op)
+    ∙ ap (λ f. option_or (option_map (λ op. instr.Immediate op (rd_of w) (rs1_of w) (imm_i w)) (immediate_of f)) (option_map (λ op. instr.Shift op (rd_of w) (rs1_of w) (rs2_of w)) (shift_of f (w / 33554432 % 128)))) h.funct3
+    ∙ ap (λ o. option_or (option_map (λ op. instr.Immediate op (rd_of w) (rs1_of w) (imm_i w)) o) (option_map (λ op. instr.Shift op (rd_of w) (rs1_of w) (rs2_of w)) (shift_of (shift_funct3 op) (w / 33554432 % 128)))) (not_immediate op)
     ∙ ap (λ g. option_map (λ op. instr.Shift op (rd_of w) (rs1_of w) (rs2_of w)) (shift_of (shift_funct3 op) g)) high
     ∙ ap (option_map (λ op. instr.Shift op (rd_of w) (rs1_of w) (rs2_of w))) (shift_named op)
     ∙ parts

@@ -1,6 +1,6 @@
 -- The operations by their fields, for the decoder's own functions: `decoded`, and so the contract of `decode`, rests on the rows alone.
 use Rattle.std.specs.Prelude.{ℕ, ◌&&◌, ◌==◌, if◌then◌else◌, Option, Some, None}
-use Rattle.std.specs.Option.{option_map}
+use Rattle.std.specs.Option.{option_map, option_or}
 use Rattle.rv32_decode.specs.Fields.{rd_of, rs1_of, rs2_of, funct3_of, funct5_of, funct7_of, imm_i, imm_s, imm_b, annotations_of, fences_of}
 use Rattle.rv32_decode.specs.Rows.{is_tso}
 use Rattle.rv32_decode.specs.declared.instruction.Instr.{Instr}
@@ -70,12 +70,8 @@ store_at w = option_map (λ op. instr.Store op (rs1_of w) (rs2_of w) (imm_s w)) 
 abbrev pub shift_at : ℕ → Option Instr
 shift_at w = option_map (λ op. instr.Shift op (rd_of w) (rs1_of w) (rs2_of w)) (shift_of (funct3_of w) (funct7_of w))
 
-abbrev pub or_else : Option Instr → Option Instr → Option Instr
-or_else None y = y
-or_else (Some x) y = Some x
-
 abbrev pub immediate_at : ℕ → Option Instr
-immediate_at w = or_else (option_map (λ op. instr.Immediate op (rd_of w) (rs1_of w) (imm_i w)) (immediate_of (funct3_of w))) (shift_at w)
+immediate_at w = option_or (option_map (λ op. instr.Immediate op (rd_of w) (rs1_of w) (imm_i w)) (immediate_of (funct3_of w))) (shift_at w)
 
 abbrev pub register_at : ℕ → Option Instr
 register_at w = option_map (λ op. instr.Register op (rd_of w) (rs1_of w) (rs2_of w)) (register_of (funct3_of w) (funct7_of w))

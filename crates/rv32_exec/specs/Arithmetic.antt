@@ -1,5 +1,6 @@
 -- What instructions compute from whole numbers below 2^32 (RISC-V Unprivileged ISA 20191213, chapters 2.4, 2.5, 2.6 and 7).
 use Rattle.std.specs.Prelude.{ℕ, ◌+◌, ◌-◌, ◌*◌, ◌/◌, ◌%◌, ◌^◌, Bool, not, ◌==◌, nat_lt, if◌then◌else◌, bit_and, bit_or, bit_xor, pos, ◌*ℤ◌, int_lt, int_div, int_rem}
+use Rattle.rv32_decode.specs.Encoding.{bit}
 use Rattle.rv32_decode.specs.Fields.{extended_by}
 use Rattle.rv32_decode.specs.Numbers.{signed, modulo, floored}
 use Rattle.rv32_decode.specs.declared.instruction.BranchOp.{BranchOp}
@@ -21,9 +22,6 @@ sum32 a b = (a + b) % 2 ^ 32
 abbrev pub difference32 : ℕ → ℕ → ℕ
 difference32 a b = (a + (2 ^ 32 - b)) % 2 ^ 32
 
-abbrev pub one_if : Bool → ℕ
-one_if b = if b then 1 else 0
-
 -- shifts to the left, to the right with zeros, and to the right with the sign
 abbrev pub shifted_left : ℕ → ℕ → ℕ
 shifted_left a amount = a * 2 ^ amount % 2 ^ 32
@@ -39,8 +37,8 @@ abbrev pub computed : RegisterOp → ℕ → ℕ → ℕ
 computed Add a b = sum32 a b
 computed Sub a b = difference32 a b
 computed Sll a b = shifted_left a (b % 32)
-computed Slt a b = one_if (int_lt (signed a) (signed b))
-computed Sltu a b = one_if (nat_lt a b)
+computed Slt a b = bit (int_lt (signed a) (signed b))
+computed Sltu a b = bit (nat_lt a b)
 computed Xor a b = bit_xor a b
 computed Srl a b = shifted_right a (b % 32)
 computed Sra a b = shifted_signed a (b % 32)
@@ -58,8 +56,8 @@ computed Remu a b = if b == 0 then a else a % b
 -- the same with an immediate, which is sign-extended
 abbrev pub computed_immediate : ImmediateOp → ℕ → ℕ → ℕ
 computed_immediate Addi a imm = sum32 a imm
-computed_immediate Slti a imm = one_if (int_lt (signed a) (signed imm))
-computed_immediate Sltiu a imm = one_if (nat_lt a imm)
+computed_immediate Slti a imm = bit (int_lt (signed a) (signed imm))
+computed_immediate Sltiu a imm = bit (nat_lt a imm)
 computed_immediate Xori a imm = bit_xor a imm
 computed_immediate Ori a imm = bit_or a imm
 computed_immediate Andi a imm = bit_and a imm

@@ -13,10 +13,6 @@ pub record Uses : Type 0 where
   pub written : List ℕ
 
 -- a register, where there is one
-abbrev pub registers_in : Option ℕ → List ℕ
-registers_in None = []
-registers_in (Some r) = r ∷ []
-
 abbrev pub named : ℕ → List ℕ
 named register = if register == 0 then [] else (register ∷ [])
 

@@ -1,12 +1,13 @@
 //! Which registers an instruction reads, and for what, and which it writes (RISC-V Unprivileged ISA 20191213,
 //! chapters 14.1, "Syntactic Dependencies", and 14.3). x0 is never one of them, since nothing comes from it.
 ghost use Rattle.std.specs.Prelude.{◌≡◌, ◌++◌};
-ghost use Rattle.rv32_exec.specs.Uses.{named, registers_in, uses_of};
+ghost use Rattle.std.specs.Option.{option_to_list};
+ghost use Rattle.rv32_exec.specs.Uses.{named, uses_of};
 
 use rv32_decode::{Instr, Register};
 
 fn but_x0(register: Register) -> Option<Register>
-    ensures { named register ≡ registers_in result }
+    ensures { named register ≡ option_to_list result }
 {
     if register.number() == 0 {
         None
@@ -17,7 +18,7 @@ fn but_x0(register: Register) -> Option<Register>
 
 /// The register that an instruction writes.
 pub fn destination(instr: &Instr) -> Option<Register>
-    ensures { (uses_of instr.now).written ≡ registers_in result }
+    ensures { (uses_of instr.now).written ≡ option_to_list result }
 {
     match *instr {
         Instr::Upper { rd, .. }
@@ -40,7 +41,7 @@ pub fn destination(instr: &Instr) -> Option<Register>
 
 /// The register that an access takes its address from.
 pub fn address_register(instr: &Instr) -> Option<Register>
-    ensures { (uses_of instr.now).address ≡ registers_in result }
+    ensures { (uses_of instr.now).address ≡ option_to_list result }
 {
     match *instr {
         Instr::Load { rs1, .. }
@@ -63,7 +64,7 @@ pub fn address_register(instr: &Instr) -> Option<Register>
 
 /// The register whose number is stored.
 pub fn stored_register(instr: &Instr) -> Option<Register>
-    ensures { (uses_of instr.now).stored ≡ registers_in result }
+    ensures { (uses_of instr.now).stored ≡ option_to_list result }
 {
     match *instr {
         Instr::Store { rs2, .. } | Instr::Sc { rs2, .. } | Instr::Amo { rs2, .. } => but_x0(rs2),
@@ -84,7 +85,7 @@ pub fn stored_register(instr: &Instr) -> Option<Register>
 
 /// The registers that are read for anything else.
 pub fn other_registers(instr: &Instr) -> (Option<Register>, Option<Register>)
-    ensures { (uses_of instr.now).other ≡ registers_in result.0 ++ registers_in result.1 }
+    ensures { (uses_of instr.now).other ≡ option_to_list result.0 ++ option_to_list result.1 }
 {
     match *instr {
         Instr::Jalr { rs1, .. } | Instr::Immediate { rs1, .. } | Instr::Shift { rs1, .. } => {

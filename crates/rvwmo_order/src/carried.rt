@@ -1,7 +1,8 @@
 //! What came from operations, carried forward along a hart's list: for each of x0 to x31 the greatest weight
 //! of the operations that what it holds came from.
 ghost use Rattle.std.specs.Prelude.{◌≡◌};
-ghost use Rattle.rv32_exec.specs.Uses.{registers_in, uses_of};
+ghost use Rattle.std.specs.Option.{option_to_list};
+ghost use Rattle.rv32_exec.specs.Uses.{uses_of};
 ghost use Rattle.memory_model.specs.Dependencies as dependencies;
 ghost use Rattle.rvwmo_order.specs.Carried as spec;
 ghost use Rattle.rvwmo_order.specs.Carried.{greatest};
@@ -94,7 +95,7 @@ impl Carried {
     }
 
     fn in_register(&self, register: Option<Register>) -> usize
-        ensures { result ≡ greatest self.now.registers (registers_in register) }
+        ensures { result ≡ greatest self.now.registers (option_to_list register) }
     {
         match register {
             Some(register) => self.registers[register.number() as usize],

@@ -67,7 +67,7 @@ pub(crate) fn is_step(image: &Image, hart: &Hart, entry: &Retired, instr: &Optio
 // Whether the entry's instruction doesn't stop, and has the answers that its kind has.
 fn does(size: u32, hart: &Hart, entry: &Retired, instr: &Option<Instr>) -> bool
     requires { IsMemorySize size }
-    ensures { result ≡ spec.does size hart.now entry.now instr.now }
+    ensures { result ≡ spec.can_do size hart.now entry.now instr.now }
 {
     match instr {
         Some(instr) => stop_of(size, hart, instr).is_none() && has_answers(instr, entry),

@@ -3,8 +3,9 @@
 //! instruction is marked where it writes one of them.
 ghost use Rattle.std.specs.Prelude.{◌≡◌, ◌≤◌, ◌-◌, ◌++◌, OnOk, Some, if◌then◌else◌, false, length, replicate, slice_index_or, true, []};
 ghost use Rattle.std.specs.List.{list_any};
+ghost use Rattle.std.specs.Option.{option_to_list};
 ghost use Rattle.memory_model.specs.Order as orders;
-ghost use Rattle.rv32_exec.specs.Uses.{registers_in, uses_of};
+ghost use Rattle.rv32_exec.specs.Uses.{uses_of};
 ghost use Rattle.memory_model.specs.Dependencies as dependencies;
 ghost use Rattle.memory_model.specs.Dependencies.{holds, uses_at, uses_in, with_flags};
 ghost use Rattle.rvwmo_order.specs.Marks as spec;
@@ -258,7 +259,7 @@ fn want_sources(wanted: &mut [bool; 32], instr: &Instr)
 }
 
 fn want(wanted: &mut [bool; 32], register: Option<Register>)
-    ensures { wanted.new ≡ with_flags wanted.old true (registers_in register) }
+    ensures { wanted.new ≡ with_flags wanted.old true (option_to_list register) }
 {
     if let Some(register) = register {
         wanted[register.number() as usize] = true;

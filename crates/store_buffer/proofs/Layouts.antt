@@ -6,11 +6,12 @@ use Rattle.std.proofs.lemmas.List.{take_at, drop_at, drop-drop, take-append-le, 
 use Rattle.std.proofs.lemmas.Bool.{false≢true, eqb-true, ne_eqb, lt-ltb, ltb-true}
 use Rattle.std.proofs.lemmas.Bool.Decides.{nat_tests}
 use Rattle.std.proofs.lemmas.List.Sums.{sum_by-cons, sum_by-append, sum_by-take-le}
+use Rattle.std.specs.Option.{option_or}
 use Rattle.machine_limits.specs.declared.TheConstants.{BUFFER_ENTRIES}
 use Rattle.store_buffer.specs.declared.entry.Entry.{Entry}
 use Rattle.store_buffer.specs.declared.entry.Store.{Store}
-use Rattle.store_buffer.specs.Entry.{blank_entry, joined, byte_at, has_word, entry_of, with_store, without}
-use Rattle.store_buffer.specs.Groups.{Groups, groups_of, fits, HaveDistinctWords, IsLawful, is_nil, kept, or_else, total_count, entry_count, any_has_word, buffered_byte, oldest_from, is_empty, after_put, after_put_single, after_seal, after_take}
+use Rattle.store_buffer.specs.Entry.{blank_entry, joined, marked_byte, has_word, entry_of, with_store, without}
+use Rattle.store_buffer.specs.Groups.{Groups, groups_of, fits, HaveDistinctWords, IsLawful, is_nil, kept, total_count, entry_count, any_has_word, buffered_byte, oldest_from, is_empty, after_put, after_put_single, after_seal, after_take}
 use Rattle.store_buffer.specs.Layout.{sealed_in, groups_in, AreGroupsLaidOut, byte_in, newest_byte, one_less}
 use Rattle.store_buffer.proofs.Places.{has_word-append, without-append, length-without, entry_of-append, with_store-new, with_store-old, put-adds, HaveDistinctWords-with_store, HaveDistinctWords-without}
 
@@ -96,37 +97,37 @@ any_has_word-groups_in word (n ∷ ns) es =
 
 -- ---- the newest byte
 
-pub or_else-assoc : (a b c : Option ℕ) → or_else (or_else a b) c ≡ or_else a (or_else b c)
+pub or_else-assoc : (a b c : Option ℕ) → option_or (option_or a b) c ≡ option_or a (option_or b c)
 or_else-assoc None b c = refl
 or_else-assoc (Some x) b c = refl
 
-pub newest_byte-append : (word k : ℕ) (xs ys : List Entry) → newest_byte word k (xs ++ ys) ≡ or_else (newest_byte word k ys) (newest_byte word k xs)
+pub newest_byte-append : (word k : ℕ) (xs ys : List Entry) → newest_byte word k (xs ++ ys) ≡ option_or (newest_byte word k ys) (newest_byte word k xs)
 newest_byte-append word k [] ys = go (newest_byte word k ys)
   where
-    go : (o : Option ℕ) → o ≡ or_else o None
+    go : (o : Option ℕ) → o ≡ option_or o None
     go None = refl
     go (Some x) = refl
 newest_byte-append word k (e ∷ xs) ys =
-    ap (λ o. or_else o (byte_in word k e)) (newest_byte-append word k xs ys) ∙ or_else-assoc (newest_byte word k ys) (newest_byte word k xs) (byte_in word k e)
+    ap (λ o. option_or o (byte_in word k e)) (newest_byte-append word k xs ys) ∙ or_else-assoc (newest_byte word k ys) (newest_byte word k xs) (byte_in word k e)
 
 newest_byte-none : (word k : ℕ) (g : List Entry) → has_word word g ≡ false → newest_byte word k g ≡ None
 newest_byte-none word k [] h = refl
 newest_byte-none word k (e ∷ g) h = go (e.word == word) h (newest_byte-none word k g)
   where
     go : (b : Bool) → (b || has_word word g) ≡ false → (has_word word g ≡ false → newest_byte word k g ≡ None)
-        → or_else (newest_byte word k g) (cond b (byte_at k e) None) ≡ None
+        → option_or (newest_byte word k g) (cond b (marked_byte k e) None) ≡ None
     go true p rest = absurd (cc)
     go false p rest = rw (rest p) refl
 
-pub or_none : (o : Option ℕ) → or_else o None ≡ o
+pub or_none : (o : Option ℕ) → option_or o None ≡ o
 or_none None = refl
 or_none (Some x) = refl
 
 -- in a group it is that of the word's entry
-newest_byte-group : (word k : ℕ) (g : List Entry) → HaveDistinctWords g → newest_byte word k g ≡ byte_at k (entry_of word g)
+newest_byte-group : (word k : ℕ) (g : List Entry) → HaveDistinctWords g → newest_byte word k g ≡ marked_byte k (entry_of word g)
 newest_byte-group word k [] d = go k
   where
-    go : (k : ℕ) → None ≡ byte_at k (blank_entry word)
+    go : (k : ℕ) → None ≡ marked_byte k (blank_entry word)
     go zero = refl
     go (suc zero) = refl
     go (suc (suc zero)) = refl
@@ -134,8 +135,8 @@ newest_byte-group word k [] d = go k
     go (suc (suc (suc (suc k)))) = refl
 newest_byte-group word k (e ∷ g) d = go (e.word == word) refl (newest_byte-group word k g d.1)
   where
-    go : (b : Bool) → (e.word == word) ≡ b → newest_byte word k g ≡ byte_at k (entry_of word g)
-        → or_else (newest_byte word k g) (cond b (byte_at k e) None) ≡ byte_at k (cond b e (entry_of word g))
+    go : (b : Bool) → (e.word == word) ≡ b → newest_byte word k g ≡ marked_byte k (entry_of word g)
+        → option_or (newest_byte word k g) (cond b (marked_byte k e) None) ≡ marked_byte k (cond b e (entry_of word g))
     go true t h = rw (newest_byte-none word k g (ap (λ w. has_word w g) (sym (eqb-true e.word word t)) ∙ d.0)) refl
     go false t h = or_none (newest_byte word k g) ∙ h
 
@@ -144,8 +145,8 @@ pub buffered_byte-groups_in : (word k : ℕ) (ns : List ℕ) (es : List Entry) �
 buffered_byte-groups_in word k [] es d dc = sym (newest_byte-group word k es dc)
 buffered_byte-groups_in word k (n ∷ ns) es d dc =
     ap (λ xs. buffered_byte word k (take n es ∷ (sealed_in ns (drop n es) ++ xs ∷ []))) (drop_of_more n ns es)
-    ∙ ap (λ o. or_else o (byte_at k (entry_of word (take n es)))) (buffered_byte-groups_in word k ns (drop n es) d.1 (subst HaveDistinctWords (drop_of_more n ns es) dc))
-    ∙ ap (or_else (newest_byte word k (drop n es))) (sym (newest_byte-group word k (take n es) d.0))
+    ∙ ap (λ o. option_or o (marked_byte k (entry_of word (take n es)))) (buffered_byte-groups_in word k ns (drop n es) d.1 (subst HaveDistinctWords (drop_of_more n ns es) dc))
+    ∙ ap (option_or (newest_byte word k (drop n es))) (sym (newest_byte-group word k (take n es) d.0))
     ∙ sym (newest_byte-append word k (take n es) (drop n es))
     ∙ ap (newest_byte word k) (take-append-drop n es)
 

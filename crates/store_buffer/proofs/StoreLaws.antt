@@ -4,12 +4,13 @@ use Rattle.std.proofs.lemmas.List.{map-append}
 use Rattle.std.specs.Prelude.{◌==◌, slice_index}
 use Rattle.std.specs.List.{list_any}
 use Rattle.std.proofs.lemmas.Bool.{false≢true, eqb-true, eq-eqb, ne_eqb}
+use Rattle.std.specs.Option.{option_or}
 use Rattle.store_buffer.specs.declared.entry.Entry.{Entry}
 use Rattle.store_buffer.specs.declared.entry.Store.{Store}
 use Rattle.store_buffer.specs.ByteMask.{is_marked}
-use Rattle.store_buffer.specs.Entry.{blank_entry, joined, byte_at, has_word, entry_of, with_store, without}
-use Rattle.store_buffer.specs.Groups.{Groups, HaveDistinctWords, is_nil, is_empty, has_sealed, any_has_word, has, drainable, or_else, kept, oldest, after_put_single, buffered_byte, after_put, after_seal, after_take}
-use Rattle.store_buffer.specs.Stores.{is_to_word, is_elsewhere, merged, entries_from, entries_of, stored_byte, last_byte, OwnWord, OtherWord, PutAppends, EntryIsFilter, OpsAreFilter, ByteIsLast, HasIsAny, TakeFilters, AlwaysDistinct, Waiting, entries_in, all_stores, kept_stores, oldest_stores_from, drained_from, put_behind, sealed_up, oldest_stores, PutIsBehind, PutSingleIsBehind, SealIsUp, OldestIsFirst, TakeIsDrained, ForwardIsLast, HasIsAnyOfAll, DrainableIsAny, EmptyIsNone, SealedIsSome}
+use Rattle.store_buffer.specs.Entry.{blank_entry, joined, marked_byte, has_word, entry_of, with_store, without}
+use Rattle.store_buffer.specs.Groups.{Groups, HaveDistinctWords, is_nil, is_empty, has_sealed, any_has_word, has, drainable, kept, oldest, after_put_single, buffered_byte, after_put, after_seal, after_take}
+use Rattle.store_buffer.specs.Stores.{is_to_word, is_elsewhere, merged, entries_from, entries_of, stored_byte, last_byte, OwnWord, OtherWord, PutAppends, EntryIsFilter, OpsAreFilter, ByteIsLast, HasIsAny, TakeFilters, AlwaysDistinct, WaitingStores, entries_in, all_stores, kept_stores, oldest_stores_from, drained_from, put_behind, sealed_up, oldest_stores, PutIsBehind, PutSingleIsBehind, SealIsUp, OldestIsFirst, TakeIsDrained, ForwardIsLast, HasIsAnyOfAll, DrainableIsAny, EmptyIsNone, SealedIsSome}
 use Rattle.store_buffer.proofs.Places.{with_store-new, with_store-old, has_word-with_store, HaveDistinctWords-with_store}
 use Rattle.store_buffer.proofs.Layouts.{or_else-assoc, or_none, nonempty, kept_some, same_groups, put_joins_own, put_after_seal}
 
@@ -35,30 +36,30 @@ other_word s word (e ∷ es) other = go (e.word == s.word) refl (other_word s wo
         ap (λ b. cond b (joined s e) (entry_of word es)) apart ∙ sym (ap (λ b. cond b e (entry_of word es)) apart)
     go false t h = ap (λ x. cond (e.word == word) e x) h
 
-own_byte : (k : ℕ) (s : Store) (e : Entry) → k < 4 → byte_at k (joined s e) ≡ or_else (cond (is_marked s.mask k) (Some (slice_index s.value k)) None) (byte_at k e)
+own_byte : (k : ℕ) (s : Store) (e : Entry) → k < 4 → marked_byte k (joined s e) ≡ option_or (cond (is_marked s.mask k) (Some (slice_index s.value k)) None) (marked_byte k e)
 own_byte k s e h = go k h
   where
-    bits : (a b : Bool) (x y : ℕ) → cond (a || b) (Some (cond a x y)) None ≡ or_else (cond a (Some x) None) (cond b (Some y) None)
+    bits : (a b : Bool) (x y : ℕ) → cond (a || b) (Some (cond a x y)) None ≡ option_or (cond a (Some x) None) (cond b (Some y) None)
     bits true b x y = refl
     bits false b x y = refl
 
-    go : (k : ℕ) → k < 4 → byte_at k (joined s e) ≡ or_else (cond (is_marked s.mask k) (Some (slice_index s.value k)) None) (byte_at k e)
+    go : (k : ℕ) → k < 4 → marked_byte k (joined s e) ≡ option_or (cond (is_marked s.mask k) (Some (slice_index s.value k)) None) (marked_byte k e)
     go zero h = bits (is_marked s.mask 0) (is_marked e.mask 0) (slice_index s.value 0) (slice_index e.bytes 0)
     go (suc zero) h = bits (is_marked s.mask 1) (is_marked e.mask 1) (slice_index s.value 1) (slice_index e.bytes 1)
     go (suc (suc zero)) h = bits (is_marked s.mask 2) (is_marked e.mask 2) (slice_index s.value 2) (slice_index e.bytes 2)
     go (suc (suc (suc zero))) h = bits (is_marked s.mask 3) (is_marked e.mask 3) (slice_index s.value 3) (slice_index e.bytes 3)
     go (suc (suc (suc (suc k)))) h = absurd (omega arith)
 
-byte-with_store : (word k : ℕ) (s : Store) (es : List Entry) → k < 4 → byte_at k (entry_of word (with_store s es)) ≡ or_else (stored_byte word k s) (byte_at k (entry_of word es))
+byte-with_store : (word k : ℕ) (s : Store) (es : List Entry) → k < 4 → marked_byte k (entry_of word (with_store s es)) ≡ option_or (stored_byte word k s) (marked_byte k (entry_of word es))
 byte-with_store word k s es h = go (s.word == word) refl
   where
     go : (b : Bool) → (s.word == word) ≡ b
-        → byte_at k (entry_of word (with_store s es)) ≡ or_else (cond (b && is_marked s.mask k) (Some (slice_index s.value k)) None) (byte_at k (entry_of word es))
+        → marked_byte k (entry_of word (with_store s es)) ≡ option_or (cond (b && is_marked s.mask k) (Some (slice_index s.value k)) None) (marked_byte k (entry_of word es))
     go true t =
         let own = eqb-true s.word word t in
-        ap (λ w. byte_at k (entry_of w (with_store s es))) (sym own) ∙ ap (byte_at k) (own_word s es) ∙ own_byte k s (entry_of s.word es) h
-        ∙ ap (λ w. or_else (cond (is_marked s.mask k) (Some (slice_index s.value k)) None) (byte_at k (entry_of w es))) own
-    go false t = ap (byte_at k) (other_word s word es (λ own. false≢true (sym t ∙ eq-eqb s.word word own)))
+        ap (λ w. marked_byte k (entry_of w (with_store s es))) (sym own) ∙ ap (marked_byte k) (own_word s es) ∙ own_byte k s (entry_of s.word es) h
+        ∙ ap (λ w. option_or (cond (is_marked s.mask k) (Some (slice_index s.value k)) None) (marked_byte k (entry_of w es))) own
+    go false t = ap (marked_byte k) (other_word s word es (λ own. false≢true (sym t ∙ eq-eqb s.word word own)))
 
 without-own : (s : Store) (es : List Entry) → without s.word (with_store s es) ≡ without s.word es
 without-own s [] = ap (λ b. cond b [] (joined s (blank_entry s.word) ∷ [])) (eq-eqb s.word s.word refl)
@@ -112,13 +113,13 @@ ops-merged e (s ∷ ss) = ops-merged (joined s e) ss ∙ append_assoc e.ops (s.o
 pub ops_are_filter : OpsAreFilter
 ops_are_filter word stores = ap (λ (e : Entry). e.ops) (entry_is_filter word stores) ∙ ops-merged (blank_entry word) (filter (is_to_word word) stores)
 
-byte_from : (word k : ℕ) (es : List Entry) (stores : List Store) → k < 4 → byte_at k (entry_of word (entries_from es stores)) ≡ or_else (last_byte word k stores) (byte_at k (entry_of word es))
+byte_from : (word k : ℕ) (es : List Entry) (stores : List Store) → k < 4 → marked_byte k (entry_of word (entries_from es stores)) ≡ option_or (last_byte word k stores) (marked_byte k (entry_of word es))
 byte_from word k es [] h = refl
 byte_from word k es (s ∷ ss) h =
-    byte_from word k (with_store s es) ss h ∙ ap (or_else (last_byte word k ss)) (byte-with_store word k s es h)
-    ∙ sym (or_else-assoc (last_byte word k ss) (stored_byte word k s) (byte_at k (entry_of word es)))
+    byte_from word k (with_store s es) ss h ∙ ap (option_or (last_byte word k ss)) (byte-with_store word k s es h)
+    ∙ sym (or_else-assoc (last_byte word k ss) (stored_byte word k s) (marked_byte k (entry_of word es)))
 
-blank_byte : (word k : ℕ) → k < 4 → byte_at k (blank_entry word) ≡ None
+blank_byte : (word k : ℕ) → k < 4 → marked_byte k (blank_entry word) ≡ None
 blank_byte word zero h = refl
 blank_byte word (suc zero) h = refl
 blank_byte word (suc (suc zero)) h = refl
@@ -126,7 +127,7 @@ blank_byte word (suc (suc (suc zero))) h = refl
 blank_byte word (suc (suc (suc (suc k)))) h = absurd (omega arith)
 
 pub byte_is_last : ByteIsLast
-byte_is_last word k stores h = byte_from word k [] stores h ∙ ap (or_else (last_byte word k stores)) (blank_byte word k h) ∙ or_none (last_byte word k stores)
+byte_is_last word k stores h = byte_from word k [] stores h ∙ ap (option_or (last_byte word k stores)) (blank_byte word k h) ∙ or_none (last_byte word k stores)
 
 has_from : (word : ℕ) (es : List Entry) (stores : List Store) → has_word word (entries_from es stores) ≡ (has_word word es || list_any (is_to_word word) stores)
 has_from word es [] = sym (or_false (has_word word es))
@@ -208,17 +209,17 @@ take_is_drained word w = go w.sealed
         ∙ sym (map-append entries_of (kept_stores (filter (is_elsewhere word) g)) gs))
         refl
 
-last_byte-append : (word k : ℕ) (xs ys : List Store) → last_byte word k (xs ++ ys) ≡ or_else (last_byte word k ys) (last_byte word k xs)
+last_byte-append : (word k : ℕ) (xs ys : List Store) → last_byte word k (xs ++ ys) ≡ option_or (last_byte word k ys) (last_byte word k xs)
 last_byte-append word k [] ys = sym (or_none (last_byte word k ys))
 last_byte-append word k (s ∷ xs) ys =
-    ap (λ o. or_else o (stored_byte word k s)) (last_byte-append word k xs ys) ∙ or_else-assoc (last_byte word k ys) (last_byte word k xs) (stored_byte word k s)
+    ap (λ o. option_or o (stored_byte word k s)) (last_byte-append word k xs ys) ∙ or_else-assoc (last_byte word k ys) (last_byte word k xs) (stored_byte word k s)
 
 forward_from : (word k : ℕ) (gs : List (List Store)) (current : List Store) → k < 4
     → buffered_byte word k (map entries_of gs ++ entries_of current ∷ []) ≡ last_byte word k (all_stores gs ++ current)
 forward_from word k [] current h = byte_is_last word k current h
 forward_from word k (g ∷ gs) current h =
-    ap (λ o. or_else o (byte_at k (entry_of word (entries_of g)))) (forward_from word k gs current h)
-    ∙ ap (or_else (last_byte word k (all_stores gs ++ current))) (byte_is_last word k g h)
+    ap (λ o. option_or o (marked_byte k (entry_of word (entries_of g)))) (forward_from word k gs current h)
+    ∙ ap (option_or (last_byte word k (all_stores gs ++ current))) (byte_is_last word k g h)
     ∙ sym (last_byte-append word k g (all_stores gs ++ current)) ∙ ap (last_byte word k) (sym (append_assoc g (all_stores gs) current))
 
 pub forward_is_last : ForwardIsLast

@@ -19,8 +19,8 @@ joined s e =
     }
 
 -- the byte at a place, if the entry marks it
-abbrev pub byte_at : ℕ → Entry → Option ℕ
-byte_at k e = if is_marked e.mask k then Some (slice_index e.bytes k) else None
+abbrev pub marked_byte : ℕ → Entry → Option ℕ
+marked_byte k e = if is_marked e.mask k then Some (slice_index e.bytes k) else None
 
 abbrev pub has_word : ℕ → List Entry → Bool
 has_word word [] = false

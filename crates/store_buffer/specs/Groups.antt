@@ -3,9 +3,10 @@
 -- Program Order", rules 1, 4 and 6).
 use Rattle.std.specs.Prelude.{◌≡◌, ℕ, ◌+◌, ◌≤◌, Bool, true, false, ◌&&◌, ◌||◌, not, List, [], ◌∷◌, ◌++◌, length, Option, Some, None, is_some, unwrap_or, nat_lt, if◌then◌else◌}
 use Rattle.std.specs.List.{AllByRecursion as Each}
+use Rattle.std.specs.Option.{option_or}
 use Rattle.machine_limits.specs.declared.TheConstants.{BUFFER_ENTRIES}
 use Rattle.store_buffer.specs.ByteMask.{each_place}
-use Rattle.store_buffer.specs.Entry.{byte_at, has_word, entry_of, with_store, without}
+use Rattle.store_buffer.specs.Entry.{marked_byte, has_word, entry_of, with_store, without}
 use Rattle.store_buffer.specs.declared.entry.Entry.{Entry}
 use Rattle.store_buffer.specs.declared.entry.Store.{Store}
 
@@ -71,14 +72,10 @@ after_put_single s b = if has_word s.word b.current then after_put s b else afte
 
 -- ---- loads
 
-abbrev pub or_else : Option ℕ → Option ℕ → Option ℕ
-or_else None other = other
-or_else (Some x) other = Some x
-
 -- the newest group's byte at a place of the word
 abbrev pub buffered_byte : ℕ → ℕ → List (List Entry) → Option ℕ
 buffered_byte word k [] = None
-buffered_byte word k (g ∷ gs) = or_else (buffered_byte word k gs) (byte_at k (entry_of word g))
+buffered_byte word k (g ∷ gs) = option_or (buffered_byte word k gs) (marked_byte k (entry_of word g))
 
 -- which bytes of the word the buffer has, and what they are; 0 where it has none
 abbrev pub forwarded : ℕ → Groups → List Bool × List ℕ

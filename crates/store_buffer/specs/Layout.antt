@@ -1,10 +1,11 @@
 -- How a list of entries, and how many of them each sealed group has, stand for groups.
 use Rattle.std.specs.Prelude.{ℕ, ◌-◌, ◌<◌, ◌≤◌, ◌==◌, nat_lt, Bool, List, [], ◌∷◌, Option, None, length, sum, take, drop, position, is_some, unwrap_or, if◌then◌else◌}
 use Rattle.std.specs.List.{AllByRecursion as Each}
+use Rattle.std.specs.Option.{option_or}
 use Rattle.machine_limits.specs.declared.TheConstants.{BUFFER_ENTRIES}
 use Rattle.store_buffer.specs.ByteMask.{each_place}
-use Rattle.store_buffer.specs.Entry.{byte_at}
-use Rattle.store_buffer.specs.Groups.{Groups, HaveDistinctWords, or_else}
+use Rattle.store_buffer.specs.Entry.{marked_byte}
+use Rattle.store_buffer.specs.Groups.{Groups, HaveDistinctWords}
 use Rattle.store_buffer.specs.declared.entry.Entry.{Entry}
 
 abbrev pub sealed_in : List ℕ → List Entry → List (List Entry)
@@ -27,11 +28,11 @@ place_of word entries = position (λ e. e.word == word) entries
 
 -- the newest entry's byte, whatever its group
 abbrev pub byte_in : ℕ → ℕ → Entry → Option ℕ
-byte_in word k e = if e.word == word then byte_at k e else None
+byte_in word k e = if e.word == word then marked_byte k e else None
 
 abbrev pub newest_byte : ℕ → ℕ → List Entry → Option ℕ
 newest_byte word k [] = None
-newest_byte word k (e ∷ es) = or_else (newest_byte word k es) (byte_in word k e)
+newest_byte word k (e ∷ es) = option_or (newest_byte word k es) (byte_in word k e)
 
 abbrev pub overlaid : ℕ → List Entry → List Bool × List ℕ
 overlaid word entries =

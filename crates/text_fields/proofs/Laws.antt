@@ -1,6 +1,7 @@
 use Rattle.std.specs.List.{flat_map, AllByRecursion}
 use Rattle.std.proofs.lemmas.List.Concat.{flat_map-cons}
 use Rattle.std.proofs.lemmas.Nat.{be_bytes_4, from_be_bytes-to_be_bytes_4}
+use Rattle.std.specs.Option.{option_or}
 -- A reader and a spelling that fit each other.
 use Rattle.std.proofs.Common.{◌≡◌, ℕ, zero, suc, ◌+◌, ◌-◌, ◌*◌, ◌^◌, ◌/◌, ◌%◌, ◌<◌, ◌≤◌, Bool, ◌&&◌, true, false, cond, eqb, leb, List, [], ◌∷◌, ◌++◌, length, get_or, Option, Some, None, refl, sym, ap, subst, ◌∙◌, append_assoc, arith, inl, inr}
 use Rattle.std.proofs.lemmas.Bool.{eqb-true, eqb-false, eq-eqb, ne_eqb, leb-true, le-leb, lt-leb, lt-ltb, le-ltb, cases_lt}
@@ -11,7 +12,7 @@ use Rattle.std.proofs.lemmas.List.{nil_from_length, length-append}
 use Rattle.std.specs.Fmt.{digit_glyph}
 use Rattle.std.specs.Int.{w32, to_be_bytes, from_be_bytes}
 use Rattle.text_fields.specs.Fields.{number, hex_byte, hex, word, IsBytes}
-use Rattle.text_fields.specs.Reading.{◌>>=◌, pair_at, seen_at, led_at, after, ended_at, either, table_at, chain_at, guarded, all_at, behind, section_at, is_digit, number_on, number_at, nibble_of, hex_byte_at, hex_at, word_at}
+use Rattle.text_fields.specs.Reading.{◌>>=◌, pair_at, seen_at, led_at, after, ended_at, table_at, chain_at, guarded, all_at, behind, section_at, is_digit, number_on, number_at, nibble_of, hex_byte_at, hex_at, word_at}
 
 -- What is read is spelled so, and what is spelled so is read, whatever follows.
 pub record Reads {A : Type 0} (spell : A → List ℕ) (fits : A → Type 0) (at : List ℕ → Option (A × List ℕ)) : Type 0 where
@@ -330,7 +331,7 @@ word_reads =
 
 -- ---- choices and tests
 
-pub either_takes : {A : Type 0} (r s : Option A) (y : A) → either r s ≡ Some y → (r ≡ Some y) ⊎ ((r ≡ None) × (s ≡ Some y))
+pub either_takes : {A : Type 0} (r s : Option A) (y : A) → option_or r s ≡ Some y → (r ≡ Some y) ⊎ ((r ≡ None) × (s ≡ Some y))
 either_takes (Some x) s y e = inl e
 either_takes None s y e = inr (refl, e)
 

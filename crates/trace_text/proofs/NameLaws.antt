@@ -1,7 +1,8 @@
 -- The names of messages, by what they begin with.
 use Rattle.std.proofs.Common.{◌≡◌, ℕ, Bool, true, false, cond, eqb, List, [], ◌∷◌, ◌++◌, Option, Some, None, refl, sym}
 use Rattle.std.specs.Prelude.{codes}
-use Rattle.text_fields.specs.Reading.{◌>>=◌, after, either, table_at}
+use Rattle.std.specs.Option.{option_or}
+use Rattle.text_fields.specs.Reading.{◌>>=◌, after, table_at}
 use Rattle.text_fields.proofs.Laws.{after_takes}
 use Rattle.trace_text.specs.TraceReading.{all_names, probe_endings, release_endings, grant_endings}
 use Rattle.trace_text.specs.declared.message_reading.Name.TheVariants as names
@@ -25,7 +26,7 @@ after_longer (t ∷ ts) more (b ∷ bytes) e = go (after_longer ts more bytes) (
     go rest true e = rest e
     go rest false e = refl
 
-either_none : {A : Type 0} (x : Option A) → either x None ≡ x
+either_none : {A : Type 0} (x : Option A) → option_or x None ≡ x
 either_none (Some x) = refl
 either_none None = refl
 

@@ -5,8 +5,9 @@ use Rattle.std.specs.List.{flat_map}
 use Rattle.std.proofs.lemmas.Bool.Decides.{nat_tests}
 use Rattle.std.proofs.lemmas.Bool.{eqb-true, leb-true}
 use Rattle.std.proofs.lemmas.List.{length-append}
+use Rattle.std.specs.Option.{option_or}
 use Rattle.text_fields.specs.Fields.{number, word}
-use Rattle.text_fields.specs.Reading.{◌>>=◌, pair_at, seen_at, led_at, number_at, table_at, either, guarded, all_at}
+use Rattle.text_fields.specs.Reading.{◌>>=◌, pair_at, seen_at, led_at, number_at, table_at, guarded, all_at}
 use Rattle.text_fields.proofs.Laws.{Reads, bind_some, some_is, pair_reads, seen_takes, seen_again, led_reads, number_reads, word_reads, ended_reads, table_reads, both_true, either_takes, guarded_takes, all_takes, all_again}
 use Rattle.tl_types.specs.declared.message.Channel.{Channel}
 use Rattle.tl_types.specs.declared.message.Channel.TheVariants.{A, B, C, D, E}
@@ -63,11 +64,11 @@ local_law = led_reads (codes "local ") (pair_reads (number_reads 32 255 (omega a
 event_takes : (bytes : List ℕ) (x : Event) (rest : List ℕ) → event_at bytes ≡ Some (x, rest) → (bytes ≡ event x ++ rest) × IsEvent x
 unfolding event_at step_at drain_at evict_at deliver_at local_at
 event_takes bytes x rest e =
-    elim (either_takes (step_at bytes) (either (drain_at bytes) (either (evict_at bytes) (either (deliver_at bytes) (local_at bytes)))) (x, rest) e) [
+    elim (either_takes (step_at bytes) (option_or (drain_at bytes) (option_or (evict_at bytes) (option_or (deliver_at bytes) (local_at bytes)))) (x, rest) e) [
       | inl y ↦ seen_takes step_law (λ h. Step h) event IsEvent (λ x h. (refl, h)) bytes x rest y
-      | inr n ↦ elim (either_takes (drain_at bytes) (either (evict_at bytes) (either (deliver_at bytes) (local_at bytes))) (x, rest) n.1) [
+      | inr n ↦ elim (either_takes (drain_at bytes) (option_or (evict_at bytes) (option_or (deliver_at bytes) (local_at bytes))) (x, rest) n.1) [
         | inl y ↦ seen_takes (word_law (codes "drain ")) (λ p. Drain p.0 p.1) event IsEvent (λ x h. (refl, h)) bytes x rest y
-        | inr n ↦ elim (either_takes (evict_at bytes) (either (deliver_at bytes) (local_at bytes)) (x, rest) n.1) [
+        | inr n ↦ elim (either_takes (evict_at bytes) (option_or (deliver_at bytes) (local_at bytes)) (x, rest) n.1) [
           | inl y ↦ seen_takes (word_law (codes "evict ")) (λ p. Evict p.0 p.1) event IsEvent (λ x h. (refl, h)) bytes x rest y
           | inr n ↦ elim (either_takes (deliver_at bytes) (local_at bytes) (x, rest) n.1) [
             | inl y ↦ seen_takes deliver_law (λ p. Deliver p.0 p.1) event IsEvent (λ x h. (refl, h.1)) bytes x rest y
@@ -251,9 +252,9 @@ pub head_again : (h : Head) (rest : List ℕ) → is_head h ≡ true → head_at
 unfolding head_at
 head_again h rest e = go (is_first_version h.harts h.line) refl
   where
-    go : (v : Bool) → is_first_version h.harts h.line ≡ v → either (first_head_at (head h ++ rest)) (second_head_at (head h ++ rest)) ≡ Some (h, rest)
-    go true v = ap (λ (r : Option (Head × List ℕ)). either r (second_head_at (head h ++ rest))) (first_again h rest e v)
-    go false v = ap (λ (r : Option (Head × List ℕ)). either r (second_head_at (head h ++ rest))) (first_not h rest v) ∙ second_again h rest e v
+    go : (v : Bool) → is_first_version h.harts h.line ≡ v → option_or (first_head_at (head h ++ rest)) (second_head_at (head h ++ rest)) ≡ Some (h, rest)
+    go true v = ap (λ (r : Option (Head × List ℕ)). option_or r (second_head_at (head h ++ rest))) (first_again h rest e v)
+    go false v = ap (λ (r : Option (Head × List ℕ)). option_or r (second_head_at (head h ++ rest))) (first_not h rest v) ∙ second_again h rest e v
 
 -- ---- a script
 

@@ -2,10 +2,11 @@
 use Rattle.std.proofs.Common.{◌≡◌, ℕ, ◌+◌, ◌-◌, ◌*◌, ◌%◌, ◌^◌, ◌<◌, ◌≤◌, Bool, ◌&&◌, true, false, eqb, leb, ltb, List, [], ◌∷◌, ◌++◌, Option, Some, None, refl, sym, ap, subst, ◌∙◌, arith, inl, inr}
 use Rattle.std.specs.Prelude.{codes}
 use Rattle.std.proofs.lemmas.Bool.{eqb-true, eq-eqb, leb-true, le-leb, ltb-true, lt-ltb}
+use Rattle.std.specs.Option.{option_or}
 use Rattle.machine_limits.specs.declared.TheConstants.{MAX_ENTRIES, MAX_HARTS, MAX_KIB}
 use Rattle.elf_loader.specs.Size.{base}
 use Rattle.text_fields.specs.Fields.{number, word, hex, IsBytes}
-use Rattle.text_fields.specs.Reading.{◌>>=◌, seen_at, led_at, table_at, after, number_at, word_at, either}
+use Rattle.text_fields.specs.Reading.{◌>>=◌, seen_at, led_at, table_at, after, number_at, word_at}
 use Rattle.text_fields.proofs.Laws.{Reads, bind_some, some_is, pair_reads, chain_reads, seen_reads, seen_takes, seen_again, led_reads, ended_reads, table_reads, number_reads, word_reads, hex_reads, after_takes, either_takes, text_takes, checked_reads, both_true}
 use Rattle.hart.specs.declared.status.Status.{Status}
 use Rattle.hart.specs.declared.status.Status.TheVariants.{Running, Stopped, Exited}
@@ -341,7 +342,7 @@ exit_law = led_reads (codes "exit ") (number_reads 10 255 (omega arith) (omega a
 status_takes : (bytes : List ℕ) (x : Status) (rest : List ℕ) → status_at bytes ≡ Some (x, rest) → (bytes ≡ outcome x ++ rest) × IsStatus x
 unfolding status_at stop_at exit_at
 status_takes bytes x rest e =
-    elim (either_takes (after (codes "run\n") bytes >>= λ r. Some (Running, r)) (either (stop_at bytes) (exit_at bytes)) (x, rest) e) [
+    elim (either_takes (after (codes "run\n") bytes >>= λ r. Some (Running, r)) (option_or (stop_at bytes) (exit_at bytes)) (x, rest) e) [
       | inl y ↦ text_takes (codes "run\n") Running outcome IsStatus refl tt bytes x rest y
       | inr n ↦ elim (either_takes (stop_at bytes) (exit_at bytes) (x, rest) n.1) [
         | inl y ↦ seen_takes stop_law (λ c. Stopped c) outcome IsStatus (λ x h. (refl, h)) bytes x rest y

@@ -1,7 +1,8 @@
 -- Reading a script from left to right. The clauses of read_script don't rest on these words: they are what its parts answer.
 use Rattle.std.specs.Prelude.{ℕ, List, [], ◌∷◌, Option, Some, length, ◌&&◌, not, codes}
+use Rattle.std.specs.Option.{option_or}
 use Rattle.machine_limits.specs.declared.TheConstants.{MAX_KIB}
-use Rattle.text_fields.specs.Reading.{◌>>=◌, pair_at, seen_at, led_at, ended_at, table_at, number_at, word_at, either, guarded, all_at}
+use Rattle.text_fields.specs.Reading.{◌>>=◌, pair_at, seen_at, led_at, ended_at, table_at, number_at, word_at, guarded, all_at}
 use Rattle.machine_types.specs.declared.event.Event.{Event}
 use Rattle.machine_types.specs.declared.event.Event.TheVariants.{Step, Drain, Evict, Deliver, Local}
 use Rattle.tl_types.specs.Line.{size_of_bytes}
@@ -39,7 +40,7 @@ unfoldable pub local_at : List ℕ → Option (Event × List ℕ)
 local_at bytes = seen_at (λ p. Local p.0 p.1) (led_at (codes "local ") (pair_at (number_at 32 255) (number_at 10 4294967295))) bytes
 
 unfoldable pub event_at : List ℕ → Option (Event × List ℕ)
-event_at bytes = either (step_at bytes) (either (drain_at bytes) (either (evict_at bytes) (either (deliver_at bytes) (local_at bytes))))
+event_at bytes = option_or (step_at bytes) (option_or (drain_at bytes) (option_or (evict_at bytes) (option_or (deliver_at bytes) (local_at bytes))))
 
 -- no number of a header is more
 abbrev pub most : ℕ
@@ -74,7 +75,7 @@ unfoldable pub second_head_at : List ℕ → Option (Head × List ℕ)
 second_head_at bytes = second_fields_at bytes >>= λ x. guarded (is_head x.0 && not (is_first_version x.0.harts x.0.line)) x
 
 unfoldable pub head_at : List ℕ → Option (Head × List ℕ)
-head_at bytes = either (first_head_at bytes) (second_head_at bytes)
+head_at bytes = option_or (first_head_at bytes) (second_head_at bytes)
 
 unfoldable pub script_at : List ℕ → Option Script
 script_at bytes = head_at bytes >>= λ h. all_at event_at (length h.1) h.1 >>= λ es. Some (record { harts = h.0.harts; kib = h.0.kib; sets = h.0.sets; ways = h.0.ways; line = h.0.line; events = es })

@@ -1,8 +1,9 @@
 -- Reading the lines of a trace from left to right.
 use Rattle.std.specs.Prelude.{ℕ, ◌+◌, ◌-◌, ◌*◌, ◌%◌, Bool, List, [], ◌∷◌, ◌++◌, Option, Some, None, length, codes, nat_le, nat_lt, ◌==◌, ◌&&◌, not, if◌then◌else◌}
+use Rattle.std.specs.Option.{option_or}
 use Rattle.machine_limits.specs.declared.TheConstants.{MAX_HARTS, MAX_ENTRIES}
 use Rattle.text_fields.specs.Fields.{word}
-use Rattle.text_fields.specs.Reading.{◌>>=◌, pair_at, seen_at, led_at, ended_at, after, number_at, word_at, hex_at, either, behind, guarded}
+use Rattle.text_fields.specs.Reading.{◌>>=◌, pair_at, seen_at, led_at, ended_at, after, number_at, word_at, hex_at, behind, guarded}
 use Rattle.elf_loader.specs.Size.{base, is_memory_kib}
 use Rattle.hart.specs.declared.retired.Retired.{Retired}
 use Rattle.hart.specs.declared.status.Status.{Status}
@@ -85,7 +86,7 @@ unfoldable pub exit_at : List ℕ → Option (Status × List ℕ)
 exit_at bytes = seen_at (λ c. Exited c) (led_at (codes "exit ") (number_at 10 255)) bytes
 
 unfoldable pub status_at : List ℕ → Option (Status × List ℕ)
-status_at bytes = either (after (codes "run\n") bytes >>= λ rest. Some (Running, rest)) (either (stop_at bytes) (exit_at bytes))
+status_at bytes = option_or (after (codes "run\n") bytes >>= λ rest. Some (Running, rest)) (option_or (stop_at bytes) (exit_at bytes))
 
 -- ---- messages
 

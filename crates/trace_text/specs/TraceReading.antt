@@ -1,6 +1,7 @@
 -- Reading a trace from left to right. The clauses of read_trace don't rest on these words: they are what its parts answer.
 use Rattle.std.specs.Prelude.{ℕ, Bool, true, false, List, [], ◌∷◌, Option, Some, None, codes}
-use Rattle.text_fields.specs.Reading.{◌>>=◌, pair_at, chain_at, seen_at, led_at, table_at, after, word_at, hex_at, either}
+use Rattle.std.specs.Option.{option_or}
+use Rattle.text_fields.specs.Reading.{◌>>=◌, pair_at, chain_at, seen_at, led_at, table_at, after, word_at, hex_at}
 use Rattle.tl_types.specs.declared.line.LineSize.{LineSize}
 use Rattle.tl_types.specs.declared.line.LineSize.TheVariants as sizes
 use Rattle.tl_types.specs.declared.line.LineData.{LineData}
@@ -52,7 +53,7 @@ unfoldable pub answer_at : List ℕ → Option (Option Bool × List ℕ)
 answer_at bytes = table_at answers bytes
 
 unfoldable pub loaded_at : List ℕ → Option (Option ℕ × List ℕ)
-loaded_at bytes = either (after (codes "-") bytes >>= λ rest. Some (None, rest)) (seen_at (λ n. Some n) word_at bytes)
+loaded_at bytes = option_or (after (codes "-") bytes >>= λ rest. Some (None, rest)) (seen_at (λ n. Some n) word_at bytes)
 
 unfoldable pub data_at : LineSize → List ℕ → Option (LineData × List ℕ)
 data_at sizes.Bytes16 bytes = seen_at (λ d. lines.Bytes16 d) (hex_at 16) bytes

@@ -11,10 +11,6 @@ use Rattle.hart.specs.Run.{after, at_reset}
 use Rattle.flat_model.specs.Shown.{Result}
 use Rattle.trace_recorder.specs.History.{History}
 
-abbrev pub numbers_in : Option ℕ → List ℕ
-numbers_in None = []
-numbers_in (Some number) = number ∷ []
-
 -- what an access puts out: the argument of an environment call of number 1
 abbrev pub number_out : Access → List ℕ
 number_out (Calls number argument) = if number == 1 then argument ∷ [] else []

@@ -1,7 +1,8 @@
 //! What a hart put out, read off its list.
 ghost use Rattle.std.specs.Prelude.{◌≡◌, IfOk};
+ghost use Rattle.std.specs.Option.{option_to_list};
 ghost use Rattle.rv32_exec.specs.Meaning.{access_of};
-ghost use Rattle.witnesses.specs.Outcomes.{number_out, numbers_in, output_from};
+ghost use Rattle.witnesses.specs.Outcomes.{number_out, output_from};
 
 use hart::{Hart, Retired};
 use rv32_decode::{Instr, decode};
@@ -10,7 +11,7 @@ use std::alloc::{AllocError, Global};
 
 /// The number that an instruction puts out.
 fn put_out(instr: &Instr, regs: &Regs) -> Option<u32>
-    ensures { numbers_in result ≡ number_out (access_of instr.now regs.now) }
+    ensures { option_to_list result ≡ number_out (access_of instr.now regs.now) }
 {
     match Call::of(instr, regs) {
         Some(

@@ -16,7 +16,7 @@ use Rattle.machine_model.specs.declared.act.Act.{Act}
 use Rattle.machine_model.specs.declared.act.Act.TheVariants as act
 use Rattle.machine_model.specs.declared.act.Deed.{Deed}
 use Rattle.machine_types.specs.declared.config.Config.{Config}
-use Rattle.machine_model.specs.Changing.{acted, does, drained, place_at, retired, went_alone}
+use Rattle.machine_model.specs.Changing.{acted, does, drained, next_place, retired, went_alone}
 use Rattle.machine_model.specs.Coherent.{perm_at}
 use Rattle.machine_model.specs.Deliveries.{is_trunk}
 use Rattle.machine_model.specs.Steps.{Fetched}
@@ -152,7 +152,7 @@ retired_less h entry i s =
     record { less = λ k w e. (node_less h n s (λ v f. f)).less k w (sym (ap (λ (x : Node). x.reserved) (node-with_trace (with_node h n s) (retired h entry i s).trace k (image-with_halt h _ _))) ∙ e) }
 
 retired_atomic : (h : ℕ) (entry : Retired) (i : Instr) (d : Deed) (s : State) → h < s.views.config.harts → AllStand s → is_step s.trace.image (node_at s h).hart entry ≡ true → decoded entry.word ≡ Some i
-    → (f : Fetched) → f.instr ≡ i → f.place ≡ place_at s h → FitsDeed s.views.config.model (node_at s h) f (access_of i (node_at s h).hart.regs) entry d → Fits s → OrderKept s → AllAtomic s → AllAtomic (retired h entry i (does s.views.config.model h d s))
+    → (f : Fetched) → f.instr ≡ i → f.place ≡ next_place s h → FitsDeed s.views.config.model (node_at s h) f (access_of i (node_at s h).hart.regs) entry d → Fits s → OrderKept s → AllAtomic s → AllAtomic (retired h entry i (does s.views.config.model h d s))
 retired_atomic h entry i d s l st step dec f fi fp fits fit o a =
     let model = s.views.config.model in
     let n = node_at s h in
@@ -162,7 +162,7 @@ retired_atomic h entry i d s l st step dec f fi fp fits fit o a =
     let m = new_item h entry s.trace in
     let next = reserved_by d (node_at s h).reserved in
     let access = access_of i (node_at s h).hart.regs in
-    let names = names_by h (place_at s h) d in
+    let names = names_by h (next_place s h) d in
     let here = length-items_from 0 (at_reset s.trace.image h (length s.trace.entries)) (entries_of s.trace h) in
     let p = retired_step h entry i d s l st step dec f fi fp fits o in
     let is_longer : items_at t.trace h ≡ items ++ m ∷ [] = items_here h entry s.trace t.trace (retired_trace h entry i d s l st) (subst (λ x. h < x) (sym st.entries) l) in

@@ -11,7 +11,7 @@ use Rattle.machine_model.specs.declared.act.Act.TheVariants as act
 use Rattle.machine_model.specs.declared.act.Deed.{Deed}
 use Rattle.machine_model.specs.declared.act.Deed.TheVariants as deed
 use Rattle.machine_types.specs.declared.config.Config.{Config}
-use Rattle.machine_model.specs.Changing.{acted, does, drained, place_at, retired, went_alone}
+use Rattle.machine_model.specs.Changing.{acted, does, drained, next_place, retired, went_alone}
 use Rattle.machine_model.specs.Events.{is_piece}
 use Rattle.machine_model.specs.Steps.{Fetched}
 use Rattle.machine_model.specs.Views.{Node, State, line_size, node_at}
@@ -31,7 +31,7 @@ use Rattle.machine_model.proofs.runs.Runs.{AllStand}
 use Rattle.machine_model.proofs.coherence.WorldEvents.{IsAligned}
 use Rattle.machine_model.proofs.coherence.WorldSteps.{last_after, last_by, wrote_word}
 use Rattle.memory_model.specs.declared.MemoryModel.{MemoryModel}
-use Rattle.memory_model.specs.Operations.{byte_at as number_byte, stores_to}
+use Rattle.memory_model.specs.Operations.{byte_of_number as number_byte, stores_to}
 use Rattle.memory_model.specs.Order.{byte_from}
 use Rattle.memory_model.specs.Traces.{instructions, last_performed, operations_at}
 use Rattle.rv32_decode.specs.Rows.{decoded}
@@ -179,7 +179,7 @@ deed_wrote size memory later last (deed.Lr word) aligned f q on is = same_bytes 
 deed_wrote size memory later last deed.Fail aligned f q on is = same_bytes size memory later q (last q) f is
 
 retired_agrees : (h : ℕ) (entry : Retired) (i : Instr) (d : Deed) (s : State) (last : ℕ → LineData) → h < s.views.config.harts → AllStand s → is_step s.trace.image (node_at s h).hart entry ≡ true → decoded entry.word ≡ Some i
-    → (f : Fetched) → f.instr ≡ i → f.place ≡ place_at s h → FitsDeed s.views.config.model (node_at s h) f (access_of i (node_at s h).hart.regs) entry d → OrderKept s → Agrees s last → Agrees (retired h entry i (does s.views.config.model h d s)) (last_by (line_size s) d last)
+    → (f : Fetched) → f.instr ≡ i → f.place ≡ next_place s h → FitsDeed s.views.config.model (node_at s h) f (access_of i (node_at s h).hart.regs) entry d → OrderKept s → Agrees s last → Agrees (retired h entry i (does s.views.config.model h d s)) (last_by (line_size s) d last)
 retired_agrees h entry i d s last l st step dec f fi fp fits o =
     let t = retired h entry i (does s.views.config.model h d s) in
     let aligned = deed_aligned s.views.config.model (node_at s h) f entry (access_of i (node_at s h).hart.regs) d (retired_known h entry i s step dec f fi) fits in

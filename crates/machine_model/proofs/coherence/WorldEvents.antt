@@ -23,7 +23,7 @@ use Rattle.elf_loader.specs.Image.{Initial, end_of, word_at}
 use Rattle.elf_loader.specs.Size.{base}
 use Rattle.hart.specs.Run.{can_fetch, is_running, stop_with}
 use Rattle.hart.specs.Local.{private_row}
-use Rattle.machine_model.specs.Changing.{acted, outcome_of_act, place_at}
+use Rattle.machine_model.specs.Changing.{acted, outcome_of_act, next_place}
 use Rattle.machine_model.specs.Deciding.{miss_by, plan_miss, reading, reading_by, writing, writing_by}
 use Rattle.machine_model.specs.Deliveries.{is_trunk, plan_body, plan_deliver, plan_front, taken, unless_busy, unless_releasing}
 use Rattle.machine_model.specs.Events.{IsBad, IsLimited, Moves, after_events, evict_by, happens, hart_of, is_limited, is_piece, names_well, plan_drain, plan_evict, plan_local, plan_of, state_by, verdict_by, counted}
@@ -376,8 +376,8 @@ module _ (s : State) (last : ℕ → LineData) (i : IsFit s last) (h : ℕ) (in_
 pub good_event : (s : State) (last : ℕ → LineData) → IsFit s last → (e : Event) → hart_of e < length s.views.nodes → names_well s e ≡ true → IsGoodPlan s last (hart_of e) (plan_of s e)
 good_event s last i (event.Step h) in_h well = go (is_running (node_at s h).hart.status) (decoded (word_at s.trace.image (node_at s h).hart.pc))
   where
-    go : (t : Bool) (o : Option Instr) → IsGoodPlan s last h (if not t then Stays outcome.Halted else plan_unless (if can_fetch s.trace.image (node_at s h).hart.pc then stop_with (length s.trace.image.bytes) (node_at s h).hart o else Some 1) (plan_instr s.views.config.model (node_at s h) (word_at s.trace.image (node_at s h).hart.pc) (place_at s h) o))
-    go true o = good_step s last i h in_h s.views.config.model (place_at s h) o (can_fetch s.trace.image (node_at s h).hart.pc)
+    go : (t : Bool) (o : Option Instr) → IsGoodPlan s last h (if not t then Stays outcome.Halted else plan_unless (if can_fetch s.trace.image (node_at s h).hart.pc then stop_with (length s.trace.image.bytes) (node_at s h).hart o else Some 1) (plan_instr s.views.config.model (node_at s h) (word_at s.trace.image (node_at s h).hart.pc) (next_place s h) o))
+    go true o = good_step s last i h in_h s.views.config.model (next_place s h) o (can_fetch s.trace.image (node_at s h).hart.pc)
     go false o = tt
 good_event s last i (event.Drain h word) in_h well = good_drain s last i h in_h word well
 good_event s last i (event.Evict h l) in_h well = good_evict s last i h in_h l well

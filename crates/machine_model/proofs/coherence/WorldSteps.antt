@@ -17,7 +17,7 @@ use Rattle.hart.specs.declared.retired.Retired.{Retired}
 use Rattle.hart.specs.declared.state.Hart.{Hart}
 use Rattle.hart.specs.declared.status.Status.{Status}
 use Rattle.hart.specs.declared.status.Status.TheVariants.{Running, Stopped, Exited}
-use Rattle.machine_model.specs.Changing.{does, drained, performs, performs_own, place_at, put_behind, retired, stopped, went_alone, with_buffer, with_entries, with_halt, with_reservation, writes_word}
+use Rattle.machine_model.specs.Changing.{does, drained, performs, performs_own, next_place, put_behind, retired, stopped, went_alone, with_buffer, with_entries, with_halt, with_reservation, writes_word}
 use Rattle.machine_model.specs.Deliveries.{is_trunk}
 use Rattle.machine_model.specs.Views.{Node, State, Views, line_of, line_size, node_at, with_node, with_trace}
 use Rattle.machine_model.specs.Words.{bytes_of_word}
@@ -180,17 +180,17 @@ module _ (s : State) (last : ℕ → LineData) (i : IsFit s last) (h : ℕ) (in_
   pub does_fits : (model : MemoryModel) (d : Deed) → IsAllowed s h d → IsFit (does model h d s) (last_by (line_size s) d last) × (length (does model h d s).views.nodes ≡ length s.views.nodes)
   does_fits model deed.Private may = (i, refl)
   does_fits model (deed.Output number) may = (output_fits s last i h in_h ((node_at s h).output ++ number ∷ []), length-set s.views.nodes h _)
-  does_fits model deed.Load may = (performs_fits s last h (place_at s h ∷ []) i, refl)
+  does_fits model deed.Load may = (performs_fits s last h (next_place s h ∷ []) i, refl)
   does_fits model (deed.Store store) may = (buffer_fits s last i h in_h (put_behind model store (node_at s h).buffer), length-set s.views.nodes h _)
   does_fits model deed.Seal may = (buffer_fits s last i h in_h (after_seal (node_at s h).buffer), length-set s.views.nodes h _)
-  does_fits model (deed.Lr word) may = (reserved_fits (performs_own h s) last (performs_fits s last h (place_at s h ∷ []) i) h in_h word may, length-set s.views.nodes h _)
+  does_fits model (deed.Lr word) may = (reserved_fits (performs_own h s) last (performs_fits s last h (next_place s h ∷ []) i) h in_h word may, length-set s.views.nodes h _)
   does_fits model deed.Fail may = (failed_fits s last i h in_h, length-set s.views.nodes h _)
   does_fits model (deed.Sc word value) may =
       let later : ℕ → LineData = wrote_word (line_size s) last word (marks_of_access 0 4) (bytes_of_word value) in
-      let w : IsFit (writes_word h word (marks_of_access 0 4) (bytes_of_word value) (performs_own h s)) later = writes_fits (performs_own h s) last (performs_fits s last h (place_at s h ∷ []) i) h in_h word (marks_of_access 0 4) (bytes_of_word value) may in
+      let w : IsFit (writes_word h word (marks_of_access 0 4) (bytes_of_word value) (performs_own h s)) later = writes_fits (performs_own h s) last (performs_fits s last h (next_place s h ∷ []) i) h in_h word (marks_of_access 0 4) (bytes_of_word value) may in
       let count : length (writes_word h word (marks_of_access 0 4) (bytes_of_word value) (performs_own h s)).views.nodes ≡ length s.views.nodes = length-set s.views.nodes h _ in
       (failed_fits (writes_word h word (marks_of_access 0 4) (bytes_of_word value) (performs_own h s)) later w h (rw count in_h), length-set _ h _ ∙ count)
-  does_fits model (deed.Amo word value) may = (writes_fits (performs_own h s) last (performs_fits s last h (place_at s h ∷ []) i) h in_h word (marks_of_access 0 4) (bytes_of_word value) may, length-set s.views.nodes h _)
+  does_fits model (deed.Amo word value) may = (writes_fits (performs_own h s) last (performs_fits s last h (next_place s h ∷ []) i) h in_h word (marks_of_access 0 4) (bytes_of_word value) may, length-set s.views.nodes h _)
 
   pub retires_fits : (model : MemoryModel) (entry : Retired) (instr : Instr) (d : Deed) → IsAllowed s h d → IsFit (retired h entry instr (does model h d s)) (last_by (line_size s) d last)
   retires_fits model entry instr d may =

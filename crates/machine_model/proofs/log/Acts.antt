@@ -19,7 +19,7 @@ use Rattle.hart.specs.declared.retired.Retired.{Retired}
 use Rattle.hart.specs.declared.state.Hart.{Hart}
 use Rattle.hart.specs.declared.status.Status.{Status}
 use Rattle.hart.specs.declared.status.Status.TheVariants.{Running, Stopped, Exited}
-use Rattle.machine_model.specs.Changing.{acted, does, drained, given_up, performs, performs_own, place_at, release_body, sent_if_evicted, with_entries, with_halt, writes_word}
+use Rattle.machine_model.specs.Changing.{acted, does, drained, given_up, performs, performs_own, next_place, release_body, sent_if_evicted, with_entries, with_halt, writes_word}
 use Rattle.machine_model.specs.Deliveries.{delivered, grant_body, handled, line_in_memory, on_acquire, on_grant, on_probe_ack, on_release, probe_ack_body, sent_any, sent_grant, sent_if_answered, sent_if_granted, sent_if_handled, sent_probes, with_less, with_memory, with_notes}
 use Rattle.machine_model.specs.LawfulLog.{is_grant, is_grant_ack, is_probe_ack, is_release, is_release_ack}
 use Rattle.machine_model.specs.Views.{Node, State, line_of, line_size, no_node, node_at, place_of, sent, with_node, with_trace}
@@ -92,7 +92,7 @@ performs_still h (place ∷ places) s =
     still_then s one _ (still_trace s _ refl) (performs_still h places one)
 
 own_still : (h : ℕ) (s : State) → Still s (performs_own h s)
-own_still h s = performs_still h (place_at s h ∷ []) s
+own_still h s = performs_still h (next_place s h ∷ []) s
 
 written_same : (c : Cache) (line word : ℕ) (marks : List Bool) (bytes : List ℕ) (o : Option Held) → ((word_written_in c line word marks bytes o).acquiring ≡ c.acquiring) × ((word_written_in c line word marks bytes o).releasing ≡ c.releasing)
 written_same c line word marks bytes None = (refl, refl)

@@ -13,7 +13,7 @@ use Rattle.hart.specs.Run as run
 use Rattle.hart.specs.Run.{after, after_instr, at_reset, can_fetch, is_step, is_running, next_stop, reached}
 use Rattle.hart.proofs.Endings.{reached-append, step_does}
 use Rattle.machine_model.specs.declared.act.Deed.{Deed}
-use Rattle.machine_model.specs.Changing.{does, place_at, retired, with_halt, with_entries, went_alone}
+use Rattle.machine_model.specs.Changing.{does, next_place, retired, with_halt, with_entries, went_alone}
 use Rattle.machine_model.specs.Steps.{Fetched}
 use Rattle.machine_model.specs.Views.{Node, State, node_at, with_node, with_trace, opening_node}
 use Rattle.machine_model.proofs.runs.Runs.{AllStand}
@@ -86,7 +86,7 @@ pub retired_known : (h : ℕ) (entry : Retired) (i : Instr) (s : State) → is_s
 retired_known h entry i s step dec f fi =
     subst (λ j. Facts j (access_of i (node_at s h).hart.regs)) (sym fi) (facts i (node_at s h).hart.pc (node_at s h).hart.regs (length s.trace.image.bytes)
     (none_is (stop_of i (node_at s h).hart.pc (node_at s h).hart.regs (length s.trace.image.bytes)) (and_parts (is_none (stop_of i (node_at s h).hart.pc (node_at s h).hart.regs (length s.trace.image.bytes))) _
-    (subst (λ q. run.does (length s.trace.image.bytes) (node_at s h).hart entry q ≡ true) dec (step_does s.trace.image (node_at s h).hart entry step))).0))
+    (subst (λ q. run.can_do (length s.trace.image.bytes) (node_at s h).hart entry q ≡ true) dec (step_does s.trace.image (node_at s h).hart entry step))).0))
 
 -- what it gives
 pub retired_gave : (h : ℕ) (entry : Retired) (i : Instr) (s : State) → h < s.views.config.harts → AllStand s → decoded entry.word ≡ Some i → (f : Fetched) → f.instr ≡ i → (new_item h entry s.trace).operation ≡ operation_of_access h (length (items_at s.trace h)) (annotations_of f.instr) entry (access_of i (node_at s h).hart.regs)
@@ -102,8 +102,8 @@ retired_trace h entry i d s l a =
     let mv = does_moves s.views.config.model h d s (subst (λ x. h < x) (sym a.nodes) l) in retired_longer h entry _ s.trace (does s.views.config.model h d s).trace mv.image mv.entries
 
 pub retired_step : (h : ℕ) (entry : Retired) (i : Instr) (d : Deed) (s : State) → h < s.views.config.harts → AllStand s → is_step s.trace.image (node_at s h).hart entry ≡ true → decoded entry.word ≡ Some i
-    → (f : Fetched) → f.instr ≡ i → f.place ≡ place_at s h → FitsDeed s.views.config.model (node_at s h) f (access_of i (node_at s h).hart.regs) entry d
-    → OrderKept s → Step h (names_by h (place_at s h) d) s (retired h entry i (does s.views.config.model h d s))
+    → (f : Fetched) → f.instr ≡ i → f.place ≡ next_place s h → FitsDeed s.views.config.model (node_at s h) f (access_of i (node_at s h).hart.regs) entry d
+    → OrderKept s → Step h (names_by h (next_place s h) d) s (retired h entry i (does s.views.config.model h d s))
 retired_step h entry i d s l a step dec f fi fp fits o =
     let model = s.views.config.model in
     let n = node_at s h in
@@ -113,7 +113,7 @@ retired_step h entry i d s l a step dec f fi fp fits o =
     let t = retired h entry i (does s.views.config.model h d s) in
     record {
       changes = changes;
-      performs = performs_same model h (items ++ m ∷ []) (items_at t.trace h) (buffer_by model d n.buffer) (node_at t h).buffer (done s.trace) (names_by h (place_at s h) d) (items_here h entry s.trace t.trace longer l') here
+      performs = performs_same model h (items ++ m ∷ []) (items_at t.trace h) (buffer_by model d n.buffer) (node_at t h).buffer (done s.trace) (names_by h (next_place s h) d) (items_here h entry s.trace t.trace longer l') here
           (subst (λ p. Performs model h (items ++ m ∷ []) (buffer_by model d n.buffer) (done s.trace) (names_by h p d)) (length-items_from 0 start (entries_of s.trace h)) kept);
     }
   where
@@ -123,7 +123,7 @@ retired_step h entry i d s l a step dec f fi fp fits o =
     l' : h < length s.trace.entries
     l' = subst (λ x. h < x) (sym a.entries) l
 
-    mv : Moves h (buffer_by s.views.config.model d (node_at s h).buffer) (names_by h (place_at s h) d) s (does s.views.config.model h d s)
+    mv : Moves h (buffer_by s.views.config.model d (node_at s h).buffer) (names_by h (next_place s h) d) s (does s.views.config.model h d s)
     mv = does_moves s.views.config.model h d s ln
 
     longer : IsLonger h entry s.trace (retired h entry i (does s.views.config.model h d s)).trace
@@ -138,7 +138,7 @@ retired_step h entry i d s l a step dec f fi fp fits o =
     here : (node_at (retired h entry i (does s.views.config.model h d s)) h).buffer ≡ buffer_by s.views.config.model d (node_at s h).buffer
     here = buffers h ∙ mv.here
 
-    changes : Changes h (names_by h (place_at s h) d) s (retired h entry i (does s.views.config.model h d s))
+    changes : Changes h (names_by h (next_place s h) d) s (retired h entry i (does s.views.config.model h d s))
     changes = record {
       config = mv.config;
       performed = performed-with_halt h _ (with_entry h entry (does s.views.config.model h d s).trace) ∙ mv.performed;
@@ -156,9 +156,9 @@ retired_step h entry i d s l a step dec f fi fp fits o =
         (fp ∙ sym (length-items_from 0 (at_reset s.trace.image h (length s.trace.entries)) (entries_of s.trace h))) (retired_gave h entry i s l a dec f fi) (retired_known h entry i s step dec f fi) fits (o.each h l)
 
 pub retired_kept : (h : ℕ) (entry : Retired) (i : Instr) (d : Deed) (s : State) → h < s.views.config.harts → AllStand s → is_step s.trace.image (node_at s h).hart entry ≡ true → decoded entry.word ≡ Some i
-    → (f : Fetched) → f.instr ≡ i → f.place ≡ place_at s h → FitsDeed s.views.config.model (node_at s h) f (access_of i (node_at s h).hart.regs) entry d
+    → (f : Fetched) → f.instr ≡ i → f.place ≡ next_place s h → FitsDeed s.views.config.model (node_at s h) f (access_of i (node_at s h).hart.regs) entry d
     → OrderKept s → OrderKept (retired h entry i (does s.views.config.model h d s))
-retired_kept h entry i d s l a step dec f fi fp fits o = step_kept h (names_by h (place_at s h) d) s (retired h entry i (does s.views.config.model h d s)) (retired_step h entry i d s l a step dec f fi fp fits o) o
+retired_kept h entry i d s l a step dec f fi fp fits o = step_kept h (names_by h (next_place s h) d) s (retired h entry i (does s.views.config.model h d s)) (retired_step h entry i d s l a step dec f fi fp fits o) o
 
 -- ---- private instructions retire
 

@@ -13,7 +13,7 @@ use Rattle.directory.specs.declared.answer.Sent.{Sent}
 use Rattle.directory.specs.declared.answer.Sent.TheVariants.{Probes, Granting as Grants}
 use Rattle.machine_model.specs.declared.act.Deed.{Deed}
 use Rattle.machine_model.specs.declared.act.Deed.TheVariants as deed
-use Rattle.machine_model.specs.Changing.{does, performs, performs_own, place_at, missed, given_up, sent_if_evicted, writes_word, with_buffer, stopped, put_behind}
+use Rattle.machine_model.specs.Changing.{does, performs, performs_own, next_place, missed, given_up, sent_if_evicted, writes_word, with_buffer, stopped, put_behind}
 use Rattle.machine_model.specs.Deliveries.{delivered, handled, taken, sent_probes, sent_any, sent_if_handled, sent_if_granted, sent_if_answered, with_memory, with_notes, with_less, on_probe_ack, on_release, on_grant}
 use Rattle.machine_model.specs.Views.{Node, State, line_size, place_of, node_at, with_node, with_trace, sent}
 use Rattle.machine_model.specs.Words.{bytes_of_word}
@@ -195,15 +195,15 @@ buffer_after h buffer b names old new m l =
     let f = buffered_moves h b new l in
     record { image = m.image; config = m.config; entries = m.entries; performed = m.performed; here = f.here; there = λ k d. f.there k d ∙ m.there k d }
 
-pub does_moves : (model : MemoryModel) (h : ℕ) (d : Deed) (s : State) → h < length s.views.nodes → Moves h (buffer_by model d (node_at s h).buffer) (names_by h (place_at s h) d) s (does model h d s)
+pub does_moves : (model : MemoryModel) (h : ℕ) (d : Deed) (s : State) → h < length s.views.nodes → Moves h (buffer_by model d (node_at s h).buffer) (names_by h (next_place s h) d) s (does model h d s)
 does_moves model h deed.Private s l = moves_still h s s (buffers_not s)
 does_moves model h (deed.Output number) s l = moves_still h s _ (node_keeps h _ s refl)
-does_moves model h deed.Load s l = performs_moves h (place_at s h ∷ []) s
+does_moves model h deed.Load s l = performs_moves h (next_place s h ∷ []) s
 does_moves model h (deed.Store store) s l = buffered_moves h (put_behind model store (node_at s h).buffer) s l
 does_moves model h deed.Seal s l = buffered_moves h (after_seal (node_at s h).buffer) s l
-does_moves model h (deed.Lr word) s l = moves_on h _ _ s (performs_own h s) _ (performs_moves h (place_at s h ∷ []) s) (node_keeps h _ (performs_own h s) refl)
+does_moves model h (deed.Lr word) s l = moves_on h _ _ s (performs_own h s) _ (performs_moves h (next_place s h ∷ []) s) (node_keeps h _ (performs_own h s) refl)
 does_moves model h deed.Fail s l = moves_still h s _ (node_keeps h _ s refl)
 does_moves model h (deed.Sc word value) s l =
     let stored = writes_word h word (marks_of_access 0 4) (bytes_of_word value) (performs_own h s) in
-    moves_on h _ _ s stored _ (moves_on h _ _ s (performs_own h s) stored (performs_moves h (place_at s h ∷ []) s) (node_keeps h _ (performs_own h s) refl)) (node_keeps h _ stored refl)
-does_moves model h (deed.Amo word value) s l = moves_on h _ _ s (performs_own h s) _ (performs_moves h (place_at s h ∷ []) s) (node_keeps h _ (performs_own h s) refl)
+    moves_on h _ _ s stored _ (moves_on h _ _ s (performs_own h s) stored (performs_moves h (next_place s h ∷ []) s) (node_keeps h _ (performs_own h s) refl)) (node_keeps h _ stored refl)
+does_moves model h (deed.Amo word value) s l = moves_on h _ _ s (performs_own h s) _ (performs_moves h (next_place s h ∷ []) s) (node_keeps h _ (performs_own h s) refl)

@@ -3,15 +3,16 @@ use Rattle.std.proofs.Common.{◌≡◌, ℕ, zero, suc, ◌+◌, ◌-◌, ◌*�
 use Rattle.std.specs.Prelude.{nat_eq, nat_le, nat_lt, is_some, unwrap_or, slice_index}
 use Rattle.std.specs.List.{AllByRecursion as Each, filter, last_or}
 use Rattle.std.proofs.lemmas.Bool.{false≢true, true≢false, and_parts, and_from, eqb-true, eqb-false, leb-true, ltb-true, le-leb, lt-ltb, false_from_ne_true}
+use Rattle.std.specs.Option.{option_or}
 use Rattle.machine_model.specs.Words.{word_of, number_of_bytes, read_from, bytes_of_word}
 use Rattle.machine_model.proofs.order.Kept.{IsWaiting}
 use Rattle.machine_model.proofs.order.Rules.{touches_word}
 use Rattle.machine_model.proofs.order.Steps.{store_of_operation, stores_of}
 use Rattle.memory_model.specs.declared.operation.Operation.{Operation}
-use Rattle.memory_model.specs.Operations.{byte_at, writes, touches, stores_to, written_at}
+use Rattle.memory_model.specs.Operations.{byte_of_number, writes, touches, stores_to, written_at}
 use Rattle.memory_model.specs.Order.{byte_from}
 use Rattle.store_buffer.specs.ByteMask.{each_place, is_marked, marks_of_access, covers}
-use Rattle.store_buffer.specs.Groups.{or_else}
+
 use Rattle.store_buffer.specs.Stores.{last_byte, stored_byte}
 
 -- ---- numbers
@@ -94,7 +95,7 @@ mark_at f (suc (suc (suc zero))) l = refl
 mark_at f (suc (suc (suc (suc k)))) l = absurd (omega (arith, l))
 
 -- the byte at x of what an access read from a word
-pub read_byte : (f : ℕ → ℕ) → ((k : ℕ) → k < 4 → f k < 256) → (address bytes x : ℕ) → address % 4 + bytes ≤ 4 → address ≤ x → x < address + bytes → byte_at address (read_from (each_place f) address bytes) x ≡ f (x - word_of address)
+pub read_byte : (f : ℕ → ℕ) → ((k : ℕ) → k < 4 → f k < 256) → (address bytes x : ℕ) → address % 4 + bytes ≤ 4 → address ≤ x → x < address + bytes → byte_of_number address (read_from (each_place f) address bytes) x ≡ f (x - word_of address)
 read_byte f small address bytes x fit l m =
     let k : address % 4 + (x - address) < 4 = omega (arith, fit, l, m) in
     low_bytes (number_of_bytes (each_place f) / 256 ^ (address % 4)) bytes (x - address) (omega (arith, l, m)) (omega (arith, fit))
@@ -161,25 +162,25 @@ stored_is h a word k own aligned l = go (nat_eq (word_of a.address) word) refl
         ap (λ b. cond (b && is_marked (marks_of_access (a.address % 4) a.size) k) (Some (slice_index (bytes_of_word (a.written * 256 ^ (a.address % 4))) k)) None) e
         ∙ ap (λ b. cond b (Some (written_at a (word + k))) None) (sym (writes_it ∙ false_from_ne_true (touches (word + k) a) (λ t. let w = touches_word (word + k) a own.in_word t in eqb-false (word_of a.address) word e (omega (arith, w, aligned, l)))))
 
-some_else : (x c : ℕ) (b : Operation) (xs : List Operation) → byte_of x (last_or (Some b) xs) ≡ or_else (byte_of x (last_or (Some b) xs)) (Some c)
+some_else : (x c : ℕ) (b : Operation) (xs : List Operation) → byte_of x (last_or (Some b) xs) ≡ option_or (byte_of x (last_or (Some b) xs)) (Some c)
 some_else x c b [] = refl
 some_else x c b (d ∷ xs) = some_else x c d xs
 
-last_more : (x : ℕ) (a : Operation) (xs : List Operation) → byte_of x (last_or (Some a) xs) ≡ or_else (byte_of x (last_or None xs)) (Some (written_at a x))
+last_more : (x : ℕ) (a : Operation) (xs : List Operation) → byte_of x (last_or (Some a) xs) ≡ option_or (byte_of x (last_or None xs)) (Some (written_at a x))
 last_more x a [] = refl
 last_more x a (b ∷ xs) = some_else x (written_at a x) b xs
 
 pub last_is : (h : ℕ) (word k : ℕ) (g : List Operation) → Each (IsWaiting h) g → word % 4 ≡ 0 → k < 4 → last_byte word k (stores_of g) ≡ byte_of (word + k) (last_or None (filter (stores_to (word + k)) g))
 last_is h word k [] own aligned l = refl
 last_is h word k (a ∷ g) own aligned l =
-    ap (λ o. or_else o (stored_byte word k (store_of_operation a))) (last_is h word k g own.1 aligned l)
-    ∙ (ap (or_else (byte_of (word + k) (last_or None (filter (stores_to (word + k)) g)))) (stored_is h a word k own.0 aligned l) ∙ at (stores_to (word + k) a))
+    ap (λ o. option_or o (stored_byte word k (store_of_operation a))) (last_is h word k g own.1 aligned l)
+    ∙ (ap (option_or (byte_of (word + k) (last_or None (filter (stores_to (word + k)) g)))) (stored_is h a word k own.0 aligned l) ∙ at (stores_to (word + k) a))
   where
-    none_else : (o : Option ℕ) → or_else o None ≡ o
+    none_else : (o : Option ℕ) → option_or o None ≡ o
     none_else None = refl
     none_else (Some y) = refl
 
-    at : (b : Bool) → or_else (byte_of (word + k) (last_or None (filter (stores_to (word + k)) g))) (cond b (Some (written_at a (word + k))) None) ≡ byte_of (word + k) (last_or None (cond b (a ∷ filter (stores_to (word + k)) g) (filter (stores_to (word + k)) g)))
+    at : (b : Bool) → option_or (byte_of (word + k) (last_or None (filter (stores_to (word + k)) g))) (cond b (Some (written_at a (word + k))) None) ≡ byte_of (word + k) (last_or None (cond b (a ∷ filter (stores_to (word + k)) g) (filter (stores_to (word + k)) g)))
     at true = sym (last_more (word + k) a (filter (stores_to (word + k)) g))
     at false = none_else _
 

@@ -32,7 +32,7 @@ use Rattle.machine_types.specs.declared.event.Event.{Event}
 use Rattle.machine_types.specs.declared.event.Event.TheVariants as event
 use Rattle.machine_types.specs.declared.outcome.Outcome.{Outcome}
 use Rattle.machine_types.specs.declared.outcome.Outcome.TheVariants as outcome
-use Rattle.machine_model.specs.Changing.{acted, place_at, outcome_of_act}
+use Rattle.machine_model.specs.Changing.{acted, next_place, outcome_of_act}
 use Rattle.machine_model.specs.Deciding.{miss_by, writing_by}
 use Rattle.machine_model.specs.Deliveries.{plan_body, plan_front, unless_busy, unless_releasing, unless_acks_full}
 use Rattle.machine_model.specs.Events.{Verdict, verdict_by, state_by, happens, after_events, is_good, is_limited, plan_of, plan_drain, evict_by, hart_of, counted}
@@ -71,7 +71,7 @@ HasTrunk n word = (dirty : Bool) × (bytes : LineData) × (copy_at n.cache (line
 abbrev pub IsFit : State → ℕ → Act → Type 0
 IsFit s h (act.Retire e i d) =
     (is_step s.trace.image (node_at s h).hart e ≡ true) × (decoded e.word ≡ Some i)
-    × (f : Fetched) × (f.instr ≡ i) × (f.place ≡ place_at s h) × FitsDeed s.views.config.model (node_at s h) f (access_of i (node_at s h).hart.regs) e d
+    × (f : Fetched) × (f.instr ≡ i) × (f.place ≡ next_place s h) × FitsDeed s.views.config.model (node_at s h) f (access_of i (node_at s h).hart.regs) e d
 IsFit s h (act.Drain word) = HasTrunk (node_at s h) word
 IsFit s h _ = Unit {0}
 
@@ -94,7 +94,7 @@ either : (P : Plan → Type 0) (b : Bool) (p q : Plan) → P p → P q → P (co
 either P true p q x y = x
 either P false p q x y = y
 
-fit_both : (s : State) (h : ℕ) (f : Fetched) (p : Plan) → f.place ≡ place_at s h → IsNext s.trace.image (node_at s h) p → FitsPlan s.views.config.model (node_at s h) f (access_of f.instr (node_at s h).hart.regs) p → IsFitPlan s h p
+fit_both : (s : State) (h : ℕ) (f : Fetched) (p : Plan) → f.place ≡ next_place s h → IsNext s.trace.image (node_at s h) p → FitsPlan s.views.config.model (node_at s h) f (access_of f.instr (node_at s h).hart.regs) p → IsFitPlan s h p
 fit_both s h f (Stays o) e x y = tt
 fit_both s h f (Changes (act.Retire r i d)) e x y = (x.0, x.1, f, sym y.0, e, subst (λ (j : Instr). FitsDeed s.views.config.model (node_at s h) f (access_of j (node_at s h).hart.regs) r d) (sym y.0) y.1)
 fit_both s h f (Changes (act.Stop code)) e x y = tt
@@ -104,10 +104,10 @@ fit_both s h f (Changes (act.Evict line)) e x y = tt
 fit_both s h f (Changes (act.Deliver m)) e x y = tt
 fit_both s h f (Changes (act.Local count)) e x y = tt
 
-instr_fit : (s : State) (h word : ℕ) (o : Option Instr) → IsNext s.trace.image (node_at s h) (plan_instr s.views.config.model (node_at s h) word (place_at s h) o) → IsFitPlan s h (plan_instr s.views.config.model (node_at s h) word (place_at s h) o)
+instr_fit : (s : State) (h word : ℕ) (o : Option Instr) → IsNext s.trace.image (node_at s h) (plan_instr s.views.config.model (node_at s h) word (next_place s h) o) → IsFitPlan s h (plan_instr s.views.config.model (node_at s h) word (next_place s h) o)
 instr_fit s h word None x = tt
 instr_fit s h word (Some i) x =
-    let f : Fetched = record { word = word; instr = i; place = place_at s h } in
+    let f : Fetched = record { word = word; instr = i; place = next_place s h } in
     fit_both s h f (plan_access s.views.config.model (node_at s h) f (access_of i (node_at s h).hart.regs)) refl x (access_fits s.views.config.model (node_at s h) f (access_of i (node_at s h).hart.regs))
 
 unless_fit : (s : State) (h : ℕ) (o : Option ℕ) (go : Plan) → (IsNext s.trace.image (node_at s h) go → IsFitPlan s h go) → IsNext s.trace.image (node_at s h) (plan_unless o go) → IsFitPlan s h (plan_unless o go)
@@ -118,12 +118,12 @@ running_fit : (s : State) (h : ℕ) (b : Bool) (go : Plan) → (IsNext s.trace.i
 running_fit s h true go f x = tt
 running_fit s h false go f x = f x
 
-step_fit : (s : State) (h : ℕ) → IsFitPlan s h (plan_step s.views.config.model s.trace.image (node_at s h) (place_at s h))
+step_fit : (s : State) (h : ℕ) → IsFitPlan s h (plan_step s.views.config.model s.trace.image (node_at s h) (next_place s h))
 step_fit s h =
     let n = node_at s h in
     let word = word_at s.trace.image n.hart.pc in
-    let go = plan_instr s.views.config.model n word (place_at s h) (decoded word) in
-    running_fit s h (not (is_running n.hart.status)) (plan_unless (next_stop s.trace.image n.hart) go) (unless_fit s h (next_stop s.trace.image n.hart) go (instr_fit s h word (decoded word))) (step_is_next s.views.config.model s.trace.image n (place_at s h))
+    let go = plan_instr s.views.config.model n word (next_place s h) (decoded word) in
+    running_fit s h (not (is_running n.hart.status)) (plan_unless (next_stop s.trace.image n.hart) go) (unless_fit s h (next_stop s.trace.image n.hart) go (instr_fit s h word (decoded word))) (step_is_next s.views.config.model s.trace.image n (next_place s h))
 
 miss_fit : (s : State) (h line : ℕ) (w : Want) → IsFitPlan s h (miss_by line w)
 miss_fit s h line want.WaitRelease = tt

@@ -9,7 +9,7 @@ use Rattle.hart.specs.declared.retired.Retired.{Retired}
 use Rattle.hart.specs.Run.{at_reset, is_step, number_of as answered_number, number_read}
 use Rattle.machine_model.specs.declared.act.Deed.{Deed}
 use Rattle.machine_model.specs.declared.act.Deed.TheVariants as deed
-use Rattle.machine_model.specs.Changing.{does, drained, place_at, retired}
+use Rattle.machine_model.specs.Changing.{does, drained, next_place, retired}
 use Rattle.machine_model.specs.Steps.{Fetched}
 use Rattle.machine_model.specs.Views.{Node, State, node_at}
 use Rattle.machine_model.specs.Words.{word_of}
@@ -29,7 +29,7 @@ use Rattle.memory_model.specs.declared.MemoryModel.{MemoryModel}
 use Rattle.memory_model.specs.declared.operation.Kind.TheVariants as kind
 use Rattle.memory_model.specs.declared.operation.Operation.{Operation}
 use Rattle.memory_model.specs.Items.{Item, annotations_of, operation_of_access, succeeded}
-use Rattle.memory_model.specs.Operations.{byte_at as number_byte, stores_to, touches, writes, written_at}
+use Rattle.memory_model.specs.Operations.{byte_of_number as number_byte, stores_to, touches, writes, written_at}
 use Rattle.memory_model.specs.Order.{byte_from}
 use Rattle.memory_model.specs.Traces.{image_of, last_performed}
 use Rattle.memory_model.proofs.Lists.{Each-weaker, filter_same, filter_none}
@@ -38,7 +38,7 @@ use Rattle.rv32_decode.specs.Rows.{decoded}
 use Rattle.rv32_decode.specs.declared.instruction.Annotations.{Annotations}
 use Rattle.rv32_decode.specs.declared.instruction.Instr.{Instr}
 use Rattle.rv32_exec.specs.Meaning.{Access, Private, Loads, Stores, DoesLr, DoesSc, DoesAmo, Fences, Calls, access_of}
-use Rattle.store_buffer.specs.Entry.{byte_at, entry_of}
+use Rattle.store_buffer.specs.Entry.{marked_byte, entry_of}
 use Rattle.store_buffer.specs.Groups.{oldest}
 use Rattle.store_buffer.proofs.StoreLaws.{byte_is_last}
 use Rattle.trace_recorder.specs.History.{History, entries_of}
@@ -71,7 +71,7 @@ and_known false false f = refl
 
 -- in its word a drain performs the entry's bytes
 pub drained_last : (h word k : ℕ) (s : State) → h < length s.views.nodes → h < s.views.config.harts → OrderKept s → word % 4 ≡ 0 → k < 4
-    → last_performed (drained h word s).trace (word + k) ≡ unwrap_or (byte_at k (entry_of word (oldest (node_at s h).buffer))) (last_performed s.trace (word + k))
+    → last_performed (drained h word s).trace (word + k) ≡ unwrap_or (marked_byte k (entry_of word (oldest (node_at s h).buffer))) (last_performed s.trace (word + k))
 drained_last h word k s l m o aligned n =
     let q = o.each h m in
     let x = word + k in
@@ -81,8 +81,8 @@ drained_last h word k s l m o aligned n =
     filter-filter (of_word word) (stores_to x) g
     ∙ filter_same (λ a. of_word word a && stores_to x a) (stores_to x) g (Each-weaker (IsWaiting h) (λ a. (of_word word a && stores_to x a) ≡ stores_to x a)
     (λ a w. and_known (of_word word a) (stores_to x a) (λ t. let e = touches_word x a w.in_word (and_parts (writes a.kind) (touches x a) t).1 in eq-eqb (word_of a.address) word (omega (arith, e, aligned, n)))) g own) in
-    let entry : byte_at k (entry_of word (oldest (node_at s h).buffer)) ≡ byte_of x (last_or None (filter (stores_to x) g)) =
-    ap (λ b. byte_at k (entry_of word (oldest b))) q.buffer_is ∙ (ap (λ es. byte_at k (entry_of word es)) (oldest_is q.sealed q.current) ∙ (byte_is_last word k (stores_of g) n ∙ last_is h word k g own aligned n)) in
+    let entry : marked_byte k (entry_of word (oldest (node_at s h).buffer)) ≡ byte_of x (last_or None (filter (stores_to x) g)) =
+    ap (λ b. marked_byte k (entry_of word (oldest b))) q.buffer_is ∙ (ap (λ es. marked_byte k (entry_of word es)) (oldest_is q.sealed q.current) ∙ (byte_is_last word k (stores_of g) n ∙ last_is h word k g own aligned n)) in
     last_more s.trace (drained h word s).trace (drained_out word q) x (drained_moves h word s l).image (drained_done h word s l m o)
     ∙ (ap (λ xs. byte_from (last_performed s.trace) x (last_or None xs)) same
     ∙ (byte_over (last_performed s.trace) x (last_or None (filter (stores_to x) g)) ∙ ap (λ b. unwrap_or b (last_performed s.trace x)) (sym entry)))
@@ -162,14 +162,14 @@ nothing_by h place _ x e = refl
 
 -- an instruction that retires performs the bytes of its deed
 pub retired_last : (h : ℕ) (entry : Retired) (i : Instr) (d : Deed) (s : State) (x : ℕ) → (l : h < s.views.config.harts) → (st : AllStand s) → (step : is_step s.trace.image (node_at s h).hart entry ≡ true) → (dec : decoded entry.word ≡ Some i)
-    → (f : Fetched) → (fi : f.instr ≡ i) → (fp : f.place ≡ place_at s h) → (fits : FitsDeed s.views.config.model (node_at s h) f (access_of i (node_at s h).hart.regs) entry d) → OrderKept s
+    → (f : Fetched) → (fi : f.instr ≡ i) → (fp : f.place ≡ next_place s h) → (fits : FitsDeed s.views.config.model (node_at s h) f (access_of i (node_at s h).hart.regs) entry d) → OrderKept s
     → last_performed (retired h entry i (does s.views.config.model h d s)).trace x ≡ unwrap_or (bytes_by d x) (last_performed s.trace x)
 retired_last h entry i d s x l st step dec f fi fp fits o =
     let t = retired h entry i (does s.views.config.model h d s) in
     let change = retired_step h entry i d s l st step dec f fi fp fits o in
     let p = change.performs in
-    last_more s.trace t.trace p.out x (retired_trace h entry i d s l st).image (done_more h (names_by h (place_at s h) d) s t change.changes p o.resolved)
-    ∙ (byte_over (last_performed s.trace) x (last_or None (filter (stores_to x) p.out)) ∙ ap (λ b. unwrap_or b (last_performed s.trace x)) (by_names (names_cases h (place_at s h) d) p))
+    last_more s.trace t.trace p.out x (retired_trace h entry i d s l st).image (done_more h (names_by h (next_place s h) d) s t change.changes p o.resolved)
+    ∙ (byte_over (last_performed s.trace) x (last_or None (filter (stores_to x) p.out)) ∙ ap (λ b. unwrap_or b (last_performed s.trace x)) (by_names (names_cases h (next_place s h) d) p))
   where
     longer : IsLonger h entry s.trace (retired h entry i (does s.views.config.model h d s)).trace
     longer = retired_trace h entry i d s l st
@@ -177,13 +177,13 @@ retired_last h entry i d s x l st step dec f fi fp fits o =
     lt : h < length s.trace.entries
     lt = subst (λ y. h < y) (sym st.entries) l
 
-    is_place : length (items_at s.trace h) ≡ place_at s h
+    is_place : length (items_at s.trace h) ≡ next_place s h
     is_place = length-items_from 0 (at_reset s.trace.image h (length s.trace.entries)) (entries_of s.trace h)
 
-    by_names : (names_by h (place_at s h) d ≡ []) ⊎ (names_by h (place_at s h) d ≡ record { hart = h; place = place_at s h } ∷ []) → (p : Performs s.views.config.model h (items_at (retired h entry i (does s.views.config.model h d s)).trace h) (node_at (retired h entry i (does s.views.config.model h d s)) h).buffer (done s.trace) (names_by h (place_at s h) d)) → byte_of x (last_or None (filter (stores_to x) p.out)) ≡ bytes_by d x
-    by_names (inl e) p = ap (λ out. byte_of x (last_or None (filter (stores_to x) out))) (nothing_named p.out (p.named ∙ e)) ∙ sym (nothing_by h (place_at s h) d x e)
+    by_names : (names_by h (next_place s h) d ≡ []) ⊎ (names_by h (next_place s h) d ≡ record { hart = h; place = next_place s h } ∷ []) → (p : Performs s.views.config.model h (items_at (retired h entry i (does s.views.config.model h d s)).trace h) (node_at (retired h entry i (does s.views.config.model h d s)) h).buffer (done s.trace) (names_by h (next_place s h) d)) → byte_of x (last_or None (filter (stores_to x) p.out)) ≡ bytes_by d x
+    by_names (inl e) p = ap (λ out. byte_of x (last_or None (filter (stores_to x) out))) (nothing_named p.out (p.named ∙ e)) ∙ sym (nothing_by h (next_place s h) d x e)
     by_names (inr e) p =
-        let one = one_named p.out (record { hart = h; place = place_at s h }) (p.named ∙ e) in
+        let one = one_named p.out (record { hart = h; place = next_place s h }) (p.named ∙ e) in
         let found = subst (Each (λ a. gave_at (items_at s.trace h ++ new_item h entry s.trace ∷ []) a.place ≡ Some a)) one.1 (subst (λ is. Each (λ a. gave_at is a.place ≡ Some a) p.out) (items_here h entry s.trace (retired h entry i (does s.views.config.model h d s)).trace longer lt) p.found) in
         let gave : (new_item h entry s.trace).operation ≡ Some one.0 = sym (ap (option_and_then (λ (q : Item). q.operation)) (get_new (items_at s.trace h) (new_item h entry s.trace) one.0.place (ap (λ (n : OpId). n.place) one.2 ∙ sym is_place))) ∙ found.0 in
         ap (λ out. byte_of x (last_or None (filter (stores_to x) out))) one.1

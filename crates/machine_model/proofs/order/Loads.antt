@@ -25,7 +25,7 @@ use Rattle.memory_model.specs.declared.MemoryModel.TheVariants.{Rvwmo, Ztso}
 use Rattle.memory_model.specs.declared.operation.Kind.TheVariants.{Sc}
 use Rattle.memory_model.specs.declared.operation.Operation.{Operation}
 use Rattle.memory_model.specs.Items.{Item, annotations_of, operation_of_access, succeeded}
-use Rattle.memory_model.specs.Operations.{writes, touches, stores_to, byte_at}
+use Rattle.memory_model.specs.Operations.{writes, touches, stores_to, byte_of_number}
 use Rattle.memory_model.specs.Order.{byte_from, last_write}
 use Rattle.memory_model.proofs.Lists.{filter_none}
 use Rattle.rv32_decode.specs.declared.instruction.AmoOp.{AmoOp}
@@ -51,7 +51,7 @@ buffered_is model h items n performed k word j aligned l =
 
 -- a load's byte
 load_byte : (model : MemoryModel) (h : ℕ) (items : List Item) (n : Node) (performed : List Operation) (memory : ℕ → ℕ) → ((x : ℕ) → memory x < 256) → HoldsLast memory n → (k : HartKept model h items n.buffer performed) (address bytes v x : ℕ) (e : Retired) → e.loaded ≡ Some v → address % 4 + bytes ≤ 4 → ReadsBoth n address bytes e → address ≤ x → x < address + bytes
-    → byte_at address v x ≡ byte_from memory x (last_or None (filter (stores_to x) (joined k.sealed ++ k.current)))
+    → byte_of_number address v x ≡ byte_from memory x (last_or None (filter (stores_to x) (joined k.sealed ++ k.current)))
 load_byte model h items n performed memory small holds k address bytes v x e loaded fit both l m = go both
   where
     some_is : (a b : ℕ) → Some a ≡ Some b → a ≡ b
@@ -72,11 +72,11 @@ load_byte model h items n performed memory small holds k address bytes v x e loa
     at_x : (P : ℕ → Type 0) → P (word_of address + (x - word_of address)) → P x
     at_x P p = subst P there p
 
-    go : ReadsBoth n address bytes e → byte_at address v x ≡ byte_from memory x (last_or None (filter (stores_to x) (joined k.sealed ++ k.current)))
+    go : ReadsBoth n address bytes e → byte_of_number address v x ≡ byte_from memory x (last_or None (filter (stores_to x) (joined k.sealed ++ k.current)))
     go (inl c) =
         let f : ℕ → ℕ = λ j. unwrap_or (buffered_byte (word_of address) j (groups_of n.buffer)) 0 in
         let covered = covered_at (each_place (λ j. is_some (buffered_byte (word_of address) j (groups_of n.buffer)))) (address % 4) bytes (x - word_of address) c.0 (omega (arith, l)) (omega (arith, l, m)) bound in
-        ap (λ w. byte_at address w x) (some_is v (read_from (each_place (λ j. unwrap_or (buffered_byte (word_of address) j (groups_of n.buffer)) 0)) address bytes) (sym loaded ∙ c.1))
+        ap (λ w. byte_of_number address w x) (some_is v (read_from (each_place (λ j. unwrap_or (buffered_byte (word_of address) j (groups_of n.buffer)) 0)) address bytes) (sym loaded ∙ c.1))
         ∙ (read_byte f (λ j b. buffer_small (word_of address + j) (buffered_byte (word_of address) j (groups_of n.buffer)) (last_or None (filter (stores_to (word_of address + j)) (joined k.sealed ++ k.current))) (is_last j b)) address bytes x fit l m
         ∙ at_x (λ y. f (x - word_of address) ≡ byte_from memory y (last_or None (filter (stores_to y) (joined k.sealed ++ k.current))))
         (from_buffer memory (word_of address + (x - word_of address)) (buffered_byte (word_of address) (x - word_of address) (groups_of n.buffer)) (last_or None (filter (stores_to (word_of address + (x - word_of address))) (joined k.sealed ++ k.current))) (is_last (x - word_of address) bound)
@@ -90,7 +90,7 @@ load_byte model h items n performed memory small holds k address bytes v x e loa
         λ j b. ap (λ t. cond t (slice_index upper j) (slice_index lower j)) (mark_at (λ i. is_some (buffered_byte (word_of address) i (groups_of n.buffer))) j b)
         ∙ (ap (λ t. cond (is_some (buffered_byte (word_of address) j (groups_of n.buffer))) t (slice_index lower j)) (place_at (λ i. unwrap_or (buffered_byte (word_of address) i (groups_of n.buffer)) 0) j b)
         ∙ from_both memory (word_of address + j) (slice_index lower j) (buffered_byte (word_of address) j (groups_of n.buffer)) (last_or None (filter (stores_to (word_of address + j)) (joined k.sealed ++ k.current))) (is_last j b) (holds address j c.0 b c.1)) in
-        ap (λ w. byte_at address w x) (some_is v (read_from (laid_over mask upper lower) address bytes) (sym loaded ∙ c.2))
+        ap (λ w. byte_of_number address w x) (some_is v (read_from (laid_over mask upper lower) address bytes) (sym loaded ∙ c.2))
         ∙ (read_byte f (λ j b. subst (λ w. w < 256) (sym (is_both j b)) (both_small memory small (word_of address + j) (last_or None (filter (stores_to (word_of address + j)) (joined k.sealed ++ k.current))))) address bytes x fit l m
         ∙ at_x (λ y. f (x - word_of address) ≡ byte_from memory y (last_or None (filter (stores_to y) (joined k.sealed ++ k.current)))) (is_both (x - word_of address) bound))
 
@@ -104,14 +104,14 @@ none_stores h word x (a ∷ g) at own e =
     (false_from_ne_true (stores_to x a) (λ t. eqb-false (word_of a.address) word es.0 (sym (touches_word x a own.0.in_word (and_parts (writes a.kind) (touches x a) t).1) ∙ at)), none_stores h word x g at own.1 es.1)
 
 trunk_byte : (model : MemoryModel) (h : ℕ) (items : List Item) (n : Node) (performed : List Operation) (memory : ℕ → ℕ) → ((x : ℕ) → memory x < 256) → HoldsLast memory n → (k : HartKept model h items n.buffer performed) (address old x : ℕ) → address % 4 ≡ 0 → list_any (of_word address) (joined k.sealed ++ k.current) ≡ false → ReadsTrunk n address old → address ≤ x → x < address + 4
-    → byte_at address old x ≡ byte_from memory x (last_or None (filter (stores_to x) (joined k.sealed ++ k.current)))
+    → byte_of_number address old x ≡ byte_from memory x (last_or None (filter (stores_to x) (joined k.sealed ++ k.current)))
 trunk_byte model h items n performed memory small holds k address old x aligned none r l m =
     let held = Trunk r.0 r.1 in
     let own_word : word_of address ≡ address = omega (arith, aligned) in
     let f : ℕ → ℕ = λ j. slice_index (word_in r.1 address) j in
     let is_held : (j : ℕ) → j < 4 → f j ≡ memory (address + j) = λ j b. subst (λ w. slice_index (word_in r.1 w) j ≡ memory (w + j)) own_word (holds address j held b r.2) in
     let is_f : (j : ℕ) → read_from (word_in r.1 address) address 4 ≡ read_from (each_place f) address 4 = λ j. refl in
-    ap (λ w. byte_at address w x) (r.3 ∙ is_f 0)
+    ap (λ w. byte_of_number address w x) (r.3 ∙ is_f 0)
     ∙ (read_byte f (λ j b. subst (λ w. w < 256) (sym (is_held j b)) (small (address + j))) address 4 x (omega (arith, aligned)) l m
     ∙ (is_held (x - word_of address) (omega (arith, aligned, l, m))
     ∙ (ap memory (omega (arith, aligned, l))
@@ -177,12 +177,12 @@ value_of model image h place n f e (Loads address bytes) d items performed bits 
     let found = load_found model n f address bytes e d fits in
     let got = loaded_of e e.loaded refl model n address bytes found.1 in
     reads_by image performed (joined k.sealed ++ k.current) _ a g (λ r x t. let q = touched x address bytes t in
-    ap (λ v. byte_at address v x) (read_is e got.0 found.0 got.1) ∙ load_byte model h items n performed (last_write image performed) (λ z. both_small image small z (last_or None (filter (stores_to z) performed))) holds k address bytes got.0 x e got.1 y.1 found.1 q.0 q.1)
+    ap (λ v. byte_of_number address v x) (read_is e got.0 found.0 got.1) ∙ load_byte model h items n performed (last_write image performed) (λ z. both_small image small z (last_or None (filter (stores_to z) performed))) holds k address bytes got.0 x e got.1 y.1 found.1 q.0 q.1)
 value_of model image h place n f e (Stores address bytes value) d items performed bits small holds y fits k a g = reads_by image performed (joined k.sealed ++ k.current) _ a g (λ r x t. absurd (false≢true r))
 value_of model image h place n f e (DoesLr address) d items performed bits small holds y fits k a g =
     let found = lr_found model n f address e d fits in
     reads_by image performed (joined k.sealed ++ k.current) _ a g (λ r x t. let q = touched x address 4 t in
-    ap (λ v. byte_at address v x) (read_is e found.old found.no_sc found.loaded) ∙ trunk_byte model h items n performed (last_write image performed) (λ z. both_small image small z (last_or None (filter (stores_to z) performed))) holds k address found.old x y.1 (lr_alone model h items n performed f.instr address k found.free) found.trunk q.0 q.1)
+    ap (λ v. byte_of_number address v x) (read_is e found.old found.no_sc found.loaded) ∙ trunk_byte model h items n performed (last_write image performed) (λ z. both_small image small z (last_or None (filter (stores_to z) performed))) holds k address found.old x y.1 (lr_alone model h items n performed f.instr address k found.free) found.trunk q.0 q.1)
 value_of model image h place n f e (DoesSc address value) d items performed bits small holds y fits k a g = tried (succeeded e.sc_ok) g
   where
     tried : (b : Bool) → cond b (Some (record { hart = h; place = place; kind = Sc; address = address; size = 4; read = 0; written = value; aq = bits.acquire; rl = bits.release })) None ≡ Some a → ReadsLast image performed (joined k.sealed ++ k.current) a
@@ -191,7 +191,7 @@ value_of model image h place n f e (DoesSc address value) d items performed bits
 value_of model image h place n f e (DoesAmo address op operand) d items performed bits small holds y fits k a g =
     let found = amo_found model n f address op operand e d fits in
     reads_by image performed (joined k.sealed ++ k.current) _ a g (λ r x t. let q = touched x address 4 t in
-    ap (λ v. byte_at address v x) (read_is e found.old found.no_sc found.loaded) ∙ trunk_byte model h items n performed (last_write image performed) (λ z. both_small image small z (last_or None (filter (stores_to z) performed))) holds k address found.old x y.1 (write_alone model h items n performed f.instr address k found.free) found.trunk q.0 q.1)
+    ap (λ v. byte_of_number address v x) (read_is e found.old found.no_sc found.loaded) ∙ trunk_byte model h items n performed (last_write image performed) (λ z. both_small image small z (last_or None (filter (stores_to z) performed))) holds k address found.old x y.1 (write_alone model h items n performed f.instr address k found.free) found.trunk q.0 q.1)
 value_of model image h place n f e Private d items performed bits small holds y fits k a g = none_gives image performed (joined k.sealed ++ k.current) a g
 value_of model image h place n f e Fences d items performed bits small holds y fits k a g = none_gives image performed (joined k.sealed ++ k.current) a g
 value_of model image h place n f e (Calls number argument) d items performed bits small holds y fits k a g = none_gives image performed (joined k.sealed ++ k.current) a g

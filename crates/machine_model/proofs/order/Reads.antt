@@ -10,7 +10,7 @@ use Rattle.machine_model.specs.declared.act.Act.{Act}
 use Rattle.machine_model.specs.declared.act.Act.TheVariants as act
 use Rattle.machine_model.specs.declared.act.Deed.{Deed}
 use Rattle.machine_types.specs.declared.config.Config.{Config}
-use Rattle.machine_model.specs.Changing.{acted, does, drained, place_at, retired, went_alone}
+use Rattle.machine_model.specs.Changing.{acted, does, drained, next_place, retired, went_alone}
 use Rattle.machine_model.specs.Steps.{Fetched}
 use Rattle.machine_model.specs.Views.{State, node_at}
 use Rattle.machine_model.proofs.runs.Runs.{AllStand}
@@ -91,11 +91,11 @@ new_gives h entry i d s l st step dec f fi fits small holds o a g =
     }
 
 retired_values : (h : ℕ) (entry : Retired) (i : Instr) (d : Deed) (s : State) → h < s.views.config.harts → AllStand s → is_step s.trace.image (node_at s h).hart entry ≡ true → decoded entry.word ≡ Some i
-    → (f : Fetched) → f.instr ≡ i → f.place ≡ place_at s h → FitsDeed s.views.config.model (node_at s h) f (access_of i (node_at s h).hart.regs) entry d → ((y : ℕ) → image_of s.trace y < 256) → HoldsLast (last_performed s.trace) (node_at s h)
+    → (f : Fetched) → f.instr ≡ i → f.place ≡ next_place s h → FitsDeed s.views.config.model (node_at s h) f (access_of i (node_at s h).hart.regs) entry d → ((y : ℕ) → image_of s.trace y < 256) → HoldsLast (last_performed s.trace) (node_at s h)
     → OrderKept s → ValuesKept s → ValuesKept (retired h entry i (does s.views.config.model h d s))
 retired_values h entry i d s l st step dec f fi fp fits small holds o v =
     let t = retired h entry i (does s.views.config.model h d s) in
-    let names = names_by h (place_at s h) d in
+    let names = names_by h (next_place s h) d in
     let change = retired_step h entry i d s l st step dec f fi fp fits o in
     let p = change.performs in
     let longer = retired_trace h entry i d s l st in

@@ -32,7 +32,7 @@ use Rattle.machine_model.proofs.order.Split.{Split, gave_at, new_name, split_sto
 use Rattle.rv32_decode.specs.declared.instruction.Instr.{Instr}
 use Rattle.rv32_exec.specs.Meaning.{Access, Private, Loads, Stores, DoesLr, DoesSc, DoesAmo, Fences, Calls}
 use Rattle.store_buffer.specs.Groups.{Groups, after_put, after_put_single, after_seal, has, has_sealed, is_empty, is_nil}
-use Rattle.store_buffer.specs.Stores.{Waiting, entries_in, all_stores, kept_stores, is_to_word, put_behind, sealed_up}
+use Rattle.store_buffer.specs.Stores.{WaitingStores, entries_in, all_stores, kept_stores, is_to_word, put_behind, sealed_up}
 use Rattle.store_buffer.specs.declared.entry.Store.{Store}
 use Rattle.store_buffer.proofs.StoreLaws.{put_is_behind, put_single_is_behind, seal_is_up, has_is_any_of_all, empty_is_none, sealed_is_some}
 use Rattle.trace_recorder.specs.declared.operation.OpId.{OpId}
@@ -45,7 +45,7 @@ store_of_operation a = store_of a.address a.size a.written a.place
 abbrev pub stores_of : List Operation → List Store
 stores_of g = map store_of_operation g
 
-abbrev pub waiting_of : List (List Operation) → List Operation → Waiting
+abbrev pub waiting_of : List (List Operation) → List Operation → WaitingStores
 waiting_of sealed current = record { sealed = map stores_of sealed; current = stores_of current }
 
 pub record HartKept (model : MemoryModel) (h : ℕ) (items : List Item) (buffer : Groups) (performed : List Operation) : Type 0 where
@@ -293,7 +293,7 @@ keeps_store Ztso h items buffer performed m i s new plain gave own quiet here k 
     st : Store
     st = store_of_operation s
 
-    w : Waiting
+    w : WaitingStores
     w = waiting_of k.sealed k.current
 
     single : (b : Bool) → list_any (of_word (word_of s.address)) k.current ≡ b → after_put_single (store_of_operation s) buffer ≡ entries_in (cond b (put_behind (store_of_operation s) (waiting_of k.sealed k.current)) (put_behind (store_of_operation s) (sealed_up (waiting_of k.sealed k.current))))

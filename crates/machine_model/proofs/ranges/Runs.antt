@@ -12,7 +12,7 @@ use Rattle.hart.specs.declared.retired.Retired.{Retired}
 use Rattle.hart.specs.declared.state.Hart.{Hart}
 use Rattle.hart.specs.declared.status.Status.{Status}
 use Rattle.hart.specs.declared.status.Status.TheVariants.{Stopped, Exited}
-use Rattle.hart.specs.Run.{after, are_steps, at_reset, can_fetch, does, has_answers, is_below, is_code, is_run, is_running, is_step, next_stop, reached, status_fits, stop_with}
+use Rattle.hart.specs.Run.{after, are_steps, at_reset, can_fetch, can_do, has_answers, is_below, is_code, is_run, is_running, is_step, next_stop, reached, status_fits, stop_with}
 use Rattle.hart.proofs.Endings.{runs_end_as_their_lists, step_does}
 use Rattle.machine_model.specs.Ranges.{HasCode, HasWords, NamesPlace}
 use Rattle.memory_model.specs.Items.{has_operation}
@@ -66,7 +66,7 @@ loaded_few (Stores address bytes value) entry n few e is = none_loaded n entry.l
 loaded_few Fences entry n few e is = none_loaded n entry.loaded _ e is
 loaded_few (Calls number argument) entry n few e is = none_loaded n entry.loaded _ e is
 
-does_few : (size : ℕ) (hart : Hart) (entry : Retired) (i : Option Instr) (n : ℕ) → does size hart entry i ≡ true → entry.loaded ≡ Some n → n < 2 ^ 32
+does_few : (size : ℕ) (hart : Hart) (entry : Retired) (i : Option Instr) (n : ℕ) → can_do size hart entry i ≡ true → entry.loaded ≡ Some n → n < 2 ^ 32
 does_few size hart entry None n e is = absurd (false≢true e)
 does_few size hart entry (Some i) n e is = loaded_few (access_of i hart.regs) entry n (access_few i hart.regs) (and_parts (is_none (stop_of i hart.pc hart.regs size)) (has_answers (access_of i hart.regs) entry) e).1 is
 

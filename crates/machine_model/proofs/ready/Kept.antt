@@ -12,7 +12,7 @@ use Rattle.backing_memory.specs.Memory.{lines_of, pieces_of}
 use Rattle.client_cache.specs.Word.{with_word}
 use Rattle.elf_loader.specs.Image.{Initial}
 use Rattle.hart.specs.declared.retired.Retired.{Retired}
-use Rattle.machine_model.specs.Changing.{acted, place_at}
+use Rattle.machine_model.specs.Changing.{acted, next_place}
 use Rattle.machine_model.specs.Events.{after_events, counted, entries_by, happens, hart_of, is_good, is_limited, is_piece, names_well, plan_of}
 use Rattle.machine_model.specs.Laws.{KeepsImageAndConfig}
 use Rattle.machine_model.specs.Ready.{IsReadyAct, IsReadyBody, shape_of}
@@ -87,15 +87,15 @@ last_size s h _ last q = refl
 -- the limits were tested
 record IsUnlimited (s : State) (h : ℕ) (a : Act) : Type 0 where
   few_changes : s.views.changes < MAX_CHANGES
-  few_entries : place_at s h + entries_by a ≤ MAX_ENTRIES
+  few_entries : next_place s h + entries_by a ≤ MAX_ENTRIES
 
 unlimited : (s : State) (h : ℕ) (a : Act) → is_limited s h a ≡ false → IsUnlimited s h a
-unlimited s h a e = go (nat_le MAX_CHANGES s.views.changes) refl (nat_lt MAX_ENTRIES (place_at s h + entries_by a)) refl e
+unlimited s h a e = go (nat_le MAX_CHANGES s.views.changes) refl (nat_lt MAX_ENTRIES (next_place s h + entries_by a)) refl e
   where
-    go : (t : Bool) → nat_le MAX_CHANGES s.views.changes ≡ t → (u : Bool) → nat_lt MAX_ENTRIES (place_at s h + entries_by a) ≡ u → t || u ≡ false → IsUnlimited s h a
+    go : (t : Bool) → nat_le MAX_CHANGES s.views.changes ≡ t → (u : Bool) → nat_lt MAX_ENTRIES (next_place s h + entries_by a) ≡ u → t || u ≡ false → IsUnlimited s h a
     go true f u g e = cc e
     go false f true g e = cc e
-    go false f false g e = record { few_changes = leb-false MAX_CHANGES s.views.changes f; few_entries = ltb-false MAX_ENTRIES (place_at s h + entries_by a) g }
+    go false f false g e = record { few_changes = leb-false MAX_CHANGES s.views.changes f; few_entries = ltb-false MAX_ENTRIES (next_place s h + entries_by a) g }
 
 -- an event that changes the machine
 module _ (s : State) (k : IsSized s) (e : Event) (a : Act) (good : is_good s e ≡ true) (planned : plan_of s e ≡ Changes a) where

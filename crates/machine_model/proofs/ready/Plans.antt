@@ -18,7 +18,7 @@ use Rattle.directory.specs.declared.answer.Acquired.TheVariants.{Handled, Busy}
 use Rattle.elf_loader.specs.Image.{word_at}
 use Rattle.hart.specs.Local.{private_row}
 use Rattle.hart.specs.Run.{can_fetch, is_running, next_stop, stop_with}
-use Rattle.machine_model.specs.Changing.{place_at}
+use Rattle.machine_model.specs.Changing.{next_place}
 use Rattle.machine_model.specs.Deciding.{miss_by, reading, reading_by, writing, writing_by}
 use Rattle.machine_model.specs.Deliveries.{plan_body, plan_front, unless_acks_full, unless_busy, unless_releasing}
 use Rattle.machine_model.specs.Events.{evict_by, hart_of, names_well, plan_drain, plan_local, plan_of}
@@ -231,7 +231,7 @@ module _ (s : State) (last : ℕ → LineData) (i : IsFit s last) (h : ℕ) wher
       (λ e. by_test IsFound (length (private_row s.trace.image n.hart count) == count) (Changes (act.Local count)) (Stays outcome.NotLocal) (λ e. tt) (λ e. tt))
 
 pub plan_found : (s : State) (last : ℕ → LineData) (i : IsFit s last) (e : Event) → names_well s e ≡ true → IsFound s last i (hart_of e) (plan_of s e)
-plan_found s last i (event.Step h) well = step s last i h s.views.config.model (place_at s h)
+plan_found s last i (event.Step h) well = step s last i h s.views.config.model (next_place s h)
 plan_found s last i (event.Drain h word) well = drain s last i h word (piece s.trace.image word 4 well).aligned
 plan_found s last i (event.Evict h l) well = evicts s last i h l (evicted (node_at s h).cache l).0
 plan_found s last i (event.Deliver channel h) well = front s last i h (front_of (queue_of (node_at s h).queues channel))

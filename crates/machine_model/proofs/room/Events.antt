@@ -20,7 +20,7 @@ use Rattle.directory.specs.declared.answer.Acquired.TheVariants.{Handled, Busy}
 use Rattle.elf_loader.specs.Image.{Initial}
 use Rattle.hart.specs.Local.{private_row}
 use Rattle.hart.specs.Run.{is_running}
-use Rattle.machine_model.specs.Changing.{acted, outcome_of_act, place_at}
+use Rattle.machine_model.specs.Changing.{acted, outcome_of_act, next_place}
 use Rattle.machine_types.specs.Config.{is_within_limits}
 use Rattle.machine_types.proofs.Limits.{limits_of}
 use Rattle.machine_model.specs.Deciding.{miss_by, writing_by}
@@ -128,7 +128,7 @@ front_leaves s h None = tt
 front_leaves s h (Some m) = body_leaves s h m m.line m.body refl
 
 plan_leaves : (s : State) (e : Event) → PlanLeavesRoom s (hart_of e) (plan_of s e)
-plan_leaves s (event.Step h) = next_leaves s h _ (step_is_next s.views.config.model s.trace.image (node_at s h) (place_at s h))
+plan_leaves s (event.Step h) = next_leaves s h _ (step_is_next s.views.config.model s.trace.image (node_at s h) (next_place s h))
 plan_leaves s (event.Drain h word) = drain_leaves s h word
 plan_leaves s (event.Evict h line) = evict_leaves s h line (evicted (node_at s h).cache line).0
 plan_leaves s (event.Deliver channel h) = front_leaves s h (front_of (queue_of (node_at s h).queues channel))

@@ -28,7 +28,7 @@ use Rattle.hart.specs.Local.{private_row}
 use Rattle.hart.specs.Run.{after_instr, reached}
 use Rattle.hart.specs.declared.state.Hart.{Hart}
 use Rattle.hart.specs.declared.status.Status.TheVariants.{Stopped}
-use Rattle.machine_model.specs.Changing.{acted, does, drained, given_up, missed, performs, performs_own, place_at, put_behind, release_body, sent_if_evicted, with_buffer, with_reservation, writes_word}
+use Rattle.machine_model.specs.Changing.{acted, does, drained, given_up, missed, performs, performs_own, next_place, put_behind, release_body, sent_if_evicted, with_buffer, with_reservation, writes_word}
 use Rattle.machine_model.specs.Deliveries.{delivered, grant_body, handled, line_in_memory, on_grant, on_probe, on_probe_ack, on_release, on_release_ack, probe_ack_body, sent_grant, sent_if_answered, sent_if_granted, sent_if_handled, sent_probes, taken, with_less, with_memory, with_notes}
 use Rattle.machine_model.specs.LawfulLog.{is_grant}
 use Rattle.machine_model.specs.Views.{Node, State, line_of, line_size, node_at, opening_node, place_of, sent, with_node, with_trace}
@@ -370,13 +370,13 @@ drained_small s h word k =
 does_small : (model : MemoryModel) (h : ℕ) (d : Deed) (s : State) → IsSmallState s → IsSmallState (does model h d s)
 does_small model h deed.Private s k = k
 does_small model h (deed.Output number) s k = with_small s h (record (node_at s h) { output = (node_at s h).output ++ number ∷ [] }) k (node_small s k h)
-does_small model h deed.Load s k = performs_small h (place_at s h ∷ []) s k
+does_small model h deed.Load s k = performs_small h (next_place s h ∷ []) s k
 does_small model h (deed.Store store) s k = buffer_small s h (put_behind model store (node_at s h).buffer) k
 does_small model h deed.Seal s k = buffer_small s h (after_seal (node_at s h).buffer) k
-does_small model h (deed.Lr word) s k = reservation_small (performs_own h s) h (Some word) (performs_small h (place_at s h ∷ []) s k)
+does_small model h (deed.Lr word) s k = reservation_small (performs_own h s) h (Some word) (performs_small h (next_place s h ∷ []) s k)
 does_small model h deed.Fail s k = reservation_small s h None k
-does_small model h (deed.Sc word value) s k = reservation_small (writes_word h word (marks_of_access 0 4) (bytes_of_word value) (performs_own h s)) h None (writes_small (performs_own h s) h word (marks_of_access 0 4) (bytes_of_word value) (performs_small h (place_at s h ∷ []) s k))
-does_small model h (deed.Amo word value) s k = writes_small (performs_own h s) h word (marks_of_access 0 4) (bytes_of_word value) (performs_small h (place_at s h ∷ []) s k)
+does_small model h (deed.Sc word value) s k = reservation_small (writes_word h word (marks_of_access 0 4) (bytes_of_word value) (performs_own h s)) h None (writes_small (performs_own h s) h word (marks_of_access 0 4) (bytes_of_word value) (performs_small h (next_place s h ∷ []) s k))
+does_small model h (deed.Amo word value) s k = writes_small (performs_own h s) h word (marks_of_access 0 4) (bytes_of_word value) (performs_small h (next_place s h ∷ []) s k)
 
 -- ---- an act
 

@@ -19,7 +19,7 @@ use Rattle.machine_model.specs.declared.act.Plan.TheVariants.{Stays, Changes}
 use Rattle.machine_types.specs.declared.event.Event.TheVariants as event
 use Rattle.machine_types.specs.declared.outcome.Outcome.{Outcome}
 use Rattle.machine_types.specs.declared.outcome.Outcome.TheVariants as outcome
-use Rattle.machine_model.specs.Changing.{with_entries, outcome_by, place_at, retired, went_alone, with_halt}
+use Rattle.machine_model.specs.Changing.{with_entries, outcome_by, next_place, retired, went_alone, with_halt}
 use Rattle.machine_model.specs.Events.{Verdict, counted, is_good, plan_of, verdict, verdict_by}
 use Rattle.machine_model.specs.Laws.{LocalIsSteps, StepsRetire, with_changes}
 use Rattle.machine_model.specs.Steps.{plan_access, plan_instr, plan_step, plan_unless}
@@ -73,18 +73,18 @@ not_limited changes place c p = go (nat_le MAX_CHANGES changes) refl (nat_lt MAX
 
 -- the verdict on the step
 step_verdict : (s : State) (h : ℕ) (i : Instr) → h < length s.views.nodes → can_go_alone s.trace.image (node_at s h).hart ≡ true → decoded (word_at s.trace.image (node_at s h).hart.pc) ≡ Some i → access_of i (node_at s h).hart.regs ≡ Private → is_none (stop_of i (node_at s h).hart.pc (node_at s h).hart.regs 0) ≡ true
-    → s.views.changes < MAX_CHANGES → place_at s h + 1 ≤ MAX_ENTRIES → verdict s (event.Step h) ≡ Verdict.Moves outcome.Retired (stepped h i s)
+    → s.views.changes < MAX_CHANGES → next_place s h + 1 ≤ MAX_ENTRIES → verdict s (event.Step h) ≡ Verdict.Moves outcome.Retired (stepped h i s)
 step_verdict s h i l g d p n c m =
     let hart = (node_at s h).hart in
     let image = s.trace.image in
     let a = alone image hart g in
     let entry = next_entry image hart in
-    let plan : plan_of s (event.Step h) ≡ Changes (act.Retire entry i deed.Private) = step_alone s.views.config.model image (node_at s h) (place_at s h) i a.running (no_stop image hart i a.fetched d p n) d p in
+    let plan : plan_of s (event.Step h) ≡ Changes (act.Retire entry i deed.Private) = step_alone s.views.config.model image (node_at s h) (next_place s h) i a.running (no_stop image hart i a.fetched d p n) d p in
     let good : is_good s (event.Step h) ≡ true = and_from _ _ (lt-ltb h (length s.views.nodes) l) refl in
     let on : (after_instr hart entry (Some i)).status ≡ Running = ap (λ (o : Option Instr). (after_instr hart entry o).status) (sym d) ∙ running_is (after hart entry).status (after-running image hart g) in
     ap (λ (b : Bool). cond b (verdict_by s h (plan_of s (event.Step h))) Verdict.IsBad) good
     ∙ (ap (verdict_by s h) plan
-    ∙ (ap (λ (b : Bool). cond b Verdict.IsLimited (Verdict.Moves (outcome_by (after_instr hart entry (Some i)).status) (stepped h i s))) (not_limited s.views.changes (place_at s h) c m)
+    ∙ (ap (λ (b : Bool). cond b Verdict.IsLimited (Verdict.Moves (outcome_by (after_instr hart entry (Some i)).status) (stepped h i s))) (not_limited s.views.changes (next_place s h) c m)
     ∙ ap (λ (x : Status). Verdict.Moves (outcome_by x) (stepped h i s)) on))
 
 -- ---- many steps
@@ -146,7 +146,7 @@ stays_put s h =
     ap (λ (n : ℕ). with_changes n s) (omega arith)
     ∙ ap (λ (ns : List Node). record { views = record s.views { nodes = ns; changes = s.views.changes + 0 }; trace = s.trace }) (sym (set-get_or s.views.nodes h (no_node s)))
 
-went : (n : ℕ) (s : State) (h : ℕ) → h < length s.views.nodes → length (private_row s.trace.image (node_at s h).hart n) ≡ n → s.views.changes + n ≤ MAX_CHANGES → place_at s h + n ≤ MAX_ENTRIES → Went h n s
+went : (n : ℕ) (s : State) (h : ℕ) → h < length s.views.nodes → length (private_row s.trace.image (node_at s h).hart n) ≡ n → s.views.changes + n ≤ MAX_CHANGES → next_place s h + n ≤ MAX_ENTRIES → Went h n s
 went zero s h l e c p = record { last = s; steps = refl; is = stays_put s h }
 went (suc n) s h l e c p =
     let image = s.trace.image in
@@ -159,7 +159,7 @@ went (suc n) s h l e c p =
     let is = stepped_is s h f.0 f.1 head.0 in
     let at : (node_at next h).hart ≡ after hart entry = ap (λ (x : State). (node_at x h).hart) is ∙ ap (λ (x : Node). x.hart) (node_same h (record (node_at s h) { hart = after hart entry }) s l) in
     let images : next.trace.image ≡ image = ap (λ (x : State). x.trace.image) is in
-    let places : place_at next h ≤ place_at s h + 1 = subst (λ (x : State). place_at x h ≤ place_at s h + 1) (sym is) (place_grows s.trace.entries h entry) in
+    let places : next_place next h ≤ next_place s h + 1 = subst (λ (x : State). next_place x h ≤ next_place s h + 1) (sym is) (place_grows s.trace.entries h entry) in
     let counts : next.views.changes ≡ s.views.changes + 1 = refl in
     let room : length next.views.nodes ≡ length s.views.nodes = ap (λ (x : State). length x.views.nodes) is ∙ length-set s.views.nodes h _ in
     let rest = went n next h (rw room l) (ap (λ (i : Initial). length (private_row i (node_at next h).hart n)) images ∙ (ap (λ (x : Hart). length (private_row image x n)) at ∙ head.1)) (omega arith) (omega arith) in
@@ -176,7 +176,7 @@ pub record Retires (s : State) (h count : ℕ) (o : Outcome) (new : State) : Typ
   pub there : h < length s.views.nodes
   pub few : count ≤ 256
   pub whole : length (private_row s.trace.image (node_at s h).hart count) ≡ count
-  pub place : place_at s h + count ≤ MAX_ENTRIES
+  pub place : next_place s h + count ≤ MAX_ENTRIES
   pub retires : o ≡ outcome.Retired
   pub new_is : new ≡ counted (went_alone h count s)
 
@@ -186,15 +186,15 @@ moves_are o p s t e = (cc, cc)
 abbrev limited : State → ℕ → ℕ → Bool → Bool → Verdict
 limited s h count a b = cond (a || b) Verdict.IsLimited (Verdict.Moves outcome.Retired (counted (went_alone h count s)))
 
-by_limit : (s : State) (h count : ℕ) (o : Outcome) (new : State) (a b : Bool) → nat_lt MAX_ENTRIES (place_at s h + count) ≡ b → h < length s.views.nodes → count ≤ 256 → length (private_row s.trace.image (node_at s h).hart count) ≡ count → limited s h count a b ≡ Verdict.Moves o new → Retires s h count o new
+by_limit : (s : State) (h count : ℕ) (o : Outcome) (new : State) (a b : Bool) → nat_lt MAX_ENTRIES (next_place s h + count) ≡ b → h < length s.views.nodes → count ≤ 256 → length (private_row s.trace.image (node_at s h).hart count) ≡ count → limited s h count a b ≡ Verdict.Moves o new → Retires s h count o new
 by_limit s h count o new true b e l f w v = absurd cc
 by_limit s h count o new false true e l f w v = absurd cc
 by_limit s h count o new false false e l f w v =
     let m = moves_are outcome.Retired o (counted (went_alone h count s)) new v in
-    record { there = l; few = f; whole = w; place = ltb-false MAX_ENTRIES (place_at s h + count) e; retires = m.0; new_is = m.1 }
+    record { there = l; few = f; whole = w; place = ltb-false MAX_ENTRIES (next_place s h + count) e; retires = m.0; new_is = m.1 }
 
 by_row : (s : State) (h count : ℕ) (o : Outcome) (new : State) (b : Bool) → nat_eq (length (private_row s.trace.image (node_at s h).hart count)) count ≡ b → h < length s.views.nodes → count ≤ 256 → verdict_by s h (cond b (Changes (act.Local count)) (Stays outcome.NotLocal)) ≡ Verdict.Moves o new → Retires s h count o new
-by_row s h count o new true e l f v = by_limit s h count o new (nat_le MAX_CHANGES s.views.changes) (nat_lt MAX_ENTRIES (place_at s h + count)) refl l f (eqb-true _ _ e) v
+by_row s h count o new true e l f v = by_limit s h count o new (nat_le MAX_CHANGES s.views.changes) (nat_lt MAX_ENTRIES (next_place s h + count)) refl l f (eqb-true _ _ e) v
 by_row s h count o new false e l f v = absurd cc
 
 by_running : (s : State) (h count : ℕ) (o : Outcome) (new : State) (b : Bool) → h < length s.views.nodes → count ≤ 256 → verdict_by s h (cond (not b) (Stays outcome.Halted) (cond (nat_eq (length (private_row s.trace.image (node_at s h).hart count)) count) (Changes (act.Local count)) (Stays outcome.NotLocal))) ≡ Verdict.Moves o new → Retires s h count o new

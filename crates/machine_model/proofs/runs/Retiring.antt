@@ -11,7 +11,7 @@ use Rattle.client_cache.specs.declared.held.Held.TheVariants.{Branch, Trunk}
 use Rattle.client_cache.specs.Held.{bytes_in}
 use Rattle.elf_loader.specs.Image.{Initial, word_at}
 use Rattle.hart.specs.declared.retired.Retired.{Retired}
-use Rattle.hart.specs.Run.{can_fetch, does, has_answers, is_running, is_step, next_stop, stop_with}
+use Rattle.hart.specs.Run.{can_fetch, can_do, has_answers, is_running, is_step, next_stop, stop_with}
 use Rattle.machine_model.specs.declared.act.Act.TheVariants as act
 use Rattle.machine_model.specs.declared.act.Deed.TheVariants as deed
 use Rattle.machine_model.specs.declared.act.Plan.{Plan}
@@ -134,7 +134,7 @@ can_be false o e = absurd cc
 step_from : (image : Initial) (n : Node) (w : ℕ) (i : Instr) (e : Retired) → w ≡ word_at image n.hart.pc → decoded w ≡ Some i → is_running n.hart.status ≡ true → can_fetch image n.hart.pc ≡ true → stop_of i n.hart.pc n.hart.regs (length image.bytes) ≡ None → e.pc ≡ n.hart.pc → e.word ≡ w → has_answers (access_of i n.hart.regs) e ≡ true → is_step image n.hart e ≡ true
 step_from image n w i e ew d r c s pc word a =
     and_from _ _ (and_from _ _ (and_from _ _ (and_from _ _ r (eq-eqb e.pc n.hart.pc pc)) c) (eq-eqb e.word (word_at image n.hart.pc) (word ∙ ew)))
-    (ap (does (length image.bytes) n.hart e) (ap decoded word ∙ d) ∙ and_from (is_none (stop_of i n.hart.pc n.hart.regs (length image.bytes))) _ (ap is_none s) a)
+    (ap (can_do (length image.bytes) n.hart e) (ap decoded word ∙ d) ∙ and_from (is_none (stop_of i n.hart.pc n.hart.regs (length image.bytes))) _ (ap is_none s) a)
 
 fit_next : (image : Initial) (n : Node) (w place : ℕ) (i : Instr) (p : Plan) → w ≡ word_at image n.hart.pc → decoded w ≡ Some i → is_running n.hart.status ≡ true → can_fetch image n.hart.pc ≡ true → stop_of i n.hart.pc n.hart.regs (length image.bytes) ≡ None → AnswersAccess n (record { word = w; instr = i; place = place }) (access_of i n.hart.regs) p → IsNext image n p
 fit_next image n w place i (Stays o) ew d r c s f = tt

@@ -35,7 +35,7 @@ use Rattle.machine_types.specs.declared.outcome.Outcome.TheVariants as outcome
 use Rattle.machine_types.specs.declared.config.Config.{Config}
 use Rattle.machine_types.specs.declared.event.Event.{Event}
 use Rattle.machine_types.specs.declared.event.Event.TheVariants as event
-use Rattle.machine_model.specs.Changing.{acted, does, drained, given_up, missed, outcome_of_act, place_at, retired, stopped, with_halt, with_entries, went_alone}
+use Rattle.machine_model.specs.Changing.{acted, does, drained, given_up, missed, outcome_of_act, next_place, retired, stopped, with_halt, with_entries, went_alone}
 use Rattle.machine_model.specs.Deliveries.{delivered}
 use Rattle.machine_model.specs.Deciding.{miss_by, writing_by}
 use Rattle.machine_model.specs.Deliveries.{plan_body, plan_front, unless_acks_full, unless_busy, unless_releasing}
@@ -377,7 +377,7 @@ local_by image n count true e = either (IsAllowedPlan image n) (nat_eq (length (
 local_by image n count false e = tt
 
 plan_allowed : (s : State) (e : Event) → IsAllowedPlan s.trace.image (node_at s (hart_of e)) (plan_of s e)
-plan_allowed s (event.Step h) = next_allowed s.trace.image (node_at s h) _ (step_is_next s.views.config.model s.trace.image (node_at s h) (place_at s h))
+plan_allowed s (event.Step h) = next_allowed s.trace.image (node_at s h) _ (step_is_next s.views.config.model s.trace.image (node_at s h) (next_place s h))
 plan_allowed s (event.Drain h word) = drain_allowed s.trace.image (node_at s h) word
 plan_allowed s (event.Evict h line) = evict_allowed s.trace.image (node_at s h) line (evicted (node_at s h).cache line).0
 plan_allowed s (event.Deliver channel h) = front_allowed s.trace.image s h (node_at s h) (front_of (queue_of (node_at s h).queues channel))

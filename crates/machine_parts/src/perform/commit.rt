@@ -1,7 +1,7 @@
 //! A row of private instructions that a hart has run by itself, committed as it is.
 
 ghost use Rattle.std.specs.Prelude.{◌≡◌, ◌≢◌, ◌+◌, ◌<◌, ◌≤◌, [], length, slice_index};
-ghost use Rattle.hart.specs.Local.{row_of};
+ghost use Rattle.hart.specs.Local.{private_row_from};
 ghost use Rattle.machine_limits.specs.declared.TheConstants.{MAX_ENTRIES};
 ghost use Rattle.machine_model.specs.Changing.{went_alone, with_entries};
 ghost use Rattle.machine_model.specs.Events.{verdict};
@@ -26,7 +26,7 @@ impl Parts {
         requires sound { IsSound (state_of self.old) }
         requires hart { hart < length self.old.nodes.items }
         requires some { batch.now.entries ≢ [] }
-        requires row { batch.now ≡ row_of self.old.trace.history.image (node_at (state_of self.old) hart).hart (length batch.now.entries) }
+        requires row { batch.now ≡ private_row_from self.old.trace.history.image (node_at (state_of self.old) hart).hart (length batch.now.entries) }
         ensures { Answers (verdict (state_of self.old) (Event.Local hart (length batch.now.entries))) (state_of self.old) result (state_of self.new) }
     {
         let act = Act::Local(batch.entries().len() as u32);
@@ -46,7 +46,7 @@ fn take_over(parts: &mut Parts, hart: u8, batch: &Batch)
     requires entries { hart < length parts.old.trace.history.entries }
     requires few { length (entries_of parts.old.trace.history hart) + length batch.now.entries ≤ MAX_ENTRIES }
     requires room { length batch.now.entries ≤ slice_index parts.old.trace.room.entries hart }
-    requires row { batch.now ≡ row_of parts.old.trace.history.image (node_at (state_of parts.old) hart).hart (length batch.now.entries) }
+    requires row { batch.now ≡ private_row_from parts.old.trace.history.image (node_at (state_of parts.old) hart).hart (length batch.now.entries) }
     ensures { state_of parts.new ≡ went_alone hart (length batch.now.entries) (state_of parts.old) }
 {
     parts.nodes[hart as usize].hart = *batch.last();

@@ -5,7 +5,7 @@ ghost use Rattle.hart.specs.Local.{private_row};
 ghost use Rattle.hart.specs.Run.{reached};
 ghost use Rattle.machine_limits.specs.declared.TheConstants.{MAX_ENTRIES};
 ghost use Rattle.machine_model.specs.declared.act.Act.TheVariants as act;
-ghost use Rattle.machine_model.specs.Changing.{place_at, went_alone, with_entries};
+ghost use Rattle.machine_model.specs.Changing.{next_place, went_alone, with_entries};
 ghost use Rattle.machine_model.specs.Ready.{IsSound};
 ghost use Rattle.machine_parts.specs.Needs.{HasNeeded, needs_of};
 ghost use Rattle.machine_parts.specs.Parts.{state_of};
@@ -19,7 +19,7 @@ use trace_recorder::Trace;
 pub(crate) fn go_alone(parts: &mut Parts, hart: u8, count: u32)
     requires sound { IsSound (state_of parts.old) }
     requires hart { hart < length parts.old.nodes.items }
-    requires few { place_at (state_of parts.old) hart + count ≤ MAX_ENTRIES }
+    requires few { next_place (state_of parts.old) hart + count ≤ MAX_ENTRIES }
     requires room { HasNeeded hart (needs_of (state_of parts.old) hart (act.Local count)) parts.old.trace.room }
     ensures { state_of parts.new ≡ went_alone hart count (state_of parts.old) }
 {

@@ -3,7 +3,7 @@
 ghost use Rattle.std.specs.Prelude.{◌≡◌, ◌<◌, OnErr, OnOk, length, slice_index};
 ghost use Rattle.machine_limits.specs.declared.TheConstants.{MAX_ENTRIES};
 ghost use Rattle.machine_model.specs.declared.act.Act.TheVariants as act;
-ghost use Rattle.machine_model.specs.Changing.{does, place_at, retired, stopped, with_halt};
+ghost use Rattle.machine_model.specs.Changing.{does, next_place, retired, stopped, with_halt};
 ghost use Rattle.machine_model.specs.Ready.{IsReadyDeed, IsSound};
 ghost use Rattle.machine_parts.specs.Needs.{HasNeeded, needs_of};
 ghost use Rattle.machine_parts.specs.Parts.{state_of};
@@ -27,7 +27,7 @@ pub(crate) fn retire(
 ) -> Result<(), AllocError>
     requires sound { IsSound (state_of parts.old) }
     requires hart { hart < length parts.old.nodes.items }
-    requires few { place_at (state_of parts.old) hart < MAX_ENTRIES }
+    requires few { next_place (state_of parts.old) hart < MAX_ENTRIES }
     requires room { HasNeeded hart (needs_of (state_of parts.old) hart (act.Retire entry.now instr.now deed.now)) parts.old.trace.room }
     requires ready { IsReadyDeed hart deed.now (state_of parts.old) }
     ensures ok { OnOk result (state_of parts.new ≡ retired hart entry.now instr.now (does parts.old.config.model hart deed.now (state_of parts.old))) }

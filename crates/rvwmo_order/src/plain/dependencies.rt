@@ -1,7 +1,8 @@
 //! Dependencies through registers (chapter 14.1, "Syntactic Dependencies", and 14.3): what came from an
 //! operation is carried forward through the registers, one flag for each of x0 to x31.
 ghost use Rattle.std.specs.Prelude.{◌≡◌, ◌&&◌};
-ghost use Rattle.rv32_exec.specs.Uses.{registers_in, uses_of};
+ghost use Rattle.std.specs.Option.{option_to_list};
+ghost use Rattle.rv32_exec.specs.Uses.{uses_of};
 ghost use Rattle.memory_model.specs.Dependencies as spec;
 
 use crate::accesses::precedes;
@@ -13,7 +14,7 @@ use rv32_exec::{address_register, destination, other_registers, stored_register}
 
 // Whether a register, where there is one, holds it.
 fn is_held(held: &[bool; 32], register: Option<Register>) -> bool
-    ensures { result ≡ spec.holds held.now (registers_in register) }
+    ensures { result ≡ spec.holds held.now (option_to_list register) }
 {
     match register {
         Some(register) => held[register.number() as usize],

@@ -2,7 +2,7 @@ use Rattle.std.proofs.Common.{◌≡◌, ◌∙◌, ap, sym, subst, List}
 use Rattle.std.specs.Prelude.{replicate, All}
 use Rattle.std.proofs.lemmas.List.Elements.{All-replicate}
 use Rattle.directory.specs.declared.entry.Slot.{Slot}
-use Rattle.directory.specs.Entries.{IsSoundEntry, line_of}
+use Rattle.directory.specs.Entries.{IsSoundEntry, notes_of_entry}
 use Rattle.directory.proofs.Slots.{notes-opening}
 use Rattle.directory.proofs.directory.Directory.new.Goals as goal
 
@@ -18,4 +18,4 @@ invariant_of-result c =
 pub returns : goal.returns
 returns c =
     let all : c.in_ok-slots.slots.items ≡ replicate c.args.lines c.new-2.result = c.in_ok-slots.ensures.items_if_clones_equal (λ y h. h) in
-    notes-opening c.args.harts c.args.lines c.new-2.result c.in_ok-slots.slots.items all (ap (line_of c.args.harts) c.new-2.ensures ∙ c.new.ensures.line c.args.harts)
+    notes-opening c.args.harts c.args.lines c.new-2.result c.in_ok-slots.slots.items all (ap (notes_of_entry c.args.harts) c.new-2.ensures ∙ c.new.ensures.line c.args.harts)

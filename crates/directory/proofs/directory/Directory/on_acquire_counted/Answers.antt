@@ -1,6 +1,6 @@
 use Rattle.std.proofs.Common.{ℕ, ap, subst}
 use Rattle.directory.specs.Lines.{acquired}
-use Rattle.directory.specs.Entries.{line_of}
+use Rattle.directory.specs.Entries.{notes_of_entry}
 use Rattle.directory.specs.Directory.{Notes, AnswersHarts}
 use Rattle.directory.proofs.Slots.{line_at-notes, sound-at, notes-answered, harts-notes}
 use Rattle.directory.proofs.directory.Directory.on_acquire_counted.Goals as goal
@@ -12,7 +12,7 @@ returns-clause-meaning g c =
     let d = c.args.self.now in
     let at = line_at-notes n xs d c.args.line c.index.result.now c.look.result c.self.view_is c.requires.line c.index.ensures c.look.ensures.entry in
     let sound = sound-at n xs d c.args.line c.index.result.now c.look.result c.self.view_is c.self.invariant c.requires.line c.index.ensures c.look.ensures.entry in
-    notes-answered n xs d c.args.line c.new.result c.acquire-answer.result.1 c.acquire-answer.result.0 (λ l. acquired l c.args.hart c.args.grow) (line_of n c.look.result) c.self.view_is c.new.ensures at
+    notes-answered n xs d c.args.line c.new.result c.acquire-answer.result.1 c.acquire-answer.result.0 (λ l. acquired l c.args.hart c.args.grow) (notes_of_entry n c.look.result) c.self.view_is c.new.ensures at
     (c.acquire-answer.ensures.meaning n (harts-notes n xs d c.args.hart c.self.view_is c.requires.hart) c.self.invariant.few sound)
 
 pub returns-clause-harts : goal.returns-clause-harts

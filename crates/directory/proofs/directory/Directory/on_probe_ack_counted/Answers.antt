@@ -1,5 +1,5 @@
 use Rattle.directory.specs.Lines.{probe_acked}
-use Rattle.directory.specs.Entries.{line_of}
+use Rattle.directory.specs.Entries.{notes_of_entry}
 use Rattle.std.proofs.Common.{ℕ, ◌<◌, ap, subst}
 use Rattle.std.specs.Prelude.{IfSome}
 use Rattle.directory.specs.Directory.{Notes}
@@ -13,7 +13,7 @@ returns-clause-meaning g c =
     let d = c.args.self.now in
     let at = line_at-notes n xs d c.args.line c.index.result.now c.look.result c.self.view_is c.requires.line c.index.ensures c.look.ensures.entry in
     let sound = sound-at n xs d c.args.line c.index.result.now c.look.result c.self.view_is c.self.invariant c.requires.line c.index.ensures c.look.ensures.entry in
-    notes-answered n xs d c.args.line c.new.result c.probe_ack-grant.result.1 c.probe_ack-grant.result.0 (λ l. probe_acked l c.args.hart c.args.change) (line_of n c.look.result) c.self.view_is c.new.ensures at
+    notes-answered n xs d c.args.line c.new.result c.probe_ack-grant.result.1 c.probe_ack-grant.result.0 (λ l. probe_acked l c.args.hart c.args.change) (notes_of_entry n c.look.result) c.self.view_is c.new.ensures at
     (c.probe_ack-grant.ensures.meaning n (harts-notes n xs d c.args.hart c.self.view_is c.requires.hart) c.self.invariant.few sound)
 
 pub returns-clause-harts : goal.returns-clause-harts

@@ -1,6 +1,6 @@
 use Rattle.std.proofs.Common.{◌≡◌, ◌≢◌, ◌∙◌, ap, sym, [], List, ℕ}
 use Rattle.directory.specs.Lines.{acquired_by, probed}
-use Rattle.directory.specs.Entries.{is_asked_back, line_of}
+use Rattle.directory.specs.Entries.{is_asked_back, notes_of_entry}
 use Rattle.directory.proofs.Calls.{probed-line_of, begun_by_probes}
 use Rattle.directory.proofs.Sound.{alone, asked-in_the_way, sound-probing}
 use Rattle.directory.proofs.Calls.{in_the_way-below}
@@ -14,9 +14,9 @@ grant-entry-requires-clause-alone c =
 
 pub returns-then-is_empty-clause-meaning : goal.returns-then-is_empty-clause-meaning
 returns-then-is_empty-clause-meaning c = λ harts l few sound.
-    let none : probed (line_of harts c.args.self) c.args.requester c.args.grow ≡ [] = probed-line_of harts c.args.self c.args.requester c.args.grow sound few ∙ sym c.probes-probes.ensures ∙ c.is_empty.ensures.0 c.if-is_empty.true in
+    let none : probed (notes_of_entry harts c.args.self) c.args.requester c.args.grow ≡ [] = probed-line_of harts c.args.self c.args.requester c.args.grow sound few ∙ sym c.probes-probes.ensures ∙ c.is_empty.ensures.0 c.if-is_empty.true in
     rw (c.grant-entry.ensures.grant harts l, c.grant-entry.ensures.line harts l few)
-    (sym (ap (λ (hs : List ℕ). acquired_by (line_of harts c.args.self) c.args.requester c.args.grow hs) none))
+    (sym (ap (λ (hs : List ℕ). acquired_by (notes_of_entry harts c.args.self) c.args.requester c.args.grow hs) none))
 
 pub returns-clause-meaning : goal.returns-clause-meaning
 returns-clause-meaning c = λ harts l few sound.

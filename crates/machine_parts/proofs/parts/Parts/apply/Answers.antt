@@ -1,6 +1,6 @@
 use Rattle.std.proofs.Common.{◌≡◌, ◌∙◌, ◌+◌, ◌≤◌, arith, ap, refl, subst, sym, ℕ, Ok}
 use Rattle.machine_limits.specs.declared.TheConstants.{MAX_ENTRIES}
-use Rattle.machine_model.specs.Changing.{place_at}
+use Rattle.machine_model.specs.Changing.{next_place}
 use Rattle.machine_model.specs.Events.{counted, entries_by}
 use Rattle.machine_model.specs.Changing.{acted}
 use Rattle.machine_model.specs.Ready.{IsReady}
@@ -29,7 +29,7 @@ perform-requires-clause-ready c =
 
 pub perform-requires-clause-fits : goal.perform-requires-clause-fits
 perform-requires-clause-fits c =
-    subst (λ (s : State). place_at s c.hart_of-hart.result + entries_by c.in-Ok-Changes.act ≤ MAX_ENTRIES) (sym c.reserve.ensures.same)
+    subst (λ (s : State). next_place s c.hart_of-hart.result + entries_by c.in-Ok-Changes.act ≤ MAX_ENTRIES) (sym c.reserve.ensures.same)
     (in_list (state_of c.args.self.now) c.hart_of-hart.result c.args.event.now c.in-Ok-Changes.act c.hart_of-hart.ensures (sym c.in-Ok-Changes.ensures ∙ ap Ok c.in-Ok-Changes.field-0-is))
 
 pub returns-in_err-perform : goal.returns-in_err-perform
