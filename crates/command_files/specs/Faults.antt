@@ -5,7 +5,7 @@ use Rattle.command_files.specs.Contents.{HasLongFirstLine, Contents, HoldsBytes}
 use Rattle.command_files.specs.declared.fault.Fault.TheVariants.{CannotRead, CannotWrite, Event, Image, OutOfMemory, Text}
 use Rattle.command_files.specs.declared.fault.Fault.{Fault}
 use Rattle.command_files.specs.Sizes.{config_of}
-use Rattle.command_files.specs.Status.{script_line_of}
+use Rattle.event_stream.specs.Lines.{script_line_of}
 use Rattle.command_settings.specs.declared.wanted.Replay.{Replay}
 use Rattle.elf_loader.specs.Image.{Initial}
 use Rattle.elf_loader.specs.declared.error.LoadError.{LoadError}

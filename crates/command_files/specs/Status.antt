@@ -1,5 +1,5 @@
 -- With which status the program ends where something went wrong, and which fault a stream's error is.
-use Rattle.std.specs.Prelude.{◌≡◌, ◌⊎◌, ◌↔◌, ◌+◌, ◌-◌, ◌^◌, ℕ, List, min}
+use Rattle.std.specs.Prelude.{◌≡◌, ◌⊎◌, ◌↔◌, ℕ, List}
 use Rattle.std.specs.Borrow.{Bor}
 use Rattle.std.specs.IoError.{error_kind}
 use Rattle.std.specs.declared.io.ErrorKind.TheVariants as io
@@ -12,6 +12,7 @@ use Rattle.coherent_machine.specs.declared.errors.NewError.TheVariants as making
 use Rattle.coherent_machine.specs.declared.errors.ReplayError.{ReplayError}
 use Rattle.coherent_machine.specs.declared.errors.ReplayError.TheVariants as replay
 use Rattle.machine_parts.specs.declared.errors.ApplyError.TheVariants as applying
+use Rattle.event_stream.specs.Lines.{script_line_of}
 use Rattle.event_stream.specs.declared.errors.StreamError.{StreamError}
 use Rattle.event_stream.specs.declared.errors.StreamError.TheVariants as stream
 
@@ -40,10 +41,6 @@ status_of (CannotShow word cause) = status_unshown cause
 status_of (BadAddress word) = 2
 status_of Configuration = 2
 status_of OutOfMemory = 4
-
--- the line of the script on which the event of this index stands, the first on line 2, as far as a number of 64 bits tells it
-abbrev pub script_line_of : ℕ → ℕ
-script_line_of index = min (index + 2) (2 ^ 64 - 1)
 
 -- which fault tells why a stream of this script is not whole
 abbrev pub IsStreamFault : Bor (List ℕ) → StreamError → Fault → Type 0

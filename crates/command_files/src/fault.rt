@@ -1,8 +1,9 @@
 //! Why the program ends with another status than 0.
 
-ghost use Rattle.std.specs.Prelude.{◌≡◌, ◌≢◌, ◌↔◌, ◌⊎◌, ◌+◌, ◌-◌, ◌^◌, ℕ, min};
+ghost use Rattle.std.specs.Prelude.{◌≡◌, ◌↔◌, ◌⊎◌, ℕ};
 ghost use Rattle.std.specs.IoError.{error_kind};
 ghost use Rattle.command_files.specs.Status.{IsOutOfMemory, IsStreamFault, status_of};
+ghost use Rattle.event_stream.specs.Lines.{script_line_of};
 ghost use Rattle.command_files.specs.declared.fault.Fault.TheVariants.{OutOfMemory};
 
 use coherent_machine::{ApplyError, NewError, ReplayError};
@@ -204,7 +205,7 @@ impl<'a> Fault<'a> {
     /// The script's first event stands on line 2.
     pub fn replay(script: &'a str, error: ReplayError) -> Fault<'a>
         ensures told { (result ≡ Fault.Configuration) ⊎ ((result ≡ Fault.OutOfMemory) ⊎ ((index : ℕ) × (refusal : _)
-            × (error ≡ ReplayError.Event index refusal) × (result ≡ Fault.Event script.entry (min (index + 2) (2 ^ 64 - 1)) refusal))) }
+            × (error ≡ ReplayError.Event index refusal) × (result ≡ Fault.Event script.entry (script_line_of index) refusal))) }
         ensures configuration { (result ≡ Fault.Configuration) ↔ (error ≡ ReplayError.New NewError.Config) }
         ensures memory { (result ≡ Fault.OutOfMemory) ↔ IsOutOfMemory error }
     {

@@ -17,6 +17,7 @@ use Rattle.tl_types.specs.declared.message.Channel.{Channel}
 use Rattle.tl_types.specs.declared.message.Channel.TheVariants as channel
 use Rattle.tl_types.specs.declared.message.Msg.{Msg}
 use Rattle.trace_text.specs.MessageParts.{heading}
+use Rattle.trace_text.specs.Words as words
 use Rattle.event_stream.specs.Closing.{line_address}
 
 -- ---- registers
@@ -83,16 +84,9 @@ cache_lines s h c = flat_map (line_in_cache s h c) (range_with_len 0 (length s.v
 
 -- ---- messages that wait
 
-abbrev pub letter : Channel → List ℕ
-letter channel.A = codes "A "
-letter channel.B = codes "B "
-letter channel.C = codes "C "
-letter channel.D = codes "D "
-letter channel.E = codes "E "
-
 -- as a trace's M line, but without data
 abbrev pub message_line : ℕ → Channel → Msg → List ℕ
-message_line h c m = codes "Q " ++ (letter c ++ (number 32 h ++ (heading m ++ 10 ∷ [])))
+message_line h c m = codes "Q " ++ (words.channel c ++ (number 32 h ++ (heading m ++ 10 ∷ [])))
 
 abbrev pub message_if : ℕ → Channel → Option Msg → List ℕ
 message_if h c None = []

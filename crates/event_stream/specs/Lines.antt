@@ -1,5 +1,5 @@
 -- The lines of a report.
-use Rattle.std.specs.Prelude.{ℕ, ◌+◌, ◌-◌, List, [], ◌∷◌, ◌++◌, Option, Some, None, length, take, codes, decimal}
+use Rattle.std.specs.Prelude.{ℕ, ◌+◌, ◌-◌, ◌^◌, min, List, [], ◌∷◌, ◌++◌, Option, Some, None, length, take, codes, decimal}
 use Rattle.std.specs.List.{flat_map}
 use Rattle.elf_symbols.specs.Named.{Named}
 use Rattle.hart.specs.declared.retired.Retired.{Retired}
@@ -26,6 +26,10 @@ event_text line e o = codes "E " ++ (line ++ (32 ∷ (unended (script.event e) +
 -- lines are counted from 1, and the script's first line is its head
 abbrev pub event_line : ℕ → Event → Outcome → List ℕ
 event_line index e o = event_text (decimal (index + 2)) e o
+
+-- the line of the script on which the event of this index stands, as far as a number of 64 bits tells it
+abbrev pub script_line_of : ℕ → ℕ
+script_line_of index = min (index + 2) (2 ^ 64 - 1)
 
 -- the instruction, by the names that addresses have
 abbrev pub disassembled : List Named → ℕ → Option Instr → List ℕ

@@ -6,6 +6,7 @@ ghost use Rattle.machine_limits.specs.declared.TheConstants.{MAX_HARTS};
 ghost use Rattle.machine_model.specs.Views.{node_at};
 ghost use Rattle.text_fields.specs.Pages.{HasLineRoom, Spells, size};
 ghost use Rattle.tilelink_channels.specs.Queues.{queue_of};
+ghost use Rattle.trace_text.specs.Words as words;
 
 use crate::waits::{line_address, size_of};
 use assembly::register;
@@ -235,7 +236,7 @@ fn put_cache<W: Write>(
 }
 
 fn letter(channel: Channel) -> &'static [u8]
-    ensures value { result.now ≡ holding.letter channel }
+    ensures value { result.now ≡ words.channel channel }
     ensures len { length result.now ≤ 2 }
 {
     match channel {

@@ -3,7 +3,7 @@ use Rattle.coherent_machine.specs.Machine.{Refuses}
 use Rattle.command_files.specs.Sizes.{config_of}
 use Rattle.command_files.specs.Files.{HoldsScript, IsTheScriptIn}
 use Rattle.command_files.specs.Contents.{Contents}
-use Rattle.command_files.specs.Status.{script_line_of}
+use Rattle.event_stream.specs.Lines.{script_line_of}
 use Rattle.command_files.specs.declared.fault.Fault.TheVariants.{Event as Refused, NothingHappens}
 use Rattle.command_files.specs.declared.fault.Fault.{Fault}
 use Rattle.command_settings.specs.declared.wanted.Replay.{Replay}

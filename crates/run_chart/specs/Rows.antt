@@ -1,11 +1,12 @@
 -- The rows of a run: one for each event that changes the machine, in their order.
-use Rattle.std.specs.Prelude.{ℕ, ◌+◌, ◌-◌, ◌^◌, ◌||◌, min, Bool, true, false, List, [], ◌∷◌, ◌++◌, Option, Some, None, length, map, nat_lt, if◌then◌else◌}
+use Rattle.std.specs.Prelude.{ℕ, ◌+◌, ◌||◌, Bool, true, false, List, [], ◌∷◌, ◌++◌, Option, Some, None, length, map, nat_lt, if◌then◌else◌}
 use Rattle.std.specs.List.{list_any}
 use Rattle.chart_rows.specs.declared.rows.Copied.{Copied}
 use Rattle.chart_rows.specs.declared.rows.Note.{Note}
 use Rattle.chart_rows.specs.declared.rows.Noted.{Noted}
 use Rattle.chart_rows.specs.declared.rows.Posted.{Posted}
 use Rattle.chart_rows.specs.declared.rows.Row.{Row}
+use Rattle.event_stream.specs.Lines.{script_line_of}
 use Rattle.event_stream.specs.Reports.{Report}
 use Rattle.event_stream.specs.Telling.{lengths_of, report_behind}
 use Rattle.machine_types.specs.declared.event.Event.{Event}
@@ -61,7 +62,7 @@ abbrev pub row : Option ℕ → List ℕ → Before → State → ℕ → Report
 row only columns b s line r = record {
   line = line;
   end = end_of line (length (posted only line r.log)) (length (notes_of b s r));
-  script_line = min (r.index + 2) (2 ^ 64 - 1);
+  script_line = script_line_of r.index;
   hart = hart_of r.event;
   event = r.event;
   outcome = r.outcome;
