@@ -10,14 +10,14 @@ use Rattle.flat_exploration.specs.Exploring.{shown_result}
 use Rattle.flat_exploration.specs.Forgotten.{shortened}
 use Rattle.flat_exploration.specs.Views.{LeadsToView}
 use Rattle.flat_model.specs.Flat.{Flat}
-use Rattle.flat_model.specs.Shown.{Result}
+use Rattle.flat_model.specs.Shown.{HartEnd}
 use Rattle.machine_types.specs.declared.config.Config.{Config}
 use Rattle.state_search.specs.declared.findings.Extent.{Extent}
 use Rattle.state_search.specs.declared.findings.Extent.TheVariants.{Complete, LimitMet, OutOfMemory}
 use Rattle.state_search.specs.Findings.{AreReached, IsComplete, IsIncomplete}
 
 -- results that show no words
-abbrev pub wordless : List Result → Ending
+abbrev pub wordless : List HartEnd → Ending
 wordless results = record { results = results; words = [] }
 
 -- what a state shows once its harts have ended, and where words of memory are shown once no store waits

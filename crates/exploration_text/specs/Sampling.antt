@@ -2,15 +2,15 @@
 use Rattle.std.specs.Prelude.{ℕ, zero, suc, ◌+◌, List, [], ◌∷◌, ◌++◌, codes, decimal}
 use Rattle.exploration_text.specs.Text.{harts_text}
 use Rattle.explorer.specs.Ends.{outcomes_of}
-use Rattle.flat_model.specs.Shown.{Result}
+use Rattle.flat_model.specs.Shown.{HartEnd}
 use Rattle.sampler.specs.declared.sampled.Sampled.{Sampled}
 
 -- an end's number, how many runs came to it, and how each hart ended
-abbrev pub end_line : (number times : ℕ) → List Result → List ℕ
+abbrev pub end_line : (number times : ℕ) → List HartEnd → List ℕ
 end_line number times outcome = decimal number ++ (codes "  " ++ (decimal times ++ (harts_text 0 outcome ++ codes "\n")))
 
 -- counted from a number on
-abbrev pub end_lines : ℕ → List (List Result) → List ℕ → List ℕ
+abbrev pub end_lines : ℕ → List (List HartEnd) → List ℕ → List ℕ
 end_lines number [] _ = []
 end_lines number (o ∷ os) [] = []
 end_lines number (o ∷ os) (n ∷ ns) = end_line number n o ++ end_lines (number + 1) os ns

@@ -3,7 +3,7 @@ use Rattle.std.specs.Prelude.{ℕ, zero, suc, ◌+◌, List, [], ◌∷◌, ◌+
 use Rattle.explorer.specs.declared.exploration.Exploration.{Exploration}
 use Rattle.explorer.specs.declared.exploration.Stuck.{Stuck}
 use Rattle.explorer.specs.Ends.{outcomes_of}
-use Rattle.flat_model.specs.Shown.{Result}
+use Rattle.flat_model.specs.Shown.{HartEnd}
 use Rattle.hart_ends.specs.Ends.{hart_text}
 use Rattle.state_search.specs.declared.findings.Extent.{Extent}
 use Rattle.state_search.specs.declared.findings.Extent.TheVariants.{Complete, LimitMet, OutOfMemory}
@@ -14,21 +14,21 @@ abbrev pub gap_before : ℕ → List ℕ
 gap_before zero = codes "  "
 gap_before (suc h) = codes "   "
 
-abbrev pub hart_field : ℕ → Result → List ℕ
+abbrev pub hart_field : ℕ → HartEnd → List ℕ
 hart_field h r = gap_before h ++ hart_text h r.status r.output
 
 -- from hart h on
-abbrev pub harts_text : ℕ → List Result → List ℕ
+abbrev pub harts_text : ℕ → List HartEnd → List ℕ
 harts_text h [] = []
 harts_text h (r ∷ rs) = hart_field h r ++ harts_text (h + 1) rs
 
 -- ---- lines
 
-abbrev pub outcome_line : ℕ → List Result → List ℕ
+abbrev pub outcome_line : ℕ → List HartEnd → List ℕ
 outcome_line number outcome = decimal number ++ (harts_text 0 outcome ++ codes "\n")
 
 -- counted from a number on
-abbrev pub outcome_lines : ℕ → List (List Result) → List ℕ
+abbrev pub outcome_lines : ℕ → List (List HartEnd) → List ℕ
 outcome_lines number [] = []
 outcome_lines number (o ∷ os) = outcome_line number o ++ outcome_lines (number + 1) os
 

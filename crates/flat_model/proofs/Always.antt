@@ -9,7 +9,7 @@ use Rattle.flat_model.specs.Events as flat_events
 use Rattle.flat_model.specs.Flat as of_flat
 use Rattle.flat_model.specs.Flat.{Flat, FlatNode}
 use Rattle.flat_model.specs.Laws.{FlatOrderAlways, FlatResultsAlways, IsShown, ShownAlways}
-use Rattle.flat_model.specs.Shown.{IsShownBy, Result, Shows, without_log}
+use Rattle.flat_model.specs.Shown.{IsShownBy, HartEnd, Shows, without_log}
 use Rattle.flat_model.proofs.Acts.{Base, IsGoal, Reaches, event_goal, reaches_not}
 use Rattle.flat_model.proofs.OneWay.{AloneIn, acted_alone, opening_alone, still_alone}
 use Rattle.flat_model.proofs.Sees.{shown_as}
@@ -121,10 +121,10 @@ shown_always image config events whole within = more image config whole within [
 
 -- ---- results
 
-abbrev result : Node → Result
+abbrev result : Node → HartEnd
 result n = record { status = n.hart.status; output = n.output }
 
-abbrev flat_result : FlatNode → Result
+abbrev flat_result : FlatNode → HartEnd
 flat_result m = record { status = m.hart.status; output = m.output }
 
 same_result : (n : Node) (m : FlatNode) → IsShownBy n m → flat_result m ≡ result n

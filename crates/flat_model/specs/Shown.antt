@@ -37,17 +37,17 @@ pub record Shows (s : State) (f : Flat) : Type 0 where
 -- ---- what is left of a run
 
 -- a hart's status and the numbers that it put out
-pub record Result : Type 0 where
+pub record HartEnd : Type 0 where
   pub status : Status
   pub output : List ℕ
 
 -- by hart
-abbrev pub results : State → List Result
+abbrev pub results : State → List HartEnd
 results s = map (λ (n : Node). record { status = n.hart.status; output = n.output }) s.views.nodes
 
-abbrev pub flat_results : Flat → List Result
+abbrev pub flat_results : Flat → List HartEnd
 flat_results f = map (λ (n : FlatNode). record { status = n.hart.status; output = n.output }) f.nodes
 
 -- as code tells them
-abbrev pub told : List HartResult → List Result
+abbrev pub told : List HartResult → List HartEnd
 told = map (λ (r : HartResult). record { status = r.status; output = r.output.items })

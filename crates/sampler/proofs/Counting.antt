@@ -1,5 +1,5 @@
 -- One more run is counted.
-use Rattle.std.proofs.Common.{◌≡◌, ◌∙◌, ℕ, ◌+◌, ◌≤◌, Bool, true, false, cond, List, [], ◌∷◌, Option, Some, refl, sym, ap, arith, length, count_by, unwrap_or, is_eq, is_err, Result as Answer, Ok, Err, OnOk, ◌++◌, true≢false}
+use Rattle.std.proofs.Common.{◌≡◌, ◌∙◌, ℕ, ◌+◌, ◌≤◌, Bool, true, false, cond, List, [], ◌∷◌, Option, Some, refl, sym, ap, arith, length, count_by, unwrap_or, is_eq, is_err, Result, Ok, Err, OnOk, ◌++◌, true≢false}
 use Rattle.std.specs.Cmp.{Equal-is}
 use Rattle.std.specs.Map.{keys_of, lookup, values_of}
 use Rattle.std.proofs.lemmas.List.Sums.{count_by-le-length, sum_by-cons}
@@ -10,14 +10,14 @@ use Rattle.explorer.specs.declared.found.Realisation.TheVariants.{Events, Limit,
 use Rattle.explorer.specs.Ends.{outcome_of}
 use Rattle.explorer.specs.Orders.{same_outcome}
 use Rattle.explorer.specs.Ranks.{outcome_cmp}
-use Rattle.flat_model.specs.Shown.{Result, results}
+use Rattle.flat_model.specs.Shown.{HartEnd, results}
 use Rattle.machine_types.specs.declared.config.Config.{Config}
 use Rattle.machine_types.specs.declared.event.Event.{Event}
 use Rattle.sampler.specs.Sampled.{AreCounted, IsRealEnd, IsSampledRun, IsShort, LeadsToEnd, all_ended, ends_led, is_outcome_of, numbered, times_of}
 use Rattle.schedules.specs.Schedules.{led}
 
 -- equal as code finds it
-same : (a b : List Result) → is_eq (outcome_cmp a b) ≡ true → a ≡ b
+same : (a b : List HartEnd) → is_eq (outcome_cmp a b) ≡ true → a ≡ b
 same a b t = same_outcome a b ((Equal-is (outcome_cmp a b)).0 t)
 
 -- what stands with an end behind an insert
@@ -36,7 +36,7 @@ pub room : (image : Initial) (config : Config) (counted : List (Found × ℕ)) (
 room image config counted unended runs are found = let few = count_by-le-length (is_outcome_of found) (ends_led image config are.schedules) in omega (arith, few, are.times found, are.others)
 
 module _ (image : Initial) (config : Config) (events : List Event) (run : IsSampledRun image config events) where
-  abbrev pub outcome : List Result
+  abbrev pub outcome : List HartEnd
   outcome = results (led image config events)
 
   led_more : (b : Bool) (all : List (List Event)) → all_ended outcome ≡ b → ends_led image config (events ∷ all) ≡ cond b (outcome ∷ ends_led image config all) (ends_led image config all)
@@ -65,7 +65,7 @@ module _ (image : Initial) (config : Config) (events : List Event) (run : IsSamp
       others = let n = ap length more in omega (arith, n, are.others);
     }
       where
-        ends : List (List Result)
+        ends : List (List HartEnd)
         ends = ends_led image config are.schedules
 
         more : ends_led image config (events ∷ are.schedules) ≡ outcome ∷ ends
@@ -109,7 +109,7 @@ end_counted image config counted after unended runs n end told are reached short
     go Unrealised leads few = absurd leads
 
 -- what holds of a result that isn't an error
-pub on_ok : {T E : Type 0} (P : Type 0) (r : Answer T E) → is_err r ≡ false → OnOk r P → P
+pub on_ok : {T E : Type 0} (P : Type 0) (r : Result T E) → is_err r ≡ false → OnOk r P → P
 on_ok P (Ok x) is so = so
 on_ok P (Err e) is so = absurd (true≢false is)
 

@@ -10,7 +10,7 @@ use Rattle.explorer.specs.declared.found.Realisation.{Realisation}
 use Rattle.explorer.specs.declared.found.Realisation.TheVariants.{Events}
 use Rattle.explorer.specs.Ends.{outcome_of}
 use Rattle.explorer.specs.Ranks.{outcome_cmp}
-use Rattle.flat_model.specs.Shown.{Result, results}
+use Rattle.flat_model.specs.Shown.{HartEnd, results}
 use Rattle.hart.specs.Run.{is_running}
 use Rattle.machine_types.specs.declared.config.Config.{Config}
 use Rattle.machine_types.specs.declared.event.Event.{Event}
@@ -21,11 +21,11 @@ use Rattle.schedules.specs.Schedules.{EachMoves, HasResults, LeadsThere, Replays
 -- ---- ends
 
 -- no hart runs any more
-abbrev pub all_ended : List Result → Bool
+abbrev pub all_ended : List HartEnd → Bool
 all_ended [] = true
 all_ended (r ∷ rs) = not (is_running r.status) && all_ended rs
 
-abbrev pub LeadsToEnd : Initial → Config → List Result → Realisation → Type 0
+abbrev pub LeadsToEnd : Initial → Config → List HartEnd → Realisation → Type 0
 LeadsToEnd image config outcome (Events events) = LeadsThere image config (HasResults outcome) events.items
 LeadsToEnd image config outcome _ = ⊥
 
@@ -36,7 +36,7 @@ IsRealEnd image config found = (all_ended (outcome_of found) ≡ true) × LeadsT
 -- ---- how often
 
 -- the outcome is this end's
-abbrev pub is_outcome_of : Found → List Result → Bool
+abbrev pub is_outcome_of : Found → List HartEnd → Bool
 is_outcome_of found outcome = is_eq (outcome_cmp outcome (outcome_of found))
 
 -- each end with its number
@@ -65,7 +65,7 @@ IsShort (Events events) = length events.items ≤ most_events
 IsShort _ = ⊥
 
 -- what those of the lists of events lead to that end all harts
-abbrev pub ends_led : Initial → Config → List (List Event) → List (List Result)
+abbrev pub ends_led : Initial → Config → List (List Event) → List (List HartEnd)
 ends_led image config schedules = filter all_ended (map (λ events. results (led image config events)) schedules)
 
 -- there are as many lists of events as runs are told, each as of a run from reset: so many of them lead to each end, and so many to none

@@ -2,21 +2,21 @@
 use Rattle.std.proofs.Common.{◌≡◌, ◌∙◌, sym, ap, ℕ, ◌+◌, ◌<◌, List, [], ◌∷◌, ◌++◌, length, map, take, get_or}
 use Rattle.std.proofs.lemmas.List.{map-append, take_more}
 use Rattle.flat_model.specs.declared.results.HartResult.{HartResult}
-use Rattle.flat_model.specs.Shown.{Result, told}
+use Rattle.flat_model.specs.Shown.{HartEnd, told}
 use Rattle.hart.specs.declared.status.Status.{Status}
 use Rattle.machine_model.specs.Views.{Node, State, node_at, no_node}
 
-abbrev pub shown : Node → Result
+abbrev pub shown : Node → HartEnd
 shown n = record { status = n.hart.status; output = n.output }
 
 -- the first harts' results
-abbrev pub first_results : State → ℕ → List Result
+abbrev pub first_results : State → ℕ → List HartEnd
 first_results s h = map shown (take h s.views.nodes)
 
 first_more : (s : State) (h : ℕ) → h < length s.views.nodes → first_results s (h + 1) ≡ first_results s h ++ shown (node_at s h) ∷ []
 first_more s h below = ap (map shown) (take_more s.views.nodes h (no_node s) below) ∙ map-append shown (take h s.views.nodes) (node_at s h ∷ [])
 
-same_result : (status : Status) (output : List ℕ) (n : Node) → status ≡ n.hart.status → output ≡ n.output → ◌≡◌ {A = Result} (record { status = status; output = output }) (shown n)
+same_result : (status : Status) (output : List ℕ) (n : Node) → status ≡ n.hart.status → output ≡ n.output → ◌≡◌ {A = HartEnd} (record { status = status; output = output }) (shown n)
 same_result status output n e f = λ i. record { status = e i; output = f i }
 
 -- results are told of one hart more
@@ -25,8 +25,8 @@ pub told_more : (s : State) (all : List HartResult) (h : ℕ) (r : HartResult) �
     → told all ≡ first_results s h → told (all ++ r ∷ []) ≡ first_results s (h + 1)
 told_more s all h r below status output was =
     map-append _ all (r ∷ [])
-    ∙ ap (λ (l : List Result). l ++ record { status = r.status; output = r.output.items } ∷ []) was
-    ∙ ap (λ (x : Result). first_results s h ++ x ∷ []) (same_result r.status r.output.items (node_at s h) status output)
+    ∙ ap (λ (l : List HartEnd). l ++ record { status = r.status; output = r.output.items } ∷ []) was
+    ∙ ap (λ (x : HartEnd). first_results s h ++ x ∷ []) (same_result r.status r.output.items (node_at s h) status output)
     ∙ sym (first_more s h below)
 
 pub told_next : (s : State) (goal : List HartResult) (h : ℕ) (d r : HartResult) → r ≡ get_or goal h d → h < length goal → h < length s.views.nodes

@@ -4,7 +4,7 @@ use Rattle.std.specs.declared.result.Result.{Result}
 use Rattle.elf_loader.specs.Image.{Initial}
 use Rattle.coherent_machine.specs.Machine.{Replayed, replayed_from}
 use Rattle.coherent_machine.specs.Moves.{AreMoves}
-use Rattle.flat_model.specs.Shown.{Result as HartEnd, results}
+use Rattle.flat_model.specs.Shown.{HartEnd, results}
 use Rattle.machine_types.specs.declared.config.Config.{Config}
 use Rattle.machine_types.specs.declared.event.Event.{Event}
 use Rattle.machine_types.specs.Config.{is_within_limits}

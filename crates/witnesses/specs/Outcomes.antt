@@ -8,7 +8,7 @@ use Rattle.hart.specs.declared.state.Hart.{Hart}
 use Rattle.hart.specs.declared.status.Status.{Status}
 use Rattle.hart.specs.Ends.{access_at}
 use Rattle.hart.specs.Run.{after, at_reset}
-use Rattle.flat_model.specs.Shown.{Result}
+use Rattle.flat_model.specs.Shown.{HartEnd}
 use Rattle.trace_recorder.specs.History.{History}
 
 -- what an access puts out: the argument of an environment call of number 1
@@ -22,12 +22,12 @@ output_from hart [] = []
 output_from hart (entry ∷ rest) = number_out (access_at hart (decoded entry.word)) ++ output_from (after hart entry) rest
 
 -- how harts stand behind their lists and what they put out, from hart `id` on
-abbrev pub results_from : Initial → ℕ → ℕ → List (List Retired) → List Status → List Result
+abbrev pub results_from : Initial → ℕ → ℕ → List (List Retired) → List Status → List HartEnd
 results_from image harts id [] statuses = []
 results_from image harts id (entries ∷ rest) [] = []
 results_from image harts id (entries ∷ rest) (status ∷ statuses) =
     record { status = status; output = output_from (at_reset image id harts) entries } ∷ results_from image harts (id + 1) rest statuses
 
 -- the outcome that is read off a trace's lists
-abbrev pub results_of : History → List Result
+abbrev pub results_of : History → List HartEnd
 results_of t = results_from t.image (length t.entries) 0 t.entries t.statuses

@@ -12,7 +12,6 @@ use Rattle.memory_model.specs.declared.operation.Operation.{Operation}
 use Rattle.memory_model.specs.Operations.{byte_of_number, writes, touches, stores_to, written_at}
 use Rattle.memory_model.specs.Order.{byte_from}
 use Rattle.store_buffer.specs.ByteMask.{each_place, is_marked, marks_of_access, covers}
-
 use Rattle.store_buffer.specs.Stores.{last_byte, stored_byte}
 
 -- ---- numbers
