@@ -5,7 +5,7 @@ use Rattle.std.specs.List.{AllByRecursion as Each, last_or, list_any, range_with
 use Rattle.std.specs.Option.{option_map_or}
 use Rattle.std.proofs.lemmas.Bool.{and_from, and_parts, eqb-true, le-leb, lt-ltb, ltb-true, ne_eqb, not-true, or_cases, true≢false}
 use Rattle.std.proofs.lemmas.List.Folds.{find_at}
-use Rattle.std.proofs.lemmas.Option.{same_Some}
+use Rattle.std.proofs.lemmas.Option.{none-some, same_Some}
 use Rattle.memory_model.specs.declared.MemoryModel.{MemoryModel}
 use Rattle.memory_model.specs.declared.operation.Operation.{Operation}
 use Rattle.memory_model.specs.Dependencies.{between, has_address_dependency, has_control_dependency, has_data_dependency, has_dependent_address_between, instr_in, uses_in}
@@ -47,10 +47,6 @@ record Found {X : Type 0} (p : X → Bool) (xs : List X) : Type 0 where
   found : X
   there : slice_get xs index ≡ Some found
   passes : p found ≡ true
-
-found_any : {X : Type 0} (p : X → Bool) (xs : List X) → list_any p xs ≡ true → Found p xs
-found_any p [] e = absurd (true≢false (sym e))
-found_any p (x ∷ rest) e = ⊎_elim (λ (h : p x ≡ true). record { index = 0; found = x; there = refl; passes = h }) (λ (h : list_any p rest ≡ true). let f = found_any p rest h in record { index = suc f.index; found = f.found; there = f.there; passes = f.passes }) (or_cases (p x) (list_any p rest) e)
 
 found_filtered : {X : Type 0} (p q : X → Bool) (xs : List X) → list_any p (filter q xs) ≡ true → Found p xs
 found_filtered p q [] e = absurd (true≢false (sym e))
@@ -109,12 +105,9 @@ last_each : (P : Operation → Type 0) (o : Option Operation) (xs : List Operati
 last_each P o [] s f h e = f e
 last_each P o (x ∷ rest) s f h e = last_each P (Some x) rest s (λ k. subst P (same_Some x s k) h.0) h.1 e
 
-none_is_not : {X : Type 0} (x : X) → None ≡ Some x → ⊥
-none_is_not x e = cc
-
 -- what holds of each operation holds of a source
 source_each : (P : Operation → Type 0) (order : List Operation) (b : Operation) (x : ℕ) (s : Operation) → Each P order → source order b x ≡ Some s → P s
-source_each P order b x s h e = last_each P None (candidates order b x) s (λ k. absurd (none_is_not s k)) (each_candidate P order b x h) e
+source_each P order b x s h e = last_each P None (candidates order b x) s (λ k. absurd (none-some s k)) (each_candidate P order b x h) e
 
 record From (o : Option Operation) (a : Operation) : Type 0 where
   store : Operation
@@ -136,7 +129,7 @@ find_it (u ∷ rest) t m h = go (same t u) refl m (λ k. find_it rest t k h.1)
 
 -- what is found by an operation's name bears it, and is given
 pub at_place : (harts : List (List Item)) (order : List Operation) (b c : Operation) → GivesEach harts order → find (same b) order ≡ Some c → (same c b ≡ true) × IsGiven (items_of harts c.hart) c
-at_place harts [] b c g e = absurd (none_is_not c e)
+at_place harts [] b c g e = absurd (none-some c e)
 at_place harts (u ∷ rest) b c g e = go (same b u) refl e (at_place harts rest b c g.1)
   where
     swapped : (d : Bool) → same u b ≡ d → same b u ≡ true → same u b ≡ true

@@ -5,14 +5,14 @@ use Rattle.std.specs.List.{AllByRecursion as Each}
 use Rattle.std.proofs.lemmas.Bool.{true≢false}
 use Rattle.std.proofs.Math.Seq.{drop-nil}
 use Rattle.std.proofs.lemmas.List.{at_drop_more, drop-drop, drop_all}
-use Rattle.std.proofs.lemmas.Option.{slice_get_within}
+use Rattle.std.proofs.lemmas.Option.{same_Some, slice_get_within}
 use Rattle.memory_model.specs.declared.MemoryModel.{MemoryModel}
 use Rattle.memory_model.specs.declared.operation.Operation.{Operation}
 use Rattle.memory_model.specs.Items.{Item}
 use Rattle.memory_model.specs.Operations.{same}
 use Rattle.memory_model.specs.Order.{position_in}
 use Rattle.memory_model.specs.Rules.{asked_by}
-use Rattle.memory_model.proofs.Forms.{same-self, same-swap}
+use Rattle.memory_model.proofs.Forms.{place_head, place_tail, same-self, same-swap}
 use Rattle.memory_model.proofs.Lists.{Member, Each-at, Each-from}
 use Rattle.memory_model.proofs.Named.{EachOnce}
 use Rattle.rvwmo_order.specs.Bounds.{BoundsEach, AreDistinctOperations, RanksEach, bound_of, greatest_of, unbounded, weight_of}
@@ -21,7 +21,6 @@ use Rattle.rvwmo_order.specs.Scans.{first_broken_rule, first_out_of_order, found
 use Rattle.rvwmo_order.specs.declared.rows.Row.{Row}
 use Rattle.rvwmo_order.specs.declared.verdict.Rule.{Rule}
 use Rattle.rvwmo_order.specs.declared.verdict.Rule.TheVariants.{OverlappingStore, SameByteLoads, AtomicSource, Fence, Acquire, Release, Annotations, Pair, Address, Data, Control, DependentStore, DependentAddress}
-use Rattle.rvwmo_order.proofs.Judged.{place_head, place_tail, same_value}
 
 pub distinct_once : (order : List Operation) → EachOnce order → AreDistinctOperations order
 distinct_once [] h = tt
@@ -100,7 +99,7 @@ found_there must order xs p a d e h f i =
 
 -- ---- what a second walk leaves of those behind an operation
 
-nothing_left : (test : Operation → Bool) (n : ℕ) → find test (drop n []) ≡ None
+pub nothing_left : (test : Operation → Bool) (n : ℕ) → find test (drop n []) ≡ None
 nothing_left test n = ap (find test) (drop-nil n)
 
 cut_off : (test : Operation → Bool) (order : List Operation) (p q : ℕ) → p ≤ q → ((k : ℕ) (a : Operation) → slice_get order k ≡ Some a → p ≤ k → k < q → test a ≡ false) → find test (drop p order) ≡ find test (drop q order)
@@ -117,12 +116,12 @@ member_at [] k a e = absurd (no_some a e)
   where
     no_some : (a : Operation) → None ≡ Some a → ⊥
     no_some a e = cc
-member_at (x ∷ xs) zero a e = inl (sym (same_value x a e))
+member_at (x ∷ xs) zero a e = inl (sym (same_Some x a e))
 member_at (x ∷ xs) (suc k) a e = inr (member_at xs k a e)
 
 pub position_at : (order : List Operation) (k : ℕ) (a : Operation) → AreDistinctOperations order → slice_get order k ≡ Some a → position_in order a ≡ k
 position_at [] k a d e = absurd (member_at [] k a e)
-position_at (x ∷ xs) zero a d e = place_head a x xs (ap (same a) (same_value x a e) ∙ same-self a)
+position_at (x ∷ xs) zero a d e = place_head a x xs (ap (same a) (same_Some x a e) ∙ same-self a)
 position_at (x ∷ xs) (suc k) a d e =
     let other : same a x ≡ false = same-swap x a (Each-at (λ (c : Operation). same x c ≡ false) a xs d.0 (member_at xs k a e)) in
     let place = place_tail a x xs other in

@@ -3,7 +3,7 @@ use Rattle.std.proofs.Common.{◌≡◌, ℕ, subst, ◌<◌, ◌≤◌, max, Li
 use Rattle.std.specs.Prelude.{slice_get, slice_index_or}
 use Rattle.std.proofs.lemmas.Bool.{and_parts, cases_eq, cases_lt, true≢false}
 use Rattle.std.proofs.lemmas.Grind.{get_or-set_at}
-use Rattle.std.proofs.lemmas.List.{get_or-set_other, get_or-replicate, get_or_past, length-set, length-replicate}
+use Rattle.std.proofs.lemmas.List.{get_or-set_other, get_or_past, length-set, length-replicate}
 use Rattle.rv32_decode.specs.declared.instruction.Instr.{Instr}
 use Rattle.rv32_exec.specs.Uses.{Uses, uses_of}
 use Rattle.memory_model.specs.declared.operation.Operation.{Operation}
@@ -14,7 +14,7 @@ use Rattle.rvwmo_order.specs.Carried.{carried_after, carried_behind, greatest, n
 use Rattle.rvwmo_order.specs.Placed.{IsPlaced}
 use Rattle.rvwmo_order.specs.declared.carried.Carried.{Carried}
 use Rattle.rvwmo_order.proofs.Parted.{parted}
-use Rattle.rvwmo_order.proofs.Sweeps.{length-with_flags}
+use Rattle.rvwmo_order.proofs.Sweeps.{length-held_first, length-with_flags, no_flag}
 
 pub greatest_append : (weights xs ys : List ℕ) → greatest weights (xs ++ ys) ≡ max (greatest weights xs) (greatest weights ys)
 greatest_append weights [] ys = omega arith
@@ -74,9 +74,6 @@ covers_after own None c held n h f = f
 covers_after own (Some i) c held n h f =
     covers_each c.registers held n (max (greatest c.registers (sources (uses_of i))) own) (holds held (sources (uses_of i))) (uses_of i).written h f
     (λ e. let l = covers_greatest c.registers held n (sources (uses_of i)) f e in omega (arith, l))
-
-no_flag : (r : ℕ) → slice_index_or (replicate 32 false) r false ≡ false
-no_flag r = ⊎_elim (λ l. get_or-replicate 32 r false false l) (λ l. get_or_past (replicate 32 false) r false (let k = length-replicate 32 false in omega (arith, k, l))) (cases_lt r 32)
 
 covers_first : (own : ℕ) (instr : Option Instr) (c : Carried) → length c.registers ≡ 32 → Covers (carried_after own instr c).registers (held_first (uses_in instr)) own
 covers_first own None c h = λ r e. absurd (true≢false (sym e ∙ no_flag r))
@@ -171,11 +168,8 @@ passed_both own items a b m p e l = ap (carried_behind own nothing_carried) (par
 length-at : (own : Item → ℕ) (items : List Item) (place : ℕ) → length (carried_at own items place).registers ≡ 32
 length-at own items place = length-behind own nothing_carried (take place items) ∙ length-replicate {A = ℕ} 32 0
 
-length-first : (u : Uses) → length (held_first u) ≡ 32
-length-first u = length-with_flags (replicate 32 false) true u.written ∙ length-replicate 32 false
-
 same_length : (own : Item → ℕ) (items : List Item) (a : Operation) (m : Item) → length (held_first (uses_in m.instr)) ≡ length (carried_after (own m) m.instr (carried_at own items a.place)).registers
-same_length own items a m = length-first (uses_in m.instr) ∙ sym (length-after (own m) m.instr (carried_at own items a.place) ∙ length-at own items a.place)
+same_length own items a m = length-held_first (uses_in m.instr) ∙ sym (length-after (own m) m.instr (carried_at own items a.place) ∙ length-at own items a.place)
 
 uses_there : (items : List Item) (a : Operation) (m : Item) → slice_get items a.place ≡ Some m → uses_at items a ≡ uses_in m.instr
 uses_there items a m e = ap (λ (o : Option Item). uses_in (instr_in o)) e

@@ -3,6 +3,7 @@ use Rattle.std.proofs.Common.{◌≡◌, ℕ, List, [], ◌∷◌, Bool, true, O
 use Rattle.std.specs.Prelude.{nat_eq}
 use Rattle.std.specs.List.{list_any}
 use Rattle.std.proofs.lemmas.Bool.{and_from, or_left}
+use Rattle.std.proofs.lemmas.Option.{same_Some}
 use Rattle.memory_model.specs.declared.MemoryModel.{MemoryModel}
 use Rattle.memory_model.specs.declared.operation.Operation.{Operation}
 use Rattle.memory_model.specs.Items.{Item}
@@ -23,7 +24,7 @@ use Rattle.rvwmo_order.specs.Scans.{all_rules, first_broken_pair, first_broken_r
 use Rattle.rvwmo_order.specs.declared.verdict.Code.TheVariants.{Order}
 use Rattle.rvwmo_order.specs.declared.verdict.Rule.{Rule}
 use Rattle.rvwmo_order.specs.declared.verdict.Rule.TheVariants.{OverlappingStore, SameByteLoads, AtomicSource, Fence, Acquire, Release, Annotations, Pair, Address, Data, Control, DependentStore, DependentAddress}
-use Rattle.rvwmo_order.proofs.Judged.{OutOfOrder, found, out_of_order, pair, same_value}
+use Rattle.rvwmo_order.proofs.Judged.{OutOfOrder, found, out_of_order, pair}
 
 abbrev pub ruled : Rule → Operation → Operation → Rule × Operation × Operation
 ruled r a b = (r, a, b)
@@ -63,7 +64,7 @@ module _ (model : MemoryModel) (image : ℕ → ℕ) (harts : List (List Item)) 
           → OutOfOrder (asked_by model harts order (rule_of r)) order a b
       go None f e ih = ih e
       go (Some p) f e ih =
-          let all = same_value (ruled q p.0 p.1) (ruled r a b) e in
+          let all = same_Some (ruled q p.0 p.1) (ruled r a b) e in
           let same_rule : q ≡ r = ap (λ (v : Rule × Operation × Operation). v.0) all in
           let same_pair : pair p.0 p.1 ≡ pair a b = ap (λ (v : Rule × Operation × Operation). pair v.1 v.2) all in
           let at_q : first_out_of_order (asked_by model harts order (rule_of q)) order ≡ Some (pair a b) = f ∙ ap Some same_pair in
@@ -90,7 +91,7 @@ module _ (model : MemoryModel) (image : ℕ → ℕ) (harts : List (List Item)) 
           → (is_broken_pair harts order a b ≡ true) × Member a order × Member b (w ∷ ws)
       go None f e ih = let t = ih e in (t.0, t.1, inr t.2)
       go (Some r) f e ih =
-          let pairs = same_value (pair r w) (pair a b) e in
+          let pairs = same_Some (pair r w) (pair a b) e in
           let same_r : r ≡ a = ap (λ (v : Operation × Operation). v.0) pairs in
           let same_w : w ≡ b = ap (λ (v : Operation × Operation). v.1) pairs in
           let t = found (λ r. is_broken_pair harts order r w) order r f in

@@ -1,25 +1,20 @@
 -- A row that is filled in bounds its operation, and the others stay; a walk that goes past an instruction has come one further.
-use Rattle.std.proofs.Common.{◌≡◌, ℕ, zero, suc, ◌+◌, ◌<◌, ◌≤◌, List, [], ◌∷◌, ◌++◌, true, Some, None, refl, sym, subst, ap, ◌∙◌, ⊎_elim, arith, length, set, replicate, take, get_or}
+use Rattle.std.proofs.Common.{◌≡◌, ℕ, zero, suc, ◌+◌, ◌<◌, ◌≤◌, List, [], ◌∷◌, ◌++◌, true, Some, sym, subst, ap, ◌∙◌, ⊎_elim, arith, length, set, take}
 use Rattle.std.specs.Prelude.{slice_get, slice_index_or}
-use Rattle.std.specs.List.{AllByRecursion as Each}
 use Rattle.std.proofs.lemmas.Bool.{cases_eq, cases_lt}
 use Rattle.std.proofs.lemmas.Grind.{get_or-set_at}
-use Rattle.std.proofs.lemmas.List.{get_or-replicate, get_or-set_other, get_or_past, length-replicate, length-set}
+use Rattle.std.proofs.lemmas.List.{get_or-set_other, get_or_past, length-set}
 use Rattle.std.proofs.lemmas.List.Folds.{find_at}
-use Rattle.std.proofs.lemmas.Option.{same_Some, slice_get-get_or}
+use Rattle.std.proofs.lemmas.Option.{none-some, same_Some}
 use Rattle.memory_model.specs.declared.MemoryModel.{MemoryModel}
 use Rattle.memory_model.specs.declared.operation.Operation.{Operation}
 use Rattle.memory_model.specs.Dependencies.{uses_in}
 use Rattle.memory_model.specs.Items.{Item}
 use Rattle.memory_model.specs.Operations.{is_lr, same}
 use Rattle.memory_model.specs.Order.{position_in}
-use Rattle.memory_model.specs.Rules.{is_lr_or_sc, asked_by, items_of}
-use Rattle.memory_model.proofs.Lists.{Each-from}
-use Rattle.rvwmo_order.specs.Bounds.{Bounds, BoundsEach, GivesEach, HasCome, IsGiven, IsBoundsRow, bound_of, most, own_weight, unbounded, weight_of}
+use Rattle.memory_model.specs.Rules.{is_lr_or_sc, items_of}
+use Rattle.rvwmo_order.specs.Bounds.{Bounds, BoundsEach, GivesEach, HasCome, IsGiven, IsBoundsRow, own_weight, unbounded}
 use Rattle.rvwmo_order.specs.Carried.{carried_after, carried_behind, nothing_carried}
-use Rattle.rvwmo_order.specs.Codes.{rule_of}
-use Rattle.rvwmo_order.specs.declared.verdict.Rule.{Rule}
-use Rattle.rvwmo_order.specs.declared.verdict.Rule.TheVariants.{OverlappingStore, SameByteLoads, AtomicSource, Fence, Acquire, Release, Annotations, Pair, Address, Data, Control, DependentStore, DependentAddress}
 use Rattle.rvwmo_order.specs.Passed.{none_passed, passed_after, passed_behind}
 use Rattle.rvwmo_order.specs.Placed.{GivesOwn, IsPlaced}
 use Rattle.rvwmo_order.specs.Touched.{touch_after, touch_behind, touch_in, untouched}
@@ -83,37 +78,8 @@ pub filled : (model : MemoryModel) (harts : List (List Item)) (order : List Oper
 filled model harts order weights rows b w r m position gives bound placed own there of_item come row is_at =
     record { each = filled_at model harts order weights rows b w r m position gives bound placed own there of_item come row is_at }
 
--- rows of which nothing is known bound all weights of 64 bits
-bound_unbounded : (rule : Rule) → bound_of rule unbounded ≡ most
-bound_unbounded OverlappingStore = refl
-bound_unbounded SameByteLoads = refl
-bound_unbounded AtomicSource = refl
-bound_unbounded Fence = refl
-bound_unbounded Acquire = refl
-bound_unbounded Release = refl
-bound_unbounded Annotations = refl
-bound_unbounded Pair = refl
-bound_unbounded Address = refl
-bound_unbounded Data = refl
-bound_unbounded Control = refl
-bound_unbounded DependentStore = refl
-bound_unbounded DependentAddress = refl
-
-all_unbounded : (count p : ℕ) → slice_index_or (replicate count unbounded) p unbounded ≡ unbounded
-all_unbounded count p = ⊎_elim (λ l. get_or-replicate count p unbounded unbounded l) (λ l. get_or_past (replicate count unbounded) p unbounded (let k = length-replicate count unbounded in omega (arith, k, l))) (cases_lt p count)
-
-pub unknown : (model : MemoryModel) (harts : List (List Item)) (order : List Operation) (weights : List ℕ) (count : ℕ) → ((k : ℕ) → slice_index_or weights k 0 ≤ most) → BoundsEach model harts order weights (replicate count unbounded)
-unknown model harts order weights count h = record {
-  each = λ p c e rule.
-      subst (λ (row : Row). Each (λ (a : Operation). asked_by model harts order (rule_of rule) a c ≡ true → weight_of weights order a ≤ bound_of rule row) order) (sym (all_unbounded count p))
-      (Each-from (λ (a : Operation). asked_by model harts order (rule_of rule) a c ≡ true → weight_of weights order a ≤ bound_of rule unbounded) order (λ a m t. let l = h (position_in order a) in let k = bound_unbounded rule in omega (arith, l, k)));
-}
-
-no_item : (m : Item) → None ≡ Some m → ⊥
-no_item m e = cc
-
 placed_at : (n : ℕ) (items : List Item) (k : ℕ) (m : Item) → IsPlaced n items → slice_get items k ≡ Some m → m.place ≡ n + k
-placed_at n [] k m h e = absurd (no_item m e)
+placed_at n [] k m h e = absurd (none-some m e)
 placed_at n (x ∷ rest) zero m h e = let same = ap (λ (i : Item). i.place) (same_Some x m e) in let place = h.0 in omega (arith, same, place)
 placed_at n (x ∷ rest) (suc k) m h e = let ih = placed_at (n + 1) rest k m h.1 e in omega (arith, ih)
 
@@ -138,12 +104,6 @@ filled_put model harts order weights rows put hart b w r m position gives bound 
     subst (λ (xs : List Row). BoundsEach model harts order weights xs) (sym is_put) (filled_by model harts order weights rows hart b w r m position gives bound placed own there of_item come row is_at)
 
 -- ---- an item of a list
-
-pub at_item : (xs items : List Item) (k : ℕ) (m : Item) → xs ≡ items → IsPlaced 0 items → k < length xs → m ≡ get_or xs k m → slice_get items k ≡ Some m
-at_item xs items k m e placed l i = ap (λ (ys : List Item). slice_get ys k) (sym e) ∙ (slice_get-get_or xs k m l ∙ ap (λ (y : Item). Some y) (sym i))
-
-pub item_there : (xs items : List Item) (k : ℕ) (m : Item) → xs ≡ items → IsPlaced 0 items → k < length xs → m ≡ get_or xs k m → slice_get items m.place ≡ Some m
-item_there xs items k m e placed l i = let at = at_item xs items k m e placed l i in ap (slice_get items) (placed_there items k m placed at) ∙ at
 
 pub come_there : (model walked : MemoryModel) (own : Item → ℕ) (order : List Operation) (items : List Item) (k : ℕ) (m : Item) (w : Walk) → IsPlaced 0 items → slice_get items k ≡ Some m → walked ≡ model → HasCome model own order items k w → HasCome walked own order items m.place w
 come_there model walked own order items k m w placed e is_model come =

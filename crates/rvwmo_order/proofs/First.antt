@@ -14,14 +14,14 @@ use Rattle.memory_model.specs.Operations.{same}
 use Rattle.memory_model.specs.Order.{before, position_in}
 use Rattle.memory_model.specs.Rules.{asked_by, items_of}
 use Rattle.memory_model.specs.Verdict.{Code, Fault, code_of_atomicity, code_of_rule, code_of_values, codes, fault_of, fault_or, first_broken, first_fault}
-use Rattle.memory_model.proofs.Forms.{same-self, same-swap}
+use Rattle.memory_model.proofs.Forms.{place_head, place_tail, same-self, same-swap}
 use Rattle.memory_model.proofs.Lists.{Each-weaker}
 use Rattle.memory_model.proofs.Named.{EachOnce}
 use Rattle.rvwmo_order.specs.Answers.{fault_told}
 use Rattle.rvwmo_order.specs.Codes.{rule_of}
 use Rattle.rvwmo_order.specs.Scans.{all_rules, first_broken_pair, first_broken_rule, first_out_of_order, found_or, is_broken_pair, judged, ruled_or, verdict_by, wrong_load}
 use Rattle.rvwmo_order.specs.declared.verdict.Rule.{Rule}
-use Rattle.rvwmo_order.proofs.Judged.{pair, place_head, place_tail}
+use Rattle.rvwmo_order.proofs.Judged.{pair}
 
 -- ---- the first pair of two lists that a test finds, by the second list and then the first
 

@@ -2,7 +2,7 @@
 use Rattle.std.proofs.Common.{◌≡◌, ℕ, zero, suc, ◌+◌, ◌<◌, List, [], ◌∷◌, Bool, true, false, Option, Some, None, refl, cond, subst, ap, ◌∙◌, arith}
 use Rattle.std.specs.Prelude.{option_and_then, slice_get}
 use Rattle.std.specs.List.{cons_option}
-use Rattle.std.proofs.lemmas.Option.{get_or_from_slice_get, same_Some}
+use Rattle.std.proofs.lemmas.Option.{get_or_from_slice_get, none-some, same_Some}
 use Rattle.rv32_decode.specs.Rows.{decoded}
 use Rattle.rv32_decode.specs.declared.instruction.Annotations.{Annotations}
 use Rattle.rv32_decode.specs.declared.instruction.Instr.{Instr}
@@ -27,9 +27,6 @@ use Rattle.memory_model.specs.Traces.{instructions, operation_at, operations_at}
 use Rattle.memory_model.proofs.Named.{operation_at-bears}
 use Rattle.rvwmo_order.specs.Bounds.{GivesEach, IsGiven}
 use Rattle.rvwmo_order.proofs.Paired.{listed_lr}
-
-none_is_not : {X : Type 0} (x : X) → None ≡ Some x → ⊥
-none_is_not x e = cc
 
 -- ---- bytes
 
@@ -62,7 +59,7 @@ with_size r a e h = subst (λ (y : Operation). 0 < y.size) (same_Some r a e) h
 
 tried_sized : (ok : Bool) (r a : Operation) → cond ok (Some r) None ≡ Some a → 0 < r.size → 0 < a.size
 tried_sized true r a e h = with_size r a e h
-tried_sized false r a e h = absurd (none_is_not a e)
+tried_sized false r a e h = absurd (none-some a e)
 
 access_sized : (hart place : ℕ) (bits : Annotations) (entry : Retired) (access : Access) (a : Operation) → Sized access → operation_of_access hart place bits entry access ≡ Some a → 0 < a.size
 access_sized hart place bits entry (Loads address bytes) a h e = with_size _ a e h
@@ -70,21 +67,21 @@ access_sized hart place bits entry (Stores address bytes value) a h e = with_siz
 access_sized hart place bits entry (DoesLr address) a h e = with_size _ a e (omega arith)
 access_sized hart place bits entry (DoesSc address value) a h e = tried_sized (succeeded entry.sc_ok) _ a e (omega arith)
 access_sized hart place bits entry (DoesAmo address op operand) a h e = with_size _ a e (omega arith)
-access_sized hart place bits entry Private a h e = absurd (none_is_not a e)
-access_sized hart place bits entry Fences a h e = absurd (none_is_not a e)
-access_sized hart place bits entry (Calls number argument) a h e = absurd (none_is_not a e)
+access_sized hart place bits entry Private a h e = absurd (none-some a e)
+access_sized hart place bits entry Fences a h e = absurd (none-some a e)
+access_sized hart place bits entry (Calls number argument) a h e = absurd (none-some a e)
 
 item_sized : (place : ℕ) (hart : Hart) (entries : List Retired) (k : ℕ) (m : Item) (a : Operation) → slice_get (items_from place hart entries) k ≡ Some m → m.operation ≡ Some a → 0 < a.size
-item_sized place hart [] k m a e f = absurd (none_is_not m e)
+item_sized place hart [] k m a e f = absurd (none-some m e)
 item_sized place hart (entry ∷ rest) zero m a e f = go (decoded entry.word) (ap (λ (i : Item). i.operation) (same_Some _ m e) ∙ f)
   where
     go : (o : Option Instr) → operation_of_entry place hart entry o ≡ Some a → 0 < a.size
-    go None g = absurd (none_is_not a g)
+    go None g = absurd (none-some a g)
     go (Some i) g = access_sized hart.id place (annotations_of i) entry (access_of i hart.regs) a (sized i hart.regs) g
 item_sized place hart (entry ∷ rest) (suc k) m a e f = item_sized (place + 1) (after hart entry) rest k m a e f
 
 list_sized : (image : Initial) (harts id : ℕ) (lists : List (List Retired)) (k place : ℕ) (items : List Item) (m : Item) (a : Operation) → slice_get (items_of_harts image harts id lists) k ≡ Some items → slice_get items place ≡ Some m → m.operation ≡ Some a → 0 < a.size
-list_sized image harts id [] k place items m a e f g = absurd (none_is_not items e)
+list_sized image harts id [] k place items m a e f g = absurd (none-some items e)
 list_sized image harts id (entries ∷ rest) zero place items m a e f g = item_sized 0 (at_reset image id harts) entries place m a (ap (λ (is : List Item). slice_get is place) (same_Some _ items e) ∙ f) g
 list_sized image harts id (entries ∷ rest) (suc k) place items m a e f g = list_sized image harts (id + 1) rest k place items m a e f g
 
@@ -94,7 +91,7 @@ given_by : (t : History) (name : OpId) (a : Operation) → operation_at (instruc
 given_by t name a e = go (slice_get (instructions t) name.hart) refl e
   where
     found : (items : List Item) → slice_get (instructions t) name.hart ≡ Some items → (o : Option Item) → slice_get items name.place ≡ o → option_and_then (λ (m : Item). m.operation) o ≡ Some a → IsGiven (items_of (instructions t) a.hart) a
-    found items f None h g = absurd (none_is_not a g)
+    found items f None h g = absurd (none-some a g)
     found items f (Some m) h g =
         let bears = operation_at-bears t name a e in
         let list : items_of (instructions t) a.hart ≡ items = ap (items_of (instructions t)) bears.hart_is ∙ get_or_from_slice_get (instructions t) name.hart items [] f in
@@ -107,7 +104,7 @@ given_by t name a e = go (slice_get (instructions t) name.hart) refl e
         }
 
     go : (o : Option (List Item)) → slice_get (instructions t) name.hart ≡ o → option_and_then (λ (m : Item). m.operation) (option_and_then (λ (items : List Item). slice_get items name.place) o) ≡ Some a → IsGiven (items_of (instructions t) a.hart) a
-    go None f g = absurd (none_is_not a g)
+    go None f g = absurd (none-some a g)
     go (Some items) f g = found items f (slice_get items name.place) refl g
 
 pub given_each : (t : History) (names : List OpId) → GivesEach (instructions t) (operations_at (instructions t) names)

@@ -13,12 +13,11 @@ use Rattle.memory_model.specs.Rules.{is_lr_or_sc, items_of}
 use Rattle.memory_model.specs.Operations.{is_sc, is_lr, precedes, same, stores_to}
 use Rattle.memory_model.specs.Order.{candidates, position_in, source}
 use Rattle.memory_model.specs.Verdict.{name_of}
-use Rattle.memory_model.proofs.Forms.{same-swap}
+use Rattle.memory_model.proofs.Forms.{place_head, place_tail, same-swap}
 use Rattle.trace_recorder.specs.declared.operation.OpId.{OpId}
 use Rattle.rvwmo_order.specs.Indexed.{is_seen, place_from, stored_from}
 use Rattle.rvwmo_order.specs.Scans.{is_broken_pair}
 use Rattle.rvwmo_order.specs.declared.stored.Stored.{Stored}
-use Rattle.rvwmo_order.proofs.Judged.{place_head, place_tail}
 
 -- ---- places
 

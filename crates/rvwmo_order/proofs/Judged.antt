@@ -1,7 +1,8 @@
 -- What the scans find is what a legal order hasn't.
-use Rattle.std.proofs.Common.{◌≡◌, ℕ, ◌+◌, List, [], ◌∷◌, Bool, true, false, Option, Some, None, refl, cond, sym, ap, ◌∙◌, subst, not, ◌&&◌, ◌||◌, inl, inr, arith, find}
+use Rattle.std.proofs.Common.{◌≡◌, ℕ, List, [], ◌∷◌, Bool, true, false, Option, Some, None, refl, cond, sym, ap, ◌∙◌, subst, not, ◌&&◌, ◌||◌, inl, inr, arith, find}
 use Rattle.std.specs.List.{list_any, list_all}
-use Rattle.std.proofs.lemmas.Bool.{false≢true, and_parts, and_from, ltb-false, le-ltb}
+use Rattle.std.proofs.lemmas.Bool.{and_from, and_parts, and_right, false≢true, le-ltb, ltb-false}
+use Rattle.std.proofs.lemmas.Option.{same_Some}
 use Rattle.memory_model.specs.declared.MemoryModel.{MemoryModel}
 use Rattle.memory_model.specs.declared.operation.Operation.{Operation}
 use Rattle.memory_model.specs.Items.{Item}
@@ -10,7 +11,7 @@ use Rattle.memory_model.specs.Operations.{precedes, same}
 use Rattle.memory_model.proofs.Named.{EachOnce}
 use Rattle.memory_model.specs.Order.{before, in_order, none_must_precede, position_in}
 use Rattle.memory_model.specs.Rules.{asked_by, items_of, paired}
-use Rattle.memory_model.proofs.Forms.{same-self, same-swap}
+use Rattle.memory_model.proofs.Forms.{place_head, place_tail, same-self, same-swap}
 use Rattle.memory_model.proofs.Legality.{in_order-weaker}
 use Rattle.memory_model.proofs.Lists.{Each-at, Member}
 use Rattle.rvwmo_order.specs.Codes.{rule_of}
@@ -22,9 +23,6 @@ use Rattle.rvwmo_order.specs.declared.verdict.Verdict.TheVariants.{Legal}
 
 some_is_not : {X : Type 0} (a : X) → Some a ≡ None → ⊥
 some_is_not a e = cc
-
-pub same_value : {X : Type 0} (a b : X) → Some a ≡ Some b → a ≡ b
-same_value a b e = cc
 
 abbrev pub pair : Operation → Operation → Operation × Operation
 pair a b = (a, b)
@@ -76,19 +74,13 @@ pub record OutOfOrder (must : Operation → Operation → Bool) (xs : List Opera
   pub asked : must a b ≡ true
   pub behind : before xs a b ≡ false
 
-pub place_tail : (a x : Operation) (xs : List Operation) → same a x ≡ false → position_in (x ∷ xs) a ≡ 1 + position_in xs a
-place_tail a x xs e = rw e refl
-
-pub place_head : (a x : Operation) (xs : List Operation) → same a x ≡ true → position_in (x ∷ xs) a ≡ 0
-place_head a x xs e = rw e refl
-
 pub out_of_order : (must : Operation → Operation → Bool) (xs : List Operation) (a b : Operation) → EachOnce xs → first_out_of_order must xs ≡ Some (a, b) → OutOfOrder must xs a b
 out_of_order must [] a b d e = absurd (some_is_not (a, b) (sym e))
 out_of_order must (x ∷ xs) a b d e = go (find (λ c. must c x) xs) refl e (out_of_order must xs a b d.1)
   where
     go : (o : Option Operation) → find (λ c. must c x) xs ≡ o → found_or o x (first_out_of_order must xs) ≡ Some (a, b) → (first_out_of_order must xs ≡ Some (a, b) → OutOfOrder must xs a b) → OutOfOrder must (x ∷ xs) a b
     go (Some c) f e ih =
-        let pairs = same_value (pair c x) (pair a b) e in
+        let pairs = same_Some (pair c x) (pair a b) e in
         let ea : c ≡ a = ap (λ (v : Operation × Operation). v.0) pairs in
         let eb : x ≡ b = ap (λ (v : Operation × Operation). v.1) pairs in
         let s = found (λ c. must c x) xs c f in
@@ -135,10 +127,6 @@ in_order-both k m n f (a ∷ xs) e g =
     let t = and_parts (none_must_precede n a xs) (in_order n xs) g in
     and_from _ _ (none_by_both k m n f a xs s.0 t.0) (in_order-both k m n f xs s.1 t.1)
 
-and_false : (a : Bool) → (a && false) ≡ false
-and_false true = refl
-and_false false = refl
-
 shared : (p q r : Bool) → (p && (q || r)) ≡ true → ((p && q) || (p && r)) ≡ true
 shared true q r e = e
 shared false q r e = absurd (false≢true e)
@@ -155,7 +143,7 @@ right_of false q r e = absurd (false≢true e)
 
 module _ (model : MemoryModel) (harts : List (List Item)) (order : List Operation) where
   pub rules_kept : (rs : List Rule) → first_broken_rule model harts order rs ≡ None → in_order (any_asks model harts order rs) order ≡ true
-  rules_kept [] e = in_order-free (any_asks model harts order []) (λ a b. and_false (precedes a b)) order
+  rules_kept [] e = in_order-free (any_asks model harts order []) (λ a b. and_right (precedes a b) false refl) order
   rules_kept (r ∷ rs) e = go (first_out_of_order (asked_by model harts order (rule_of r)) order) refl e (rules_kept rs)
     where
       go : (o : Option (Operation × Operation)) → first_out_of_order (asked_by model harts order (rule_of r)) order ≡ o → ruled_or r o (first_broken_rule model harts order rs) ≡ None

@@ -1,11 +1,10 @@
 -- The ranks of the sources that are kept of each load: one more at a time, and told by the load's name.
-use Rattle.std.proofs.Common.{◌≡◌, ℕ, ◌+◌, ◌<◌, ◌≤◌, ◌++◌, List, [], ◌∷◌, true, Option, Some, None, cond, sym, subst, ap, ◌∙◌, ◌&&◌, ⊎_elim, arith, length, length-append, get_or, refl, set}
+use Rattle.std.proofs.Common.{◌≡◌, ℕ, ◌+◌, ◌<◌, ◌≤◌, List, [], ◌∷◌, true, Option, Some, None, cond, sym, subst, ap, ◌∙◌, ◌&&◌, ⊎_elim, arith, length, refl, set}
 use Rattle.std.specs.Prelude.{filter, nat_eq, nat_lt, slice_get, slice_index_or}
 use Rattle.std.specs.List.{last_or}
-use Rattle.std.proofs.lemmas.Bool.{and_parts, cases_eq, cases_lt, eqb-true}
+use Rattle.std.proofs.lemmas.Bool.{and_parts, cases_eq, eqb-true}
 use Rattle.std.proofs.lemmas.Grind.{get_or-set_at}
-use Rattle.std.proofs.lemmas.List.{get_or_append_left, get_or_push, get_or-set_other}
-use Rattle.std.proofs.lemmas.Option.{get_or_from_slice_get, same_Some, slice_get-get_or, slice_get_within}
+use Rattle.std.proofs.lemmas.List.{get_or-set_other}
 use Rattle.memory_model.specs.declared.operation.Operation.{Operation}
 use Rattle.memory_model.specs.Operations.{reads, same, stores_to}
 use Rattle.memory_model.specs.Order.{candidates, source}
@@ -36,27 +35,6 @@ kept_named order kept p a load ranks g e f r s at long = record {
       let byte : a.address + i ≡ load.address + i = ap (λ (n : ℕ). n + i) at in
       subst (λ (o : Option Operation). HasRank order o (slice_index_or ranks i 0)) (ap (source order a) byte ∙ source_named order a load (load.address + i) s) ((g p a ranks e f r).each i few (omega (arith, within, long)));
 }
-
--- ---- one more load
-
-pub gives_more : (order : List Operation) (kept : List (List ℕ)) (ranks : List ℕ) (k : ℕ) (a : Operation) → GivesSources order kept → length kept ≡ k → slice_get order k ≡ Some a
-    → (reads a.kind ≡ true → GivesRanks order a ranks) → GivesSources order (kept ++ ranks ∷ [])
-gives_more order kept ranks k a g count there own p b other h f r =
-    let inside = slice_get_within (kept ++ ranks ∷ []) p other h in
-    let at : get_or (kept ++ ranks ∷ []) p [] ≡ other = get_or_from_slice_get (kept ++ ranks ∷ []) p other [] h in
-    ⊎_elim (λ l. before l at) (λ l. last l inside at) (cases_lt p (length kept))
-  where
-    before : p < length kept → get_or (kept ++ ranks ∷ []) p [] ≡ other → GivesRanks order b other
-    before l at = g p b other (slice_get-get_or kept p [] l ∙ ap Some (sym (get_or_append_left kept (ranks ∷ []) [] p l) ∙ at)) f r
-
-    last : length kept ≤ p → p < length (kept ++ ranks ∷ []) → get_or (kept ++ ranks ∷ []) p [] ≡ other → GivesRanks order b other
-    last l inside at =
-        let long = length-append kept (ranks ∷ []) in
-        let is : length kept ≡ p = omega (arith, l, inside, long) in
-        let it : ranks ≡ other = sym (get_or_push kept ranks [] p is) ∙ at in
-        let one : a ≡ b = same_Some a b (sym there ∙ (ap (slice_get order) (sym count ∙ is) ∙ f)) in
-        subst (λ (y : Operation). reads y.kind ≡ true → GivesRanks order y other) one
-        (λ r. subst (GivesRanks order a) it (own r)) r
 
 -- ---- a byte by the ranks of the first ones
 

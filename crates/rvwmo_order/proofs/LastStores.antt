@@ -5,7 +5,7 @@ use Rattle.std.specs.List.{last_or}
 use Rattle.std.specs.Option.{option_map}
 use Rattle.std.proofs.lemmas.Bool.{and_parts, cases_eq, cases_lt, eqb-true, eq-eqb, ne_eqb, lt-ltb, le-ltb, true≢false}
 use Rattle.std.proofs.lemmas.List.{get_or_append_left, get_or_push, get_or_past}
-use Rattle.std.proofs.lemmas.Option.{get_or_from_slice_get, same_Some, slice_get-get_or, slice_get_within}
+use Rattle.std.proofs.lemmas.Option.{get_or_from_slice_get, none-some, same_Some, slice_get-get_or, slice_get_within}
 use Rattle.memory_model.specs.declared.operation.Operation.{Operation}
 use Rattle.memory_model.specs.declared.operation.Kind.TheVariants.{Load}
 use Rattle.memory_model.specs.Operations.{precedes, same, stores_to}
@@ -18,9 +18,6 @@ use Rattle.rvwmo_order.specs.declared.stored.Stored.{Stored}
 use Rattle.rvwmo_order.proofs.Clear.{position_at}
 use Rattle.rvwmo_order.proofs.Indexed.{place_known, source_seen}
 use Rattle.rvwmo_order.proofs.Ranks.{ranked_at}
-
-no_value : {X : Type 0} (x : X) → None ≡ Some x → ⊥
-no_value x e = cc
 
 -- ---- one test for another, and two together
 
@@ -110,7 +107,7 @@ abbrev pub EachUpTo : List Operation → List (List ℕ) → (Operation → Bool
 EachUpTo order sources come = (p i : ℕ) (a : Operation) (ranks : List ℕ) → slice_get order p ≡ Some a → slice_get sources p ≡ Some ranks → i < 4 → i < a.size → IsLast order (a.address + i) (is_known come p a) (slice_index_or ranks i 0)
 
 pub each_none : (order : List Operation) (sources : List (List ℕ)) → sources ≡ [] → EachUpTo order sources nothing_come
-each_none order sources e p i a ranks f g few within = absurd (no_value ranks (sym (ap (λ (xs : List (List ℕ)). slice_get xs p) e) ∙ g))
+each_none order sources e p i a ranks f g few within = absurd (none-some ranks (sym (ap (λ (xs : List (List ℕ)). slice_get xs p) e) ∙ g))
 
 pub sources_more : (order : List Operation) (kept : List (List ℕ)) (ranks : List ℕ) (k : ℕ) (a : Operation) (latest : ℕ → ℕ) → EachUpTo order kept nothing_come → length kept ≡ k → slice_get order k ≡ Some a → ((x : ℕ) → IsLast order x (λ j s. nat_lt j k) (latest x))
     → ((i : ℕ) → i < 4 → i < a.size → slice_index_or ranks i 0 ≡ latest (a.address + i)) → EachUpTo order (kept ++ ranks ∷ []) nothing_come
@@ -296,7 +293,7 @@ name_alike : (hart place : ℕ) (a : Operation) → same (record { hart = hart; 
 name_alike hart place a e = let p = and_parts (nat_eq hart a.hart) (nat_eq place a.place) e in (sym (eqb-true hart a.hart p.0), sym (eqb-true place a.place p.1))
 
 placed_beyond : (q : ℕ) (a : Operation) (xs : List Operation) (n : ℕ) → place_from q a xs ≡ Some n → q ≤ n
-placed_beyond q a [] n e = absurd (no_value n e)
+placed_beyond q a [] n e = absurd (none-some n e)
 placed_beyond q a (y ∷ ys) n e = step (same a y) e (λ h. placed_beyond (q + 1) a ys n h)
   where
     step : (c : Bool) → cond c (Some q) (place_from (q + 1) a ys) ≡ Some n → (place_from (q + 1) a ys ≡ Some n → q + 1 ≤ n) → q ≤ n
@@ -304,7 +301,7 @@ placed_beyond q a (y ∷ ys) n e = step (same a y) e (λ h. placed_beyond (q + 1
     step false h ih = let l = ih h in omega (arith, l)
 
 placed_at : (q j : ℕ) (a : Operation) (xs : List Operation) (n : ℕ) → place_from q a xs ≡ Some n → n ≡ q + j → (b : Operation) × (slice_get xs j ≡ Some b) × (same a b ≡ true)
-placed_at q j a [] n e f = absurd (no_value n e)
+placed_at q j a [] n e f = absurd (none-some n e)
 placed_at q zero a (b ∷ rest) n e f = go (same a b) refl e
   where
     go : (c : Bool) → same a b ≡ c → cond c (Some q) (place_from (q + 1) a rest) ≡ Some n → (y : Operation) × (slice_get (b ∷ rest) zero ≡ Some y) × (same a y ≡ true)
@@ -320,7 +317,7 @@ some_known : (n p : ℕ) → known n ≡ Some p → n ≡ p + 1
 some_known n p e = ⊎_elim zero_not more (cases_eq n 0)
   where
     zero_not : n ≡ 0 → n ≡ p + 1
-    zero_not z = absurd (no_value p (ap known (sym z) ∙ e))
+    zero_not z = absurd (none-some p (ap known (sym z) ∙ e))
 
     more : (n ≡ 0 → ⊥) → n ≡ p + 1
     more ne = let is : n - 1 ≡ p = same_Some (n - 1) p (sym (ap (λ (b : Bool). cond b None (Some (n - 1))) (ne_eqb n 0 ne)) ∙ e) in omega (arith, is, ne)
@@ -383,7 +380,7 @@ abbrev found : (Stored → Bool) → ℕ → ℕ → Operation → List Operatio
 found p q x a rest o b = last_or o (filter p (cond b (here_at q a ∷ stored_from (q + 1) x rest) (stored_from (q + 1) x rest)))
 
 last_found : (p : Stored → Bool) (q x : ℕ) (xs : List Operation) (o : Option Stored) → ((last_or o (filter p (stored_from q x xs)) ≡ o) × NonePasses p q x xs) ⊎ LastPasses p q x xs (last_or o (filter p (stored_from q x xs)))
-last_found p q x [] o = inl (refl, record { each = λ j n s c e f g. no_value s e })
+last_found p q x [] o = inl (refl, record { each = λ j n s c e f g. none-some s e })
 last_found p q x (a ∷ rest) o = go (stores_to x a) (p (record { position = q; store = a })) refl refl (last_found p (q + 1) x rest o) (last_found p (q + 1) x rest (Some (record { position = q; store = a })))
   where
     first_is : (n : ℕ) (s : Operation) → n ≡ q + 0 → slice_get (a ∷ rest) 0 ≡ Some s → p (record { position = n; store = s }) ≡ p (here_at q a)

@@ -33,5 +33,4 @@ pub mod Tables
 pub mod Touches
 pub mod Unbroken
 pub mod Verdicts
-pub mod Within
 pub mod Words

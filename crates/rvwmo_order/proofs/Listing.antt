@@ -1,9 +1,9 @@
 -- A hart's list that is kept as words and operations: what stands at a place, a part of it, and one instruction more.
-use Rattle.std.proofs.Common.{◌≡◌, ℕ, zero, suc, ◌+◌, ◌<◌, ◌≤◌, List, [], ◌∷◌, ◌++◌, Bool, Option, Some, None, refl, cond, sym, ap, ◌∙◌, ◌⊎◌, inl, inr, ◌^◌, arith, drop, take, length, length-append, min}
+use Rattle.std.proofs.Common.{◌≡◌, ℕ, zero, suc, ◌+◌, ◌<◌, ◌≤◌, List, [], ◌∷◌, ◌++◌, Bool, Option, Some, None, refl, cond, sym, ap, ◌∙◌, ◌⊎◌, inl, inr, arith, drop, take, length, length-append, min}
 use Rattle.std.specs.Prelude.{option_and_then, slice_get}
 use Rattle.std.specs.Option.{option_map}
 use Rattle.std.proofs.lemmas.Bool.{cases_lt, eq-eqb, ne_eqb}
-use Rattle.std.proofs.lemmas.List.{drop_all, length-drop, length-take}
+use Rattle.std.proofs.lemmas.List.{drop_all}
 use Rattle.std.proofs.lemmas.Option.{slice_get_past}
 use Rattle.rv32_decode.specs.Rows.{decoded}
 use Rattle.memory_model.specs.declared.operation.Operation.{Operation}
@@ -124,12 +124,6 @@ part_listed ops slots part first from k now v e f =
     go (inr l) =
         let long = length-listed 0 ops slots in
         ap (listed first ops) (drop_all from slots l) ∙ sym (drop_all from (listed 0 ops slots) (omega (arith, long, l)))
-
-pub part_within : (slots part : List Slot) (first from k : ℕ) → length slots < 2 ^ 32 → first ≡ min from (length slots) → part ≡ take k (drop from slots) → first + length part < 2 ^ 32
-part_within slots part first from k h e f =
-    let cut : length part ≡ min k (length (drop from slots)) = ap length f ∙ length-take k (drop from slots) in
-    let rest = length-drop from slots in
-    omega (arith, h, e, cut, rest)
 
 -- ---- where operations stand
 

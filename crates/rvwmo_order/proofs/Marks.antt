@@ -1,9 +1,9 @@
 -- The flags of a sweep tell the registers that are wanted, and its marks what an operation depends on.
-use Rattle.std.proofs.Common.{◌≡◌, ℕ, ◌-◌, ◌<◌, ◌≤◌, suc, ◌+◌, List, [], ◌∷◌, ◌++◌, Bool, true, false, Option, Some, None, refl, cond, sym, subst, ap, ◌∙◌, not, ◌&&◌, ◌||◌, ⊎_elim, arith, drop, take, length, map, replicate}
+use Rattle.std.proofs.Common.{◌≡◌, ℕ, ◌-◌, ◌<◌, ◌≤◌, suc, ◌+◌, List, [], ◌∷◌, ◌++◌, Bool, true, false, Option, Some, None, refl, cond, sym, subst, ap, ◌∙◌, not, ◌&&◌, ◌||◌, arith, drop, take, length, map, replicate}
 use Rattle.std.specs.Prelude.{filter, nat_eq, nat_lt, slice_index_or}
 use Rattle.std.specs.List.{list_any, range_with_len}
-use Rattle.std.proofs.lemmas.Bool.{and_parts, cases_lt, eqb-true, ltb-true, true≢false}
-use Rattle.std.proofs.lemmas.List.{append_assoc, get_or-replicate, get_or_past}
+use Rattle.std.proofs.lemmas.Bool.{and_parts, eqb-true, ltb-true, true≢false}
+use Rattle.std.proofs.lemmas.List.{append_assoc}
 use Rattle.std.proofs.lemmas.List.Folds.{list_any-append}
 use Rattle.std.proofs.Math.Seq.{take-append_seam}
 use Rattle.std.proofs.lemmas.Map.Views.{any-filter_same}
@@ -22,13 +22,9 @@ use Rattle.rvwmo_order.proofs.Passing.{rule_12_swept}
 use Rattle.rvwmo_order.specs.Sweeps.{addressing, is_returned, passing, gives_wanted, is_written, marks_of, nothing, steering, wanted_before, wanted_from}
 use Rattle.rvwmo_order.specs.declared.verdict.Rule.{Rule}
 use Rattle.rvwmo_order.specs.declared.verdict.Rule.TheVariants.{OverlappingStore, SameByteLoads, AtomicSource, Fence, Acquire, Release, Annotations, Pair, Address, Data, Control, DependentStore, DependentAddress}
-use Rattle.rvwmo_order.proofs.Sweeps.{address_swept, control_swept, data_swept, dependent_address_swept, flag_at, length-with_flags, mark_or}
+use Rattle.rvwmo_order.proofs.Sweeps.{address_swept, any_same, control_swept, data_swept, dependent_address_swept, flag_at, length-with_flags, mark_or, no_flag}
 
 -- ---- tests of lists
-
-any_same : (p q : ℕ → Bool) → ((x : ℕ) → p x ≡ q x) → (xs : List ℕ) → list_any p xs ≡ list_any q xs
-any_same p q f [] = refl
-any_same p q f (x ∷ rest) = rw (f x, any_same p q f rest) refl
 
 any_either : (p q : ℕ → Bool) (xs : List ℕ) → list_any (λ x. p x || q x) xs ≡ (list_any p xs || list_any q xs)
 any_either p q [] = refl
@@ -69,11 +65,8 @@ in_turned xs ys =
 abbrev Flags : List Bool → List ℕ → Type 0
 Flags flags wanted = (r : ℕ) → slice_index_or flags r false ≡ is_written wanted r
 
-no_flags : (r : ℕ) → slice_index_or (replicate 32 false) r false ≡ false
-no_flags r = ⊎_elim (λ l. get_or-replicate 32 r false false l) (λ l. get_or_past (replicate 32 false) r false l) (cases_lt r 32)
-
 flags_first : (wanted : List ℕ) → Flags (with_flags (replicate 32 false) true wanted) wanted
-flags_first wanted r = flag_at (replicate 32 false) true wanted r refl ∙ (ap (cond (is_written wanted r) true) (no_flags r) ∙ go (is_written wanted r))
+flags_first wanted r = flag_at (replicate 32 false) true wanted r refl ∙ (ap (cond (is_written wanted r) true) (no_flag r) ∙ go (is_written wanted r))
   where
     go : (b : Bool) → cond b true false ≡ b
     go true = refl

@@ -3,7 +3,7 @@ use Rattle.std.proofs.Common.{◌≡◌, ℕ, zero, suc, ◌+◌, ◌<◌, ◌�
 use Rattle.std.specs.Prelude.{filter, nat_eq, nat_lt, option_and_then, slice_get}
 use Rattle.std.specs.List.{AllByRecursion, list_any}
 use Rattle.std.proofs.lemmas.Bool.{and_from, and_parts, cases_lt, eq-eqb, eqb-true, lt-ltb, ltb-true, true≢false}
-use Rattle.std.proofs.lemmas.Option.{same_Some}
+use Rattle.std.proofs.lemmas.Option.{none-some, same_Some, slice_get_past}
 use Rattle.memory_model.specs.declared.operation.Operation.{Operation}
 use Rattle.memory_model.specs.Dependencies.{between}
 use Rattle.memory_model.specs.Items.{Item}
@@ -11,18 +11,14 @@ use Rattle.memory_model.specs.Legal.{is_atomic}
 use Rattle.memory_model.specs.Operations.{is_lr, is_sc, precedes, same}
 use Rattle.memory_model.specs.Order.{position_in}
 use Rattle.memory_model.specs.Rules.{is_lr_or_sc, items_of, paired}
+use Rattle.memory_model.proofs.Forms.{place_head, place_tail}
 use Rattle.rvwmo_order.specs.Bounds.{AreDistinctOperations, GivesEach, IsGiven}
 use Rattle.rvwmo_order.specs.Placed.{IsPlaced}
 use Rattle.rvwmo_order.specs.Scans.{is_broken_pair}
 use Rattle.rvwmo_order.proofs.Filled.{placed_there}
-use Rattle.rvwmo_order.proofs.Judged.{place_head, place_tail}
-use Rattle.rvwmo_order.proofs.Tables.{nothing_past}
-
-none_is_not : {X : Type 0} (x : X) → None ≡ Some x → ⊥
-none_is_not x e = cc
 
 any_filtered : {X : Type 0} (p q : X → Bool) (xs : List X) (k : ℕ) (m : X) → slice_get xs k ≡ Some m → q m ≡ true → p m ≡ true → list_any p (filter q xs) ≡ true
-any_filtered p q [] k m e f g = absurd (none_is_not m e)
+any_filtered p q [] k m e f g = absurd (none-some m e)
 any_filtered p q (x ∷ rest) zero m e f g = go (q x) (ap q (same_Some x m e) ∙ f)
   where
     go : (b : Bool) → b ≡ true → list_any p (cond b (x ∷ filter q rest) (filter q rest)) ≡ true
@@ -80,7 +76,7 @@ only_there items place m r w placed none there is l given e =
 
 -- none from the end of the list on, or from the SC on, whichever stands before the other
 pub none_from_end : (items : List Item) (low count high : ℕ) → count ≡ length items → low ≡ min high count → NoneFrom items low high
-none_from_end items low count high c is k m l j e = absurd (none_is_not m (sym (nothing_past items k (omega (arith, c, is, l, j))) ∙ e))
+none_from_end items low count high c is k m l j e = absurd (none-some m (sym (slice_get_past items k (omega (arith, c, is, l, j))) ∙ e))
 
 pub none_down : (items : List Item) (place high : ℕ) (m : Item) → slice_get items place ≡ Some m → is_lr_or_sc m.instr ≡ false → NoneFrom items (place + 1) high → NoneFrom items place high
 none_down items place high m there is_not none k n l j e =

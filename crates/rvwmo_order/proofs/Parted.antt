@@ -1,19 +1,16 @@
 -- What stands before an operation in its hart's list: what stands before an earlier one, that one, and those between.
-use Rattle.std.proofs.Common.{◌≡◌, ℕ, zero, suc, ◌+◌, ◌-◌, ◌<◌, List, [], ◌∷◌, ◌++◌, Some, None, ap, ◌∙◌, arith, drop, take}
+use Rattle.std.proofs.Common.{◌≡◌, ℕ, zero, suc, ◌+◌, ◌-◌, ◌<◌, List, [], ◌∷◌, ◌++◌, Some, ap, ◌∙◌, arith, drop, take}
 use Rattle.std.specs.Prelude.{slice_get}
-use Rattle.std.proofs.lemmas.Option.{same_Some}
+use Rattle.std.proofs.lemmas.Option.{none-some, same_Some}
 use Rattle.memory_model.specs.declared.operation.Operation.{Operation}
 use Rattle.memory_model.specs.Dependencies.{between}
 use Rattle.memory_model.specs.Items.{Item}
 use Rattle.rvwmo_order.specs.Placed.{IsPlaced}
 use Rattle.rvwmo_order.proofs.Placed.{between_cut}
 
-none_is_not : {X : Type 0} (x : X) → None ≡ Some x → ⊥
-none_is_not x e = cc
-
 -- the first i, the one at i, and then so many
 taken : (items : List Item) (i n k : ℕ) (m : Item) → slice_get items i ≡ Some m → k ≡ suc (i + n) → take k items ≡ take i items ++ (m ∷ take n (drop (suc i) items))
-taken [] i n k m e h = absurd (none_is_not m e)
+taken [] i n k m e h = absurd (none-some m e)
 taken (x ∷ rest) zero n k m e h =
     let one : k ≡ suc n = omega (arith, h) in
     ap (λ (j : ℕ). take j (x ∷ rest)) one ∙ ap (λ (y : Item). y ∷ take n rest) (same_Some x m e)
@@ -29,7 +26,7 @@ parted items a b m p e l =
 
 -- one more
 pub one_more : (items : List Item) (i : ℕ) (m : Item) → slice_get items i ≡ Some m → take (i + 1) items ≡ take i items ++ (m ∷ [])
-one_more [] i m e = absurd (none_is_not m e)
+one_more [] i m e = absurd (none-some m e)
 one_more (x ∷ rest) zero m e = ap (λ (y : Item). y ∷ []) (same_Some x m e)
 one_more (x ∷ rest) (suc i) m e =
     let next : suc i + 1 ≡ suc (i + 1) = omega arith in

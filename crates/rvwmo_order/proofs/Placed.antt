@@ -2,19 +2,15 @@
 use Rattle.std.proofs.Common.{◌≡◌, ℕ, zero, suc, ◌+◌, ◌-◌, ◌<◌, ◌≤◌, List, [], ◌∷◌, ◌++◌, Bool, true, false, refl, sym, ap, ◌∙◌, ◌&&◌, ⊎_elim, arith, drop, take, length, get_or}
 use Rattle.std.specs.Prelude.{filter, nat_lt}
 use Rattle.std.proofs.lemmas.List.{append_assoc, at_drop_more}
-use Rattle.std.proofs.lemmas.Bool.{and_from, cases_lt, le-ltb, lt-ltb}
+use Rattle.std.proofs.lemmas.Bool.{and_from, and_right, cases_lt, le-ltb, lt-ltb}
 use Rattle.hart.specs.declared.retired.Retired.{Retired}
 use Rattle.hart.specs.declared.state.Hart.{Hart}
-use Rattle.hart.specs.Run.{after, at_reset, reset_at}
+use Rattle.hart.specs.Run.{at_reset, reset_at}
 use Rattle.elf_loader.specs.Image.{Initial}
 use Rattle.memory_model.specs.declared.operation.Operation.{Operation}
 use Rattle.memory_model.specs.Dependencies.{between}
 use Rattle.memory_model.specs.Items.{Item, items_from, items_of_harts}
 use Rattle.rvwmo_order.specs.Placed.{IsPlaced}
-
-pub placed_items : (place : ℕ) (hart : Hart) (entries : List Retired) → IsPlaced place (items_from place hart entries)
-placed_items place hart [] = tt
-placed_items place hart (entry ∷ rest) = (refl, placed_items (place + 1) (after hart entry) rest)
 
 abbrev is_inside : ℕ → ℕ → Item → Bool
 is_inside low high m = nat_lt low m.place && nat_lt m.place high
@@ -24,10 +20,6 @@ excluded low high m rest e = rw e refl
 
 included : (low high : ℕ) (m : Item) (rest : List Item) → is_inside low high m ≡ true → filter (is_inside low high) (m ∷ rest) ≡ m ∷ filter (is_inside low high) rest
 included low high m rest e = rw e refl
-
-and_false : (a : Bool) → (a && false) ≡ false
-and_false true = refl
-and_false false = refl
 
 abbrev nothing : List Item
 nothing = []
@@ -61,7 +53,7 @@ cut_within place low high m rest e l k ih =
 cut_behind : (place low high : ℕ) (m : Item) (rest : List Item) → m.place ≡ place → low < place → high ≤ place → filter (is_inside low high) rest ≡ take (high - (place + 1) - (low + 1 - (place + 1))) (drop (low + 1 - (place + 1)) rest)
     → filter (is_inside low high) (m ∷ rest) ≡ take (high - place - (low + 1 - place)) (drop (low + 1 - place) (m ∷ rest))
 cut_behind place low high m rest e l k ih =
-    let out : is_inside low high m ≡ false = ap (λ (b : Bool). nat_lt low m.place && b) (le-ltb m.place high (omega (arith, e, k))) ∙ and_false (nat_lt low m.place) in
+    let out : is_inside low high m ≡ false = ap (λ (b : Bool). nat_lt low m.place && b) (le-ltb m.place high (omega (arith, e, k))) ∙ and_right (nat_lt low m.place) false refl in
     let none : high - place - (low + 1 - place) ≡ 0 = omega (arith, k) in
     let none_next : high - (place + 1) - (low + 1 - (place + 1)) ≡ 0 = omega (arith, k) in
     excluded low high m rest out ∙ (ih ∙ rw (none, none_next) refl)
@@ -79,9 +71,6 @@ between_cut items a b h =
     let skipped : a.place + 1 - 0 ≡ a.place + 1 = omega arith in
     let cut : filter (is_inside a.place b.place) items ≡ take (b.place - (a.place + 1)) (drop (a.place + 1) items) = cut_from 0 a.place b.place items h ∙ rw (count, skipped) refl in
     sym cut
-
-pub between_by : (items list behind found : List Item) (a b : Operation) (count : ℕ) → IsPlaced 0 items → list ≡ items → behind ≡ drop (a.place + 1) list → found ≡ take count behind → count ≡ b.place - (a.place + 1) → found ≡ between items a b
-between_by items list behind found a b count h e f g k = g ∙ (rw (k, f, e) refl ∙ between_cut items a b h)
 
 -- ---- each hart's instructions
 

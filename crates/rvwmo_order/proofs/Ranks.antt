@@ -1,25 +1,17 @@
--- An operation of an order by its rank: of a store that was seen, and its place, weight and row.
-use Rattle.std.proofs.Common.{◌≡◌, ℕ, zero, suc, ◌+◌, ◌-◌, ◌<◌, ◌≤◌, List, [], ◌∷◌, Bool, true, false, Option, Some, None, refl, cond, sym, ap, ◌∙◌, ◌||◌, ◌⊎◌, ⊎_elim, max, inl, inr, arith, length}
-use Rattle.std.specs.Prelude.{filter, slice_get, slice_index_or}
-use Rattle.std.specs.List.{last_or}
-use Rattle.std.specs.Option.{option_map, option_map_or}
+-- An operation of an order by its rank: its place, weight and row.
+use Rattle.std.proofs.Common.{◌≡◌, ℕ, zero, suc, ◌+◌, ◌-◌, ◌<◌, ◌≤◌, List, [], ◌∷◌, Bool, true, Option, Some, None, cond, sym, ap, ◌∙◌, ◌||◌, ◌⊎◌, ⊎_elim, max, arith, length}
+use Rattle.std.specs.Prelude.{slice_get, slice_index_or}
 use Rattle.std.proofs.lemmas.Bool.{cases_eq, ne_eqb}
-use Rattle.std.proofs.lemmas.Option.{slice_get_within}
+use Rattle.std.proofs.lemmas.Option.{none-some}
 use Rattle.memory_model.specs.declared.operation.Operation.{Operation}
 use Rattle.memory_model.specs.Operations.{is_amo, is_sc}
 use Rattle.memory_model.specs.Order.{position_in, source}
-use Rattle.trace_recorder.specs.declared.operation.OpId.{OpId}
 use Rattle.rvwmo_order.specs.Bounds.{AreDistinctOperations, IsSource, unbounded, weight_of}
-use Rattle.rvwmo_order.specs.Indexed.{HasRank, is_seen, rank_of, ranked, stored_from}
+use Rattle.rvwmo_order.specs.Indexed.{HasRank, rank_of, ranked}
 use Rattle.rvwmo_order.specs.Touched.{but}
 use Rattle.rvwmo_order.specs.declared.rows.Row.{Row}
-use Rattle.rvwmo_order.specs.declared.stored.Stored.{Stored}
 use Rattle.rvwmo_order.specs.declared.touched.Touch.{Touch}
 use Rattle.rvwmo_order.proofs.Clear.{position_at}
-use Rattle.rvwmo_order.proofs.Within.{stored_there}
-
-nothing_is_some : {X : Type 0} (x : X) → None ≡ Some x → ⊥
-nothing_is_some x e = cc
 
 -- ---- places
 
@@ -32,7 +24,7 @@ pub place_ranked : (order : List Operation) (rank : ℕ) (s : Operation) → Are
 place_ranked order rank s d e = ⊎_elim none some (cases_eq rank 0)
   where
     none : rank ≡ 0 → rank ≡ position_in order s + 1
-    none z = absurd (nothing_is_some s (ap (ranked order) (sym z) ∙ e))
+    none z = absurd (none-some s (ap (ranked order) (sym z) ∙ e))
 
     some : (rank ≡ 0 → ⊥) → rank ≡ position_in order s + 1
     some ne =
@@ -42,7 +34,7 @@ place_ranked order rank s d e = ⊎_elim none some (cases_eq rank 0)
 
 past_end : (order : List Operation) (p : ℕ) → slice_get order p ≡ None → length order ≤ p
 past_end [] p e = omega arith
-past_end (a ∷ rest) zero e = absurd (nothing_is_some a (sym e))
+past_end (a ∷ rest) zero e = absurd (none-some a (sym e))
 past_end (a ∷ rest) (suc p) e = let l = past_end rest p e in omega (arith, l)
 
 pub rank_known : (order : List Operation) (o : Option Operation) (rank : ℕ) → HasRank order o rank → AreDistinctOperations order → rank ≡ rank_of order o
@@ -61,53 +53,6 @@ weight_ranked order weights rank s d e = let place = place_ranked order rank s d
 
 pub row_ranked : (order : List Operation) (rows : List Row) (rank : ℕ) (s : Operation) → AreDistinctOperations order → ranked order rank ≡ Some s → slice_index_or rows (position_in order s) unbounded ≡ slice_index_or rows (rank - 1) unbounded
 row_ranked order rows rank s d e = let place = place_ranked order rank s d e in ap (λ (n : ℕ). slice_index_or rows n unbounded) (omega (arith, place))
-
--- ---- a store that was seen
-
-last_found : {X : Type 0} (p : X → Bool) (xs : List X) (o : Option X) (s : X) → last_or o (filter p xs) ≡ Some s → (o ≡ Some s) ⊎ ((k : ℕ) × (slice_get xs k ≡ Some s))
-last_found p [] o s e = inl e
-last_found p (x ∷ xs) o s e = go (p x) e (last_found p xs o s) (last_found p xs (Some x) s)
-  where
-    later : (k : ℕ) × (slice_get xs k ≡ Some s) → (k : ℕ) × (slice_get (x ∷ xs) k ≡ Some s)
-    later f = (suc f.0, f.1)
-
-    go : (b : Bool) → last_or o (cond b (x ∷ filter p xs) (filter p xs)) ≡ Some s → (last_or o (filter p xs) ≡ Some s → (o ≡ Some s) ⊎ ((k : ℕ) × (slice_get xs k ≡ Some s))) → (last_or (Some x) (filter p xs) ≡ Some s → (Some x ≡ Some s) ⊎ ((k : ℕ) × (slice_get xs k ≡ Some s)))
-        → (o ≡ Some s) ⊎ ((k : ℕ) × (slice_get (x ∷ xs) k ≡ Some s))
-    go true e f g = ⊎_elim (λ h. inr (0, h)) (λ h. inr (later h)) (g e)
-    go false e f g = ⊎_elim (λ h. inl h) (λ h. inr (later h)) (f e)
-
-seen_there : (order : List Operation) (x position : ℕ) (load : OpId) (stores : List Stored) (s : Stored) → stores ≡ stored_from 0 x order → last_or None (filter (is_seen position load) stores) ≡ Some s → slice_get order s.position ≡ Some s.store
-seen_there order x position load stores s e f =
-    ⊎_elim (λ h. absurd (nothing_is_some s h)) (λ h. stored_there 0 x order h.0 s s.position (ap (λ (xs : List Stored). slice_get xs h.0) (sym e) ∙ h.1) (omega arith)) (last_found (is_seen position load) stores None s f)
-
--- its place and itself
-abbrev pub with_place : Stored → ℕ × Operation
-with_place s = (s.position, s.store)
-
-pub seen_within : (order : List Operation) (x position : ℕ) (load : OpId) (stores : List Stored) (seen : Option (ℕ × Operation)) (p : ℕ × Operation) → stores ≡ stored_from 0 x order → seen ≡ option_map with_place (last_or None (filter (is_seen position load) stores)) → seen ≡ Some p → p.0 < length order
-seen_within order x position load stores seen p e f g = go (last_or None (filter (is_seen position load) stores)) refl
-  where
-    go : (o : Option Stored) → last_or None (filter (is_seen position load) stores) ≡ o → p.0 < length order
-    go None h = absurd (nothing_is_some p (sym (ap (option_map with_place) h) ∙ (sym f ∙ g)))
-    go (Some s) h =
-        let is : Some (with_place s) ≡ Some p = sym (ap (option_map with_place) h) ∙ (sym f ∙ g) in
-        let place = ap (λ (o : Option (ℕ × Operation)). option_map_or (λ (q : ℕ × Operation). q.0) o 0) is in
-        let within = slice_get_within order s.position s.store (seen_there order x position load stores s e h) in
-        omega (arith, within, place)
-
-pub rank_seen : (order : List Operation) (a : Operation) (x position : ℕ) (load : OpId) (stores : List Stored) (seen : Option (ℕ × Operation)) (rank : ℕ) → stores ≡ stored_from 0 x order → seen ≡ option_map with_place (last_or None (filter (is_seen position load) stores))
-    → option_map (λ (s : Stored). s.store) (last_or None (filter (is_seen position load) stores)) ≡ source order a x → rank ≡ option_map_or (λ (p : ℕ × Operation). p.0 + 1) seen 0 → HasRank order (source order a x) rank
-rank_seen order a x position load stores seen rank e f is r = go (last_or None (filter (is_seen position load) stores)) refl
-  where
-    go : (o : Option Stored) → last_or None (filter (is_seen position load) stores) ≡ o → HasRank order (source order a x) rank
-    go None h =
-        let zero : rank ≡ 0 = r ∙ ap (λ (p : Option (ℕ × Operation)). option_map_or (λ (p : ℕ × Operation). p.0 + 1) p 0) (f ∙ ap (option_map with_place) h) in
-        record { within = omega (arith, zero); there = ap (ranked order) zero ∙ (ap (option_map (λ (s : Stored). s.store)) (sym h) ∙ is) }
-    go (Some s) h =
-        let one : rank ≡ s.position + 1 = r ∙ ap (λ (p : Option (ℕ × Operation)). option_map_or (λ (p : ℕ × Operation). p.0 + 1) p 0) (f ∙ ap (option_map with_place) h) in
-        let there = seen_there order x position load stores s e h in
-        let within = slice_get_within order s.position s.store there in
-        record { within = omega (arith, one, within); there = ranked_at order rank s.position one ∙ (there ∙ (ap (option_map (λ (s : Stored). s.store)) (sym h) ∙ is)) }
 
 -- ---- a byte more of a load, with the rank of its source
 

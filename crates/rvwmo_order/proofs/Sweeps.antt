@@ -5,7 +5,7 @@ use Rattle.std.specs.List.{list_any}
 use Rattle.std.proofs.lemmas.Bool.{and_right, cases_eq, cases_lt, le-ltb, lt-ltb, ne_eqb, eq-eqb, or_parts}
 use Rattle.std.proofs.lemmas.List.{drop-drop, drop-take, get_or-set_same, get_or-set_other, get_or-replicate, get_or_past, length-drop, length-set, length-replicate, length-take}
 use Rattle.std.proofs.lemmas.List.Folds.{list_any-append}
-use Rattle.std.proofs.lemmas.Option.{get_or_from_slice_get, same_Some, slice_get-get_or, slice_get_past}
+use Rattle.std.proofs.lemmas.Option.{get_or_from_slice_get, none-some, same_Some, slice_get-get_or, slice_get_past}
 use Rattle.rv32_exec.specs.Uses.{Uses}
 use Rattle.memory_model.specs.declared.operation.Operation.{Operation}
 use Rattle.memory_model.specs.Dependencies.{any_addresses, any_steers, between, has_address_dependency, has_control_dependency, has_data_dependency, has_dependent_address_between, held_after, held_behind, held_first, holds, instr_in, sources, steers, uses_at, uses_in, with_flags}
@@ -50,7 +50,7 @@ flag_at held flag (w ∷ rest) r h =
 
 -- ---- one instruction
 
-any_same : (p q : ℕ → Bool) → ((r : ℕ) → p r ≡ q r) → (wanted : List ℕ) → list_any p wanted ≡ list_any q wanted
+pub any_same : (p q : ℕ → Bool) → ((r : ℕ) → p r ≡ q r) → (wanted : List ℕ) → list_any p wanted ≡ list_any q wanted
 any_same p q f [] = refl
 any_same p q f (r ∷ rest) = rw (f r, any_same p q f rest) refl
 
@@ -111,7 +111,7 @@ carried asks last held (m ∷ rest) h =
 pub length-held_first : (u : Uses) → length (held_first u) ≡ 32
 length-held_first u = length-with_flags (replicate 32 false) true u.written ∙ length-replicate 32 false
 
-no_flag : (r : ℕ) → get_or (replicate 32 false) r false ≡ false
+pub no_flag : (r : ℕ) → get_or (replicate 32 false) r false ≡ false
 no_flag r = ⊎_elim (λ l. get_or-replicate 32 r false false l) (λ l. get_or_past (replicate 32 false) r false (let k = length-replicate 32 false in omega (arith, k, l))) (cases_lt r 32)
 
 first_flag : (u : Uses) (r : ℕ) → slice_index_or (held_first u) r false ≡ is_written u.written r
@@ -163,11 +163,8 @@ pub marks_count : (asks : Item → List ℕ) (last : List ℕ) (ms : List Item) 
 marks_count asks last [] = refl
 marks_count asks last (m ∷ rest) = ap suc (marks_count asks last rest)
 
-none_is_not : {X : Type 0} (x : X) → None ≡ Some x → ⊥
-none_is_not x e = cc
-
 pub mark_at : (asks : Item → List ℕ) (last : List ℕ) (ms : List Item) (k : ℕ) (m : Item) → slice_get ms k ≡ Some m → slice_get (marks_of asks last ms) k ≡ Some (gives_wanted (uses_in m.instr) (wanted_from asks last (drop (k + 1) ms)))
-mark_at asks last [] k m e = absurd (none_is_not m e)
+mark_at asks last [] k m e = absurd (none-some m e)
 mark_at asks last (n ∷ rest) zero m e = ap (λ (i : Item). Some (gives_wanted (uses_in i.instr) (wanted_from asks last rest))) (same_Some n m e)
 mark_at asks last (n ∷ rest) (suc k) m e =
     let skipped : suc k + 1 ≡ suc (k + 1) = omega arith in
@@ -206,7 +203,7 @@ pub mark_of : (asks : Item → List ℕ) (last : List ℕ) (items : List Item) (
 mark_of asks last items low a b p h k l = go (slice_get items a.place) refl
   where
     go : (o : Option Item) → slice_get items a.place ≡ o → slice_get (marks_of asks last (take (b.place - low) (drop low items))) (a.place - low) ≡ Some (gives_wanted (uses_in (instr_in o)) (wanted_from asks last (between items a b)))
-    go None e = absurd (none_is_not (get_or items a.place nobody) (sym e ∙ slice_get-get_or items a.place nobody l))
+    go None e = absurd (none-some (get_or items a.place nobody) (sym e ∙ slice_get-get_or items a.place nobody l))
       where
         nobody : Item
         nobody = record { place = 0; instr = None; operation = None }

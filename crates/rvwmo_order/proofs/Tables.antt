@@ -1,9 +1,9 @@
 -- Numbers of names: an empty list more, and what a number says of a place.
 use Rattle.std.proofs.Common.{◌≡◌, ℕ, zero, suc, ◌+◌, ◌-◌, ◌<◌, ◌≤◌, List, [], ◌∷◌, ◌++◌, Bool, true, false, Option, Some, None, refl, cond, sym, ap, ◌∙◌, ⊎_elim, arith, get_or, length}
-use Rattle.std.specs.Prelude.{is_some, slice_get, slice_index_or}
+use Rattle.std.specs.Prelude.{is_some, slice_index_or}
 use Rattle.std.specs.Option.{option_map_or}
 use Rattle.std.proofs.lemmas.Bool.{cases_lt, ne_eqb}
-use Rattle.std.proofs.lemmas.Option.{slice_get-get_or}
+use Rattle.std.proofs.lemmas.Option.{slice_get-get_or, slice_get_past}
 use Rattle.rvwmo_order.specs.Indexed.{known, number_of}
 use Rattle.rvwmo_order.specs.declared.places.Numbers.{Numbers}
 
@@ -32,13 +32,8 @@ known_put false position old new e = ap known e
 pub number_listed : (lists : List Numbers) (hart place : ℕ) (l : Numbers) → hart < length lists → l ≡ get_or lists hart l → slice_index_or l.numbers.items place 0 ≡ number_of hart place lists
 number_listed lists hart place l h e = ap (λ (o : Option Numbers). option_map_or (λ (m : Numbers). slice_index_or m.numbers.items place 0) o 0) (ap Some e ∙ sym (slice_get-get_or lists hart l h))
 
-pub nothing_past : {X : Type 0} (xs : List X) (k : ℕ) → length xs ≤ k → slice_get xs k ≡ None
-nothing_past [] k h = refl
-nothing_past (x ∷ xs) zero h = absurd (omega (arith, h))
-nothing_past (x ∷ xs) (suc k) h = nothing_past xs k (omega (arith, h))
-
 pub hart_listed : (lists : List Numbers) (hart place : ℕ) → 0 < number_of hart place lists → hart < length lists
 hart_listed lists hart place some = ⊎_elim (λ l. l) (λ l. past l) (cases_lt hart (length lists))
   where
     past : length lists ≤ hart → hart < length lists
-    past l = let none = ap (λ (o : Option Numbers). option_map_or (λ (m : Numbers). slice_index_or m.numbers.items place 0) o 0) (nothing_past lists hart l) in absurd (omega (arith, some, none))
+    past l = let none = ap (λ (o : Option Numbers). option_map_or (λ (m : Numbers). slice_index_or m.numbers.items place 0) o 0) (slice_get_past lists hart l) in absurd (omega (arith, some, none))

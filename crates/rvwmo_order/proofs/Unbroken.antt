@@ -14,7 +14,7 @@ use Rattle.rvwmo_order.specs.Lows.{AreLows}
 use Rattle.rvwmo_order.specs.Scans.{all_rules, first_broken_rule, first_out_of_order, found_or, ruled_or}
 use Rattle.rvwmo_order.specs.declared.verdict.Rule.{Rule}
 use Rattle.rvwmo_order.specs.declared.verdict.Rule.TheVariants.{OverlappingStore, SameByteLoads, AtomicSource, Fence, Acquire, Release, Annotations, Pair, Address, Data, Control, DependentStore, DependentAddress}
-use Rattle.rvwmo_order.proofs.Clear.{at_drop}
+use Rattle.rvwmo_order.proofs.Clear.{at_drop, nothing_left}
 use Rattle.rvwmo_order.proofs.Lowest.{none_behind}
 
 -- ---- all rules
@@ -71,12 +71,8 @@ none_up_to_next model harts order place b there none h = λ rule. h rule ∙ out
 abbrev pub NonePrecedesFrom : List Operation → ℕ → Operation → Type 0
 NonePrecedesFrom order end b = (k : ℕ) (a : Operation) → end ≤ k → slice_get order k ≡ Some a → precedes a b ≡ false
 
-nothing_in : (test : Operation → Bool) (n : ℕ) → find test (drop n []) ≡ None
-nothing_in test zero = refl
-nothing_in test (suc n) = refl
-
 enough : (test : Operation → Bool) (xs : List Operation) (p q : ℕ) → ((k : ℕ) (a : Operation) → q ≤ k → slice_get xs k ≡ Some a → test a ≡ false) → find test (take (q - p) (drop p xs)) ≡ None → find test (drop p xs) ≡ None
-enough test [] p q f e = nothing_in test p
+enough test [] p q f e = nothing_left test p
 enough test (x ∷ xs) zero zero f e = ap (λ (c : Bool). cond c (Some x) (find test xs)) (f zero x (omega arith) refl) ∙ enough test xs zero zero (λ k a l h. f (suc k) a (omega arith) h) refl
 enough test (x ∷ xs) zero (suc q) f e = go (test x) (subst (λ (n : ℕ). find test (take n (x ∷ xs)) ≡ None) whole e) (λ h. enough test xs zero q (λ k a l i. f (suc k) a (omega (arith, l)) i) (subst (λ (n : ℕ). find test (take n xs) ≡ None) part h))
   where

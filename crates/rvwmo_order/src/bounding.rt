@@ -20,14 +20,14 @@ pub(crate) fn ranked_rows(
     alloc: Global,
     model: MemoryModel,
     harts: &Harts,
-    index: &Ranking,
+    ranking: &Ranking,
 ) -> Result<Vec<Row>, AllocError>
-    requires gives { GivesEach harts.now index.now }
-    requires distinct { AreDistinctOperations index.now }
-    ensures { IfOk result (λ rows. RanksEach model harts.now index.now rows.items) }
+    requires gives { GivesEach harts.now ranking.now }
+    requires distinct { AreDistinctOperations ranking.now }
+    ensures { IfOk result (λ rows. RanksEach model harts.now ranking.now rows.items) }
 {
-    let ranks = ranks(alloc, index.order().len())?;
-    rows_of(alloc, model, harts, index, &ranks)
+    let ranks = ranks(alloc, ranking.order().len())?;
+    rows_of(alloc, model, harts, ranking, &ranks)
 }
 
 // 1 for the first, 2 for the second and so on.
@@ -46,19 +46,19 @@ pub(crate) fn rows_of(
     alloc: Global,
     model: MemoryModel,
     harts: &Harts,
-    index: &Ranking,
+    ranking: &Ranking,
     weights: &[usize],
 ) -> Result<Vec<Row>, AllocError>
-    requires gives { GivesEach harts.now index.now }
-    requires distinct { AreDistinctOperations index.now }
-    ensures { IfOk result (λ rows. BoundsEach model harts.now index.now weights.now rows.items) }
+    requires gives { GivesEach harts.now ranking.now }
+    requires distinct { AreDistinctOperations ranking.now }
+    ensures { IfOk result (λ rows. BoundsEach model harts.now ranking.now weights.now rows.items) }
 {
-    let mut rows = no_rows(alloc, index.order().len())?;
+    let mut rows = no_rows(alloc, ranking.order().len())?;
     for hart in 0..u8::MAX {
         if harts.get(hart).is_none() {
             break;
         }
-        bound_hart(alloc, &mut rows, model, harts, hart, index, weights)?;
+        bound_hart(alloc, &mut rows, model, harts, hart, ranking, weights)?;
     }
     Ok(rows)
 }
@@ -81,21 +81,21 @@ fn bound_hart(
     model: MemoryModel,
     harts: &Harts,
     hart: u8,
-    index: &Ranking,
+    ranking: &Ranking,
     weights: &[usize],
 ) -> Result<(), AllocError>
-    requires gives { GivesEach harts.now index.now }
-    requires distinct { AreDistinctOperations index.now }
-    requires bound { BoundsEach model harts.now index.now weights.now rows.old }
-    ensures { OnOk result (BoundsEach model harts.now index.now weights.now rows.new) }
+    requires gives { GivesEach harts.now ranking.now }
+    requires distinct { AreDistinctOperations ranking.now }
+    requires bound { BoundsEach model harts.now ranking.now weights.now rows.old }
+    ensures { OnOk result (BoundsEach model harts.now ranking.now weights.now rows.new) }
 {
     let items = harts.items_of(hart);
     let mut walk = Walk::new(alloc, model);
     let count = items.count();
     for place in 0..count {
         let item = items.item(place);
-        let own = bound_item(rows, &walk, harts, hart, index, weights, &item);
-        walk.pass(index, &item, own.position, own.weight)?;
+        let own = bound_item(rows, &walk, harts, hart, ranking, weights, &item);
+        walk.pass(ranking, &item, own.position, own.weight)?;
     }
     Ok(())
 }
@@ -114,20 +114,20 @@ fn bound_item(
     walk: &Walk,
     harts: &Harts,
     hart: u8,
-    index: &Ranking,
+    ranking: &Ranking,
     weights: &[usize],
     item: &Item,
 ) -> Standing
-    requires gives { GivesEach harts.now index.now }
-    requires distinct { AreDistinctOperations index.now }
-    requires bound { BoundsEach walk.now.model harts.now index.now weights.now rows.old }
+    requires gives { GivesEach harts.now ranking.now }
+    requires distinct { AreDistinctOperations ranking.now }
+    requires bound { BoundsEach walk.now.model harts.now ranking.now weights.now rows.old }
     requires placed { IsPlaced 0 (rules.items_of harts.now hart) }
     requires own { GivesOwn hart (rules.items_of harts.now hart) }
     requires there { slice_get (rules.items_of harts.now hart) item.now.place ≡ Some item.now }
-    requires come { HasCome walk.now.model (spec.own_weight weights.now index.now) index.now (rules.items_of harts.now hart) item.now.place walk.now }
-    ensures position { (a : OperationValue) → item.now.operation ≡ Some a → result.position ≡ orders.position_in index.now a }
-    ensures weight { result.weight ≡ spec.own_weight weights.now index.now item.now }
-    ensures bound { BoundsEach walk.now.model harts.now index.now weights.now rows.new }
+    requires come { HasCome walk.now.model (spec.own_weight weights.now ranking.now) ranking.now (rules.items_of harts.now hart) item.now.place walk.now }
+    ensures position { (a : OperationValue) → item.now.operation ≡ Some a → result.position ≡ orders.position_in ranking.now a }
+    ensures weight { result.weight ≡ spec.own_weight weights.now ranking.now item.now }
+    ensures bound { BoundsEach walk.now.model harts.now ranking.now weights.now rows.new }
 {
     let Some(b) = item.operation() else {
         return Standing {
@@ -135,8 +135,8 @@ fn bound_item(
             weight: 0,
         };
     };
-    let position = index.position_of(&b);
-    let row = walk.row(index, weights, rows, position, &b, item.instr());
+    let position = ranking.position_of(&b);
+    let row = walk.row(ranking, weights, rows, position, &b, item.instr());
     put_row(rows, position, row);
     Standing {
         position,

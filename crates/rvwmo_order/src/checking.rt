@@ -1,5 +1,5 @@
 //! The checker: a trace and an order in, a verdict out.
-ghost use Rattle.std.specs.Prelude.{◌≡◌, ◌↔◌, ◌<◌, true, false, length, Err, IfOk, IsErrOf, if◌then◌else◌};
+ghost use Rattle.std.specs.Prelude.{◌≡◌, ◌↔◌, ◌<◌, true, false, length, nat_lt, Err, IfOk, IsErrOf, if◌then◌else◌};
 ghost use Rattle.memory_model.specs.Traces as traces;
 ghost use Rattle.memory_model.specs.Traces.{IsLegalOrder};
 ghost use Rattle.memory_model.specs.Verdict.{fault_in};
@@ -43,17 +43,16 @@ pub fn check_model(
     ensures sound { IfOk result (λ v. IsSoundVerdict model trace.now.history order.now v) }
     ensures first { IfOk result (λ v. fault_told v ≡ fault_in model trace.now.history order.now) }
 {
-    let Ok(names) = few_names(alloc, trace) else {
-        if has_too_many(trace) {
-            return Err(unless_no_run(trace, CheckError::TooLong));
-        }
+    let Ok(found) = few_names(alloc, trace) else {
+        return Err(unless_no_run(trace, unless_too_long(trace)));
+    };
+    let Some(names) = found else {
+        return Err(unless_no_run(trace, CheckError::TooLong));
+    };
+    let Ok(runs) = Harts::of_runs(alloc, trace) else {
         return Err(unless_no_run(trace, CheckError::NoMemory));
     };
-    let found = match Harts::of_runs(alloc, trace) {
-        Ok(found) => found,
-        Err(_) => return Err(unless_no_run(trace, CheckError::NoMemory)),
-    };
-    let Some(harts) = found else {
+    let Some(harts) = runs else {
         return Err(CheckError::NotARun);
     };
     if !is_order(alloc, trace, &harts, &names, order)? {
@@ -73,6 +72,17 @@ fn unless_no_run(trace: &Trace, cause: CheckError) -> CheckError
     }
 }
 
+// Why an order isn't judged, where memory was refused for the names of its operations.
+fn unless_too_long(trace: &Trace) -> CheckError
+    ensures { result ≡ (if nat_lt 4096 (length (traces.names_in trace.now.history)) then CheckError.TooLong else CheckError.NoMemory) }
+{
+    if has_too_many(trace) {
+        CheckError::TooLong
+    } else {
+        CheckError::NoMemory
+    }
+}
+
 // The verdict on an order of the operations.
 fn verdict_on(
     alloc: Global,
@@ -85,6 +95,6 @@ fn verdict_on(
     requires distinct { traces.is_distinct order.now ≡ true }
     ensures { IfOk result (λ v. v ≡ judged model (traces.image_of trace.now.history) (traces.instructions trace.now.history) (traces.operations_at (traces.instructions trace.now.history) order.now)) }
 {
-    let index = Ranking::of(alloc, trace, operations_at(alloc, harts, order)?)?;
-    judge(alloc, model, trace.image(), harts, &index)
+    let ranking = Ranking::of(alloc, trace, operations_at(alloc, harts, order)?)?;
+    judge(alloc, model, trace.image(), harts, &ranking)
 }

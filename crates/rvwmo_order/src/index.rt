@@ -89,20 +89,10 @@ impl Index {
         ensures source { (a : OperationValue) → verdict.name_of a ≡ load → result ≡ spec.source self.now a x }
         ensures looks { ticks.new ≤ ticks.old + length (filter (operations.stores_to x) self.now) }
     {
-        let position = self.position(load);
+        let position = self.places.position(&self.order, load);
         match self.stores.get(&x) {
             Some(stores) => store_of(last_seen(stores, position, load, ticks)),
             None => None,
-        }
-    }
-
-    // How many operations stand before the one of this name.
-    fn position(&self, name: OpId) -> usize
-        ensures { (a : OperationValue) → verdict.name_of a ≡ name → result ≡ spec.position_in self.now a }
-    {
-        match self.places.place(name) {
-            Some(position) => position,
-            None => self.order().len(),
         }
     }
 }

@@ -1,5 +1,5 @@
-//! Judging an order of operations, over its index: each definition as it stands, but dependencies by the
-//! marks of sweeps.
+//! Judging an order of operations by its ranking: the load value axiom and the atomicity axiom as they are
+//! defined, but the rules by bounds and dependencies by the marks of sweeps.
 ghost use Rattle.std.specs.Prelude.{◌≡◌, ◌==◌, IfOk, None, Some, find, if◌then◌else◌};
 ghost use Rattle.std.specs.List.{list_all};
 ghost use Rattle.memory_model.specs.Operations as operations;
@@ -32,19 +32,19 @@ pub(crate) fn judge(
     model: MemoryModel,
     image: &Image,
     harts: &Harts,
-    index: &Ranking,
+    ranking: &Ranking,
 ) -> Result<Verdict, AllocError>
-    requires gives { GivesEach harts.now index.now }
-    requires distinct { AreDistinctOperations index.now }
-    ensures { IfOk result (λ verdict. verdict ≡ judged model (byte_at image.now) harts.now index.now) }
+    requires gives { GivesEach harts.now ranking.now }
+    requires distinct { AreDistinctOperations ranking.now }
+    ensures { IfOk result (λ verdict. verdict ≡ judged model (byte_at image.now) harts.now ranking.now) }
 {
-    if let Some((rule, a, b)) = broken_rule(alloc, model, harts, index)? {
+    if let Some((rule, a, b)) = broken_rule(alloc, model, harts, ranking)? {
         return Ok(Verdict::Fault(Code::Order(rule), name_of(&a), name_of(&b)));
     }
-    if let Some(load) = wrong_load(image, index) {
+    if let Some(load) = wrong_load(image, ranking) {
         return Ok(Verdict::Fault(Code::LoadValue, name_of(&load), name_of(&load)));
     }
-    if let Some((r, w)) = broken_pair(harts, index) {
+    if let Some((r, w)) = broken_pair(harts, ranking) {
         return Ok(Verdict::Fault(Code::Atomicity, name_of(&r), name_of(&w)));
     }
     Ok(Verdict::Legal)
@@ -55,18 +55,18 @@ fn broken_rule(
     alloc: Global,
     model: MemoryModel,
     harts: &Harts,
-    index: &Ranking,
+    ranking: &Ranking,
 ) -> Result<Option<(Rule, Operation, Operation)>, AllocError>
-    requires gives { GivesEach harts.now index.now }
-    requires distinct { AreDistinctOperations index.now }
-    ensures { IfOk result (λ broken. broken ≡ first_broken_rule model harts.now index.now all_rules) }
+    requires gives { GivesEach harts.now ranking.now }
+    requires distinct { AreDistinctOperations ranking.now }
+    ensures { IfOk result (λ broken. broken ≡ first_broken_rule model harts.now ranking.now all_rules) }
 {
-    let lows = lows_in(alloc, index.order())?;
-    if is_near(index.order(), &lows) && are_kept(alloc, model, harts, index, &lows)? {
+    let lows = lows_in(alloc, ranking.order())?;
+    if is_near(ranking.order(), &lows) && are_kept(alloc, model, harts, ranking, &lows)? {
         return Ok(None);
     }
-    let rows = ranked_rows(alloc, model, harts, index)?;
-    broken_by_rows(alloc, model, harts, index, &rows)
+    let rows = ranked_rows(alloc, model, harts, ranking)?;
+    broken_by_rows(alloc, model, harts, ranking, &rows)
 }
 
 // The same, where `rows` bound the ranks of those that must come before each.
@@ -74,20 +74,20 @@ fn broken_by_rows(
     alloc: Global,
     model: MemoryModel,
     harts: &Harts,
-    index: &Ranking,
+    ranking: &Ranking,
     rows: &[Row],
 ) -> Result<Option<(Rule, Operation, Operation)>, AllocError>
-    requires gives { GivesEach harts.now index.now }
-    requires distinct { AreDistinctOperations index.now }
-    requires ranked { RanksEach model harts.now index.now rows.now }
-    ensures { IfOk result (λ broken. broken ≡ first_broken_rule model harts.now index.now all_rules) }
+    requires gives { GivesEach harts.now ranking.now }
+    requires distinct { AreDistinctOperations ranking.now }
+    requires ranked { RanksEach model harts.now ranking.now rows.now }
+    ensures { IfOk result (λ broken. broken ≡ first_broken_rule model harts.now ranking.now all_rules) }
 {
-    if are_clear(rows, index.order().len()) {
+    if are_clear(rows, ranking.order().len()) {
         return Ok(None);
     }
     let mut left = RULES.as_slice();
     while let [rule, rest @ ..] = left {
-        if let Some((a, b)) = first_broken_by(alloc, *rule, model, harts, index, rows)? {
+        if let Some((a, b)) = first_broken_by(alloc, *rule, model, harts, ranking, rows)? {
             return Ok(Some((*rule, a, b)));
         }
         left = rest;
@@ -96,12 +96,12 @@ fn broken_by_rows(
 }
 
 // The first load that returns another byte than its source's.
-fn wrong_load(image: &Image, index: &Ranking) -> Option<Operation>
-    ensures { result ≡ scans.wrong_load (byte_at image.now) index.now }
+fn wrong_load(image: &Image, ranking: &Ranking) -> Option<Operation>
+    ensures { result ≡ scans.wrong_load (byte_at image.now) ranking.now }
 {
-    let mut rest = index.order();
+    let mut rest = ranking.order();
     while let [a, tail @ ..] = rest {
-        if !returns_sources(image, index, a) {
+        if !returns_sources(image, ranking, a) {
             return Some(*a);
         }
         rest = tail;
@@ -109,31 +109,31 @@ fn wrong_load(image: &Image, index: &Ranking) -> Option<Operation>
     None
 }
 
-fn returns_sources(image: &Image, index: &Ranking, a: &Operation) -> bool
-    ensures { result ≡ legal.returns_sources (byte_at image.now) index.now a.now }
+fn returns_sources(image: &Image, ranking: &Ranking, a: &Operation) -> bool
+    ensures { result ≡ legal.returns_sources (byte_at image.now) ranking.now a.now }
 {
-    !reads(a.kind) || has_source_bytes(image, index, a)
+    !reads(a.kind) || has_source_bytes(image, ranking, a)
 }
 
-fn has_source_bytes(image: &Image, index: &Ranking, a: &Operation) -> bool
+fn has_source_bytes(image: &Image, ranking: &Ranking, a: &Operation) -> bool
     ensures { result
-        ≡ list_all (λ x. operations.read_at a.now x == orders.byte_from (byte_at image.now) x (orders.source index.now a.now x)) (operations.addresses_of a.now) }
+        ≡ list_all (λ x. operations.read_at a.now x == orders.byte_from (byte_at image.now) x (orders.source ranking.now a.now x)) (operations.addresses_of a.now) }
 {
-    let position = index.position_of(a);
-    let ranks = index.ranks_of(position, a);
+    let position = ranking.position_of(a);
+    let ranks = ranking.ranks_of(position, a);
     (u64::from(a.address)..end_of(a)).all(|x| read_at(a, x)
-        == byte_from(image, x, index.source_at(&ranks, position, a, x)))
+        == byte_from(image, x, ranking.source_at(&ranks, position, a, x)))
 }
 
 // The first LR and SC that are paired and not atomic.
-fn broken_pair(harts: &Harts, index: &Ranking) -> Option<(Operation, Operation)>
-    requires gives { GivesEach harts.now index.now }
-    requires distinct { AreDistinctOperations index.now }
-    ensures { result ≡ first_broken_pair harts.now index.now index.now }
+fn broken_pair(harts: &Harts, ranking: &Ranking) -> Option<(Operation, Operation)>
+    requires gives { GivesEach harts.now ranking.now }
+    requires distinct { AreDistinctOperations ranking.now }
+    ensures { result ≡ first_broken_pair harts.now ranking.now ranking.now }
 {
-    let mut rest = index.order();
+    let mut rest = ranking.order();
     while let [w, tail @ ..] = rest {
-        if let Some(r) = first_broken_with(harts, index, w) {
+        if let Some(r) = first_broken_with(harts, ranking, w) {
             return Some((r, *w));
         }
         rest = tail;
@@ -143,11 +143,11 @@ fn broken_pair(harts: &Harts, index: &Ranking) -> Option<(Operation, Operation)>
 
 // The LR that is paired with this SC and not atomic with it. No other LR is paired with it than the one at the
 // place of the last LR or SC before it.
-fn first_broken_with(harts: &Harts, index: &Ranking, w: &Operation) -> Option<Operation>
-    requires gives { GivesEach harts.now index.now }
-    requires distinct { AreDistinctOperations index.now }
+fn first_broken_with(harts: &Harts, ranking: &Ranking, w: &Operation) -> Option<Operation>
+    requires gives { GivesEach harts.now ranking.now }
+    requires distinct { AreDistinctOperations ranking.now }
     ensures { result
-        ≡ find (λ r. scans.is_broken_pair harts.now index.now r w.now) index.now }
+        ≡ find (λ r. scans.is_broken_pair harts.now ranking.now r w.now) ranking.now }
 {
     if !is_sc(w.kind) {
         return None;
@@ -157,18 +157,18 @@ fn first_broken_with(harts: &Harts, index: &Ranking, w: &Operation) -> Option<Op
         hart: w.hart,
         place,
     };
-    match index.named(name) {
-        Some(r) => broken_with(harts, index, r, w),
+    match ranking.named(name) {
+        Some(r) => broken_with(harts, ranking, r, w),
         None => None,
     }
 }
 
 // The LR, where it is paired with the SC and not atomic with it.
-fn broken_with(harts: &Harts, index: &Ranking, r: &Operation, w: &Operation) -> Option<Operation>
+fn broken_with(harts: &Harts, ranking: &Ranking, r: &Operation, w: &Operation) -> Option<Operation>
     ensures { result
-        ≡ (if scans.is_broken_pair harts.now index.now r.now w.now then Some r.now else None) }
+        ≡ (if scans.is_broken_pair harts.now ranking.now r.now w.now then Some r.now else None) }
 {
-    if is_broken_pair(harts, index, r, w) {
+    if is_broken_pair(harts, ranking, r, w) {
         Some(*r)
     } else {
         None
@@ -176,24 +176,24 @@ fn broken_with(harts: &Harts, index: &Ranking, r: &Operation, w: &Operation) -> 
 }
 
 // Whether the LR and the SC are paired and not atomic.
-fn is_broken_pair(harts: &Harts, index: &Ranking, r: &Operation, w: &Operation) -> bool
-    ensures { result ≡ scans.is_broken_pair harts.now index.now r.now w.now }
+fn is_broken_pair(harts: &Harts, ranking: &Ranking, r: &Operation, w: &Operation) -> bool
+    ensures { result ≡ scans.is_broken_pair harts.now ranking.now r.now w.now }
 {
-    are_paired(harts.items_of(r.hart), r, w) && !is_atomic(index, r, w)
+    are_paired(harts.items_of(r.hart), r, w) && !is_atomic(ranking, r, w)
 }
 
-fn is_atomic(index: &Ranking, r: &Operation, w: &Operation) -> bool
-    ensures { result ≡ legal.is_atomic index.now r.now w.now }
+fn is_atomic(ranking: &Ranking, r: &Operation, w: &Operation) -> bool
+    ensures { result ≡ legal.is_atomic ranking.now r.now w.now }
 {
-    (u64::from(r.address)..end_of(r)).all(|x| is_atomic_at(index, r, w, x))
+    (u64::from(r.address)..end_of(r)).all(|x| is_atomic_at(ranking, r, w, x))
 }
 
 // Whether the SC `w` stands behind the source of byte `x` of the LR `r`, with no other hart's store to it
 // between.
-fn is_atomic_at(index: &Ranking, r: &Operation, w: &Operation, x: u64) -> bool
-    ensures { result ≡ legal.is_atomic_at index.now r.now w.now x }
+fn is_atomic_at(ranking: &Ranking, r: &Operation, w: &Operation, x: u64) -> bool
+    ensures { result ≡ legal.is_atomic_at ranking.now r.now w.now x }
 {
-    let mut rest = behind(index.source_of(r, x), index);
+    let mut rest = behind(ranking.source_of(r, x), ranking);
     while let [t, tail @ ..] = rest {
         if is_same(t, w) {
             return true;
@@ -207,11 +207,11 @@ fn is_atomic_at(index: &Ranking, r: &Operation, w: &Operation, x: u64) -> bool
 }
 
 // What stands behind a source; the image stands before everything.
-fn behind(source: Option<Operation>, index: &Ranking) -> &[Operation]
-    ensures { result.now ≡ legal.behind source index.now }
+fn behind(source: Option<Operation>, ranking: &Ranking) -> &[Operation]
+    ensures { result.now ≡ legal.behind source ranking.now }
 {
     match source {
-        Some(store) => index.behind(name_of(&store)),
-        None => index.order(),
+        Some(store) => ranking.behind(name_of(&store)),
+        None => ranking.order(),
     }
 }

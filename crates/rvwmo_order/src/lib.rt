@@ -17,6 +17,7 @@ mod lows;
 mod names;
 mod near;
 mod orders;
+mod parts;
 mod passed;
 mod places;
 pub mod plain;

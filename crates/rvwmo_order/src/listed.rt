@@ -9,6 +9,7 @@ ghost use Rattle.rv32_decode.specs.Rows.{decoded};
 ghost use Rattle.rvwmo_order.specs.Listed as spec;
 ghost use Rattle.rvwmo_order.specs.Placed.{IsPlaced};
 
+use crate::parts::{behind, first_of};
 use memory_model::Operation;
 use rv32_decode::{Instr, decode};
 use std::alloc::{AllocError, Global};
@@ -219,28 +220,6 @@ impl<'a> Stretch<'a> {
             operations: self.operations,
         };
         Some((item, behind))
-    }
-}
-
-// What stands behind so many.
-fn behind(slots: &[Slot], count: usize) -> &[Slot]
-    ensures { result.now ≡ drop count slots.now }
-{
-    if count <= slots.len() {
-        &slots[count..]
-    } else {
-        &[]
-    }
-}
-
-// The first so many.
-fn first_of(slots: &[Slot], count: usize) -> &[Slot]
-    ensures { result.now ≡ take count slots.now }
-{
-    if count <= slots.len() {
-        &slots[..count]
-    } else {
-        slots
     }
 }
 

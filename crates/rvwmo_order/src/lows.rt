@@ -8,6 +8,11 @@ ghost use Rattle.rvwmo_order.specs.Lows.{AreLows};
 use memory_model::Operation;
 use std::alloc::{AllocError, Global};
 
+/// One operation of so many at most may stand before one that precedes it, where looking at each pair is to be less
+/// work than a walk along the harts' lists: each such operation costs a sweep for each rule, and the walk a row for
+/// each operation. It only chooses between two ways to the same verdict.
+const OPERATIONS_FOR_EACH_EARLY: usize = 8;
+
 /// The least places, one for each operation.
 pub(crate) fn lows_in(alloc: Global, order: &[Operation]) -> Result<Vec<u32>, AllocError>
     ensures { IfOk result (λ lows. AreLows order.now lows.items) }
@@ -55,7 +60,7 @@ pub(crate) fn end_of_earlier(
 pub(crate) fn is_near(order: &[Operation], lows: &[u32]) -> bool
     requires { AreLows order.now lows.now }
 {
-    let mut few = order.len() / 8;
+    let mut few = order.len() / OPERATIONS_FOR_EACH_EARLY;
     let mut room = order.len();
     for place in 0..order.len() {
         let b = &order[place];

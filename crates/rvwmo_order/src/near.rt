@@ -21,20 +21,20 @@ pub(crate) fn are_kept(
     alloc: Global,
     model: MemoryModel,
     harts: &Harts,
-    index: &Ranking,
+    ranking: &Ranking,
     lows: &[u32],
 ) -> Result<bool, AllocError>
-    requires { AreLows index.now lows.now }
-    ensures { IfOk result (λ kept. kept ≡ true → first_broken_rule model harts.now index.now all_rules ≡ None) }
+    requires { AreLows ranking.now lows.now }
+    ensures { IfOk result (λ kept. kept ≡ true → first_broken_rule model harts.now ranking.now all_rules ≡ None) }
 {
-    let order = index.order();
+    let order = ranking.order();
     for place in 0..order.len() {
         let b = &order[place];
         if lows[place] >= b.place {
             continue;
         }
         let end = end_of_earlier(order, lows, place, b);
-        if !asks_none(alloc, model, harts, index, &order[place + 1..end], b)? {
+        if !asks_none(alloc, model, harts, ranking, &order[place + 1..end], b)? {
             return Ok(false);
         }
     }
@@ -46,18 +46,18 @@ fn asks_none(
     alloc: Global,
     model: MemoryModel,
     harts: &Harts,
-    index: &Ranking,
+    ranking: &Ranking,
     among: &[Operation],
     b: &Operation,
 ) -> Result<bool, AllocError>
-    ensures { IfOk result (λ none. none ≡ true → (rule : RuleValue) → find (λ a. rules.asked_by model harts.now index.now (rule_of rule) a b.now) among.now ≡ None) }
+    ensures { IfOk result (λ none. none ≡ true → (rule : RuleValue) → find (λ a. rules.asked_by model harts.now ranking.now (rule_of rule) a b.now) among.now ≡ None) }
 {
     let items = harts.items_of(b.hart);
     let mut left = RULES.as_slice();
     while let [rule, rest @ ..] = left {
         let mut sweep = Sweep::new(alloc, *rule);
-        sweep.mark(items, index, among, b)?;
-        if first_asked(&sweep, model, harts, index, among, b).is_some() {
+        sweep.mark(items, ranking, among, b)?;
+        if first_asked(&sweep, model, harts, ranking, among, b).is_some() {
             return Ok(false);
         }
         left = rest;

@@ -1,6 +1,7 @@
 //! The names of a trace's operations, and lists of them.
-ghost use Rattle.std.specs.Prelude.{◌≡◌, ◌≤◌, ◌^◌, ◌&&◌, ◌++◌, IfOk, OnOk, false, filter, is_some, length, nat_lt};
+ghost use Rattle.std.specs.Prelude.{◌≡◌, ◌≤◌, ◌^◌, ◌&&◌, ◌++◌, IfOk, OnOk, filter, is_none, is_some, length, nat_lt};
 ghost use Rattle.std.specs.List.{list_all};
+ghost use Rattle.std.specs.Option.{IfSome};
 ghost use Rattle.memory_model.specs.Items as items;
 ghost use Rattle.memory_model.specs.Traces as spec;
 ghost use Rattle.trace_recorder.specs.declared.operation.OpId.{OpId as Name};
@@ -26,20 +27,20 @@ pub(crate) fn names_in(alloc: Global, trace: &Trace) -> Result<Vec<OpId>, AllocE
     Ok(names)
 }
 
-/// The same where they are no more than are judged; more are refused as memory is, so that a trace with far more
-/// takes little.
-pub(crate) fn few_names(alloc: Global, trace: &Trace) -> Result<Vec<OpId>, AllocError>
-    ensures named { IfOk result (λ names. names.items ≡ spec.names_in trace.now.history) }
-    ensures few { IfOk result (λ names. nat_lt 4096 (length (spec.names_in trace.now.history)) ≡ false) }
+/// The same where they are no more than are judged. Of more it keeps few, so that a trace with far more takes
+/// little memory.
+pub(crate) fn few_names(alloc: Global, trace: &Trace) -> Result<Option<Vec<OpId>>, AllocError>
+    ensures few { IfOk result (λ found. is_none found ≡ nat_lt 4096 (length (spec.names_in trace.now.history))) }
+    ensures named { IfOk result (λ found. IfSome found (λ names. names.items ≡ spec.names_in trace.now.history)) }
 {
     let mut names = Vec::new(alloc);
     for hart in 0..trace.harts() {
         push_names(&mut names, hart as u8, trace.entries(hart))?;
         if names.len() > MAX_OPERATIONS {
-            return Err(AllocError);
+            return Ok(None);
         }
     }
-    Ok(names)
+    Ok(Some(names))
 }
 
 // The names of a hart's operations, behind those that are there.

@@ -2,7 +2,9 @@
 ghost use Rattle.std.specs.Prelude.{◌≡◌, ◌≤◌, ◌<◌, ◌+◌, ◌^◌, ◌==◌, ℕ, None, Some, IfOk, OnOk, if◌then◌else◌, length, slice_index_or};
 ghost use Rattle.std.specs.Option.{option_or};
 ghost use Rattle.memory_model.specs.Operations as operations;
+ghost use Rattle.memory_model.specs.Order as orders;
 ghost use Rattle.memory_model.specs.Traces.{is_named};
+ghost use Rattle.memory_model.specs.Verdict as verdict;
 ghost use Rattle.memory_model.specs.declared.operation.Operation.{Operation as OperationValue};
 ghost use Rattle.trace_recorder.specs.declared.operation.OpId.{OpId as Name};
 ghost use Rattle.rvwmo_order.specs.Indexed.{known, number_in, place_from};
@@ -90,13 +92,24 @@ impl Places {
         &self.lists
     }
 
-    /// The place that was noted of a name, where its number is one more.
-    pub(crate) fn place(&self, name: OpId) -> Option<usize>
+    // The place that was noted of a name, where its number is one more.
+    fn place(&self, name: OpId) -> Option<usize>
         ensures { result ≡ known (number_in name.hart name.place self.now) }
     {
         match self.number(name) {
             0 => None,
             number => Some(number as usize - 1),
+        }
+    }
+
+    /// How many operations of an order stand before the one of a name, where these are the numbers of its places.
+    pub(crate) fn position(&self, order: &[Operation], name: OpId) -> usize
+        requires { (a : OperationValue) → known (number_in a.hart a.place self.now) ≡ place_from 0 a order.now }
+        ensures { (a : OperationValue) → verdict.name_of a ≡ name → result ≡ orders.position_in order.now a }
+    {
+        match self.place(name) {
+            Some(position) => position,
+            None => order.len(),
         }
     }
 

@@ -50,7 +50,7 @@ impl Ranking {
         order: Vec<Operation>,
     ) -> Result<Ranking, AllocError>
         requires { AreDistinctOperations order.items }
-        ensures { IfOk result (λ index. index ≡ order.items) }
+        ensures { IfOk result (λ ranking. ranking ≡ order.items) }
     {
         let places = places_in(alloc, trace, &order)?;
         let sources = sources_in(alloc, &order, &places)?;
@@ -87,7 +87,7 @@ impl Ranking {
         }
     }
 
-    /// The store that byte `x` of a load comes from, with looks that nobody counts.
+    /// The store that byte `x` of a load comes from.
     pub(crate) fn source_of(&self, load: &Operation, x: u64) -> Option<Operation>
         ensures { result ≡ spec.source self.now load.now x }
     {
@@ -222,10 +222,7 @@ impl Ranking {
     fn position(&self, name: OpId) -> usize
         ensures { (a : OperationValue) → verdict.name_of a ≡ name → result ≡ spec.position_in self.now a }
     {
-        match self.places.place(name) {
-            Some(position) => position,
-            None => self.order().len(),
-        }
+        self.places.position(&self.order, name)
     }
 }
 

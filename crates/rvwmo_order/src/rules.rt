@@ -6,7 +6,6 @@ ghost use Rattle.memory_model.specs.declared.operation.Kind.{Kind as KindValue};
 ghost use Rattle.std.specs.List.{list_any};
 ghost use Rattle.memory_model.specs.Rules as spec;
 ghost use Rattle.memory_model.specs.Dependencies.{between};
-ghost use Rattle.memory_model.specs.Operations as operations;
 ghost use Rattle.memory_model.specs.Operations.{addresses_of};
 ghost use Rattle.rvwmo_order.specs.Bounds.{IsGiven};
 ghost use Rattle.rvwmo_order.specs.Scans as scans;
@@ -31,18 +30,18 @@ pub(crate) fn asks(
     sweep: &Sweep,
     model: MemoryModel,
     items: &Items,
-    index: &Ranking,
+    ranking: &Ranking,
     a: &Operation,
     b: &Operation,
 ) -> bool
-    requires { Tells sweep.now.rule items.now index.now b.now sweep.now.low sweep.now.marks.items a.now }
-    ensures { result ≡ (rule_of sweep.now.rule).asks model items.now index.now a.now b.now }
+    requires { Tells sweep.now.rule items.now ranking.now b.now sweep.now.low sweep.now.marks.items a.now }
+    ensures { result ≡ (rule_of sweep.now.rule).asks model items.now ranking.now a.now b.now }
 {
     match sweep.rule() {
         Rule::OverlappingStore => writes(b.kind) && overlap(a, b),
-        Rule::SameByteLoads => are_same_byte_loads(items, index, a, b),
+        Rule::SameByteLoads => are_same_byte_loads(items, ranking, a, b),
         Rule::AtomicSource => {
-            (is_amo(a.kind) || is_sc(a.kind)) && reads(b.kind) && returns_from(index, b, a)
+            (is_amo(a.kind) || is_sc(a.kind)) && reads(b.kind) && returns_from(ranking, b, a)
         }
         Rule::Fence => is_fenced(items, a, b),
         Rule::Acquire => has_acquire(model, a),
@@ -58,24 +57,30 @@ pub(crate) fn asks(
 }
 
 // Rule 2: both are loads and return a byte of both from different writes, with no store to it between.
-fn are_same_byte_loads(items: &Items, index: &Ranking, a: &Operation, b: &Operation) -> bool
-    ensures { result ≡ spec.rule_2 items.now index.now a.now b.now }
+fn are_same_byte_loads(items: &Items, ranking: &Ranking, a: &Operation, b: &Operation) -> bool
+    ensures { result ≡ spec.rule_2 items.now ranking.now a.now b.now }
 {
-    reads(a.kind) && reads(b.kind) && return_differently(items, index, a, b)
+    reads(a.kind) && reads(b.kind) && return_differently(items, ranking, a, b)
 }
 
-fn return_differently(items: &Items, index: &Ranking, a: &Operation, b: &Operation) -> bool
-    ensures { result ≡ list_any (λ x. scans.returns_differently x items.now index.now a.now b.now) (addresses_of a.now) }
+fn return_differently(items: &Items, ranking: &Ranking, a: &Operation, b: &Operation) -> bool
+    ensures { result ≡ list_any (λ x. scans.returns_differently x items.now ranking.now a.now b.now) (addresses_of a.now) }
 {
-    (u64::from(a.address)..end_of(a)).any(|x| returns_differently(x, items, index, a, b))
+    (u64::from(a.address)..end_of(a)).any(|x| returns_differently(x, items, ranking, a, b))
 }
 
-fn returns_differently(x: u64, items: &Items, index: &Ranking, a: &Operation, b: &Operation) -> bool
-    ensures { result ≡ scans.returns_differently x items.now index.now a.now b.now }
+fn returns_differently(
+    x: u64,
+    items: &Items,
+    ranking: &Ranking,
+    a: &Operation,
+    b: &Operation,
+) -> bool
+    ensures { result ≡ scans.returns_differently x items.now ranking.now a.now b.now }
 {
     touches(x, b)
         && !has_store_between(items, a, b, x)
-        && !is_same_source(index.source_of(a, x), index.source_of(b, x))
+        && !is_same_source(ranking.source_of(a, x), ranking.source_of(b, x))
 }
 
 /// Whether a store to `x` stands between them in program order.
@@ -136,25 +141,7 @@ pub(crate) fn fences(instr: Option<Instr>, a: Kind, b: Kind) -> bool
 pub(crate) fn is_fence(instr: Option<Instr>) -> bool
     ensures { result ≡ false → (a b : KindValue) → spec.fences instr a b ≡ false }
 {
-    match instr {
-        Some(Instr::Fence(_) | Instr::FenceTso) => true,
-        Some(
-            Instr::Branch { .. }
-            | Instr::Jalr { .. }
-            | Instr::Load { .. }
-            | Instr::Store { .. }
-            | Instr::Lr { .. }
-            | Instr::Sc { .. }
-            | Instr::Amo { .. }
-            | Instr::Upper { .. }
-            | Instr::Jal { .. }
-            | Instr::Immediate { .. }
-            | Instr::Shift { .. }
-            | Instr::Register { .. }
-            | Instr::System(_),
-        )
-        | None => false,
-    }
+    matches!(instr, Some(Instr::Fence(_) | Instr::FenceTso))
 }
 
 fn is_fencing(instr: &Instr, a: Kind, b: Kind) -> bool

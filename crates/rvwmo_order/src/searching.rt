@@ -11,6 +11,7 @@ ghost use Rattle.rvwmo_order.specs.Scans as scans;
 use crate::accesses::precedes;
 use crate::bounding::rows_of;
 use crate::items::Harts;
+use crate::parts::behind;
 use crate::ranking::Ranking;
 use crate::rows::{Row, bound_at};
 use crate::rules::asks;
@@ -26,22 +27,22 @@ pub(crate) fn first_broken_by(
     rule: Rule,
     model: MemoryModel,
     harts: &Harts,
-    index: &Ranking,
+    ranking: &Ranking,
     rows: &[Row],
 ) -> Result<Option<(Operation, Operation)>, AllocError>
-    requires gives { GivesEach harts.now index.now }
-    requires distinct { AreDistinctOperations index.now }
-    requires ranked { RanksEach model harts.now index.now rows.now }
+    requires gives { GivesEach harts.now ranking.now }
+    requires distinct { AreDistinctOperations ranking.now }
+    requires ranked { RanksEach model harts.now ranking.now rows.now }
     ensures { IfOk result (λ found. found
-        ≡ scans.first_out_of_order (rules.asked_by model harts.now index.now (rule_of rule)) index.now) }
+        ≡ scans.first_out_of_order (rules.asked_by model harts.now ranking.now (rule_of rule)) ranking.now) }
 {
-    let order = index.order();
+    let order = ranking.order();
     for place in 0..order.len() {
         let b = &order[place];
         if bound_at(rows, place, rule) <= place + 1 {
             continue;
         }
-        if let Some(a) = first_behind(alloc, rule, model, harts, index, place, b)? {
+        if let Some(a) = first_behind(alloc, rule, model, harts, ranking, place, b)? {
             return Ok(Some((a, *b)));
         }
     }
@@ -55,24 +56,24 @@ fn first_behind(
     rule: Rule,
     model: MemoryModel,
     harts: &Harts,
-    index: &Ranking,
+    ranking: &Ranking,
     place: usize,
     b: &Operation,
 ) -> Result<Option<Operation>, AllocError>
-    requires gives { GivesEach harts.now index.now }
-    requires distinct { AreDistinctOperations index.now }
-    requires there { slice_get index.now place ≡ Some b.now }
+    requires gives { GivesEach harts.now ranking.now }
+    requires distinct { AreDistinctOperations ranking.now }
+    requires there { slice_get ranking.now place ≡ Some b.now }
     ensures { IfOk result (λ found. found
-        ≡ find (λ a. rules.asked_by model harts.now index.now (rule_of rule) a b.now) (drop (place + 1) index.now)) }
+        ≡ find (λ a. rules.asked_by model harts.now ranking.now (rule_of rule) a b.now) (drop (place + 1) ranking.now)) }
 {
-    let count = index.order().len();
+    let count = ranking.order().len();
     let weights = weights_behind(alloc, count, place)?;
-    let rows = rows_of(alloc, model, harts, index, &weights)?;
+    let rows = rows_of(alloc, model, harts, ranking, &weights)?;
     let first = count.saturating_sub(bound_at(&rows, place, rule));
-    let among = behind(index.order(), first.max(place + 1));
+    let among = behind(ranking.order(), first.max(place + 1));
     let mut sweep = Sweep::new(alloc, rule);
-    sweep.mark(harts.items_of(b.hart), index, among, b)?;
-    Ok(first_asked(&sweep, model, harts, index, among, b))
+    sweep.mark(harts.items_of(b.hart), ranking, among, b)?;
+    Ok(first_asked(&sweep, model, harts, ranking, among, b))
 }
 
 // For each of so many operations that stands behind a place, how many stand from it on; 0 for the others.
@@ -86,33 +87,22 @@ fn weights_behind(alloc: Global, count: usize, place: usize) -> Result<Vec<usize
     Ok(weights)
 }
 
-// What stands behind so many.
-fn behind(operations: &[Operation], count: usize) -> &[Operation]
-    ensures { result.now ≡ drop count operations.now }
-{
-    if count <= operations.len() {
-        &operations[count..]
-    } else {
-        &[]
-    }
-}
-
 /// The first of these operations that must come before `b`, by the marks where the rule is one on
 /// dependencies.
 pub(crate) fn first_asked(
     sweep: &Sweep,
     model: MemoryModel,
     harts: &Harts,
-    index: &Ranking,
+    ranking: &Ranking,
     among: &[Operation],
     b: &Operation,
 ) -> Option<Operation>
-    requires { TellsEach sweep.now.rule (rules.items_of harts.now b.now.hart) index.now b.now sweep.now.low sweep.now.marks.items among.now }
+    requires { TellsEach sweep.now.rule (rules.items_of harts.now b.now.hart) ranking.now b.now sweep.now.low sweep.now.marks.items among.now }
     ensures { result
-        ≡ find (λ a. rules.asked_by model harts.now index.now (rule_of sweep.now.rule) a b.now) among.now }
+        ≡ find (λ a. rules.asked_by model harts.now ranking.now (rule_of sweep.now.rule) a b.now) among.now }
 {
     for a in among {
-        if is_asked(sweep, model, harts, index, a, b) {
+        if is_asked(sweep, model, harts, ranking, a, b) {
             return Some(*a);
         }
     }
@@ -124,13 +114,13 @@ fn is_asked(
     sweep: &Sweep,
     model: MemoryModel,
     harts: &Harts,
-    index: &Ranking,
+    ranking: &Ranking,
     a: &Operation,
     b: &Operation,
 ) -> bool
-    requires { operations.precedes a.now b.now ≡ true → Tells sweep.now.rule (rules.items_of harts.now b.now.hart) index.now b.now sweep.now.low sweep.now.marks.items a.now }
+    requires { operations.precedes a.now b.now ≡ true → Tells sweep.now.rule (rules.items_of harts.now b.now.hart) ranking.now b.now sweep.now.low sweep.now.marks.items a.now }
     ensures { result
-        ≡ rules.asked_by model harts.now index.now (rule_of sweep.now.rule) a.now b.now }
+        ≡ rules.asked_by model harts.now ranking.now (rule_of sweep.now.rule) a.now b.now }
 {
-    precedes(a, b) && asks(sweep, model, harts.items_of(a.hart), index, a, b)
+    precedes(a, b) && asks(sweep, model, harts.items_of(a.hart), ranking, a, b)
 }

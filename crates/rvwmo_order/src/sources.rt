@@ -30,8 +30,8 @@ pub(crate) fn byte_from(image: &Image, x: u64, source: Option<Operation>) -> u32
 }
 
 /// Whether a byte of `b` comes from the store `a`.
-pub(crate) fn returns_from(index: &Ranking, b: &Operation, a: &Operation) -> bool
-    ensures { result ≡ rules.returns_from index.now b.now a.now }
+pub(crate) fn returns_from(ranking: &Ranking, b: &Operation, a: &Operation) -> bool
+    ensures { result ≡ rules.returns_from ranking.now b.now a.now }
 {
-    (u64::from(b.address)..end_of(b)).any(|x| is_same_source(index.source_of(b, x), Some(*a)))
+    (u64::from(b.address)..end_of(b)).any(|x| is_same_source(ranking.source_of(b, x), Some(*a)))
 }

@@ -57,13 +57,13 @@ impl Sweep {
     pub(crate) fn mark(
         &mut self,
         items: &Items,
-        index: &Ranking,
+        ranking: &Ranking,
         among: &[Operation],
         b: &Operation,
     ) -> Result<(), AllocError>
         requires { GivesOwn b.now.hart items.now }
         ensures rule { self.new.rule ≡ self.old.rule }
-        ensures told { OnOk result (TellsEach self.old.rule items.now index.now b.now self.new.low self.new.marks.items among.now) }
+        ensures told { OnOk result (TellsEach self.old.rule items.now ranking.now b.now self.new.low self.new.marks.items among.now) }
     {
         let rule = self.rule;
         self.low = 0;
@@ -72,7 +72,7 @@ impl Sweep {
             return Ok(());
         }
         self.low = lowest(among, b);
-        find_sources(&mut self.sources, rule, index, b)?;
+        find_sources(&mut self.sources, rule, ranking, b)?;
         let stretch = items.stretch(self.low as usize, b.place as usize);
         self.marks.resize(stretch.len(), false)?;
         let mut wanted = wanted_at(rule, items, b);
@@ -108,17 +108,17 @@ fn is_swept(rule: Rule, b: &Operation) -> bool
 fn find_sources(
     sources: &mut Vec<Option<Operation>>,
     rule: Rule,
-    index: &Ranking,
+    ranking: &Ranking,
     b: &Operation,
 ) -> Result<(), AllocError>
-    ensures { OnOk result (sources.new.items ≡ spec.sources_of rule index.now b.now) }
+    ensures { OnOk result (sources.new.items ≡ spec.sources_of rule ranking.now b.now) }
 {
     sources.clear();
     if !matches!(rule, Rule::DependentStore) {
         return Ok(());
     }
     for x in u64::from(b.address)..end_of(b) {
-        sources.push(index.source_of(b, x))?;
+        sources.push(ranking.source_of(b, x))?;
     }
     Ok(())
 }

@@ -59,17 +59,17 @@ impl Touch {
     // Goes past an operation that touches the byte `x`, and stands at this place of the order.
     fn pass(
         &mut self,
-        index: &Ranking,
+        ranking: &Ranking,
         ranks: &[usize; 4],
         position: usize,
         x: u64,
         a: &Operation,
         own: usize,
     )
-        requires position { position ≡ orders.position_in index.now a.now }
-        requires ranks { operations.reads a.now.kind ≡ true → GivesRanks index.now a.now ranks.now }
-        requires distinct { AreDistinctOperations index.now }
-        ensures { self.new ≡ spec.touched index.now x own a.now self.old }
+        requires position { position ≡ orders.position_in ranking.now a.now }
+        requires ranks { operations.reads a.now.kind ≡ true → GivesRanks ranking.now a.now ranks.now }
+        requires distinct { AreDistinctOperations ranking.now }
+        ensures { self.new ≡ spec.touched ranking.now x own a.now self.old }
     {
         if writes(a.kind) {
             self.loads = 0;
@@ -77,7 +77,7 @@ impl Touch {
             self.others = 0;
         }
         if reads(a.kind) {
-            self.load(index.source_rank(ranks, position, a, x), own);
+            self.load(ranking.source_rank(ranks, position, a, x), own);
         }
         self.all = self.all.max(own);
     }
@@ -137,26 +137,26 @@ fn touch_at(word: &[Touch], x: u64) -> Touch
 /// Goes past an operation that stands at this place of the order.
 pub(crate) fn pass_bytes(
     touches: &mut HashMap<u64, [Touch; 4]>,
-    index: &Ranking,
+    ranking: &Ranking,
     position: usize,
     a: &Operation,
     own: usize,
 ) -> Result<(), AllocError>
-    requires position { position ≡ orders.position_in index.now a.now }
-    requires distinct { AreDistinctOperations index.now }
+    requires position { position ≡ orders.position_in ranking.now a.now }
+    requires distinct { AreDistinctOperations ranking.now }
     ensures { OnOk result ((x : ℕ) → touch_in touches.new x
-        ≡ (if operations.touches x a.now then spec.touched index.now x own a.now (touch_in touches.old x) else touch_in touches.old x)) }
+        ≡ (if operations.touches x a.now then spec.touched ranking.now x own a.now (touch_in touches.old x) else touch_in touches.old x)) }
 {
-    let ranks = ranks_read(index, position, a);
+    let ranks = ranks_read(ranking, position, a);
     let end = end_of(a);
     let mut x = u64::from(a.address);
     while x < end {
         let behind = behind_in_word(x, end);
         match touches.get_mut(&(x / 4)) {
-            Some(word) => pass_word(word, index, &ranks, position, x, behind, a, own),
+            Some(word) => pass_word(word, ranking, &ranks, position, x, behind, a, own),
             None => {
                 let mut word = [Touch::none(); 4];
-                pass_word(&mut word, index, &ranks, position, x, behind, a, own);
+                pass_word(&mut word, ranking, &ranks, position, x, behind, a, own);
                 touches.insert(x / 4, word)?;
             }
         }
@@ -166,12 +166,12 @@ pub(crate) fn pass_bytes(
 }
 
 // The ranks of the stores that the first bytes of an operation come from, where it is a load.
-fn ranks_read(index: &Ranking, position: usize, a: &Operation) -> [usize; 4]
-    requires { position ≡ orders.position_in index.now a.now }
-    ensures { operations.reads a.now.kind ≡ true → GivesRanks index.now a.now result }
+fn ranks_read(ranking: &Ranking, position: usize, a: &Operation) -> [usize; 4]
+    requires { position ≡ orders.position_in ranking.now a.now }
+    ensures { operations.reads a.now.kind ≡ true → GivesRanks ranking.now a.now result }
 {
     if reads(a.kind) {
-        index.ranks_of(position, a)
+        ranking.ranks_of(position, a)
     } else {
         [0; 4]
     }
@@ -180,7 +180,7 @@ fn ranks_read(index: &Ranking, position: usize, a: &Operation) -> [usize; 4]
 // Goes past it at the bytes of a word from one on, up to another.
 fn pass_word(
     word: &mut [Touch; 4],
-    index: &Ranking,
+    ranking: &Ranking,
     ranks: &[usize; 4],
     position: usize,
     first: u64,
@@ -188,15 +188,15 @@ fn pass_word(
     a: &Operation,
     own: usize,
 )
-    requires position { position ≡ orders.position_in index.now a.now }
-    requires ranks { operations.reads a.now.kind ≡ true → GivesRanks index.now a.now ranks.now }
-    requires distinct { AreDistinctOperations index.now }
+    requires position { position ≡ orders.position_in ranking.now a.now }
+    requires ranks { operations.reads a.now.kind ≡ true → GivesRanks ranking.now a.now ranks.now }
+    requires distinct { AreDistinctOperations ranking.now }
     requires ordered { first ≤ end }
     requires within { end ≤ first / 4 * 4 + 4 }
     ensures { (x : ℕ) → x / 4 ≡ first / 4 → slice_index_or word.new (x % 4) spec.untouched
-        ≡ (if nat_le first x && nat_lt x end then spec.touched index.now x own a.now (slice_index_or word.old (x % 4) spec.untouched) else slice_index_or word.old (x % 4) spec.untouched) }
+        ≡ (if nat_le first x && nat_lt x end then spec.touched ranking.now x own a.now (slice_index_or word.old (x % 4) spec.untouched) else slice_index_or word.old (x % 4) spec.untouched) }
 {
     for x in first..end {
-        word[(x % 4) as usize].pass(index, ranks, position, x, a, own);
+        word[(x % 4) as usize].pass(ranking, ranks, position, x, a, own);
     }
 }

@@ -51,22 +51,22 @@ impl Walk {
     /// this weight.
     pub(crate) fn pass(
         &mut self,
-        index: &Ranking,
+        ranking: &Ranking,
         item: &Item,
         position: usize,
         own: usize,
     ) -> Result<(), AllocError>
-        requires placed { (a : OperationValue) → item.now.operation ≡ Some a → position ≡ orders.position_in index.now a }
-        requires distinct { AreDistinctOperations index.now }
+        requires placed { (a : OperationValue) → item.now.operation ≡ Some a → position ≡ orders.position_in ranking.now a }
+        requires distinct { AreDistinctOperations ranking.now }
         ensures model { OnOk result (self.new.model ≡ self.old.model) }
         ensures carried { OnOk result (self.new.carried ≡ carried_after own item.now.instr self.old.carried) }
         ensures passed { OnOk result (self.new.passed ≡ passed_after self.old.model own item.now self.old.passed) }
-        ensures touched { OnOk result ((x : ℕ) → touch_in self.new.touches x ≡ touch_after index.now x own item.now (touch_in self.old.touches x)) }
+        ensures touched { OnOk result ((x : ℕ) → touch_in self.new.touches x ≡ touch_after ranking.now x own item.now (touch_in self.old.touches x)) }
     {
         self.carried.pass(item.instr(), own);
         self.passed.pass(self.model, item, own);
         if let Some(a) = item.operation() {
-            pass_bytes(&mut self.touches, index, position, &a, own)?;
+            pass_bytes(&mut self.touches, ranking, position, &a, own)?;
         }
         Ok(())
     }
@@ -74,20 +74,20 @@ impl Walk {
     /// The bounds of an operation and its instruction, with the rows of the operations before.
     pub(crate) fn row(
         &self,
-        index: &Ranking,
+        ranking: &Ranking,
         weights: &[usize],
         rows: &[Row],
         position: usize,
         b: &Operation,
         instr: Option<Instr>,
     ) -> Row
-        requires position { position ≡ orders.position_in index.now b.now }
-        requires distinct { AreDistinctOperations index.now }
-        ensures { IsBoundsRow index.now weights.now rows.now b.now (uses_in instr) self.now result }
+        requires position { position ≡ orders.position_in ranking.now b.now }
+        requires distinct { AreDistinctOperations ranking.now }
+        ensures { IsBoundsRow ranking.now weights.now rows.now b.now (uses_in instr) self.now result }
     {
         let (address, data_stored) = self.in_sources(instr);
         let is_store = writes(b.kind);
-        let sourced = self.sourced(index, weights, rows, position, b);
+        let sourced = self.sourced(ranking, weights, rows, position, b);
         Row {
             overlapping_store: self.accesses(b),
             same_byte_loads: sourced.loads,
@@ -138,17 +138,17 @@ impl Walk {
     // By the stores that the bytes of a load come from.
     fn sourced(
         &self,
-        index: &Ranking,
+        ranking: &Ranking,
         weights: &[usize],
         rows: &[Row],
         position: usize,
         b: &Operation,
     ) -> Sourced
-        requires position { position ≡ orders.position_in index.now b.now }
-        requires distinct { AreDistinctOperations index.now }
-        ensures loads { operations.reads b.now.kind ≡ true → (x : ℕ) → operations.touches x b.now ≡ true → but (rank_of index.now (orders.source index.now b.now x)) (touch_in self.now.touches x) ≤ result.loads }
-        ensures atomics { operations.reads b.now.kind ≡ true → (x : ℕ) (s : OperationValue) → IsSource index.now b.now x s → (operations.is_amo s.kind || operations.is_sc s.kind) ≡ true → spec.weight_of weights.now index.now s ≤ result.atomics }
-        ensures passed_on { operations.reads b.now.kind ≡ true → (x : ℕ) (s : OperationValue) → IsSource index.now b.now x s → max (slice_index_or rows.now (orders.position_in index.now s) spec.unbounded).address (slice_index_or rows.now (orders.position_in index.now s) spec.unbounded).data_stored ≤ result.passed_on }
+        requires position { position ≡ orders.position_in ranking.now b.now }
+        requires distinct { AreDistinctOperations ranking.now }
+        ensures loads { operations.reads b.now.kind ≡ true → (x : ℕ) → operations.touches x b.now ≡ true → but (rank_of ranking.now (orders.source ranking.now b.now x)) (touch_in self.now.touches x) ≤ result.loads }
+        ensures atomics { operations.reads b.now.kind ≡ true → (x : ℕ) (s : OperationValue) → IsSource ranking.now b.now x s → (operations.is_amo s.kind || operations.is_sc s.kind) ≡ true → spec.weight_of weights.now ranking.now s ≤ result.atomics }
+        ensures passed_on { operations.reads b.now.kind ≡ true → (x : ℕ) (s : OperationValue) → IsSource ranking.now b.now x s → max (slice_index_or rows.now (orders.position_in ranking.now s) spec.unbounded).address (slice_index_or rows.now (orders.position_in ranking.now s) spec.unbounded).data_stored ≤ result.passed_on }
     {
         let mut most = Sourced {
             loads: 0,
@@ -158,16 +158,18 @@ impl Walk {
         if !reads(b.kind) {
             return most;
         }
-        let ranks = index.ranks_of(position, b);
+        let ranks = ranking.ranks_of(position, b);
         let number = u64::from(b.address) / 4;
         let word = word_of(&self.touches, number);
         for x in u64::from(b.address)..end_of(b) {
-            let source = index.source_rank(&ranks, position, b, x);
+            let source = ranking.source_rank(&ranks, position, b, x);
             let touch = touch_near(&self.touches, number, word, x);
             most = Sourced {
                 loads: most.loads.max(touch.but(source)),
-                atomics: most.atomics.max(atomic_source(index, weights, b, source)),
-                passed_on: most.passed_on.max(dependent_store(index, rows, b, source)),
+                atomics: most.atomics.max(atomic_source(ranking, weights, b, source)),
+                passed_on: most
+                    .passed_on
+                    .max(dependent_store(ranking, rows, b, source)),
             };
         }
         most
@@ -193,10 +195,10 @@ fn only_if(test: bool, weight: usize) -> usize
 }
 
 // The weight of the store of a rank, where that is an AMO or an SC of the hart.
-fn atomic_source(index: &Ranking, weights: &[usize], b: &Operation, rank: usize) -> usize
-    ensures { (s : OperationValue) → ranked index.now rank ≡ Some s → s.hart ≡ b.now.hart → (operations.is_amo s.kind || operations.is_sc s.kind) ≡ true → slice_index_or weights.now (rank - 1) 0 ≤ result }
+fn atomic_source(ranking: &Ranking, weights: &[usize], b: &Operation, rank: usize) -> usize
+    ensures { (s : OperationValue) → ranked ranking.now rank ≡ Some s → s.hart ≡ b.now.hart → (operations.is_amo s.kind || operations.is_sc s.kind) ≡ true → slice_index_or weights.now (rank - 1) 0 ≤ result }
 {
-    let Some(s) = index.ranked(rank) else {
+    let Some(s) = ranking.ranked(rank) else {
         return 0;
     };
     if s.hart == b.hart && (is_amo(s.kind) || is_sc(s.kind)) {
@@ -207,10 +209,10 @@ fn atomic_source(index: &Ranking, weights: &[usize], b: &Operation, rank: usize)
 }
 
 // What came into the store of a rank, where that is of the hart.
-fn dependent_store(index: &Ranking, rows: &[Row], b: &Operation, rank: usize) -> usize
-    ensures { (s : OperationValue) → ranked index.now rank ≡ Some s → s.hart ≡ b.now.hart → max (slice_index_or rows.now (rank - 1) spec.unbounded).address (slice_index_or rows.now (rank - 1) spec.unbounded).data_stored ≤ result }
+fn dependent_store(ranking: &Ranking, rows: &[Row], b: &Operation, rank: usize) -> usize
+    ensures { (s : OperationValue) → ranked ranking.now rank ≡ Some s → s.hart ≡ b.now.hart → max (slice_index_or rows.now (rank - 1) spec.unbounded).address (slice_index_or rows.now (rank - 1) spec.unbounded).data_stored ≤ result }
 {
-    let Some(s) = index.ranked(rank) else {
+    let Some(s) = ranking.ranked(rank) else {
         return 0;
     };
     if s.hart != b.hart {

@@ -11,7 +11,7 @@ pub loop-place-init : goal.loop-place-init
 loop-place-init c = record { bound = c.requires.bound; come = c.new-walk.ensures.come _ _ _ }
 
 pub bound_item-own-requires-clause-bound : goal.bound_item-own-requires-clause-bound
-bound_item-own-requires-clause-bound c = bound_as c.args.model c.loop-place.walk.model c.args.harts.now c.args.index.now c.args.weights.now _ c.loop-place.invariant.come.model_is c.loop-place.invariant.bound
+bound_item-own-requires-clause-bound c = bound_as c.args.model c.loop-place.walk.model c.args.harts.now c.args.ranking.now c.args.weights.now _ c.loop-place.invariant.come.model_is c.loop-place.invariant.bound
 
 pub bound_item-own-requires-clause-placed : goal.bound_item-own-requires-clause-placed
 bound_item-own-requires-clause-placed c = subst (λ (xs : List Item). IsPlaced 0 xs) c.items_of-items.ensures.list c.count-count.ensures.placed
@@ -35,6 +35,6 @@ loop-place-preserved c =
     let items = items_of c.args.harts.now c.args.hart in
     let there : slice_get items c.loop-place.place ≡ Some c.item-item.result = ap (λ (xs : List Item). slice_get xs c.loop-place.place) (sym c.items_of-items.ensures.list) ∙ c.item-item.ensures in
     record {
-      bound = bound_as c.loop-place.walk.model c.args.model c.args.harts.now c.args.index.now c.args.weights.now _ (sym c.loop-place.invariant.come.model_is) c.bound_item-own.ensures.bound;
-      come = come_further c.args.model (own_weight c.args.weights.now c.args.index.now) c.args.index.now items c.loop-place.place c.bound_item-own.result.weight c.item-item.result c.loop-place.walk _ c.loop-place.invariant.come there (sym c.bound_item-own.ensures.weight) c.in_ok-pass.ensures.model c.in_ok-pass.ensures.carried c.in_ok-pass.ensures.passed c.in_ok-pass.ensures.touched;
+      bound = bound_as c.loop-place.walk.model c.args.model c.args.harts.now c.args.ranking.now c.args.weights.now _ (sym c.loop-place.invariant.come.model_is) c.bound_item-own.ensures.bound;
+      come = come_further c.args.model (own_weight c.args.weights.now c.args.ranking.now) c.args.ranking.now items c.loop-place.place c.bound_item-own.result.weight c.item-item.result c.loop-place.walk _ c.loop-place.invariant.come there (sym c.bound_item-own.ensures.weight) c.in_ok-pass.ensures.model c.in_ok-pass.ensures.carried c.in_ok-pass.ensures.passed c.in_ok-pass.ensures.touched;
     }

@@ -14,23 +14,26 @@ returns-clause-legal c = legal_verdict c.args.model c.args.trace.now.history c.a
 pub returns-clause-sound : goal.returns-clause-sound
 returns-clause-sound c =
     let t = c.args.trace.now.history in
-    let tested : has_each_operation_once t c.args.order.now ≡ true = sym (tested_order t c.args.order.now c.deref.result.now (c.deref.ensures.value ∙ c.in-Ok.ensures.named)) ∙ (sym c.in_ok-is_order.ensures ∙ c.if-not-branch.false) in
+    let named = rw c.in-Some.is at c.in-Ok.ensures.named in
+    let tested : has_each_operation_once t c.args.order.now ≡ true = sym (tested_order t c.args.order.now c.deref.result.now (c.deref.ensures.value ∙ named)) ∙ (sym c.in_ok-is_order.ensures ∙ c.if-not-branch.false) in
     sound_verdict c.args.model t c.args.order.now c.in_ok-verdict_on.field-0 tested c.in_ok-verdict_on.ensures
 
 pub returns-clause-first : goal.returns-clause-first
 returns-clause-first c =
     let t = c.args.trace.now.history in
-    let tested : has_each_operation_once t c.args.order.now ≡ true = sym (tested_order t c.args.order.now c.deref.result.now (c.deref.ensures.value ∙ c.in-Ok.ensures.named)) ∙ (sym c.in_ok-is_order.ensures ∙ c.if-not-branch.false) in
+    let named = rw c.in-Some.is at c.in-Ok.ensures.named in
+    let tested : has_each_operation_once t c.args.order.now ≡ true = sym (tested_order t c.args.order.now c.deref.result.now (c.deref.ensures.value ∙ named)) ∙ (sym c.in_ok-is_order.ensures ∙ c.if-not-branch.false) in
     first_verdict c.args.model t c.args.order.now c.in_ok-verdict_on.field-0 tested c.in_ok-verdict_on.ensures
 
 pub is_order-requires : goal.is_order-requires
 is_order-requires c = λ n.
-    let own = rw c.in-Some.is at c.in-Ok-of_runs.ensures.all in
-    ap (λ (names : List OpId). is_among names n) (c.deref.ensures.value ∙ c.in-Ok.ensures.named)
+    let named = rw c.in-Some.is at c.in-Ok.ensures.named in
+    let own = rw c.in-Some-runs.is at c.in-Ok-of_runs.ensures.all in
+    ap (λ (names : List OpId). is_among names n) (c.deref.ensures.value ∙ named)
     ∙ (names_find_operations c.args.trace.now.history n ∙ ap (λ (hs : List (List Item)). is_some (operation_at hs n)) (sym own))
 
 pub verdict_on-requires-clause-distinct : goal.verdict_on-requires-clause-distinct
 verdict_on-requires-clause-distinct c = (three _ _ _ (sym c.in_ok-is_order.ensures ∙ c.if-not-branch.false)).1
 
 pub verdict_on-requires-clause-all : goal.verdict_on-requires-clause-all
-verdict_on-requires-clause-all c = rw c.in-Some.is at c.in-Ok-of_runs.ensures.all
+verdict_on-requires-clause-all c = rw c.in-Some-runs.is at c.in-Ok-of_runs.ensures.all

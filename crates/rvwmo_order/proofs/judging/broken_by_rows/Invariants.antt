@@ -3,7 +3,7 @@ use Rattle.rvwmo_order.specs.Scans.{all_rules, first_broken_rule}
 use Rattle.rvwmo_order.proofs.judging.broken_by_rows.Given as goal
 
 abbrev pub invariant-loop-left : goal.invariant-loop-left
-invariant-loop-left l = first_broken_rule l.model l.harts l.index all_rules ≡ first_broken_rule l.model l.harts l.index l.left
+invariant-loop-left l = first_broken_rule l.model l.harts l.ranking all_rules ≡ first_broken_rule l.model l.harts l.ranking l.left
 
 abbrev pub decreases-loop-left : goal.decreases-loop-left
 decreases-loop-left l = length l.left

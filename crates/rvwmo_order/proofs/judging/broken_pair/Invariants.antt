@@ -3,7 +3,7 @@ use Rattle.rvwmo_order.specs.Scans.{first_broken_pair}
 use Rattle.rvwmo_order.proofs.judging.broken_pair.Given as goal
 
 abbrev pub invariant-loop-rest : goal.invariant-loop-rest
-invariant-loop-rest l = first_broken_pair l.harts l.index l.index ≡ first_broken_pair l.harts l.index l.rest
+invariant-loop-rest l = first_broken_pair l.harts l.ranking l.ranking ≡ first_broken_pair l.harts l.ranking l.rest
 
 abbrev pub decreases-loop-rest : goal.decreases-loop-rest
 decreases-loop-rest l = length l.rest

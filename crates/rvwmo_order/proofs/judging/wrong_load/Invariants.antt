@@ -4,7 +4,7 @@ use Rattle.memory_model.specs.Legal.{returns_sources}
 use Rattle.rvwmo_order.proofs.judging.wrong_load.Given as goal
 
 abbrev pub invariant-loop-rest : goal.invariant-loop-rest
-invariant-loop-rest l = find (λ a. not (returns_sources (byte_at l.image) l.index a)) l.index ≡ find (λ a. not (returns_sources (byte_at l.image) l.index a)) l.rest
+invariant-loop-rest l = find (λ a. not (returns_sources (byte_at l.image) l.ranking a)) l.ranking ≡ find (λ a. not (returns_sources (byte_at l.image) l.ranking a)) l.rest
 
 abbrev pub decreases-loop-rest : goal.decreases-loop-rest
 decreases-loop-rest l = length l.rest

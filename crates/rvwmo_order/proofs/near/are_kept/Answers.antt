@@ -3,10 +3,10 @@ use Rattle.rvwmo_order.proofs.Unbroken.{none_at, none_in_all, none_up_to_end}
 use Rattle.rvwmo_order.proofs.near.are_kept.Goals as goal
 
 pub loop-place-preserved-then-lows-place : goal.loop-place-preserved-then-lows-place
-loop-place-preserved-then-lows-place c = none_at c.args.model c.args.harts.now c.args.index.now c.order-order.result.now c.args.lows.now c.loop-place.place _ c.order-order.ensures c.loop-place-test.true c.requires c.if-lows-place.true c.loop-place.invariant
+loop-place-preserved-then-lows-place c = none_at c.args.model c.args.harts.now c.args.ranking.now c.order-order.result.now c.args.lows.now c.loop-place.place _ c.order-order.ensures c.loop-place-test.true c.requires c.if-lows-place.true c.loop-place.invariant
 
 pub loop-place-preserved : goal.loop-place-preserved
-loop-place-preserved c = none_up_to_end c.args.model c.args.harts.now c.args.index.now c.order-order.result.now c.loop-place.place c.end_of_earlier-end.result _ c.order-order.ensures c.loop-place-test.true c.end_of_earlier-end.ensures.none (c.in_ok-asks_none.ensures c.if-not-branch.false) c.loop-place.invariant
+loop-place-preserved c = none_up_to_end c.args.model c.args.harts.now c.args.ranking.now c.order-order.result.now c.loop-place.place c.end_of_earlier-end.result _ c.order-order.ensures c.loop-place-test.true c.end_of_earlier-end.ensures.none (c.in_ok-asks_none.ensures c.if-not-branch.false) c.loop-place.invariant
 
 pub returns : goal.returns
-returns c = λ e. none_in_all c.args.model c.args.harts.now c.args.index.now c.loop-place.place (let same = ap length c.order-order.ensures in omega (arith, same, c.loop-place-test.false)) c.loop-place.invariant
+returns c = λ e. none_in_all c.args.model c.args.harts.now c.args.ranking.now c.loop-place.place (let same = ap length c.order-order.ensures in omega (arith, same, c.loop-place-test.false)) c.loop-place.invariant

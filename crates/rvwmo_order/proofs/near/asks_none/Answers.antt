@@ -7,10 +7,10 @@ use Rattle.rvwmo_order.proofs.near.asks_none.Goals as goal
 
 pub loop-left-preserved : goal.loop-left-preserved
 loop-left-preserved c = λ rest.
-    c.loop-left.invariant (with_first (λ (rule : Rule). find (λ a. asked_by c.args.model c.args.harts.now c.args.index.now (rule_of rule) a c.args.b.now) c.args.among.now ≡ None) c.loop-left.left.now _ c.in-len1-up.len_at_least
-    (found_none c.args.model c.args.harts.now c.args.index.now c.args.among.now c.args.b.now c.first_asked.result c.mark.new.self.rule _ (c.mark.ensures.rule ∙ c.new-sweep.ensures) c.first_asked.ensures (sym c.is_some.ensures ∙ c.if-is_some.false)) rest)
+    c.loop-left.invariant (with_first (λ (rule : Rule). find (λ a. asked_by c.args.model c.args.harts.now c.args.ranking.now (rule_of rule) a c.args.b.now) c.args.among.now ≡ None) c.loop-left.left.now _ c.in-len1-up.len_at_least
+    (found_none c.args.model c.args.harts.now c.args.ranking.now c.args.among.now c.args.b.now c.first_asked.result c.mark.new.self.rule _ (c.mark.ensures.rule ∙ c.new-sweep.ensures) c.first_asked.ensures (sym c.is_some.ensures ∙ c.if-is_some.false)) rest)
 
 pub returns : goal.returns
 returns c = λ e.
-    let P = λ (rule : Rule). find (λ a. asked_by c.args.model c.args.harts.now c.args.index.now (rule_of rule) a c.args.b.now) c.args.among.now ≡ None in
+    let P = λ (rule : Rule). find (λ a. asked_by c.args.model c.args.harts.now c.args.ranking.now (rule_of rule) a c.args.b.now) c.args.among.now ≡ None in
     of_each_rule P (c.loop-left.invariant (none_left P c.loop-left.left.now c.in_default.len_below))

@@ -1,4 +1,4 @@
-use Rattle.std.proofs.Common.{arith}
+use Rattle.std.proofs.Common.{arith, sym}
 use Rattle.rvwmo_order.proofs.Counts.{few_named}
 use Rattle.rvwmo_order.proofs.Steps.{harts_next}
 use Rattle.rvwmo_order.proofs.orders.few_names.Goals as goal
@@ -10,4 +10,4 @@ loop-hart-preserved c = record {
 }
 
 pub returns-clause-few : goal.returns-clause-few
-returns-clause-few c = few_named c.loop-hart.hart c.args.trace.now.history.entries c.loop-hart.names.items (omega arith) c.loop-hart.invariant.gathered (omega (arith, c.loop-hart.names.ok.0, c.loop-hart.invariant.few))
+returns-clause-few c = sym (few_named c.loop-hart.hart c.args.trace.now.history.entries c.loop-hart.names.items (omega arith) c.loop-hart.invariant.gathered (omega (arith, c.loop-hart.names.ok.0, c.loop-hart.invariant.few)))

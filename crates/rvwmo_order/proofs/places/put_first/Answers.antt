@@ -1,4 +1,4 @@
-use Rattle.std.proofs.Common.{◌+◌, ◌∙◌, ℕ, ap, arith, cond}
+use Rattle.std.proofs.Common.{◌∙◌, ℕ, ap, arith, cond}
 use Rattle.memory_model.specs.Operations.{same}
 use Rattle.memory_model.specs.Traces.{is_named}
 use Rattle.memory_model.specs.Verdict.{name_of}

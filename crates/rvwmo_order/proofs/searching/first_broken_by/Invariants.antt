@@ -5,4 +5,4 @@ use Rattle.rvwmo_order.specs.Scans.{first_out_of_order}
 use Rattle.rvwmo_order.proofs.searching.first_broken_by.Given as goal
 
 abbrev pub invariant-loop-place : goal.invariant-loop-place
-invariant-loop-place l = first_out_of_order (asked_by l.model l.harts l.index (rule_of l.rule)) l.index ≡ first_out_of_order (asked_by l.model l.harts l.index (rule_of l.rule)) (drop l.place l.index)
+invariant-loop-place l = first_out_of_order (asked_by l.model l.harts l.ranking (rule_of l.rule)) l.ranking ≡ first_out_of_order (asked_by l.model l.harts l.ranking (rule_of l.rule)) (drop l.place l.ranking)

@@ -5,4 +5,4 @@ use Rattle.memory_model.specs.Order.{source}
 use Rattle.rvwmo_order.proofs.sweeping.find_sources.Given as goal
 
 abbrev pub invariant-loop-x : goal.invariant-loop-x
-invariant-loop-x l = map (λ x. source l.index l.b x) (addresses_of l.b) ≡ l.sources.items ++ map (λ x. source l.index l.b x) (range_with_len l.x (l.b.address + l.b.size - l.x))
+invariant-loop-x l = map (λ x. source l.ranking l.b x) (addresses_of l.b) ≡ l.sources.items ++ map (λ x. source l.ranking l.b x) (range_with_len l.x (l.b.address + l.b.size - l.x))

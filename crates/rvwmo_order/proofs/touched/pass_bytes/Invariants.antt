@@ -6,7 +6,7 @@ use Rattle.rvwmo_order.proofs.touched.pass_bytes.Given as goal
 -- the bytes so far have the operation
 abbrev pub invariant-loop-x : goal.invariant-loop-x
 invariant-loop-x l = record {
-  touched : (q : ℕ) → touch_in l.touches q ≡ passed (λ y t. touched l.index y l.own l.a t) l.a.address l.x q (touch_in l.fn.touches q);
+  touched : (q : ℕ) → touch_in l.touches q ≡ passed (λ y t. touched l.ranking y l.own l.a t) l.a.address l.x q (touch_in l.fn.touches q);
   from : l.a.address ≤ l.x;
   up_to : l.x ≤ l.end;
 }

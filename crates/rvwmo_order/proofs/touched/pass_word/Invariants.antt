@@ -7,6 +7,6 @@ use Rattle.rvwmo_order.proofs.touched.pass_word.Given as goal
 -- the bytes so far have the operation
 abbrev pub invariant-loop-x : goal.invariant-loop-x
 invariant-loop-x l = record {
-  bytes : (q : ℕ) → q / 4 ≡ l.first / 4 → slice_index_or l.word (q % 4) untouched ≡ passed (λ y t. touched l.index y l.own l.a t) l.first l.x q (slice_index_or l.fn.word (q % 4) untouched);
+  bytes : (q : ℕ) → q / 4 ≡ l.first / 4 → slice_index_or l.word (q % 4) untouched ≡ passed (λ y t. touched l.ranking y l.own l.a t) l.first l.x q (slice_index_or l.fn.word (q % 4) untouched);
   long : length l.word ≡ 4;
 }

@@ -10,16 +10,16 @@ use Rattle.rvwmo_order.proofs.index.Index.find.Goals as goal
 
 pub returns-in-Some-clause-source : goal.returns-in-Some-clause-source
 returns-in-Some-clause-source g c = λ a e.
-    let stores : c.deref.result.now ≡ stored_from 0 c.args.x c.self.inside.order.items = c.deref.ensures.value ∙ bucket_there _ _ _ _ (c.self.invariant.1 c.args.x) (sym c.get.ensures.value ∙ ap option_copied c.in-Some.is) in
+    let stores : c.deref-in-Some.result.now ≡ stored_from 0 c.args.x c.self.inside.order.items = c.deref-in-Some.ensures.value ∙ bucket_there _ _ _ _ (c.self.invariant.1 c.args.x) (sym c.get.ensures.value ∙ ap option_copied c.in-Some.is) in
     c.store_of.ensures
     ∙ (ap (option_map (λ (p : ℕ × Operation). p.1)) c.last_seen.ensures.seen
     ∙ (stores_only _
-    ∙ (source_seen c.self.inside.order.items a c.args.x c.args.load c.position-position.result c.deref.result.now e (c.position-position.ensures a e ∙ ap (λ o. position_in o a) (sym c.self.view_is)) stores
+    ∙ (source_seen c.self.inside.order.items a c.args.x c.args.load c.position-position.result c.deref-in-Some.result.now e (c.position-position.ensures a e ∙ ap (λ o. position_in o a) c.deref.ensures.value) stores
     ∙ ap (λ o. source o a c.args.x) c.self.view_is)))
 
 pub returns-in-Some-clause-looks : goal.returns-in-Some-clause-looks
 returns-in-Some-clause-looks g c =
-    let stores : c.deref.result.now ≡ stored_from 0 c.args.x c.self.inside.order.items = c.deref.ensures.value ∙ bucket_there _ _ _ _ (c.self.invariant.1 c.args.x) (sym c.get.ensures.value ∙ ap option_copied c.in-Some.is) in
+    let stores : c.deref-in-Some.result.now ≡ stored_from 0 c.args.x c.self.inside.order.items = c.deref-in-Some.ensures.value ∙ bucket_there _ _ _ _ (c.self.invariant.1 c.args.x) (sym c.get.ensures.value ∙ ap option_copied c.in-Some.is) in
     let count = ap length stores ∙ (length-stored_from 0 c.args.x c.self.inside.order.items ∙ ap (λ o. length (filter (stores_to c.args.x) o)) c.self.view_is) in
     let looks = c.last_seen.ensures.looks in omega (arith, count, looks)
 

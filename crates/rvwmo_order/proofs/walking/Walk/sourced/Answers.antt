@@ -5,7 +5,7 @@ use Rattle.rvwmo_order.proofs.walking.Walk.sourced.Goals as goal
 
 pub loop-x-preserved : goal.loop-x-preserved
 loop-x-preserved c =
-    let order = c.args.index.now in
+    let order = c.args.ranking.now in
     let b = c.args.b.now in
     let rank = c.source_rank-source.result in
     let touch = ap (but rank) c.touch_near-touch.ensures in
