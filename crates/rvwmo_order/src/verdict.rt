@@ -10,7 +10,8 @@ use trace_recorder::OpId;
 pub enum Rule {
     /// The second is a store to a byte of the first.
     OverlappingStore = 1,
-    /// Both are loads of a byte, with no store to it between them, and return it from different stores.
+    /// Both are loads of a byte, with no store to it between them, and return it from different writes
+    /// (the image is one).
     SameByteLoads = 2,
     /// The second is a load that returns what the first, an AMO or an SC, wrote.
     AtomicSource = 3,
@@ -81,6 +82,7 @@ impl Code {
 pub enum Verdict {
     Legal,
     /// The first operation must come before the second and doesn't; or both are the load whose value is
-    /// wrong; or they are an LR and its SC between which another hart's store stands.
+    /// wrong; or they are an LR and its SC, and what the LR returned isn't stored before the SC, or another hart
+    /// stores there between.
     Fault(Code, OpId, OpId),
 }
