@@ -5,6 +5,7 @@ ghost use Rattle.memory_model.specs.Operations as operations;
 ghost use Rattle.rvwmo_order.specs.Sourcing.{latest_at};
 
 use crate::accesses::{behind_in_word, end_of};
+use crate::by_word::word_of;
 use memory_model::Operation;
 use std::alloc::{AllocError, Global};
 use std::collections::HashMap;
@@ -33,7 +34,7 @@ impl Latest {
         if first % 4 == 0 {
             return self.kept(number);
         }
-        let word = self.word(number);
+        let word = word_of(&self.words, number);
         let mut ranks = [0; 4];
         for offset in 0..4 {
             if (offset as u32) < a.size {
@@ -41,16 +42,6 @@ impl Latest {
             }
         }
         ranks
-    }
-
-    // What is kept of the bytes of a word, of which the first is four times this number.
-    fn word(&self, number: u64) -> &[usize]
-        ensures { result.now ≡ unwrap_or (hash.get nat_eq self.now.words number) [] }
-    {
-        match self.words.get(&number) {
-            Some(word) => word,
-            None => &[],
-        }
     }
 
     // The rank at a byte, where this is kept of the word of this number.
@@ -61,7 +52,7 @@ impl Latest {
         if x / 4 == number {
             at(word, x)
         } else {
-            at(self.word(x / 4), x)
+            at(word_of(&self.words, x / 4), x)
         }
     }
 

@@ -4,6 +4,7 @@
 
 mod accesses;
 mod bounding;
+mod by_word;
 mod carried;
 mod checking;
 mod completing;

@@ -1,6 +1,6 @@
 //! The bytes that a walk along a hart's list has touched: for each the greatest weight of its accesses, and
 //! of its loads since the last store to it, by where they return it from.
-ghost use Rattle.std.specs.Prelude.{◌≡◌, ◌≤◌, ◌+◌, ◌*◌, ◌/◌, ◌%◌, ◌<◌, ◌&&◌, ℕ, [], OnOk, if◌then◌else◌, nat_eq, nat_le, nat_lt, replicate, slice_index_or, true, unwrap_or};
+ghost use Rattle.std.specs.Prelude.{◌≡◌, ◌≤◌, ◌+◌, ◌*◌, ◌/◌, ◌%◌, ◌<◌, ◌&&◌, ℕ, [], OnOk, if◌then◌else◌, nat_eq, nat_le, nat_lt, slice_index_or, true, unwrap_or};
 ghost use Rattle.std.specs.HashMap as hash;
 ghost use Rattle.memory_model.specs.Operations as operations;
 ghost use Rattle.memory_model.specs.Order as orders;
@@ -10,9 +10,10 @@ ghost use Rattle.rvwmo_order.specs.Touched as spec;
 ghost use Rattle.rvwmo_order.specs.Touched.{touch_in};
 
 use crate::accesses::{behind_in_word, end_of, reads, writes};
+use crate::by_word::word_of;
 use crate::ranking::Ranking;
 use memory_model::Operation;
-use std::alloc::{AllocError, Global};
+use std::alloc::AllocError;
 use std::collections::HashMap;
 
 /// The greatest weights of the operations that touched a byte.
@@ -94,16 +95,6 @@ impl Touch {
         } else {
             self.others = self.others.max(own);
         }
-    }
-}
-
-/// What was kept of the bytes of a word, of which the first is four times this number.
-pub(crate) fn word_of(touches: &HashMap<u64, [Touch; 4]>, number: u64) -> &[Touch]
-    ensures { result.now ≡ unwrap_or (hash.get nat_eq touches.now number) [] }
-{
-    match touches.get(&number) {
-        Some(word) => word,
-        None => &[],
     }
 }
 

@@ -14,12 +14,13 @@ ghost use Rattle.rvwmo_order.specs.Indexed.{rank_of, ranked};
 ghost use Rattle.rvwmo_order.specs.Touched.{but, touch_after, touch_in};
 
 use crate::accesses::{end_of, has_rcsc, has_release, is_amo, is_sc, reads, writes};
+use crate::by_word::word_of;
 use crate::carried::Carried;
 use crate::listed::Item;
 use crate::passed::Passed;
 use crate::ranking::Ranking;
 use crate::rows::{Row, row_at};
-use crate::touched::{Touch, pass_bytes, touch_near, word_of};
+use crate::touched::{Touch, pass_bytes, touch_near};
 use memory_model::{MemoryModel, Operation};
 use rv32_decode::Instr;
 use std::alloc::{AllocError, Global};
