@@ -1,5 +1,5 @@
 -- What is read of a trace's header is spelled so, and what is spelled so is read, whatever follows.
-use Rattle.std.proofs.Common.{◌≡◌, ℕ, ◌^◌, ◌<◌, ◌≤◌, Bool, ◌&&◌, true, false, eqb, leb, List, [], ◌∷◌, ◌++◌, Some, None, refl, sym, ap, subst, ◌∙◌, arith, inl, inr}
+use Rattle.std.proofs.Common.{◌≡◌, ℕ, ◌^◌, ◌<◌, ◌≤◌, Bool, ◌&&◌, true, false, List, [], ◌∷◌, ◌++◌, Some, refl, sym, ap, ◌∙◌, arith, inl, inr}
 use Rattle.std.specs.Prelude.{codes, not}
 use Rattle.std.proofs.lemmas.Bool.{le-leb}
 use Rattle.text_fields.specs.Fields.{number, word}
@@ -33,13 +33,13 @@ entry_small h t = omega (arith, t.inside, t.memory.at_most)
 
 -- ---- version 1
 
-abbrev first_numbers : TraceHead → List ℕ
+abbrev pub first_numbers : TraceHead → List ℕ
 first_numbers h = number 32 h.harts ++ (number 32 h.kib ++ (word h.entry ++ 10 ∷ []))
 
-abbrev first : TraceHead → Bool
+abbrev pub first : TraceHead → Bool
 first h = is_first_version h.harts h.line
 
-abbrev IsFirst : TraceHead → Type 0
+abbrev pub IsFirst : TraceHead → Type 0
 IsFirst h = IsTraceHead h × (first h ≡ true)
 
 abbrev FirstFields : TraceHead → Type 0
@@ -60,7 +60,7 @@ first_fro h f =
 first_back : (h : TraceHead) → h.line ≡ Bytes16 → ◌≡◌ {A = TraceHead} (record { harts = h.harts; kib = h.kib; entry = h.entry; line = Bytes16 }) h
 first_back h e = rw (← e) refl
 
-first_reads : Reads first_numbers IsFirst first_numbers_at
+pub first_reads : Reads first_numbers IsFirst first_numbers_at
 unfolding first_numbers_at first_fields_at word_line_at
 first_reads =
     refit
@@ -71,10 +71,10 @@ first_reads =
 
 -- ---- version 2
 
-abbrev second_numbers : TraceHead → List ℕ
+abbrev pub second_numbers : TraceHead → List ℕ
 second_numbers h = number 32 h.harts ++ (number 32 h.kib ++ ((word h.entry ++ 32 ∷ []) ++ number 10 (length_of h.line)))
 
-abbrev IsSecond : TraceHead → Type 0
+abbrev pub IsSecond : TraceHead → Type 0
 IsSecond h = IsTraceHead h × (first h ≡ false)
 
 abbrev SecondFields : TraceHead → Type 0
@@ -86,7 +86,7 @@ second_to h f = let b = both_true (is_trace_head h) (not (first h)) f.1 in (trac
 second_fro : (h : TraceHead) → IsSecond h → SecondFields h × ((is_trace_head h && not (first h)) ≡ true)
 second_fro h f = ((omega (arith, f.0.few_harts), (f.0.memory.at_most, (entry_small h f.0, tt))), both_are (is_trace_head h) (not (first h)) (head_passes h f.0) (ap not f.1))
 
-second_reads : Reads second_numbers IsSecond second_numbers_at
+pub second_reads : Reads second_numbers IsSecond second_numbers_at
 unfolding second_numbers_at second_fields_at word_field_at
 second_reads =
     refit
@@ -97,10 +97,10 @@ second_reads =
 
 -- ---- the header
 
-head_first : (h : TraceHead) → first h ≡ true → head h ≡ codes "rvtl-trace 1\nT " ++ first_numbers h
+pub head_first : (h : TraceHead) → first h ≡ true → head h ≡ codes "rvtl-trace 1\nT " ++ first_numbers h
 head_first h e = rw e refl
 
-head_second : (h : TraceHead) → first h ≡ false → head h ≡ codes "rvtl-trace 2\nT " ++ second_numbers h
+pub head_second : (h : TraceHead) → first h ≡ false → head h ≡ codes "rvtl-trace 2\nT " ++ second_numbers h
 head_second h e = rw e refl
 
 head_takes : (bytes : List ℕ) (h : TraceHead) (rest : List ℕ) → head_at bytes ≡ Some (h, rest) → (bytes ≡ head h ++ rest) × IsTraceHead h

@@ -17,7 +17,7 @@ use Rattle.trace_text.specs.TraceSections.{image_lines_at}
 abbrev Small : List ℕ → Type 0
 Small bytes = AllByRecursion (λ b. b < 256) bytes
 
-small_append : (xs ys : List ℕ) → Small xs → Small ys → Small (xs ++ ys)
+pub small_append : (xs ys : List ℕ) → Small xs → Small ys → Small (xs ++ ys)
 small_append [] ys f g = g
 small_append (x ∷ xs) ys f g = (f.0, small_append xs ys f.1 g)
 
@@ -31,11 +31,11 @@ small_drop zero xs f = f
 small_drop (suc n) [] f = tt
 small_drop (suc n) (x ∷ xs) f = small_drop n xs f.1
 
-zeros_small : (n : ℕ) → Small (replicate n 0)
+pub zeros_small : (n : ℕ) → Small (replicate n 0)
 zeros_small zero = tt
 zeros_small (suc n) = (omega arith, zeros_small n)
 
-zeros_unset : (n : ℕ) → any_set (replicate n 0) ≡ false
+pub zeros_unset : (n : ℕ) → any_set (replicate n 0) ≡ false
 zeros_unset zero = refl
 zeros_unset (suc n) = zeros_unset n
 
@@ -49,13 +49,13 @@ unset_zeros (x ∷ xs) e = zeros_more x xs (unset_zeros xs) (eqb x 0) refl e
 
 -- ---- a line
 
-abbrev line_text : ℕ → List ℕ → List ℕ
+abbrev pub line_text : ℕ → List ℕ → List ℕ
 line_text address x = codes "I " ++ (word address ++ (32 ∷ (hex x ++ 10 ∷ [])))
 
-line_set : (address : ℕ) (x : List ℕ) → any_set x ≡ true → image_line address x ≡ line_text address x
+pub line_set : (address : ℕ) (x : List ℕ) → any_set x ≡ true → image_line address x ≡ line_text address x
 line_set address x e = rw e refl
 
-line_unset : (address : ℕ) (x : List ℕ) → any_set x ≡ false → image_line address x ≡ []
+pub line_unset : (address : ℕ) (x : List ℕ) → any_set x ≡ false → image_line address x ≡ []
 line_unset address x e = rw e refl
 
 regrouped : (w d rest : List ℕ) → (73 ∷ 32 ∷ (w ++ 32 ∷ [])) ++ (d ++ rest) ≡ (73 ∷ 32 ∷ (w ++ (32 ∷ d))) ++ rest
@@ -64,7 +64,7 @@ regrouped w d rest = simp append_assoc
 line_parts : (address : ℕ) (x rest : List ℕ) → image_lead address ++ ((hex x ++ 10 ∷ []) ++ rest) ≡ line_text address x ++ rest
 line_parts address x rest = regrouped (word address) (hex x ++ 10 ∷ []) rest
 
-data_reads : (width : ℕ) → Reads (λ x. hex x ++ 10 ∷ []) (λ x. IsBytes width x × (any_set x ≡ true)) (image_data_at width)
+pub data_reads : (width : ℕ) → Reads (λ x. hex x ++ 10 ∷ []) (λ x. IsBytes width x × (any_set x ≡ true)) (image_data_at width)
 unfolding image_data_at
 data_reads width = guard_reads any_set (ended_reads 10 (hex_reads width))
 
@@ -83,7 +83,7 @@ line_takes width address bytes x rest e =
           (ap (λ t. t ++ bytes) (sym (line_unset address old (zeros_unset width))), record { len = length-replicate width 0; small = zeros_small width })
     ]
 
-line_set_again : (width address : ℕ) (x rest : List ℕ) → IsBytes width x → any_set x ≡ true → image_line_at (replicate width 0) address (image_line address x ++ rest) ≡ Some (x, rest)
+pub line_set_again : (width address : ℕ) (x rest : List ℕ) → IsBytes width x → any_set x ≡ true → image_line_at (replicate width 0) address (image_line address x ++ rest) ≡ Some (x, rest)
 unfolding image_line_at
 line_set_again width address x rest fits e =
     let old : List ℕ = replicate width 0 in
@@ -91,7 +91,7 @@ line_set_again width address x rest fits e =
     ap (λ t. image_line_at old address (t ++ rest)) (line_set address x e) ∙ ap (image_line_at old address) (sym (line_parts address x rest))
     ∙ rw (after_again (image_lead address) ((hex x ++ 10 ∷ []) ++ rest)) read
 
-line_unset_again : (width address : ℕ) (x rest : List ℕ) → IsBytes width x → any_set x ≡ false → after (image_lead address) rest ≡ None → image_line_at (replicate width 0) address (image_line address x ++ rest) ≡ Some (x, rest)
+pub line_unset_again : (width address : ℕ) (x rest : List ℕ) → IsBytes width x → any_set x ≡ false → after (image_lead address) rest ≡ None → image_line_at (replicate width 0) address (image_line address x ++ rest) ≡ Some (x, rest)
 unfolding image_line_at
 line_unset_again width address x rest fits e off =
     let old : List ℕ = replicate width 0 in
@@ -107,17 +107,17 @@ line_again width address x rest fits off = go (any_set x) refl
 
 -- ---- lines
 
-none_times : (width : ℕ) → 0 * width ≡ 0
+pub none_times : (width : ℕ) → 0 * width ≡ 0
 none_times width = zero-mul width
 
-more_times : (n width : ℕ) → suc n * width ≡ width + n * width
+pub more_times : (n width : ℕ) → suc n * width ≡ width + n * width
 more_times n width = omega (arith, suc-mul n width)
 
-lines_step : (width n address : ℕ) (x xs : List ℕ) → length x ≡ width → image_lines width (suc n) address (x ++ xs) ≡ image_line address x ++ image_lines width n (address + width) xs
+pub lines_step : (width n address : ℕ) (x xs : List ℕ) → length x ≡ width → image_lines width (suc n) address (x ++ xs) ≡ image_line address x ++ image_lines width n (address + width) xs
 unfolding image_lines
 lines_step width n address x xs len = rw (take_at x xs width len, drop_at x xs width len) refl
 
-lines_none : (width address : ℕ) (bytes : List ℕ) → image_lines width 0 address bytes ≡ []
+pub lines_none : (width address : ℕ) (bytes : List ℕ) → image_lines width 0 address bytes ≡ []
 unfolding image_lines
 lines_none width address bytes = refl
 

@@ -24,11 +24,11 @@ joined : (front line : List ℕ) (read : Option (List ℕ × List ℕ)) → fron
 joined front line (Some xs) = ap (λ (l : List ℕ). Some (l, xs.1)) (sym (append_assoc front line xs.0))
 joined front line None = refl
 
-one_line : (width n address : ℕ) (front line rest later : List ℕ) → image_line_at (replicate width 0) address rest ≡ Some (line, later) → fronted front (image_lines_at width (suc n) address rest) ≡ fronted (front ++ line) (image_lines_at width n (address + width) later)
+pub one_line : (width n address : ℕ) (front line rest later : List ℕ) → image_line_at (replicate width 0) address rest ≡ Some (line, later) → fronted front (image_lines_at width (suc n) address rest) ≡ fronted (front ++ line) (image_lines_at width n (address + width) later)
 unfolding image_lines_at
 one_line width n address front line rest later read = rw read (joined front line (image_lines_at width n (address + width) later))
 
-no_line : (width n address : ℕ) (front rest : List ℕ) → image_line_at (replicate width 0) address rest ≡ None → fronted front (image_lines_at width (suc n) address rest) ≡ None
+pub no_line : (width n address : ℕ) (front rest : List ℕ) → image_line_at (replicate width 0) address rest ≡ None → fronted front (image_lines_at width (suc n) address rest) ≡ None
 unfolding image_lines_at
 no_line width n address front rest read = rw read refl
 
@@ -40,14 +40,14 @@ none_left : (width : ℕ) → IsWidth width → 0 / width ≡ 0
 none_left width (inl e) = subst (λ w. 0 / w ≡ 0) (sym e) refl
 none_left width (inr e) = subst (λ w. 0 / w ≡ 0) (sym e) refl
 
-count_left : (width size start : ℕ) → IsWidth width → IsMemorySize size → start % width ≡ 0 → start < size → (size - start) / width ≡ suc ((size - (start + width)) / width)
+pub count_left : (width size start : ℕ) → IsWidth width → IsMemorySize size → start % width ≡ 0 → start < size → (size - start) / width ≡ suc ((size - (start + width)) / width)
 count_left width size start w m whole lt =
     let fits = line_fits start size width w whole m lt in
     let less : size - start - width ≡ size - (start + width) = omega arith in
     one_line_more width (size - start) w (omega (arith, fits)) ∙ ap (λ n. suc (n / width)) less
 
 -- the line that is read next is still zero
-old_line : (width size start : ℕ) (image : List ℕ) → start + width ≤ size → drop start image ≡ replicate (size - start) 0 → take width (drop start image) ≡ replicate width 0
+pub old_line : (width size start : ℕ) (image : List ℕ) → start + width ≤ size → drop start image ≡ replicate (size - start) 0 → take width (drop start image) ≡ replicate width 0
 old_line width size start image le zeros = ap (take width) zeros ∙ take-replicate width (size - start) 0 (omega arith)
 
 -- a line in its place

@@ -10,4 +10,12 @@ mod TraceLoops
 mod ImageLoops
 mod NameLaws
 mod Refusals
+mod FirstLines
+mod LineFeeds
+mod Stopping
+mod SectionStops
+mod ImageStops
+mod HeaderLines
+mod WholeStops
+mod AnyLines
 mod TraceRefusals

@@ -1,6 +1,6 @@
 -- Where the reader of scripts stops, and what it finds there.
-use Rattle.std.proofs.Common.{◌≡◌, ℕ, suc, ◌+◌, ◌-◌, ◌^◌, ◌<◌, ◌≤◌, Bool, ◌||◌, true, false, cond, eqb, List, [], ◌∷◌, ◌++◌, length, take, drop, Option, Some, None, refl, sym, ap, subst, ◌∙◌, append_assoc, arith, inl, inr}
-use Rattle.std.specs.Prelude.{codes, ◌⊎◌, IsTrue, ◌↔◌, Result, Ok, Err, IfErr, IsErrAnd}
+use Rattle.std.proofs.Common.{◌≡◌, ℕ, suc, ◌+◌, ◌-◌, ◌^◌, ◌<◌, Bool, ◌||◌, true, false, cond, eqb, List, [], ◌∷◌, ◌++◌, length, take, drop, Some, None, refl, sym, ap, subst, ◌∙◌, append_assoc, arith, inl, inr}
+use Rattle.std.specs.Prelude.{codes, IsTrue, ◌↔◌, Result, Ok, Err, IfErr, IsErrAnd}
 use Rattle.std.specs.List.{flat_map, AllByRecursion, list_any}
 use Rattle.std.proofs.lemmas.Bool.{eqb-true, eq-eqb}
 use Rattle.std.proofs.lemmas.Option.{none-some}
@@ -12,14 +12,13 @@ use Rattle.machine_types.specs.declared.event.Event.TheVariants.{Step, Drain, Ev
 use Rattle.text_fields.specs.Reading.{after}
 use Rattle.tl_types.specs.declared.message.Channel.TheVariants.{A}
 use Rattle.trace_text.specs.declared.fault.TextCode.{TextCode}
-use Rattle.trace_text.specs.declared.fault.TextError.{TextError}
 use Rattle.trace_text.specs.declared.fault.Stop.{Stop}
 use Rattle.trace_text.specs.declared.fault.Stop.TheVariants.{Memory, Bytes}
 use Rattle.trace_text.specs.declared.script.Head.{Head}
 use Rattle.trace_text.specs.declared.script.Script.{Script}
-use Rattle.trace_text.specs.Refusals.{line_feeds, has_line_feed, is_blank, first_word, IsNoHead, IsNoEvent, EndsScript, IsEventWord, IsScriptFault, IsScriptRefusal}
+use Rattle.trace_text.specs.Refusals.{line_feeds, has_line_feed, is_blank, first_word, IsNoHead, IsNoEvent, EndsScript, IsEventWord, IsScriptCode, IsScriptRefusal}
 use Rattle.trace_text.specs.ScriptReading.{event_at, head_at}
-use Rattle.trace_text.specs.Scripts.{event, head, is_head, head_of, text, IsEvent, IsScript}
+use Rattle.trace_text.specs.Scripts.{event, head, text, IsEvent}
 use Rattle.trace_text.specs.Stops.{is_parted, AreEventsBefore, StopsScript, IsEventStop, IsScriptStop, left_of, line_number}
 use Rattle.trace_text.proofs.Scripts.{event_reads, head_takes, head_again, made_of}
 
@@ -78,7 +77,7 @@ few_lines before (b ∷ rest) (inr later) small = omega (arith, count_by-le-leng
 
 pub refused : (bytes : List ℕ) (left line : ℕ) (rest : List ℕ) (code : TextCode) → length bytes < 2 ^ 64 → StopsScript bytes left
     → (suc (line_feeds (take (length bytes - left) bytes)) < 2 ^ 64 → line ≡ suc (line_feeds (take (length bytes - left) bytes)))
-    → rest ≡ drop (length bytes - left) bytes → IsScriptFault code line rest → IsScriptRefusal bytes (record { line = line; code = code })
+    → rest ≡ drop (length bytes - left) bytes → IsScriptCode code line rest → IsScriptRefusal bytes (record { line = line; code = code })
 refused bytes left line rest code small w numbered at fault =
     let long : length bytes ≡ length w.before + length w.rest = ap length w.parts ∙ length-append w.before w.rest in
     let n : length bytes - left ≡ length w.before = omega (arith, w.long) in
@@ -91,11 +90,11 @@ refused bytes left line rest code small w numbered at fault =
       parts = w.parts;
       ends = w.ends;
       line = numbered (subst (λ u. suc (line_feeds u) < 2 ^ 64) (sym front) few) ∙ ap (λ u. suc (line_feeds u)) front;
-      code = subst (λ u. IsScriptFault code line u) back fault;
+      code = subst (λ u. IsScriptCode code line u) back fault;
     }
 
 pub refused_of : (bytes : List ℕ) (stop : Stop) (least left line : ℕ) (rest : List ℕ) (code : TextCode) → stop ≡ Bytes least → left ≡ left_of stop → length bytes < 2 ^ 64 → IsScriptStop bytes stop
-    → (line_number bytes left < 2 ^ 64 → line ≡ line_number bytes left) → rest ≡ drop (length bytes - left) bytes → IsScriptFault code line rest → IsScriptRefusal bytes (record { line = line; code = code })
+    → (line_number bytes left < 2 ^ 64 → line ≡ line_number bytes left) → rest ≡ drop (length bytes - left) bytes → IsScriptCode code line rest → IsScriptRefusal bytes (record { line = line; code = code })
 refused_of bytes stop least left line rest code is same small w numbered at fault =
     let same_left : left ≡ least = same ∙ ap left_of is in
     refused bytes left line rest code small (subst (λ n. StopsScript bytes n) (sym same_left) (subst (IsScriptStop bytes) is w)) numbered at fault

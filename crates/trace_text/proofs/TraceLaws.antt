@@ -34,7 +34,7 @@ use Rattle.trace_text.specs.declared.message_reading.Name.{Name}
 use Rattle.trace_text.specs.declared.message_reading.Name.TheVariants as names
 use Rattle.trace_recorder.specs.declared.logged.Logged.{Logged}
 use Rattle.trace_text.specs.declared.head.TraceHead.{TraceHead}
-use Rattle.trace_text.specs.Traces.{retired_text, outcome}
+use Rattle.trace_text.specs.Traces.{retired_text, status_word}
 use Rattle.trace_text.specs.TraceLimits.{IsLoaded, IsRetired, IsOperation, IsData, IsBody, IsLogged, IsStatus}
 use Rattle.trace_text.specs.TraceReading.{directions, direction_at, grows, grow_at, caps, cap_at, changes, change_at, answers, answer_at, loaded_at, data_at, all_names, name_at, change_data_at, cap_data_at, carried_at, message_at}
 use Rattle.trace_text.specs.TraceLines.{word_field_at, loaded_field_at, answer_line_at, retired_at, operation_at, stop_at, exit_at, status_at, is_line, letter_of, letter_at, is_logged, logged_at}
@@ -339,30 +339,30 @@ stop_law = led_reads (codes "stop ") (number_reads 10 8 (omega arith) (omega ari
 exit_law : Reads (λ c. codes "exit " ++ number 10 c) (λ c. c ≤ 255) (led_at (codes "exit ") (number_at 10 255))
 exit_law = led_reads (codes "exit ") (number_reads 10 255 (omega arith) (omega arith))
 
-status_takes : (bytes : List ℕ) (x : Status) (rest : List ℕ) → status_at bytes ≡ Some (x, rest) → (bytes ≡ outcome x ++ rest) × IsStatus x
+status_takes : (bytes : List ℕ) (x : Status) (rest : List ℕ) → status_at bytes ≡ Some (x, rest) → (bytes ≡ status_word x ++ rest) × IsStatus x
 unfolding status_at stop_at exit_at
 status_takes bytes x rest e =
     elim (either_takes (after (codes "run\n") bytes >>= λ r. Some (Running, r)) (option_or (stop_at bytes) (exit_at bytes)) (x, rest) e) [
-      | inl y ↦ text_takes (codes "run\n") Running outcome IsStatus refl tt bytes x rest y
+      | inl y ↦ text_takes (codes "run\n") Running status_word IsStatus refl tt bytes x rest y
       | inr n ↦ elim (either_takes (stop_at bytes) (exit_at bytes) (x, rest) n.1) [
-        | inl y ↦ seen_takes stop_law (λ c. Stopped c) outcome IsStatus (λ x h. (refl, h)) bytes x rest y
-        | inr n ↦ seen_takes exit_law (λ c. Exited c) outcome IsStatus (λ x h. (refl, h)) bytes x rest n.1
+        | inl y ↦ seen_takes stop_law (λ c. Stopped c) status_word IsStatus (λ x h. (refl, h)) bytes x rest y
+        | inr n ↦ seen_takes exit_law (λ c. Exited c) status_word IsStatus (λ x h. (refl, h)) bytes x rest n.1
       ]
     ]
 
-stop_again : (c : ℕ) (rest : List ℕ) → c ≤ 8 → stop_at (outcome (Stopped c) ++ rest) ≡ Some (Stopped c, rest)
+stop_again : (c : ℕ) (rest : List ℕ) → c ≤ 8 → stop_at (status_word (Stopped c) ++ rest) ≡ Some (Stopped c, rest)
 unfolding stop_at
 stop_again c rest h = seen_again stop_law (λ c. Stopped c) c rest h
 
-exit_again : (c : ℕ) (rest : List ℕ) → c ≤ 255 → (stop_at (outcome (Exited c) ++ rest) ≡ None) × (exit_at (outcome (Exited c) ++ rest) ≡ Some (Exited c, rest))
+exit_again : (c : ℕ) (rest : List ℕ) → c ≤ 255 → (stop_at (status_word (Exited c) ++ rest) ≡ None) × (exit_at (status_word (Exited c) ++ rest) ≡ Some (Exited c, rest))
 unfolding stop_at exit_at
 exit_again c rest h = (refl, seen_again exit_law (λ c. Exited c) c rest h)
 
-status_again : (x : Status) (rest : List ℕ) → IsStatus x → status_at (outcome x ++ rest) ≡ Some (x, rest)
+status_again : (x : Status) (rest : List ℕ) → IsStatus x → status_at (status_word x ++ rest) ≡ Some (x, rest)
 unfolding status_at
 status_again Running rest h = refl
 status_again (Stopped c) rest h = rw (stop_again c rest h) refl
 status_again (Exited c) rest h = let e = exit_again c rest h in rw (e.0, e.1) refl
 
-pub status_reads : Reads outcome IsStatus status_at
+pub status_reads : Reads status_word IsStatus status_at
 status_reads = record { takes = status_takes; again = status_again }

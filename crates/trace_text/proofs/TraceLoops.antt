@@ -71,10 +71,10 @@ pub entries_more : (hart : ℕ) (front : List Retired) (rest fields later bytes 
 entries_more hart front rest fields later bytes x room led read h =
     record { lines = section_more (retired_lead hart) retired_at retired_shortens front rest fields later x _ led read h.lines; few = omega (arith, length-append front (x ∷ [])) }
 
-abbrev tested : Option (List Retired × List ℕ) → Option (List Retired × List ℕ)
+abbrev pub tested : Option (List Retired × List ℕ) → Option (List Retired × List ℕ)
 tested r = r >>= λ x. guarded (leb (length x.0) MAX_ENTRIES) x
 
-entries_are : (hart : ℕ) (bytes : List ℕ) → entries_at hart bytes ≡ tested (section_at (retired_lead hart) retired_at (length bytes) bytes)
+pub entries_are : (hart : ℕ) (bytes : List ℕ) → entries_at hart bytes ≡ tested (section_at (retired_lead hart) retired_at (length bytes) bytes)
 unfolding entries_at
 entries_are hart bytes = refl
 

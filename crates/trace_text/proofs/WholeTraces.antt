@@ -36,7 +36,7 @@ use Rattle.trace_text.proofs.ImageLaws.{lines_take, lines_again}
 
 -- ---- what harts have retired
 
-entries_take : (h : ℕ) (bytes : List ℕ) (xs : List Retired) (rest : List ℕ) → entries_at h bytes ≡ Some (xs, rest) → (bytes ≡ entries h xs ++ rest) × IsHart xs
+pub entries_take : (h : ℕ) (bytes : List ℕ) (xs : List Retired) (rest : List ℕ) → entries_at h bytes ≡ Some (xs, rest) → (bytes ≡ entries h xs ++ rest) × IsHart xs
 unfolding entries_at
 entries_take h bytes xs rest e =
     let p = bind_some (section_at (retired_lead h) retired_at (length bytes) bytes) (λ x. guarded (leb (length x.0) MAX_ENTRIES) x) (xs, rest) e in
@@ -73,7 +73,7 @@ later_entries k h ((x ∷ xs) ∷ more) rest lt le f =
 abbrev items_of : Vec Retired Global → List Retired
 items_of v = v.items
 
-lists_take : (n : ℕ) (bytes : List ℕ) (es : List (List Retired)) (rest : List ℕ) → numbered_at entries_at n 0 bytes ≡ Some (es, rest) → (bytes ≡ numbered entries 0 es ++ rest) × ((length es ≡ n) × AllByRecursion IsHart es)
+pub lists_take : (n : ℕ) (bytes : List ℕ) (es : List (List Retired)) (rest : List ℕ) → numbered_at entries_at n 0 bytes ≡ Some (es, rest) → (bytes ≡ numbered entries 0 es ++ rest) × ((length es ≡ n) × AllByRecursion IsHart es)
 lists_take n bytes es rest e = numbered_takes entries IsHart entries_at entries_take n 0 bytes es rest e
 
 lists_again : (n : ℕ) (es : List (List Retired)) (rest : List ℕ) → length es ≡ n → n ≤ MAX_HARTS → AllByRecursion IsHart es → starts 82 rest ≡ false → numbered_at entries_at n 0 (numbered entries 0 es ++ rest) ≡ Some (es, rest)
@@ -82,7 +82,7 @@ lists_again n es rest len le fits off =
 
 -- ---- operations, messages
 
-performed_take : (harts : ℕ) → 0 < harts → harts ≤ MAX_HARTS → (bytes : List ℕ) (xs : List OpId) (rest : List ℕ) → performed_at harts bytes ≡ Some (xs, rest) → (bytes ≡ flat_map operation xs ++ rest) × AllByRecursion (IsOperation harts) xs
+pub performed_take : (harts : ℕ) → 0 < harts → harts ≤ MAX_HARTS → (bytes : List ℕ) (xs : List OpId) (rest : List ℕ) → performed_at harts bytes ≡ Some (xs, rest) → (bytes ≡ flat_map operation xs ++ rest) × AllByRecursion (IsOperation harts) xs
 unfolding performed_at
 performed_take harts some le bytes xs rest e = section_takes (codes "P ") (operation_reads harts some le) (length bytes) bytes xs rest e
 
@@ -91,7 +91,7 @@ unfolding performed_at
 performed_again harts some le xs rest fits off =
     section_again (codes "P ") (operation_reads harts some le) (omega arith) (length (flat_map operation xs ++ rest)) xs rest fits (after_not 80 (32 ∷ []) rest off) (omega (arith, length-append (flat_map operation xs) rest))
 
-log_take : (h : TraceHead) → IsTraceHead h → (bytes : List ℕ) (xs : List Logged) (rest : List ℕ) → log_at h bytes ≡ Some (xs, rest) → (bytes ≡ flat_map logged xs ++ rest) × AllByRecursion (IsLogged h) xs
+pub log_take : (h : TraceHead) → IsTraceHead h → (bytes : List ℕ) (xs : List Logged) (rest : List ℕ) → log_at h bytes ≡ Some (xs, rest) → (bytes ≡ flat_map logged xs ++ rest) × AllByRecursion (IsLogged h) xs
 unfolding log_at
 log_take h t bytes xs rest e = section_takes (codes "M ") (logged_reads h t.some_hart t.few_harts t.memory.at_most) (length bytes) bytes xs rest e
 
@@ -102,11 +102,11 @@ log_again h t xs rest fits off =
 
 -- ---- statuses
 
-status_line_reads : (h : ℕ) → Reads (status h) IsStatus (status_line_at h)
+pub status_line_reads : (h : ℕ) → Reads (status h) IsStatus (status_line_at h)
 unfolding status_line_at
 status_line_reads h = led_reads (status_lead h) status_reads
 
-statuses_take : (n : ℕ) (bytes : List ℕ) (xs : List Status) (rest : List ℕ) → numbered_at status_line_at n 0 bytes ≡ Some (xs, rest) → (bytes ≡ numbered status 0 xs ++ rest) × ((length xs ≡ n) × AllByRecursion IsStatus xs)
+pub statuses_take : (n : ℕ) (bytes : List ℕ) (xs : List Status) (rest : List ℕ) → numbered_at status_line_at n 0 bytes ≡ Some (xs, rest) → (bytes ≡ numbered status 0 xs ++ rest) × ((length xs ≡ n) × AllByRecursion IsStatus xs)
 statuses_take n bytes xs rest e = numbered_takes status IsStatus status_line_at (λ h bytes x rest e. (status_line_reads h).takes bytes x rest e) n 0 bytes xs rest e
 
 statuses_again : (n : ℕ) (xs : List Status) (rest : List ℕ) → length xs ≡ n → n ≤ MAX_HARTS → AllByRecursion IsStatus xs → numbered_at status_line_at n 0 (numbered status 0 xs ++ rest) ≡ Some (xs, rest)
@@ -118,15 +118,15 @@ starts_statuses c (s ∷ more) rest some e = e
 
 -- ---- the image
 
-width_some : (s : LineSize) → 0 < length_of s
+pub width_some : (s : LineSize) → 0 < length_of s
 width_some Bytes16 = omega arith
 width_some Bytes64 = omega arith
 
-lines_fill : (s : LineSize) (kib : ℕ) → kib * 1024 / length_of s * length_of s ≡ kib * 1024
+pub lines_fill : (s : LineSize) (kib : ℕ) → kib * 1024 / length_of s * length_of s ≡ kib * 1024
 lines_fill Bytes16 kib = omega arith
 lines_fill Bytes64 kib = omega arith
 
-image_take : (s : LineSize) (kib : ℕ) (bytes m rest : List ℕ) → image_lines_at (length_of s) (kib * 1024 / length_of s) base bytes ≡ Some (m, rest) → (bytes ≡ image s m ++ rest) × IsBytes (kib * 1024) m
+pub image_take : (s : LineSize) (kib : ℕ) (bytes m rest : List ℕ) → image_lines_at (length_of s) (kib * 1024 / length_of s) base bytes ≡ Some (m, rest) → (bytes ≡ image s m ++ rest) × IsBytes (kib * 1024) m
 image_take s kib bytes m rest e =
     let t = lines_take (length_of s) (kib * 1024 / length_of s) base bytes m rest e in
     let fits : IsBytes (kib * 1024) m = subst (λ n. IsBytes n m) (lines_fill s kib) t.1 in
@@ -165,16 +165,16 @@ statuses_count n bytes xs rest e = (statuses_take n bytes xs rest e).1.0
 regroup : (a b c d e f rest : List ℕ) → (a ++ (b ++ (c ++ (d ++ (e ++ f))))) ++ rest ≡ a ++ (b ++ (c ++ (d ++ (e ++ (f ++ rest)))))
 regroup a b c d e f rest = simp append_assoc
 
-abbrev made_of : TraceHead → List ℕ → List (List Retired) → List OpId → List Logged → List Status → History
+abbrev pub made_of : TraceHead → List ℕ → List (List Retired) → List OpId → List Logged → List Status → History
 made_of h m e p l s = record { image = record { bytes = m; entry = h.entry }; line = h.line; entries = e; statuses = s; performed = p; log = l }
 
-abbrev some_of : History → List ℕ → Option (History × List ℕ)
+abbrev pub some_of : History → List ℕ → Option (History × List ℕ)
 some_of t rest = Some (t, rest)
 
-same_head : (h : TraceHead) (m : List ℕ) (e : List (List Retired)) (p : List OpId) (l : List Logged) (s : List Status) → length m ≡ h.kib * 1024 → length s ≡ h.harts → h ≡ head_of (made_of h m e p l s)
+pub same_head : (h : TraceHead) (m : List ℕ) (e : List (List Retired)) (p : List OpId) (l : List Logged) (s : List Status) → length m ≡ h.kib * 1024 → length s ≡ h.harts → h ≡ head_of (made_of h m e p l s)
 same_head h m e p l s len count = let kib : length m / 1024 ≡ h.kib = omega (arith, len) in rw (count, kib) refl
 
-trace_fits : (h : TraceHead) (m : List ℕ) (e : List (List Retired)) (p : List OpId) (l : List Logged) (s : List Status) → IsTraceHead h → IsBytes (h.kib * 1024) m → length e ≡ h.harts → AllByRecursion IsHart e → AllByRecursion (IsOperation h.harts) p → AllByRecursion (IsLogged h) l → length s ≡ h.harts → AllByRecursion IsStatus s → IsTrace (made_of h m e p l s)
+pub trace_fits : (h : TraceHead) (m : List ℕ) (e : List (List Retired)) (p : List OpId) (l : List Logged) (s : List Status) → IsTraceHead h → IsBytes (h.kib * 1024) m → length e ≡ h.harts → AllByRecursion IsHart e → AllByRecursion (IsOperation h.harts) p → AllByRecursion (IsLogged h) l → length s ≡ h.harts → AllByRecursion IsStatus s → IsTrace (made_of h m e p l s)
 trace_fits h m e p l s fh fm le fe fp fl ls fs =
     let same = same_head h m e p l s fm.len ls in record {
       head = subst IsTraceHead same fh;
@@ -207,22 +207,22 @@ made_takes h m e p l s bytes r1 r2 r3 r4 r5 rest eh em ee ep el es =
       trace_fits h m e p l s th.1 tm.1 te.1.0 te.1.1 tp.1 tl.1 ts.1.0 ts.1.1,
     )
 
-abbrev memory_at : TraceHead → List ℕ → Option (List ℕ × List ℕ)
+abbrev pub memory_at : TraceHead → List ℕ → Option (List ℕ × List ℕ)
 memory_at h bytes = image_lines_at (length_of h.line) (h.kib * 1024 / length_of h.line) base bytes
 
-abbrev after_log : TraceHead → List ℕ → List (List Retired) → List OpId → List Logged × List ℕ → Option (History × List ℕ)
+abbrev pub after_log : TraceHead → List ℕ → List (List Retired) → List OpId → List Logged × List ℕ → Option (History × List ℕ)
 after_log h m e p l = numbered_at status_line_at h.harts 0 l.1 >>= λ s. some_of (made_of h m e p l.0 s.0) s.1
 
-abbrev after_performed : TraceHead → List ℕ → List (List Retired) → List OpId × List ℕ → Option (History × List ℕ)
+abbrev pub after_performed : TraceHead → List ℕ → List (List Retired) → List OpId × List ℕ → Option (History × List ℕ)
 after_performed h m e p = log_at h p.1 >>= after_log h m e p.0
 
-abbrev after_entries : TraceHead → List ℕ → List (List Retired) × List ℕ → Option (History × List ℕ)
+abbrev pub after_entries : TraceHead → List ℕ → List (List Retired) × List ℕ → Option (History × List ℕ)
 after_entries h m e = performed_at h.harts e.1 >>= after_performed h m e.0
 
-abbrev after_memory : TraceHead → List ℕ × List ℕ → Option (History × List ℕ)
+abbrev pub after_memory : TraceHead → List ℕ × List ℕ → Option (History × List ℕ)
 after_memory h m = numbered_at entries_at h.harts 0 m.1 >>= after_entries h m.0
 
-abbrev after_head : TraceHead × List ℕ → Option (History × List ℕ)
+abbrev pub after_head : TraceHead × List ℕ → Option (History × List ℕ)
 after_head h = memory_at h.0 h.1 >>= after_memory h.0
 
 pub trace_takes : (bytes : List ℕ) (t : History) (rest : List ℕ) → trace_at bytes ≡ Some (t, rest) → Taken bytes t rest

@@ -15,3 +15,5 @@ pub mod Refusals
 pub mod Stops
 pub mod TraceRefusals
 pub mod TraceStops
+pub mod AnyLines
+pub mod AnyLineReading

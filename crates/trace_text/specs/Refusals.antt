@@ -42,13 +42,13 @@ abbrev pub IsEventWord : List ℕ → Type 0
 IsEventWord word = (x : Event) × (word ≡ first_word (event x))
 
 -- what each code says of the line of this number, which begins here
-abbrev pub IsScriptFault : TextCode → ℕ → List ℕ → Type 0
-IsScriptFault End line rest = has_line_feed rest ≡ false
-IsScriptFault Header line rest = (has_line_feed rest ≡ true) × (line ≡ 1)
-IsScriptFault Word line rest = (has_line_feed rest ≡ true) × (line ≢ 1) × ¬ IsEventWord (first_word rest)
-IsScriptFault Fields line rest = (has_line_feed rest ≡ true) × (line ≢ 1) × IsEventWord (first_word rest)
-IsScriptFault Order line rest = ⊥
-IsScriptFault NoMemory line rest = ⊥
+abbrev pub IsScriptCode : TextCode → ℕ → List ℕ → Type 0
+IsScriptCode End line rest = has_line_feed rest ≡ false
+IsScriptCode Header line rest = (has_line_feed rest ≡ true) × (line ≡ 1)
+IsScriptCode Word line rest = (has_line_feed rest ≡ true) × (line ≢ 1) × ¬ IsEventWord (first_word rest)
+IsScriptCode Fields line rest = (has_line_feed rest ≡ true) × (line ≢ 1) × IsEventWord (first_word rest)
+IsScriptCode Order line rest = ⊥
+IsScriptCode NoMemory line rest = ⊥
 
 -- The lines before the one that the fault names are as in a script, and that one isn't, for the reason that the fault gives.
 pub record IsScriptRefusal (bytes : List ℕ) (fault : TextError) : Type 0 where
@@ -57,4 +57,4 @@ pub record IsScriptRefusal (bytes : List ℕ) (fault : TextError) : Type 0 where
   pub parts : bytes ≡ before ++ rest
   pub ends : EndsScript before rest
   pub line : fault.line ≡ suc (line_feeds before)
-  pub code : IsScriptFault fault.code fault.line rest
+  pub code : IsScriptCode fault.code fault.line rest

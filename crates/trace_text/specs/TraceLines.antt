@@ -1,5 +1,5 @@
 -- Reading the lines of a trace from left to right.
-use Rattle.std.specs.Prelude.{ℕ, ◌+◌, ◌-◌, ◌*◌, ◌%◌, Bool, List, [], ◌∷◌, ◌++◌, Option, Some, None, length, codes, nat_le, nat_lt, ◌==◌, ◌&&◌, not, if◌then◌else◌}
+use Rattle.std.specs.Prelude.{ℕ, ◌+◌, ◌-◌, ◌*◌, ◌%◌, Bool, List, [], ◌∷◌, ◌++◌, Option, Some, None, length, codes, nat_le, nat_lt, ◌==◌, ◌&&◌, not}
 use Rattle.std.specs.Option.{option_or}
 use Rattle.machine_limits.specs.declared.TheConstants.{MAX_HARTS, MAX_ENTRIES}
 use Rattle.text_fields.specs.Fields.{word}

@@ -64,17 +64,17 @@ abbrev pub logged : Logged → List ℕ
 logged l = codes "M " ++ (words.direction l.direction ++ (words.channel (channel_of l.message) ++ (number 32 l.hart ++ (words.message l.message ++ 10 ∷ []))))
 
 -- how a hart ended, and the byte behind it
-abbrev pub outcome_ended : ℕ → Status → List ℕ
-outcome_ended end Running = codes "run" ++ end ∷ []
-outcome_ended end (Stopped c) = codes "stop " ++ number end c
-outcome_ended end (Exited c) = codes "exit " ++ number end c
+abbrev pub status_word_ended : ℕ → Status → List ℕ
+status_word_ended end Running = codes "run" ++ end ∷ []
+status_word_ended end (Stopped c) = codes "stop " ++ number end c
+status_word_ended end (Exited c) = codes "exit " ++ number end c
 
-abbrev pub outcome : Status → List ℕ
-outcome s = outcome_ended 10 s
+abbrev pub status_word : Status → List ℕ
+status_word s = status_word_ended 10 s
 
 -- a hart's status, and the byte behind it
 abbrev pub status_ended : ℕ → ℕ → Status → List ℕ
-status_ended end h s = (codes "H " ++ number 32 h) ++ outcome_ended end s
+status_ended end h s = (codes "H " ++ number 32 h) ++ status_word_ended end s
 
 abbrev pub status : ℕ → Status → List ℕ
 status h s = status_ended 10 h s

@@ -1,7 +1,7 @@
 //! Which line of a script can't be read, and why. Only a refused script comes here.
 ghost use Rattle.std.specs.Prelude.{◌≡◌, ◌↔◌, IsTrue, true};
 ghost use Rattle.trace_text.specs.Reading.{IsFaultOf};
-ghost use Rattle.trace_text.specs.Refusals.{has_line_feed, first_word, IsEventWord, IsScriptFault, IsScriptRefusal};
+ghost use Rattle.trace_text.specs.Refusals.{has_line_feed, first_word, IsEventWord, IsScriptCode, IsScriptRefusal};
 ghost use Rattle.trace_text.specs.Stops.{IsScriptStop};
 
 use crate::fault::{Stop, TextCode, TextError, is_word, line_at};
@@ -26,7 +26,7 @@ pub(crate) fn script_fault(bytes: &[u8], stop: Stop) -> TextError
 }
 
 fn code_at(line: usize, rest: &[u8]) -> TextCode
-    ensures { IsScriptFault result line rest.now }
+    ensures { IsScriptCode result line rest.now }
 {
     if !rest.contains(&b'\n') {
         TextCode::End

@@ -1,10 +1,14 @@
 //! Which line of a trace can't be read, and why. Only a refused trace comes here.
-ghost use Rattle.std.specs.Prelude.{◌≡◌, ◌↔◌, IsTrue, true};
+ghost use Rattle.std.specs.Prelude.{◌≡◌, ◌↔◌, IsTrue, true, Contains};
+ghost use Rattle.std.specs.Option.{option_map};
+ghost use Rattle.trace_text.specs.AnyLineReading.{left, numbers_at, image_fields_at, hart_at, retired_fields_at, status_fields_at, line_left};
+ghost use Rattle.trace_text.specs.AnyLines.{IsTraceLine};
 ghost use Rattle.trace_text.specs.Reading.{IsFaultOf};
 ghost use Rattle.trace_text.specs.Refusals.{has_line_feed, first_word};
 ghost use Rattle.trace_text.specs.TraceHeads.{IsTraceHead};
-ghost use Rattle.trace_text.specs.TraceRefusals.{IsLineWord, IsTraceRefusal};
-ghost use Rattle.trace_text.specs.TraceStops.{IsHeaderLeft, IsHeaderCode, IsLineCode};
+ghost use Rattle.trace_text.specs.TraceLines as reads;
+ghost use Rattle.trace_text.specs.TraceRefusals.{first_line, line_words, IsTraceRefusal};
+ghost use Rattle.trace_text.specs.TraceStops.{IsTraceLeft, IsTraceStop, IsHeaderLeft, IsHeaderCode, IsLineCode};
 
 use crate::fault::{Stop, TextCode, TextError, is_word, line_at};
 use crate::head::TraceHead;
@@ -19,6 +23,7 @@ use text_fields::{after, number_at, word_at};
 
 /// The fault of a trace whose reader stopped there.
 pub(crate) fn trace_fault(bytes: &[u8], stop: Stop) -> TextError
+    requires { IsTraceStop bytes.now stop }
     ensures memory { IsFaultOf stop result }
     ensures refused { ¬ (result.code ≡ TextCode.NoMemory) → IsTraceRefusal bytes.now result }
 {
@@ -36,6 +41,7 @@ pub(crate) fn trace_fault(bytes: &[u8], stop: Stop) -> TextError
 
 /// The fault of the line that begins where so many bytes are left, or of the header's line that is none.
 fn fault_at(bytes: &[u8], left: usize) -> TextError
+    requires { IsTraceLeft bytes.now left }
     ensures { IsTraceRefusal bytes.now result }
 {
     match head_at(bytes) {
@@ -59,7 +65,7 @@ fn fault_at(bytes: &[u8], left: usize) -> TextError
 /// What is wrong with the line that begins here, behind a header.
 fn code_at(rest: &[u8], head: &TraceHead) -> TextCode
     requires { IsTraceHead head.now }
-    ensures { IsLineCode result rest.now }
+    ensures { IsLineCode head.now result rest.now }
 {
     if !rest.contains(&b'\n') {
         TextCode::End
@@ -98,7 +104,7 @@ fn header_code(rest: &[u8]) -> TextCode
 /// Whether the first word of a line is that of a trace's line.
 fn is_known(line: &[u8]) -> bool
     requires { has_line_feed line.now ≡ true }
-    ensures { IsTrue result ↔ IsLineWord (first_word line.now) }
+    ensures { IsTrue result ↔ Contains line_words (first_word line.now) }
 {
     is_word(line, b"rvtl-trace")
         || is_word(line, b"T")
@@ -112,41 +118,59 @@ fn is_known(line: &[u8]) -> bool
 /// Whether a line that a trace with this header may have somewhere stands here.
 fn is_good(line: &[u8], head: &TraceHead) -> bool
     requires { IsTraceHead head.now }
+    ensures { IsTrue result ↔ IsTraceLine head.now (first_line line.now) }
 {
-    let found = if let Some(rest) = after(b"T ", line) {
-        after_head(rest, head)
-    } else if let Some(rest) = after(b"I ", line) {
-        after_image(rest, head)
-    } else if let Some(rest) = after(b"R ", line) {
-        after_retired(rest, head)
-    } else if let Some(rest) = after(b"P ", line) {
-        after_operation(rest, head)
-    } else if let Some(rest) = after(b"M ", line) {
-        after_logged(rest, head)
-    } else if let Some(rest) = after(b"H ", line) {
-        after_status(rest, head)
-    } else if let Some(rest) = after(b"rvtl-trace 1\n", line) {
-        Some(rest)
-    } else {
-        after(b"rvtl-trace 2\n", line)
-    };
-    found.is_some()
+    after_line(line, head).is_some()
 }
 
+/// What stands behind such a line.
+#[tactic(auto, unfolding(crate::specs::AnyLineReading::line_left))]
+fn after_line<'a>(line: &'a [u8], head: &TraceHead) -> Option<&'a [u8]>
+    requires { IsTraceHead head.now }
+    ensures { option_map (λ r. r.now) result ≡ line_left head.now line.now }
+{
+    if let Some(rest) = after(b"T ", line) {
+        return after_head(rest, head);
+    }
+    if let Some(rest) = after(b"I ", line) {
+        return after_image(rest, head);
+    }
+    if let Some(rest) = after(b"R ", line) {
+        return after_retired(rest, head);
+    }
+    if let Some(rest) = after(b"P ", line) {
+        return after_operation(rest, head);
+    }
+    if let Some(rest) = after(b"M ", line) {
+        return after_logged(rest, head);
+    }
+    if let Some(rest) = after(b"H ", line) {
+        return after_status(rest, head);
+    }
+    if let Some(rest) = after(b"rvtl-trace 1\n", line) {
+        return Some(rest);
+    }
+    after(b"rvtl-trace 2\n", line)
+}
+
+#[tactic(auto, unfolding(crate::specs::AnyLineReading::numbers_at))]
 fn after_head<'a>(fields: &'a [u8], head: &TraceHead) -> Option<&'a [u8]>
     requires { IsTraceHead head.now }
+    ensures { option_map (λ r. r.now) result ≡ left (numbers_at head.now fields.now) }
 {
-    let found = if is_first_version(head.harts as u64, head.line) {
-        first_numbers_at(fields)
+    if is_first_version(head.harts as u64, head.line) {
+        let (_, rest) = first_numbers_at(fields)?;
+        Some(rest)
     } else {
-        second_numbers_at(fields)
-    };
-    let (_, rest) = found?;
-    Some(rest)
+        let (_, rest) = second_numbers_at(fields)?;
+        Some(rest)
+    }
 }
 
+#[tactic(auto, unfolding(crate::specs::AnyLineReading::image_fields_at, crate::specs::TraceLines::word_field_at))]
 fn after_image<'a>(fields: &'a [u8], head: &TraceHead) -> Option<&'a [u8]>
     requires { IsTraceHead head.now }
+    ensures { option_map (λ r. r.now) result ≡ left (image_fields_at head.now fields.now) }
 {
     let (address, rest) = word_at(fields)?;
     let rest = after(b" ", rest)?;
@@ -160,8 +184,10 @@ fn after_image<'a>(fields: &'a [u8], head: &TraceHead) -> Option<&'a [u8]>
 }
 
 /// What stands behind the number of a hart.
+#[tactic(auto, unfolding(crate::specs::AnyLineReading::hart_at))]
 fn after_hart<'a>(fields: &'a [u8], head: &TraceHead) -> Option<&'a [u8]>
     requires { IsTraceHead head.now }
+    ensures { option_map (λ r. r.now) result ≡ left (hart_at head.now fields.now) }
 {
     let (hart, rest) = number_at(fields, b' ', 255)?;
     if (hart as usize) < head.harts {
@@ -171,8 +197,10 @@ fn after_hart<'a>(fields: &'a [u8], head: &TraceHead) -> Option<&'a [u8]>
     }
 }
 
+#[tactic(auto, unfolding(crate::specs::AnyLineReading::retired_fields_at))]
 fn after_retired<'a>(fields: &'a [u8], head: &TraceHead) -> Option<&'a [u8]>
     requires { IsTraceHead head.now }
+    ensures { option_map (λ r. r.now) result ≡ left (retired_fields_at head.now fields.now) }
 {
     let rest = after_hart(fields, head)?;
     let (_, rest) = retired_at(rest)?;
@@ -182,6 +210,7 @@ fn after_retired<'a>(fields: &'a [u8], head: &TraceHead) -> Option<&'a [u8]>
 #[tactic(auto, using(crate::proofs::TraceHeads::harts_small, crate::proofs::TraceHeads::some_hart))]
 fn after_operation<'a>(fields: &'a [u8], head: &TraceHead) -> Option<&'a [u8]>
     requires { IsTraceHead head.now }
+    ensures { option_map (λ r. r.now) result ≡ left (reads.operation_at head.now.harts fields.now) }
 {
     let (_, rest) = operation_at(fields, head.harts as u8)?;
     Some(rest)
@@ -190,13 +219,16 @@ fn after_operation<'a>(fields: &'a [u8], head: &TraceHead) -> Option<&'a [u8]>
 #[tactic(auto, using(crate::proofs::TraceHeads::harts_small, crate::proofs::TraceHeads::some_hart))]
 fn after_logged<'a>(fields: &'a [u8], head: &TraceHead) -> Option<&'a [u8]>
     requires { IsTraceHead head.now }
+    ensures { option_map (λ r. r.now) result ≡ left (reads.logged_at head.now.harts head.now.kib head.now.line fields.now) }
 {
     let (_, rest) = logged_at(fields, head.harts as u8, head.kib, head.line)?;
     Some(rest)
 }
 
+#[tactic(auto, unfolding(crate::specs::AnyLineReading::status_fields_at))]
 fn after_status<'a>(fields: &'a [u8], head: &TraceHead) -> Option<&'a [u8]>
     requires { IsTraceHead head.now }
+    ensures { option_map (λ r. r.now) result ≡ left (status_fields_at head.now fields.now) }
 {
     let rest = after_hart(fields, head)?;
     let (_, rest) = status_at(rest)?;

@@ -10,6 +10,7 @@ ghost use Rattle.trace_text.specs.TraceLimits.{IsTrace, IsReadAs, NoTextBeginsAn
 ghost use Rattle.trace_text.specs.TraceHeads.{IsTraceHead};
 ghost use Rattle.trace_text.specs.TraceRefusals.{IsTraceRefusal};
 ghost use Rattle.trace_text.specs.TraceSections as reads;
+ghost use Rattle.trace_text.specs.TraceStops.{IsMemoryStop, IsHartStop, IsEntriesStop, IsPerformedStop, IsLogStop, IsStatusesStop, IsTraceStop};
 ghost use Rattle.trace_text.specs.Traces.{text};
 ghost use Rattle.trace_text.specs.Widths.{IsWidth};
 
@@ -31,7 +32,8 @@ use trace_recorder::{Logged, OpId, Trace};
 fn image_of(alloc: Global, bytes: &[u8], size: u32, width: u32) -> Result<(Vec<u8>, &[u8]), Stop>
     requires size { IsMemorySize size }
     requires width { IsWidth width }
-    ensures { Gives (λ x. (x.0.items, x.1.now)) result (reads.image_lines_at width (size / width) base bytes.now) }
+    ensures value { Gives (λ x. (x.0.items, x.1.now)) result (reads.image_lines_at width (size / width) base bytes.now) }
+    ensures stop { IfErr result (IsMemoryStop width size bytes.now) }
 {
     let Ok(mut image) = vec![in alloc; 0u8; size as usize] else {
         return Err(Stop::Memory { left: bytes.len() });
@@ -60,7 +62,8 @@ fn hart_lead(first: u8, hart: u8) -> [u8; 4]
 /// A hart's retired instructions.
 fn retired_of(alloc: Global, bytes: &[u8], hart: u8) -> Result<(Vec<Retired>, &[u8]), Stop>
     requires { hart < 8 }
-    ensures { Gives (λ x. (x.0.items, x.1.now)) result (reads.entries_at hart bytes.now) }
+    ensures value { Gives (λ x. (x.0.items, x.1.now)) result (reads.entries_at hart bytes.now) }
+    ensures stop { IfErr result (IsHartStop hart bytes.now) }
 {
     let lead = hart_lead(b'R', hart);
     let mut entries = Vec::new(alloc);
@@ -83,7 +86,8 @@ fn retired_of(alloc: Global, bytes: &[u8], hart: u8) -> Result<(Vec<Retired>, &[
 /// Each hart's retired instructions.
 fn entries_of(alloc: Global, bytes: &[u8], harts: u8) -> Result<(Vec<Vec<Retired>>, &[u8]), Stop>
     requires { harts ≤ MAX_HARTS }
-    ensures { Gives (λ x. (map (λ v. v.items) x.0.items, x.1.now)) result (numbered_at reads.entries_at harts 0 bytes.now) }
+    ensures value { Gives (λ x. (map (λ v. v.items) x.0.items, x.1.now)) result (numbered_at reads.entries_at harts 0 bytes.now) }
+    ensures stop { IfErr result (IsEntriesStop harts bytes.now) }
 {
     let mut lists = Vec::new(alloc);
     let mut rest = bytes;
@@ -103,7 +107,8 @@ fn entries_of(alloc: Global, bytes: &[u8], harts: u8) -> Result<(Vec<Vec<Retired
 fn performed_of(alloc: Global, bytes: &[u8], harts: u8) -> Result<(Vec<OpId>, &[u8]), Stop>
     requires some { 0 < harts }
     requires few { harts ≤ MAX_HARTS }
-    ensures { Gives (λ x. (x.0.items, x.1.now)) result (reads.performed_at harts bytes.now) }
+    ensures value { Gives (λ x. (x.0.items, x.1.now)) result (reads.performed_at harts bytes.now) }
+    ensures stop { IfErr result (IsPerformedStop harts bytes.now) }
 {
     let mut performed = Vec::new(alloc);
     let mut rest = bytes;
@@ -126,7 +131,8 @@ fn log_of<'a>(
     head: &TraceHead,
 ) -> Result<(Vec<Logged>, &'a [u8]), Stop>
     requires { IsTraceHead head.now }
-    ensures { Gives (λ x. (x.0.items, x.1.now)) result (reads.log_at head.now bytes.now) }
+    ensures value { Gives (λ x. (x.0.items, x.1.now)) result (reads.log_at head.now bytes.now) }
+    ensures stop { IfErr result (IsLogStop head.now bytes.now) }
 {
     let harts = head.harts as u8;
     let mut log = Vec::new(alloc);
@@ -157,7 +163,8 @@ fn status_line_at(bytes: &[u8], hart: u8) -> Option<(Status, &[u8])>
 /// Each hart's status.
 fn statuses_of(alloc: Global, bytes: &[u8], harts: u8) -> Result<(Vec<Status>, &[u8]), Stop>
     requires { harts ≤ MAX_HARTS }
-    ensures { Gives (λ x. (x.0.items, x.1.now)) result (numbered_at reads.status_line_at harts 0 bytes.now) }
+    ensures value { Gives (λ x. (x.0.items, x.1.now)) result (numbered_at reads.status_line_at harts 0 bytes.now) }
+    ensures stop { IfErr result (IsStatusesStop harts bytes.now) }
 {
     let mut statuses = Vec::new(alloc);
     let mut rest = bytes;
@@ -175,7 +182,8 @@ fn statuses_of(alloc: Global, bytes: &[u8], harts: u8) -> Result<(Vec<Status>, &
 
 #[tactic(auto, unfolding(crate::specs::TraceSections::trace_at))]
 fn trace_of(alloc: Global, bytes: &[u8]) -> Result<(Trace, &[u8]), Stop>
-    ensures { Gives (λ x. (x.0.history, x.1.now)) result (reads.trace_at bytes.now) }
+    ensures value { Gives (λ x. (x.0.history, x.1.now)) result (reads.trace_at bytes.now) }
+    ensures stop { IfErr result (IsTraceStop bytes.now) }
 {
     let Some((head, rest)) = head_at(bytes) else {
         return Err(Stop::Bytes { left: bytes.len() });
@@ -209,7 +217,7 @@ pub fn read_trace(alloc: Global, bytes: &[u8]) -> Result<(Trace, usize), TextErr
     ensures count { IfOk result (λ x. x.1 ≡ length (text x.0.history)) }
     // What a trace is spelled is read as that trace, whatever follows it, unless memory runs out.
     ensures only { (t : History) (more : List ℕ) → IsTrace t → bytes.now ≡ text t ++ more → ¬ IsNoMemory result → IsReadAs t result }
-    // The fault names a line by the line feeds before it, and says what is wrong there, unless memory runs out.
+    // The fault names the first line with which the text begins no trace any more, and says why, unless memory runs out.
     ensures refused { ¬ IsNoMemory result → IfErr result (IsTraceRefusal bytes.now) }
 {
     counted(alloc, bytes)

@@ -9,4 +9,4 @@ returns-in-None c =
 pub returns-in-Some : goal.returns-in-Some
 returns-in-Some c =
     refused_behind c.args.bytes.now c.in-Some.head _ c.args.left c.line_at-line-in-Some.result.0 c.line_at-line-in-Some.result.1.now c.code_at.result
-    c.in-Some.ensures.value c.line_at-line-in-Some.ensures.fits c.line_at-line-in-Some.ensures.line c.line_at-line-in-Some.ensures.rest c.code_at.ensures
+    c.in-Some.ensures.value c.requires c.line_at-line-in-Some.ensures.fits c.line_at-line-in-Some.ensures.line c.line_at-line-in-Some.ensures.rest c.code_at.ensures

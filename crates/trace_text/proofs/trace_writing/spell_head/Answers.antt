@@ -1,4 +1,4 @@
-use Rattle.std.proofs.Common.{◌≡◌, ℕ, List, [], ◌∷◌, ◌++◌, append_assoc, ap, sym, ◌∙◌, true, false}
+use Rattle.std.proofs.Common.{◌≡◌, ℕ, List, [], ◌∷◌, ◌++◌, append_assoc, sym, ◌∙◌, true, false}
 use Rattle.std.specs.Prelude.{codes}
 use Rattle.text_fields.specs.Fields.{number, word}
 use Rattle.tl_types.specs.Line.{length_of}
