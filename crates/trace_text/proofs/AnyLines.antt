@@ -1,10 +1,9 @@
 -- A line is read as some line of a trace with a header exactly where it is one.
-use Rattle.std.proofs.Common.{◌≡◌, ℕ, ◌+◌, ◌*◌, ◌%◌, ◌^◌, ◌<◌, ◌≤◌, Bool, ◌&&◌, true, false, cond, eqb, leb, ltb, List, [], ◌∷◌, ◌++◌, Option, Some, None, refl, sym, ap, subst, ◌∙◌, append_assoc, arith, inl, inr}
+use Rattle.std.proofs.Common.{◌≡◌, ℕ, ◌+◌, ◌*◌, ◌%◌, ◌^◌, ◌<◌, ◌≤◌, Bool, ◌&&◌, true, false, cond, eqb, leb, ltb, List, [], ◌∷◌, ◌++◌, Option, Some, None, refl, sym, ap, ◌∙◌, append_assoc, arith, inl, inr}
 use Rattle.std.specs.Prelude.{codes, IsTrue, ◌↔◌}
 use Rattle.std.specs.Option.{option_map, is_some}
 use Rattle.std.proofs.lemmas.Bool.{ltb-true, lt-ltb}
 use Rattle.std.proofs.lemmas.Option.{none-some}
-use Rattle.machine_limits.specs.declared.TheConstants.{MAX_HARTS}
 use Rattle.elf_loader.specs.Size.{base}
 use Rattle.hart.specs.declared.retired.Retired.{Retired}
 use Rattle.hart.specs.declared.status.Status.{Status}
@@ -20,7 +19,7 @@ use Rattle.trace_text.specs.Refusals.{has_line_feed}
 use Rattle.trace_text.specs.Scripts.{is_first_version}
 use Rattle.trace_text.specs.TraceHeads.{IsTraceHead}
 use Rattle.trace_text.specs.TraceLimits.{IsRetired, IsData, IsStatus}
-use Rattle.trace_text.specs.TraceLines.{first_numbers_at, second_numbers_at, word_field_at, retired_at, operation_at, is_line, logged_at, status_at}
+use Rattle.trace_text.specs.TraceLines.{first_numbers_at, second_numbers_at, word_field_at, operation_at, is_line, logged_at}
 use Rattle.trace_text.specs.TraceRefusals.{first_line}
 use Rattle.trace_text.specs.Traces.{head, any_set, image_line, retired_text, status_word}
 use Rattle.trace_text.proofs.FirstLines.{IsLine, first_whole, first_parts, line_behind, line_ended}
@@ -28,7 +27,7 @@ use Rattle.trace_text.proofs.HeadLaws.{first_numbers, second_numbers, first_read
 use Rattle.trace_text.proofs.HeaderLines.{same_behind}
 use Rattle.trace_text.proofs.ImageLaws.{line_set}
 use Rattle.trace_text.proofs.LineFeeds.{plain_number, word_field, data_line, retired_line, operation_line, logged_line, status_word_line, first_numbers_line, second_numbers_line}
-use Rattle.trace_text.proofs.TraceLaws.{op, operation_reads, retired_reads, digits_of, data_reads, logged_reads, status_reads}
+use Rattle.trace_text.proofs.TraceLaws.{operation_reads, retired_reads, digits_of, data_reads, logged_reads, status_reads}
 
 -- ---- one kind of line
 

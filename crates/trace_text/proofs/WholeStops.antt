@@ -1,5 +1,5 @@
 -- A trace stops where one of its sections does.
-use Rattle.std.proofs.Common.{◌≡◌, ℕ, ◌*◌, ◌/◌, List, [], ◌++◌, length, Some, None, refl, sym, ap, subst, ◌∙◌, append_assoc, arith, inl, inr}
+use Rattle.std.proofs.Common.{◌≡◌, ℕ, ◌*◌, ◌/◌, List, [], ◌++◌, length, Some, refl, sym, ap, subst, ◌∙◌, append_assoc, arith, inr}
 use Rattle.std.specs.Prelude.{replicate, Result, Ok, Err, IfErr, IsErrAnd}
 use Rattle.std.specs.List.{flat_map, AllByRecursion}
 use Rattle.std.proofs.lemmas.List.{length-replicate}
@@ -181,6 +181,3 @@ statuses_stop bytes h t r1 m r2 e r3 p r4 l r5 (stops.Bytes left) read_head read
 pub stops_with : {T : Type 0} (bytes : List ℕ) (r : Result T Stop) (stop : Stop) → IsErrAnd r (λ y. y ≡ stop) → IsTraceStop bytes stop → IfErr r (IsTraceStop bytes)
 stops_with bytes (Ok x) stop e h = tt
 stops_with bytes (Err y) stop e h = subst (IsTraceStop bytes) (sym e) h
-
-pub no_head_stops : (bytes : List ℕ) → head_at bytes ≡ None → IsTraceLeft bytes (length bytes)
-no_head_stops bytes none = inl none

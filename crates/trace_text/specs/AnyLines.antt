@@ -13,7 +13,7 @@ use Rattle.trace_text.specs.TraceLimits.{IsRetired, IsOperation, IsData, IsLogge
 use Rattle.trace_text.specs.TraceLines.{is_line}
 use Rattle.trace_text.specs.Traces.{head, any_set, image_line, retired_lead, retired_text, operation, logged, status}
 
--- a trace's first line
+-- a trace's first line, of either version
 abbrev pub IsVersion : List ℕ → Type 0
 IsVersion line = (line ≡ codes "rvtl-trace 1\n") ⊎ (line ≡ codes "rvtl-trace 2\n")
 
@@ -37,5 +37,6 @@ IsLoggedLine h line = (l : Logged) × IsLogged h l × (line ≡ logged l)
 abbrev pub IsStatusLine : TraceHead → List ℕ → Type 0
 IsStatusLine h line = (hart : ℕ) × (s : Status) × (hart < h.harts) × IsStatus s × (line ≡ status hart s)
 
+-- A line that a trace with this header may have somewhere. A header's line counts though it is another header's: the first of either version, the second of the same.
 abbrev pub IsTraceLine : TraceHead → List ℕ → Type 0
 IsTraceLine h line = IsVersion line ⊎ IsNumbersLine h line ⊎ IsImageLine h line ⊎ IsRetiredLine h line ⊎ IsOperationLine h line ⊎ IsLoggedLine h line ⊎ IsStatusLine h line
