@@ -5,7 +5,7 @@ use Rattle.std.proofs.lemmas.Fmt.{decimal_injective}
 use Rattle.std.proofs.lemmas.List.{append_cancel_left, append_cancel_right, append_assoc, append-nil, drop_more, length-append, length-drop, take-append-drop}
 use Rattle.std.proofs.lemmas.List.Elements.{All-head, All-tail}
 use Rattle.std.proofs.lemmas.List.Sums.{fold-append}
-use Rattle.architecture_command.specs.Keeping.{AreWaysKept, IsFileIn, IsFileOf, IsWayFile, IsWayKeptAt, file_path, trace_path}
+use Rattle.architecture_command.specs.Keeping.{AreWaysKept, IsFileIn, IsFileInNamed, IsWayFile, IsWayKeptAt, file_path, trace_path}
 use Rattle.architecture_outcomes.specs.declared.outcome.Outcome.{Outcome}
 use Rattle.architecture_outcomes.specs.declared.outcome.Way.{Way}
 use Rattle.architecture_outcomes.specs.declared.outcome.Way.TheVariants.{Machine, Model, ModelAlone}
@@ -108,7 +108,7 @@ way_in number [] folder name is = absurd is
 way_in number (o ∷ os) folder name (inl is) = is_file folder name number o.way is
 way_in number (o ∷ os) folder name (inr later) = way_in (number + 1) os folder name later
 
-pub way_file : (outcomes : List Outcome) (folder : Option (Bor FileName)) (name : FileName) → IsInNamed folder (IsWayFile 1 outcomes) name → IsFileOf folder name
+pub way_file : (outcomes : List Outcome) (folder : Option (Bor FileName)) (name : FileName) → IsInNamed folder (IsWayFile 1 outcomes) name → IsFileInNamed folder name
 way_file outcomes None name is = absurd is
 way_file outcomes (Some folder) name is = way_in 1 outcomes folder.now name is
 

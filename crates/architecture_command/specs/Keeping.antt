@@ -8,7 +8,7 @@ use Rattle.command_files.specs.Files.{HoldsScript, HoldsTrace}
 use Rattle.command_files.specs.Contents.{Contents}
 use Rattle.command_files.specs.Sizes.{script_named}
 use Rattle.command_settings.specs.declared.wanted.MachineOptions.{MachineOptions}
-use Rattle.explore_command.specs.Keeping.{FileName, outcome_path}
+use Rattle.explore_command.specs.Keeping.{FileName, IsInNamed, outcome_path}
 use Rattle.explorer.specs.declared.found.Realisation.TheVariants.{Events, Limit, NoMemory, Unrealised}
 use Rattle.trace_text.specs.TraceLimits.{IsTrace}
 
@@ -51,6 +51,5 @@ IsWayFile number (o ∷ rest) folder name = (name ≡ file_path folder number o.
 abbrev pub IsFileIn : FileName → FileName → Type 0
 IsFileIn folder name = ((number : ℕ) × (name ≡ outcome_path folder number)) ⊎ ((number : ℕ) × (name ≡ trace_path folder number))
 
-abbrev pub IsFileOf : Option (Bor FileName) → FileName → Type 0
-IsFileOf None name = ⊥
-IsFileOf (Some folder) name = IsFileIn folder.now name
+abbrev pub IsFileInNamed : Option (Bor FileName) → FileName → Type 0
+IsFileInNamed folder name = IsInNamed folder IsFileIn name

@@ -16,7 +16,7 @@ GrowsBy old new P = (added : List ℕ) × (new ≡ old ++ added) × P added
 abbrev pub IsRemark : ℕ → List ℕ → Type 0
 IsRemark number line = (remark : List ℕ) × (line ≡ codes "outcome " ++ (decimal number ++ (codes ": " ++ (remark ++ codes "\n"))))
 
--- a line for each two operations of which one overtakes the other
+-- a line for each operation that overtakes one
 abbrev pub AreRemarks : ℕ → List Overtaking → List ℕ → Type 0
 AreRemarks number [] text = text ≡ []
 AreRemarks number (pair ∷ rest) text = (line : List ℕ) × (more : List ℕ) × (text ≡ line ++ more) × IsRemark number line × AreRemarks number rest more

@@ -1,7 +1,7 @@
 //! `rvtl explore --architecture`: what a memory model allows a program is sought, told, kept and judged.
 
 ghost use Rattle.std.specs.Prelude.{◌≡◌, ◌<◌, Err, IfErr, IfOk, OnErr, OnOk};
-ghost use Rattle.architecture_command.specs.Keeping.{IsFileOf};
+ghost use Rattle.architecture_command.specs.Keeping.{IsFileInNamed};
 ghost use Rattle.architecture_command.specs.Searching.{IsSearchFault, IsSearchNoted, IsSearched, SearchHas};
 ghost use Rattle.architecture_command.specs.Telling.{AreRemarked};
 ghost use Rattle.command_files.specs.Sizes.{IsOutside};
@@ -24,8 +24,8 @@ use text_fields::put;
 /// Judges the machine's size, reads what is allowed, then the image, looks for the words of memory that are to be shown,
 /// of which there need be none, searches for what the memory model allows with at most `window` operations of a hart
 /// waiting at a time, prints what is found on `out`, writes scripts and traces, and judges the outcomes: `err` tells how
-/// the traces that are written leave program order, and which outcomes aren't allowed. Where memory ends, what was found
-/// is printed, written and judged all the same. While it searches, `progress` is told how far it is.
+/// the traces of what the model alone allows leave program order, where they are written, and which outcomes aren't
+/// allowed. Where memory ends, what was found is printed, written and judged all the same. While it searches, `progress` is told how far it is.
 pub fn architecture_files<'a, F: Files, O: Write, E: Write, P: Progress>(
     alloc: Global,
     files: &mut F,
@@ -42,7 +42,7 @@ pub fn architecture_files<'a, F: Files, O: Write, E: Write, P: Progress>(
     ensures told { IfErr result (IsSearchFault (F.held files.old) wanted.entry words.now) }
     ensures unfinished { IfErr result (λ fault. LeavesPart fault (O.contents out.old) (O.contents out.new)
         (SearchHas (F.held files.old) wanted.entry words.now window)) }
-    ensures spared { SparesOthers (IsFileOf wanted.entry.scripts) (F.held files.old) (F.held files.new) }
+    ensures spared { SparesOthers (IsFileInNamed wanted.entry.scripts) (F.held files.old) (F.held files.new) }
     ensures untouched { IfErr result (λ fault. ComesBeforeScripts fault → F.held files.new ≡ F.held files.old) }
     ensures noted { IfOk result (λ judgement. IsSearchNoted (F.held files.old) wanted.entry words.now window judgement (O.contents out.old) (O.contents out.new) (E.contents err.old) (E.contents err.new)) }
     ensures silent { IfErr result (λ fault. ComesBeforeJudging fault → E.contents err.new ≡ E.contents err.old) }

@@ -66,13 +66,13 @@ IsWitnessedBy image config addresses o (Model trace) = IsTraced image config add
 abbrev pub IsWitnessed : Initial → Config → (addresses : List ℕ) → Outcome → Type 0
 IsWitnessed image config addresses o = IsWitnessedBy image config addresses o o.way
 
--- it says whether the machine comes to the outcome
+-- it is told as the machine's, or as the model's alone
 abbrev pub IsDecided : Way → Type 0
 IsDecided (Machine script) = Unit {0}
 IsDecided (ModelAlone trace) = Unit {0}
 IsDecided (Model trace) = ⊥
 
--- it says that the machine comes to the outcome
+-- it is told as the machine's
 abbrev pub IsMachine : Way → Type 0
 IsMachine (Machine script) = Unit {0}
 IsMachine (ModelAlone trace) = ⊥

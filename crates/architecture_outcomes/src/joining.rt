@@ -47,8 +47,8 @@ impl<W: Watch> Watch for Behind<'_, W> {
 }
 
 /// Finds the outcomes that the machine comes to, and searches for those that its memory model allows, with at most
-/// `window` operations of a hart waiting at a time (64 where that is more), until either search has found as many
-/// states as the limit, or memory ends. Meanwhile `watch` is told how far they are. An outcome shows the words of memory
+/// `window` operations of a hart waiting at a time (64 where that is more), each until it has found as many states as
+/// the limit, or memory ends. Meanwhile `watch` is told how far they are. An outcome shows the words of memory
 /// at these addresses, in their order, behind all operations. What was found then stands. Nothing is known of outcomes
 /// that the model allows and that aren't told. The error is that there was no memory to begin with, or none for the
 /// list of what was found.

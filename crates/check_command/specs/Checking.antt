@@ -76,7 +76,7 @@ pub record GoOnBehindATrace (bytes : List ℕ) : Type 0 where
   pub whole : bytes ≡ text trace ++ more
   pub longer : more ≢ []
 
--- the bytes of the file aren't a trace's text: they begin with none, or go on behind it
+-- the bytes of the file aren't a trace's text: they begin with none, or go on behind it; or memory ran out
 abbrev pub IsTraceFault : List ℕ → Name → Fault → Type 0
 IsTraceFault bytes name fault =
     ((error : TextError) × (fault ≡ Text name error) × IsNoTraceText bytes error) ⊎ ((fault ≡ BytesAfterTrace name) × GoOnBehindATrace bytes) ⊎ (fault ≡ OutOfMemory)

@@ -69,7 +69,7 @@ IsLoadFault is_raw bytes name kib (Image file error) = (file ≡ name) × (image
 IsLoadFault is_raw bytes name kib OutOfMemory = Unit {0}
 IsLoadFault is_raw bytes name kib _ = ⊥
 
--- or what it holds is no image, for the cause that is told
+-- the file can't be read, memory ran out, or what it holds is no image, for the cause that is told
 abbrev pub IsImageFault : Contents → Bool → Name → ℕ → Fault → Type 0
 IsImageFault held is_raw name kib (Image file error) = (file ≡ name) × IsNoImage held is_raw name.now kib error
 IsImageFault held is_raw name kib fault = IsReadFault name fault

@@ -1,7 +1,7 @@
 //! How harts ended, as lines.
 
 ghost use Rattle.std.specs.Prelude.{map};
-ghost use Rattle.command_files.specs.Ends.{end_line, end_lines};
+ghost use Rattle.command_files.specs.Ends.{hart_line, hart_lines};
 ghost use Rattle.text_fields.specs.Writing.{Writes};
 
 use hart::Status;
@@ -16,7 +16,7 @@ pub fn print_ends<E: Write>(
     outputs: &[Vec<u32>],
     err: &mut E,
 ) -> io::Result<()>
-    ensures { Writes (E.contents err.old) (E.contents err.new) (end_lines 0 statuses.now (map (λ output. output.items) outputs.now)) result }
+    ensures { Writes (E.contents err.old) (E.contents err.new) (hart_lines 0 statuses.now (map (λ output. output.items) outputs.now)) result }
 {
     let mut hart = 0;
     let mut left = statuses;
@@ -34,7 +34,7 @@ pub fn print_ends<E: Write>(
 }
 
 fn print_end<E: Write>(hart: usize, status: Status, output: &[u32], err: &mut E) -> io::Result<()>
-    ensures { Writes (E.contents err.old) (E.contents err.new) (end_line hart status output.now) result }
+    ensures { Writes (E.contents err.old) (E.contents err.new) (hart_line hart status output.now) result }
 {
     put_end(hart, status, output, err)?;
     put(err, b"\n")

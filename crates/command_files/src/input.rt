@@ -60,7 +60,7 @@ impl<F: Read + Drop, I: Read + Drop> Read for Source<F, I> {
                 Ok(count)
             }
             None => {
-                let message = "it has more than 2 GiB, and no text or image is so long";
+                let message = "it has more than 2 GiB, and no more is read";
                 Err(io::Error::new(ErrorKind::InvalidData, message))
             }
         }

@@ -9,7 +9,7 @@ use Rattle.explore_command.specs.Judging.{IsToldBy}
 use Rattle.explore_command.specs.Keeping.{IsScriptFile}
 use Rattle.explore_command.specs.declared.judging.Judgement.{Judgement}
 use Rattle.explore_command.specs.declared.judging.Judgement.TheVariants.{Allowed, NotAllowed}
-use Rattle.architecture_command.specs.Keeping.{IsFileOf}
+use Rattle.architecture_command.specs.Keeping.{IsFileInNamed}
 use Rattle.architecture_command.specs.Searching.{IsSearchNoted, IsSearched, SearchHas}
 use Rattle.sample_command.specs.Sampling.{IsSampleTold, SampleHas, SampleRefusals}
 use Rattle.show_command.specs.Showing.{AreWordsShown, IsElsewhere, WordRefusals, WordsHave}
@@ -92,7 +92,7 @@ ShowsElsewhere false explore = IsElsewhere explore
 
 -- the file is one that shows an outcome, or how the program gets stuck
 abbrev pub IsExploreFile : (architecture : Bool) → Seeking → Text → Type 0
-IsExploreFile true explore = IsFileOf explore.scripts
+IsExploreFile true explore = IsFileInNamed explore.scripts
 IsExploreFile false explore = IsScriptFile explore.scripts
 
 -- the script was replayed and its trace printed, or what each of its events did and, where that is wanted, what the machine holds at the end, or a picture of it; the program ran and its journal was kept and its trace printed; it was explored and each outcome is allowed; or the trace's order is legal, or its messages
@@ -194,13 +194,13 @@ MeetsSomeState (Explore explore) = 0 < explore.states
 MeetsSomeState (Show show) = 0 < show.explore.states
 MeetsSomeState _ = Unit {0}
 
--- the file is the journal of a run, or shows an outcome of an exploration
+-- the file is the journal of a run, or shows an outcome of an exploration, or how it gets stuck
 abbrev pub IsWritten : Text → Settings → Type 0
 IsWritten name (Run run) = name ≡ run.journal.now
 IsWritten name (Explore explore) = IsExploreFile explore.architecture explore name
 IsWritten name (Show show) = IsExploreFile show.explore.architecture show.explore name
 IsWritten name _ = ⊥
 
--- no file but the journal or the scripts of what the words name is another than before
+-- no file but the journal, or the scripts and traces, of what the words name is another than before
 abbrev pub Spares : List Text → Contents → Contents → Type 0
 Spares words held left = (name : Text) → left name ≢ held name → HasNamed words (IsWritten name)

@@ -131,7 +131,7 @@ pub(crate) const SHOW_HELP: &str =
     "show the word of memory at this address (decimal, or hexadecimal behind 0x) or symbol in each outcome, which then ends only once no store waits; may be given again";
 
 pub(crate) const SCRIPTS_HELP: &str =
-    "the folder, which has to exist, to write outcome-1.script .. and stuck.script into, each for replay; and outcome-1.trace .., each for check, of outcomes that this machine can't show. Other files there stay, also those of an earlier search";
+    "the folder, which has to exist, to write outcome-1.script .. and stuck.script into, each for replay; and outcome-1.trace .., each for check, of outcomes that this machine wasn't found to show. Other files there stay, also those of an earlier search";
 
 pub(crate) const ALLOW_HELP: &str =
     "the file with the allowed outcomes, a line each as printed, with or without its number; where another is found its number is told and the status is 3";

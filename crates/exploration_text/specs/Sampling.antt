@@ -6,14 +6,14 @@ use Rattle.flat_model.specs.Shown.{HartEnd}
 use Rattle.sampler.specs.declared.sampled.Sampled.{Sampled}
 
 -- an end's number, how many runs came to it, and how each hart ended
-abbrev pub end_line : (number times : ℕ) → List HartEnd → List ℕ
-end_line number times outcome = decimal number ++ (codes "  " ++ (decimal times ++ (harts_text 0 outcome ++ codes "\n")))
+abbrev pub counted_line : (number times : ℕ) → List HartEnd → List ℕ
+counted_line number times outcome = decimal number ++ (codes "  " ++ (decimal times ++ (harts_text 0 outcome ++ codes "\n")))
 
 -- counted from a number on
-abbrev pub end_lines : ℕ → List (List HartEnd) → List ℕ → List ℕ
-end_lines number [] _ = []
-end_lines number (o ∷ os) [] = []
-end_lines number (o ∷ os) (n ∷ ns) = end_line number n o ++ end_lines (number + 1) os ns
+abbrev pub counted_lines : ℕ → List (List HartEnd) → List ℕ → List ℕ
+counted_lines number [] _ = []
+counted_lines number (o ∷ os) [] = []
+counted_lines number (o ∷ os) (n ∷ ns) = counted_line number n o ++ counted_lines (number + 1) os ns
 
 abbrev pub unended_line : ℕ → List ℕ
 unended_line zero = []
@@ -23,4 +23,4 @@ abbrev pub runs_line : ℕ → List ℕ
 runs_line runs = codes "sampled: " ++ (decimal runs ++ codes " runs, not complete\n")
 
 abbrev pub sampled_text : Sampled → List ℕ
-sampled_text s = end_lines 1 (outcomes_of s.ends.items) s.times.items ++ (unended_line s.unended ++ runs_line s.runs)
+sampled_text s = counted_lines 1 (outcomes_of s.ends.items) s.times.items ++ (unended_line s.unended ++ runs_line s.runs)

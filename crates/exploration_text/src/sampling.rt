@@ -9,7 +9,7 @@ use sampler::Sampled;
 use std::alloc::{AllocError, Global};
 
 fn spell_end(into: &mut Vec<u8>, number: usize, times: u64, end: &Found) -> Result<(), AllocError>
-    ensures { OnOk result (into.new.items ≡ into.old.items ++ text.end_line number times (outcome_of end.now)) }
+    ensures { OnOk result (into.new.items ≡ into.old.items ++ text.counted_line number times (outcome_of end.now)) }
 {
     spell_number(into, number as u64)?;
     into.extend_from_slice(b"  ")?;
@@ -20,7 +20,7 @@ fn spell_end(into: &mut Vec<u8>, number: usize, times: u64, end: &Found) -> Resu
 }
 
 fn spell_ends(into: &mut Vec<u8>, ends: &[Found], times: &[u64]) -> Result<(), AllocError>
-    ensures { OnOk result (into.new.items ≡ into.old.items ++ text.end_lines 1 (outcomes_of ends.now) times.now) }
+    ensures { OnOk result (into.new.items ≡ into.old.items ++ text.counted_lines 1 (outcomes_of ends.now) times.now) }
 {
     let mut rest = ends;
     let mut counts = times;

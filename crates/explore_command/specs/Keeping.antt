@@ -40,10 +40,6 @@ AreKept left machine folder e = AreKeptFrom left machine folder 1 e.outcomes.ite
 abbrev pub IsScriptIn : FileName → FileName → Type 0
 IsScriptIn folder name = ((number : ℕ) × (name ≡ outcome_path folder number)) ⊎ (name ≡ stuck_path folder)
 
-abbrev pub IsScriptFile : Option (Bor FileName) → FileName → Type 0
-IsScriptFile None name = ⊥
-IsScriptFile (Some folder) name = IsScriptIn folder.now name
-
 -- the file is the script of one of so many outcomes
 abbrev pub IsOutcomeScript : (count : ℕ) (folder name : FileName) → Type 0
 IsOutcomeScript count folder name = (i : ℕ) × (i < count) × (name ≡ outcome_path folder (i + 1))
@@ -56,6 +52,9 @@ IsScriptOf count stuck folder name = IsOutcomeScript count folder name ⊎ (IsSo
 abbrev pub IsInNamed : Option (Bor FileName) → (FileName → FileName → Type 0) → FileName → Type 0
 IsInNamed None IsIn name = ⊥
 IsInNamed (Some folder) IsIn name = IsIn folder.now name
+
+abbrev pub IsScriptFile : Option (Bor FileName) → FileName → Type 0
+IsScriptFile folder name = IsInNamed folder IsScriptIn name
 
 -- no other file is another than before
 abbrev pub SparesOthers : (FileName → Type 0) → Contents → Contents → Type 0

@@ -23,7 +23,7 @@ address_at s (Evict h line) = Some line
 address_at s (Deliver channel h) = None
 address_at s (Local h count) = None
 
--- how many bytes a line of memory has
+-- a number of bytes that isn't 0
 abbrev pub IsLineWidth : ℕ → Type 0
 IsLineWidth width = 0 < width
 

@@ -13,7 +13,7 @@ use Rattle.explorer.specs.Ranks.{outcome_cmp}
 use Rattle.flat_model.specs.Shown.{HartEnd, results}
 use Rattle.machine_types.specs.declared.config.Config.{Config}
 use Rattle.machine_types.specs.declared.event.Event.{Event}
-use Rattle.sampler.specs.Sampled.{AreCounted, IsRealEnd, IsSampledRun, IsShort, LeadsToEnd, all_ended, ends_led, is_outcome_of, numbered, times_of}
+use Rattle.sampler.specs.Sampled.{AreCounted, IsRealEnd, IsSampledRun, IsShort, LeadsToEnd, all_ended, ends_led, is_outcome_of, with_times, times_of}
 use Rattle.schedules.specs.Schedules.{led}
 
 -- equal as code finds it
@@ -115,18 +115,18 @@ on_ok P (Err e) is so = absurd (true≢false is)
 
 -- ---- a list of ends beside one of numbers
 
-pub numbered_push : (fs : List Found) (ns : List ℕ) (f : Found) (n : ℕ) → length ns ≡ length fs → numbered (fs ++ f ∷ []) (ns ++ n ∷ []) ≡ numbered fs ns ++ (f, n) ∷ []
+pub numbered_push : (fs : List Found) (ns : List ℕ) (f : Found) (n : ℕ) → length ns ≡ length fs → with_times (fs ++ f ∷ []) (ns ++ n ∷ []) ≡ with_times fs ns ++ (f, n) ∷ []
 numbered_push [] [] f n e = refl
 numbered_push [] (m ∷ ns) f n e = absurd (omega (arith, e))
 numbered_push (g ∷ fs) [] f n e = absurd (omega (arith, e))
 numbered_push (g ∷ fs) (m ∷ ns) f n e = ap (λ es. (g, m) ∷ es) (numbered_push fs ns f n (omega (arith, e)))
 
-pub ends_of : (fs : List Found) (ns : List ℕ) → length ns ≡ length fs → keys_of (numbered fs ns) ≡ fs
+pub ends_of : (fs : List Found) (ns : List ℕ) → length ns ≡ length fs → keys_of (with_times fs ns) ≡ fs
 ends_of [] ns e = refl
 ends_of (f ∷ fs) [] e = absurd (omega (arith, e))
 ends_of (f ∷ fs) (n ∷ ns) e = ap (λ es. f ∷ es) (ends_of fs ns (omega (arith, e)))
 
-pub numbers_of : (fs : List Found) (ns : List ℕ) → length ns ≡ length fs → values_of (numbered fs ns) ≡ ns
+pub numbers_of : (fs : List Found) (ns : List ℕ) → length ns ≡ length fs → values_of (with_times fs ns) ≡ ns
 numbers_of [] [] e = refl
 numbers_of [] (n ∷ ns) e = absurd (omega (arith, e))
 numbers_of (f ∷ fs) [] e = absurd (omega (arith, e))

@@ -40,10 +40,10 @@ abbrev pub is_outcome_of : Found → List HartEnd → Bool
 is_outcome_of found outcome = is_eq (outcome_cmp outcome (outcome_of found))
 
 -- each end with its number
-abbrev pub numbered : List Found → List ℕ → List (Found × ℕ)
-numbered [] _ = []
-numbered (f ∷ fs) [] = []
-numbered (f ∷ fs) (n ∷ ns) = (f, n) ∷ numbered fs ns
+abbrev pub with_times : List Found → List ℕ → List (Found × ℕ)
+with_times [] _ = []
+with_times (f ∷ fs) [] = []
+with_times (f ∷ fs) (n ∷ ns) = (f, n) ∷ with_times fs ns
 
 -- the number that stands with an end, or 0
 abbrev pub times_of : Found → List (Found × ℕ) → ℕ
@@ -86,7 +86,7 @@ pub record IsTally (image : Initial) (config : Config) (t : Tally) : Type 0 wher
 -- each end is one, and its script leads there; so many runs came to each, one at least, and so many to none; the ends stand in their order, each once
 pub record IsSampled (image : Initial) (config : Config) (s : Sampled) : Type 0 where
   pub reached : All (IsRealEnd image config) s.ends.items
-  pub counted : AreCounted image config (numbered s.ends.items s.times.items) s.unended s.runs
+  pub counted : AreCounted image config (with_times s.ends.items s.times.items) s.unended s.runs
   pub as_many : length s.times.items ≡ length s.ends.items
   pub some : All (λ (n : ℕ). 0 < n) s.times.items
   pub order : IsStrictlySortedBy (on outcome_of outcome_cmp) s.ends.items

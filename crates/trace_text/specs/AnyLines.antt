@@ -1,4 +1,4 @@
--- Which lines a trace with a header may have somewhere, whatever stands around them.
+-- Which lines are well formed under a header, whatever stands around them.
 use Rattle.std.specs.Prelude.{◌≡◌, ℕ, ◌<◌, true, List, ◌++◌, ◌⊎◌, codes}
 use Rattle.hart.specs.declared.retired.Retired.{Retired}
 use Rattle.hart.specs.declared.status.Status.{Status}
@@ -37,6 +37,6 @@ IsLoggedLine h line = (l : Logged) × IsLogged h l × (line ≡ logged l)
 abbrev pub IsStatusLine : TraceHead → List ℕ → Type 0
 IsStatusLine h line = (hart : ℕ) × (s : Status) × (hart < h.harts) × IsStatus s × (line ≡ status hart s)
 
--- A line that a trace with this header may have somewhere. A header's line counts though it is another header's: the first of either version, the second of the same.
+-- a first line of either version, a second line of the header's version, or another line that a trace with this header may have somewhere
 abbrev pub IsTraceLine : TraceHead → List ℕ → Type 0
 IsTraceLine h line = IsVersion line ⊎ IsNumbersLine h line ⊎ IsImageLine h line ⊎ IsRetiredLine h line ⊎ IsOperationLine h line ⊎ IsLoggedLine h line ⊎ IsStatusLine h line

@@ -45,7 +45,7 @@ IsTraceCode Fields line before rest = IsBadLine before rest × (2 < line) × Con
 IsTraceCode Order line before rest = IsBadLine before rest × (2 < line) × Contains line_words (first_word rest) × (h : TraceHead) × HasHead h before × IsTraceLine h (first_line rest)
 IsTraceCode NoMemory line before rest = ⊥
 
--- The lines before the one that the fault names begin a trace, and with that one they don't, for the reason that the fault gives.
+-- The lines before the one that the fault names begin a trace; that one isn't there or doesn't end, or with it they begin none, for the reason that the fault gives.
 pub record IsTraceRefusal (bytes : List ℕ) (fault : TextError) : Type 0 where
   pub before : List ℕ
   pub rest : List ℕ

@@ -41,7 +41,7 @@ image_lines width (suc n) address bytes = image_line address (take width bytes) 
 abbrev pub image : LineSize → List ℕ → List ℕ
 image size bytes = image_lines (length_of size) (length bytes / length_of size) base bytes
 
--- a hart's retired instruction
+-- how the line of a hart's retired instruction begins
 abbrev pub retired_lead : ℕ → List ℕ
 retired_lead h = codes "R " ++ number 32 h
 

@@ -115,7 +115,7 @@ fn is_known(line: &[u8]) -> bool
         || is_word(line, b"H")
 }
 
-/// Whether a line that a trace with this header may have somewhere stands here.
+/// Whether a line that is well formed under this header stands here.
 fn is_good(line: &[u8], head: &TraceHead) -> bool
     requires { IsTraceHead head.now }
     ensures { IsTrue result ↔ IsTraceLine head.now (first_line line.now) }

@@ -217,7 +217,8 @@ pub fn read_trace(alloc: Global, bytes: &[u8]) -> Result<(Trace, usize), TextErr
     ensures count { IfOk result (λ x. x.1 ≡ length (text x.0.history)) }
     // What a trace is spelled is read as that trace, whatever follows it, unless memory runs out.
     ensures only { (t : History) (more : List ℕ) → IsTrace t → bytes.now ≡ text t ++ more → ¬ IsNoMemory result → IsReadAs t result }
-    // The fault names the first line with which the text begins no trace any more, and says why, unless memory runs out.
+    // The fault names the first line that is missing, doesn't end or with which the text begins no trace, and says why,
+    // unless memory runs out.
     ensures refused { ¬ IsNoMemory result → IfErr result (IsTraceRefusal bytes.now) }
 {
     counted(alloc, bytes)

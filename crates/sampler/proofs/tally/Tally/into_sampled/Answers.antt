@@ -7,7 +7,7 @@ use Rattle.std.specs.Ordering.{on}
 use Rattle.explorer.specs.declared.found.Found.{Found}
 use Rattle.explorer.specs.Ends.{outcome_of}
 use Rattle.explorer.specs.Ranks.{outcome_cmp}
-use Rattle.sampler.specs.Sampled.{AreCounted, IsRealEnd, numbered}
+use Rattle.sampler.specs.Sampled.{AreCounted, IsRealEnd, with_times}
 use Rattle.sampler.proofs.Counting.{ends_of, numbered_push, numbers_of}
 use Rattle.sampler.proofs.tally.Tally.into_sampled.Goals as goal
 
@@ -24,11 +24,11 @@ loop-end-preserved c =
     let ends_long = ap length more_ends ∙ length_push ends e in
     let times_long = ap length more_times ∙ length_push times n in
     record {
-      left = ap (λ fs. numbered fs c.push-in-loop-end.new.self.items ++ rest) more_ends
-          ∙ (ap (λ ns. numbered (ends ++ e ∷ []) ns ++ rest) more_times
+      left = ap (λ fs. with_times fs c.push-in-loop-end.new.self.items ++ rest) more_ends
+          ∙ (ap (λ ns. with_times (ends ++ e ∷ []) ns ++ rest) more_times
           ∙ (ap (λ xs. xs ++ rest) (numbered_push ends times e n c.loop-end.invariant.as_many)
-          ∙ (append_assoc (numbered ends times) ((e, n) ∷ []) rest
-          ∙ (ap (λ xs. numbered ends times ++ xs) (sym taken) ∙ c.loop-end.invariant.left))));
+          ∙ (append_assoc (with_times ends times) ((e, n) ∷ []) rest
+          ∙ (ap (λ xs. with_times ends times ++ xs) (sym taken) ∙ c.loop-end.invariant.left))));
       as_many = omega (arith, ends_long, times_long, c.loop-end.invariant.as_many);
     }
 
@@ -40,8 +40,8 @@ returns-clause-sampled c =
     let times = c.loop-end.times.items in
     let many = c.loop-end.invariant.as_many in
     let empty : c.loop-end.end-iterator ≡ [] = rest_all (λ (p : Found × ℕ). p) _ _ _ c.in-None.is c.next.ensures.steps in
-    let all : numbered ends times ≡ c.args.self.ends.entries =
-    sym (append-nil (numbered ends times)) ∙ (ap (λ xs. numbered ends times ++ xs) (sym empty) ∙ c.loop-end.invariant.left) in
+    let all : with_times ends times ≡ c.args.self.ends.entries =
+    sym (append-nil (with_times ends times)) ∙ (ap (λ xs. with_times ends times ++ xs) (sym empty) ∙ c.loop-end.invariant.left) in
     let values : values_of c.args.self.ends.entries ≡ times = ap values_of (sym all) ∙ numbers_of ends times many in
     let keys : keys_of c.args.self.ends.entries ≡ ends = ap keys_of (sym all) ∙ ends_of ends times many in
     record {

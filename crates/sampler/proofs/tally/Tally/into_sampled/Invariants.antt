@@ -1,9 +1,9 @@
 use Rattle.std.proofs.Common.{◌≡◌, ◌++◌, length}
-use Rattle.sampler.specs.Sampled.{numbered}
+use Rattle.sampler.specs.Sampled.{with_times}
 use Rattle.sampler.proofs.tally.Tally.into_sampled.Given as goal
 
 abbrev pub invariant-loop-end : goal.invariant-loop-end
 invariant-loop-end l = record {
-  left : numbered l.ends.items l.times.items ++ l.end-iterator ≡ l.fn.self.ends.entries;
+  left : with_times l.ends.items l.times.items ++ l.end-iterator ≡ l.fn.self.ends.entries;
   as_many : length l.times.items ≡ length l.ends.items;
 }
