@@ -2,7 +2,7 @@
 use Rattle.std.proofs.Common.{◌≡◌, ℕ, ◌+◌, ◌*◌, ◌%◌, ◌^◌, ◌<◌, ◌≤◌, Bool, ◌&&◌, true, false, cond, eqb, leb, ltb, List, [], ◌∷◌, ◌++◌, Option, Some, None, refl, sym, ap, ◌∙◌, append_assoc, arith, inl, inr}
 use Rattle.std.specs.Prelude.{codes, IsTrue, ◌↔◌}
 use Rattle.std.specs.Option.{option_map, is_some}
-use Rattle.std.proofs.lemmas.Bool.{ltb-true, lt-ltb}
+use Rattle.std.proofs.lemmas.Bool.{eqb-true, leb-true, le-leb, ltb-true, lt-ltb}
 use Rattle.std.proofs.lemmas.Option.{none-some}
 use Rattle.elf_loader.specs.Size.{base}
 use Rattle.hart.specs.declared.retired.Retired.{Retired}
@@ -14,7 +14,7 @@ use Rattle.tl_types.specs.Line.{bytes_of, length_of}
 use Rattle.tl_types.specs.declared.line.LineData.{LineData}
 use Rattle.trace_text.specs.declared.head.TraceHead.{TraceHead}
 use Rattle.trace_text.specs.AnyLineReading.{left, numbers_at, image_fields_at, hart_at, retired_fields_at, status_fields_at, from_version, from_status, from_message, from_operation, from_retired, from_image, line_left}
-use Rattle.trace_text.specs.AnyLines.{IsVersion, IsNumbersLine, IsImageLine, IsRetiredLine, IsOperationLine, IsLoggedLine, IsStatusLine, IsTraceLine}
+use Rattle.trace_text.specs.AnyLines.{IsVersion, IsNumbersLine, IsInMemory, IsImageLine, IsRetiredLine, IsOperationLine, IsLoggedLine, IsStatusLine, IsTraceLine}
 use Rattle.trace_text.specs.Refusals.{has_line_feed}
 use Rattle.trace_text.specs.Scripts.{is_first_version}
 use Rattle.trace_text.specs.TraceHeads.{IsTraceHead}
@@ -93,11 +93,20 @@ numbers_found h bytes fields rest led e = go (is_first_version h.harts h.line) r
 image_text : (address : ℕ) (held : LineData) → any_set (bytes_of held) ≡ true → codes "I " ++ ((word address ++ 32 ∷ []) ++ (digits_of held ++ 10 ∷ [])) ≡ image_line address (bytes_of held)
 image_text address held set = ap (λ u. codes "I " ++ u) (append_assoc (word address) (32 ∷ []) (digits_of held ++ 10 ∷ [])) ∙ sym (line_set address (bytes_of held) set)
 
+in_memory : (h : TraceHead) (address : ℕ) → is_line h.kib (length_of h.line) address ≡ true → IsInMemory h address
+in_memory h address e =
+    let b = both_true (eqb (address % length_of h.line) 0 && leb base address) (ltb address (base + h.kib * 1024)) e in
+    let c = both_true (eqb (address % length_of h.line) 0) (leb base address) b.0 in
+    (eqb-true _ _ c.0, leb-true _ _ c.1, ltb-true _ _ b.1)
+
+in_memory_passes : (h : TraceHead) (address : ℕ) → IsInMemory h address → is_line h.kib (length_of h.line) address ≡ true
+in_memory_passes h address (whole, from, inside) = rw (whole, le-leb _ _ from, lt-ltb _ _ inside) refl
+
 image_found : (h : TraceHead) (bytes fields rest : List ℕ) → after (codes "I ") bytes ≡ Some fields → left (image_fields_at h fields) ≡ Some rest → IsImageLine h (first_line bytes)
 image_found h bytes fields rest led e =
     let w = found (codes "I ") refl (image_fields_reads h) (λ p f. line_behind (word p.0 ++ 32 ∷ []) _ (word_field p.0) (data_line (bytes_of p.1))) bytes fields rest led e in
     let b = both_true (any_set (bytes_of w.0.1)) (is_line h.kib (length_of h.line) w.0.0) w.1.1 in
-    (w.0.0, w.0.1, w.1.0.1, b.0, b.1, w.2 ∙ image_text w.0.0 w.0.1 b.0)
+    (w.0.0, w.0.1, w.1.0.1, b.0, in_memory h w.0.0 b.1, w.2 ∙ image_text w.0.0 w.0.1 b.0)
 
 retired_found : (h : TraceHead) (bytes fields rest : List ℕ) → after (codes "R ") bytes ≡ Some fields → left (retired_fields_at h fields) ≡ Some rest → IsRetiredLine h (first_line bytes)
 retired_found h bytes fields rest led e =
@@ -206,16 +215,11 @@ numbers_again h k bytes version false v fits same (inl is) at =
 numbers_again h k bytes version false v fits same (inr is) at =
     second_again h k bytes v (fits, same) (same_behind (codes "rvtl-trace 2\n") (first_line bytes) (codes "T " ++ second_numbers k) (ap (λ u. u ++ first_line bytes) (sym is) ∙ sym at ∙ head_second k same))
 
-address_small : (h : TraceHead) → IsTraceHead h → (address : ℕ) → is_line h.kib (length_of h.line) address ≡ true → address < 2 ^ 32
-address_small h t address e =
-    let b = both_true (eqb (address % length_of h.line) 0 && leb base address) (ltb address (base + h.kib * 1024)) e in
-    omega (arith, ltb-true _ _ b.1, t.memory.at_most)
-
 image_again : (h : TraceHead) → IsTraceHead h → (bytes : List ℕ) → IsImageLine h (first_line bytes) → IsRead h bytes
 unfolding line_left
 image_again h t bytes (address, held, fits, set, at, e) =
-    let test : is_shown h (address, held) ≡ true = rw (set, at) refl in
-    let w = stands (codes "I ") (image_fields_reads h) bytes (address, held) (((address_small h t address at, fits), test)) (e ∙ sym (image_text address held set)) in
+    let test : is_shown h (address, held) ≡ true = rw (set, in_memory_passes h address at) refl in
+    let w = stands (codes "I ") (image_fields_reads h) bytes (address, held) ((omega (arith, at.2, t.memory.at_most), fits), test) (e ∙ sym (image_text address held set)) in
     (w.0, ap (line_left h) w.1 ∙ left_is _ (address, held) w.0 w.2)
 
 retired_again : (h : TraceHead) → IsTraceHead h → (bytes : List ℕ) → IsRetiredLine h (first_line bytes) → IsRead h bytes
