@@ -219,6 +219,15 @@ fn an_outcome_that_is_not_allowed(rt: HostRuntime) -> Result<(), Fail> {
     Ok(())
 }
 
+/// A search that ends at its limit allows what it found, be it nothing: the last line says that it isn't complete.
+#[test]
+fn an_incomplete_search_is_allowed(rt: HostRuntime) -> Result<(), Fail> {
+    let words = ["--states", "1", "--allow", "allowed"];
+    let (ran, _) = explore(&rt, &words, ALLOWED.as_bytes())?;
+    gave(&rt, &ran, 0, "incomplete: 1 states met\n", "");
+    Ok(())
+}
+
 /// What an exploration prints allows all that it found.
 #[test]
 fn what_was_printed_is_allowed(rt: HostRuntime) -> Result<(), Fail> {
