@@ -1,6 +1,7 @@
 //! What a hart's core did in an event.
 ghost use Rattle.std.specs.Prelude.{◌≡◌, ◌++◌, IfOk, OnOk, length, slice_get, map};
 ghost use Rattle.std.specs.List.{flat_map};
+ghost use Rattle.std.specs.Option.{option_to_list};
 ghost use Rattle.chart_rows.specs.declared.rows.Note.TheVariants as note;
 ghost use Rattle.event_stream.specs.Telling.{report_of};
 ghost use Rattle.run_chart.specs.Notes as notes;
@@ -15,7 +16,7 @@ use trace_recorder::{OpId, Trace};
 
 /// One more note, if there is one.
 fn add(list: &mut Vec<Note>, note: Option<Note>) -> Result<(), AllocError>
-    ensures { OnOk result (list.new.items ≡ list.old.items ++ notes.listed note) }
+    ensures { OnOk result (list.new.items ≡ list.old.items ++ option_to_list note) }
 {
     match note {
         Some(note) => {
