@@ -5,8 +5,8 @@ ghost use Rattle.memory_model.specs.Litmus.{Shapes};
 ghost use Rattle.memory_model.specs.Reaching.{DependencyFormsAgree};
 ghost use Rattle.memory_model.specs.WorkedRows.{Rows};
 
-/// Small runs, with orders that each rule and each axiom allows and forbids, are judged as the standard
-/// judges them.
+/// Small runs, with orders that each rule and each axiom allows and forbids, are judged so. The standard judges them
+/// as this does, but for four of which this asks more: `sc_aq`, `lr_rl`, `through_failed_sc`, `through_jalr`.
 pub fn litmus_shapes()
     ensures { Shapes }
 {}
