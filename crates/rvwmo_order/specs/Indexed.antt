@@ -11,11 +11,11 @@ use Rattle.rvwmo_order.specs.declared.places.Places.{Places}
 use Rattle.rvwmo_order.specs.declared.stored.Stored.{Stored}
 
 -- the number of a name, by hart and by place; 0 where it has none
-abbrev pub number_of : ℕ → ℕ → List Numbers → ℕ
-number_of hart place lists = option_map_or (λ (l : Numbers). slice_index_or l.numbers.items place 0) (slice_get lists hart) 0
+abbrev pub number_at : ℕ → ℕ → List Numbers → ℕ
+number_at hart place lists = option_map_or (λ (l : Numbers). slice_index_or l.numbers.items place 0) (slice_get lists hart) 0
 
 abbrev pub number_in : ℕ → ℕ → Places → ℕ
-number_in hart place p = number_of hart place p.lists.items
+number_in hart place p = number_at hart place p.lists.items
 
 -- the place that is one less than a number, where that isn't 0
 abbrev pub known : ℕ → Option ℕ

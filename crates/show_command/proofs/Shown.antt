@@ -28,7 +28,7 @@ use Rattle.machine_types.specs.declared.config.Config.{Config}
 use Rattle.show_command.specs.Asking.{HasProgram, HasUnshown}
 use Rattle.show_command.specs.Keeping.{AreWordsKept, bare_of}
 use Rattle.show_command.specs.Showing.{AreWordsShown, IsFirstOf, IsFoundIn, IsOfFile, IsShowFault, WordRefusals, WordsHave}
-use Rattle.show_command.specs.Targets.{IsPlaced, IsUnplaced, IsUnshown, name_of, names_of, place_of}
+use Rattle.show_command.specs.Targets.{IsTarget, IsUnplaced, IsUnshown, name_of, names_of, place_of}
 use Rattle.state_search.specs.declared.findings.Extent.TheVariants as extent
 use Rattle.word_explorer.specs.declared.exploration.WordExploration.{WordExploration}
 use Rattle.word_explorer.specs.declared.found.WordFound.{WordFound}
@@ -146,16 +146,16 @@ module _ (image : Initial) (symbols : List Named) where
   pub record HasShown (rest words : List Name) : Type 0 where
     pub before : List Name
     pub whole : before ++ rest ≡ words
-    pub shown : All (IsPlaced image symbols) before
+    pub shown : All (IsTarget image symbols) before
 
   pub none_shown : (words : List Name) → HasShown words words
-  none_shown words = record { before = []; whole = refl; shown = All-nil (IsPlaced image symbols) }
+  none_shown words = record { before = []; whole = refl; shown = All-nil (IsTarget image symbols) }
 
   pub one_shown : (words rest tail : List Name) (word : Name) (place : ℕ) → rest ≡ word ∷ tail → place_of symbols (name_of word) ≡ Some place → CanShow image place → HasShown rest words → HasShown tail words
   one_shown words rest tail word place first at inside has = record {
     before = has.before ++ word ∷ [];
     whole = append_assoc has.before (word ∷ []) tail ∙ (ap (λ (xs : List Name). has.before ++ xs) (sym first) ∙ has.whole);
-    shown = All-push (IsPlaced image symbols) has.before word has.shown (place, at, inside);
+    shown = All-push (IsTarget image symbols) has.before word has.shown (place, at, inside);
   }
 
   pub first_unshown : (words rest tail : List Name) (word : Name) (fault : Fault) → rest ≡ word ∷ tail → HasShown rest words → IsUnplaced image symbols word fault → IsUnshown image symbols words fault

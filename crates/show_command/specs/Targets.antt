@@ -39,15 +39,15 @@ IsUnplaced image symbols word fault =
     ⊎ ((place : ℕ) × (place_of symbols (name_of word) ≡ Some place) × (CanShow image place → ⊥) × (fault ≡ CannotShow word NoWord))
 
 -- an aligned word of memory lies where the word does
-abbrev pub IsPlaced : Initial → List Named → Name → Type 0
-IsPlaced image symbols word = (place : ℕ) × (place_of symbols (name_of word) ≡ Some place) × CanShow image place
+abbrev pub IsTarget : Initial → List Named → Name → Type 0
+IsTarget image symbols word = (place : ℕ) × (place_of symbols (name_of word) ≡ Some place) × CanShow image place
 
 -- the word is one of these, and each before it can be shown
 pub record ComesBehindShown (image : Initial) (symbols : List Named) (words : List Name) (word : Name) : Type 0 where
   pub before : List Name
   pub later : List Name
   pub whole : before ++ word ∷ later ≡ words
-  pub shown : All (IsPlaced image symbols) before
+  pub shown : All (IsTarget image symbols) before
 
 -- the first of the words that can't be shown is told, or memory ran out
 abbrev pub IsUnshown : Initial → List Named → List Name → Fault → Type 0

@@ -1,7 +1,7 @@
 use Rattle.std.proofs.Common.{◌+◌, ◌∙◌, ℕ, List, ap, arith, length, subst, sym}
 use Rattle.std.specs.Prelude.{slice_index_or}
 use Rattle.std.proofs.lemmas.List.{take_at}
-use Rattle.rvwmo_order.specs.Indexed.{number_in, number_of}
+use Rattle.rvwmo_order.specs.Indexed.{number_in, number_at}
 use Rattle.rvwmo_order.specs.Sourcing.{GivesUpTo, is_come}
 use Rattle.rvwmo_order.proofs.LastStores.{nothing_yet, number_placed, numbers_of, sources_found}
 use Rattle.rvwmo_order.proofs.Tables.{hart_listed, number_listed}
@@ -14,7 +14,7 @@ pub raise_by_own-requires-clause-numbers : goal.raise_by_own-requires-clause-num
 raise_by_own-requires-clause-numbers c =
     let lists = c.lists-lists.result.now in
     numbers_of c.args.order.now (λ (h p : ℕ). number_in h p c.args.places.now) c.loop-hart.hart c.as_slice.result.now c.requires.distinct c.requires.placed
-    (λ place. ap (λ (ns : List ℕ). slice_index_or ns place 0) c.as_slice.ensures ∙ (number_listed lists c.loop-hart.hart place c.index-lists-hart.result c.loop-hart-test.true c.index-lists-hart.is ∙ ap (number_of c.loop-hart.hart place) c.lists-lists.ensures))
+    (λ place. ap (λ (ns : List ℕ). slice_index_or ns place 0) c.as_slice.ensures ∙ (number_listed lists c.loop-hart.hart place c.index-lists-hart.result c.loop-hart-test.true c.index-lists-hart.is ∙ ap (number_at c.loop-hart.hart place) c.lists-lists.ensures))
 
 pub raise_by_own-requires-clause-before : goal.raise_by_own-requires-clause-before
 raise_by_own-requires-clause-before c = subst (λ (sources : List (List ℕ)). GivesUpTo c.args.order.now sources (is_come c.loop-hart.hart 0)) (sym c.deref_mut.ensures.value) c.loop-hart.invariant
