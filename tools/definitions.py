@@ -51,10 +51,10 @@ FLAT = [
     ("window_machine", "Openings", "NeverOpens"),
     ("architecture_outcomes", "Outcomes", "IsWitnessed"),
     ("architecture_outcomes", "Outcomes", "TellsEachEnd"),
-    ("word_explorer", "Ends", "HasEachEnding"),
-    ("word_explorer", "Ends", "IsRealIn"),
-    ("word_explorer", "Stuck", "IsStuckIn"),
-    ("word_explorer", "Visited", "AreVisited"),
+    ("explorer", "WordEnds", "HasEachEnding"),
+    ("explorer", "WordEnds", "IsRealIn"),
+    ("explorer", "WordStuck", "IsStuckIn"),
+    ("explorer", "WordVisited", "AreVisited"),
 ]
 PROGRAM = [
     ("command_line", "Running", "IsCarriedOut"),

@@ -5,7 +5,7 @@ use Rattle.std.proofs.lemmas.Bool.{and_from, eq-eqb}
 use Rattle.std.proofs.lemmas.List.Elements.{recursion_from_All}
 use Rattle.elf_loader.specs.Image.{Initial}
 use Rattle.flat_machine.specs.Onward.{are_aligned}
-use Rattle.word_explorer.specs.Words.{CanShow, CanShowEach}
+use Rattle.explorer.specs.Words.{CanShow, CanShowEach}
 
 each : (image : Initial) (addresses : List ℕ) → AllByRecursion (CanShow image) addresses → are_aligned addresses ≡ true
 each image [] all = refl

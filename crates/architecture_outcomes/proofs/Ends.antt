@@ -23,9 +23,9 @@ use Rattle.flat_model.specs.Shown.{results, told}
 use Rattle.machine_types.specs.declared.config.Config.{Config}
 use Rattle.schedules.specs.Schedules.{led}
 use Rattle.std.specs.Global.{Vec}
-use Rattle.word_explorer.specs.declared.found.WordFound.{WordFound}
-use Rattle.word_explorer.specs.Ends.{HasEachEnding, IsRealIn, ending_of, endings_of}
-use Rattle.word_explorer.specs.Orders.{ending_cmp}
+use Rattle.explorer.specs.declared.words.found.WordFound.{WordFound}
+use Rattle.explorer.specs.WordEnds.{HasEachEnding, IsRealIn, ending_of, endings_of}
+use Rattle.explorer.specs.WordOrders.{ending_cmp}
 
 -- ---- without words
 

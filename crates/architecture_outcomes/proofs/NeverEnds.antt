@@ -10,7 +10,7 @@ use Rattle.flat_exploration.specs.Drained.{Ending, performed_word}
 use Rattle.machine_types.specs.declared.config.Config.{Config}
 use Rattle.witnesses.specs.declared.witness.Witness.{Witness}
 use Rattle.witnesses.specs.Witnesses.{IsWitness}
-use Rattle.word_explorer.specs.Orders.{ending_cmp, ending_total}
+use Rattle.explorer.specs.WordOrders.{ending_cmp, ending_total}
 
 neither : (a b : Bool) → (a || b) ≡ false → (a ≡ false) × (b ≡ false)
 neither true b e = absurd (true≢false e)

@@ -14,7 +14,7 @@ use Rattle.architecture_outcomes.specs.declared.outcome.Outcome.{Outcome}
 use Rattle.architecture_outcomes.specs.Outcomes.{TellOnce, end_of, tells}
 use Rattle.explorer.proofs.Once.{once_of_strict, strict_of_once, times_moved}
 use Rattle.flat_exploration.specs.Drained.{Ending}
-use Rattle.word_explorer.specs.Orders.{ending_cmp, ending_total, same_ending}
+use Rattle.explorer.specs.WordOrders.{ending_cmp, ending_total, same_ending}
 
 counted : {X : Type 0} (p : X → Bool) (x : X) (xs : List X) → count_by p (x ∷ xs) ≡ cond (p x) 1 0 + count_by p xs
 counted p x xs = sum_by-cons (λ y. cond (p y) 1 0) x xs

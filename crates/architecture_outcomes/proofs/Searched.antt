@@ -14,7 +14,7 @@ use Rattle.std.proofs.Math.Logic.{⊎_elim}
 use Rattle.architecture_outcomes.specs.declared.outcome.Outcome.{Outcome}
 use Rattle.architecture_outcomes.specs.Outcomes.{end_of, tells}
 use Rattle.flat_exploration.specs.Drained.{Ending}
-use Rattle.word_explorer.specs.Orders.{ending_cmp, ending_total}
+use Rattle.explorer.specs.WordOrders.{ending_cmp, ending_total}
 
 -- what stands above stands no lower beside a third
 no_lower : {K : Type 0} {R : K → K → Ordering} → IsTotalOrder R → (x y z : K) → R x y ≡ Less → ordering_index (R x z) ≤ ordering_index (R y z)

@@ -16,8 +16,8 @@ use Rattle.flat_exploration.specs.Exploring.{shown_result}
 use Rattle.flat_model.specs.Flat.{Flat}
 use Rattle.machine_types.specs.declared.config.Config.{Config}
 use Rattle.state_search.specs.declared.findings.Extent.{Extent}
-use Rattle.word_explorer.specs.declared.exploration.WordExploration.{WordExploration}
-use Rattle.word_explorer.specs.Visited.{AreVisited as AreWordsVisited}
+use Rattle.explorer.specs.declared.words.exploration.WordExploration.{WordExploration}
+use Rattle.explorer.specs.WordVisited.{AreVisited as AreWordsVisited}
 
 -- what a map gives it gives of something
 mapped : {A B : Type 0} (f : A → B) (o : Option A) (y : B) → option_map f o ≡ Some y → (x : A) × (o ≡ Some x) × (f x ≡ y)

@@ -19,9 +19,9 @@ use Rattle.std.specs.Global.{Vec}
 use Rattle.trace_recorder.specs.declared.trace.Trace.{Trace}
 use Rattle.witnesses.specs.declared.witness.Witness.{Witness}
 use Rattle.witnesses.specs.Witnesses.{IsWitness}
-use Rattle.word_explorer.specs.declared.found.WordFound.{WordFound}
-use Rattle.word_explorer.specs.Ends.{IsRealIn, ending_with}
-use Rattle.word_explorer.specs.Orders.{ending_cmp}
+use Rattle.explorer.specs.declared.words.found.WordFound.{WordFound}
+use Rattle.explorer.specs.WordEnds.{IsRealIn, ending_with}
+use Rattle.explorer.specs.WordOrders.{ending_cmp}
 
 abbrev pub end_of : Outcome → Ending
 end_of o = ending_with o.harts.items o.words.items

@@ -8,11 +8,11 @@ ghost use Rattle.flat_machine.specs.Onward.{are_aligned};
 ghost use Rattle.machine_types.specs.Config.{is_within_limits};
 ghost use Rattle.window_machine.specs.Openings.{NeverOpens};
 ghost use Rattle.witnesses.specs.Witnesses.{IsWitness};
-ghost use Rattle.word_explorer.specs.Orders.{ending_cmp};
+ghost use Rattle.explorer.specs.WordOrders.{ending_cmp};
 
 use crate::outcome::Outcome;
 use elf_loader::Image;
-use final_words::words_of;
+use explorer::words_of;
 use machine_types::Config;
 use state_search::Watch;
 use std::alloc::{AllocError, Global};

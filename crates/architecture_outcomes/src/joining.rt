@@ -7,8 +7,8 @@ ghost use Rattle.architecture_outcomes.specs.Visited.{AreMachineStates, TellsEnd
 ghost use Rattle.flat_model.specs.Flat.{Flat};
 ghost use Rattle.machine_types.specs.Config.{is_within_limits};
 ghost use Rattle.window_machine.specs.Openings.{NeverOpens};
-ghost use Rattle.word_explorer.specs.Orders.{ending_cmp};
-ghost use Rattle.word_explorer.specs.Words.{CanShowEach};
+ghost use Rattle.explorer.specs.WordOrders.{ending_cmp};
+ghost use Rattle.explorer.specs.Words.{CanShowEach};
 
 use crate::architecture::Architecture;
 use crate::beyond::{beyond, search_model};

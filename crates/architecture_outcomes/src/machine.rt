@@ -7,16 +7,15 @@ ghost use Rattle.architecture_outcomes.specs.Outcomes.{HasEachMachineEnd, IsMach
 ghost use Rattle.architecture_outcomes.specs.Visited.{AreMachineStates};
 ghost use Rattle.flat_model.specs.Flat.{Flat};
 ghost use Rattle.machine_types.specs.Config.{is_within_limits};
-ghost use Rattle.word_explorer.specs.Orders.{ending_cmp};
-ghost use Rattle.word_explorer.specs.Words.{CanShowEach};
+ghost use Rattle.explorer.specs.WordOrders.{ending_cmp};
+ghost use Rattle.explorer.specs.Words.{CanShowEach};
 
 use crate::outcome::{Outcome, Way};
 use elf_loader::Image;
-use explorer::{Exploration, Exploring, Found, explore};
+use explorer::{Exploration, Exploring, Found, WordExploration, WordFound, explore, explore_words};
 use machine_types::Config;
 use state_search::{Extent, Watch};
 use std::alloc::{AllocError, Global};
-use word_explorer::{WordExploration, WordFound, explore_words};
 
 /// The outcomes to which the machine comes, and how far it was searched.
 #[derive(Drop)]

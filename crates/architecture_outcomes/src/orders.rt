@@ -9,7 +9,7 @@ impl Ord for Outcome {
     ghost use Rattle.std.specs.Cmp.{on_total};
     ghost use Rattle.std.specs.Ordering.{on};
     ghost use Rattle.architecture_outcomes.specs.Outcomes.{end_of};
-    ghost use Rattle.word_explorer.specs.Orders.{ending_cmp, ending_total};
+    ghost use Rattle.explorer.specs.WordOrders.{ending_cmp, ending_total};
 
     ghost cmp = { on end_of ending_cmp };
 
@@ -28,7 +28,7 @@ impl PartialOrd for Outcome {
     ghost use Rattle.std.specs.Cmp.{on_total, partial_order_from_total};
     ghost use Rattle.std.specs.Ordering.{as_partial_cmp, on};
     ghost use Rattle.architecture_outcomes.specs.Outcomes.{end_of};
-    ghost use Rattle.word_explorer.specs.Orders.{ending_cmp, ending_total};
+    ghost use Rattle.explorer.specs.WordOrders.{ending_cmp, ending_total};
 
     ghost partial_cmp = { as_partial_cmp (on end_of ending_cmp) };
 
@@ -43,7 +43,7 @@ impl PartialEq for Outcome {
     ghost use Rattle.std.specs.Cmp.{on_total, partial_equiv_from_equiv};
     ghost use Rattle.std.specs.Ordering.{eq_by_cmp, on};
     ghost use Rattle.architecture_outcomes.specs.Outcomes.{end_of};
-    ghost use Rattle.word_explorer.specs.Orders.{ending_cmp, ending_total};
+    ghost use Rattle.explorer.specs.WordOrders.{ending_cmp, ending_total};
     ghost use Rattle.std.proofs.lemmas.Cmp.{eq_by_cmp_equiv};
 
     ghost eq = { eq_by_cmp (on end_of ending_cmp) };
@@ -58,7 +58,7 @@ impl PartialEq for Outcome {
 impl Eq for Outcome {
     ghost use Rattle.std.specs.Cmp.{on_total};
     ghost use Rattle.architecture_outcomes.specs.Outcomes.{end_of};
-    ghost use Rattle.word_explorer.specs.Orders.{ending_total};
+    ghost use Rattle.explorer.specs.WordOrders.{ending_total};
     ghost use Rattle.std.proofs.lemmas.Cmp.{eq_by_cmp_equiv};
 
     ghost laws = { eq_by_cmp_equiv (on_total end_of ending_total) };

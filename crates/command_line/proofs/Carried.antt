@@ -15,7 +15,7 @@ use Rattle.command_settings.specs.declared.wanted.Show.{Show as Shown}
 use Rattle.command_settings.specs.declared.wanted.Settings.TheVariants.{Check, Explain, Explore, Show}
 use Rattle.event_stream.specs.declared.strictness.Strictness.{Strictness}
 use Rattle.command_line.specs.Telling.{ComesBeforeFiles, IsFaultOfCommand, IsShowingFault}
-use Rattle.explain_command.specs.Explaining.{IsExplainFault, IsExplained}
+use Rattle.script_commands.specs.Explaining.{IsExplainFault, IsExplained}
 use Rattle.explore_command.specs.Exploring.{IsExploreFault, LeavesPart}
 use Rattle.explore_command.specs.Keeping.{SparesOthers}
 use Rattle.explore_command.specs.declared.judging.Judgement.{Judgement}

@@ -2,8 +2,8 @@
 use Rattle.std.proofs.Common.{◌≡◌, ◌∙◌, ◌⊎◌, ℕ, Bool, true, false, Err, IfErr, IfOk, IfSome, IsSomeAnd, List, None, Ok, Option, Result, Some, ap, inl, inr, refl, subst, sym}
 use Rattle.std.specs.Io.KnownBytes.{Appends}
 use Rattle.std.specs.Prelude.{nat_lt}
-use Rattle.chart_command.specs.Addresses.{address}
-use Rattle.chart_command.specs.Charting.{IsAddress}
+use Rattle.script_commands.specs.Addresses.{address}
+use Rattle.script_commands.specs.Charting.{IsAddress}
 use Rattle.command_files.proofs.Left.{either}
 use Rattle.command_files.specs.Faults.{Name}
 use Rattle.command_files.specs.Contents.{Contents}
@@ -22,11 +22,11 @@ use Rattle.command_settings.specs.declared.wanted.Settings.{Settings}
 use Rattle.command_settings.specs.declared.wanted.Settings.TheVariants.{Chart, Check, Explain, Explore, Replay, Run, Show}
 use Rattle.command_settings.specs.declared.wanted.Show.{Show as Shown}
 use Rattle.event_stream.specs.declared.strictness.Strictness.{Strictness}
-use Rattle.explain_command.specs.Explaining.{IsStreamCutOff, LeavesOfStream}
+use Rattle.script_commands.specs.Explaining.{IsStreamCutOff, LeavesOfStream}
 use Rattle.explore_command.proofs.Explored.{all_of}
 use Rattle.explore_command.proofs.Faults.{some_part}
 use Rattle.explore_command.specs.declared.judging.Judgement.{Judgement}
-use Rattle.show_command.specs.Showing.{IsFirstOf}
+use Rattle.explore_command.specs.Showing.{IsFirstOf}
 use Rattle.text_fields.specs.Writing.{Begins}
 
 -- ---- what is left

@@ -3,9 +3,9 @@ use Rattle.std.proofs.Common.{Err, IfErr, Ok, Result, ◌≡◌, ◌≢◌, ◌�
 use Rattle.std.proofs.lemmas.Bool.{false≢true}
 use Rattle.std.proofs.lemmas.Slice.Eq.{bytes_eq-Decides}
 use Rattle.std.specs.Str.{bytes_eq}
-use Rattle.architecture_command.specs.Searching.{IsSearchFault}
-use Rattle.chart_command.specs.Addresses.{address}
-use Rattle.chart_command.specs.Charting.{IsNoAddress}
+use Rattle.explore_command.specs.Searching.{IsSearchFault}
+use Rattle.script_commands.specs.Addresses.{address}
+use Rattle.script_commands.specs.Charting.{IsNoAddress}
 use Rattle.clap.specs.Words.{Text}
 use Rattle.command_files.proofs.Left.{only_configuration}
 use Rattle.command_files.specs.Faults.{LeavesAtFault, Name}
@@ -26,7 +26,7 @@ use Rattle.command_settings.specs.declared.wanted.Settings.TheVariants.{Chart, C
 use Rattle.explore_command.specs.Exploring.{IsExploreFault, LeavesPart}
 use Rattle.explore_command.specs.Keeping.{SparesOthers}
 use Rattle.run_command.specs.Running.{IsRunFault}
-use Rattle.show_command.specs.Asking.{HasUnshown}
+use Rattle.explore_command.specs.Asking.{HasUnshown}
 
 -- the words give an exploration a state at least
 pub some_states : (words : List Text) (wanted : Settings) → IsNamed words wanted → MeetsSomeState wanted

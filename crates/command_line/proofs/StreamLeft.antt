@@ -2,7 +2,7 @@
 use Rattle.std.proofs.Common.{◌≡◌, ◌⊎◌, ℕ, List, Option, inl, inr}
 use Rattle.command_files.specs.declared.fault.Fault.{Fault}
 use Rattle.command_files.specs.declared.fault.Fault.TheVariants.{BadAddress, BadEvent, BytesAfterTrace, CannotMake, CannotRead, CannotShow, CannotWrite, Check, Configuration, Event, Image, Mismatch, NoThread, NothingHappens, OutOfMemory, Text, TooManyRows}
-use Rattle.explain_command.specs.Explaining.{LeavesOfStream}
+use Rattle.script_commands.specs.Explaining.{LeavesOfStream}
 
 -- what is left of a stream is nothing, or it was cut off
 pub stream_either : (old new : Option (List ℕ)) (cut : Type 0) (fault : Fault) → LeavesOfStream fault old new cut → (new ≡ old) ⊎ cut

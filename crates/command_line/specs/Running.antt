@@ -2,19 +2,19 @@
 use Rattle.std.specs.Prelude.{◌≡◌, ◌≢◌, ◌⊎◌, ◌<◌, ℕ, [], Bool, false, true, nat_lt, IsSomeAnd, List, None, Option}
 use Rattle.clap.specs.Words.{Text}
 use Rattle.command_files.specs.Contents.{Contents}
-use Rattle.replay_command.specs.Replaying.{IsCutOff, IsReplayEndTold, IsReplayed}
-use Rattle.explain_command.specs.Explaining.{IsExplained, IsStreamCutOff}
+use Rattle.script_commands.specs.Replaying.{IsCutOff, IsReplayEndTold, IsReplayed}
+use Rattle.script_commands.specs.Explaining.{IsExplained, IsStreamCutOff}
 use Rattle.explore_command.specs.Exploring.{ExplorationHas, ExplorationRefusals, IsExplorationTold}
 use Rattle.explore_command.specs.Judging.{IsToldBy}
 use Rattle.explore_command.specs.Keeping.{IsScriptFile}
 use Rattle.explore_command.specs.declared.judging.Judgement.{Judgement}
 use Rattle.explore_command.specs.declared.judging.Judgement.TheVariants.{Allowed, NotAllowed}
-use Rattle.architecture_command.specs.Keeping.{IsFileInNamed}
-use Rattle.architecture_command.specs.Searching.{IsSearchNoted, IsSearched, SearchHas}
-use Rattle.sample_command.specs.Sampling.{IsSampleTold, SampleHas, SampleRefusals}
-use Rattle.show_command.specs.Showing.{AreWordsShown, IsElsewhere, WordRefusals, WordsHave}
-use Rattle.chart_command.specs.Addresses.{address}
-use Rattle.chart_command.specs.Charting.{IsCharted, IsPictureCutOff as IsHalfCharted}
+use Rattle.explore_command.specs.ModelKeeping.{IsFileInNamed}
+use Rattle.explore_command.specs.Searching.{IsSearchNoted, IsSearched, SearchHas}
+use Rattle.explore_command.specs.Sampling.{IsSampleTold, SampleHas, SampleRefusals}
+use Rattle.explore_command.specs.Showing.{AreWordsShown, IsElsewhere, WordRefusals, WordsHave}
+use Rattle.script_commands.specs.Addresses.{address}
+use Rattle.script_commands.specs.Charting.{IsCharted, IsPictureCutOff as IsHalfCharted}
 use Rattle.check_command.specs.Checking.{IsVerdictTold, IsVerdictCutOff}
 use Rattle.check_command.specs.Messages.{IsLogCutOff, IsLogJudged}
 use Rattle.run_command.specs.Running.{IsRun, IsRunCutOff, IsRunEndTold}

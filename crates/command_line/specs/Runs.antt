@@ -2,7 +2,7 @@
 use Rattle.std.specs.Prelude.{◌≡◌, ℕ, List, Option, Some, true, is_some}
 use Rattle.std.specs.Io.KnownBytes.{Appends}
 use Rattle.command_files.specs.Contents.{Contents}
-use Rattle.replay_command.specs.Replaying.{IsReplayed}
+use Rattle.script_commands.specs.Replaying.{IsReplayed}
 use Rattle.run_command.specs.Running.{IsRun}
 use Rattle.command_settings.specs.declared.wanted.Replay.{Replay}
 use Rattle.command_settings.specs.declared.wanted.Run.{Run}

@@ -1,8 +1,8 @@
 -- Which fault tells why what the words ask for was not done.
 use Rattle.std.specs.Prelude.{◌≡◌, ◌⊎◌, ℕ, Bool, true, false, nat_lt, List, Option}
 use Rattle.clap.specs.Words.{Text}
-use Rattle.architecture_command.specs.Searching.{IsSearchFault}
-use Rattle.chart_command.specs.Charting.{IsChartFault}
+use Rattle.explore_command.specs.Searching.{IsSearchFault}
+use Rattle.script_commands.specs.Charting.{IsChartFault}
 use Rattle.check_command.specs.Checking.{IsCheckFault}
 use Rattle.check_command.specs.Messages.{IsLogFault}
 use Rattle.command_files.specs.Faults.{IsReplayFault, LeavesAtFault}
@@ -15,10 +15,10 @@ use Rattle.command_settings.specs.declared.wanted.Check.{Check as Judging}
 use Rattle.command_settings.specs.declared.wanted.Settings.{Settings}
 use Rattle.command_settings.specs.declared.wanted.Settings.TheVariants.{Chart, Check, Explain, Explore, Replay, Run, Show}
 use Rattle.command_settings.specs.declared.wanted.Show.{Show as Showing}
-use Rattle.explain_command.specs.Explaining.{IsExplainFault, LeavesOfStream}
+use Rattle.script_commands.specs.Explaining.{IsExplainFault, LeavesOfStream}
 use Rattle.explore_command.specs.Exploring.{ComesBeforeScripts, IsExploreFault, LeavesPart}
 use Rattle.run_command.specs.Running.{ComesBeforeJournal, IsRunFault}
-use Rattle.show_command.specs.Showing.{IsShowFault}
+use Rattle.explore_command.specs.Showing.{IsShowFault}
 
 -- the messages of a trace can't be judged, or its order
 abbrev pub IsJudgingFault : (of_messages : Bool) → Contents → Judging → Fault → Type 0

@@ -9,23 +9,18 @@ ghost use Rattle.command_line.specs.Telling.{ComesBeforeFiles, IsFaultOfCommand,
 ghost use Rattle.command_line.specs.Running.{Came, CheckCame, CheckNoted, ExploreCame, ExploreHas, ExploreNoted, MeetsSomeState, IsOutOfRange, IsCheckBroken, IsExploreFile, IsNoted, IsWritten, ShowCame, ShowHas, ShowNoted, ShowsElsewhere, strictness_of};
 ghost use Rattle.explore_command.specs.Exploring.{ComesBeforeScripts, IsExploreFault, LeavesPart};
 ghost use Rattle.explore_command.specs.Keeping.{SparesOthers};
-ghost use Rattle.show_command.specs.Showing.{IsFirstOf};
+ghost use Rattle.explore_command.specs.Showing.{IsFirstOf};
 
-use architecture_command::architecture_files;
-use chart_command::chart_files;
+use explore_command::{Judgement, architecture_files, explore_files, sample_files, show_files};
+use script_commands::{chart_files, explain_files, replay_files};
 use check_command::{check_file, check_messages};
 use command_files::{Fault, Files, Unshown};
 use command_settings::{Check, Explore, Settings, Show};
 use event_stream::Strictness;
-use explain_command::explain_files;
-use explore_command::{Judgement, explore_files};
 use lawful_log::LogVerdict;
 use progress_line::Progress;
-use replay_command::replay_files;
 use run_command::run_files;
 use rvwmo_order::Verdict;
-use sample_command::sample_files;
-use show_command::show_files;
 use std::alloc::Global;
 use std::io::Write;
 use std::sync::Wait;

@@ -5,8 +5,8 @@ use Rattle.exploration_text.specs.declared.wording.WordName.TheVariants.{Address
 use Rattle.exploration_text.specs.Text.{harts_text, last_line, stuck_line}
 use Rattle.flat_exploration.specs.Drained.{Ending}
 use Rattle.text_fields.specs.Fields.{word}
-use Rattle.word_explorer.specs.declared.exploration.WordExploration.{WordExploration}
-use Rattle.word_explorer.specs.Ends.{endings_of}
+use Rattle.explorer.specs.declared.words.exploration.WordExploration.{WordExploration}
+use Rattle.explorer.specs.WordEnds.{endings_of}
 
 -- a symbol as it is, an address as 0x and eight hexadecimal digits
 abbrev pub name_text : WordName → List ℕ

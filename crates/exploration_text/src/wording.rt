@@ -1,13 +1,13 @@
 //! The lines where words of memory are shown.
 ghost use Rattle.std.specs.Prelude.{◌≡◌, ◌++◌, IfOk, OnOk};
 ghost use Rattle.exploration_text.specs.Words as text;
-ghost use Rattle.word_explorer.specs.Ends.{ending_of, ending_with, endings_of};
+ghost use Rattle.explorer.specs.WordEnds.{ending_of, ending_with, endings_of};
 
 use crate::spelling::{spell_extent, spell_harts, spell_number, spell_stuck};
 use flat_model::HartResult;
 use std::alloc::{AllocError, Global};
 use text_fields::word_text;
-use word_explorer::{WordExploration, WordFound};
+use explorer::{WordExploration, WordFound};
 
 /// What a line calls a word of memory.
 #[derive(Clone, Copy, Debug)]

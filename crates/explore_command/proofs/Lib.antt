@@ -3,3 +3,10 @@ pub mod Faults
 pub mod Kept
 mod Lines
 pub mod Refused
+mod Runs
+pub mod Asking
+pub mod Shown
+mod ModelKept
+mod Remarked
+mod Readable
+mod Searched

@@ -2,3 +2,11 @@ pub mod Allowing
 pub mod Exploring
 pub mod Judging
 pub mod Keeping
+pub mod Sampling
+pub mod Asking
+pub mod WordKeeping
+pub mod Showing
+pub mod Targets
+pub mod ModelKeeping
+pub mod Searching
+pub mod Telling

@@ -16,7 +16,7 @@ use std::alloc::Global;
 
 /// The machine and the program that a search is asked of.
 #[derive(Drop)]
-pub struct Asked {
+pub(crate) struct Asked {
     pub config: Config,
     pub image: Image,
     /// The text that says which outcomes are allowed, where a file was named for it.
@@ -60,7 +60,7 @@ impl Asked {
 }
 
 /// The bytes of the file that was named, if one was.
-pub fn allow_file<'a, F: Files>(
+pub(crate) fn allow_file<'a, F: Files>(
     alloc: Global,
     files: &mut F,
     allow: Option<&'a str>,

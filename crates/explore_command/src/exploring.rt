@@ -20,7 +20,7 @@ use std::io::Write;
 
 /// Tells a command's progress how far its search is.
 #[derive(Drop)]
-pub struct Telling<'p, P> {
+pub(crate) struct Telling<'p, P> {
     pub progress: &'p P,
 }
 

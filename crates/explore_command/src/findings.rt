@@ -10,7 +10,7 @@ use std::io::Write;
 use text_fields::{Piece, put_pieces};
 
 /// What a search for a program's outcomes finds.
-pub trait Findings {
+pub(crate) trait Findings {
     type Outcome;
 
     // The lines that tell it.
@@ -43,7 +43,7 @@ pub trait Findings {
 }
 
 /// Prints what was found.
-pub fn print<'a, T: Findings, O: Write>(
+pub(crate) fn print<'a, T: Findings, O: Write>(
     alloc: Global,
     found: &T,
     out: &mut O,

@@ -20,7 +20,7 @@ pub enum Judgement {
 
 /// Whether what was found is allowed by a text, if there is one. Where it is, but memory ended, there may be more: that
 /// is an error. Of outcomes that aren't the numbers are told.
-pub fn judge<'a, T: Findings, E: Write>(
+pub(crate) fn judge<'a, T: Findings, E: Write>(
     alloc: Global,
     allowed: &Option<Vec<u8>>,
     found: &T,

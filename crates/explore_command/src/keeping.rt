@@ -21,14 +21,14 @@ use trace_text::{Script, write_script};
 
 /// Where scripts are written, and for which machine they are.
 #[derive(Clone, Copy)]
-pub struct Folder<'a> {
+pub(crate) struct Folder<'a> {
     pub alloc: Global,
     pub name: &'a str,
     pub machine: MachineOptions,
 }
 
 /// What a folder may have of what was found.
-pub trait Keepable {
+pub(crate) trait Keepable {
     // All of it has a text.
     ghost HasTexts: { Self → Type 0 };
 
@@ -49,7 +49,7 @@ pub trait Keepable {
 }
 
 /// Writes what was found into the folder that was named, if one was.
-pub fn keep<'a, T: Keepable, F: Files>(
+pub(crate) fn keep<'a, T: Keepable, F: Files>(
     alloc: Global,
     files: &mut F,
     wanted: Explore<'a>,

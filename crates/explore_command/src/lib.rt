@@ -2,15 +2,18 @@
 #![tactic(auto)]
 
 mod allowing;
+mod architecture;
 mod asked;
 mod exploration;
 mod exploring;
 mod findings;
 mod judging;
 mod keeping;
+mod sample;
+mod show;
 
-pub use asked::{Asked, allow_file};
-pub use exploring::{Telling, explore_files};
-pub use findings::{Findings, print};
-pub use judging::{Judgement, judge};
-pub use keeping::{Folder, Keepable, keep};
+pub use architecture::architecture_files;
+pub use exploring::explore_files;
+pub use judging::Judgement;
+pub use sample::sample_files;
+pub use show::show_files;

@@ -6,3 +6,9 @@ pub mod Ranks
 pub mod Standing
 pub mod Stuck
 pub mod Visited
+pub mod FinalWords
+pub mod WordEnds
+pub mod WordOrders
+pub mod WordStuck
+pub mod WordVisited
+pub mod Words

@@ -5,18 +5,22 @@
 mod effort;
 mod exploration;
 mod exploring;
+mod final_words;
 mod found;
 mod keyed;
 mod laws;
 mod ranks;
 mod scripts;
 mod stuck;
+mod words;
 
 pub use effort::{Exploring, most_played};
 pub use exploration::{Exploration, Stuck};
 pub use exploring::{States, explore};
+pub use final_words::words_of;
 pub use found::{Found, Realisation};
 pub use keyed::Keyed;
 pub use laws::{each_end_is_seen, ends_are_real, stuck_is_seen};
 pub use ranks::compare;
 pub use scripts::Program;
+pub use words::{WordExploration, WordFound, can_show, explore_words};

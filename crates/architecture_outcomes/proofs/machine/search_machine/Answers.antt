@@ -8,7 +8,7 @@ use Rattle.architecture_outcomes.specs.Outcomes.{HasEachMachineEnd, IsMachine, I
 use Rattle.architecture_outcomes.specs.Visited.{AreMachineStates}
 use Rattle.flat_model.specs.Flat.{Flat}
 use Rattle.state_search.specs.declared.findings.Extent.TheVariants.{Complete}
-use Rattle.word_explorer.specs.Orders.{ending_cmp}
+use Rattle.explorer.specs.WordOrders.{ending_cmp}
 use Rattle.architecture_outcomes.proofs.machine.search_machine.Goals as goal
 
 pub returns-then-is_empty-clause-shown : goal.returns-then-is_empty-clause-shown

@@ -5,8 +5,8 @@ use Rattle.command_line.proofs.Meant.{beyond_run, journal_alone, no_address, unw
 use Rattle.command_line.proofs.Leaving.{all_left_of, as_told, chart_inside, chart_outside, check_inside, check_outside, explore_inside, explore_outside, left_of, show_inside, show_outside, stream_left}
 use Rattle.command_line.specs.Running.{IsOutOfRange, IsDone, IsNoted, IsWritten}
 use Rattle.command_line.specs.Telling.{ComesBeforeFiles}
-use Rattle.explain_command.proofs.Told.{explain_never_misused}
-use Rattle.replay_command.proofs.Told.{replay_never_misused}
+use Rattle.script_commands.proofs.ExplainTold.{explain_never_misused}
+use Rattle.script_commands.proofs.ReplayTold.{replay_never_misused}
 use Rattle.command_line.proofs.carrying.carry_out.Goals as goal
 
 pub returns-in_ok-replay_files-in-Replay-clause-came : goal.returns-in_ok-replay_files-in-Replay-clause-came

@@ -1,6 +1,6 @@
 use Rattle.std.proofs.Common.{◌≡◌, ◌++◌, ◌+◌, length}
 use Rattle.exploration_text.specs.Words.{end_lines}
-use Rattle.word_explorer.specs.Ends.{endings_of}
+use Rattle.explorer.specs.WordEnds.{endings_of}
 use Rattle.exploration_text.proofs.wording.spell_endings.Given as goal
 
 abbrev pub invariant-loop-rest : goal.invariant-loop-rest

@@ -1,4 +1,0 @@
-mod Kept
-mod Remarked
-mod Readable
-mod Searched

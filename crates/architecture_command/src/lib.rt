@@ -1,9 +1,0 @@
-//! `rvtl explore --architecture`, over files and streams that the caller hands in.
-#![tactic(auto)]
-
-mod allowed;
-mod keeping;
-mod searching;
-mod telling;
-
-pub use searching::architecture_files;

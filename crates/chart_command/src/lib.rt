@@ -1,8 +1,0 @@
-//! `rvtl chart`, over files and streams that the caller hands in.
-#![tactic(auto)]
-
-mod address;
-mod charting;
-
-pub use address::address_in;
-pub use charting::chart_files;

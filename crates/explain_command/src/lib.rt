@@ -1,8 +1,0 @@
-//! `rvtl explain`, over files and streams that the caller hands in.
-#![tactic(auto)]
-
-mod explaining;
-mod named;
-
-pub use explaining::explain_files;
-pub use named::{NamedImage, named_image_in};

@@ -1,0 +1,49 @@
+-- What is known of random runs, and what they leave.
+use Rattle.std.proofs.Common.{◌≡◌, ◌≤◌, ℕ, IfSome, List, Option, arith, length, map, subst}
+use Rattle.std.specs.Io.KnownBytes.{Appends}
+use Rattle.command_files.specs.Files.{HoldsImage}
+use Rattle.command_files.specs.Contents.{Contents}
+use Rattle.command_files.specs.Sizes.{config_named}
+use Rattle.command_settings.specs.declared.wanted.Explore.{Explore}
+use Rattle.elf_loader.specs.Image.{Initial}
+use Rattle.exploration_text.specs.Sampling.{sampled_text}
+use Rattle.exploration_text.specs.Text.{harts_text}
+use Rattle.explore_command.specs.Judging.{HaveRefusals, IsJudged}
+use Rattle.explore_command.specs.Keeping.{AreKeptFrom, IsInNamed, IsOutcomeScript, SparesOthers}
+use Rattle.explore_command.specs.declared.judging.Judgement.{Judgement}
+use Rattle.explore_command.specs.declared.judging.Judgement.TheVariants.{Allowed}
+use Rattle.explorer.specs.Ends.{outcome_of}
+use Rattle.machine_types.specs.declared.config.Config.{Config}
+use Rattle.explore_command.specs.Sampling.{AreRuns, IsSampleTold, SampleHas, SampleRefusals}
+use Rattle.sampler.specs.declared.sampled.Sampled.{Sampled}
+
+module _ (held : Contents) (wanted : Explore) (runs : ℕ) (config : Config) (image : Initial) (found : Sampled)
+    (config_is : config ≡ config_named wanted.machine) (file : HoldsImage held wanted.raw wanted.image.now wanted.machine.memory image) (are : AreRuns image config runs found) where
+  are_runs : AreRuns image (config_named wanted.machine) runs found
+  are_runs = subst (λ (c : Config). AreRuns image c runs found) config_is are
+
+  pub has : (P : List ℕ → Type 0) → P (sampled_text found) → SampleHas held wanted runs P
+  has P so = record { image = image; found = found; image_file = file; runs_made = are_runs; of_text = so }
+
+  pub all : (old new : Option (List ℕ)) (left : Contents) (judgement : Judgement) → Appends old new (sampled_text found) → IfSome wanted.scripts (λ folder. AreKeptFrom left wanted.machine folder.now 1 found.ends.items)
+      → SparesOthers (IsInNamed wanted.scripts (IsOutcomeScript (length found.ends.items))) held left
+      → IsJudged held wanted.allow (map (λ f. harts_text 0 (outcome_of f)) found.ends.items) judgement → (judgement ≡ Allowed → found.runs ≡ runs) → IsSampleTold held left wanted runs judgement old new
+  all old new left judgement printed kept spares by whole = record {
+    image = image;
+    found = found;
+    image_file = file;
+    runs_made = are_runs;
+    printed = printed;
+    kept = kept;
+    spared = spares;
+    judged = by;
+    whole = whole;
+  }
+
+  pub refusals : (old new : Option (List ℕ)) (P : List ℕ → Type 0) → Appends old new (sampled_text found) → HaveRefusals held wanted.allow (map (λ f. harts_text 0 (outcome_of f)) found.ends.items) P
+      → SampleRefusals held wanted runs old new P
+  refusals old new P printed so = record { image = image; found = found; image_file = file; runs_made = are_runs; printed = printed; refusals = so }
+
+-- no fewer runs than were asked for, and no more
+pub all_made : (made runs : ℕ) {most : ℕ} → made ≤ most → most ≡ runs → runs ≤ made → made ≡ runs
+all_made made runs few same enough = omega (arith, few, same, enough)

@@ -1,0 +1,65 @@
+-- What is known of a search, and what it leaves.
+use Rattle.std.proofs.Common.{◌≡◌, ◌≢◌, ℕ, IfSome, List, Option, map, subst}
+use Rattle.std.specs.Io.KnownBytes.{Appends}
+use Rattle.explore_command.specs.ModelKeeping.{AreWaysKept, IsWayFile}
+use Rattle.explore_command.specs.Searching.{IsFoundUnder, IsOfFile, IsSearchNoted, IsSearched, SearchHas}
+use Rattle.explore_command.specs.Telling.{AreRemarked}
+use Rattle.architecture_outcomes.specs.declared.architecture.Architecture.{Architecture}
+use Rattle.architecture_outcomes.specs.Outcomes.{end_of}
+use Rattle.architecture_outcomes.specs.Text.{architecture_text}
+use Rattle.command_files.specs.Faults.{Name}
+use Rattle.command_files.specs.Contents.{Contents}
+use Rattle.command_files.specs.Sizes.{config_named}
+use Rattle.command_settings.specs.declared.wanted.Explore.{Explore}
+use Rattle.elf_loader.specs.Image.{Initial}
+use Rattle.exploration_text.specs.declared.wording.WordName.{WordName}
+use Rattle.exploration_text.specs.Words.{end_text}
+use Rattle.explore_command.specs.Exploring.{IsAllowFile}
+use Rattle.explore_command.specs.Judging.{IsToldBy, judgement_of_lines, refusals}
+use Rattle.explore_command.specs.Keeping.{IsInNamed, SparesOthers}
+use Rattle.explore_command.specs.declared.judging.Judgement.{Judgement}
+use Rattle.explore_command.specs.declared.judging.Judgement.TheVariants.{Allowed}
+use Rattle.machine_types.specs.declared.config.Config.{Config}
+use Rattle.explore_command.proofs.Shown.{judged_of, told_of}
+use Rattle.explore_command.specs.Asking.{HasProgram}
+use Rattle.explore_command.specs.Targets.{names_of}
+use Rattle.state_search.specs.declared.findings.Extent.TheVariants as extent
+use Rattle.window_machine.specs.declared.left_out.Reach.TheVariants as reach
+
+module _ (held : Contents) (wanted : Explore) (words : List Name) (window : ℕ) (config : Config) (image : Initial) (addresses : List ℕ) (names : List WordName) (found : Architecture)
+    (config_is : config ≡ config_named wanted.machine) (program : HasProgram held wanted words image addresses) (named : names ≡ names_of words) (is : IsFoundUnder image config addresses window wanted.states found) where
+  of_file : IsOfFile held wanted words window found
+  of_file = record {
+    image = image;
+    addresses = addresses;
+    program = program;
+    found = subst (λ (c : Config). IsFoundUnder image c addresses window wanted.states found) config_is is;
+  }
+
+  pub has : (P : List ℕ → Type 0) → P (architecture_text names found) → SearchHas held wanted words window P
+  has P so = record { architecture = found; of_file = of_file; of_text = subst (λ (n : List WordName). P (architecture_text n found)) named so }
+
+  pub whole : (old new : Option (List ℕ)) (left : Contents) (judgement : Judgement) (text : Option (List ℕ)) → Appends old new (architecture_text names found) → IfSome wanted.scripts (λ folder. AreWaysKept left wanted.machine folder.now 1 found.outcomes.items)
+      → SparesOthers (IsInNamed wanted.scripts (IsWayFile 1 found.outcomes.items)) held left
+      → IsAllowFile held wanted.allow text → judgement ≡ judgement_of_lines text (map (λ o. end_text names (end_of o)) found.outcomes.items)
+      → (judgement ≡ Allowed → (found.machine ≢ extent.OutOfMemory) × (found.reach ≢ reach.OutOfMemory)) → IsSearched held left wanted words window judgement old new
+  whole old new left judgement text printed kept spares read by memory = record {
+    architecture = found;
+    of_file = of_file;
+    printed = subst (λ (n : List WordName). Appends old new (architecture_text n found)) named printed;
+    kept = kept;
+    spared = spares;
+    judged = judged_of end_of held wanted.allow text names (names_of words) found.outcomes.items judgement named read by;
+    whole = memory;
+  }
+
+  pub noted : (old new before between after : Option (List ℕ)) (judgement : Judgement) (text : Option (List ℕ)) → Appends old new (architecture_text names found) → AreRemarked wanted.scripts found.outcomes.items before between
+      → IsAllowFile held wanted.allow text → IsToldBy judgement between after (refusals text (map (λ o. end_text names (end_of o)) found.outcomes.items)) → IsSearchNoted held wanted words window judgement old new before after
+  noted old new before between after judgement text printed remarked read told = record {
+    architecture = found;
+    of_file = of_file;
+    printed = subst (λ (n : List WordName). Appends old new (architecture_text n found)) named printed;
+    between = between;
+    remarked = remarked;
+    refusals = told_of end_of held wanted.allow text names (names_of words) found.outcomes.items (IsToldBy judgement between after) named read told;
+  }

@@ -1,0 +1,166 @@
+-- What is known of an exploration that shows words, and what its faults say and leave.
+use Rattle.std.proofs.Common.{◌≡◌, ◌≢◌, ◌∙◌, ◌⊎◌, ◌≤◌, ◌-◌, ℕ, [], ◌∷◌, ◌++◌, All, arith, IfSome, List, Option, Some, ap, drop, get_or, inl, inr, length, map, refl, reverse, subst, sym, take}
+use Rattle.std.proofs.lemmas.List.{append_assoc, length-drop, length-map, map-append, reverse-append, take_all}
+use Rattle.std.proofs.lemmas.List.Elements.{All-nil, All-push}
+use Rattle.std.specs.Io.KnownBytes.{Appends}
+use Rattle.command_files.specs.Faults.{Name}
+use Rattle.command_files.specs.Contents.{Contents}
+use Rattle.command_files.specs.Sizes.{config_named}
+use Rattle.command_files.specs.declared.fault.Fault.{Fault}
+use Rattle.command_settings.specs.declared.wanted.MachineOptions.{MachineOptions}
+use Rattle.command_settings.specs.declared.wanted.Show.{Show}
+use Rattle.elf_loader.specs.Image.{Initial}
+use Rattle.elf_symbols.specs.Named.{Named}
+use Rattle.exploration_text.specs.declared.wording.WordName.{WordName}
+use Rattle.exploration_text.specs.Words.{end_text, words_text}
+use Rattle.explore_command.proofs.Explored.{judged}
+use Rattle.explore_command.specs.Exploring.{IsAllowFile, IsExploreFault}
+use Rattle.explore_command.proofs.Refused.{refusals_in}
+use Rattle.explore_command.specs.Judging.{HaveRefusals, IsJudged, judgement_of_lines, refusals}
+use Rattle.explore_command.specs.Keeping.{AreKept, AreKeptFrom, IsInNamed, IsKeptAt, IsScriptOf, SparesOthers, stuck_path}
+use Rattle.explore_command.specs.declared.judging.Judgement.{Judgement}
+use Rattle.explore_command.specs.declared.judging.Judgement.TheVariants.{Allowed}
+use Rattle.explorer.specs.declared.exploration.Exploration.{Exploration}
+use Rattle.explorer.specs.declared.exploration.Stuck.{Stuck}
+use Rattle.explorer.specs.declared.found.Found.{Found}
+use Rattle.flat_exploration.specs.Drained.{Ending}
+use Rattle.machine_types.specs.declared.config.Config.{Config}
+use Rattle.explore_command.specs.Asking.{HasProgram, HasUnshown}
+use Rattle.explore_command.specs.WordKeeping.{AreWordsKept, bare_of}
+use Rattle.explore_command.specs.Showing.{AreWordsShown, IsFirstOf, IsFoundIn, IsOfFile, IsShowFault, WordRefusals, WordsHave}
+use Rattle.explore_command.specs.Targets.{IsTarget, IsUnplaced, IsUnshown, name_of, names_of, place_of}
+use Rattle.state_search.specs.declared.findings.Extent.TheVariants as extent
+use Rattle.explorer.specs.declared.words.exploration.WordExploration.{WordExploration}
+use Rattle.explorer.specs.declared.words.found.WordFound.{WordFound}
+use Rattle.explorer.specs.WordEnds.{ending_of}
+use Rattle.explorer.specs.Words.{CanShow}
+
+-- ---- what is allowed
+
+-- the judgement on the lines of ends, by the names that the words have
+pub judged_of : {X : Type 0} (ending : X → Ending) (held : Contents) (allow : Option Name) (text : Option (List ℕ)) (names told : List WordName) (xs : List X) (judgement : Judgement) → names ≡ told → IsAllowFile held allow text
+    → judgement ≡ judgement_of_lines text (map (λ x. end_text names (ending x)) xs) → IsJudged held allow (map (λ x. end_text told (ending x)) xs) judgement
+judged_of ending held allow text names told xs judgement same read is =
+    judged held allow text (map (λ x. end_text told (ending x)) xs) judgement read (is ∙ ap (λ (n : List WordName). judgement_of_lines text (map (λ x. end_text n (ending x)) xs)) same)
+
+-- what is to be told of the lines of ends
+pub told_of : {X : Type 0} (ending : X → Ending) (held : Contents) (allow : Option Name) (text : Option (List ℕ)) (names told : List WordName) (xs : List X) (P : List ℕ → Type 0) → names ≡ told → IsAllowFile held allow text
+    → P (refusals text (map (λ x. end_text names (ending x)) xs)) → HaveRefusals held allow (map (λ x. end_text told (ending x)) xs) P
+told_of ending held allow text names told xs P same read so =
+    refusals_in held allow text (map (λ x. end_text told (ending x)) xs) P read (subst (λ (n : List WordName). P (refusals text (map (λ x. end_text n (ending x)) xs))) same so)
+
+-- ---- what was found
+
+module _ (held : Contents) (show : Show) (config : Config) (image : Initial) (addresses : List ℕ) (words : List Name) (names : List WordName) (found : WordExploration) (config_is : config ≡ config_named show.explore.machine)
+    (words_are : words ≡ show.words.items) (program : HasProgram held show.explore words image addresses) (named : names ≡ names_of words) (is : IsFoundIn image config addresses show.explore.states found) where
+  pub of_file : IsOfFile held show found
+  of_file = record {
+    image = image;
+    addresses = addresses;
+    program = subst (λ (w : List Name). HasProgram held show.explore w image addresses) words_are program;
+    found = subst (λ (c : Config). IsFoundIn image c addresses show.explore.states found) config_is is;
+  }
+
+  pub names_are : names ≡ names_of show.words.items
+  names_are = named ∙ ap names_of words_are
+
+  -- what holds of the text that these names make, holds of what was found
+  pub has : (P : List ℕ → Type 0) → P (words_text names found) → WordsHave held show P
+  has P so = record { exploration = found; of_file = of_file; of_text = subst (λ (n : List WordName). P (words_text n found)) names_are so }
+
+  -- and so with what is to be told of its outcomes
+  pub refused : (old new : Option (List ℕ)) (P : List ℕ → Type 0) (text : Option (List ℕ)) → Appends old new (words_text names found) → IsAllowFile held show.explore.allow text
+      → P (refusals text (map (λ f. end_text names (ending_of f)) found.outcomes.items)) → WordRefusals held show old new P
+  refused old new P text printed read so = record {
+    exploration = found;
+    of_file = of_file;
+    printed = subst (λ (n : List WordName). Appends old new (words_text n found)) names_are printed;
+    refusals = told_of ending_of held show.explore.allow text names (names_of show.words.items) found.outcomes.items P names_are read so;
+  }
+
+  -- all of it was done
+  pub shown : (old new : Option (List ℕ)) (left : Contents) (judgement : Judgement) (text : Option (List ℕ)) → Appends old new (words_text names found) → IfSome show.explore.scripts (λ folder. AreWordsKept left show.explore.machine folder.now found)
+      → SparesOthers (IsInNamed show.explore.scripts (IsScriptOf (length found.outcomes.items) found.stuck)) held left → IsAllowFile held show.explore.allow text
+      → judgement ≡ judgement_of_lines text (map (λ f. end_text names (ending_of f)) found.outcomes.items) → (judgement ≡ Allowed → found.extent ≢ extent.OutOfMemory) → AreWordsShown held left show judgement old new
+  shown old new left judgement text printed kept spares read by whole = record {
+    exploration = found;
+    of_file = of_file;
+    printed = subst (λ (n : List WordName). Appends old new (words_text n found)) names_are printed;
+    kept = kept;
+    spared = spares;
+    judged = judged_of ending_of held show.explore.allow text names (names_of show.words.items) found.outcomes.items judgement names_are read by;
+    whole = whole;
+  }
+
+pub show_told : (held : Contents) (show : Show) (fault : Fault) → IsExploreFault held show.explore fault ⊎ HasUnshown held show.explore show.words.items fault → IsShowFault held show fault
+show_told held show fault (inl so) = inl so
+show_told held show fault (inr so) = inr (inl so)
+
+-- ---- scripts
+
+-- one more end goes to the other list, in reverse
+pub one_bare : (before left : List WordFound) (end : WordFound) (bare : Found) (all new : List Found) (whole : List Found) → before ≡ left ++ end ∷ [] → bare ≡ bare_of end → new ≡ all ++ bare ∷ []
+    → map bare_of before ++ reverse all ≡ whole → map bare_of left ++ reverse new ≡ whole
+one_bare before left end bare all new whole popped is pushed so =
+    let front : map bare_of before ≡ map bare_of left ++ bare ∷ [] = ap (map bare_of) popped ∙ (map-append bare_of left (end ∷ []) ∙ ap (λ (b : Found). map bare_of left ++ b ∷ []) (sym is)) in
+    let back : reverse new ≡ bare ∷ reverse all = ap reverse pushed ∙ reverse-append all (bare ∷ []) in
+    ap (λ (xs : List Found). map bare_of left ++ xs) back ∙ (sym (append_assoc (map bare_of left) (bare ∷ []) (reverse all)) ∙ (ap (λ (xs : List Found). xs ++ reverse all) (sym front) ∙ so))
+
+-- scripts are kept as they are of the ends without words
+pub kept_bare : (left : Contents) (machine : MachineOptions) (folder : List ℕ) (e : Exploration) (found : WordExploration) → e.outcomes.items ≡ map bare_of found.outcomes.items → e.stuck ≡ found.stuck
+    → AreKept left machine folder e → AreWordsKept left machine folder found
+kept_bare left machine folder e found items stuck kept = (
+  subst (AreKeptFrom left machine folder 1) items kept.0,
+  subst (λ (o : Option Stuck). IfSome o (λ s. IsKeptAt left machine (stuck_path folder) s.script)) stuck kept.1,
+)
+
+-- and spare the same other files
+pub spared_bare : (held left : Contents) (folder : List ℕ) (e : Exploration) (found : WordExploration) → e.outcomes.items ≡ map bare_of found.outcomes.items → e.stuck ≡ found.stuck
+    → SparesOthers (IsScriptOf (length e.outcomes.items) e.stuck folder) held left → SparesOthers (IsScriptOf (length found.outcomes.items) found.stuck folder) held left
+spared_bare held left folder e found items stuck spares =
+    let count : length e.outcomes.items ≡ length found.outcomes.items = ap (λ (xs : List Found). length xs) items ∙ length-map found.outcomes.items bare_of in
+    subst (λ (n : ℕ). SparesOthers (IsScriptOf n found.stuck folder) held left) count
+    (subst (λ (o : Option Stuck). SparesOthers (IsScriptOf (length e.outcomes.items) o folder) held left) stuck spares)
+
+-- ---- words, one after the other
+
+pub first_is : {A : Type 0} (xs : List A) (d : A) → 1 ≤ length xs → xs ≡ get_or xs 0 d ∷ take (length xs - 1) (drop 1 xs)
+first_is [] d some = absurd (omega (arith, some))
+first_is {A} (x ∷ xs) d some = ap (λ (r : List A). x ∷ r) (sym (take_all (length (x ∷ xs) - 1) (drop 1 (x ∷ xs)) (omega (arith, length-drop 1 (x ∷ xs)))))
+
+pub is_first : (words : List Name) (word d : Name) → 1 ≤ length words → word ≡ get_or words 0 d → IsFirstOf words word
+is_first [] word d some is = tt
+is_first (first ∷ rest) word d some is = is
+
+pub one_placed : (symbols : List Named) (words rest tail : List Name) (word : Name) (addresses new : List ℕ) (place : ℕ) → rest ≡ word ∷ tail → new ≡ addresses ++ place ∷ [] → place_of symbols (name_of word) ≡ Some place
+    → map Some addresses ++ map (λ w. place_of symbols (name_of w)) rest ≡ map (λ w. place_of symbols (name_of w)) words
+    → map Some new ++ map (λ w. place_of symbols (name_of w)) tail ≡ map (λ w. place_of symbols (name_of w)) words
+one_placed symbols words rest tail word addresses new place first pushed at so =
+    let f : Name → Option ℕ = λ w. place_of symbols (name_of w) in
+    let behind : map f rest ≡ Some place ∷ map f tail = ap (map f) first ∙ ap (λ (o : Option ℕ). o ∷ map f tail) at in
+    let before : map Some new ≡ map Some addresses ++ Some place ∷ [] = ap (map Some) pushed ∙ map-append Some addresses (place ∷ []) in
+    ap (λ (xs : List (Option ℕ)). xs ++ map f tail) before ∙ (append_assoc (map Some addresses) (Some place ∷ []) (map f tail) ∙ (ap (λ (xs : List (Option ℕ)). map Some addresses ++ xs) (sym behind) ∙ so))
+
+module _ (image : Initial) (symbols : List Named) where
+  -- the words end with these, and each before them can be shown
+  pub record HasShown (rest words : List Name) : Type 0 where
+    pub before : List Name
+    pub whole : before ++ rest ≡ words
+    pub shown : All (IsTarget image symbols) before
+
+  pub none_shown : (words : List Name) → HasShown words words
+  none_shown words = record { before = []; whole = refl; shown = All-nil (IsTarget image symbols) }
+
+  pub one_shown : (words rest tail : List Name) (word : Name) (place : ℕ) → rest ≡ word ∷ tail → place_of symbols (name_of word) ≡ Some place → CanShow image place → HasShown rest words → HasShown tail words
+  one_shown words rest tail word place first at inside has = record {
+    before = has.before ++ word ∷ [];
+    whole = append_assoc has.before (word ∷ []) tail ∙ (ap (λ (xs : List Name). has.before ++ xs) (sym first) ∙ has.whole);
+    shown = All-push (IsTarget image symbols) has.before word has.shown (place, at, inside);
+  }
+
+  pub first_unshown : (words rest tail : List Name) (word : Name) (fault : Fault) → rest ≡ word ∷ tail → HasShown rest words → IsUnplaced image symbols word fault → IsUnshown image symbols words fault
+  first_unshown words rest tail word fault first has unplaced = inl (
+    word,
+    record { before = has.before; later = tail; whole = ap (λ (xs : List Name). has.before ++ xs) (sym first) ∙ has.whole; shown = has.shown },
+    unplaced,
+  )

@@ -1,0 +1,84 @@
+-- What a search under a memory model has told, written and judged.
+use Rattle.std.specs.Prelude.{◌≡◌, ◌≢◌, ◌≤◌, ◌⊎◌, ℕ, All, IfSome, List, Option, map, min}
+use Rattle.std.specs.Io.KnownBytes.{Appends}
+use Rattle.std.specs.List.Sorted.{IsStrictlySortedBy}
+use Rattle.std.specs.Ordering.{on}
+use Rattle.explore_command.specs.ModelKeeping.{AreWaysKept, IsWayFile}
+use Rattle.explore_command.specs.Telling.{AreRemarked}
+use Rattle.architecture_outcomes.specs.declared.architecture.Architecture.{Architecture}
+use Rattle.architecture_outcomes.specs.Outcomes.{IsDecided, IsWitnessed, TellsEachEnd, end_of}
+use Rattle.architecture_outcomes.specs.Text.{architecture_text}
+use Rattle.architecture_outcomes.specs.Visited.{AreMachineStates, TellsEnd}
+use Rattle.command_files.specs.Faults.{Name}
+use Rattle.command_files.specs.Contents.{Contents}
+use Rattle.command_files.specs.Sizes.{config_named}
+use Rattle.command_files.specs.declared.fault.Fault.{Fault}
+use Rattle.command_settings.specs.declared.wanted.Explore.{Explore}
+use Rattle.elf_loader.specs.Image.{Initial}
+use Rattle.exploration_text.specs.Words.{end_text}
+use Rattle.explore_command.specs.Exploring.{IsExploreFault}
+use Rattle.explore_command.specs.Judging.{HaveRefusals, IsJudged, IsToldBy}
+use Rattle.explore_command.specs.Keeping.{IsInNamed, SparesOthers}
+use Rattle.explore_command.specs.declared.judging.Judgement.{Judgement}
+use Rattle.explore_command.specs.declared.judging.Judgement.TheVariants.{Allowed}
+use Rattle.flat_model.specs.Flat.{Flat}
+use Rattle.machine_types.specs.declared.config.Config.{Config}
+use Rattle.explore_command.specs.Asking.{HasProgram, HasUnshown}
+use Rattle.explore_command.specs.Targets.{names_of}
+use Rattle.state_search.specs.declared.findings.Extent.TheVariants.{Complete, LimitMet}
+use Rattle.state_search.specs.declared.findings.Extent.TheVariants as extent
+use Rattle.window_machine.specs.Openings.{NeverOpens}
+use Rattle.window_machine.specs.declared.left_out.Reach.TheVariants as reach
+use Rattle.explorer.specs.WordOrders.{ending_cmp}
+
+-- what is said to show an outcome does; where the machine's own search is complete, each of its outcomes is told as one of the machine, and each other as the model's alone;
+-- the search under the model finds no state only where a hart never comes from reset to an access or its end, or says that it left out more; the machine's search finds no more states than the limit, and says where it met it; the model's finds no more, unless it says that it met a limit or that memory ended;
+-- the outcomes stand in their order, each once; unless memory ended the machine's search, each end among its states is told as the machine's; the window told is the one asked for, 64 where that is more
+pub record IsFoundUnder (image : Initial) (config : Config) (addresses : List ℕ) (window limit : ℕ) (found : Architecture) : Type 0 where
+  pub shown : All (IsWitnessed image config addresses) found.outcomes.items
+  pub machine : found.machine ≡ Complete → TellsEachEnd image config addresses found.outcomes.items
+  pub alone : found.machine ≡ Complete → All (λ o. IsDecided o.way) found.outcomes.items
+  pub opens : found.reach ≡ reach.Whole → found.states ≡ 0 → NeverOpens image config
+  pub bounded : found.reach ≢ reach.LimitMet → found.reach ≢ reach.OutOfMemory → found.states ≤ limit
+  pub order : IsStrictlySortedBy (on end_of ending_cmp) found.outcomes.items
+  pub within : found.machine_states ≤ limit
+  pub full : found.machine ≡ LimitMet → found.machine_states ≡ limit
+  pub model : found.model ≡ config.model
+  pub visited : (states : List Flat) × AreMachineStates image config addresses found.machine found.machine_states (TellsEnd found.outcomes.items) states
+  pub window_is : found.window ≡ min window 64
+
+-- it was found of the image in the file, with the words where its symbols say
+pub record IsOfFile (held : Contents) (wanted : Explore) (words : List Name) (window : ℕ) (architecture : Architecture) : Type 0 where
+  pub image : Initial
+  pub addresses : List ℕ
+  pub program : HasProgram held wanted words image addresses
+  pub found : IsFoundUnder image (config_named wanted.machine) addresses window wanted.states architecture
+
+-- what was found was printed, what shows it is in the folder, if one was named, and each other file is as before, and it was judged by the file that says what is allowed; it is allowed only where memory sufficed for both searches
+pub record IsSearched (held left : Contents) (wanted : Explore) (words : List Name) (window : ℕ) (judgement : Judgement) (old new : Option (List ℕ)) : Type 0 where
+  pub architecture : Architecture
+  pub of_file : IsOfFile held wanted words window architecture
+  pub printed : Appends old new (architecture_text (names_of words) architecture)
+  pub kept : IfSome wanted.scripts (λ folder. AreWaysKept left wanted.machine folder.now 1 architecture.outcomes.items)
+  pub spared : SparesOthers (IsInNamed wanted.scripts (IsWayFile 1 architecture.outcomes.items)) held left
+  pub judged : IsJudged held wanted.allow (map (λ o. end_text (names_of words) (end_of o)) architecture.outcomes.items) judgement
+  pub whole : judgement ≡ Allowed → (architecture.machine ≢ extent.OutOfMemory) × (architecture.reach ≢ reach.OutOfMemory)
+
+-- P holds of the text of what was found
+pub record SearchHas (held : Contents) (wanted : Explore) (words : List Name) (window : ℕ) (P : List ℕ → Type 0) : Type 0 where
+  pub architecture : Architecture
+  pub of_file : IsOfFile held wanted words window architecture
+  pub of_text : P (architecture_text (names_of words) architecture)
+
+-- standard error was told of the traces that show the outcomes that were printed, and then of the outcomes that aren't allowed
+pub record IsSearchNoted (held : Contents) (wanted : Explore) (words : List Name) (window : ℕ) (judgement : Judgement) (old new before after : Option (List ℕ)) : Type 0 where
+  pub architecture : Architecture
+  pub of_file : IsOfFile held wanted words window architecture
+  pub printed : Appends old new (architecture_text (names_of words) architecture)
+  pub between : Option (List ℕ)
+  pub remarked : AreRemarked wanted.scripts architecture.outcomes.items before between
+  pub refusals : HaveRefusals held wanted.allow (map (λ o. end_text (names_of words) (end_of o)) architecture.outcomes.items) (IsToldBy judgement between after)
+
+-- as an exploration has them; or one of the words can't be shown
+abbrev pub IsSearchFault : Contents → Explore → List Name → Fault → Type 0
+IsSearchFault held wanted words fault = IsExploreFault held wanted fault ⊎ HasUnshown held wanted words fault

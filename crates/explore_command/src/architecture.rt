@@ -1,0 +1,8 @@
+//! `rvtl explore --architecture`, over files and streams that the caller hands in.
+
+mod allowed;
+mod keeping;
+mod searching;
+mod telling;
+
+pub use searching::architecture_files;

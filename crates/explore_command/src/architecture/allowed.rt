@@ -1,0 +1,67 @@
+//! What a memory model was found to allow, as it is told, kept and judged.
+
+ghost use Rattle.std.specs.Prelude.{◌≢◌, All};
+ghost use Rattle.explore_command.specs.ModelKeeping.{AreWaysKept, HasText, IsWayFile};
+ghost use Rattle.architecture_outcomes.specs.Outcomes.{end_of};
+ghost use Rattle.architecture_outcomes.specs.Text.{architecture_text};
+ghost use Rattle.exploration_text.specs.Words.{end_text};
+ghost use Rattle.state_search.specs.declared.findings.Extent.TheVariants as extent;
+ghost use Rattle.window_machine.specs.declared.left_out.Reach.TheVariants as reach;
+
+use crate::architecture::keeping::keep_outcomes;
+use crate::findings::Findings;
+use crate::keeping::{Folder, Keepable};
+use architecture_outcomes::{Architecture, Outcome, text_of};
+use command_files::{Fault, Files};
+use exploration_text::{WordName, end_text};
+use state_search::Extent;
+use std::alloc::{AllocError, Global};
+use window_machine::Reach;
+
+/// What a search under a memory model found, and what lines call the words of memory.
+#[derive(Drop)]
+pub(crate) struct Searched<'a> {
+    pub(crate) names: Vec<WordName<'a>>,
+    pub(crate) architecture: Architecture,
+}
+
+impl Findings for Searched<'_> {
+    type Outcome = Outcome;
+
+    ghost text = { λ s. architecture_text s.names.items s.architecture };
+
+    ghost outcomes = { λ s. s.architecture.outcomes.items };
+
+    ghost line = { λ s o. end_text s.names.items (end_of o) };
+
+    ghost IsWhole = { λ s. (s.architecture.machine ≢ extent.OutOfMemory) × (s.architecture.reach ≢ reach.OutOfMemory) };
+
+    fn text(&self, alloc: Global) -> Result<Vec<u8>, AllocError> {
+        text_of(alloc, &self.names, &self.architecture)
+    }
+
+    fn outcomes(&self) -> &[Outcome] {
+        &self.architecture.outcomes
+    }
+
+    fn line(&self, alloc: Global, outcome: &Outcome) -> Result<Vec<u8>, AllocError> {
+        end_text(alloc, &self.names, &outcome.harts, &outcome.words)
+    }
+
+    fn is_whole(&self) -> bool {
+        let found = &self.architecture;
+        found.machine != Extent::OutOfMemory && found.reach != Reach::OutOfMemory
+    }
+}
+
+impl Keepable for Searched<'_> {
+    ghost HasTexts = { λ s. All (λ o. HasText o.way) s.architecture.outcomes.items };
+
+    ghost AreKept = { λ s left machine folder. AreWaysKept left machine folder 1 s.architecture.outcomes.items };
+
+    ghost IsFileOf = { λ s. IsWayFile 1 s.architecture.outcomes.items };
+
+    fn keep_in<'a, F: Files>(&self, folder: Folder<'a>, files: &mut F) -> Result<(), Fault<'a>> {
+        keep_outcomes(folder, files, &self.architecture.outcomes)
+    }
+}

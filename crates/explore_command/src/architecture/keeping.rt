@@ -1,0 +1,103 @@
+//! What shows the outcomes, as files of a folder: the machine's scripts, and traces of what only the memory model allows.
+
+ghost use Rattle.std.specs.Prelude.{◌≡◌, ◌≢◌, All, IfErr, IfOk, List, OnOk, true, ℕ};
+ghost use Rattle.std.specs.String.{string_bytes};
+ghost use Rattle.explore_command.specs.ModelKeeping.{AreWaysKept, HasText, IsWayFile, IsWayKeptAt, file_path};
+ghost use Rattle.command_files.specs.Files.{HoldsTrace};
+ghost use Rattle.command_files.specs.Sizes.{config_named};
+ghost use Rattle.elf_loader.specs.Size.{IsMemoryKib};
+ghost use Rattle.explore_command.specs.Exploring.{IsFolderFault};
+ghost use Rattle.explore_command.specs.Keeping.{SparesOthers};
+ghost use Rattle.machine_types.specs.Config.{is_within_limits};
+ghost use Rattle.trace_text.specs.TraceLimits.{IsTrace};
+
+use crate::keeping::Folder;
+use architecture_outcomes::{Outcome, Way};
+use command_files::{Fault, Files, unmade};
+use explorer::Realisation;
+use std::alloc::AllocError;
+use trace_recorder::Trace;
+use trace_text::write_trace;
+
+/// Writes a file for each outcome, the last one first. An outcome of the machine without a script can't be written.
+pub(crate) fn keep_outcomes<'a, F: Files>(
+    folder: Folder<'a>,
+    files: &mut F,
+    outcomes: &[Outcome],
+) -> Result<(), Fault<'a>>
+    requires within { is_within_limits (config_named folder.machine) ≡ true }
+    requires memory { IsMemoryKib folder.machine.memory }
+    requires readable { All (λ o. HasText o.way) outcomes.now }
+    ensures kept { OnOk result (AreWaysKept (F.held files.new) folder.entry.machine folder.entry.name.now 1 outcomes.now) }
+    ensures told { IfErr result (IsFolderFault folder.entry.name) }
+    ensures spared { SparesOthers (IsWayFile 1 outcomes.now folder.entry.name.now) (F.held files.old) (F.held files.new) }
+{
+    let mut rest = outcomes;
+    while let [front @ .., last] = rest {
+        let Ok(path) = path_of(folder, rest.len(), &last.way) else {
+            return Err(Fault::OutOfMemory);
+        };
+        keep_at(folder, files, &path, &last.way)?;
+        rest = front;
+    }
+    Ok(())
+}
+
+/// The file of the outcome of this number.
+fn path_of(folder: Folder<'_>, number: usize, way: &Way) -> Result<String, AllocError>
+    ensures { IfOk result (λ path. string_bytes path ≡ file_path folder.entry.name.now number way.now) }
+{
+    let name = folder.name;
+    match way {
+        Way::Machine(_) => format!(in folder.alloc; "{name}/outcome-{number}.script"),
+        Way::ModelAlone(_) | Way::Model(_) => {
+            format!(in folder.alloc; "{name}/outcome-{number}.trace")
+        }
+    }
+}
+
+/// Writes the file of this path, if there is anything to write.
+fn keep_at<'a, F: Files>(
+    folder: Folder<'a>,
+    files: &mut F,
+    path: &str,
+    way: &Way,
+) -> Result<(), Fault<'a>>
+    requires within { is_within_limits (config_named folder.machine) ≡ true }
+    requires memory { IsMemoryKib folder.machine.memory }
+    requires readable { HasText way.now }
+    ensures kept { OnOk result (IsWayKeptAt (F.held files.new) folder.entry.machine path.now way.now) }
+    ensures told { IfErr result (IsFolderFault folder.entry.name) }
+    ensures others { (other : List ℕ) → other ≢ path.now → F.held files.new other ≡ F.held files.old other }
+{
+    match way {
+        Way::Machine(Realisation::Events(events)) => folder.write(files, path, events),
+        Way::Machine(Realisation::NoMemory) => Err(Fault::OutOfMemory),
+        Way::Machine(Realisation::Limit | Realisation::Unrealised) => {
+            Err(Fault::CannotMake { file: folder.name })
+        }
+        Way::ModelAlone(trace) | Way::Model(trace) => put_trace(folder, files, path, trace),
+    }
+}
+
+fn put_trace<'a, F: Files>(
+    folder: Folder<'a>,
+    files: &mut F,
+    path: &str,
+    trace: &Trace,
+) -> Result<(), Fault<'a>>
+    requires { IsTrace trace.now.history }
+    ensures kept { OnOk result (HoldsTrace (F.held files.new) path.now trace.now.history) }
+    ensures told { IfErr result (IsFolderFault folder.entry.name) }
+    ensures others { (other : List ℕ) → other ≢ path.now → F.held files.new other ≡ F.held files.old other }
+{
+    let mut bytes = Vec::new(folder.alloc);
+    // Only memory can be wanting.
+    if let Err(error) = write_trace(trace, &mut bytes) {
+        return Err(Fault::making(folder.name, error));
+    }
+    match files.write(path, bytes.as_slice()) {
+        Ok(()) => Ok(()),
+        Err(error) => Err(unmade(folder.alloc, files, folder.name, error)),
+    }
+}

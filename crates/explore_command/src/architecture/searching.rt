@@ -1,0 +1,109 @@
+//! `rvtl explore --architecture`: what a memory model allows a program is sought, told, kept and judged.
+
+ghost use Rattle.std.specs.Prelude.{◌≡◌, ◌<◌, Err, IfErr, IfOk, OnErr, OnOk};
+ghost use Rattle.explore_command.specs.ModelKeeping.{IsFileInNamed};
+ghost use Rattle.explore_command.specs.Searching.{IsSearchFault, IsSearchNoted, IsSearched, SearchHas};
+ghost use Rattle.explore_command.specs.Telling.{AreRemarked};
+ghost use Rattle.command_files.specs.Sizes.{IsOutside};
+ghost use Rattle.explore_command.specs.Exploring.{ComesBeforeJudging, ComesBeforeScripts, LeavesPart};
+ghost use Rattle.explore_command.specs.Keeping.{SparesOthers};
+
+use crate::architecture::allowed::Searched;
+use crate::architecture::telling::remarks_on;
+use crate::exploring::Telling;
+use crate::findings::print;
+use crate::judging::{Judgement, judge};
+use crate::keeping::keep;
+use crate::show::AskedWords;
+use architecture_outcomes::{Outcome, explore_architecture};
+use command_files::{Fault, Files};
+use command_settings::Explore;
+use explorer::Exploring;
+use progress_line::Progress;
+use std::alloc::Global;
+use std::io::Write;
+use text_fields::put;
+
+/// Judges the machine's size, reads what is allowed, then the image, looks for the words of memory that are to be shown,
+/// of which there need be none, searches for what the memory model allows with at most `window` operations of a hart
+/// waiting at a time, prints what is found on `out`, writes scripts and traces, and judges the outcomes: `err` tells how
+/// the traces of what the model alone allows leave program order, where they are written, and which outcomes aren't
+/// allowed. Where memory ends, what was found is printed, written and judged all the same. While it searches, `progress` is told how far it is.
+pub fn architecture_files<'a, F: Files, O: Write, E: Write, P: Progress>(
+    alloc: Global,
+    files: &mut F,
+    wanted: Explore<'a>,
+    words: &[&'a str],
+    window: u32,
+    out: &mut O,
+    err: &mut E,
+    progress: &P,
+) -> Result<Judgement, Fault<'a>>
+    requires room { 0 < wanted.states }
+    ensures searched { IfOk result (λ judgement. IsSearched (F.held files.old) (F.held files.new) wanted.entry words.now window judgement (O.contents out.old) (O.contents out.new)) }
+    ensures outside { IsOutside wanted.entry.machine → result ≡ Err Fault.Configuration }
+    ensures told { IfErr result (IsSearchFault (F.held files.old) wanted.entry words.now) }
+    ensures unfinished { IfErr result (λ fault. LeavesPart fault (O.contents out.old) (O.contents out.new)
+        (SearchHas (F.held files.old) wanted.entry words.now window)) }
+    ensures spared { SparesOthers (IsFileInNamed wanted.entry.scripts) (F.held files.old) (F.held files.new) }
+    ensures untouched { IfErr result (λ fault. ComesBeforeScripts fault → F.held files.new ≡ F.held files.old) }
+    ensures noted { IfOk result (λ judgement. IsSearchNoted (F.held files.old) wanted.entry words.now window judgement (O.contents out.old) (O.contents out.new) (E.contents err.old) (E.contents err.new)) }
+    ensures silent { IfErr result (λ fault. ComesBeforeJudging fault → E.contents err.new ≡ E.contents err.old) }
+{
+    let AskedWords {
+        config,
+        image,
+        allowed,
+        targets,
+    } = AskedWords::read(alloc, files, wanted, words)?;
+    let watch = Telling { progress };
+    let exploring = Exploring {
+        limit: wanted.states,
+        shortened: wanted.scripts.is_some(),
+    };
+    let Ok(architecture) = explore_architecture(
+        alloc,
+        &image,
+        config,
+        &targets.addresses,
+        window,
+        exploring,
+        &watch,
+    ) else {
+        progress.end();
+        return Err(Fault::OutOfMemory);
+    };
+    progress.end();
+    let found = Searched {
+        names: targets.names,
+        architecture,
+    };
+    // Called for its clause that the bytes are an image's.
+    let _entry = image.entry();
+    print(alloc, &found, out)?;
+    keep(alloc, files, wanted, &found)?;
+    tell(alloc, wanted, &found.architecture.outcomes, err)?;
+    judge(alloc, &allowed, &found, err)
+}
+
+/// Tells what the traces show, where they were written.
+fn tell<'a, E: Write>(
+    alloc: Global,
+    wanted: Explore<'a>,
+    outcomes: &[Outcome],
+    err: &mut E,
+) -> Result<(), Fault<'a>>
+    ensures told { IfErr result (λ fault. fault ≡ Fault.OutOfMemory) }
+    ensures remarked { OnOk result (AreRemarked wanted.entry.scripts outcomes.now (E.contents err.old) (E.contents err.new)) }
+    ensures silent { OnErr result (E.contents err.new ≡ E.contents err.old) }
+{
+    if wanted.scripts.is_none() {
+        return Ok(());
+    }
+    let Ok(remarks) = remarks_on(alloc, outcomes) else {
+        return Err(Fault::OutOfMemory);
+    };
+    // Standard error has no other place to tell that it takes no more.
+    let _ = put(err, &remarks);
+    Ok(())
+}

@@ -1,0 +1,63 @@
+//! Random runs, as they are told, kept and judged.
+
+ghost use Rattle.std.specs.Prelude.{◌≤◌, length};
+ghost use Rattle.exploration_text.specs.Sampling.{sampled_text};
+ghost use Rattle.exploration_text.specs.Text.{harts_text};
+ghost use Rattle.explore_command.specs.Keeping.{AreKeptFrom, IsOutcomeScript};
+ghost use Rattle.explorer.specs.Ends.{outcome_of};
+
+use crate::findings::Findings;
+use crate::keeping::{Folder, Keepable};
+use command_files::{Fault, Files};
+use exploration_text::{harts_text, sampled_text};
+use explorer::Found;
+use sampler::Sampled;
+use std::alloc::{AllocError, Global};
+
+/// What random runs came to.
+#[derive(Drop)]
+pub(crate) struct Runs {
+    pub(crate) sampled: Sampled,
+    /// How many runs were asked for.
+    pub(crate) asked: u32,
+}
+
+impl Findings for Runs {
+    type Outcome = Found;
+
+    ghost text = { λ r. sampled_text r.sampled };
+
+    ghost outcomes = { λ r. r.sampled.ends.items };
+
+    ghost line = { λ r f. harts_text 0 (outcome_of f) };
+
+    ghost IsWhole = { λ r. r.asked ≤ r.sampled.runs };
+
+    fn text(&self, alloc: Global) -> Result<Vec<u8>, AllocError> {
+        sampled_text(alloc, &self.sampled)
+    }
+
+    fn outcomes(&self) -> &[Found] {
+        &self.sampled.ends
+    }
+
+    fn line(&self, alloc: Global, outcome: &Found) -> Result<Vec<u8>, AllocError> {
+        harts_text(alloc, &outcome.harts)
+    }
+
+    fn is_whole(&self) -> bool {
+        self.sampled.runs >= u64::from(self.asked)
+    }
+}
+
+impl Keepable for Runs {
+    ghost HasTexts = { λ r. Unit {0} };
+
+    ghost AreKept = { λ r left machine folder. AreKeptFrom left machine folder 1 r.sampled.ends.items };
+
+    ghost IsFileOf = { λ r. IsOutcomeScript (length r.sampled.ends.items) };
+
+    fn keep_in<'a, F: Files>(&self, folder: Folder<'a>, files: &mut F) -> Result<(), Fault<'a>> {
+        folder.keep_outcomes(files, &self.sampled.ends)
+    }
+}

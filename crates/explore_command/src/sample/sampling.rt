@@ -1,0 +1,78 @@
+//! `rvtl explore --sample`: random runs are made, and the ends they come to are told, kept and judged.
+
+ghost use Rattle.std.specs.Prelude.{◌≡◌, Err, IfErr, IfOk, OnErr};
+ghost use Rattle.command_files.specs.Sizes.{IsOutside};
+ghost use Rattle.explore_command.specs.Exploring.{ComesBeforeScripts, IsExploreFault, LeavesPart};
+ghost use Rattle.explore_command.specs.Judging.{IsToldBy};
+ghost use Rattle.explore_command.specs.Keeping.{IsScriptFile, SparesOthers};
+ghost use Rattle.explore_command.specs.Sampling.{IsSampleTold, SampleHas, SampleRefusals};
+
+use crate::asked::Asked;
+use crate::findings::print;
+use crate::judging::{Judgement, judge};
+use crate::keeping::keep;
+use crate::sample::random_runs::Runs;
+use command_files::{Fault, Files};
+use command_settings::Explore;
+use progress_line::{Progress, Stage};
+use sampler::{Sampling, Watch, sample_ends};
+use std::alloc::Global;
+use std::io::Write;
+
+/// Tells a command's progress how far its runs are.
+#[derive(Drop)]
+struct Telling<'p, P> {
+    progress: &'p P,
+}
+
+impl<P: Progress> Watch for Telling<'_, P> {
+    fn made(&self, runs: u64, ends: u64) {
+        self.progress.tell(Stage::Sample { runs, ends });
+    }
+}
+
+/// Judges the machine's size, reads what is allowed, then the image, makes `runs` random runs that `seed`
+/// determines, prints the ends they came to on `out`, writes their scripts, shortened, and judges them: `err`
+/// tells which ones aren't allowed. Where memory ends, the runs before are printed, written and judged all the
+/// same; a fault leaves `err` as it was. While they are made, `progress` is told how far they are.
+pub fn sample_files<'a, F: Files, O: Write, E: Write, P: Progress>(
+    alloc: Global,
+    files: &mut F,
+    wanted: Explore<'a>,
+    runs: u32,
+    seed: u32,
+    out: &mut O,
+    err: &mut E,
+    progress: &P,
+) -> Result<Judgement, Fault<'a>>
+    ensures sampled { IfOk result (λ judgement. IsSampleTold (F.held files.old) (F.held files.new) wanted.entry runs judgement (O.contents out.old) (O.contents out.new)) }
+    ensures outside { IsOutside wanted.entry.machine → result ≡ Err Fault.Configuration }
+    ensures told { IfErr result (IsExploreFault (F.held files.old) wanted.entry) }
+    ensures unfinished { IfErr result (λ fault. LeavesPart fault (O.contents out.old) (O.contents out.new)
+        (SampleHas (F.held files.old) wanted.entry runs)) }
+    ensures spared { SparesOthers (IsScriptFile wanted.entry.scripts) (F.held files.old) (F.held files.new) }
+    ensures untouched { IfErr result (λ fault. ComesBeforeScripts fault → F.held files.new ≡ F.held files.old) }
+    ensures noted { IfOk result (λ judgement. SampleRefusals (F.held files.old) wanted.entry runs (O.contents out.old) (O.contents out.new)
+        (IsToldBy judgement (E.contents err.old) (E.contents err.new))) }
+    ensures silent { OnErr result (E.contents err.new ≡ E.contents err.old) }
+{
+    let asked = Asked::read(alloc, files, wanted)?;
+    let sampling = Sampling {
+        runs: u64::from(runs),
+        seed: u64::from(seed),
+        shortened: wanted.scripts.is_some(),
+    };
+    let watch = Telling { progress };
+    let Ok(sampled) = sample_ends(alloc, &asked.image, asked.config, sampling, &watch) else {
+        progress.end();
+        return Err(Fault::OutOfMemory);
+    };
+    progress.end();
+    let found = Runs {
+        sampled,
+        asked: runs,
+    };
+    print(alloc, &found, out)?;
+    keep(alloc, files, wanted, &found)?;
+    judge(alloc, &asked.allowed, &found, err)
+}

@@ -1,0 +1,10 @@
+//! `rvtl explore --show`, over files and streams that the caller hands in.
+
+mod asked;
+mod keeping;
+mod showing;
+mod targets;
+mod words;
+
+pub(crate) use asked::AskedWords;
+pub use showing::show_files;

@@ -1,0 +1,71 @@
+//! What a search that shows words of memory is asked of.
+
+ghost use Rattle.std.specs.Prelude.{◌≡◌, Err, IfErr, IfOk, option_map, true};
+ghost use Rattle.command_files.specs.Sizes.{IsInside, IsOutside, config_named};
+ghost use Rattle.elf_loader.specs.Size.{IsMemoryKib};
+ghost use Rattle.explore_command.specs.Exploring.{IsAllowFile};
+ghost use Rattle.machine_types.specs.Config.{is_within_limits};
+ghost use Rattle.explore_command.specs.Asking.{HasProgram, IsAskingFault};
+ghost use Rattle.explore_command.specs.Targets.{names_of};
+ghost use Rattle.explorer.specs.Words.{CanShowEach};
+
+use crate::asked::allow_file;
+use crate::show::targets::{Targets, targets_of};
+use command_files::{Fault, Files, named_config, out_of_limits};
+use command_settings::Explore;
+use elf_loader::Image;
+use machine_types::Config;
+use script_commands::named_image_in;
+use std::alloc::Global;
+
+/// The machine and the program that a search is asked of, and the words of memory that it is to show.
+#[derive(Drop)]
+pub(crate) struct AskedWords<'a> {
+    pub config: Config,
+    pub image: Image,
+    /// The text that says which outcomes are allowed, where a file was named for it.
+    pub allowed: Option<Vec<u8>>,
+    pub targets: Targets<'a>,
+}
+
+impl<'a> AskedWords<'a> {
+    /// Judges the machine's size, then reads the file that says what is allowed, if one was named, then the image, and
+    /// looks for the words in it.
+    pub fn read<F: Files>(
+        alloc: Global,
+        files: &mut F,
+        wanted: Explore<'a>,
+        words: &[&'a str],
+    ) -> Result<AskedWords<'a>, Fault<'a>>
+        ensures config { IfOk result (λ asked. asked.config ≡ config_named wanted.entry.machine) }
+        ensures size { IfOk result (λ asked. IsInside wanted.entry.machine) }
+        ensures within { IfOk result (λ asked. is_within_limits asked.config ≡ true) }
+        ensures memory { IfOk result (λ asked. IsMemoryKib wanted.entry.machine.memory) }
+        ensures program { IfOk result (λ asked. HasProgram (F.held files.old) wanted.entry words.now asked.image asked.targets.addresses.items) }
+        ensures inside { IfOk result (λ asked. CanShowEach asked.image asked.targets.addresses.items) }
+        ensures names { IfOk result (λ asked. asked.targets.names.items ≡ names_of words.now) }
+        ensures allowed { IfOk result (λ asked. IsAllowFile (F.held files.old) wanted.entry.allow (option_map (λ bytes. bytes.items) asked.allowed)) }
+        ensures outside { IsOutside wanted.entry.machine → result ≡ Err Fault.Configuration }
+        ensures told { IfErr result (IsAskingFault (F.held files.old) wanted.entry words.now) }
+        ensures stays { F.held files.new ≡ F.held files.old }
+    {
+        let Some(config) = named_config(wanted.machine) else {
+            return Err(out_of_limits(alloc, files, wanted.machine));
+        };
+        let allowed = allow_file(alloc, files, wanted.allow)?;
+        let named = named_image_in(
+            alloc,
+            files,
+            wanted.raw,
+            wanted.image,
+            wanted.machine.memory,
+        )?;
+        let targets = targets_of(alloc, &named.image, &named.names, words)?;
+        Ok(AskedWords {
+            config,
+            image: named.image,
+            allowed,
+            targets,
+        })
+    }
+}

@@ -1,0 +1,103 @@
+//! `rvtl explore --show`: every end that the machine can bring a program to is found with words of memory, told, kept
+//! and judged.
+
+ghost use Rattle.std.specs.Prelude.{◌≡◌, ◌⊎◌, ◌<◌, Err, IfErr, IfOk, IfSome, IsNone, OnErr};
+ghost use Rattle.command_files.specs.Faults.{Name};
+ghost use Rattle.command_files.specs.Sizes.{IsOutside};
+ghost use Rattle.explore_command.specs.Exploring.{ComesBeforeScripts, LeavesPart};
+ghost use Rattle.explore_command.specs.Judging.{IsToldBy};
+ghost use Rattle.explore_command.specs.Keeping.{IsScriptFile, SparesOthers};
+ghost use Rattle.explore_command.specs.Showing.{IsElsewhere, IsFirstOf, IsShowFault, AreWordsShown, WordRefusals, WordsHave};
+ghost use Rattle.text_fields.specs.Writing.{Begins};
+
+use crate::exploring::Telling;
+use crate::findings::print;
+use crate::judging::{Judgement, judge};
+use crate::show::asked::AskedWords;
+use crate::show::keeping::keep;
+use crate::show::words::Shown;
+use command_files::{Fault, Files, Unshown};
+use command_settings::Show;
+use explorer::{Exploring, explore_words};
+use progress_line::Progress;
+use std::alloc::Global;
+use std::io::Write;
+
+/// Does what `explore_files` does, where words of memory are to be shown: each is judged behind the image. Random runs
+/// show none. The outcomes are judged before their scripts are written, and where these can't be `err` has been told all
+/// the same which ones aren't allowed.
+pub fn show_files<'a, F: Files, O: Write, E: Write, P: Progress>(
+    alloc: Global,
+    files: &mut F,
+    wanted: &Show<'a>,
+    out: &mut O,
+    err: &mut E,
+    progress: &P,
+) -> Result<Judgement, Fault<'a>>
+    requires room { 0 < wanted.now.explore.states }
+    ensures shown { IfOk result (λ judgement. AreWordsShown (F.held files.old) (F.held files.new) wanted.now judgement (O.contents out.old) (O.contents out.new)) }
+    ensures elsewhere { IsElsewhere wanted.now.explore → (word : Name) × IsFirstOf wanted.now.words.items word × (result ≡ Err (Fault.CannotShow word Unshown.Elsewhere)) }
+    ensures outside { IsOutside wanted.now.explore.machine → (result ≡ Err Fault.Configuration) ⊎ IsElsewhere wanted.now.explore }
+    ensures told { IfErr result (IsShowFault (F.held files.old) wanted.now) }
+    ensures unfinished { IfErr result (λ fault. LeavesPart fault (O.contents out.old) (O.contents out.new)
+        (WordsHave (F.held files.old) wanted.now)) }
+    ensures spared { SparesOthers (IsScriptFile wanted.now.explore.scripts) (F.held files.old) (F.held files.new) }
+    ensures untouched { IfErr result (λ fault. ComesBeforeScripts fault → F.held files.new ≡ F.held files.old) }
+    ensures noted { IfOk result (λ judgement. WordRefusals (F.held files.old) wanted.now (O.contents out.old) (O.contents out.new)
+        (IsToldBy judgement (E.contents err.old) (E.contents err.new))) }
+    ensures silent { IfErr result (λ fault. ComesBeforeScripts fault → E.contents err.new ≡ E.contents err.old) }
+    ensures judged_first { OnErr result ((E.contents err.new ≡ E.contents err.old) ⊎ WordRefusals (F.held files.old) wanted.now (O.contents out.old) (O.contents out.new)
+        (Begins (E.contents err.old) (E.contents err.new))) }
+{
+    let explore = wanted.explore;
+    if let Some(word) = sought_elsewhere(wanted) {
+        let cause = Unshown::Elsewhere;
+        return Err(Fault::CannotShow { word, cause });
+    }
+    let AskedWords {
+        config,
+        image,
+        allowed,
+        targets,
+    } = AskedWords::read(alloc, files, explore, &wanted.words)?;
+    let watch = Telling { progress };
+    let exploring = Exploring {
+        limit: explore.states,
+        shortened: explore.scripts.is_some(),
+    };
+    let Ok(exploration) = explore_words(
+        alloc,
+        &image,
+        config,
+        &targets.addresses,
+        exploring,
+        &watch,
+    ) else {
+        progress.end();
+        return Err(Fault::OutOfMemory);
+    };
+    progress.end();
+    let found = Shown {
+        names: targets.names,
+        exploration,
+    };
+    print(alloc, &found, out)?;
+    let judgement = judge(alloc, &allowed, &found, err);
+    keep(alloc, files, explore, found.exploration)?;
+    judgement
+}
+
+/// The first of the words that are to be shown, where random runs are asked for.
+fn sought_elsewhere<'a>(wanted: &Show<'a>) -> Option<&'a str>
+    ensures sought { IfSome result (λ _. IsElsewhere wanted.now.explore) }
+    ensures first { IfSome result (IsFirstOf wanted.now.words.items) }
+    ensures none { IsNone result → IsElsewhere wanted.now.explore → ⊥ }
+{
+    if wanted.explore.sample == 0 {
+        return None;
+    }
+    match wanted.words.as_slice() {
+        [first, ..] => Some(first),
+        [] => Some(""),
+    }
+}

@@ -1,3 +1,0 @@
-mod Drained
-mod Patched
-mod Performed

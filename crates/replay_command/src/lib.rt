@@ -1,8 +1,0 @@
-//! `rvtl replay`, over files and streams that the caller hands in.
-#![tactic(auto)]
-
-mod composing;
-mod replaying;
-
-pub use composing::{CompositionError, replay_and_write};
-pub use replaying::replay_files;

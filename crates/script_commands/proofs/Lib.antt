@@ -1,0 +1,5 @@
+pub mod ReplayTold
+pub mod Streams
+pub mod ExplainTold
+pub mod Drawn
+pub mod ChartTold

@@ -1,0 +1,6 @@
+pub mod Replaying
+pub mod Unfinished
+pub mod Explaining
+pub mod Named
+pub mod Addresses
+pub mod Charting

@@ -1,0 +1,7 @@
+//! `rvtl explain`, over files and streams that the caller hands in.
+
+mod explaining;
+mod named;
+
+pub use explaining::explain_files;
+pub use named::{NamedImage, named_image_in};

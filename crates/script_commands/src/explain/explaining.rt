@@ -1,0 +1,87 @@
+//! `rvtl explain`: a script of events is applied to a machine, and told event by event.
+
+ghost use Rattle.std.specs.Prelude.{◌≡◌, IfErr, OnOk, false};
+ghost use Rattle.coherent_machine.specs.Machine.{IsReached};
+ghost use Rattle.coherent_machine.specs.declared.errors.NewError.TheVariants as making;
+ghost use Rattle.script_commands.specs.Explaining.{IsExplainFault, IsExplained, IsPartOfStream, IsStreamCutOff, IsWholeExplanation, LeavesOfStream, state_if};
+ghost use Rattle.machine_types.specs.Config.{is_within_limits};
+ghost use Rattle.text_fields.specs.Writing.{Writes};
+
+use crate::explain::named::{NamedImage, named_image_in};
+use coherent_machine::Machine;
+use command_files::{Fault, Files, config_of, remark_refused, script_in};
+use command_settings::Replay;
+use event_stream::{StreamError, Strictness, write_state, write_stream};
+use machine_types::{Config, Event};
+use std::alloc::Global;
+use std::io::{self, Write};
+
+/// What a machine holds, where it is to be told.
+fn tell_state<O: Write>(machine: &Machine, with_state: bool, out: &mut O) -> io::Result<()>
+    requires { IsReached machine.now }
+    ensures { Writes (O.contents out.old) (O.contents out.new) (state_if with_state machine.now) result }
+{
+    if with_state {
+        write_state(machine, out)
+    } else {
+        Ok(())
+    }
+}
+
+/// The stream, and behind it what the machine holds at its end, where that is to be told.
+fn tell<O: Write>(
+    alloc: Global,
+    named: NamedImage,
+    config: Config,
+    events: &[Event],
+    strictness: Strictness,
+    with_state: bool,
+    out: &mut O,
+) -> Result<(), StreamError>
+    ensures whole { OnOk result (IsWholeExplanation named.names strictness with_state named.image config events.now (O.contents out.old) (O.contents out.new)) }
+    ensures limits { IfErr result (λ error. error ≡ StreamError.New making.Config → is_within_limits config ≡ false) }
+    ensures unfinished { IfErr result (IsPartOfStream named.names strictness with_state named.image config events.now (O.contents out.old) (O.contents out.new)) }
+{
+    let NamedImage { image, names } = named;
+    let machine = write_stream(alloc, image, config, events, strictness, &names, out)?;
+    match tell_state(&machine, with_state, out) {
+        Ok(()) => Ok(()),
+        Err(fault) => Err(StreamError::Writing(fault)),
+    }
+}
+
+/// Reads and judges the script, then the image, applies the events, and prints on `out` what each did, with the
+/// names that an ELF file has for addresses, and behind it what the machine holds at the end, if that is to
+/// be told.
+/// Where an event is refused, or changes nothing in a strict stream, the stream up to there is printed.
+pub fn explain_files<'a, F: Files, O: Write>(
+    alloc: Global,
+    files: &mut F,
+    wanted: Replay<'a>,
+    strictness: Strictness,
+    with_state: bool,
+    out: &mut O,
+) -> Result<(), Fault<'a>>
+    ensures explained { OnOk result (IsExplained (F.held files.old) wanted.entry strictness with_state (O.contents out.old) (O.contents out.new)) }
+    ensures unfinished { IfErr result (λ fault. LeavesOfStream fault (O.contents out.old) (O.contents out.new)
+        (IsStreamCutOff (F.held files.old) wanted.entry strictness with_state (O.contents out.old) (O.contents out.new))) }
+    ensures told { IfErr result (IsExplainFault (F.held files.old) wanted.entry strictness (O.contents out.old) (O.contents out.new)) }
+    ensures spared { F.held files.new ≡ F.held files.old }
+{
+    let script = script_in(alloc, files, wanted.script)?;
+    let named = named_image_in(alloc, files, wanted.raw, wanted.image, script.kib)?;
+    let config = config_of(&script, wanted.model);
+    let events = script.events.as_slice();
+    let told = tell(alloc, named, config, events, strictness, with_state, out);
+    if let Err(error) = out.flush() {
+        return Err(Fault::writing(error));
+    }
+    match told {
+        Ok(()) => Ok(()),
+        Err(error) => {
+            let fault = Fault::explaining(wanted.script, error);
+            remark_refused(alloc, files, &script, &fault);
+            Err(fault)
+        }
+    }
+}

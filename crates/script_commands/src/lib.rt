@@ -1,0 +1,10 @@
+//! `rvtl replay`, `rvtl explain` and `rvtl chart`, which play a script, over files and streams that the caller hands in.
+#![tactic(auto)]
+
+mod chart;
+mod explain;
+mod replay;
+
+pub use chart::{address_in, chart_files};
+pub use explain::{NamedImage, explain_files, named_image_in};
+pub use replay::{CompositionError, replay_and_write, replay_files};

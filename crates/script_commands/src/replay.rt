@@ -1,0 +1,7 @@
+//! `rvtl replay`, over files and streams that the caller hands in.
+
+mod composing;
+mod replaying;
+
+pub use composing::{CompositionError, replay_and_write};
+pub use replaying::replay_files;

@@ -1,0 +1,51 @@
+//! `rvtl replay`: a script of events is applied to a machine, and the trace printed.
+
+ghost use Rattle.std.specs.Prelude.{◌≡◌, IfErr, IfOk, OnOk};
+ghost use Rattle.elf_loader.specs.Size.{IsMemoryKib};
+ghost use Rattle.command_files.specs.Files.{HoldsImage, HoldsScript, IsTheScriptIn};
+ghost use Rattle.command_files.specs.Contents.{HoldsBytes};
+ghost use Rattle.script_commands.specs.Replaying.{IsCutOff, IsReplayEndTold, IsReplayed};
+ghost use Rattle.command_files.specs.Faults.{IsImageFault, IsReadFault, IsScriptFault, LeavesAtFault};
+ghost use Rattle.command_files.specs.Faults.{IsReplayFault};
+
+use crate::replay::composing::{CompositionError, replay_and_write};
+use command_files::{Fault, Files, image_in, print_ends, remark_refused, script_in};
+use command_settings::Replay;
+use std::alloc::Global;
+use std::io::Write;
+
+/// Reads and judges the script, then the image, replays, and prints the trace on `out` and each hart's
+/// end on `err`. Where an event is refused nothing is printed.
+pub fn replay_files<'a, F: Files, O: Write, E: Write>(
+    alloc: Global,
+    files: &mut F,
+    wanted: Replay<'a>,
+    out: &mut O,
+    err: &mut E,
+) -> Result<(), Fault<'a>>
+    ensures replayed { OnOk result (IsReplayed (F.held files.old) wanted.entry (O.contents out.old) (O.contents out.new)) }
+    ensures ends { OnOk result (IsReplayEndTold (F.held files.old) wanted.entry (E.contents err.old) (E.contents err.new)) }
+    ensures unfinished { IfErr result (λ fault. LeavesAtFault fault (O.contents out.old) (O.contents out.new)
+        (IsCutOff (F.held files.old) wanted.entry (O.contents out.old) (O.contents out.new))) }
+    ensures told { IfErr result (IsReplayFault (F.held files.old) wanted.entry) }
+    ensures spared { F.held files.new ≡ F.held files.old }
+{
+    let script = script_in(alloc, files, wanted.script)?;
+    let image = image_in(alloc, files, wanted.raw, wanted.image, script.kib)?;
+    let machine = match replay_and_write(alloc, image, &script, wanted.model, out) {
+        Ok(machine) => machine,
+        Err(CompositionError::Replay(error)) => {
+            let fault = Fault::replay(wanted.script, error);
+            remark_refused(alloc, files, &script, &fault);
+            return Err(fault);
+        }
+        Err(CompositionError::Writing(error)) => return Err(Fault::writing(error)),
+    };
+    if let Err(error) = out.flush() {
+        return Err(Fault::writing(error));
+    }
+    let (trace, outputs) = machine.into_parts();
+    // Standard error has no other place to tell that it takes no more.
+    let _ = print_ends(trace.statuses(), outputs.as_slice(), err);
+    Ok(())
+}

@@ -1,4 +1,0 @@
-pub mod Asking
-pub mod Keeping
-pub mod Showing
-pub mod Targets

@@ -1,5 +1,0 @@
-pub mod Ends
-pub mod Orders
-pub mod Stuck
-pub mod Visited
-pub mod Words
