@@ -42,7 +42,7 @@ FLAT = [
     ("explorer", "Ends", "IsRealIn"),
     ("explorer", "Stuck", "IsStuckIn"),
     ("explorer", "Visited", "AreVisited"),
-    ("sampler", "Sampled", "AreCounted"),
+    ("explorer", "Sampled", "AreCounted"),
     ("witnesses", "Witnesses", "IsWitness"),
     ("window_machine", "LeftOut", "MayBeDropped"),
     ("window_machine", "LeftOut", "rank"),

@@ -3,7 +3,7 @@ use Rattle.std.specs.Prelude.{ℕ, zero, suc, ◌+◌, List, [], ◌∷◌, ◌+
 use Rattle.exploration_text.specs.Text.{harts_text}
 use Rattle.explorer.specs.Ends.{outcomes_of}
 use Rattle.flat_model.specs.Shown.{HartEnd}
-use Rattle.sampler.specs.declared.sampled.Sampled.{Sampled}
+use Rattle.explorer.specs.declared.samples.sampled.Sampled.{Sampled}
 
 -- an end's number, how many runs came to it, and how each hart ended
 abbrev pub counted_line : (number times : ℕ) → List HartEnd → List ℕ

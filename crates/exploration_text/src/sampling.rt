@@ -4,8 +4,7 @@ ghost use Rattle.exploration_text.specs.Sampling as text;
 ghost use Rattle.explorer.specs.Ends.{outcome_of, outcomes_of};
 
 use crate::spelling::{spell_harts, spell_number};
-use explorer::Found;
-use sampler::Sampled;
+use explorer::{Found, Sampled};
 use std::alloc::{AllocError, Global};
 
 fn spell_end(into: &mut Vec<u8>, number: usize, times: u64, end: &Found) -> Result<(), AllocError>

@@ -4,10 +4,10 @@ ghost use Rattle.exploration_text.specs.Words as text;
 ghost use Rattle.explorer.specs.WordEnds.{ending_of, ending_with, endings_of};
 
 use crate::spelling::{spell_extent, spell_harts, spell_number, spell_stuck};
+use explorer::{WordExploration, WordFound};
 use flat_model::HartResult;
 use std::alloc::{AllocError, Global};
 use text_fields::word_text;
-use explorer::{WordExploration, WordFound};
 
 /// What a line calls a word of memory.
 #[derive(Clone, Copy, Debug)]

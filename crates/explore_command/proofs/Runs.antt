@@ -15,7 +15,7 @@ use Rattle.explore_command.specs.declared.judging.Judgement.TheVariants.{Allowed
 use Rattle.explorer.specs.Ends.{outcome_of}
 use Rattle.machine_types.specs.declared.config.Config.{Config}
 use Rattle.explore_command.specs.Sampling.{AreRuns, IsSampleTold, SampleHas, SampleRefusals}
-use Rattle.sampler.specs.declared.sampled.Sampled.{Sampled}
+use Rattle.explorer.specs.declared.samples.sampled.Sampled.{Sampled}
 
 module _ (held : Contents) (wanted : Explore) (runs : ℕ) (config : Config) (image : Initial) (found : Sampled)
     (config_is : config ≡ config_named wanted.machine) (file : HoldsImage held wanted.raw wanted.image.now wanted.machine.memory image) (are : AreRuns image config runs found) where

@@ -14,8 +14,8 @@ use Rattle.explore_command.specs.declared.judging.Judgement.{Judgement}
 use Rattle.explore_command.specs.declared.judging.Judgement.TheVariants.{Allowed}
 use Rattle.explorer.specs.Ends.{outcome_of}
 use Rattle.machine_types.specs.declared.config.Config.{Config}
-use Rattle.sampler.specs.Sampled as ends
-use Rattle.sampler.specs.declared.sampled.Sampled.{Sampled}
+use Rattle.explorer.specs.Sampled as ends
+use Rattle.explorer.specs.declared.samples.sampled.Sampled.{Sampled}
 
 -- at most so many runs were made, each end is one, its script leads there, and so many came to it
 pub record AreRuns (image : Initial) (config : Config) (runs : ℕ) (found : Sampled) : Type 0 where

@@ -6,3 +6,4 @@ mod Drained
 mod Patched
 mod Performed
 mod WordTelling
+mod Counting

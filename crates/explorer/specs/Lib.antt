@@ -12,3 +12,4 @@ pub mod WordOrders
 pub mod WordStuck
 pub mod WordVisited
 pub mod Words
+pub mod Sampled

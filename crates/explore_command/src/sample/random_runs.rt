@@ -10,8 +10,7 @@ use crate::findings::Findings;
 use crate::keeping::{Folder, Keepable};
 use command_files::{Fault, Files};
 use exploration_text::{harts_text, sampled_text};
-use explorer::Found;
-use sampler::Sampled;
+use explorer::{Found, Sampled};
 use std::alloc::{AllocError, Global};
 
 /// What random runs came to.

@@ -14,8 +14,8 @@ use crate::keeping::keep;
 use crate::sample::random_runs::Runs;
 use command_files::{Fault, Files};
 use command_settings::Explore;
+use explorer::{SampleWatch, Sampling, sample_ends};
 use progress_line::{Progress, Stage};
-use sampler::{Sampling, Watch, sample_ends};
 use std::alloc::Global;
 use std::io::Write;
 
@@ -25,7 +25,7 @@ struct Telling<'p, P> {
     progress: &'p P,
 }
 
-impl<P: Progress> Watch for Telling<'_, P> {
+impl<P: Progress> SampleWatch for Telling<'_, P> {
     fn made(&self, runs: u64, ends: u64) {
         self.progress.tell(Stage::Sample { runs, ends });
     }

@@ -85,7 +85,11 @@ fn patched_over(alloc: Global, bytes: &[u8], patches: &[Patch]) -> Result<Vec<u8
 
 /// Whether memory, where each byte is the last one that was performed, as every copy of its line has it, is the image
 /// with these patches over it. The operations are gone through once, and so are the patches.
-pub(crate) fn holds_patches(alloc: Global, trace: &Trace, patches: &[Patch]) -> Result<bool, AllocError>
+pub(crate) fn holds_patches(
+    alloc: Global,
+    trace: &Trace,
+    patches: &[Patch],
+) -> Result<bool, AllocError>
     ensures holds { result ≡ Ok true → HoldsPerformed trace.now.history (patched trace.now.history.image.bytes patches.now) }
     ensures other { result ≡ Ok false → ¬ HoldsPerformed trace.now.history (patched trace.now.history.image.bytes patches.now) }
 {

@@ -3,11 +3,12 @@
 ghost use Rattle.std.specs.Prelude.{◌≡◌, ◌+◌, ◌^◌, ◌<◌, ◌≤◌, [], IfOk, OnErr, OnOk, length};
 ghost use Rattle.explorer.specs.Ends.{outcome_of};
 ghost use Rattle.flat_model.specs.Shown.{results, told};
-ghost use Rattle.sampler.specs.Sampled.{IsRealEnd, IsSampled, IsShort, IsTally, all_ended, most_events};
+ghost use Rattle.explorer.specs.Sampled.{IsRealEnd, IsSampled, IsShort, IsTally, all_ended, most_events};
 ghost use Rattle.schedules.specs.Schedules.{EachMoves, Replays, led};
 
-use crate::sampled::Sampled;
-use explorer::{Found, Program, Realisation};
+use crate::found::{Found, Realisation};
+use crate::samples::sampled::Sampled;
+use crate::scripts::Program;
 use flat_model::HartResult;
 use schedules::{HartResults, Schedule};
 use std::alloc::{AllocError, Global};

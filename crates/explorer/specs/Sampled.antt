@@ -14,8 +14,8 @@ use Rattle.flat_model.specs.Shown.{HartEnd, results}
 use Rattle.hart.specs.Run.{is_running}
 use Rattle.machine_types.specs.declared.config.Config.{Config}
 use Rattle.machine_types.specs.declared.event.Event.{Event}
-use Rattle.sampler.specs.declared.sampled.Sampled.{Sampled}
-use Rattle.sampler.specs.declared.tally.Tally.{Tally}
+use Rattle.explorer.specs.declared.samples.sampled.Sampled.{Sampled}
+use Rattle.explorer.specs.declared.samples.tally.Tally.{Tally}
 use Rattle.schedules.specs.Schedules.{EachMoves, HasResults, LeadsThere, Replays, led}
 
 -- ---- ends

@@ -1,6 +1,6 @@
 use Rattle.std.proofs.Common.{◌-◌, ◌≤◌}
-use Rattle.sampler.specs.Sampled.{IsTally}
-use Rattle.sampler.proofs.sampling.make_runs.Given as goal
+use Rattle.explorer.specs.Sampled.{IsTally}
+use Rattle.explorer.proofs.samples.sampling.make_runs.Given as goal
 
 abbrev pub invariant-loop-tally : goal.invariant-loop-tally
 invariant-loop-tally g l = record {

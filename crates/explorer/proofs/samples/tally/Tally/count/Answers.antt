@@ -1,8 +1,8 @@
 use Rattle.std.proofs.Common.{◌∙◌, ap, sym}
 use Rattle.flat_model.specs.Shown.{results, told}
-use Rattle.sampler.specs.Sampled.{all_ended}
-use Rattle.sampler.proofs.Counting.{one_unended}
-use Rattle.sampler.proofs.tally.Tally.count.Goals as goal
+use Rattle.explorer.specs.Sampled.{all_ended}
+use Rattle.explorer.proofs.Counting.{one_unended}
+use Rattle.explorer.proofs.samples.tally.Tally.count.Goals as goal
 
 pub returns-then-not-all_ended-clause-tally : goal.returns-then-not-all_ended-clause-tally
 returns-then-not-all_ended-clause-tally c =

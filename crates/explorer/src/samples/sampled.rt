@@ -1,6 +1,6 @@
 //! What random runs come to.
 
-use explorer::Found;
+use crate::found::Found;
 
 /// What random runs of a program came to. What is known of it stands at `sample_ends`.
 #[derive(Drop)]

@@ -7,9 +7,9 @@ use Rattle.std.specs.Ordering.{on}
 use Rattle.explorer.specs.declared.found.Found.{Found}
 use Rattle.explorer.specs.Ends.{outcome_of}
 use Rattle.explorer.specs.Ranks.{outcome_cmp}
-use Rattle.sampler.specs.Sampled.{AreCounted, IsRealEnd, with_times}
-use Rattle.sampler.proofs.Counting.{ends_of, numbered_push, numbers_of}
-use Rattle.sampler.proofs.tally.Tally.into_sampled.Goals as goal
+use Rattle.explorer.specs.Sampled.{AreCounted, IsRealEnd, with_times}
+use Rattle.explorer.proofs.Counting.{ends_of, numbered_push, numbers_of}
+use Rattle.explorer.proofs.samples.tally.Tally.into_sampled.Goals as goal
 
 pub loop-end-preserved : goal.loop-end-preserved
 loop-end-preserved c =

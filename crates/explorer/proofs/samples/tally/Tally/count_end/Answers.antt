@@ -4,9 +4,9 @@ use Rattle.std.specs.Ordering.{on}
 use Rattle.std.proofs.lemmas.Map.Views.{All-keys-insert_entry, All-values-insert_entry}
 use Rattle.explorer.specs.Ends.{outcome_of}
 use Rattle.explorer.specs.Ranks.{outcome_cmp}
-use Rattle.sampler.specs.Sampled.{IsRealEnd, times_of}
-use Rattle.sampler.proofs.Counting.{end_counted, on_ok, room}
-use Rattle.sampler.proofs.tally.Tally.count_end.Goals as goal
+use Rattle.explorer.specs.Sampled.{IsRealEnd, times_of}
+use Rattle.explorer.proofs.Counting.{end_counted, on_ok, room}
+use Rattle.explorer.proofs.samples.tally.Tally.count_end.Goals as goal
 
 pub overflow_add-times : goal.overflow_add-times
 overflow_add-times c =

@@ -3,14 +3,15 @@
 ghost use Rattle.std.specs.Prelude.{◌≡◌, ◌<◌, ◌≤◌, IfOk, IsTrue, OnErr, OnOk, false, length, true};
 ghost use Rattle.flat_model.specs.Shown.{results, told};
 ghost use Rattle.machine_types.specs.Config.{is_within_limits};
-ghost use Rattle.sampler.specs.Sampled.{IsSampled, IsTally, most_events};
+ghost use Rattle.explorer.specs.Sampled.{IsSampled, IsTally, most_events};
 ghost use Rattle.schedules.specs.Schedules.{EachMoves, Replays, led};
 
-use crate::sampled::Sampled;
-use crate::tally::Tally;
+use crate::effort::most_played;
+use crate::samples::sampled::Sampled;
+use crate::samples::tally::Tally;
+use crate::scripts::Program;
 use coherent_machine::NewError;
 use elf_loader::Image;
-use explorer::{Program, most_played};
 use machine_types::Config;
 use rand_core::{Rng, SeedableRng};
 use rand_xoshiro::SplitMix64;
@@ -21,7 +22,7 @@ use std::alloc::{AllocError, Global};
 const MOST_EVENTS: u64 = 1_000_000;
 
 /// Is told how far random runs are.
-pub trait Watch {
+pub trait SampleWatch {
     /// So many runs were made so far, and came to so many ends.
     fn made(&self, runs: u64, ends: u64);
 }
@@ -40,7 +41,7 @@ pub struct Sampling {
 /// run whose harts haven't all ended after 1,000,000 tried events, or where a limit of the machine is met,
 /// counts as unended. Where memory ends, the runs before are told, and that it did; the error is that there
 /// was none for the list of their ends. Behind each run `watch` is told how many there were.
-pub fn sample_ends<W: Watch>(
+pub fn sample_ends<W: SampleWatch>(
     alloc: Global,
     image: &Image,
     config: Config,
@@ -67,7 +68,7 @@ pub fn sample_ends<W: Watch>(
 }
 
 /// Counts as many runs as are asked for. The only error is want of memory; the runs before stay counted.
-fn make_runs<W: Watch>(
+fn make_runs<W: SampleWatch>(
     program: &Program<'_>,
     sampling: Sampling,
     watch: &W,

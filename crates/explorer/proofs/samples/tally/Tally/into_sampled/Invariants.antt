@@ -1,6 +1,6 @@
 use Rattle.std.proofs.Common.{◌≡◌, ◌++◌, length}
-use Rattle.sampler.specs.Sampled.{with_times}
-use Rattle.sampler.proofs.tally.Tally.into_sampled.Given as goal
+use Rattle.explorer.specs.Sampled.{with_times}
+use Rattle.explorer.proofs.samples.tally.Tally.into_sampled.Given as goal
 
 abbrev pub invariant-loop-end : goal.invariant-loop-end
 invariant-loop-end l = record {

@@ -13,7 +13,7 @@ use Rattle.explorer.specs.Ranks.{outcome_cmp}
 use Rattle.flat_model.specs.Shown.{HartEnd, results}
 use Rattle.machine_types.specs.declared.config.Config.{Config}
 use Rattle.machine_types.specs.declared.event.Event.{Event}
-use Rattle.sampler.specs.Sampled.{AreCounted, IsRealEnd, IsSampledRun, IsShort, LeadsToEnd, all_ended, ends_led, is_outcome_of, with_times, times_of}
+use Rattle.explorer.specs.Sampled.{AreCounted, IsRealEnd, IsSampledRun, IsShort, LeadsToEnd, all_ended, ends_led, is_outcome_of, with_times, times_of}
 use Rattle.schedules.specs.Schedules.{led}
 
 -- equal as code finds it
