@@ -7,7 +7,7 @@ ghost use Rattle.order_remarks.specs.Overtaking as spec;
 
 use memory_model::{Kind, Operation};
 use rv32_decode::{FenceSet, FenceSets, Instr};
-use rvwmo_order::Index;
+use trace_operations::Index;
 use std::alloc::{AllocError, Global};
 use trace_recorder::Trace;
 

@@ -18,9 +18,9 @@ use Rattle.memory_model.proofs.Lists.{Member, Each-at, Each-from, Each-kept}
 use Rattle.rvwmo_order.specs.Bounds.{Bounds, BoundsEach, GivesEach, HasCome, IsGiven, IsBoundsRow, IsSource, bound_of, own_weight, unbounded, weight_of}
 use Rattle.rvwmo_order.specs.Carried.{greatest}
 use Rattle.rvwmo_order.specs.Codes.{rule_of}
-use Rattle.rvwmo_order.specs.Indexed.{rank_of}
+use Rattle.rvwmo_order.specs.Ranks.{rank_of}
 use Rattle.rvwmo_order.specs.Passed.{fenced_before}
-use Rattle.rvwmo_order.specs.Placed.{GivesOwn, IsPlaced}
+use Rattle.trace_operations.specs.Placed.{GivesOwn, IsPlaced}
 use Rattle.rvwmo_order.specs.Touched.{but}
 use Rattle.rvwmo_order.specs.declared.passed.Passed.{Passed}
 use Rattle.rvwmo_order.specs.declared.carried.Carried.{Carried}

@@ -11,7 +11,7 @@ use Rattle.memory_model.specs.Dependencies.{any_addresses, any_steers, between, 
 use Rattle.memory_model.specs.Items.{Item}
 use Rattle.memory_model.specs.Operations.{precedes}
 use Rattle.rvwmo_order.specs.Carried.{carried_after, carried_behind, greatest, nothing_carried, with_each}
-use Rattle.rvwmo_order.specs.Placed.{IsPlaced}
+use Rattle.trace_operations.specs.Placed.{IsPlaced}
 use Rattle.rvwmo_order.specs.declared.carried.Carried.{Carried}
 use Rattle.rvwmo_order.proofs.Parted.{parted}
 use Rattle.rvwmo_order.proofs.Sweeps.{length-held_first, length-with_flags, no_flag}

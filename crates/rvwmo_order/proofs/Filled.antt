@@ -16,7 +16,7 @@ use Rattle.memory_model.specs.Rules.{is_lr_or_sc, items_of}
 use Rattle.rvwmo_order.specs.Bounds.{Bounds, BoundsEach, GivesEach, HasCome, IsGiven, IsBoundsRow, own_weight, unbounded}
 use Rattle.rvwmo_order.specs.Carried.{carried_after, carried_behind, nothing_carried}
 use Rattle.rvwmo_order.specs.Passed.{none_passed, passed_after, passed_behind}
-use Rattle.rvwmo_order.specs.Placed.{GivesOwn, IsPlaced}
+use Rattle.trace_operations.specs.Placed.{GivesOwn, IsPlaced}
 use Rattle.rvwmo_order.specs.Touched.{touch_after, touch_behind, touch_in, untouched}
 use Rattle.rvwmo_order.specs.declared.carried.Carried.{Carried}
 use Rattle.rvwmo_order.specs.declared.passed.Passed.{Passed}

@@ -8,7 +8,7 @@ use Rattle.std.proofs.lemmas.List.{get_or-set_other}
 use Rattle.memory_model.specs.declared.operation.Operation.{Operation}
 use Rattle.memory_model.specs.Operations.{reads, same, stores_to}
 use Rattle.memory_model.specs.Order.{candidates, source}
-use Rattle.rvwmo_order.specs.Indexed.{GivesRanks, GivesSources, HasRank}
+use Rattle.rvwmo_order.specs.Ranks.{GivesRanks, GivesSources, HasRank}
 
 -- ---- the source is told by the name of the load
 

@@ -12,11 +12,12 @@ use Rattle.memory_model.specs.Operations.{precedes, same, stores_to}
 use Rattle.memory_model.specs.Order.{position_in, source}
 use Rattle.memory_model.specs.Verdict.{name_of}
 use Rattle.rvwmo_order.specs.Bounds.{AreDistinctOperations}
-use Rattle.rvwmo_order.specs.Indexed.{GivesSources, HasRank, is_seen, known, place_from, ranked, stored_from}
+use Rattle.trace_operations.specs.Indexed.{is_seen, known, place_from, stored_from}
+use Rattle.rvwmo_order.specs.Ranks.{GivesSources, HasRank, ranked}
 use Rattle.rvwmo_order.specs.Sourcing.{AreNumbers, GivesUpTo, IsLast, Stands, StandsAt, is_come, is_known, is_own_before, nothing_come, raised}
-use Rattle.rvwmo_order.specs.declared.stored.Stored.{Stored}
+use Rattle.trace_operations.specs.declared.stored.Stored.{Stored}
 use Rattle.rvwmo_order.proofs.Clear.{position_at}
-use Rattle.rvwmo_order.proofs.Indexed.{place_known, source_seen}
+use Rattle.trace_operations.proofs.Indexed.{place_known, source_seen}
 use Rattle.rvwmo_order.proofs.Ranks.{ranked_at}
 
 -- ---- one test for another, and two together

@@ -17,7 +17,7 @@ use Rattle.rvwmo_order.specs.Codes.{rule_of}
 use Rattle.rvwmo_order.specs.Marks.{IsBelow, TellsEach, is_source_among, sources_of, asked_at, asked_before, flagged, flags_before, flags_from, is_swept, is_told}
 use Rattle.memory_model.specs.Order.{same_source, source}
 use Rattle.memory_model.specs.Rules.{passes_on}
-use Rattle.rvwmo_order.specs.Placed.{GivesOwn, IsPlaced}
+use Rattle.trace_operations.specs.Placed.{GivesOwn, IsPlaced}
 use Rattle.rvwmo_order.proofs.Passing.{rule_12_swept}
 use Rattle.rvwmo_order.specs.Sweeps.{addressing, is_returned, passing, gives_wanted, is_written, marks_of, nothing, steering, wanted_before, wanted_from}
 use Rattle.rvwmo_order.specs.declared.verdict.Rule.{Rule}

@@ -15,7 +15,7 @@ use Rattle.memory_model.specs.Items.{Item}
 use Rattle.memory_model.specs.Operations.{has_acquire, has_rcsc, is_sc, is_lr, precedes, reads, writes}
 use Rattle.memory_model.specs.Rules.{fences, has_read, has_write, is_in_set, is_lr_or_sc, paired}
 use Rattle.rvwmo_order.specs.Passed.{fenced_after, fenced_before, fenced_by, none_passed, noted, passed_after, passed_behind, raised}
-use Rattle.rvwmo_order.specs.Placed.{IsPlaced}
+use Rattle.trace_operations.specs.Placed.{IsPlaced}
 use Rattle.rvwmo_order.specs.declared.passed.Passed.{Passed}
 use Rattle.rvwmo_order.proofs.Parted.{parted}
 

@@ -13,7 +13,7 @@ use Rattle.memory_model.specs.Order.{position_in}
 use Rattle.memory_model.specs.Rules.{is_lr_or_sc, items_of, paired}
 use Rattle.memory_model.proofs.Forms.{place_head, place_tail}
 use Rattle.rvwmo_order.specs.Bounds.{AreDistinctOperations, GivesEach, IsGiven}
-use Rattle.rvwmo_order.specs.Placed.{IsPlaced}
+use Rattle.trace_operations.specs.Placed.{IsPlaced}
 use Rattle.rvwmo_order.specs.Scans.{is_broken_pair}
 use Rattle.rvwmo_order.proofs.Filled.{placed_there}
 

@@ -5,8 +5,8 @@ use Rattle.std.proofs.lemmas.Option.{none-some, same_Some}
 use Rattle.memory_model.specs.declared.operation.Operation.{Operation}
 use Rattle.memory_model.specs.Dependencies.{between}
 use Rattle.memory_model.specs.Items.{Item}
-use Rattle.rvwmo_order.specs.Placed.{IsPlaced}
-use Rattle.rvwmo_order.proofs.Placed.{between_cut}
+use Rattle.trace_operations.specs.Placed.{IsPlaced}
+use Rattle.trace_operations.proofs.Placed.{between_cut}
 
 -- the first i, the one at i, and then so many
 taken : (items : List Item) (i n k : ℕ) (m : Item) → slice_get items i ≡ Some m → k ≡ suc (i + n) → take k items ≡ take i items ++ (m ∷ take n (drop (suc i) items))

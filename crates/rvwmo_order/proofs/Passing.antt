@@ -1,26 +1,18 @@
 -- Rule 12 by a sweep back: where b returns a store's value, what the store asks for is wanted. For this each operation must bear the place of its instruction.
-use Rattle.std.proofs.Common.{◌≡◌, ℕ, zero, suc, ◌+◌, ◌-◌, ◌<◌, List, [], ◌∷◌, ◌++◌, Bool, true, false, Option, Some, None, refl, cond, sym, ap, ◌∙◌, subst, ◌&&◌, ◌||◌, arith, drop, take, length}
+use Rattle.std.proofs.Common.{◌≡◌, ℕ, ◌+◌, ◌-◌, ◌<◌, List, [], ◌∷◌, ◌++◌, Bool, true, false, Option, Some, None, refl, cond, sym, ap, ◌∙◌, ◌&&◌, ◌||◌, arith, drop, take, length}
 use Rattle.std.specs.Prelude.{slice_get, slice_index_or}
 use Rattle.std.specs.List.{list_any}
 use Rattle.std.proofs.lemmas.Bool.{and_from, and_right, eq-eqb, lt-ltb}
 use Rattle.std.proofs.lemmas.List.{append_assoc, length-append, length-take, take-take, take_at}
 use Rattle.std.proofs.lemmas.List.Folds.{list_any-append}
-use Rattle.std.proofs.lemmas.Option.{none-some}
-use Rattle.elf_loader.specs.Image.{Initial}
-use Rattle.hart.specs.declared.retired.Retired.{Retired}
-use Rattle.hart.specs.declared.state.Hart.{Hart}
-use Rattle.hart.specs.Run.{at_reset}
-use Rattle.trace_recorder.specs.History.{History}
 use Rattle.memory_model.specs.declared.operation.Operation.{Operation}
 use Rattle.memory_model.specs.Dependencies.{between, has_address_dependency, has_data_dependency, held_after, held_behind, held_first, holds, instr_in, uses_at, uses_in}
-use Rattle.memory_model.specs.Items.{Item, items_from, items_of_harts}
+use Rattle.memory_model.specs.Items.{Item}
 use Rattle.memory_model.specs.Operations.{precedes, reads, writes}
-use Rattle.memory_model.specs.Rules.{items_of, passes_on, returns_from, rule_12}
-use Rattle.memory_model.specs.Traces.{instructions}
-use Rattle.memory_model.proofs.Named.{listed_bears}
-use Rattle.rvwmo_order.specs.Placed.{GivesOwn, IsPlaced}
+use Rattle.memory_model.specs.Rules.{passes_on, returns_from, rule_12}
+use Rattle.trace_operations.specs.Placed.{GivesOwn, IsPlaced}
 use Rattle.rvwmo_order.specs.Sweeps.{carries, gives_wanted, is_returned, passing, wanted_from}
-use Rattle.rvwmo_order.proofs.Placed.{between_cut}
+use Rattle.trace_operations.proofs.Placed.{between_cut}
 use Rattle.rvwmo_order.proofs.Sweeps.{first_carried, slice_get-drop, slice_get-take}
 
 -- ---- an instruction between a and b, those before it and those behind it
@@ -105,29 +97,3 @@ pub rule_12_swept : (items : List Item) (order : List Operation) (a b : Operatio
     → rule_12 items order a b ≡ (reads b.kind && gives_wanted (uses_at items a) (wanted_from (passing order b) [] (between items a b)))
 rule_12_swept items order a b p own e =
     ap (λ (c : Bool). reads b.kind && c) (any_passes items [] (between items a b) order a b p own refl ∙ first_carried (passing order b) [] (uses_at items a) (between items a b))
-
--- ---- each hart's list gives its own operations
-
-pub given_own : (hart : Hart) (entries : List Retired) → GivesOwn hart.id (items_from 0 hart entries)
-given_own hart entries = record {
-  at_place = λ k m s e f. (listed_bears 0 hart entries k m s e f).place_is ∙ omega arith;
-  of_hart = λ k m s e f. (listed_bears 0 hart entries k m s e f).hart_is;
-}
-
-pub none_own : (hart : ℕ) → GivesOwn hart []
-none_own hart = record { at_place = λ k m s e f. absurd (none-some m e); of_hart = λ k m s e f. absurd (none-some m e) }
-
-pub gives_own : (image : Initial) (harts id : ℕ) (lists : List (List Retired)) (h : ℕ) → GivesOwn (id + h) (slice_index_or (items_of_harts image harts id lists) h [])
-gives_own image harts id [] h = none_own (id + h)
-gives_own image harts id (entries ∷ rest) zero =
-    let own : id ≡ id + 0 = omega arith in
-    subst (λ (n : ℕ). GivesOwn n (items_from 0 (at_reset image id harts) entries)) own (given_own (at_reset image id harts) entries)
-gives_own image harts id (entries ∷ rest) (suc h) =
-    let own : id + 1 + h ≡ id + suc h = omega arith in
-    subst (λ (n : ℕ). GivesOwn n (slice_index_or (items_of_harts image harts (id + 1) rest) h [])) own (gives_own image harts (id + 1) rest h)
-
--- of a trace
-pub instructions_own : (t : History) (hart : ℕ) → GivesOwn hart (items_of (instructions t) hart)
-instructions_own t hart =
-    let own : 0 + hart ≡ hart = omega arith in
-    subst (λ (n : ℕ). GivesOwn n (items_of (instructions t) hart)) own (gives_own t.image (length t.entries) 0 t.entries hart)

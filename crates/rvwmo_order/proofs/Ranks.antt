@@ -7,7 +7,7 @@ use Rattle.memory_model.specs.declared.operation.Operation.{Operation}
 use Rattle.memory_model.specs.Operations.{is_amo, is_sc}
 use Rattle.memory_model.specs.Order.{position_in, source}
 use Rattle.rvwmo_order.specs.Bounds.{AreDistinctOperations, IsSource, unbounded, weight_of}
-use Rattle.rvwmo_order.specs.Indexed.{HasRank, rank_of, ranked}
+use Rattle.rvwmo_order.specs.Ranks.{HasRank, rank_of, ranked}
 use Rattle.rvwmo_order.specs.Touched.{but}
 use Rattle.rvwmo_order.specs.declared.rows.Row.{Row}
 use Rattle.rvwmo_order.specs.declared.touched.Touch.{Touch}

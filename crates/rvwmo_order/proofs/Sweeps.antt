@@ -11,9 +11,9 @@ use Rattle.memory_model.specs.declared.operation.Operation.{Operation}
 use Rattle.memory_model.specs.Dependencies.{any_addresses, any_steers, between, has_address_dependency, has_control_dependency, has_data_dependency, has_dependent_address_between, held_after, held_behind, held_first, holds, instr_in, sources, steers, uses_at, uses_in, with_flags}
 use Rattle.memory_model.specs.Items.{Item}
 use Rattle.memory_model.specs.Operations.{precedes}
-use Rattle.rvwmo_order.specs.Placed.{IsPlaced}
+use Rattle.trace_operations.specs.Placed.{IsPlaced}
 use Rattle.rvwmo_order.specs.Sweeps.{addressing, carries, gives_wanted, is_written, marks_of, nothing, steering, wanted_before, wanted_from}
-use Rattle.rvwmo_order.proofs.Placed.{between_cut}
+use Rattle.trace_operations.proofs.Placed.{between_cut}
 
 -- ---- flags
 

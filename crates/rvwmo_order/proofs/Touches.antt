@@ -9,9 +9,9 @@ use Rattle.memory_model.specs.Dependencies.{between}
 use Rattle.memory_model.specs.Items.{Item}
 use Rattle.memory_model.specs.Operations.{reads, touches, writes}
 use Rattle.memory_model.specs.Order.{source}
-use Rattle.rvwmo_order.specs.Indexed.{rank_of}
+use Rattle.rvwmo_order.specs.Ranks.{rank_of}
 use Rattle.memory_model.specs.Rules.{has_store_to}
-use Rattle.rvwmo_order.specs.Placed.{IsPlaced}
+use Rattle.trace_operations.specs.Placed.{IsPlaced}
 use Rattle.rvwmo_order.specs.Touched.{but, loaded, read, stored, touch_after, touch_behind, touched, untouched, with_all}
 use Rattle.rvwmo_order.specs.declared.touched.Touch.{Touch}
 use Rattle.rvwmo_order.proofs.Parted.{parted}

@@ -11,7 +11,7 @@ use Rattle.memory_model.specs.Order.{position_in, source}
 use Rattle.memory_model.specs.Rules.{asked_by, is_lr_or_sc, items_of}
 use Rattle.rvwmo_order.specs.Carried.{carried_behind, greatest, nothing_carried}
 use Rattle.rvwmo_order.specs.Codes.{rule_of}
-use Rattle.rvwmo_order.specs.Indexed.{rank_of}
+use Rattle.rvwmo_order.specs.Ranks.{rank_of}
 use Rattle.rvwmo_order.specs.Passed.{fenced_before, none_passed, passed_behind}
 use Rattle.rvwmo_order.specs.Touched.{but, touch_behind, touch_in, untouched}
 use Rattle.rvwmo_order.specs.declared.rows.Row.{Row}

@@ -1,9 +1,7 @@
 pub mod Codes
 pub mod Scans
 pub mod Answers
-pub mod Indexed
-pub mod Placed
-pub mod Listed
+pub mod Ranks
 pub mod Lows
 pub mod Sweeps
 pub mod Marks

@@ -8,7 +8,7 @@ use Rattle.memory_model.specs.declared.operation.Operation.{Operation}
 use Rattle.memory_model.specs.Items.{Item}
 use Rattle.memory_model.specs.Operations.{reads, touches, writes}
 use Rattle.memory_model.specs.Order.{source}
-use Rattle.rvwmo_order.specs.Indexed.{rank_of}
+use Rattle.rvwmo_order.specs.Ranks.{rank_of}
 use Rattle.rvwmo_order.specs.declared.touched.Touch.{Touch}
 
 abbrev pub untouched : Touch

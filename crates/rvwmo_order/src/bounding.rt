@@ -5,15 +5,14 @@ ghost use Rattle.memory_model.specs.Order as orders;
 ghost use Rattle.memory_model.specs.Rules as rules;
 ghost use Rattle.rvwmo_order.specs.Bounds as spec;
 ghost use Rattle.rvwmo_order.specs.Bounds.{AreDistinctOperations, BoundsEach, GivesEach, HasCome, RanksEach};
-ghost use Rattle.rvwmo_order.specs.Placed.{GivesOwn, IsPlaced};
+ghost use Rattle.trace_operations.specs.Placed.{GivesOwn, IsPlaced};
 
-use crate::items::Harts;
-use crate::listed::Item;
 use crate::ranking::Ranking;
 use crate::rows::{Row, UNBOUNDED};
 use crate::walking::{Walk, weight_at};
 use memory_model::MemoryModel;
 use std::alloc::{AllocError, Global};
+use trace_operations::{Harts, Item};
 
 /// For each operation of an order the bounds on the places of those that must come before it.
 pub(crate) fn ranked_rows(

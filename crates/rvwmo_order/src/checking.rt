@@ -7,14 +7,12 @@ ghost use Rattle.rvwmo_order.specs.Answers.{IsSoundVerdict, fault_told, refusal,
 ghost use Rattle.rvwmo_order.specs.Scans.{judged};
 
 use crate::error::CheckError;
-use crate::items::Harts;
 use crate::judging::judge;
-use crate::orders::{few_names, has_too_many, is_order, operations_at};
 use crate::ranking::Ranking;
-use crate::runs::are_runs;
 use crate::verdict::Verdict;
 use memory_model::MemoryModel;
 use std::alloc::{AllocError, Global};
+use trace_operations::{Harts, are_runs, few_names, has_too_many, is_order, operations_at};
 use trace_recorder::{OpId, Trace};
 
 /// Whether an order of the operations of a trace is legal under RVWMO.

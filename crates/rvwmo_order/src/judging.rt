@@ -10,9 +10,7 @@ ghost use Rattle.rvwmo_order.specs.Bounds.{GivesEach, AreDistinctOperations, Ran
 ghost use Rattle.rvwmo_order.specs.Scans as scans;
 ghost use Rattle.rvwmo_order.specs.Scans.{all_rules, first_broken_pair, first_broken_rule, judged};
 
-use crate::accesses::{end_of, is_same, is_sc, name_of, read_at, reads, stores_to};
 use crate::bounding::ranked_rows;
-use crate::items::Harts;
 use crate::lows::{is_near, lows_in};
 use crate::near::are_kept;
 use crate::ranking::Ranking;
@@ -24,6 +22,8 @@ use crate::verdict::{Code, RULES, Rule, Verdict};
 use elf_loader::Image;
 use memory_model::{MemoryModel, Operation};
 use std::alloc::{AllocError, Global};
+use trace_operations::Harts;
+use trace_operations::accesses::{end_of, is_same, is_sc, name_of, read_at, reads, stores_to};
 use trace_recorder::OpId;
 
 /// The verdict on an order of the operations of these lists, one a hart.

@@ -4,11 +4,11 @@ ghost use Rattle.std.specs.HashMap as hash;
 ghost use Rattle.memory_model.specs.Operations as operations;
 ghost use Rattle.rvwmo_order.specs.Sourcing.{latest_at};
 
-use crate::accesses::{behind_in_word, end_of};
 use crate::by_word::word_of;
 use memory_model::Operation;
 use std::alloc::{AllocError, Global};
 use std::collections::HashMap;
+use trace_operations::accesses::{behind_in_word, end_of};
 
 #[derive(Drop)]
 pub(crate) struct Latest {

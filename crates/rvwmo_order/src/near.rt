@@ -7,7 +7,6 @@ ghost use Rattle.rvwmo_order.specs.Lows.{AreLows};
 ghost use Rattle.rvwmo_order.specs.Scans.{all_rules, first_broken_rule};
 ghost use Rattle.rvwmo_order.specs.declared.verdict.Rule.{Rule as RuleValue};
 
-use crate::items::Harts;
 use crate::lows::end_of_earlier;
 use crate::ranking::Ranking;
 use crate::searching::first_asked;
@@ -15,6 +14,7 @@ use crate::sweeping::Sweep;
 use crate::verdict::RULES;
 use memory_model::{MemoryModel, Operation};
 use std::alloc::{AllocError, Global};
+use trace_operations::Harts;
 
 /// Whether no operation stands behind another that it must come before, by any rule.
 pub(crate) fn are_kept(

@@ -3,10 +3,10 @@
 ghost use Rattle.std.specs.Prelude.{◌≡◌};
 ghost use Rattle.rvwmo_order.specs.Passed as spec;
 
-use crate::accesses::{has_acquire, has_rcsc, is_lr, reads, writes};
-use crate::listed::Item;
 use crate::rules::{fences, is_fence, is_lr_or_sc};
 use memory_model::{Kind, MemoryModel, Operation};
+use trace_operations::Item;
+use trace_operations::accesses::{has_acquire, has_rcsc, is_lr, reads, writes};
 
 /// The greatest weights of the operations passed, each of those that it names.
 #[derive(Clone, Copy)]

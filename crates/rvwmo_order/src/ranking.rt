@@ -8,14 +8,14 @@ ghost use Rattle.memory_model.specs.Operations as operations;
 ghost use Rattle.memory_model.specs.Order as spec;
 ghost use Rattle.memory_model.specs.Verdict as verdict;
 ghost use Rattle.rvwmo_order.specs.Bounds.{AreDistinctOperations};
-ghost use Rattle.rvwmo_order.specs.Indexed.{GivesRanks, HasRank, rank_of, ranked};
+ghost use Rattle.rvwmo_order.specs.Ranks.{GivesRanks, HasRank, rank_of, ranked};
 
-use crate::accesses::{is_same, name_of, precedes, reads, stores_to};
-use crate::places::{Places, places_in};
 use crate::sourcing::sources_in;
 use memory_model::Operation;
 use std::alloc::{AllocError, Global};
 use std::marker::Model;
+use trace_operations::accesses::{is_same, name_of, precedes, reads, stores_to};
+use trace_operations::{Places, places_in};
 use trace_recorder::{OpId, Trace};
 
 /// An order of a trace's operations, made for judging it.
@@ -32,7 +32,8 @@ pub(crate) struct Ranking {
 impl Model for Ranking {
     ghost use Rattle.std.specs.Prelude.{◌≡◌, List};
     ghost use Rattle.memory_model.specs.declared.operation.Operation.{Operation as OperationValue};
-    ghost use Rattle.rvwmo_order.specs.Indexed.{GivesSources, known, number_in, place_from};
+    ghost use Rattle.trace_operations.specs.Indexed.{known, number_in, place_from};
+    ghost use Rattle.rvwmo_order.specs.Ranks.{GivesSources};
 
     ghost Value = { List OperationValue };
 

@@ -12,17 +12,17 @@ ghost use Rattle.rvwmo_order.specs.Scans as scans;
 ghost use Rattle.rvwmo_order.specs.Codes.{rule_of};
 ghost use Rattle.rvwmo_order.specs.Marks.{Tells};
 
-use crate::accesses::{
-    end_of, has_acquire, has_rcsc, has_release, is_amo, is_lr, is_sc, overlap, precedes, reads,
-    stores_to, touches, writes,
-};
-use crate::listed::Items;
 use crate::ranking::Ranking;
 use crate::sources::{is_same_source, returns_from};
 use crate::sweeping::Sweep;
 use crate::verdict::Rule;
 use memory_model::{Kind, MemoryModel, Operation};
 use rv32_decode::{FenceSet, Instr};
+use trace_operations::Items;
+use trace_operations::accesses::{
+    end_of, has_acquire, has_rcsc, has_release, is_amo, is_lr, is_sc, overlap, precedes, reads,
+    stores_to, touches, writes,
+};
 
 /// Whether the sweep's rule holds of two operations, of which the first precedes the second in program
 /// order; a rule on dependencies where the sweep back from the second marked the first.

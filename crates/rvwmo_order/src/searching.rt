@@ -8,10 +8,7 @@ ghost use Rattle.rvwmo_order.specs.Codes.{rule_of};
 ghost use Rattle.rvwmo_order.specs.Marks.{Tells, TellsEach};
 ghost use Rattle.rvwmo_order.specs.Scans as scans;
 
-use crate::accesses::precedes;
 use crate::bounding::rows_of;
-use crate::items::Harts;
-use crate::parts::behind;
 use crate::ranking::Ranking;
 use crate::rows::{Row, bound_at};
 use crate::rules::asks;
@@ -19,6 +16,8 @@ use crate::sweeping::Sweep;
 use crate::verdict::Rule;
 use memory_model::{MemoryModel, Operation};
 use std::alloc::{AllocError, Global};
+use trace_operations::accesses::precedes;
+use trace_operations::{Harts, behind};
 
 /// Two operations of which the one behind must come first by this rule, where `rows` bound the ranks of
 /// those that must come before each.

@@ -4,10 +4,10 @@ ghost use Rattle.memory_model.specs.Order as spec;
 ghost use Rattle.memory_model.specs.Rules as rules;
 ghost use Rattle.elf_loader.specs.Image.{byte_at};
 
-use crate::accesses::{end_of, image_byte, is_same, written_at};
 use crate::ranking::Ranking;
 use elf_loader::Image;
 use memory_model::Operation;
+use trace_operations::accesses::{end_of, image_byte, is_same, written_at};
 
 pub(crate) fn is_same_source(a: Option<Operation>, b: Option<Operation>) -> bool
     ensures { result ≡ spec.same_source a b }

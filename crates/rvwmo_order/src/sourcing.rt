@@ -3,14 +3,15 @@
 ghost use Rattle.std.specs.Prelude.{◌≡◌, ◌≤◌, ◌<◌, ◌+◌, ℕ, IfOk, OnOk, length, max, slice_index_or};
 ghost use Rattle.memory_model.specs.declared.operation.Operation.{Operation as OperationValue};
 ghost use Rattle.rvwmo_order.specs.Bounds.{AreDistinctOperations};
-ghost use Rattle.rvwmo_order.specs.Indexed.{GivesSources, known, number_in, place_from};
+ghost use Rattle.trace_operations.specs.Indexed.{known, number_in, place_from};
+ghost use Rattle.rvwmo_order.specs.Ranks.{GivesSources};
 ghost use Rattle.rvwmo_order.specs.Sourcing.{AreNumbers, GivesUpTo, IsRaised, is_come, latest_at, nothing_come, raised};
 
-use crate::accesses::writes;
 use crate::latest::Latest;
-use crate::places::Places;
 use memory_model::Operation;
 use std::alloc::{AllocError, Global};
+use trace_operations::Places;
+use trace_operations::accesses::writes;
 
 /// The ranks of the stores that the first bytes of each load come from: the last of those before it in the
 /// order, or of those that precede it in program order, whichever stands further behind.

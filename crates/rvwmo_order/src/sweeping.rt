@@ -10,10 +10,8 @@ ghost use Rattle.memory_model.specs.Dependencies as dependencies;
 ghost use Rattle.memory_model.specs.Dependencies.{holds, uses_at, uses_in, with_flags};
 ghost use Rattle.rvwmo_order.specs.Marks as spec;
 ghost use Rattle.rvwmo_order.specs.Marks.{IsBelow, TellsEach};
-ghost use Rattle.rvwmo_order.specs.Placed.{GivesOwn};
+ghost use Rattle.trace_operations.specs.Placed.{GivesOwn};
 
-use crate::accesses::{end_of, precedes, reads, writes};
-use crate::listed::{Item, Items, Stretch};
 use crate::ranking::Ranking;
 use crate::sources::is_same_source;
 use crate::uses::{instr_at, is_steering};
@@ -22,6 +20,8 @@ use memory_model::Operation;
 use rv32_decode::{Instr, Register};
 use rv32_exec::{address_register, destination, other_registers, stored_register};
 use std::alloc::{AllocError, Global};
+use trace_operations::accesses::{end_of, precedes, reads, writes};
+use trace_operations::{Item, Items, Stretch};
 
 /// The sweeps for a rule, and the marks of the last one.
 #[derive(Drop)]

@@ -5,16 +5,16 @@ ghost use Rattle.std.specs.HashMap as hash;
 ghost use Rattle.memory_model.specs.Operations as operations;
 ghost use Rattle.memory_model.specs.Order as orders;
 ghost use Rattle.rvwmo_order.specs.Bounds.{AreDistinctOperations};
-ghost use Rattle.rvwmo_order.specs.Indexed.{GivesRanks};
+ghost use Rattle.rvwmo_order.specs.Ranks.{GivesRanks};
 ghost use Rattle.rvwmo_order.specs.Touched as spec;
 ghost use Rattle.rvwmo_order.specs.Touched.{touch_in};
 
-use crate::accesses::{behind_in_word, end_of, reads, writes};
 use crate::by_word::word_of;
 use crate::ranking::Ranking;
 use memory_model::Operation;
 use std::alloc::AllocError;
 use std::collections::HashMap;
+use trace_operations::accesses::{behind_in_word, end_of, reads, writes};
 
 /// The greatest weights of the operations that touched a byte.
 #[derive(Clone, Copy)]

@@ -2,9 +2,9 @@
 ghost use Rattle.std.specs.Prelude.{◌≡◌, Some, slice_get};
 ghost use Rattle.memory_model.specs.Dependencies as spec;
 
-use crate::listed::Items;
 use memory_model::Operation;
 use rv32_decode::Instr;
+use trace_operations::Items;
 
 /// Whether it is a conditional branch or a JALR.
 pub(crate) fn is_steering(instr: &Instr) -> bool

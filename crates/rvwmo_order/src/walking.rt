@@ -10,13 +10,11 @@ ghost use Rattle.rvwmo_order.specs.Carried.{carried_after, greatest};
 ghost use Rattle.rvwmo_order.specs.Passed.{passed_after};
 ghost use Rattle.rvwmo_order.specs.Bounds as spec;
 ghost use Rattle.rvwmo_order.specs.Bounds.{AreDistinctOperations, HasCome, IsBoundsRow, IsSource};
-ghost use Rattle.rvwmo_order.specs.Indexed.{rank_of, ranked};
+ghost use Rattle.rvwmo_order.specs.Ranks.{rank_of, ranked};
 ghost use Rattle.rvwmo_order.specs.Touched.{but, touch_after, touch_in};
 
-use crate::accesses::{end_of, has_rcsc, has_release, is_amo, is_sc, reads, writes};
 use crate::by_word::word_of;
 use crate::carried::Carried;
-use crate::listed::Item;
 use crate::passed::Passed;
 use crate::ranking::Ranking;
 use crate::rows::{Row, row_at};
@@ -25,6 +23,8 @@ use memory_model::{MemoryModel, Operation};
 use rv32_decode::Instr;
 use std::alloc::{AllocError, Global};
 use std::collections::HashMap;
+use trace_operations::Item;
+use trace_operations::accesses::{end_of, has_rcsc, has_release, is_amo, is_sc, reads, writes};
 
 #[derive(Drop)]
 pub(crate) struct Walk {

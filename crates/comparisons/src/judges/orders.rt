@@ -55,7 +55,7 @@ fn judge_trace(alloc: Global, trace: &Trace, model: MemoryModel) -> Result<usize
 
 // The trace's completed order, which both bodies find.
 fn completed(alloc: Global, trace: &Trace) -> Result<Vec<OpId>> {
-    let order = rvwmo_order::completed(alloc, trace)?;
+    let order = trace_operations::completed(alloc, trace)?;
     let plain = plain::completed(alloc, trace)?;
     ensure!(order == plain, "completed orders differ");
     Ok(order)

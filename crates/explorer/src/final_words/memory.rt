@@ -12,7 +12,7 @@ use crate::final_words::reading::{byte_of, writes};
 use elf_loader::{BASE, Image};
 use flat_machine::Patch;
 use memory_model::Operation;
-use rvwmo_order::Index;
+use trace_operations::Index;
 use std::alloc::{AllocError, Global};
 use trace_recorder::Trace;
 

@@ -7,14 +7,12 @@ ghost use Rattle.rvwmo_order.specs.Answers.{IsSoundVerdict, fault_told, refusal,
 ghost use Rattle.rvwmo_order.specs.Scans.{judged};
 
 use crate::error::CheckError;
-use crate::items::Harts;
-use crate::orders::{has_too_many, names_in, operations_at};
 use crate::plain::judging::judge;
 use crate::plain::orders::is_order;
-use crate::runs::are_runs;
 use crate::verdict::Verdict;
 use memory_model::MemoryModel;
 use std::alloc::{AllocError, Global};
+use trace_operations::{Harts, are_runs, has_too_many, names_in, operations_at};
 use trace_recorder::{OpId, Trace};
 
 /// Whether an order of the operations of a trace is legal under a memory model.

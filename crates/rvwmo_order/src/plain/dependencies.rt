@@ -5,12 +5,12 @@ ghost use Rattle.std.specs.Option.{option_to_list};
 ghost use Rattle.rv32_exec.specs.Uses.{uses_of};
 ghost use Rattle.memory_model.specs.Dependencies as spec;
 
-use crate::accesses::precedes;
-use crate::listed::Items;
 use crate::uses::{instr_at, is_steering};
 use memory_model::Operation;
 use rv32_decode::{Instr, Register};
 use rv32_exec::{address_register, destination, other_registers, stored_register};
+use trace_operations::Items;
+use trace_operations::accesses::precedes;
 
 // Whether a register, where there is one, holds it.
 fn is_held(held: &[bool; 32], register: Option<Register>) -> bool

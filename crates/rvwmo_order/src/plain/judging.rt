@@ -10,8 +10,6 @@ ghost use Rattle.rvwmo_order.specs.Codes.{rule_of};
 ghost use Rattle.rvwmo_order.specs.Scans as scans;
 ghost use Rattle.rvwmo_order.specs.Scans.{all_rules, first_broken_pair, first_broken_rule, judged};
 
-use crate::accesses::{end_of, is_same, name_of, precedes, read_at, reads, stores_to};
-use crate::items::Harts;
 use crate::plain::rules::asks;
 use crate::plain::sources::source;
 use crate::rules::are_paired;
@@ -19,6 +17,8 @@ use crate::sources::byte_from;
 use crate::verdict::{Code, RULES, Rule, Verdict};
 use elf_loader::Image;
 use memory_model::{MemoryModel, Operation};
+use trace_operations::Harts;
+use trace_operations::accesses::{end_of, is_same, name_of, precedes, read_at, reads, stores_to};
 
 /// The verdict on an order of the operations of these lists, one a hart.
 pub(crate) fn judge(

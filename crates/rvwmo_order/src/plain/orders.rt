@@ -3,8 +3,8 @@ ghost use Rattle.std.specs.Prelude.{◌≡◌, ◌&&◌, IfOk};
 ghost use Rattle.std.specs.List.{list_all};
 ghost use Rattle.memory_model.specs.Traces as spec;
 
-use crate::orders::names_in;
 use std::alloc::{AllocError, Global};
+use trace_operations::names_in;
 use trace_recorder::{OpId, Trace};
 
 fn is_named(a: OpId, b: OpId) -> bool

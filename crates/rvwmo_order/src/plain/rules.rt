@@ -11,10 +11,6 @@ ghost use Rattle.memory_model.specs.Operations.{addresses_of};
 ghost use Rattle.rvwmo_order.specs.Scans as scans;
 ghost use Rattle.rvwmo_order.specs.Codes.{rule_of};
 
-use crate::accesses::{
-    end_of, has_acquire, has_rcsc, has_release, is_amo, is_sc, overlap, reads, touches, writes,
-};
-use crate::listed::Items;
 use crate::plain::dependencies::{
     has_address_dependency, has_control_dependency, has_data_dependency,
     has_dependent_address_between,
@@ -24,6 +20,10 @@ use crate::rules::{are_paired, has_store_between, is_fenced};
 use crate::sources::is_same_source;
 use crate::verdict::Rule;
 use memory_model::{MemoryModel, Operation};
+use trace_operations::Items;
+use trace_operations::accesses::{
+    end_of, has_acquire, has_rcsc, has_release, is_amo, is_sc, overlap, reads, touches, writes,
+};
 
 /// Whether the rule holds of two operations, of which the first precedes the second in program order.
 pub(crate) fn asks(

@@ -4,9 +4,9 @@ ghost use Rattle.std.specs.Prelude.{◌≡◌};
 ghost use Rattle.memory_model.specs.Order as spec;
 ghost use Rattle.memory_model.specs.Rules as rules;
 
-use crate::accesses::{end_of, is_same, precedes, stores_to};
 use crate::sources::is_same_source;
 use memory_model::Operation;
+use trace_operations::accesses::{end_of, is_same, precedes, stores_to};
 
 /// The last of the stores that byte `x` of a load may come from; none where it is the image's byte. The
 /// load itself is never one, also where it is an AMO.

@@ -6,7 +6,7 @@ use crate::streams::image_of_kib;
 use hart::{Retired, Status};
 use memory_model::Operation;
 use rvwmo_order::plain::source;
-use rvwmo_order::{Index, completed};
+use trace_operations::{Index, completed};
 use std::alloc::{AllocError, Global};
 use std::marker::Brand;
 use std::process::Abort;

@@ -3,7 +3,7 @@ use Rattle.std.specs.Prelude.{slice_get}
 use Rattle.rvwmo_order.specs.Bounds.{own_weight}
 use Rattle.memory_model.specs.Items.{Item}
 use Rattle.memory_model.specs.Rules.{items_of}
-use Rattle.rvwmo_order.specs.Placed.{IsPlaced}
+use Rattle.trace_operations.specs.Placed.{IsPlaced}
 use Rattle.rvwmo_order.proofs.Filled.{bound_as, come_further, come_there, placed_there}
 use Rattle.rvwmo_order.proofs.bounding.bound_hart.Goals as goal
 

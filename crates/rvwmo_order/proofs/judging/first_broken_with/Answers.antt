@@ -5,7 +5,7 @@ use Rattle.memory_model.specs.Items.{Item}
 use Rattle.memory_model.specs.Rules.{paired}
 use Rattle.rvwmo_order.specs.Bounds.{IsGiven}
 use Rattle.rvwmo_order.specs.Scans.{is_broken_pair}
-use Rattle.rvwmo_order.proofs.Indexed.{no_pair_without_sc}
+use Rattle.rvwmo_order.proofs.Behind.{no_pair_without_sc}
 use Rattle.rvwmo_order.proofs.Pairs.{found_there, named_at}
 use Rattle.rvwmo_order.proofs.judging.first_broken_with.Goals as goal
 

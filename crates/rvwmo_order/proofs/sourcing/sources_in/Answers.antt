@@ -1,10 +1,10 @@
 use Rattle.std.proofs.Common.{◌+◌, ◌∙◌, ℕ, List, ap, arith, length, subst, sym}
 use Rattle.std.specs.Prelude.{slice_index_or}
 use Rattle.std.proofs.lemmas.List.{take_at}
-use Rattle.rvwmo_order.specs.Indexed.{number_in, number_at}
+use Rattle.trace_operations.specs.Indexed.{number_in, number_at}
 use Rattle.rvwmo_order.specs.Sourcing.{GivesUpTo, is_come}
 use Rattle.rvwmo_order.proofs.LastStores.{nothing_yet, number_placed, numbers_of, sources_found}
-use Rattle.rvwmo_order.proofs.Tables.{hart_listed, number_listed}
+use Rattle.trace_operations.proofs.Tables.{hart_listed, number_listed}
 use Rattle.rvwmo_order.proofs.sourcing.sources_in.Goals as goal
 
 pub loop-hart-init : goal.loop-hart-init

@@ -1,5 +1,5 @@
 use Rattle.std.proofs.Common.{sym, arith}
-use Rattle.rvwmo_order.proofs.Bytes.{far_byte}
+use Rattle.trace_operations.proofs.Bytes.{far_byte}
 use Rattle.explorer.proofs.final_words.reading.byte_of.Goals as goal
 
 pub returns-in_default : goal.returns-in_default

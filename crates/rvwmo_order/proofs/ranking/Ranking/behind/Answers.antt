@@ -1,5 +1,5 @@
 use Rattle.std.proofs.Common.{ap, arith, length}
-use Rattle.rvwmo_order.proofs.Indexed.{behind_cut, nothing_behind}
+use Rattle.rvwmo_order.proofs.Behind.{behind_cut, nothing_behind}
 use Rattle.rvwmo_order.proofs.ranking.Ranking.behind.Goals as goal
 
 pub returns-then-position-order : goal.returns-then-position-order

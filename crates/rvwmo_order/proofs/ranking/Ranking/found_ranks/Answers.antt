@@ -1,7 +1,7 @@
 use Rattle.std.proofs.Common.{◌≡◌, ◌∙◌, ℕ, ◌+◌, ap, arith, length, subst}
 use Rattle.std.proofs.lemmas.List.{length-set}
 use Rattle.memory_model.specs.Order.{source}
-use Rattle.rvwmo_order.specs.Indexed.{HasRank}
+use Rattle.rvwmo_order.specs.Ranks.{HasRank}
 use Rattle.rvwmo_order.proofs.Kept.{ranks_next, ranks_same}
 use Rattle.rvwmo_order.proofs.ranking.Ranking.found_ranks.Goals as goal
 use Rattle.rvwmo_order.proofs.ranking.Ranking.found_ranks.Goals.{then-offset-load, else-offset-load}

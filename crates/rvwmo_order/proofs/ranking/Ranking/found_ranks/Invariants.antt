@@ -1,7 +1,7 @@
 use Rattle.std.proofs.Common.{◌≡◌, ℕ, ◌+◌, ◌<◌, length}
 use Rattle.std.specs.Prelude.{slice_index_or}
 use Rattle.memory_model.specs.Order.{source}
-use Rattle.rvwmo_order.specs.Indexed.{HasRank}
+use Rattle.rvwmo_order.specs.Ranks.{HasRank}
 use Rattle.rvwmo_order.proofs.ranking.Ranking.found_ranks.Given as goal
 
 -- the bytes so far have their sources

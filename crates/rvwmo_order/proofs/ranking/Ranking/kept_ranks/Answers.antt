@@ -2,7 +2,7 @@ use Rattle.std.proofs.Common.{◌≡◌, ◌∙◌, List, Some, ap, arith, subst
 use Rattle.std.specs.Prelude.{slice_get}
 use Rattle.std.proofs.lemmas.Option.{slice_get-get_or}
 use Rattle.memory_model.specs.declared.operation.Operation.{Operation}
-use Rattle.rvwmo_order.specs.Indexed.{GivesRanks}
+use Rattle.rvwmo_order.specs.Ranks.{GivesRanks}
 use Rattle.rvwmo_order.proofs.Kept.{kept_named}
 use Rattle.rvwmo_order.proofs.ranking.Ranking.kept_ranks.Goals as goal
 

@@ -4,7 +4,7 @@ use Rattle.memory_model.specs.declared.operation.Operation.{Operation}
 use Rattle.memory_model.specs.Operations.{is_amo, is_sc}
 use Rattle.memory_model.specs.Order.{position_in, source}
 use Rattle.rvwmo_order.specs.Bounds.{IsSource, unbounded, weight_of}
-use Rattle.rvwmo_order.specs.Indexed.{rank_of}
+use Rattle.rvwmo_order.specs.Ranks.{rank_of}
 use Rattle.rvwmo_order.specs.Touched.{but, touch_in}
 use Rattle.rvwmo_order.proofs.walking.Walk.sourced.Given as goal
 

@@ -1,6 +1,0 @@
-use Rattle.std.proofs.Common.{sym, arith}
-use Rattle.rvwmo_order.proofs.Bytes.{far_byte}
-use Rattle.rvwmo_order.proofs.accesses.byte_of.Goals as goal
-
-pub returns-in_default : goal.returns-in_default
-returns-in_default c = sym (far_byte c.args.word c.args.index (omega arith) (omega arith))

@@ -1,6 +1,0 @@
-use Rattle.std.proofs.Common.{◌∙◌}
-use Rattle.rvwmo_order.proofs.Placed.{between_cut}
-use Rattle.rvwmo_order.proofs.listed.Items.between.Goals as goal
-
-pub returns : goal.returns
-returns c = c.stretch.ensures.cut ∙ between_cut c.args.self.now c.args.a.now c.args.b.now c.stretch.ensures.placed

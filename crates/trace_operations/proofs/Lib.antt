@@ -1,0 +1,12 @@
+pub mod Bytes
+pub mod Counts
+pub mod Gathered
+pub mod HartRuns
+pub mod Indexed
+pub mod ListedNames
+pub mod Listing
+pub mod Opcodes
+pub mod Owned
+pub mod Placed
+pub mod Steps
+pub mod Tables
