@@ -1,7 +1,7 @@
 //! What is found of a program under a memory model.
 
 use crate::outcome::Outcome;
-use machine_model::MemoryModel;
+use machine_types::MemoryModel;
 use state_search::Extent;
 use window_machine::Reach;
 

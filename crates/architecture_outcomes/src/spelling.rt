@@ -9,7 +9,7 @@ use crate::outcome::{Outcome, Way};
 use exploration_text::{WordName, end_text};
 use explorer::Realisation;
 use itoa::Buffer;
-use machine_model::MemoryModel;
+use machine_types::MemoryModel;
 use state_search::Extent;
 use std::alloc::{AllocError, Global};
 use window_machine::{LONGEST_ROW, Reach};

@@ -1,6 +1,6 @@
 //! What a chart shows of a run. Lines are lines of text of the picture, counted from 0 downward.
 ghost use Rattle.std.specs.Prelude.{◌≤◌, vec_len};
-ghost use Rattle.machine_limits.specs.declared.TheConstants.{MAX_HARTS};
+ghost use Rattle.machine_types.specs.declared.limits.TheConstants.{MAX_HARTS};
 
 use chart_drawing::Hold;
 use hart::Retired;

@@ -6,7 +6,7 @@ use Rattle.command_files.specs.declared.fault.Fault.{Fault}
 use Rattle.command_files.specs.Faults.{IsLongFirst, Name}
 use Rattle.memory_model.specs.Traces.{IsLegalOrder, completed}
 use Rattle.memory_model.specs.Verdict.{fault_in}
-use Rattle.memory_model.specs.declared.MemoryModel.{MemoryModel}
+use Rattle.machine_types.specs.declared.model.MemoryModel.{MemoryModel}
 use Rattle.rvwmo_order.specs.Answers.{fault_told, refusal}
 use Rattle.rvwmo_order.specs.Codes.{code_number}
 use Rattle.rvwmo_order.specs.declared.error.CheckError.{CheckError}

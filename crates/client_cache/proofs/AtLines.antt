@@ -4,7 +4,7 @@ use Rattle.std.specs.Ordering.{nat_cmp}
 use Rattle.std.specs.FinMap.{FinMap, get}
 use Rattle.std.specs.FinSet as set
 use Rattle.std.specs.FinSet.{FinSet}
-use Rattle.machine_limits.specs.declared.TheConstants.{TRACKERS}
+use Rattle.machine_types.specs.declared.limits.TheConstants.{TRACKERS}
 use Rattle.tl_types.specs.declared.line.LineData.{LineData}
 use Rattle.tl_types.specs.declared.permission.Cap.{Cap}
 use Rattle.tl_types.specs.declared.permission.Change.{Change}

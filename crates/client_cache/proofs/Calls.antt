@@ -2,7 +2,7 @@
 use Rattle.std.proofs.Common.{◌≡◌, ℕ, true, false, nat_le, Some, None, refl}
 use Rattle.std.specs.FinMap as map
 use Rattle.std.specs.FinSet as fset
-use Rattle.machine_limits.specs.declared.TheConstants.{TRACKERS}
+use Rattle.machine_types.specs.declared.limits.TheConstants.{TRACKERS}
 use Rattle.tl_types.specs.declared.permission.Cap.{Cap}
 use Rattle.tl_types.specs.declared.permission.Perm.TheVariants.{Nothing}
 use Rattle.tl_types.specs.Shrink.{shrunk_by}

@@ -9,7 +9,7 @@ use Rattle.std.specs.FinSet as fset
 use Rattle.std.specs.FinSet.{FinSet, contains-insert, contains-remove, contains-empty}
 use Rattle.std.proofs.lemmas.Bool.{cases_eq}
 use Rattle.std.proofs.lemmas.List.{drop-replicate, take-replicate, length-replicate}
-use Rattle.machine_limits.specs.declared.TheConstants.{MAX_SETS, MAX_WAYS}
+use Rattle.machine_types.specs.declared.limits.TheConstants.{MAX_SETS, MAX_WAYS}
 use Rattle.client_cache.specs.declared.held.Held.{Held}
 use Rattle.client_cache.specs.declared.shape.Shape.{Shape}
 use Rattle.client_cache.specs.declared.slot.Place.{Place}

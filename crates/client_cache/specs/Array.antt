@@ -5,7 +5,7 @@ use Rattle.std.specs.FinMap as map
 use Rattle.std.specs.FinMap.{FinMap}
 use Rattle.std.specs.FinSet as set
 use Rattle.std.specs.FinSet.{FinSet}
-use Rattle.machine_limits.specs.declared.TheConstants.{MAX_SETS, MAX_WAYS}
+use Rattle.machine_types.specs.declared.limits.TheConstants.{MAX_SETS, MAX_WAYS}
 use Rattle.client_cache.specs.declared.held.Held.{Held}
 use Rattle.client_cache.specs.declared.shape.Shape.{Shape}
 use Rattle.client_cache.specs.declared.slot.Place.{Place}

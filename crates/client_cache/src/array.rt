@@ -1,6 +1,6 @@
 //! The slots of a cache, sets by ways: a set's row after the other.
 ghost use Rattle.std.specs.Prelude.{◌≡◌, ◌<◌, ◌≤◌, ◌+◌, ◌*◌, length, IfSome, IfNone, IfOk, None, slice_set, replicate};
-ghost use Rattle.machine_limits.specs.declared.TheConstants.{MAX_SETS, MAX_WAYS};
+ghost use Rattle.machine_types.specs.declared.limits.TheConstants.{MAX_SETS, MAX_WAYS};
 ghost use Rattle.client_cache.specs.Row.{IsAt, free_slot};
 ghost use Rattle.client_cache.specs.Shape.{set_of};
 ghost use Rattle.client_cache.specs.Array.{slots_of_set, place_of, copy_in, IsSetRow, IsRoom, IsFull};

@@ -1,7 +1,7 @@
 //! The cache, over its array and its trackers.
 ghost use Rattle.std.specs.Prelude.{◌≡◌, ◌<◌, ◌≤◌, ◌+◌, ◌*◌, ◌%◌, false, IfOk, IfSome, IfNone, IsTrue, None};
 ghost use Rattle.std.specs.FinSet as set;
-ghost use Rattle.machine_limits.specs.declared.TheConstants.{MAX_SETS, MAX_WAYS, TRACKERS};
+ghost use Rattle.machine_types.specs.declared.limits.TheConstants.{MAX_SETS, MAX_WAYS, TRACKERS};
 ghost use Rattle.tl_types.specs.declared.permission.Perm.TheVariants as perms;
 ghost use Rattle.tl_types.specs.declared.permission.Grow.{Grow};
 ghost use Rattle.client_cache.specs.Held.{perm_of};

@@ -2,10 +2,10 @@
 
 ghost use Rattle.std.specs.Prelude.{◌≡◌, ◌≤◌, [], IfOk, length, map};
 ghost use Rattle.std.specs.Vec.{vec_capacity};
-ghost use Rattle.machine_limits.specs.declared.TheConstants.{MAX_HARTS};
+ghost use Rattle.machine_types.specs.declared.limits.TheConstants.{MAX_HARTS};
 
-use machine_limits::MAX_HARTS;
 use machine_parts::Node;
+use machine_types::MAX_HARTS;
 use std::alloc::{AllocError, Global};
 
 /// Room for one list a hart, asked for when the machine is made, so that taking it apart wants no memory.

@@ -5,7 +5,7 @@ use Rattle.command_files.specs.Sizes.{config_of}
 use Rattle.elf_loader.proofs.Sizes.{kib_passes, memory_kib}
 use Rattle.elf_loader.specs.Size.{IsMemoryKib}
 use Rattle.machine_types.specs.Config.{is_within_limits}
-use Rattle.memory_model.specs.declared.MemoryModel.{MemoryModel}
+use Rattle.machine_types.specs.declared.model.MemoryModel.{MemoryModel}
 use Rattle.trace_text.specs.Scripts.{IsScript, head_of, is_head}
 use Rattle.trace_text.specs.declared.script.Script.{Script}
 

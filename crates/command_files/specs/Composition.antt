@@ -5,7 +5,7 @@ use Rattle.elf_loader.specs.Image.{Initial}
 use Rattle.machine_model.specs.LawfulLog.{IsLawfulLog}
 use Rattle.machine_model.specs.Laws.{IsHeadline}
 use Rattle.machine_model.specs.Views.{State, opening}
-use Rattle.memory_model.specs.declared.MemoryModel.{MemoryModel}
+use Rattle.machine_types.specs.declared.model.MemoryModel.{MemoryModel}
 use Rattle.coherent_machine.specs.Machine.{Replayed, replayed_from}
 use Rattle.std.specs.Io.KnownBytes.{Appends}
 use Rattle.trace_text.specs.TraceLimits.{IsTrace}

@@ -4,7 +4,7 @@ use Rattle.command_settings.specs.declared.wanted.MachineOptions.{MachineOptions
 use Rattle.elf_loader.specs.Size.{IsMemoryKib}
 use Rattle.machine_types.specs.Config.{is_within_limits}
 use Rattle.machine_types.specs.declared.config.Config.{Config}
-use Rattle.memory_model.specs.declared.MemoryModel.{MemoryModel}
+use Rattle.machine_types.specs.declared.model.MemoryModel.{MemoryModel}
 use Rattle.machine_types.specs.declared.event.Event.{Event}
 use Rattle.tl_types.specs.Line.{size_of_bytes}
 use Rattle.tl_types.specs.declared.line.LineSize.{LineSize}

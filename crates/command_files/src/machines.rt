@@ -7,8 +7,7 @@ ghost use Rattle.trace_text.specs.Scripts.{IsEvent};
 
 use command_settings::MachineOptions;
 use elf_loader::is_memory_kib;
-use machine_model::MemoryModel;
-use machine_types::{Config, Event};
+use machine_types::{Config, Event, MemoryModel};
 use tl_types::LineSize;
 use trace_text::{Events, Script};
 

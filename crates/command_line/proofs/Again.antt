@@ -10,7 +10,7 @@ use Rattle.command_line.specs.Runs.{RunsReplay}
 use Rattle.elf_loader.specs.Image.{Initial}
 use Rattle.elf_loader.specs.declared.error.LoadError.{LoadError}
 use Rattle.machine_model.specs.Views.{State, opening}
-use Rattle.memory_model.specs.declared.MemoryModel.{MemoryModel}
+use Rattle.machine_types.specs.declared.model.MemoryModel.{MemoryModel}
 use Rattle.std.specs.Io.KnownBytes.{Appends}
 use Rattle.trace_text.specs.Traces.{text}
 use Rattle.trace_text.specs.declared.script.Script.{Script}

@@ -11,16 +11,16 @@ ghost use Rattle.explore_command.specs.Exploring.{ComesBeforeScripts, IsExploreF
 ghost use Rattle.explore_command.specs.Keeping.{SparesOthers};
 ghost use Rattle.explore_command.specs.Showing.{IsFirstOf};
 
-use explore_command::{Judgement, architecture_files, explore_files, sample_files, show_files};
-use script_commands::{chart_files, explain_files, replay_files};
 use check_command::{check_file, check_messages};
 use command_files::{Fault, Files, Unshown};
 use command_settings::{Check, Explore, Settings, Show};
 use event_stream::Strictness;
+use explore_command::{Judgement, architecture_files, explore_files, sample_files, show_files};
 use lawful_log::LogVerdict;
 use progress_line::Progress;
 use run_command::run_files;
 use rvwmo_order::Verdict;
+use script_commands::{chart_files, explain_files, replay_files};
 use std::alloc::Global;
 use std::io::Write;
 use std::sync::Wait;

@@ -24,8 +24,8 @@ use Rattle.clap.specs.declared.error.kind.ErrorKind.TheVariants as kind
 use Rattle.clap.specs.declared.parser.matches.ValueSource.{ValueSource}
 use Rattle.command_settings.specs.Settings.{Has, HasAll, IsModel, IsText}
 use Rattle.command_settings.specs.Usage.{AreModelNames, Argument, ModelNames, rule_for}
-use Rattle.memory_model.specs.declared.MemoryModel.{MemoryModel}
-use Rattle.memory_model.specs.declared.MemoryModel.TheVariants.{Rvwmo, Ztso}
+use Rattle.machine_types.specs.declared.model.MemoryModel.{MemoryModel}
+use Rattle.machine_types.specs.declared.model.MemoryModel.TheVariants.{Rvwmo, Ztso}
 use Rattle.command_settings.proofs.Walked.{Among, no_kinds, settles, walks}
 
 -- ---- tests

@@ -16,8 +16,8 @@ use Rattle.command_settings.specs.declared.wanted.Run.{Run}
 use Rattle.command_settings.specs.declared.wanted.Settings.{Settings}
 use Rattle.command_settings.specs.declared.wanted.Show.{Show}
 use Rattle.command_settings.specs.declared.wanted.Settings.TheVariants as settings
-use Rattle.memory_model.specs.declared.MemoryModel.{MemoryModel}
-use Rattle.memory_model.specs.declared.MemoryModel.TheVariants.{Rvwmo, Ztso}
+use Rattle.machine_types.specs.declared.model.MemoryModel.{MemoryModel}
+use Rattle.machine_types.specs.declared.model.MemoryModel.TheVariants.{Rvwmo, Ztso}
 
 -- ---- the settings
 

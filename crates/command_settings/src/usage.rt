@@ -12,7 +12,7 @@ use crate::wanted::{
 };
 use clap::error::ErrorKind;
 use clap::{ArgMatches, Command};
-use memory_model::MemoryModel;
+use machine_types::MemoryModel;
 use std::alloc::{AllocError, Global};
 use std::convert::AsStr;
 

@@ -4,7 +4,7 @@ ghost use Rattle.std.specs.Prelude.{◌↔◌, IsTrue};
 ghost use Rattle.command_settings.specs.Settings.{AreConflicting, HasConflict};
 
 use clap::error::ErrorKind;
-use memory_model::MemoryModel;
+use machine_types::MemoryModel;
 use std::alloc::AllocError;
 use thiserror::Error;
 

@@ -3,7 +3,7 @@ use Rattle.std.proofs.Common.{◌≡◌, ℕ, true, arith, refl}
 use Rattle.std.proofs.lemmas.Bool.{eq-eqb, le-leb}
 use Rattle.std.proofs.lemmas.Bool.Decides.{nat_tests}
 use Rattle.std.specs.Prelude.{◌%◌}
-use Rattle.machine_limits.specs.declared.TheConstants.{KIB_STEP, MAX_KIB, MIN_KIB}
+use Rattle.machine_types.specs.declared.limits.TheConstants.{KIB_STEP, MAX_KIB, MIN_KIB}
 use Rattle.elf_loader.specs.Size.{IsMemoryKib, is_memory_kib}
 
 pub memory_kib : (kib : ℕ) → is_memory_kib kib ≡ true → IsMemoryKib kib

@@ -1,6 +1,6 @@
 -- Which sizes main memory may have.
 use Rattle.std.specs.Prelude.{◌≡◌, ℕ, ◌*◌, ◌%◌, ◌≤◌, Bool, ◌&&◌, ◌==◌, nat_le}
-use Rattle.machine_limits.specs.declared.TheConstants.{BASE, KIB_STEP, MAX_KIB, MIN_KIB}
+use Rattle.machine_types.specs.declared.limits.TheConstants.{BASE, KIB_STEP, MAX_KIB, MIN_KIB}
 
 -- the first address of main memory, 0x80000000
 abbrev pub base : ℕ

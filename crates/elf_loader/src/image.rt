@@ -6,7 +6,7 @@ ghost use Rattle.elf_loader.specs.Size.{IsMemorySize, base};
 
 use crate::error::LoadError;
 use byteorder::{ByteOrder, LittleEndian};
-use machine_limits::BASE;
+use machine_types::BASE;
 use std::alloc::{AllocError, Global};
 use std::marker::Model;
 

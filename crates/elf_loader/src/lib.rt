@@ -13,5 +13,5 @@ pub use error::LoadError;
 pub use image::{Image, raw};
 pub use laws::{each_segment_is_loaded, overlap_is_a_common_address};
 pub use loader::load;
-pub use machine_limits::BASE;
+pub use machine_types::BASE;
 pub use size::{is_memory_kib, size_of_kib};

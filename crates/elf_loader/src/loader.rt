@@ -10,7 +10,7 @@ use crate::error::LoadError;
 use crate::header::{E_ENTRY, check_header, long};
 use crate::image::Image;
 use crate::segment::{ProgramHeader, any_outside, overlap, segments};
-use machine_limits::BASE;
+use machine_types::BASE;
 use std::alloc::{AllocError, Global};
 
 /// The image that an ELF file gives in memory of `size` bytes: the file's bytes of each loadable

@@ -7,7 +7,7 @@ ghost use Rattle.elf_loader.specs.Header.{HasHeader};
 
 use crate::header::{E_PHNUM, E_PHOFF, half, long};
 use arrayvec::ArrayVec;
-use machine_limits::BASE;
+use machine_types::BASE;
 
 /// The most entries that a program header table may have.
 pub const MAX_ENTRIES: usize = 16;

@@ -2,7 +2,7 @@
 ghost use Rattle.std.specs.Prelude.{◌≡◌, ◌↔◌, ◌*◌, IsTrue, MatchOption};
 ghost use Rattle.elf_loader.specs.Size.{IsMemoryKib, IsMemorySize, is_memory_kib};
 
-use machine_limits::{KIB_STEP, MAX_KIB, MIN_KIB};
+use machine_types::{KIB_STEP, MAX_KIB, MIN_KIB};
 
 /// Whether memory may have `kib` KiB.
 pub fn is_memory_kib(kib: u32) -> bool

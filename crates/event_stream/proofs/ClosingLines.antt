@@ -2,7 +2,7 @@
 use Rattle.std.proofs.Common.{◌≡◌, ℕ, zero, suc, ◌<◌, ◌≤◌, List, [], ◌∷◌, ◌++◌, length, true, sym, ap, subst, ◌∙◌, append_assoc, arith}
 use Rattle.std.proofs.lemmas.Bool.{and_parts, false≢true, leb-true}
 use Rattle.std.specs.Prelude.{codes, decimal}
-use Rattle.machine_limits.specs.declared.TheConstants.{MAX_HARTS}
+use Rattle.machine_types.specs.declared.limits.TheConstants.{MAX_HARTS}
 use Rattle.coherent_machine.specs.Machine.{IsReached}
 use Rattle.coherent_machine.proofs.Reached.{law_of}
 use Rattle.elf_symbols.specs.Named.{Named}
@@ -10,7 +10,7 @@ use Rattle.hart.specs.declared.status.Status.{Status}
 use Rattle.hart.specs.declared.status.Status.TheVariants.{Running, Stopped, Exited}
 use Rattle.machine_types.specs.declared.config.Config.{Config}
 use Rattle.machine_types.specs.Config.{is_within_limits}
-use Rattle.machine_types.proofs.Limits.{limits_of}
+use Rattle.machine_types.proofs.Within.{limits_of}
 use Rattle.machine_model.specs.Ready.{IsSound, SoundAlways}
 use Rattle.machine_model.specs.Views.{State}
 use Rattle.text_fields.specs.Fields.{number}

@@ -28,7 +28,7 @@ use Rattle.machine_model.specs.Changing.{acted, does, outcome_of_act, performs, 
 use Rattle.machine_model.specs.Deliveries.{handled, taken, sent_probes, sent_any, sent_if_handled, sent_if_granted, sent_if_answered, with_memory, with_notes, with_less, on_probe_ack}
 use Rattle.machine_model.specs.Events.{Verdict, counted, verdict_by, state_by, happens, is_good, is_limited, plan_of, hart_of}
 use Rattle.machine_model.specs.Views.{State, line_size, place_of, node_at, with_node, sent}
-use Rattle.memory_model.specs.declared.MemoryModel.{MemoryModel}
+use Rattle.machine_types.specs.declared.model.MemoryModel.{MemoryModel}
 use Rattle.rv32_decode.specs.declared.instruction.Instr.{Instr}
 use Rattle.store_buffer.specs.Entry.{entry_of}
 use Rattle.store_buffer.specs.Groups.{oldest}

@@ -1,6 +1,6 @@
 -- How many harts a machine has, and of how many lines it has notes and data.
 use Rattle.std.proofs.Common.{◌≡◌, ◌≤◌, arith, length, sym, ◌∙◌}
-use Rattle.machine_limits.specs.declared.TheConstants.{MAX_HARTS}
+use Rattle.machine_types.specs.declared.limits.TheConstants.{MAX_HARTS}
 use Rattle.coherent_machine.specs.Machine.{IsReached}
 use Rattle.machine_model.specs.Ready.{IsSound, SoundAlways, line_count}
 use Rattle.machine_model.specs.Views.{State}

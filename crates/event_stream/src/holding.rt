@@ -2,7 +2,7 @@
 ghost use Rattle.std.specs.Prelude.{◌≡◌, ◌+◌, ◌<◌, ◌≤◌, ◌++◌, length, slice_get};
 ghost use Rattle.std.specs.List.{flat_map, range_with_len};
 ghost use Rattle.event_stream.specs.Holding as holding;
-ghost use Rattle.machine_limits.specs.declared.TheConstants.{MAX_HARTS};
+ghost use Rattle.machine_types.specs.declared.limits.TheConstants.{MAX_HARTS};
 ghost use Rattle.machine_model.specs.Views.{node_at};
 ghost use Rattle.text_fields.specs.Pages.{HasLineRoom, Spells, size};
 ghost use Rattle.tilelink_channels.specs.Queues.{queue_of};

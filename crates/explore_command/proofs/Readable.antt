@@ -4,7 +4,7 @@ use Rattle.std.specs.Prelude.{◌&&◌, nat_le, slice_index}
 use Rattle.std.specs.List.{AllByRecursion}
 use Rattle.std.proofs.lemmas.Bool.{and_parts, false≢true, leb-true}
 use Rattle.std.proofs.lemmas.List.Elements.{All-weaker, recursion_from_All}
-use Rattle.machine_limits.specs.declared.TheConstants.{MAX_ENTRIES, MAX_HARTS}
+use Rattle.machine_types.specs.declared.limits.TheConstants.{MAX_ENTRIES, MAX_HARTS}
 use Rattle.explore_command.specs.ModelKeeping.{HasText}
 use Rattle.architecture_outcomes.specs.Outcomes.{IsWitnessed, IsWitnessedBy}
 use Rattle.architecture_outcomes.specs.declared.outcome.Outcome.{Outcome}
@@ -17,7 +17,7 @@ use Rattle.hart.specs.declared.status.Status.{Status}
 use Rattle.hart.specs.declared.status.Status.TheVariants.{Running, Stopped, Exited}
 use Rattle.hart.specs.Run.{is_run}
 use Rattle.machine_types.specs.Config.{is_within_limits}
-use Rattle.machine_types.proofs.Limits.{limits_of}
+use Rattle.machine_types.proofs.Within.{limits_of}
 use Rattle.machine_types.specs.declared.config.Config.{Config}
 use Rattle.machine_model.specs.Ranges.{HasCode, HasWords, NamesPlace}
 use Rattle.machine_model.proofs.ranges.Runs.{named_in_range, runs_in_range}

@@ -5,7 +5,7 @@ use Rattle.hart.specs.declared.state.Hart.{Hart}
 use Rattle.flat_model.specs.Flat.{FlatNode}
 use Rattle.flat_model.specs.Steps.{plan_access, plan_unless}
 use Rattle.machine_model.specs.Steps.{Fetched}
-use Rattle.memory_model.specs.declared.MemoryModel.{MemoryModel}
+use Rattle.machine_types.specs.declared.model.MemoryModel.{MemoryModel}
 use Rattle.rv32_decode.specs.declared.instruction.Instr.{Instr}
 use Rattle.rv32_decode.specs.declared.instruction.Instr.TheVariants as instr
 use Rattle.rv32_decode.specs.declared.instruction.LoadOp.TheVariants as load

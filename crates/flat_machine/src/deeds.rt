@@ -8,7 +8,8 @@ ghost use Rattle.machine_model.specs.declared.act.Deed.TheVariants as deed;
 ghost use Rattle.store_buffer.specs.ByteMask.{marks_of_access};
 
 use crate::state::State;
-use machine_model::{Deed, MemoryModel};
+use machine_model::Deed;
+use machine_types::MemoryModel;
 use std::alloc::{AllocError, Global};
 use store_buffer::{Store, StoreBuffer};
 

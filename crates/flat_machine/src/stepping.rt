@@ -18,8 +18,8 @@ use crate::node::Node;
 use crate::plan::Plan;
 use elf_loader::Image;
 use hart::can_fetch;
-use machine_model::{Deed, MemoryModel};
-use machine_types::Outcome;
+use machine_model::Deed;
+use machine_types::{MemoryModel, Outcome};
 use rv32_decode::decode;
 use rv32_exec::{Action, plan, stop};
 

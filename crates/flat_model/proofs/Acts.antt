@@ -3,7 +3,7 @@ use Rattle.std.proofs.Common.{◌≡◌, ℕ, ◌+◌, ◌%◌, ◌<◌, List, [
 use Rattle.std.specs.Prelude.{nat_eq, nat_le, slice_index}
 use Rattle.std.proofs.lemmas.Bool.{eqb-true, lt-ltb}
 use Rattle.std.proofs.lemmas.List.{length-set}
-use Rattle.machine_limits.specs.declared.TheConstants.{TRACKERS}
+use Rattle.machine_types.specs.declared.limits.TheConstants.{TRACKERS}
 use Rattle.client_cache.specs.Cache.{evicted, probed}
 use Rattle.client_cache.specs.declared.answers.Evict.{Evict}
 use Rattle.client_cache.specs.declared.answers.Evict.TheVariants as evict
@@ -64,7 +64,7 @@ use Rattle.machine_model.proofs.order.Last.{drained_elsewhere, drained_last, ret
 use Rattle.machine_model.proofs.order.Moves.{OrderKept, done_same, drained_moves}
 use Rattle.machine_model.proofs.order.Traces.{done, operations_on}
 use Rattle.machine_model.proofs.runs.Runs.{AllStand}
-use Rattle.memory_model.specs.declared.MemoryModel.{MemoryModel}
+use Rattle.machine_types.specs.declared.model.MemoryModel.{MemoryModel}
 use Rattle.memory_model.specs.Order.{last_write}
 use Rattle.memory_model.specs.Traces.{instructions, last_performed, operations_at}
 use Rattle.reservations.specs.Reservation.{is_valid}

@@ -12,7 +12,7 @@ use Rattle.machine_types.specs.declared.config.Config.{Config}
 use Rattle.machine_model.specs.Changing.{put_behind, with_halt}
 use Rattle.machine_model.specs.Views.{line_of, shape_of_config}
 use Rattle.machine_model.specs.Words.{bytes_of_word}
-use Rattle.memory_model.specs.declared.MemoryModel.{MemoryModel}
+use Rattle.machine_types.specs.declared.model.MemoryModel.{MemoryModel}
 use Rattle.reservations.specs.Reservation.{without_line}
 use Rattle.rv32_decode.specs.declared.instruction.Instr.{Instr}
 use Rattle.store_buffer.specs.ByteMask.{marks_of_access}

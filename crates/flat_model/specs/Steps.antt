@@ -11,7 +11,7 @@ use Rattle.machine_types.specs.declared.outcome.Outcome.{Outcome}
 use Rattle.machine_types.specs.declared.outcome.Outcome.TheVariants as outcome
 use Rattle.machine_model.specs.Steps.{Fetched, waits_for_stores, write_waits}
 use Rattle.machine_model.specs.Words.{word_of, read_from, store_of}
-use Rattle.memory_model.specs.declared.MemoryModel.{MemoryModel}
+use Rattle.machine_types.specs.declared.model.MemoryModel.{MemoryModel}
 use Rattle.memory_model.specs.declared.operation.Kind.TheVariants.{Load, Store}
 use Rattle.memory_model.specs.Rules.{fences}
 use Rattle.reservations.specs.Reservation.{is_valid}

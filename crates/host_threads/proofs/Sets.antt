@@ -4,7 +4,7 @@ use Rattle.std.proofs.lemmas.Bool.{and_parts, eqb-true, false≢true}
 use Rattle.std.proofs.lemmas.Nat.{div-add-mod', mod-mul-add, mul-add-lt, mul-le}
 use Rattle.std.proofs.Math.Dec.{eqb}
 use Rattle.std.proofs.Math.Nat.{eq-or-lt_of_le, lt_of_not-le, mod-lt, mul-div_cancel, mul-mod_left}
-use Rattle.machine_limits.specs.declared.TheConstants.{MAX_SETS}
+use Rattle.machine_types.specs.declared.limits.TheConstants.{MAX_SETS}
 use lib.Count.{ones}
 use Rattle.client_cache.specs.Cache.{Cache}
 use Rattle.client_cache.specs.Shape.{set_of}
@@ -12,7 +12,7 @@ use Rattle.elf_loader.specs.Size.{base}
 use Rattle.host_threads.specs.Due.{HasNoVictim, IsLine, IsLowestSpare, IsSpare}
 use Rattle.machine_types.specs.declared.config.Config.{Config}
 use Rattle.machine_types.specs.Config.{is_set_count, is_within_limits}
-use Rattle.machine_types.proofs.Limits.{limits_of}
+use Rattle.machine_types.proofs.Within.{limits_of}
 use Rattle.machine_model.specs.Views.{shape_of_config}
 use Rattle.tl_types.specs.Line.{length_of}
 use Rattle.tl_types.specs.declared.line.LineSize.{LineSize}

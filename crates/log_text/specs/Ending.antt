@@ -1,7 +1,7 @@
 -- A trace's text that ends behind its messages.
 use Rattle.std.specs.Prelude.{ℕ, List, [], ◌∷◌, ◌++◌, Option, Some, None, ◌==◌, if◌then◌else◌, codes, replicate, reverse}
 use Rattle.std.specs.Option.{option_or}
-use Rattle.machine_limits.specs.declared.TheConstants.{MAX_HARTS}
+use Rattle.machine_types.specs.declared.limits.TheConstants.{MAX_HARTS}
 use Rattle.hart.specs.declared.status.Status.{Status}
 use Rattle.hart.specs.declared.status.Status.TheVariants.{Running}
 use Rattle.text_fields.specs.Fields.{numbered}

@@ -5,7 +5,7 @@ ghost use Rattle.text_fields.specs.Fields.{numbered};
 ghost use Rattle.trace_text.specs.Traces.{status};
 ghost use Rattle.log_text.specs.Ending.{ended, first_of_last, first_of_line, harts_told, harts_unended};
 
-use machine_limits::MAX_HARTS;
+use machine_types::MAX_HARTS;
 use std::alloc::AllocError;
 use text_fields::{after, number_at};
 

@@ -30,7 +30,7 @@ use Rattle.machine_model.specs.Events.{Verdict, counted, verdict, verdict_by, st
 use Rattle.machine_model.specs.Laws.{Grows, KeepsImageAndConfig}
 use Rattle.machine_model.specs.LawfulLog.{IsBeginningOf}
 use Rattle.machine_model.specs.Views.{State, line_size, place_of, node_at, with_node, with_trace, sent}
-use Rattle.memory_model.specs.declared.MemoryModel.{MemoryModel}
+use Rattle.machine_types.specs.declared.model.MemoryModel.{MemoryModel}
 use Rattle.rv32_decode.specs.declared.instruction.Instr.{Instr}
 use Rattle.tl_types.specs.declared.line.LineData.{LineData}
 use Rattle.tl_types.specs.declared.message.Body.{Body}

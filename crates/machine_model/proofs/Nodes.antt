@@ -18,7 +18,7 @@ use Rattle.machine_model.specs.Changing.{does, performs, performs_own, next_plac
 use Rattle.machine_model.specs.Deliveries.{delivered, handled, taken, sent_probes, sent_any, sent_if_handled, sent_if_granted, sent_if_answered, with_memory, with_notes, with_less, on_probe_ack, on_release, on_grant}
 use Rattle.machine_model.specs.Views.{Node, State, line_size, place_of, node_at, with_node, with_trace, sent}
 use Rattle.machine_model.specs.Words.{bytes_of_word}
-use Rattle.memory_model.specs.declared.MemoryModel.{MemoryModel}
+use Rattle.machine_types.specs.declared.model.MemoryModel.{MemoryModel}
 use Rattle.store_buffer.specs.ByteMask.{marks_of_access}
 use Rattle.store_buffer.specs.Entry.{entry_of}
 use Rattle.store_buffer.specs.Groups.{oldest}

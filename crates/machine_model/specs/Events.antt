@@ -1,6 +1,6 @@
 -- The event meaning: which events are good, what each comes to and changes, and what a list of events leads to.
 use Rattle.std.specs.Prelude.{ℕ, ◌+◌, ◌%◌, ◌==◌, Bool, true, not, ◌&&◌, ◌||◌, if◌then◌else◌, List, [], ◌∷◌, length, nat_le, nat_lt}
-use Rattle.machine_limits.specs.declared.TheConstants.{MAX_CHANGES, MAX_ENTRIES}
+use Rattle.machine_types.specs.declared.limits.TheConstants.{MAX_CHANGES, MAX_ENTRIES}
 use Rattle.client_cache.specs.Cache.{evicted}
 use Rattle.client_cache.specs.declared.answers.Evict.{Evict}
 use Rattle.client_cache.specs.declared.answers.Evict.TheVariants.{NotHeld, AcquirePending, ReleaseFull, Evicted}

@@ -1,7 +1,7 @@
 -- What a machine of numbers of fixed widths and queues of fixed rooms rests on: how large everything is, and what the act of an event finds.
 use Rattle.std.specs.Prelude.{ℕ, ◌≡◌, ◌≢◌, ◌<◌, ◌≤◌, ◌/◌, ◌%◌, Bool, false, List, length, Contains, IsTrue, Some}
 use Rattle.std.specs.FinSet as set
-use Rattle.machine_limits.specs.declared.TheConstants.{MAX_CHANGES, MAX_ENTRIES}
+use Rattle.machine_types.specs.declared.limits.TheConstants.{MAX_CHANGES, MAX_ENTRIES}
 use Rattle.backing_memory.specs.Memory.{line_data}
 use Rattle.client_cache.specs.declared.shape.Shape.{Shape}
 use Rattle.elf_loader.specs.Image.{IsImage}

@@ -19,7 +19,6 @@ pub use laws::{
     stops_change_status_alone,
 };
 pub use log_laws::{log_lawful_always, sums_agree};
-pub use memory_model::MemoryModel;
 pub use order_laws::{order_always, preserved_always};
 pub use range_laws::in_range_always;
 pub use ready_laws::{ready_always, sound_always};

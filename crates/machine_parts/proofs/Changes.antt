@@ -18,7 +18,7 @@ use Rattle.machine_model.specs.declared.act.Deed.TheVariants as deed
 use Rattle.machine_model.specs.Changing.{acted, does, performs, sent_if_evicted}
 use Rattle.machine_model.specs.Deliveries.{handled, sent_if_answered, sent_if_granted, sent_if_handled, sent_probes, taken}
 use Rattle.machine_model.specs.Views.{State, line_size, node_at, place_of}
-use Rattle.memory_model.specs.declared.MemoryModel.{MemoryModel}
+use Rattle.machine_types.specs.declared.model.MemoryModel.{MemoryModel}
 use Rattle.store_buffer.specs.Entry.{entry_of}
 use Rattle.store_buffer.specs.Groups.{oldest}
 use Rattle.tl_types.specs.declared.message.Body.{Body}

@@ -1,7 +1,7 @@
 -- How a row of private instructions goes on, and where it ends.
 use Rattle.std.proofs.Common.{◌≡◌, ℕ, zero, suc, ◌+◌, ◌-◌, ◌<◌, ◌≤◌, List, [], ◌∷◌, ◌++◌, length, Bool, true, false, Option, Some, None, slice_index, slice_set, cond, refl, sym, ap, ◌∙◌, subst, arith}
 use Rattle.std.proofs.lemmas.List.{get_or-set_same, length-append}
-use Rattle.machine_limits.specs.declared.TheConstants.{MAX_ENTRIES}
+use Rattle.machine_types.specs.declared.limits.TheConstants.{MAX_ENTRIES}
 use Rattle.elf_loader.specs.Image.{Initial}
 use Rattle.hart.specs.Local.{can_go_alone, next_entry, next_step, private_row}
 use Rattle.hart.specs.Run.{after, reached}

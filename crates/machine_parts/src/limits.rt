@@ -14,9 +14,8 @@ ghost use Rattle.store_buffer.specs.Groups.{drainable, oldest};
 
 use crate::parts::Parts;
 use hart::Status;
-use machine_limits::{MAX_CHANGES, MAX_ENTRIES};
 use machine_model::Act;
-use machine_types::Outcome;
+use machine_types::{MAX_CHANGES, MAX_ENTRIES, Outcome};
 use std::alloc::AllocError;
 
 /// Whether a limit is met.

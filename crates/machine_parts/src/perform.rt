@@ -13,7 +13,7 @@ mod miss;
 mod step;
 
 ghost use Rattle.std.specs.Prelude.{◌≡◌, ◌+◌, ◌<◌, ◌≤◌, ℕ, IsOk, OnOk, OnErr, length};
-ghost use Rattle.machine_limits.specs.declared.TheConstants.{MAX_ENTRIES};
+ghost use Rattle.machine_types.specs.declared.limits.TheConstants.{MAX_ENTRIES};
 ghost use Rattle.machine_model.specs.Changing as changing;
 ghost use Rattle.machine_model.specs.Events as events;
 ghost use Rattle.machine_model.specs.Ready.{IsReady, IsReadyAct, IsSound};

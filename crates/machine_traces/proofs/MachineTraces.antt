@@ -3,8 +3,8 @@ use Rattle.std.proofs.Common.{ℕ, suc, ◌*◌, ◌/◌, ◌%◌, ◌^◌, ◌<
 use Rattle.std.specs.Prelude.{◌&&◌, nat_le, slice_index}
 use Rattle.std.specs.List.{AllByRecursion}
 use Rattle.std.proofs.lemmas.Bool.{leb-true}
-use Rattle.machine_types.proofs.Limits.{limits_of}
-use Rattle.machine_limits.specs.declared.TheConstants.{MAX_ENTRIES, MAX_HARTS}
+use Rattle.machine_types.proofs.Within.{limits_of}
+use Rattle.machine_types.specs.declared.limits.TheConstants.{MAX_ENTRIES, MAX_HARTS}
 use native.Mathlib.Omega.{arith}
 use Rattle.elf_loader.specs.Size.{IsMemoryKib, IsMemorySize}
 use Rattle.hart.specs.declared.retired.Retired.{Retired}

@@ -1,7 +1,7 @@
 -- Which configurations a machine can be made of.
 use Rattle.std.specs.Prelude.{ℕ, Bool, ◌&&◌, nat_le}
 use Rattle.std.specs.Int.{is_power_of_two}
-use Rattle.machine_limits.specs.declared.TheConstants.{MAX_HARTS, MAX_SETS, MAX_WAYS}
+use Rattle.machine_types.specs.declared.limits.TheConstants.{MAX_HARTS, MAX_SETS, MAX_WAYS}
 use Rattle.machine_types.specs.declared.config.Config.{Config}
 
 -- a power of two of sets, as many as a cache may have

@@ -2,8 +2,8 @@
 ghost use Rattle.std.specs.Prelude.{◌≡◌};
 ghost use Rattle.machine_types.specs.Config.{is_set_count, is_within_limits};
 
-use machine_limits::{MAX_HARTS, MAX_SETS, MAX_WAYS};
-use memory_model::MemoryModel;
+use crate::limits::{MAX_HARTS, MAX_SETS, MAX_WAYS};
+use crate::model::MemoryModel;
 use tl_types::LineSize;
 
 /// The parts of a machine and the memory model that it keeps. Any numbers may stand here:

@@ -1,11 +1,18 @@
-//! What a machine is made of, what happens to it, and what comes of it.
+//! What a machine is made of, how large it may be, what happens to it, and what comes of it.
 #![tactic(auto)]
 
 mod config;
 mod event;
+mod limits;
+mod model;
 mod outcome;
 
 pub use config::{Config, is_set_count};
 pub use event::Event;
+pub use limits::{
+    BASE, BUFFER_ENTRIES, KIB_STEP, MAX_CHANGES, MAX_ENTRIES, MAX_HARTS, MAX_KIB, MAX_SETS,
+    MAX_WAYS, MIN_KIB, TRACKERS,
+};
+pub use model::MemoryModel;
 pub use outcome::Outcome;
 pub use tl_types::LineSize;

@@ -6,7 +6,7 @@ use Rattle.std.specs.List.{list_any}
 use Rattle.rv32_decode.specs.Fields.{bits_of}
 use Rattle.rv32_decode.specs.declared.instruction.Instr.{Instr}
 use Rattle.rv32_decode.specs.declared.instruction.Instr.TheVariants as instr
-use Rattle.memory_model.specs.declared.MemoryModel.{MemoryModel}
+use Rattle.machine_types.specs.declared.model.MemoryModel.{MemoryModel}
 use Rattle.memory_model.specs.declared.operation.Kind.{Kind}
 use Rattle.memory_model.specs.declared.operation.Operation.{Operation}
 use Rattle.memory_model.specs.Operations.{reads, writes, is_lr, is_sc, is_amo, precedes, addresses_of, touches, stores_to, overlap, has_acquire, has_release, has_rcsc}

@@ -7,7 +7,7 @@ use Rattle.hart.specs.declared.status.Status.{Status}
 use Rattle.hart.specs.Run.{is_run}
 use Rattle.trace_recorder.specs.History.{History}
 use Rattle.trace_recorder.specs.declared.operation.OpId.{OpId}
-use Rattle.memory_model.specs.declared.MemoryModel.{MemoryModel}
+use Rattle.machine_types.specs.declared.model.MemoryModel.{MemoryModel}
 use Rattle.memory_model.specs.declared.operation.Operation.{Operation}
 use Rattle.memory_model.specs.Order.{last_write}
 use Rattle.memory_model.specs.Items.{Item, has_operation, items_of_harts}

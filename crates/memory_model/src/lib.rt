@@ -14,10 +14,3 @@ pub use laws::{
     ztso_is_stronger,
 };
 pub use operation::{Kind, Operation};
-
-/// RVWMO (RISC-V Unprivileged ISA 20191213, chapter 14), or the stronger Ztso (chapter 23).
-#[derive(Clone, Copy, Debug, PartialEq, Eq)]
-pub enum MemoryModel {
-    Rvwmo,
-    Ztso,
-}

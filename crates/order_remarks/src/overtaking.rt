@@ -7,8 +7,8 @@ ghost use Rattle.order_remarks.specs.Overtaking as spec;
 
 use memory_model::{Kind, Operation};
 use rv32_decode::{FenceSet, FenceSets, Instr};
-use trace_operations::Index;
 use std::alloc::{AllocError, Global};
+use trace_operations::Index;
 use trace_recorder::Trace;
 
 /// Two operations of a hart without a common byte, of which the second is performed before the first, which precedes it.

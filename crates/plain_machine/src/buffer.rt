@@ -1,7 +1,7 @@
 //! A store buffer as groups of entries.
 
 use crate::words::{Marks, marks_of_access, overlay, word_of};
-use machine_model::MemoryModel;
+use machine_types::MemoryModel;
 use rv32_exec::Width;
 use std::alloc::{AllocError, Global};
 

@@ -5,8 +5,7 @@ use crate::deciding::{Act, Deed, Plan};
 use crate::steps::after_instr;
 use elf_loader::Image;
 use hart::{Hart, Retired};
-use machine_model::MemoryModel;
-use machine_types::{Config, Outcome};
+use machine_types::{Config, MemoryModel, Outcome};
 use rv32_decode::Instr;
 use std::alloc::{AllocError, Global};
 

@@ -8,8 +8,7 @@ use amo_unit::combine;
 use bitflags::Flags;
 use elf_loader::Image;
 use hart::{Hart, Retired, Status};
-use machine_model::MemoryModel;
-use machine_types::Outcome;
+use machine_types::{MemoryModel, Outcome};
 use rv32_decode::{FenceSet, Instr, Register, SystemOp, decode};
 use rv32_exec::{Action, Regs, Width, finish, plan, stop};
 

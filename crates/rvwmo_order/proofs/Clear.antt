@@ -6,7 +6,7 @@ use Rattle.std.proofs.lemmas.Bool.{true≢false}
 use Rattle.std.proofs.Math.Seq.{drop-nil}
 use Rattle.std.proofs.lemmas.List.{at_drop_more, drop-drop, drop_all}
 use Rattle.std.proofs.lemmas.Option.{same_Some, slice_get_within}
-use Rattle.memory_model.specs.declared.MemoryModel.{MemoryModel}
+use Rattle.machine_types.specs.declared.model.MemoryModel.{MemoryModel}
 use Rattle.memory_model.specs.declared.operation.Operation.{Operation}
 use Rattle.memory_model.specs.Items.{Item}
 use Rattle.memory_model.specs.Operations.{same}

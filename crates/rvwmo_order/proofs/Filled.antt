@@ -6,7 +6,7 @@ use Rattle.std.proofs.lemmas.Grind.{get_or-set_at}
 use Rattle.std.proofs.lemmas.List.{get_or-set_other, get_or_past, length-set}
 use Rattle.std.proofs.lemmas.List.Folds.{find_at}
 use Rattle.std.proofs.lemmas.Option.{none-some, same_Some}
-use Rattle.memory_model.specs.declared.MemoryModel.{MemoryModel}
+use Rattle.machine_types.specs.declared.model.MemoryModel.{MemoryModel}
 use Rattle.memory_model.specs.declared.operation.Operation.{Operation}
 use Rattle.memory_model.specs.Dependencies.{uses_in}
 use Rattle.memory_model.specs.Items.{Item}

@@ -4,7 +4,7 @@ use Rattle.std.specs.Prelude.{is_some, slice_get, slice_index_or}
 use Rattle.std.specs.List.{AllByRecursion}
 use Rattle.std.proofs.lemmas.List.{drop-drop, drop_all, take_all}
 use Rattle.std.proofs.lemmas.Option.{same_Some, slice_get-get_or}
-use Rattle.memory_model.specs.declared.MemoryModel.{MemoryModel}
+use Rattle.machine_types.specs.declared.model.MemoryModel.{MemoryModel}
 use Rattle.memory_model.specs.declared.operation.Operation.{Operation}
 use Rattle.memory_model.specs.Items.{Item}
 use Rattle.memory_model.specs.Operations.{precedes}

@@ -3,7 +3,7 @@ use Rattle.std.proofs.Common.{◌≡◌, List, true, ◌∙◌, refl, sym, ap, s
 use Rattle.std.specs.List.{list_all}
 use Rattle.std.proofs.lemmas.Bool.{and_parts}
 use Rattle.elf_loader.specs.Image.{Initial, byte_at}
-use Rattle.memory_model.specs.declared.MemoryModel.{MemoryModel}
+use Rattle.machine_types.specs.declared.model.MemoryModel.{MemoryModel}
 use Rattle.memory_model.specs.declared.operation.Operation.{Operation}
 use Rattle.memory_model.specs.Items.{Item}
 use Rattle.memory_model.specs.Traces.{IsLegalOrder, image_of, instructions, is_among, is_distinct, has_each_operation_once, names_in, operations_at}

@@ -2,7 +2,7 @@
 use Rattle.std.specs.Prelude.{◌≡◌, ℕ, ◌-◌, ◌≤◌, Bool, true, false, ◌&&◌, if◌then◌else◌, List, [], ◌∷◌, ◌++◌, Option, Some, None, map, slice_index_or}
 use Rattle.std.specs.List.{All, list_any}
 use Rattle.rv32_exec.specs.Uses.{Uses}
-use Rattle.memory_model.specs.declared.MemoryModel.{MemoryModel}
+use Rattle.machine_types.specs.declared.model.MemoryModel.{MemoryModel}
 use Rattle.memory_model.specs.declared.operation.Operation.{Operation}
 use Rattle.memory_model.specs.Dependencies.{holds, sources, uses_in, with_flags}
 use Rattle.memory_model.specs.Items.{Item}

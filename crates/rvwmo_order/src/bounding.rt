@@ -10,7 +10,7 @@ ghost use Rattle.trace_operations.specs.Placed.{GivesOwn, IsPlaced};
 use crate::ranking::Ranking;
 use crate::rows::{Row, UNBOUNDED};
 use crate::walking::{Walk, weight_at};
-use memory_model::MemoryModel;
+use machine_types::MemoryModel;
 use std::alloc::{AllocError, Global};
 use trace_operations::{Harts, Item};
 

@@ -10,7 +10,7 @@ use crate::error::CheckError;
 use crate::judging::judge;
 use crate::ranking::Ranking;
 use crate::verdict::Verdict;
-use memory_model::MemoryModel;
+use machine_types::MemoryModel;
 use std::alloc::{AllocError, Global};
 use trace_operations::{Harts, are_runs, few_names, has_too_many, is_order, operations_at};
 use trace_recorder::{OpId, Trace};

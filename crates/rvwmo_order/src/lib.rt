@@ -27,5 +27,4 @@ mod walking;
 
 pub use checking::{check, check_model};
 pub use error::CheckError;
-pub use memory_model::MemoryModel;
 pub use verdict::{Code, Rule, Verdict};

@@ -12,7 +12,8 @@ use crate::ranking::Ranking;
 use crate::searching::first_asked;
 use crate::sweeping::Sweep;
 use crate::verdict::RULES;
-use memory_model::{MemoryModel, Operation};
+use machine_types::MemoryModel;
+use memory_model::Operation;
 use std::alloc::{AllocError, Global};
 use trace_operations::Harts;
 

@@ -4,7 +4,8 @@ ghost use Rattle.std.specs.Prelude.{◌≡◌};
 ghost use Rattle.rvwmo_order.specs.Passed as spec;
 
 use crate::rules::{fences, is_fence, is_lr_or_sc};
-use memory_model::{Kind, MemoryModel, Operation};
+use machine_types::MemoryModel;
+use memory_model::{Kind, Operation};
 use trace_operations::Item;
 use trace_operations::accesses::{has_acquire, has_rcsc, is_lr, reads, writes};
 

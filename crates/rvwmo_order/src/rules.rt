@@ -16,7 +16,8 @@ use crate::ranking::Ranking;
 use crate::sources::{is_same_source, returns_from};
 use crate::sweeping::Sweep;
 use crate::verdict::Rule;
-use memory_model::{Kind, MemoryModel, Operation};
+use machine_types::MemoryModel;
+use memory_model::{Kind, Operation};
 use rv32_decode::{FenceSet, Instr};
 use trace_operations::Items;
 use trace_operations::accesses::{

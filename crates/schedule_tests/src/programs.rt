@@ -3,8 +3,7 @@
 use elf_loader::{Image, raw, size_of_kib};
 use flat_model::HartResult;
 use hart::Status;
-use machine_model::MemoryModel;
-use machine_types::Config;
+use machine_types::{Config, MemoryModel};
 use std::alloc::Global;
 use std::test::Fail;
 use tl_types::LineSize;

@@ -17,9 +17,8 @@ use crate::results::results_of;
 use crate::schedule::Schedule;
 use coherent_machine::{ApplyError, Machine, NewError, ReplayError, Views};
 use elf_loader::Image;
-use machine_limits::MAX_HARTS;
 use machine_model::changes_are_counted;
-use machine_types::{Config, Event, Outcome};
+use machine_types::{Config, Event, MAX_HARTS, Outcome};
 use std::alloc::{AllocError, Global};
 use std::marker::Model;
 

@@ -5,7 +5,7 @@ use Rattle.command_files.specs.Composition.{Leads}
 use Rattle.command_files.specs.Sizes.{config_of}
 use Rattle.elf_loader.specs.Image.{Initial}
 use Rattle.machine_model.specs.Views.{State, opening}
-use Rattle.memory_model.specs.declared.MemoryModel.{MemoryModel}
+use Rattle.machine_types.specs.declared.model.MemoryModel.{MemoryModel}
 use Rattle.script_commands.specs.declared.replay.composing.CompositionError.{CompositionError}
 use Rattle.script_commands.specs.declared.replay.composing.CompositionError.TheVariants as errors
 use Rattle.text_fields.specs.Writing.{Begins}

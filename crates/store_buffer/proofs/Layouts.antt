@@ -7,7 +7,7 @@ use Rattle.std.proofs.lemmas.Bool.{false≢true, eqb-true, ne_eqb, lt-ltb, ltb-t
 use Rattle.std.proofs.lemmas.Bool.Decides.{nat_tests}
 use Rattle.std.proofs.lemmas.List.Sums.{sum_by-cons, sum_by-append, sum_by-take-le}
 use Rattle.std.specs.Option.{option_or}
-use Rattle.machine_limits.specs.declared.TheConstants.{BUFFER_ENTRIES}
+use Rattle.machine_types.specs.declared.limits.TheConstants.{BUFFER_ENTRIES}
 use Rattle.store_buffer.specs.declared.entry.Entry.{Entry}
 use Rattle.store_buffer.specs.declared.entry.Store.{Store}
 use Rattle.store_buffer.specs.Entry.{blank_entry, joined, marked_byte, has_word, entry_of, with_store, without}

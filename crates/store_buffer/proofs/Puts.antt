@@ -1,7 +1,7 @@
 -- What both puts answer.
 use Rattle.std.proofs.Common.{◌≡◌, ℕ, false, Ok, Err, List, length, drop, sym, ap, subst, ◌∙◌}
 use Rattle.std.specs.Prelude.{Result, sum}
-use Rattle.machine_limits.specs.declared.TheConstants.{BUFFER_ENTRIES}
+use Rattle.machine_types.specs.declared.limits.TheConstants.{BUFFER_ENTRIES}
 use Rattle.store_buffer.specs.declared.buffer.PutError.{PutError}
 use Rattle.store_buffer.specs.declared.buffer.PutError.TheVariants.{Full}
 use Rattle.store_buffer.specs.declared.entry.Entry.{Entry}

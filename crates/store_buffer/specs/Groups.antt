@@ -4,7 +4,7 @@
 use Rattle.std.specs.Prelude.{◌≡◌, ℕ, ◌+◌, ◌≤◌, Bool, true, false, ◌&&◌, ◌||◌, not, List, [], ◌∷◌, ◌++◌, length, Option, Some, None, is_some, unwrap_or, nat_lt, if◌then◌else◌}
 use Rattle.std.specs.List.{AllByRecursion as Each}
 use Rattle.std.specs.Option.{option_or}
-use Rattle.machine_limits.specs.declared.TheConstants.{BUFFER_ENTRIES}
+use Rattle.machine_types.specs.declared.limits.TheConstants.{BUFFER_ENTRIES}
 use Rattle.store_buffer.specs.ByteMask.{each_place}
 use Rattle.store_buffer.specs.Entry.{marked_byte, has_word, entry_of, with_store, without}
 use Rattle.store_buffer.specs.declared.entry.Entry.{Entry}

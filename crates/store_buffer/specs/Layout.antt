@@ -2,7 +2,7 @@
 use Rattle.std.specs.Prelude.{ℕ, ◌-◌, ◌<◌, ◌≤◌, ◌==◌, nat_lt, Bool, List, [], ◌∷◌, Option, None, length, sum, take, drop, position, is_some, unwrap_or, if◌then◌else◌}
 use Rattle.std.specs.List.{AllByRecursion as Each}
 use Rattle.std.specs.Option.{option_or}
-use Rattle.machine_limits.specs.declared.TheConstants.{BUFFER_ENTRIES}
+use Rattle.machine_types.specs.declared.limits.TheConstants.{BUFFER_ENTRIES}
 use Rattle.store_buffer.specs.ByteMask.{each_place}
 use Rattle.store_buffer.specs.Entry.{marked_byte}
 use Rattle.store_buffer.specs.Groups.{Groups, HaveDistinctWords}

@@ -6,7 +6,7 @@ ghost use Rattle.store_buffer.specs.Layout.{place_of, overlaid, one_less};
 
 use crate::{ByteMask, Entry, Ops, Store};
 use arrayvec::ArrayVec;
-use machine_limits::BUFFER_ENTRIES;
+use machine_types::BUFFER_ENTRIES;
 use std::alloc::{AllocError, Global};
 use std::marker::Model;
 

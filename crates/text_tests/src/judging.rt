@@ -5,10 +5,10 @@ use crate::same::same;
 use crate::streams::image_of;
 use hart::{Retired, Status};
 use rvwmo_order::{CheckError, Verdict, check};
-use trace_operations::completed;
 use std::alloc::{AllocError, Global};
 use std::test::Fail;
 use tl_types::LineSize;
+use trace_operations::completed;
 use trace_recorder::{OpId, Trace, are_within_limits};
 
 /// `lui a2, 0x80000`, `sw a3, 0x100(a2)` and a jump back to the store.

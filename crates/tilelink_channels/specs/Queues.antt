@@ -1,7 +1,7 @@
 -- The messages that wait between one hart's cache and the manager: a list for each channel, the first sent in front
 -- (TileLink 1.8.1, "Channels": messages of one channel arrive in the order in which they were sent).
 use Rattle.std.specs.Prelude.{ℕ, ◌+◌, ◌-◌, ◌*◌, List, [], ◌∷◌, ◌++◌, Option, Some, None}
-use Rattle.machine_limits.specs.declared.TheConstants.{MAX_HARTS, TRACKERS}
+use Rattle.machine_types.specs.declared.limits.TheConstants.{MAX_HARTS, TRACKERS}
 use Rattle.tl_types.specs.declared.message.Channel.{Channel}
 use Rattle.tl_types.specs.declared.message.Channel.TheVariants.{A, B, C, D, E}
 use Rattle.tl_types.specs.declared.message.Msg.{Msg}

@@ -3,7 +3,7 @@ ghost use Rattle.std.specs.Prelude.{◌≡◌, ◌<◌, ◌↔◌, length, slice
 ghost use Rattle.tl_types.specs.Message.{channel_of};
 ghost use Rattle.tilelink_channels.specs.Queues.{none_waiting, room_of, queue_of, front_of, pushed, popped};
 
-use machine_limits::{MAX_HARTS, TRACKERS};
+use machine_types::{MAX_HARTS, TRACKERS};
 use std::alloc::{AllocError, Global};
 use std::collections::VecDeque;
 use std::marker::Model;

@@ -4,7 +4,7 @@ use Rattle.std.proofs.lemmas.Bool.{le-ltb, lt-ltb}
 use Rattle.std.proofs.lemmas.List.{at_drop_more, drop_all, length-append}
 use Rattle.std.proofs.lemmas.List.Sums.{count_by-le-length, length-filter}
 use Rattle.std.specs.Prelude.{nat_lt}
-use Rattle.machine_limits.specs.declared.TheConstants.{MAX_ENTRIES}
+use Rattle.machine_types.specs.declared.limits.TheConstants.{MAX_ENTRIES}
 use Rattle.hart.specs.declared.retired.Retired.{Retired}
 use Rattle.memory_model.specs.Items.{has_operation}
 use Rattle.memory_model.specs.Traces.{names_from, names_of_harts}

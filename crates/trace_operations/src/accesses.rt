@@ -5,7 +5,8 @@ ghost use Rattle.memory_model.specs.Verdict as verdict;
 ghost use Rattle.elf_loader.specs.Image as images;
 
 use elf_loader::{BASE, Image};
-use memory_model::{Kind, MemoryModel, Operation};
+use machine_types::MemoryModel;
+use memory_model::{Kind, Operation};
 use trace_recorder::OpId;
 
 /// Whether an operation of this kind reads memory.

@@ -2,7 +2,7 @@
 //! Primitives").
 ghost use Rattle.std.specs.Prelude.{◌≡◌, ◌≤◌, ◌*◌, ◌%◌, ◌^◌, ◌&&◌, ◌==◌, IfOk, Some, false, if◌then◌else◌, is_some, length, slice_get, slice_index, true};
 ghost use Rattle.std.specs.Option.{IfSome, option_copied};
-ghost use Rattle.machine_limits.specs.declared.TheConstants.{MAX_ENTRIES};
+ghost use Rattle.machine_types.specs.declared.limits.TheConstants.{MAX_ENTRIES};
 ghost use Rattle.memory_model.specs.Rules as rules;
 ghost use Rattle.hart.specs.Run as run;
 ghost use Rattle.rv32_decode.specs.Decoding.{amo_of};

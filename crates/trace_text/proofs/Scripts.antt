@@ -14,7 +14,7 @@ use Rattle.machine_types.specs.declared.event.Event.TheVariants.{Step, Drain, Ev
 use Rattle.elf_loader.specs.Size.{is_memory_kib}
 use Rattle.elf_loader.proofs.Sizes.{memory_kib}
 use Rattle.machine_types.specs.Config.{is_within_limits}
-use Rattle.machine_types.proofs.Limits.{limits_of}
+use Rattle.machine_types.proofs.Within.{limits_of}
 use Rattle.tl_types.specs.Line.{length_of}
 use Rattle.tl_types.specs.declared.line.LineSize.{LineSize}
 use Rattle.tl_types.specs.declared.line.LineSize.TheVariants.{Bytes16}

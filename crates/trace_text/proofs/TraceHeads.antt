@@ -1,7 +1,7 @@
 -- What the test of a header shows.
 use Rattle.std.proofs.Common.{◌≡◌, ◌∙◌, ℕ, ◌+◌, ◌-◌, ◌*◌, ◌^◌, refl, ◌%◌, ◌<◌, ◌≤◌, ◌&&◌, true, eqb, leb, sym, subst, inl, inr, arith}
 use Rattle.std.proofs.lemmas.Bool.{eqb-true, leb-true}
-use Rattle.machine_limits.specs.declared.TheConstants.{MAX_HARTS}
+use Rattle.machine_types.specs.declared.limits.TheConstants.{MAX_HARTS}
 use Rattle.elf_loader.specs.Size.{base, IsMemoryKib, IsMemorySize, is_memory_kib}
 use Rattle.elf_loader.proofs.Sizes.{memory_kib}
 use Rattle.text_fields.proofs.Laws.{both_true}

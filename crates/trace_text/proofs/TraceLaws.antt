@@ -3,7 +3,7 @@ use Rattle.std.proofs.Common.{◌≡◌, ℕ, ◌+◌, ◌-◌, ◌*◌, ◌%◌
 use Rattle.std.specs.Prelude.{codes}
 use Rattle.std.proofs.lemmas.Bool.{eqb-true, eq-eqb, leb-true, le-leb, ltb-true, lt-ltb}
 use Rattle.std.specs.Option.{option_or}
-use Rattle.machine_limits.specs.declared.TheConstants.{MAX_ENTRIES, MAX_HARTS, MAX_KIB}
+use Rattle.machine_types.specs.declared.limits.TheConstants.{MAX_ENTRIES, MAX_HARTS, MAX_KIB}
 use Rattle.elf_loader.specs.Size.{base}
 use Rattle.text_fields.specs.Fields.{number, word, hex, IsBytes}
 use Rattle.text_fields.specs.Reading.{◌>>=◌, seen_at, led_at, table_at, after, number_at, word_at}

@@ -11,7 +11,7 @@ use Rattle.text_fields.proofs.Laws.{after_takes}
 use Rattle.tl_types.specs.Line.{length_of}
 use Rattle.tl_types.specs.declared.line.LineSize.{LineSize}
 use Rattle.tl_types.specs.declared.line.LineSize.TheVariants.{Bytes16, Bytes64}
-use Rattle.machine_limits.specs.declared.TheConstants.{MIN_KIB}
+use Rattle.machine_types.specs.declared.limits.TheConstants.{MIN_KIB}
 use Rattle.elf_loader.specs.Size.{base}
 use Rattle.trace_text.specs.declared.fault.TextCode.{TextCode}
 use Rattle.trace_text.specs.declared.fault.TextCode.TheVariants.{Header, Word, Fields, Order, End, NoMemory}

@@ -1,7 +1,7 @@
 -- Reading a script from left to right. The clauses of read_script don't rest on these words: they are what its parts answer.
 use Rattle.std.specs.Prelude.{ℕ, List, [], ◌∷◌, Option, Some, length, ◌&&◌, not, codes}
 use Rattle.std.specs.Option.{option_or}
-use Rattle.machine_limits.specs.declared.TheConstants.{MAX_KIB}
+use Rattle.machine_types.specs.declared.limits.TheConstants.{MAX_KIB}
 use Rattle.text_fields.specs.Reading.{◌>>=◌, pair_at, seen_at, led_at, ended_at, table_at, number_at, word_at, guarded, all_at}
 use Rattle.machine_types.specs.declared.event.Event.{Event}
 use Rattle.machine_types.specs.declared.event.Event.TheVariants.{Step, Drain, Evict, Deliver, Local}

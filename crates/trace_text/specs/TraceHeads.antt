@@ -1,6 +1,6 @@
 -- The limits of a trace's header.
 use Rattle.std.specs.Prelude.{◌≡◌, ◌+◌, ◌*◌, ◌%◌, ◌≤◌}
-use Rattle.machine_limits.specs.declared.TheConstants.{MAX_HARTS}
+use Rattle.machine_types.specs.declared.limits.TheConstants.{MAX_HARTS}
 use Rattle.elf_loader.specs.Size.{base, IsMemoryKib}
 use Rattle.trace_text.specs.declared.head.TraceHead.{TraceHead}
 

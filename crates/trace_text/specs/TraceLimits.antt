@@ -1,7 +1,7 @@
 -- The values that a trace may have in its text.
 use Rattle.std.specs.Prelude.{◌≡◌, ℕ, ◌+◌, ◌*◌, ◌/◌, ◌%◌, ◌^◌, ◌<◌, ◌≤◌, List, Option, Some, None, Result, Ok, Err, length, ◌++◌}
 use Rattle.std.specs.List.{AllByRecursion}
-use Rattle.machine_limits.specs.declared.TheConstants.{MAX_ENTRIES}
+use Rattle.machine_types.specs.declared.limits.TheConstants.{MAX_ENTRIES}
 use Rattle.text_fields.specs.Fields.{IsBytes}
 use Rattle.elf_loader.specs.Size.{base}
 use Rattle.hart.specs.declared.retired.Retired.{Retired}

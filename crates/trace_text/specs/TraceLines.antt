@@ -1,7 +1,7 @@
 -- Reading the lines of a trace from left to right.
 use Rattle.std.specs.Prelude.{ℕ, ◌+◌, ◌-◌, ◌*◌, ◌%◌, Bool, List, [], ◌∷◌, ◌++◌, Option, Some, None, length, codes, nat_le, nat_lt, ◌==◌, ◌&&◌, not}
 use Rattle.std.specs.Option.{option_or}
-use Rattle.machine_limits.specs.declared.TheConstants.{MAX_HARTS, MAX_ENTRIES}
+use Rattle.machine_types.specs.declared.limits.TheConstants.{MAX_HARTS, MAX_ENTRIES}
 use Rattle.text_fields.specs.Fields.{word}
 use Rattle.text_fields.specs.Reading.{◌>>=◌, pair_at, seen_at, led_at, ended_at, after, number_at, word_at, hex_at, behind, guarded}
 use Rattle.elf_loader.specs.Size.{base, is_memory_kib}

@@ -1,6 +1,6 @@
 -- Reading the sections of a trace from left to right. The clauses of read_trace don't rest on these words: they are what its parts answer.
 use Rattle.std.specs.Prelude.{ℕ, zero, suc, ◌+◌, ◌-◌, ◌*◌, ◌/◌, List, [], ◌++◌, Option, Some, None, length, codes, nat_le, replicate}
-use Rattle.machine_limits.specs.declared.TheConstants.{MAX_ENTRIES}
+use Rattle.machine_types.specs.declared.limits.TheConstants.{MAX_ENTRIES}
 use Rattle.text_fields.specs.Fields.{number}
 use Rattle.text_fields.specs.Reading.{◌>>=◌, led_at, guarded, section_at, numbered_at}
 use Rattle.elf_loader.specs.Size.{base}

@@ -13,7 +13,7 @@ use crate::script_reading::{MOST, size_at, word_line_at};
 use crate::trace_writing::any_set;
 use elf_loader::{BASE, is_memory_kib};
 use hart::{Retired, Status};
-use machine_limits::{MAX_ENTRIES, MAX_HARTS};
+use machine_types::{MAX_ENTRIES, MAX_HARTS};
 use text_fields::{after, hex_into, number_at, word_at, word_text};
 use tl_types::{Channel, LineSize};
 use trace_recorder::{Logged, OpId};

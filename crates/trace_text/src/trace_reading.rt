@@ -22,7 +22,7 @@ use crate::trace_lines::{
 };
 use elf_loader::{BASE, Image};
 use hart::{Retired, Status};
-use machine_limits::{MAX_ENTRIES, MAX_HARTS};
+use machine_types::{MAX_ENTRIES, MAX_HARTS};
 use std::alloc::Global;
 use text_fields::after;
 use trace_recorder::{Logged, OpId, Trace};

@@ -12,7 +12,7 @@ ghost use Rattle.window_machine.specs.Circles.{is_of_memory};
 use amo_unit::combine;
 use elf_loader::Image;
 use hart::{Hart, Retired, can_fetch};
-use memory_model::MemoryModel;
+use machine_types::MemoryModel;
 use rv32_decode::{AmoOp, Annotations, Instr, decode};
 use rv32_exec::{Action, Width, plan, stop};
 

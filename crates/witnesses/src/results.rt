@@ -1,7 +1,7 @@
 //! How harts ended and what they put out, read off their lists.
 ghost use Rattle.std.specs.Prelude.{◌≡◌, ◌≤◌, IfOk, length, map};
 ghost use Rattle.flat_model.specs.Shown.{told};
-ghost use Rattle.machine_limits.specs.declared.TheConstants.{MAX_HARTS};
+ghost use Rattle.machine_types.specs.declared.limits.TheConstants.{MAX_HARTS};
 ghost use Rattle.witnesses.specs.Outcomes.{results_from};
 
 use crate::output::output_of;

@@ -4,7 +4,8 @@
 
 use super::traces::Traces;
 use anyhow::{Result, bail, ensure};
-use rvwmo_order::{MemoryModel, plain};
+use machine_types::MemoryModel;
+use rvwmo_order::plain;
 use std::alloc::Global;
 use std::fs;
 use std::io::Write;

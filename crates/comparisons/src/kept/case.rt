@@ -3,8 +3,7 @@
 use crate::images::{ImageKind, image_of};
 use anyhow::{Context, Result, bail};
 use elf_loader::Image;
-use machine_model::MemoryModel;
-use machine_types::Config;
+use machine_types::{Config, MemoryModel};
 use std::alloc::Global;
 use std::fs;
 use std::rt::Files;

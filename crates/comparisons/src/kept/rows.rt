@@ -14,7 +14,7 @@ use crate::lockstep::{Counts, Failures};
 use anyhow::{Result, bail, ensure};
 use coherent_machine::Machine;
 use command_files::SystemFiles;
-use machine_model::MemoryModel;
+use machine_types::MemoryModel;
 use plain_machine::{PlainMachine, Variant};
 use std::fs;
 use std::io::Write;

@@ -12,8 +12,8 @@ use crate::final_words::reading::{byte_of, writes};
 use elf_loader::{BASE, Image};
 use flat_machine::Patch;
 use memory_model::Operation;
-use trace_operations::Index;
 use std::alloc::{AllocError, Global};
+use trace_operations::Index;
 use trace_recorder::Trace;
 
 /// A byte of memory is written, if there is one at this address.

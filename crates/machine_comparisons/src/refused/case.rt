@@ -2,8 +2,7 @@
 
 use anyhow::{Context, Result, bail};
 use elf_loader::{Image, raw, size_of_kib};
-use machine_model::MemoryModel;
-use machine_types::Config;
+use machine_types::{Config, MemoryModel};
 use std::alloc::Global;
 use std::rt::Files;
 use std::{fs, io};

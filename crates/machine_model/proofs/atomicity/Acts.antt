@@ -14,7 +14,7 @@ use Rattle.machine_model.proofs.order.Rules.{precedes_not, touches_word}
 use Rattle.machine_model.proofs.order.Split.{gave_at, new_name}
 use Rattle.machine_model.proofs.order.Steps.{HartKept, has_is}
 use Rattle.machine_model.proofs.order.Values.{members, theirs, waits}
-use Rattle.memory_model.specs.declared.MemoryModel.{MemoryModel}
+use Rattle.machine_types.specs.declared.model.MemoryModel.{MemoryModel}
 use Rattle.memory_model.specs.declared.operation.Operation.{Operation}
 use Rattle.memory_model.specs.Items.{Item}
 use Rattle.memory_model.specs.Operations.{is_sc, is_lr, precedes, same, stores_to, touches, writes}

@@ -21,7 +21,7 @@ use Rattle.machine_model.proofs.order.Rules.{InWord, touches_word}
 use Rattle.machine_model.proofs.order.Split.{gave_at}
 use Rattle.machine_model.proofs.order.Steps.{Performs, names_by}
 use Rattle.machine_model.proofs.order.Values.{names_cases, nothing_named, one_named}
-use Rattle.memory_model.specs.declared.MemoryModel.{MemoryModel}
+use Rattle.machine_types.specs.declared.model.MemoryModel.{MemoryModel}
 use Rattle.memory_model.specs.declared.operation.Operation.{Operation}
 use Rattle.memory_model.specs.Items.{Item, operation_of_access, succeeded}
 use Rattle.memory_model.specs.Operations.{is_sc, is_lr, stores_to, touches, writes}

@@ -20,7 +20,7 @@ use Rattle.machine_model.specs.Deliveries.{delivered, handled, is_trunk, kept_re
 use Rattle.machine_model.specs.Views.{Node, State, line_size, no_node, place_of, node_at, with_node, with_trace, sent}
 use Rattle.machine_model.specs.Words.{bytes_of_word}
 use Rattle.machine_model.proofs.Nodes.{node_same, node_other}
-use Rattle.memory_model.specs.declared.MemoryModel.{MemoryModel}
+use Rattle.machine_types.specs.declared.model.MemoryModel.{MemoryModel}
 use Rattle.reservations.specs.Reservation.{lies_in, without_line}
 use Rattle.store_buffer.specs.ByteMask.{marks_of_access}
 use Rattle.store_buffer.specs.Entry.{entry_of}

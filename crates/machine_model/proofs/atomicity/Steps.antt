@@ -40,7 +40,7 @@ use Rattle.machine_model.proofs.order.Values.{theirs}
 use Rattle.machine_model.proofs.runs.Runs.{AllStand, entries-with_entries}
 use Rattle.machine_model.proofs.coherence.WorldOpening.{one_writer}
 use Rattle.machine_model.proofs.coherence.WorldSteps.{Fits}
-use Rattle.memory_model.specs.declared.MemoryModel.{MemoryModel}
+use Rattle.machine_types.specs.declared.model.MemoryModel.{MemoryModel}
 use Rattle.memory_model.specs.declared.operation.Operation.{Operation}
 use Rattle.memory_model.specs.Items.{Item, annotations_of, item_of, items_from}
 use Rattle.memory_model.specs.Operations.{is_sc, is_lr, stores_to}

@@ -30,7 +30,7 @@ use Rattle.machine_model.proofs.order.Traces.{done, operations_on}
 use Rattle.machine_model.proofs.runs.Runs.{AllStand}
 use Rattle.machine_model.proofs.coherence.WorldEvents.{IsAligned}
 use Rattle.machine_model.proofs.coherence.WorldSteps.{last_after, last_by, wrote_word}
-use Rattle.memory_model.specs.declared.MemoryModel.{MemoryModel}
+use Rattle.machine_types.specs.declared.model.MemoryModel.{MemoryModel}
 use Rattle.memory_model.specs.Operations.{byte_of_number as number_byte, stores_to}
 use Rattle.memory_model.specs.Order.{byte_from}
 use Rattle.memory_model.specs.Traces.{instructions, last_performed, operations_at}

@@ -4,7 +4,7 @@ use Rattle.std.specs.Prelude.{◌≢◌, ◌==◌, if◌then◌else◌, is_some,
 use Rattle.std.specs.FinSet as set
 use Rattle.std.specs.FinMap as map
 use Rattle.std.proofs.lemmas.Bool.{eq-eqb}
-use Rattle.machine_limits.specs.declared.TheConstants.{TRACKERS}
+use Rattle.machine_types.specs.declared.limits.TheConstants.{TRACKERS}
 use Rattle.client_cache.proofs.AtLines.{wanted_other, probed_other, evicted_other, missed_own, probed_own, evicted_own, put_own, put_other, remove_own, remove_other}
 use Rattle.client_cache.specs.AtLine.{AtLine, at_line, KeepsOthers}
 use Rattle.client_cache.specs.Cache.{Cache, copy_at, wanted, probed, probed_copy, granted, answered, evicted, evicted_copy, is_set_full, written}

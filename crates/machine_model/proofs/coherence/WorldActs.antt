@@ -3,7 +3,7 @@ use Rattle.std.proofs.Common.{ℕ, Bool, true, false, List, [], ◌∷◌, ◌�
 use Rattle.std.specs.Prelude.{◌≢◌, if◌then◌else◌, nat_le}
 use Rattle.std.specs.FinSet as set
 use Rattle.std.specs.FinMap as map
-use Rattle.machine_limits.specs.declared.TheConstants.{TRACKERS}
+use Rattle.machine_types.specs.declared.limits.TheConstants.{TRACKERS}
 use Rattle.client_cache.specs.Cache.{Cache, copy_at, wanted, probed, probed_copy, granted, answered, evicted, evicted_copy, is_set_full}
 use Rattle.client_cache.specs.Held.{eviction_of}
 use Rattle.client_cache.proofs.AtLines.{probed_other, evicted_other}

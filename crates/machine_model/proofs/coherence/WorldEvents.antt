@@ -48,7 +48,7 @@ use Rattle.machine_model.proofs.coherence.WorldDeliveries.{acquired_fits, ended_
 use Rattle.machine_model.proofs.coherence.WorldFits.{Framed, IsFit, framed_taken, kit_at, kit_of}
 use Rattle.machine_model.proofs.coherence.WorldKept.{front_line, is_line, side}
 use Rattle.machine_model.proofs.coherence.WorldSteps.{Fits, IsAllowed, MayWrite, drains_fits, last_after, retires_fits, stopped_fits, went_alone_fits}
-use Rattle.memory_model.specs.declared.MemoryModel.{MemoryModel}
+use Rattle.machine_types.specs.declared.model.MemoryModel.{MemoryModel}
 use Rattle.reservations.specs.Reservation.{is_valid}
 use Rattle.memory_model.specs.Rules.{fences}
 use Rattle.memory_model.specs.declared.operation.Kind.TheVariants.{Load, Store}

@@ -30,7 +30,7 @@ use Rattle.machine_model.proofs.coherence.LineStands.{IsLast, newest}
 use Rattle.machine_model.proofs.coherence.LineViews.{written_here, written_elsewhere}
 use Rattle.machine_model.proofs.coherence.WorldFits.{IsFit, HoldsReserved, fits, fits_alone, framed_node, framed_trace, kit_at, kit_changed, kit_of, same_reserved}
 use Rattle.machine_model.proofs.coherence.WorldKept.{is_line, writes}
-use Rattle.memory_model.specs.declared.MemoryModel.{MemoryModel}
+use Rattle.machine_types.specs.declared.model.MemoryModel.{MemoryModel}
 use Rattle.rv32_decode.specs.declared.instruction.Instr.{Instr}
 use Rattle.store_buffer.specs.ByteMask.{marks_of_access}
 use Rattle.store_buffer.specs.Entry.{entry_of}

@@ -23,7 +23,7 @@ use Rattle.machine_model.proofs.order.Moves.{OrderKept, Changes, Step, step_kept
 use Rattle.machine_model.proofs.order.Split.{ops_of, ops_same}
 use Rattle.machine_model.proofs.order.Steps.{HartKept, Performs, IsNew, buffer_by, names_by, deed_keeps, keeps_plain, performs_none}
 use Rattle.machine_model.proofs.order.Traces.{items_at, done, Extends, IsLonger, new_item, items_here, items_there, extends_longer, length-items_from, id-reached}
-use Rattle.memory_model.specs.declared.MemoryModel.{MemoryModel}
+use Rattle.machine_types.specs.declared.model.MemoryModel.{MemoryModel}
 use Rattle.memory_model.specs.declared.operation.Operation.{Operation}
 use Rattle.memory_model.specs.Items.{annotations_of, operation_of_entry, operation_of_access}
 use Rattle.rv32_decode.specs.Rows.{decoded}

@@ -19,7 +19,7 @@ use Rattle.machine_model.specs.Views.{Node, State, line_size, place_of, node_at,
 use Rattle.machine_model.specs.Words.{bytes_of_word}
 use Rattle.machine_model.proofs.Nodes.{node_same, node_other}
 use Rattle.machine_model.proofs.order.Steps.{buffer_by, names_by}
-use Rattle.memory_model.specs.declared.MemoryModel.{MemoryModel}
+use Rattle.machine_types.specs.declared.model.MemoryModel.{MemoryModel}
 use Rattle.store_buffer.specs.ByteMask.{marks_of_access}
 use Rattle.store_buffer.specs.Groups.{Groups, after_seal}
 use Rattle.tl_types.specs.declared.line.LineData.{LineData}

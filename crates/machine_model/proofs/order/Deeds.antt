@@ -19,7 +19,7 @@ use Rattle.machine_model.specs.Deciding.{miss_by, reading, reading_by, writing, 
 use Rattle.machine_model.specs.Steps.{Fetched, retires, plan_load, plan_store, plan_lr, plan_sc, plan_amo, plan_fence, plan_call, plan_access, waits_for_stores, write_waits, update}
 use Rattle.machine_model.specs.Views.{Node, line_of}
 use Rattle.machine_model.specs.Words.{word_of, word_in, read_from, store_of}
-use Rattle.memory_model.specs.declared.MemoryModel.{MemoryModel}
+use Rattle.machine_types.specs.declared.model.MemoryModel.{MemoryModel}
 use Rattle.memory_model.specs.declared.operation.Kind.{Kind}
 use Rattle.memory_model.specs.declared.operation.Kind.TheVariants as kind
 use Rattle.memory_model.specs.Items.{annotations_of}

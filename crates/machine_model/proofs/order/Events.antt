@@ -46,7 +46,7 @@ use Rattle.machine_model.proofs.order.Deeds.{FitsDeed, FitsPlan, access_fits}
 use Rattle.machine_model.proofs.order.Moves.{OrderKept, order_still, order_drained}
 use Rattle.machine_model.proofs.order.Steps.{HartKept}
 use Rattle.machine_model.proofs.order.Traces.{items_at}
-use Rattle.memory_model.specs.declared.MemoryModel.{MemoryModel}
+use Rattle.machine_types.specs.declared.model.MemoryModel.{MemoryModel}
 use Rattle.memory_model.specs.Items.{Item, items_from}
 use Rattle.rv32_decode.specs.Rows.{decoded}
 use Rattle.rv32_decode.specs.declared.instruction.Instr.{Instr}

@@ -4,8 +4,8 @@ use Rattle.std.specs.Prelude.{nat_eq, slice_get}
 use Rattle.std.specs.List.{AllByRecursion as Each, filter}
 use Rattle.std.proofs.lemmas.Bool.{true≢false, and_left, and_right, or_from, eqb-true, eqb-false, le-ltb, ne_eqb, not-true}
 use Rattle.machine_model.specs.Words.{word_of}
-use Rattle.memory_model.specs.declared.MemoryModel.{MemoryModel}
-use Rattle.memory_model.specs.declared.MemoryModel.TheVariants.{Rvwmo, Ztso}
+use Rattle.machine_types.specs.declared.model.MemoryModel.{MemoryModel}
+use Rattle.machine_types.specs.declared.model.MemoryModel.TheVariants.{Rvwmo, Ztso}
 use Rattle.memory_model.specs.declared.operation.Kind.{Kind}
 use Rattle.memory_model.specs.declared.operation.Kind.TheVariants.{Load, Store}
 use Rattle.memory_model.specs.declared.operation.Operation.{Operation}

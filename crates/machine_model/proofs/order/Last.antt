@@ -25,7 +25,7 @@ use Rattle.machine_model.proofs.order.Split.{gave_at}
 use Rattle.machine_model.proofs.order.Steps.{Performs, names_by, stores_of}
 use Rattle.machine_model.proofs.order.Traces.{items_at, items_here, done, new_item, IsLonger, length-items_from}
 use Rattle.machine_model.proofs.order.Values.{names_cases, nothing_named, one_named}
-use Rattle.memory_model.specs.declared.MemoryModel.{MemoryModel}
+use Rattle.machine_types.specs.declared.model.MemoryModel.{MemoryModel}
 use Rattle.memory_model.specs.declared.operation.Kind.TheVariants as kind
 use Rattle.memory_model.specs.declared.operation.Operation.{Operation}
 use Rattle.memory_model.specs.Items.{Item, annotations_of, operation_of_access, succeeded}

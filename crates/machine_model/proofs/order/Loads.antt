@@ -20,8 +20,8 @@ use Rattle.machine_model.proofs.order.Kept.{joined, of_word, IsWaiting}
 use Rattle.machine_model.proofs.order.Rules.{touches_word}
 use Rattle.machine_model.proofs.order.Steps.{HartKept, waiting_of, stores_joined, has_is, empty_waits}
 use Rattle.machine_model.proofs.order.Values.{ReadsLast}
-use Rattle.memory_model.specs.declared.MemoryModel.{MemoryModel}
-use Rattle.memory_model.specs.declared.MemoryModel.TheVariants.{Rvwmo, Ztso}
+use Rattle.machine_types.specs.declared.model.MemoryModel.{MemoryModel}
+use Rattle.machine_types.specs.declared.model.MemoryModel.TheVariants.{Rvwmo, Ztso}
 use Rattle.memory_model.specs.declared.operation.Kind.TheVariants.{Sc}
 use Rattle.memory_model.specs.declared.operation.Operation.{Operation}
 use Rattle.memory_model.specs.Items.{Item, annotations_of, operation_of_access, succeeded}

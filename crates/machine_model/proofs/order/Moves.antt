@@ -15,7 +15,7 @@ use Rattle.machine_model.proofs.order.Lists.{Pairwise-left, others}
 use Rattle.machine_model.proofs.order.Split.{Split, IsNamed, gave_at, absent, turned, split_drain, split_foreign, waiting_absent, waiting_distinct, waiting_named}
 use Rattle.machine_model.proofs.order.Steps.{HartKept, Performs, stores_of, store_of_operation, waiting_of}
 use Rattle.machine_model.proofs.order.Traces.{items_at, items_same, done, IsResolved, Extends, extends_same, operations_on, operations_named, resolved_on, resolved_named, Stands}
-use Rattle.memory_model.specs.declared.MemoryModel.{MemoryModel}
+use Rattle.machine_types.specs.declared.model.MemoryModel.{MemoryModel}
 use Rattle.memory_model.specs.declared.operation.Operation.{Operation}
 use Rattle.memory_model.specs.Items.{Item}
 use Rattle.memory_model.specs.Operations.{same}

@@ -6,8 +6,8 @@ use Rattle.std.proofs.lemmas.Bool.{false≢true, true≢false, and_parts, and_fr
 use Rattle.std.proofs.lemmas.List.Elements.{filter-append}
 use Rattle.std.proofs.lemmas.List.Folds.{list_any-append}
 use Rattle.machine_model.specs.Words.{word_of}
-use Rattle.memory_model.specs.declared.MemoryModel.{MemoryModel}
-use Rattle.memory_model.specs.declared.MemoryModel.TheVariants.{Rvwmo, Ztso}
+use Rattle.machine_types.specs.declared.model.MemoryModel.{MemoryModel}
+use Rattle.machine_types.specs.declared.model.MemoryModel.TheVariants.{Rvwmo, Ztso}
 use Rattle.memory_model.specs.declared.operation.Kind.{Kind}
 use Rattle.memory_model.specs.declared.operation.Kind.TheVariants.{Load, Store, Lr, Sc, Amo}
 use Rattle.memory_model.specs.declared.operation.Operation.{Operation}

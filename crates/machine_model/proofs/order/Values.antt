@@ -12,7 +12,7 @@ use Rattle.machine_model.proofs.order.Lists.{Each-always, filter-filter, last_or
 use Rattle.machine_model.proofs.order.Rules.{precedes_not, precedes_yes, touches_word}
 use Rattle.machine_model.proofs.order.Split.{absent, gave_at, ops_of, new_name, split_store, split_at_once, split_item}
 use Rattle.machine_model.proofs.order.Steps.{HartKept, Performs, names_by}
-use Rattle.memory_model.specs.declared.MemoryModel.{MemoryModel}
+use Rattle.machine_types.specs.declared.model.MemoryModel.{MemoryModel}
 use Rattle.memory_model.specs.declared.operation.Operation.{Operation}
 use Rattle.memory_model.specs.Items.{Item}
 use Rattle.memory_model.specs.Operations.{reads, writes, same, precedes, touches, stores_to, read_at}

@@ -26,7 +26,7 @@ use Rattle.machine_model.proofs.order.Rules.{asked, must, precedes_not, preserve
 use Rattle.machine_model.proofs.order.Split.{gave_at, ops_of, absent}
 use Rattle.machine_model.proofs.order.Steps.{HartKept}
 use Rattle.machine_model.proofs.order.Traces.{items_at, items_of-at, done, IsResolved, operation_is}
-use Rattle.memory_model.specs.declared.MemoryModel.{MemoryModel}
+use Rattle.machine_types.specs.declared.model.MemoryModel.{MemoryModel}
 use Rattle.memory_model.specs.declared.operation.Kind.TheVariants.{Store}
 use Rattle.memory_model.specs.declared.operation.Operation.{Operation}
 use Rattle.memory_model.specs.Items.{Item, items_from, operation_of_entry, has_operation, accesses_memory, succeeded}

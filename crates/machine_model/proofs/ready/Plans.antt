@@ -37,7 +37,7 @@ use Rattle.machine_model.proofs.coherence.LinePlaces.{piece}
 use Rattle.machine_model.proofs.coherence.LineStands.{is_writer}
 use Rattle.machine_model.proofs.coherence.WorldFits.{IsFit}
 use Rattle.memory_model.specs.Rules.{fences}
-use Rattle.memory_model.specs.declared.MemoryModel.{MemoryModel}
+use Rattle.machine_types.specs.declared.model.MemoryModel.{MemoryModel}
 use Rattle.memory_model.specs.declared.operation.Kind.TheVariants.{Load, Store}
 use Rattle.reservations.specs.Reservation.{is_valid}
 use Rattle.rv32_decode.specs.Rows.{decoded}

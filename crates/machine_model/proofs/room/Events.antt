@@ -4,7 +4,7 @@ use Rattle.std.specs.Prelude.{◌==◌, ◌&&◌, not, if◌then◌else◌, map,
 use Rattle.std.specs.List.{range_with_len}
 use Rattle.std.proofs.lemmas.Bool.{and_parts, leb-false, leb-true, ltb-true}
 use Rattle.std.proofs.lemmas.List.FromFn.{length-map-range_with_len}
-use Rattle.machine_limits.specs.declared.TheConstants.{TRACKERS}
+use Rattle.machine_types.specs.declared.limits.TheConstants.{TRACKERS}
 use Rattle.client_cache.specs.Cache.{Cache, copy_at, evicted, probed, wanted}
 use Rattle.client_cache.specs.declared.answers.Evict.{Evict}
 use Rattle.client_cache.specs.declared.answers.Evict.TheVariants as evict
@@ -22,7 +22,7 @@ use Rattle.hart.specs.Local.{private_row}
 use Rattle.hart.specs.Run.{is_running}
 use Rattle.machine_model.specs.Changing.{acted, outcome_of_act, next_place}
 use Rattle.machine_types.specs.Config.{is_within_limits}
-use Rattle.machine_types.proofs.Limits.{limits_of}
+use Rattle.machine_types.proofs.Within.{limits_of}
 use Rattle.machine_model.specs.Deciding.{miss_by, writing_by}
 use Rattle.machine_model.specs.Deliveries.{plan_body, plan_front, unless_acks_full, unless_busy, unless_releasing}
 use Rattle.machine_model.specs.Events.{IsBad, IsLimited, Moves, after_events, counted, evict_by, happens, hart_of, is_limited, names_well, plan_drain, plan_of, state_by, verdict_by}

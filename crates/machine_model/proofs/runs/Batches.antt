@@ -3,7 +3,7 @@ use Rattle.std.proofs.Common.{◌≡◌, ℕ, zero, suc, ◌+◌, ◌<◌, ◌�
 use Rattle.std.specs.Prelude.{nat_eq, nat_lt, nat_le, is_none}
 use Rattle.std.proofs.lemmas.Bool.{false≢true, and_parts, and_from, eqb-true, ltb-true, ltb-false, lt-ltb, leb-true}
 use Rattle.std.proofs.lemmas.List.{set-set, set-get_or, length-set, length-append}
-use Rattle.machine_limits.specs.declared.TheConstants.{MAX_CHANGES, MAX_ENTRIES}
+use Rattle.machine_types.specs.declared.limits.TheConstants.{MAX_CHANGES, MAX_ENTRIES}
 use Rattle.elf_loader.specs.Image.{Initial, word_at}
 use Rattle.hart.specs.declared.retired.Retired.{Retired}
 use Rattle.hart.specs.declared.state.Hart.{Hart}
@@ -25,7 +25,7 @@ use Rattle.machine_model.specs.Laws.{LocalIsSteps, StepsRetire, with_changes}
 use Rattle.machine_model.specs.Steps.{plan_access, plan_instr, plan_step, plan_unless}
 use Rattle.machine_model.specs.Views.{Node, State, no_node, node_at, with_node, with_trace}
 use Rattle.machine_model.proofs.Nodes.{node_same}
-use Rattle.memory_model.specs.declared.MemoryModel.{MemoryModel}
+use Rattle.machine_types.specs.declared.model.MemoryModel.{MemoryModel}
 use Rattle.rv32_decode.specs.Rows.{decoded}
 use Rattle.rv32_decode.specs.declared.instruction.Instr.{Instr}
 use Rattle.rv32_exec.specs.Meaning.{Private, access_of, stop_of}

@@ -21,7 +21,7 @@ use Rattle.machine_model.specs.Deciding.{miss_by, reading, reading_by, writing, 
 use Rattle.machine_model.specs.Steps.{Fetched, retires, plan_load, plan_store, plan_lr, plan_sc, plan_amo, plan_fence, plan_access, plan_instr, plan_unless, plan_step, waits_for_stores, write_waits, update}
 use Rattle.machine_model.specs.Views.{Node, line_of}
 use Rattle.machine_model.specs.Words.{word_of, word_in, number_of_bytes, read_from, store_of}
-use Rattle.memory_model.specs.declared.MemoryModel.{MemoryModel}
+use Rattle.machine_types.specs.declared.model.MemoryModel.{MemoryModel}
 use Rattle.memory_model.specs.declared.operation.Kind.TheVariants.{Load, Store}
 use Rattle.memory_model.specs.Rules.{fences}
 use Rattle.reservations.specs.Reservation.{is_valid}

@@ -2,7 +2,7 @@
 
 ghost use Rattle.std.specs.Prelude.{◌≡◌, ◌≢◌, ◌+◌, ◌<◌, ◌≤◌, [], length, slice_index};
 ghost use Rattle.hart.specs.Local.{private_row_from};
-ghost use Rattle.machine_limits.specs.declared.TheConstants.{MAX_ENTRIES};
+ghost use Rattle.machine_types.specs.declared.limits.TheConstants.{MAX_ENTRIES};
 ghost use Rattle.machine_model.specs.Changing.{went_alone, with_entries};
 ghost use Rattle.machine_model.specs.Events.{verdict};
 ghost use Rattle.machine_model.specs.Ready.{IsSound};

@@ -14,7 +14,7 @@ ghost use Rattle.store_buffer.specs.Groups.{after_seal, fits};
 use crate::parts::Parts;
 use crate::words::line_of;
 use machine_model::Deed;
-use memory_model::MemoryModel;
+use machine_types::MemoryModel;
 use std::alloc::AllocError;
 use store_buffer::{PutError, Store, StoreBuffer};
 use trace_recorder::OpId;

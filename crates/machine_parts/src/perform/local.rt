@@ -3,7 +3,7 @@
 ghost use Rattle.std.specs.Prelude.{◌≡◌, ◌+◌, ◌<◌, ◌≤◌, length, slice_index};
 ghost use Rattle.hart.specs.Local.{private_row};
 ghost use Rattle.hart.specs.Run.{reached};
-ghost use Rattle.machine_limits.specs.declared.TheConstants.{MAX_ENTRIES};
+ghost use Rattle.machine_types.specs.declared.limits.TheConstants.{MAX_ENTRIES};
 ghost use Rattle.machine_model.specs.declared.act.Act.TheVariants as act;
 ghost use Rattle.machine_model.specs.Changing.{next_place, went_alone, with_entries};
 ghost use Rattle.machine_model.specs.Ready.{IsSound};

@@ -1,7 +1,7 @@
 //! What an instruction that retires changes.
 
 ghost use Rattle.std.specs.Prelude.{◌≡◌, ◌<◌, OnErr, OnOk, length, slice_index};
-ghost use Rattle.machine_limits.specs.declared.TheConstants.{MAX_ENTRIES};
+ghost use Rattle.machine_types.specs.declared.limits.TheConstants.{MAX_ENTRIES};
 ghost use Rattle.machine_model.specs.declared.act.Act.TheVariants as act;
 ghost use Rattle.machine_model.specs.Changing.{does, next_place, retired, stopped, with_halt};
 ghost use Rattle.machine_model.specs.Ready.{IsReadyDeed, IsSound};

@@ -10,7 +10,7 @@ use crate::error::CheckError;
 use crate::plain::judging::judge;
 use crate::plain::orders::is_order;
 use crate::verdict::Verdict;
-use memory_model::MemoryModel;
+use machine_types::MemoryModel;
 use std::alloc::{AllocError, Global};
 use trace_operations::{Harts, are_runs, has_too_many, names_in, operations_at};
 use trace_recorder::{OpId, Trace};

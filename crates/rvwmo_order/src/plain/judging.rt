@@ -16,7 +16,8 @@ use crate::rules::are_paired;
 use crate::sources::byte_from;
 use crate::verdict::{Code, RULES, Rule, Verdict};
 use elf_loader::Image;
-use memory_model::{MemoryModel, Operation};
+use machine_types::MemoryModel;
+use memory_model::Operation;
 use trace_operations::Harts;
 use trace_operations::accesses::{end_of, is_same, name_of, precedes, read_at, reads, stores_to};
 

@@ -19,7 +19,8 @@ use crate::plain::sources::{returns_from, source};
 use crate::rules::{are_paired, has_store_between, is_fenced};
 use crate::sources::is_same_source;
 use crate::verdict::Rule;
-use memory_model::{MemoryModel, Operation};
+use machine_types::MemoryModel;
+use memory_model::Operation;
 use trace_operations::Items;
 use trace_operations::accesses::{
     end_of, has_acquire, has_rcsc, has_release, is_amo, is_sc, overlap, reads, touches, writes,

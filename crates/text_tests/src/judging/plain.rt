@@ -6,13 +6,13 @@ use crate::streams::image_of_kib;
 use hart::{Retired, Status};
 use memory_model::Operation;
 use rvwmo_order::plain::source;
-use trace_operations::{Index, completed};
 use std::alloc::{AllocError, Global};
 use std::marker::Brand;
 use std::process::Abort;
 use std::sync::ledger::{Blank, Ledger};
 use std::test::Fail;
 use tl_types::{LineSize, Ticks};
+use trace_operations::{Index, completed};
 use trace_recorder::{OpId, Trace, are_within_limits};
 
 /// `lui a2, 0x80001`, then `sw`, `lw`, `sb` at the second byte, `lh`, `amoswap.w`, `lr.w` and `sc.w`, all

@@ -3,7 +3,7 @@ use Rattle.std.specs.Prelude.{IsErrOf}
 use Rattle.check_command.specs.Checking.{IsVerdict}
 use Rattle.memory_model.specs.Traces.{IsLegalOrder, are_runs, completed, names_in}
 use Rattle.memory_model.specs.Verdict.{fault_in}
-use Rattle.memory_model.specs.declared.MemoryModel.{MemoryModel}
+use Rattle.machine_types.specs.declared.model.MemoryModel.{MemoryModel}
 use Rattle.rvwmo_order.specs.Answers.{fault_told, refusal, refusal_of}
 use Rattle.rvwmo_order.specs.declared.error.CheckError.{CheckError}
 use Rattle.rvwmo_order.specs.declared.error.CheckError.TheVariants.{NoMemory, NotARun, TooLong}

@@ -2,7 +2,7 @@ use Rattle.std.proofs.Common.{◌≡◌, ℕ, ◌+◌, ◌-◌, false, true, Ok,
 use Rattle.std.proofs.lemmas.Bool.{false≢true, eqb-true}
 use Rattle.std.proofs.lemmas.List.{take_rest}
 use Rattle.std.proofs.lemmas.Result.{err_from_is_err_and}
-use Rattle.machine_limits.specs.declared.TheConstants.{BUFFER_ENTRIES}
+use Rattle.machine_types.specs.declared.limits.TheConstants.{BUFFER_ENTRIES}
 use Rattle.arrayvec.proofs.ArrayVecLemmas.{items-with_items}
 use Rattle.store_buffer.specs.declared.buffer.PutError.TheVariants.{Full, NoMemory}
 use Rattle.store_buffer.specs.declared.entry.Entry.{Entry}

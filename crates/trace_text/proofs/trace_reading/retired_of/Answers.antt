@@ -1,5 +1,5 @@
 use Rattle.std.proofs.Common.{◌≡◌, ◌<◌, ◌++◌, length, sym, arith}
-use Rattle.machine_limits.specs.declared.TheConstants.{MAX_ENTRIES}
+use Rattle.machine_types.specs.declared.limits.TheConstants.{MAX_ENTRIES}
 use Rattle.text_fields.proofs.Loops.{after_shortens}
 use Rattle.trace_text.specs.TraceLimits.{IsRetired}
 use Rattle.trace_text.specs.Traces.{retired_lead, retired_text}

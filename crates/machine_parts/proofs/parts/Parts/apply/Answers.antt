@@ -1,5 +1,5 @@
 use Rattle.std.proofs.Common.{◌≡◌, ◌∙◌, ◌+◌, ◌≤◌, arith, ap, refl, subst, sym, ℕ, Ok}
-use Rattle.machine_limits.specs.declared.TheConstants.{MAX_ENTRIES}
+use Rattle.machine_types.specs.declared.limits.TheConstants.{MAX_ENTRIES}
 use Rattle.machine_model.specs.Changing.{next_place}
 use Rattle.machine_model.specs.Events.{counted, entries_by}
 use Rattle.machine_model.specs.Changing.{acted}

@@ -1,5 +1,5 @@
 use Rattle.std.proofs.Common.{◌≡◌, ◌+◌, ◌<◌, ◌≤◌, length, slice_index}
-use Rattle.machine_limits.specs.declared.TheConstants.{MAX_ENTRIES}
+use Rattle.machine_types.specs.declared.limits.TheConstants.{MAX_ENTRIES}
 use Rattle.hart.specs.Local.{private_row}
 use Rattle.hart.specs.Run.{reached}
 use Rattle.machine_model.specs.Changing.{with_entries}

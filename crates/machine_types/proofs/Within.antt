@@ -4,7 +4,7 @@ use Rattle.std.proofs.lemmas.Bool.{and_parts, eqb-true, leb-true}
 use Rattle.std.proofs.lemmas.Nat.{ones_le_self}
 use Rattle.std.specs.Prelude.{count_ones}
 use Rattle.std.specs.Int.{is_power_of_two}
-use Rattle.machine_limits.specs.declared.TheConstants.{MAX_HARTS, MAX_SETS, MAX_WAYS}
+use Rattle.machine_types.specs.declared.limits.TheConstants.{MAX_HARTS, MAX_SETS, MAX_WAYS}
 use Rattle.machine_types.specs.Config.{is_set_count, is_within_limits}
 use Rattle.machine_types.specs.declared.config.Config.{Config}
 

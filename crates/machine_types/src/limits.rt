@@ -1,6 +1,5 @@
 //! How large a machine may be: numbers that code, definitions and proofs share. Sets of harts in a byte and the words
 //! of a progress board rest on there being 8 harts at most, a memory's lines on 1 MiB.
-#![tactic(auto)]
 
 /// The most harts. The manager's notes keep sets of harts in a byte.
 pub const MAX_HARTS: u32 = 8;
