@@ -1,5 +1,5 @@
 -- An operation of an order by its rank: its place, weight and row.
-use Rattle.std.proofs.Common.{◌≡◌, ℕ, zero, suc, ◌+◌, ◌-◌, ◌<◌, ◌≤◌, List, [], ◌∷◌, Bool, true, Option, Some, None, cond, sym, ap, ◌∙◌, ◌||◌, ◌⊎◌, ⊎_elim, max, arith, length}
+use Rattle.std.proofs.Common.{◌≡◌, ℕ, zero, suc, ◌+◌, ◌-◌, ◌<◌, ◌≤◌, List, [], ◌∷◌, Bool, true, Option, Some, None, cond, sym, ap, ◌∙◌, ◌||◌, ⊎_elim, max, arith, length}
 use Rattle.std.specs.Prelude.{slice_get, slice_index_or}
 use Rattle.std.proofs.lemmas.Bool.{cases_eq, ne_eqb}
 use Rattle.std.proofs.lemmas.Option.{none-some}

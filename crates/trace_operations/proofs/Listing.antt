@@ -135,7 +135,7 @@ pub item_is : (place long word : ℕ) (hart : Hart) (entry : Retired) (i : Optio
     → record { place = long; instr = decoded word; operation = o } ≡ item_of place hart entry
 item_is place long word hart entry i o e f g h =
     let by_entry : o ≡ operation_of_entry place hart entry (decoded entry.word) = h ∙ ap (operation_of_entry place hart entry) g in
-    rw (e, f, by_entry) refl
+    rw (e, f, by_entry) (refl {a = item_of place hart entry})
 
 pub pushed_long : (old new : List Item) (m : Item) (n : ℕ) → new ≡ old ++ m ∷ [] → length old ≡ n → length new ≡ n + 1
 pushed_long old new m n e f = let l = length-append old (m ∷ []) in let k = ap length e in omega (arith, l, k, f)
