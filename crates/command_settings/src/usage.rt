@@ -114,13 +114,23 @@ fn settings_of<'a>(matches: &ArgMatches<'a>) -> Option<Settings<'a>>
     ensures missing { IsNone result → (name : Text) → (rows : List Row)
         → subcommand_rows_of matches.now ≡ Some (name, rows) → IsComplete name rows → ⊥ }
 {
-    match matches.subcommand()? {
-        ("replay", replay) => Some(Settings::Replay(replay_of(replay)?)),
-        ("explain", explain) => Some(Settings::Explain(explain_of(explain)?)),
-        ("chart", chart) => Some(Settings::Chart(chart_of(chart)?)),
-        ("run", run) => Some(Settings::Run(run_of(run)?)),
-        ("explore", explore) => Some(Settings::Explore(explore_of(explore)?)),
-        ("check", check) => Some(Settings::Check(check_of(check)?)),
+    let (name, given) = matches.subcommand()?;
+    settings_named(name, given)
+}
+
+/// The settings by what was given to the subcommand of this name.
+fn settings_named<'a>(name: &str, given: &ArgMatches<'a>) -> Option<Settings<'a>>
+    ensures meant { IfSome result (λ settings. IsComplete name.now (rows_of (found_of given.now))
+        → IsMeant name.now (rows_of (found_of given.now)) settings) }
+    ensures missing { IsNone result → IsComplete name.now (rows_of (found_of given.now)) → ⊥ }
+{
+    match name {
+        "replay" => Some(Settings::Replay(replay_of(given)?)),
+        "explain" => Some(Settings::Explain(explain_of(given)?)),
+        "chart" => Some(Settings::Chart(chart_of(given)?)),
+        "run" => Some(Settings::Run(run_of(given)?)),
+        "explore" => Some(Settings::Explore(explore_of(given)?)),
+        "check" => Some(Settings::Check(check_of(given)?)),
         _ => None,
     }
 }
