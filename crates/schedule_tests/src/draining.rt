@@ -23,9 +23,10 @@ struct Case {
 
 fn is_end(ending: &Ending, end: Drained) -> bool {
     let (code, x, y) = end;
-    let last = ending.results().harts().last();
-    last.is_some_and(|last| last.status == Status::Exited(code))
-        && ending.words() == [x, y].as_slice()
+    match ending.results().harts().last() {
+        Some(last) => last.status == Status::Exited(code) && ending.words() == [x, y].as_slice(),
+        None => false,
+    }
 }
 
 fn is_among(found: &[Ending], end: Drained) -> bool {

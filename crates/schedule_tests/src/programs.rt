@@ -285,9 +285,16 @@ pub const ONE_WORD: [u32; 6] = [
 /// How a hart ends: the code that it exits with, and the number that it has put out, if any.
 pub type End = (u8, Option<u32>);
 
+fn has_put_out(hart: &HartResult, number: Option<u32>) -> bool {
+    match number {
+        Some(number) => hart.output.len() == 1 && hart.output.first() == Some(&number),
+        None => hart.output.is_empty(),
+    }
+}
+
 fn is_end(hart: &HartResult, end: End) -> bool {
     let (code, number) = end;
-    hart.status == Status::Exited(code) && hart.output.as_slice() == number.as_slice()
+    hart.status == Status::Exited(code) && has_put_out(hart, number)
 }
 
 /// Whether the harts have ended so.

@@ -44,15 +44,22 @@ pub fn realised(
     Ok(realise(alloc, image, config_of(harts, 2), steps)?)
 }
 
+fn is_answer(
+    answer: &Result<Schedule, RealiseError>,
+    expected: &Result<&[End], RealiseError>,
+) -> bool {
+    match (answer, expected) {
+        (Ok(schedule), Ok(ends)) => are_ends(&schedule.results, ends),
+        (Err(error), Err(expected)) => error == expected,
+        _ => false,
+    }
+}
+
 fn comes_so(alloc: Global, play: &Play) -> Result<bool, Fail> {
     let image = image_of(alloc, play.words)?;
     let config = config_of(play.harts, play.ways);
     let answer = realise(alloc, image, config, play.steps);
-    Ok(match (&answer, &play.ends) {
-        (Ok(schedule), Ok(ends)) => are_ends(&schedule.results, ends),
-        (Err(error), Err(expected)) => error == expected,
-        _ => false,
-    })
+    Ok(is_answer(&answer, &play.ends))
 }
 
 fn all_come_so(rt: &(impl Abort + AllocGlobal), plays: &[Play]) -> Result<(), Fail> {
@@ -312,9 +319,7 @@ fn second_store_to_a_word_is_no_quiet_step(rt: HostRuntime) -> Result<(), Fail> 
     all_come_so(&rt, &TWICE_PLAYS)
 }
 
-/// The harts that were probed, in their order.
-fn probed(alloc: Global, events: &[Event]) -> Result<Vec<u8>, AllocError> {
-    let mut harts = Vec::new(alloc);
+fn put_probed(harts: &mut Vec<u8>, events: &[Event]) -> Result<(), AllocError> {
     for event in events {
         if let Event::Deliver {
             channel: Channel::B,
@@ -324,6 +329,13 @@ fn probed(alloc: Global, events: &[Event]) -> Result<Vec<u8>, AllocError> {
             harts.push(*hart)?;
         }
     }
+    Ok(())
+}
+
+/// The harts that were probed, in their order.
+fn probed(alloc: Global, events: &[Event]) -> Result<Vec<u8>, AllocError> {
+    let mut harts = Vec::new(alloc);
+    put_probed(&mut harts, events)?;
     Ok(harts)
 }
 
@@ -414,18 +426,26 @@ fn sampled(
     Ok(sample(alloc, image, config_of(2, ways), seed, most_events)?)
 }
 
+/// One hart finds 0 and the other 1.
+fn has_counted(schedule: &Schedule) -> bool {
+    are_ends(&schedule.results, &[(0, Some(0)), (1, Some(1))])
+        || are_ends(&schedule.results, &[(1, Some(1)), (0, Some(0))])
+}
+
+/// The sample ends as it may, and the same seed gives it again.
+fn ends_as_it_may(rt: &(impl Abort + AllocGlobal), ways: u32, seed: u64) -> Result<(), Fail> {
+    let schedule = sampled(rt.alloc(), &COUNT, ways, seed, 100_000)?;
+    let again = sampled(rt.alloc(), &COUNT, ways, seed, 100_000)?;
+    same(rt, schedule.events.as_slice(), again.events.as_slice());
+    same_of(rt, has_counted(&schedule), true, &seed);
+    Ok(())
+}
+
 #[test]
 fn samples_end_as_they_may(rt: HostRuntime) -> Result<(), Fail> {
-    let alloc = rt.alloc();
     for seed in 0..16u64 {
         let ways = if seed < 8 { 1 } else { 2 };
-        let schedule = sampled(alloc, &COUNT, ways, seed, 100_000)?;
-        let again = sampled(alloc, &COUNT, ways, seed, 100_000)?;
-        same(&rt, schedule.events.as_slice(), again.events.as_slice());
-        // One hart finds 0 and the other 1.
-        let first = are_ends(&schedule.results, &[(0, Some(0)), (1, Some(1))]);
-        let second = are_ends(&schedule.results, &[(1, Some(1)), (0, Some(0))]);
-        same_of(&rt, first || second, true, &seed);
+        ends_as_it_may(&rt, ways, seed)?;
     }
     Ok(())
 }

@@ -81,14 +81,31 @@ fn shortened_play(alloc: Global, program: Program, long: &Schedule) -> Result<Ve
     )
 }
 
-/// The events but for one, in their order.
-fn without(alloc: Global, events: &[Event], left_out: usize) -> Result<Vec<Event>, Fail> {
-    let mut rest = Vec::new(alloc);
+fn put_others(rest: &mut Vec<Event>, events: &[Event], left_out: usize) -> Result<(), AllocError> {
     for index in 0..events.len() {
         if index != left_out {
             rest.push(events[index])?;
         }
     }
+    Ok(())
+}
+
+/// What is left of a program's schedule where the harts are to end as they do.
+fn ends_by(
+    rt: &(impl Abort + AllocGlobal),
+    program: Program,
+    long: &Schedule,
+    left: &[Event],
+) -> Result<(), Fail> {
+    let short = shortened_play(rt.alloc(), program, long)?;
+    same(rt, short.as_slice(), left);
+    Ok(())
+}
+
+/// The events but for one, in their order.
+fn without(alloc: Global, events: &[Event], left_out: usize) -> Result<Vec<Event>, AllocError> {
+    let mut rest = Vec::new(alloc);
+    put_others(&mut rest, events, left_out)?;
     Ok(rest)
 }
 
@@ -103,6 +120,17 @@ fn leads_there(
     Ok(goal.is_met(&machine)?)
 }
 
+/// Whether the events lead there where one of them is left out.
+fn leads_there_without(
+    alloc: Global,
+    program: Program,
+    events: &[Event],
+    left_out: usize,
+    goal: &HartResults<'_>,
+) -> Result<bool, Fail> {
+    leads_there(alloc, program, &without(alloc, events, left_out)?, goal)
+}
+
 /// Whether the events lead there, and no longer do where any one of them is left out.
 fn are_all_needed(
     alloc: Global,
@@ -114,29 +142,45 @@ fn are_all_needed(
         return Ok(false);
     }
     for index in 0..events.len() {
-        let fewer = without(alloc, events, index)?;
-        if leads_there(alloc, program, &fewer, goal)? {
+        if leads_there_without(alloc, program, events, index, goal)? {
             return Ok(false);
         }
     }
     Ok(true)
 }
 
-/// How many events are left of those that realise the steps: fewer, of which nothing more can be left out, one event
-/// at a time.
+/// The events are fewer than those of a program's schedule, and nothing more can be left out, one event at a time.
+fn is_shortest(
+    rt: &(impl Abort + AllocGlobal),
+    program: Program,
+    long: &Schedule,
+    short: &[Event],
+) -> Result<(), Fail> {
+    same(rt, short.len() < long.events.len(), true);
+    let harts = &long.results;
+    let needed = are_all_needed(rt.alloc(), program, short, &HartResults { harts })?;
+    same(rt, needed, true);
+    Ok(())
+}
+
+fn length_left(
+    rt: &(impl Abort + AllocGlobal),
+    program: Program,
+    long: &Schedule,
+) -> Result<usize, Fail> {
+    let short = shortened_play(rt.alloc(), program, long)?;
+    is_shortest(rt, program, long, &short)?;
+    Ok(short.len())
+}
+
+/// How many events are left of those that realise the steps.
 fn shortest(
     rt: &(impl Abort + AllocGlobal),
     program: Program,
     steps: &[FlatEvent],
 ) -> Result<usize, Fail> {
-    let alloc = rt.alloc();
-    let long = realised(alloc, program.words, program.harts, steps)?;
-    let short = shortened_play(alloc, program, &long)?;
-    same(rt, short.len() < long.events.len(), true);
-    let harts = &long.results;
-    let needed = are_all_needed(alloc, program, &short, &HartResults { harts })?;
-    same(rt, needed, true);
-    Ok(short.len())
+    let long = realised(rt.alloc(), program.words, program.harts, steps)?;
+    length_left(rt, program, &long)
 }
 
 fn result(alloc: Global, status: Status) -> HartResult {
@@ -208,15 +252,12 @@ const RESERVES: [Event; 7] = [
 
 #[test]
 fn acknowledgement_is_left_out(rt: HostRuntime) -> Result<(), Fail> {
-    let alloc = rt.alloc();
     let program = Program {
         words: &RESERVED,
         harts: 1,
     };
-    let long = realised(alloc, &RESERVED, 1, &[STEP_0, STEP_0])?;
-    let short = shortened_play(alloc, program, &long)?;
-    same(&rt, short.as_slice(), &RESERVES);
-    Ok(())
+    let long = realised(rt.alloc(), &RESERVED, 1, &[STEP_0, STEP_0])?;
+    ends_by(&rt, program, &long, &RESERVES)
 }
 
 /// Each hart's private instructions, its store, its load that misses, the Acquire, the Grant, its load and its exit.
@@ -254,9 +295,7 @@ fn a_drain_stays_where_no_store_may_wait(rt: HostRuntime) -> Result<(), Fail> {
     let long = realised(alloc, &TWICE, 1, &[STEP_0, DRAIN_X])?;
     let drained = shortened(alloc, program, &long.events, &Drained, 1000)?;
     same(&rt, drained.as_slice(), &DRAINED);
-    let ended = shortened_play(alloc, program, &long)?;
-    same(&rt, ended.as_slice(), &DRAINED[..4]);
-    Ok(())
+    ends_by(&rt, program, &long, &DRAINED[..4])
 }
 
 #[test]

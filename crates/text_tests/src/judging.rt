@@ -6,6 +6,7 @@ use crate::streams::image_of;
 use hart::{Retired, Status};
 use rvwmo_order::{CheckError, Verdict, check};
 use std::alloc::{AllocError, Global};
+use std::process::Abort;
 use std::test::Fail;
 use tl_types::LineSize;
 use trace_operations::completed;
@@ -55,15 +56,22 @@ fn judged(alloc: Global, trace: &Trace, order: &[OpId]) -> Result<Verdict, Check
     check(alloc, trace, order)
 }
 
+fn is_judged(
+    rt: &(impl Abort + AllocGlobal),
+    trace: &Trace,
+    order: &[OpId],
+    answer: Result<Verdict, CheckError>,
+) {
+    same(rt, judged(rt.alloc(), trace, order), answer);
+}
+
 #[test]
 fn as_many_operations_as_are_judged(rt: HostRuntime) -> Result<(), Fail> {
     let trace = stores(rt.alloc(), 4096)?;
     let order = completed(rt.alloc(), &trace)?;
-    same(&rt, order.len(), 4096);
-    let whole = judged(rt.alloc(), &trace, &order);
-    same(&rt, whole, Ok(Verdict::Legal));
-    let without_one = judged(rt.alloc(), &trace, order.get(1..).ok_or("an order")?);
-    same(&rt, without_one, Err(CheckError::NotAnOrder));
+    assert!(rt; order.len() == 4096);
+    is_judged(&rt, &trace, &order, Ok(Verdict::Legal));
+    is_judged(&rt, &trace, &order[1..], Err(CheckError::NotAnOrder));
     Ok(())
 }
 
@@ -71,9 +79,7 @@ fn as_many_operations_as_are_judged(rt: HostRuntime) -> Result<(), Fail> {
 fn one_operation_more(rt: HostRuntime) -> Result<(), Fail> {
     let trace = stores(rt.alloc(), 4097)?;
     let order = completed(rt.alloc(), &trace)?;
-    let whole = judged(rt.alloc(), &trace, &order);
-    same(&rt, whole, Err(CheckError::TooLong));
-    let none = judged(rt.alloc(), &trace, &[]);
-    same(&rt, none, Err(CheckError::TooLong));
+    is_judged(&rt, &trace, &order, Err(CheckError::TooLong));
+    is_judged(&rt, &trace, &[], Err(CheckError::TooLong));
     Ok(())
 }

@@ -323,14 +323,25 @@ const CHANGES: [(usize, u8, &str); 14] = [
     ),
 ];
 
+/// The linked file is refused where the byte at this place is set.
+fn change_is_refused(
+    rt: &impl Abort,
+    alloc: Global,
+    at: usize,
+    byte: u8,
+    text: &str,
+) -> Result<(), Fail> {
+    let mut bytes = LINKED.to_vec(alloc)?;
+    if let Some(changed) = bytes.get_mut(at) {
+        *changed = byte;
+    }
+    image_is_refused(rt, alloc, &bytes, false, text)
+}
+
 #[test]
 fn linked_files(rt: HostRuntime) -> Result<(), Fail> {
     for (at, byte, text) in &CHANGES {
-        let mut bytes = LINKED.to_vec(rt.alloc())?;
-        if let Some(changed) = bytes.get_mut(*at) {
-            *changed = *byte;
-        }
-        image_is_refused(&rt, rt.alloc(), &bytes, false, text)?;
+        change_is_refused(&rt, rt.alloc(), *at, *byte, text)?;
     }
     let fault = image_fault(rt.alloc(), &LINKED, false);
     same(&rt, fault, None);

@@ -1,9 +1,10 @@
 //! Words that the GNU assembler makes of the texts.
 
-use crate::same::{same, same_of};
+use crate::same::same_of;
 use assembly::spell_assembly;
 use rv32_decode::decode;
 use std::alloc::Global;
+use std::process::Abort;
 use std::test::Fail;
 use text_fields::Page;
 
@@ -117,11 +118,22 @@ fn text_of(alloc: Global, word: u32, pc: Option<u32>) -> Result<Vec<u8>, Fail> {
     Ok(out)
 }
 
+fn is_spelled(
+    rt: &impl Abort,
+    alloc: Global,
+    word: u32,
+    pc: Option<u32>,
+    text: &str,
+) -> Result<(), Fail> {
+    let spelled = text_of(alloc, word, pc)?;
+    same_of(rt, spelled.as_slice(), text.as_bytes(), &text);
+    Ok(())
+}
+
 #[test]
 fn texts_are_what_the_assembler_reads(rt: HostRuntime) -> Result<(), Fail> {
     for (word, text) in &ROWS {
-        let spelled = text_of(rt.alloc(), *word, None)?;
-        same_of(&rt, spelled.as_slice(), text.as_bytes(), text);
+        is_spelled(&rt, rt.alloc(), *word, None, text)?;
     }
     Ok(())
 }
@@ -129,8 +141,7 @@ fn texts_are_what_the_assembler_reads(rt: HostRuntime) -> Result<(), Fail> {
 #[test]
 fn jumps_lead_where_the_disassembler_says(rt: HostRuntime) -> Result<(), Fail> {
     for (pc, word, text) in &TARGETS {
-        let spelled = text_of(rt.alloc(), *word, Some(*pc))?;
-        same_of(&rt, spelled.as_slice(), text.as_bytes(), text);
+        is_spelled(&rt, rt.alloc(), *word, Some(*pc), text)?;
     }
     Ok(())
 }
@@ -138,7 +149,5 @@ fn jumps_lead_where_the_disassembler_says(rt: HostRuntime) -> Result<(), Fail> {
 // The GNU assembler has no word for a set of no access; LLVM's reads 0.
 #[test]
 fn a_set_of_no_access_is_0(rt: HostRuntime) -> Result<(), Fail> {
-    let spelled = text_of(rt.alloc(), 0x0010_000f, None)?;
-    same(&rt, spelled.as_slice(), b"fence 0, w".as_slice());
-    Ok(())
+    is_spelled(&rt, rt.alloc(), 0x0010_000f, None, "fence 0, w")
 }

@@ -10,8 +10,9 @@ use elf_symbols::Symbols;
 use event_stream::{Strictness, write_state, write_stream};
 use std::alloc::Global;
 use std::io::Write;
+use std::process::Abort;
 use std::test::Fail;
-use trace_text::read_script;
+use trace_text::{Script, read_script};
 
 /// `lui a2, 0x80000`, `sw a2, 16(a2)` and `sw a2, 20(a2)`.
 const STORES: [u32; 3] = [0x8000_0637, 0x00c6_2823, 0x00c6_2a23];
@@ -143,6 +144,12 @@ fn machine_behind(alloc: Global, words: &[u32], script: &str) -> Result<Machine,
     ensures { IfOk result (λ machine. IsReached machine) }
 {
     let script = read_script(alloc, script.as_bytes())?;
+    machine_played(alloc, words, &script)
+}
+
+fn machine_played(alloc: Global, words: &[u32], script: &Script) -> Result<Machine, Fail>
+    ensures { IfOk result (λ machine. IsReached machine) }
+{
     let image = image_of(alloc, words)?;
     let config = config_of(script.harts, script.line);
     let events = script.events.as_slice();
@@ -173,24 +180,40 @@ const CASES: [(&[u32], &str, &str); 3] = [
     (&WIDE, WIDE_SCRIPT, WIDE_STATE),
 ];
 
+fn is_told(
+    rt: &(impl Abort + AllocGlobal),
+    words: &[u32],
+    script: &str,
+    text: &str,
+) -> Result<(), Fail> {
+    let mut out = Vec::new(rt.alloc());
+    same(rt, tells_state(rt.alloc(), words, script, &mut out)?, true);
+    same(rt, out.as_slice(), text.as_bytes());
+    Ok(())
+}
+
 #[test]
 fn all_that_a_machine_holds_is_told(rt: HostRuntime) -> Result<(), Fail> {
     for (words, script, text) in &CASES {
-        let mut out = Vec::new(rt.alloc());
-        same(&rt, tells_state(rt.alloc(), words, script, &mut out)?, true);
-        same(&rt, out.as_slice(), text.as_bytes());
+        is_told(&rt, words, script, text)?;
     }
+    Ok(())
+}
+
+/// A writer that has less room than the state wants is given its beginning.
+fn breaks_off(rt: &(impl Abort + AllocGlobal), room: usize) -> Result<(), Fail> {
+    let mut out = Narrow::new(rt.alloc(), room, true);
+    let is_told = tells_state(rt.alloc(), &STORES, STORES_SCRIPT, &mut out)?;
+    same_of(rt, is_told, false, &room);
+    let front = STORES_STATE.as_bytes().get(..room);
+    same_of(rt, Some(out.taken.as_slice()), front, &room);
     Ok(())
 }
 
 #[test]
 fn a_beginning_of_a_state_goes_out_before_a_fault(rt: HostRuntime) -> Result<(), Fail> {
     for room in 0..STORES_STATE.len() {
-        let mut out = Narrow::new(rt.alloc(), room, true);
-        let is_told = tells_state(rt.alloc(), &STORES, STORES_SCRIPT, &mut out)?;
-        same_of(&rt, is_told, false, &room);
-        let front = STORES_STATE.as_bytes().get(..room);
-        same_of(&rt, Some(out.taken.as_slice()), front, &room);
+        breaks_off(&rt, room)?;
     }
     Ok(())
 }

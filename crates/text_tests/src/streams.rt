@@ -7,6 +7,7 @@ use elf_symbols::Symbols;
 use event_stream::{StreamError, Strictness, write_stream};
 use machine_types::{Config, Event, MemoryModel};
 use std::alloc::Global;
+use std::fmt::Debug;
 use std::io::Write;
 use std::process::Abort;
 use std::test::Fail;
@@ -242,6 +243,12 @@ fn is_told(
     Ok(())
 }
 
+fn is_shown<T: Debug>(rt: &impl Abort, alloc: Global, value: &T, text: &str) -> Result<(), Fail> {
+    let shown = format!(in alloc; "{value:?}")?;
+    same(rt, shown.as_str(), text);
+    Ok(())
+}
+
 /// The stream of the load's events ends before one of them, for a reason that is named.
 fn ends_before(
     rt: &impl Abort,
@@ -252,10 +259,8 @@ fn ends_before(
 ) -> Result<(), Fail> {
     let mut out = Vec::new(alloc);
     let told = tell(alloc, &LOAD, SMALL, events, strictness, &mut out)?;
-    let named = format!(in alloc; "{told:?}")?;
-    same(rt, named.as_str(), reason);
     same(rt, out.as_slice(), STRICT_STREAM.as_bytes());
-    Ok(())
+    is_shown(rt, alloc, &told, reason)
 }
 
 #[test]

@@ -4,7 +4,7 @@ mod texts;
 
 use crate::same::{same, same_of};
 use crate::writers::{Interrupted, Narrow};
-use std::alloc::Global;
+use std::alloc::{AllocError, Global};
 use std::io::Write;
 use std::process::Abort;
 use std::test::Fail;
@@ -101,11 +101,21 @@ const CODES: [(TextCode, u8, &str); 6] = [
     (TextCode::NoMemory, 6, "NoMemory"),
 ];
 
+fn is_named(
+    rt: &(impl Abort + AllocGlobal),
+    code: TextCode,
+    number: u8,
+    name: &str,
+) -> Result<(), Fail> {
+    let printed = format!(in rt.alloc(); "{code}")?;
+    same(rt, (code.number(), printed.as_str()), (number, name));
+    Ok(())
+}
+
 #[test]
 fn names_of_codes(rt: HostRuntime) -> Result<(), Fail> {
     for (code, number, name) in &CODES {
-        let printed = format!(in rt.alloc(); "{code}")?;
-        same(&rt, (code.number(), printed.as_str()), (*number, *name));
+        is_named(&rt, *code, *number, name)?;
     }
     Ok(())
 }
@@ -142,15 +152,20 @@ fn respell_front<W: Write>(
     Ok((length, trace.harts(), trace.log().len()))
 }
 
+/// The text begins with row 18's trace.
+fn begins_with_row_18(rt: &(impl Abort + AllocGlobal), text: &[u8]) -> Result<(), Fail> {
+    let mut out = Vec::new(rt.alloc());
+    let measured = respell_front(rt.alloc(), text, &mut out)?;
+    same(rt, measured, (texts::ROW_18.len(), 1, 6));
+    same(rt, out.as_slice(), texts::ROW_18);
+    Ok(())
+}
+
 #[test]
 fn row_18(rt: HostRuntime) -> Result<(), Fail> {
     let mut more = texts::ROW_18.to_vec(rt.alloc())?;
     more.push(b'H')?;
-    let mut out = Vec::new(rt.alloc());
-    let measured = respell_front(rt.alloc(), &more, &mut out)?;
-    same(&rt, measured, (texts::ROW_18.len(), 1, 6));
-    same(&rt, out.as_slice(), texts::ROW_18);
-    Ok(())
+    begins_with_row_18(&rt, &more)
 }
 
 #[test]
@@ -178,6 +193,21 @@ fn compare_cut(rt: &impl Abort, alloc: Global, kind: Kind, broken: &Broken) {
     }
 }
 
+/// What the text gets whose byte at this place is set.
+fn answer_to_changed(
+    alloc: Global,
+    kind: Kind,
+    text: &[u8],
+    place: usize,
+    byte: u8,
+) -> Result<(usize, u8), AllocError> {
+    let mut changed = text.to_vec(alloc)?;
+    if let Some(at) = changed.get_mut(place) {
+        *at = byte;
+    }
+    Ok(answer(alloc, kind, &changed))
+}
+
 /// The text, each of its bytes set to this.
 fn compare_changed(
     rt: &impl Abort,
@@ -187,11 +217,7 @@ fn compare_changed(
     byte: u8,
 ) -> Result<(), Fail> {
     for place in 0..broken.text.len() {
-        let mut changed = broken.text.to_vec(alloc)?;
-        if let Some(at) = changed.get_mut(place) {
-            *at = byte;
-        }
-        let got = answer(alloc, kind, &changed);
+        let got = answer_to_changed(alloc, kind, broken.text, place, byte)?;
         same_of(rt, got, expected(broken.changed, place), &(byte, place));
     }
     Ok(())
@@ -258,13 +284,18 @@ fn an_interrupted_write_is_tried_again(rt: HostRuntime) -> Result<(), Fail> {
     goes_out_interrupted(&rt, rt.alloc(), Kind::Trace, texts::ROW_18)
 }
 
-/// A script of every kind of line, of some 10,000 bytes.
-fn long_script(alloc: Global) -> Result<Vec<u8>, Fail> {
-    let mut text = b"rvtl-script 2 8 1024 64 4 64\n".to_vec(alloc)?;
+fn put_lines(text: &mut Vec<u8>) -> Result<(), AllocError> {
     for _ in 0..100 {
         text.extend_from_slice(b"step 7\ndeliver E 200\ndrain 0 0x89abcdef\n")?;
         text.extend_from_slice(b"evict 255 0xffffffff\nlocal 10 4294967295\nlocal 99 100\n")?;
     }
+    Ok(())
+}
+
+/// A script of every kind of line, of some 10,000 bytes.
+fn long_script(alloc: Global) -> Result<Vec<u8>, AllocError> {
+    let mut text = b"rvtl-script 2 8 1024 64 4 64\n".to_vec(alloc)?;
+    put_lines(&mut text)?;
     Ok(text)
 }
 
@@ -274,14 +305,18 @@ fn a_text_of_many_pages_goes_out_whole(rt: HostRuntime) -> Result<(), Fail> {
     goes_out_interrupted(&rt, rt.alloc(), Kind::Script, &text)
 }
 
-#[test]
-fn a_beginning_of_many_pages_goes_out_before_a_fault(rt: HostRuntime) -> Result<(), Fail> {
-    let text = long_script(rt.alloc())?;
+fn breaks_off_in_pages(rt: &impl Abort, alloc: Global, text: &[u8]) -> Result<(), Fail> {
     for room in 0..text.len() {
         if room % 61 == 0 {
             let fails = room % 2 == 0;
-            breaks_off(&rt, rt.alloc(), Kind::Script, &text, room, fails)?;
+            breaks_off(rt, alloc, Kind::Script, text, room, fails)?;
         }
     }
     Ok(())
+}
+
+#[test]
+fn a_beginning_of_many_pages_goes_out_before_a_fault(rt: HostRuntime) -> Result<(), Fail> {
+    let text = long_script(rt.alloc())?;
+    breaks_off_in_pages(&rt, rt.alloc(), &text)
 }

@@ -112,16 +112,35 @@ fn agree(rt: &impl Abort, index: &Index, exchanged: usize) {
     }
 }
 
+fn agree_in(
+    rt: &(impl Abort + AllocGlobal),
+    trace: &Trace,
+    order: &[OpId],
+    exchanged: usize,
+) -> Result<(), Fail> {
+    let index = Index::new(rt.alloc(), trace, order)?;
+    agree(rt, &index, exchanged);
+    Ok(())
+}
+
+/// They agree with each two neighbours of the order exchanged.
+fn agree_exchanged(
+    rt: &(impl Abort + AllocGlobal),
+    trace: &Trace,
+    order: &mut [OpId],
+) -> Result<(), Fail> {
+    for exchanged in 1..order.len() {
+        order.swap(exchanged - 1, exchanged);
+        agree_in(rt, trace, order, exchanged)?;
+        order.swap(exchanged - 1, exchanged);
+    }
+    Ok(())
+}
+
 #[test]
 fn exchanged_neighbours_have_the_same_sources(rt: HostRuntime) -> Result<(), Fail> {
     let trace = trace(rt.alloc())?;
     let mut order = completed(rt.alloc(), &trace)?;
     same(&rt, order.len(), 14);
-    for exchanged in 1..order.len() {
-        order.swap(exchanged - 1, exchanged);
-        let index = Index::new(rt.alloc(), &trace, &order)?;
-        agree(&rt, &index, exchanged);
-        order.swap(exchanged - 1, exchanged);
-    }
-    Ok(())
+    agree_exchanged(&rt, &trace, &mut order)
 }
