@@ -1,6 +1,6 @@
 #!/usr/bin/env python3
 """Builds the programs of examples/ anew, by the commands that examples/README.md tells, and compares each with the
-ELF file beside its source and with the copy that `comparisons` keeps.
+ELF file beside its source and with the copy that `gate_comparisons` keeps.
 
 usage: tools/built_examples.py    from the top of the repository, where those commands are (GCC 12.2 with binutils
 2.40, clang and ld.lld 14). A line tells of each ELF file that isn't the same, the last one how many are. The status
@@ -13,7 +13,7 @@ import tempfile
 from pathlib import Path
 
 EXAMPLES = Path("examples")
-COPIES = Path("crates/comparisons/data")
+COPIES = Path("crates/gate_comparisons/data")
 
 
 def commands(source, lines):

@@ -1,0 +1,244 @@
+//! A machine of caches and messages beside a plain flat machine: the flat machine gets the flat event of
+//! each of the machine's events, and then what the harts of both are is compared.
+
+mod same;
+mod written;
+
+use anyhow::{Context, Result};
+use coherent_machine::Machine;
+use elf_loader::Image;
+use flat_model::FlatEvent;
+use gate_plain_machine::{FlatMachine, Variant};
+use hart::Retired;
+use machine_types::{Config, Event, MAX_HARTS, Outcome};
+use rv32_decode::decode;
+use rv32_exec::{Action, plan};
+use same::difference_of;
+use std::alloc::Global;
+use std::fmt;
+use trace_recorder::OpId;
+use written::Written;
+
+/// What the flat machine makes of an SC that fails in the machine though its flat reservation stands.
+#[derive(Clone, Copy)]
+pub enum Failures {
+    /// It fails as well: the line may have been given up or lost for no reason that a program shows.
+    Follow,
+    /// It decides by its own reservation, for scripts in which no line moves but on demand.
+    Decide,
+}
+
+/// How often something happened.
+#[derive(Clone, Copy)]
+pub struct Counts {
+    /// The machine's events.
+    pub events: u64,
+    /// The flat events that showed them.
+    pub shown: u64,
+    /// Those of them by which an SC failed though its flat reservation stood.
+    pub failures: u64,
+    /// The SCs that succeeded.
+    pub successes: u64,
+}
+
+impl Counts {
+    pub fn nothing() -> Counts {
+        Counts {
+            events: 0,
+            shown: 0,
+            failures: 0,
+            successes: 0,
+        }
+    }
+
+    pub fn add(&mut self, other: &Counts) {
+        self.events = self.events.saturating_add(other.events);
+        self.shown = self.shown.saturating_add(other.shown);
+        self.failures = self.failures.saturating_add(other.failures);
+        self.successes = self.successes.saturating_add(other.successes);
+    }
+}
+
+impl fmt::Display for Counts {
+    fn fmt<W: fmt::Write>(&self, f: &mut fmt::Formatter<W>) -> fmt::Result {
+        let Counts {
+            events,
+            shown,
+            failures,
+            successes,
+        } = self;
+        write!(
+            f,
+            "{events} events shown by {shown}, {successes} SCs succeed, {failures} fail for no reason"
+        )
+    }
+}
+
+/// A machine, and the flat machine that is to show it.
+#[derive(Drop)]
+pub struct Lockstep {
+    machine: Machine,
+    flat: FlatMachine,
+    written: Written,
+    failures: Failures,
+    pub counts: Counts,
+}
+
+impl Lockstep {
+    /// Both at reset.
+    pub fn at_reset(
+        alloc: Global,
+        image: Image,
+        config: Config,
+        variant: Variant,
+        failures: Failures,
+    ) -> Result<Lockstep> {
+        let written = Written::at_reset(alloc, &image)?;
+        let copy = image.try_copy(alloc)?;
+        let flat = FlatMachine::new(alloc, copy, config, variant)?.context("a configuration")?;
+        let machine = Machine::new(alloc, image, config)?;
+        Ok(Lockstep {
+            machine,
+            flat,
+            written,
+            failures,
+            counts: Counts::nothing(),
+        })
+    }
+
+    /// What a hart's next instruction is going to do.
+    fn next_access(&self, hart: u8) -> Option<Action> {
+        let views = self.machine.views();
+        let hart = usize::from(hart);
+        if hart >= views.harts() {
+            return None;
+        }
+        let image = self.machine.trace().image();
+        let hart = views.hart(hart);
+        if !image.has_word(hart.pc) {
+            return None;
+        }
+        let instr = decode(image.word(hart.pc))?;
+        Some(plan(&instr, hart.pc, &hart.regs, image.size()))
+    }
+
+    /// The last instruction that a hart has retired, and its place in the hart's list.
+    fn last_entry(&self, hart: u8) -> Option<(u32, Retired)> {
+        let trace = self.machine.trace();
+        let hart = usize::from(hart);
+        if hart >= trace.harts() {
+            return None;
+        }
+        let entries = trace.entries(hart);
+        let entry = *entries.last()?;
+        let length = u32::try_from(entries.len()).unwrap_or(0);
+        Some((length.checked_sub(1)?, entry))
+    }
+
+    /// The flat event of a step that retired, which writes what it does; an SC may fail though its flat
+    /// reservation stands.
+    fn retires(&mut self, hart: u8, access: Option<Action>) -> Result<FlatEvent> {
+        if let (Some(access), Some((place, entry))) = (access, self.last_entry(hart)) {
+            self.written.retired(OpId { hart, place }, access, &entry)?;
+            if let (Action::Sc { addr, .. }, Some(is_success)) = (access, entry.sc_ok) {
+                return Ok(self.ends_conditional(hart, addr, is_success));
+            }
+        }
+        Ok(FlatEvent::Step { hart })
+    }
+
+    /// The flat event of an SC that has retired.
+    fn ends_conditional(&mut self, hart: u8, address: u32, is_success: bool) -> FlatEvent {
+        if is_success {
+            self.counts.successes = self.counts.successes.saturating_add(1);
+            return FlatEvent::Step { hart };
+        }
+        match (self.flat.node(usize::from(hart)), self.failures) {
+            (Some(flat), Failures::Follow) if flat.reserved() == Some(address) => {
+                self.counts.failures = self.counts.failures.saturating_add(1);
+                FlatEvent::Fail { hart }
+            }
+            _ => FlatEvent::Step { hart },
+        }
+    }
+
+    /// So many flat events happen, and whether the outcome of each is this one.
+    fn shows(&mut self, event: FlatEvent, count: u32, expected: Outcome) -> bool {
+        for _ in 0..count {
+            match self.flat.apply(event) {
+                Ok(outcome) if outcome == expected => {
+                    self.counts.shown = self.counts.shown.saturating_add(1);
+                }
+                _ => return false,
+            }
+        }
+        true
+    }
+
+    /// Compares all but what was retired and performed earlier, and memory that wasn't written just now.
+    fn compares(&self) -> Option<&'static str> {
+        let views = self.machine.views();
+        let trace = self.machine.trace();
+        for hart in 0..MAX_HARTS as usize {
+            if let Some(flat) = self.flat.node(hart) {
+                if let Some(difference) = difference_of(&flat, &views, trace, hart) {
+                    return Some(difference);
+                }
+            } else if hart < views.harts() {
+                return Some("a hart differs");
+            }
+        }
+        let (order, flat) = (trace.performed(), self.flat.performed());
+        if order.len() != flat.len() || order.last() != flat.last() {
+            return Some("the performed order differs");
+        }
+        if !self.written.is_at_last(self.flat.memory()) {
+            return Some("memory differs");
+        }
+        None
+    }
+
+    /// Compares all lists, the whole performed order and all of memory.
+    pub fn compares_all(&self) -> Option<&'static str> {
+        let trace = self.machine.trace();
+        for hart in 0..MAX_HARTS as usize {
+            if let Some(flat) = self.flat.node(hart) {
+                if hart >= trace.harts() || trace.entries(hart) != flat.entries() {
+                    return Some("a list differs");
+                }
+            }
+        }
+        if trace.performed() != self.flat.performed() {
+            return Some("the performed order differs");
+        }
+        if !self.written.is(self.flat.memory()) {
+            return Some("memory differs");
+        }
+        None
+    }
+
+    /// The event happens to the machine, and its flat events to the flat machine. Gives the first difference
+    /// then; the machine takes the event.
+    pub fn apply(&mut self, event: Event) -> Result<Option<&'static str>> {
+        let access = match event {
+            Event::Step { hart } => self.next_access(hart),
+            _ => None,
+        };
+        let outcome = self.machine.apply(event)?;
+        self.counts.events = self.counts.events.saturating_add(1);
+        let (flat, count) = match (event, outcome) {
+            (Event::Step { hart }, Outcome::Retired | Outcome::Exited(_)) => {
+                (self.retires(hart, access)?, 1)
+            }
+            (Event::Step { hart }, Outcome::Stopped(_)) => (FlatEvent::Step { hart }, 1),
+            (Event::Drain { hart, word }, Outcome::Drained) => (FlatEvent::Drain { hart, word }, 1),
+            (Event::Local { hart, count }, Outcome::Retired) => (FlatEvent::Step { hart }, count),
+            _ => (FlatEvent::Step { hart: 0 }, 0),
+        };
+        self.written.performed(self.machine.trace().performed());
+        if !self.shows(flat, count, outcome) {
+            return Ok(Some("an outcome differs"));
+        }
+        Ok(self.compares())
+    }
+}

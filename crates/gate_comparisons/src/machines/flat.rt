@@ -1,0 +1,117 @@
+//! The plain flat machine beside the machine, on a stream of events.
+
+use super::WORD;
+use super::pair::image_of_words;
+use crate::lockstep::{Counts, Failures, Lockstep};
+use crate::numbers::Numbers;
+use anyhow::{Result, bail, ensure};
+use gate_plain_machine::Variant;
+use machine_types::{Config, Event, MemoryModel};
+use std::alloc::Global;
+use tl_types::{Channel, LineSize};
+
+/// A word of the next line.
+const RIVAL: u32 = 0x8000_0110;
+
+/// Loads, stores, reservations, conditional stores and AMOs of both words, and fences, for ever:
+///
+///     lui a2, 0x80000
+///     addi a3, a2, 0x100
+///     addi a4, a2, 0x110
+///     1: lr.w t0, (a3)
+///     addi t0, t0, 1
+///     sc.w t1, t0, (a3)
+///     sw t0, 0(a4)
+///     lr.w t0, (a3)
+///     lw t2, 0(a4)
+///     sc.w t1, t0, (a3)
+///     sb t0, 1(a3)
+///     lw t2, 0(a3)
+///     sc.w t1, t0, (a3)
+///     fence w, w
+///     sh t0, 2(a3)
+///     lr.w t0, (a4)
+///     sc.w.rl t1, t2, (a4)
+///     amoadd.w t2, t0, (a3)
+///     fence rw, rw
+///     j 1b
+const PROGRAM: [u32; 20] = [
+    0x8000_0637,
+    0x1006_0693,
+    0x1106_0713,
+    0x1006_a2af,
+    0x0012_8293,
+    0x1856_a32f,
+    0x0057_2023,
+    0x1006_a2af,
+    0x0007_2383,
+    0x1856_a32f,
+    0x0056_80a3,
+    0x0006_a383,
+    0x1856_a32f,
+    0x0110_000f,
+    0x0056_9123,
+    0x1007_22af,
+    0x1a77_232f,
+    0x0056_a3af,
+    0x0330_000f,
+    0xfc1f_f06f,
+];
+
+/// The event of a number below 64: 32 for each hart.
+fn event_of(number: u32) -> Event {
+    let hart = if number < 32 { 0 } else { 1 };
+    let channel = match number % 32 {
+        0..=1 => return Event::Drain { hart, word: WORD },
+        2..=3 => return Event::Drain { hart, word: RIVAL },
+        4 => return Event::Evict { hart, line: WORD },
+        5 => return Event::Evict { hart, line: RIVAL },
+        6 => return Event::Local { hart, count: 1 },
+        7..=10 => Channel::A,
+        11..=14 => Channel::B,
+        15..=18 => Channel::C,
+        19..=22 => Channel::D,
+        23..=26 => Channel::E,
+        _ => return Event::Step { hart },
+    };
+    Event::Deliver { channel, hart }
+}
+
+/// Plays so many events of the stream, and fails at the first difference, or where no SC succeeds, or none
+/// fails for no reason that a program shows.
+pub fn every_flat_event(
+    alloc: Global,
+    model: MemoryModel,
+    ways: u32,
+    events: u32,
+) -> Result<Counts> {
+    let config = Config {
+        harts: 2,
+        sets: 1,
+        ways,
+        line: LineSize::Bytes16,
+        model,
+    };
+    let image = image_of_words(alloc, &PROGRAM)?;
+    let mut lockstep = Lockstep::at_reset(alloc, image, config, Variant::Right, Failures::Follow)?;
+    play(&mut lockstep, events)?;
+    Ok(lockstep.counts)
+}
+
+fn play(lockstep: &mut Lockstep, events: u32) -> Result<()> {
+    let mut numbers = Numbers::from_seed(1);
+    for index in 1..=events {
+        let event = event_of(numbers.below(64));
+        let mut difference = lockstep.apply(event)?;
+        if index % 1000 == 0 {
+            difference = difference.or(lockstep.compares_all());
+        }
+        if let Some(difference) = difference {
+            bail!("{event:?}, the event {index}: {difference}");
+        }
+    }
+    let counts = lockstep.counts;
+    ensure!(counts.successes > 0, "no SC succeeds");
+    ensure!(counts.failures > 0, "no SC fails for no reason");
+    Ok(())
+}
