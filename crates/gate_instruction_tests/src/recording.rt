@@ -2,6 +2,7 @@
 use crate::same::same;
 use elf_loader::{raw, size_of_kib};
 use hart::{Retired, Status};
+use std::process::Abort;
 use std::test::Fail;
 use tl_types::{Body, LineSize, Msg};
 use trace_recorder::{Direction, Logged, OpId, Trace, are_within_limits};
@@ -18,27 +19,39 @@ const ACK: Msg = Msg {
     body: Body::GrantAck,
 };
 
-#[test]
-fn a_trace_keeps_what_happened(rt: HostRuntime) -> Result<(), Fail> {
-    let size = size_of_kib(4).ok_or("a size")?;
-    let image = raw(rt.alloc(), &[0x13, 0, 0, 0], size)?;
-    let mut trace = Trace::new(rt.alloc(), image, LineSize::Bytes16, 2)?;
-    same(&rt, trace.harts(), 2);
+/// Of a trace of two harts, hart 1, which has done nothing, does one of everything.
+fn fill(rt: &impl Abort, trace: &mut Trace) -> Result<(), Fail> {
+    assert!(rt; trace.harts() == 2);
+    assert!(rt; trace.entries(1).len() == 0);
     trace.reserve(1, 1, 1, 2)?;
     trace.retire(1, ENTRY);
     trace.perform(OpId { hart: 1, place: 0 });
     trace.send(1, ACK);
     trace.take(1, ACK);
     trace.halt(1, Status::Stopped(3));
-    assert!(rt; trace.entries(1).len() == 1);
-    assert!(rt; trace.entries(0).len() == 0);
-    assert!(rt; trace.performed().len() == 1);
+    Ok(())
+}
+
+fn is_filled(rt: &impl Abort, trace: &Trace) {
+    assert!(rt; trace.harts() == 2);
+    same(rt, trace.entries(1).len(), 1);
+    same(rt, trace.entries(0).len(), 0);
+    same(rt, trace.performed().len(), 1);
     assert!(rt; trace.log().len() == 2);
-    same(&rt, trace.log()[0].direction, Direction::Sent);
-    same(&rt, trace.log()[1].direction, Direction::Taken);
-    assert!(rt; trace.statuses().len() == 2);
-    same(&rt, trace.image().entry(), 0x8000_0000);
-    same(&rt, trace.line_size(), LineSize::Bytes16);
+    same(rt, trace.log()[0].direction, Direction::Sent);
+    same(rt, trace.log()[1].direction, Direction::Taken);
+    same(rt, trace.statuses().len(), 2);
+    same(rt, trace.image().entry(), 0x8000_0000);
+    same(rt, trace.line_size(), LineSize::Bytes16);
+}
+
+#[test]
+fn a_trace_keeps_what_happened(rt: HostRuntime) -> Result<(), Fail> {
+    let size = size_of_kib(4).ok_or("a size")?;
+    let image = raw(rt.alloc(), &[0x13, 0, 0, 0], size)?;
+    let mut trace = Trace::new(rt.alloc(), image, LineSize::Bytes16, 2)?;
+    fill(&rt, &mut trace)?;
+    is_filled(&rt, &trace);
     Ok(())
 }
 

@@ -144,7 +144,8 @@ fn is_front(before: &[Logged], entry: &Logged) -> bool {
 }
 
 fn is_of_queue(e: &Logged, entry: &Logged, way: Direction) -> bool {
-    e.direction == way && e.hart == entry.hart && e.message.channel() == entry.message.channel()
+    let (channel, queue) = (e.message.channel(), entry.message.channel());
+    e.direction == way && e.hart == entry.hart && channel == queue
 }
 
 // What the Acquire asked for that comes behind as many Acquires as there were Grants.

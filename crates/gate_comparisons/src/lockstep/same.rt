@@ -5,16 +5,20 @@ use gate_plain_machine::FlatView;
 use store_buffer::StoreBuffer;
 use trace_recorder::Trace;
 
+fn is_same_entry(flat: &gate_plain_machine::Entry, entry: &store_buffer::Entry) -> bool {
+    entry.word == flat.word
+        && entry.mask.marks() == flat.mask
+        && entry.bytes == flat.bytes
+        && entry.ops.as_slice() == flat.ops.as_slice()
+}
+
 fn is_same_group(flat: &[gate_plain_machine::Entry], group: &[store_buffer::Entry]) -> bool {
-    let mut is_same = flat.len() == group.len();
     for (flat, entry) in flat.iter().zip(group) {
-        is_same = is_same
-            && entry.word == flat.word
-            && entry.mask.marks() == flat.mask
-            && entry.bytes == flat.bytes
-            && entry.ops.as_slice() == flat.ops.as_slice();
+        if !is_same_entry(flat, entry) {
+            return false;
+        }
     }
-    is_same
+    flat.len() == group.len()
 }
 
 fn is_same_buffer(flat: &FlatView<'_>, buffer: &StoreBuffer) -> bool {

@@ -98,15 +98,23 @@ pub fn every_flat_event(
     Ok(lockstep.counts)
 }
 
+/// Applies the event of this index, and compares what it comes to, now and then all.
+fn difference_behind(
+    lockstep: &mut Lockstep,
+    event: Event,
+    index: u32,
+) -> Result<Option<&'static str>> {
+    match lockstep.apply(event)? {
+        None if index % 1000 == 0 => Ok(lockstep.compares_all()),
+        difference => Ok(difference),
+    }
+}
+
 fn play(lockstep: &mut Lockstep, events: u32) -> Result<()> {
     let mut numbers = Numbers::from_seed(1);
     for index in 1..=events {
         let event = event_of(numbers.below(64));
-        let mut difference = lockstep.apply(event)?;
-        if index % 1000 == 0 {
-            difference = difference.or(lockstep.compares_all());
-        }
-        if let Some(difference) = difference {
+        if let Some(difference) = difference_behind(lockstep, event, index)? {
             bail!("{event:?}, the event {index}: {difference}");
         }
     }

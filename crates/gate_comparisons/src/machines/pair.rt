@@ -86,10 +86,12 @@ impl Pair {
     }
 }
 
-fn has_one_text(alloc: Global, expected: &Trace, trace: &Trace) -> Result<bool> {
-    let mut expected_text = Vec::new(alloc);
+fn text_of(alloc: Global, trace: &Trace) -> Result<Vec<u8>> {
     let mut text = Vec::new(alloc);
-    write_trace(expected, &mut expected_text)?;
     write_trace(trace, &mut text)?;
-    Ok(text == expected_text)
+    Ok(text)
+}
+
+fn has_one_text(alloc: Global, expected: &Trace, trace: &Trace) -> Result<bool> {
+    Ok(text_of(alloc, trace)? == text_of(alloc, expected)?)
 }

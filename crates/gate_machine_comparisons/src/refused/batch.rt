@@ -45,26 +45,50 @@ fn adopt<R: Eprint>(
     Ok(machine.adopt(0, batch)?)
 }
 
-/// A machine that adopts a batch of hart 0 is to show what is expected, and not to adopt it again.
-fn compare_adopted<R: Eprint + AllocGlobal>(
+/// The machine adopts a batch of hart 0, is to show what is expected then, and not to adopt it again.
+fn adopt_once<R: Eprint>(
     rt: &R,
-    case: &Case,
+    machine: &mut Machine,
     batch: &Batch,
     pages: &mut Pages,
 ) -> Result<()> {
-    let mut machine = at_reset(rt, case)?;
-    let outcome = adopt(rt, &mut machine, batch, pages)?;
+    let outcome = adopt(rt, machine, batch, pages)?;
     ensure!(outcome == Outcome::Retired, "a batch isn't retired");
     let once_more = machine.adopt(0, batch);
     ensure!(
         once_more == Err(AdoptError::Stale),
         "a batch is adopted again"
     );
-    show_machine(&mut pages.after, &machine)?;
+    show_machine(&mut pages.after, machine)?;
     ensure!(
         pages.after == pages.expected,
         "a batch differs from its event"
     );
+    Ok(())
+}
+
+/// A machine adopts a batch of hart 0, and it is committed to a fabric.
+fn play_batch<R: Eprint + AllocGlobal>(
+    rt: &R,
+    case: &Case,
+    batch: &Batch,
+    pages: &mut Pages,
+) -> Result<()> {
+    let mut machine = at_reset(rt, case)?;
+    adopt_once(rt, &mut machine, batch, pages)?;
+    play_fabric(rt, case, Some(batch), pages)
+}
+
+/// The machine is expected to show what it does behind an event `Local` of so many instructions.
+fn expect_local<R: Eprint>(
+    rt: &R,
+    machine: &mut Machine,
+    count: u32,
+    pages: &mut Pages,
+) -> Result<()> {
+    let outcome = apply(rt, machine, Event::Local { hart: 0, count }, pages)?;
+    ensure!(outcome == Outcome::Retired, "an event isn't retired");
+    show_machine(&mut pages.expected, machine)?;
     Ok(())
 }
 
@@ -74,10 +98,7 @@ pub fn adopt_first<R: Eprint + AllocGlobal>(rt: &R, case: &Case, pages: &mut Pag
     let mut machine = at_reset(rt, case)?;
     let batch = batch_of(rt.alloc(), &machine)?;
     let count = u32::try_from(batch.entries().len())?;
-    let outcome = apply(rt, &mut machine, Event::Local { hart: 0, count }, pages)?;
-    ensure!(outcome == Outcome::Retired, "an event isn't retired");
-    show_machine(&mut pages.expected, &machine)?;
-    compare_adopted(rt, case, &batch, pages)?;
-    play_fabric(rt, case, Some(&batch), pages)?;
+    expect_local(rt, &mut machine, count, pages)?;
+    play_batch(rt, case, &batch, pages)?;
     Ok(count)
 }

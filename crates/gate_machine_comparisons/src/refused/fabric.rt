@@ -8,7 +8,7 @@ use super::case::Case;
 use super::machine::{compare_ends, is_as_kept};
 use super::shown::{Pages, show_fabric, show_machine};
 use anyhow::{Result, ensure};
-use coherent_machine::{AdoptError, ApplyError, NewError};
+use coherent_machine::{AdoptError, ApplyError, Machine, NewError};
 use hart::Batch;
 use locked_fabric::{Fabric, Share};
 use machine_types::{Config, Event, Outcome};
@@ -53,6 +53,17 @@ fn play_on<L: Ledger, R: Eprint + AllocGlobal>(
         None => apply_all(rt, case, &mut fabric, &mut shares, pages)?,
         Some(batch) => commit_twice(rt, batch, &mut fabric, &mut shares, pages)?,
     }
+    let machine = end_of(fabric, shares)?;
+    if batch.is_none() {
+        compare_ends(case, machine, &mut pages.after)?;
+    }
+    Ok(true)
+}
+
+/// The machine of a fabric, whose shares have come back and count as they should.
+fn end_of<L: Ledger>(fabric: Fabric<L>, shares: Vec<Share<L>>) -> Result<Machine>
+    requires { length shares.items ≡ L.parts }
+{
     let harts = fabric.machine().views().config().harts;
     ensure!(
         shares.len() == harts as usize,
@@ -60,10 +71,7 @@ fn play_on<L: Ledger, R: Eprint + AllocGlobal>(
     );
     let (machine, journal, counts) = fabric.into_parts(shares);
     ensure!(are_counted(&journal, &counts), "a share counts wrongly");
-    if batch.is_none() {
-        compare_ends(case, machine, &mut pages.after)?;
-    }
-    Ok(true)
+    Ok(machine)
 }
 
 /// A fabric at reset, and the share of each hart's worker; none where it wants memory.
@@ -132,14 +140,19 @@ fn apply_all<L: Ledger, R: Eprint>(
             is_as_kept(outcome, kept, &mut pages.after)?,
             "a fabric: {event:?}: {outcome:?} for {kept}"
         );
-        let own = [*event];
-        let journalled: &[Event] = if is_change(outcome) { &own } else { &[] };
         ensure!(
-            fabric.journal().get(length..) == Some(journalled),
+            is_journalled(fabric.journal(), length, *event, outcome),
             "a fabric journals another event than {event:?}, {outcome:?}"
         );
     }
     Ok(())
+}
+
+/// Whether just an event that changes the machine stands in the journal from this place on.
+fn is_journalled(journal: &[Event], place: usize, event: Event, outcome: Outcome) -> bool {
+    let own = [event];
+    let journalled: &[Event] = if is_change(outcome) { &own } else { &[] };
+    journal.get(place..) == Some(journalled)
 }
 
 /// Applies an event by its hart's worker.
