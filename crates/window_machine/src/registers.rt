@@ -1,6 +1,7 @@
-//! Which registers an instruction reads and writes.
+//! Which registers an instruction reads and writes, by number.
 
 use rv32_decode::{Instr, Register};
+use rv32_exec::{address_register, destination, other_registers, stored_register};
 
 /// The registers of an instruction by number; 0 where it has none, since nothing comes from x0.
 #[derive(Clone, Copy)]
@@ -12,18 +13,6 @@ pub(crate) struct Registers {
     pub written: usize,
 }
 
-fn named(
-    first: Option<Register>,
-    second: Option<Register>,
-    written: Option<Register>,
-) -> Registers {
-    Registers {
-        first: number(first),
-        second: number(second),
-        written: number(written),
-    }
-}
-
 fn number(register: Option<Register>) -> usize {
     match register {
         Some(register) => usize::from(register.number()),
@@ -33,20 +22,11 @@ fn number(register: Option<Register>) -> usize {
 
 /// Those that dependencies count: an ECALL has none.
 pub(crate) fn registers_of(instr: &Instr) -> Registers {
-    match *instr {
-        Instr::Upper { rd, .. } | Instr::Jal { rd, .. } => named(None, None, Some(rd)),
-        Instr::Jalr { rd, rs1, .. }
-        | Instr::Load { rd, rs1, .. }
-        | Instr::Immediate { rd, rs1, .. }
-        | Instr::Shift { rd, rs1, .. }
-        | Instr::Lr { rd, rs1, .. } => named(Some(rs1), None, Some(rd)),
-        Instr::Branch { rs1, rs2, .. } | Instr::Store { rs1, rs2, .. } => {
-            named(Some(rs1), Some(rs2), None)
-        }
-        Instr::Register { rd, rs1, rs2, .. }
-        | Instr::Sc { rd, rs1, rs2, .. }
-        | Instr::Amo { rd, rs1, rs2, .. } => named(Some(rs1), Some(rs2), Some(rd)),
-        Instr::Fence(_) | Instr::FenceTso | Instr::System(_) => named(None, None, None),
+    let (one, another) = other_registers(instr);
+    Registers {
+        first: number(address_register(instr).or(one)),
+        second: number(stored_register(instr).or(another)),
+        written: number(destination(instr)),
     }
 }
 
