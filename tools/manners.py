@@ -54,9 +54,13 @@ def reader_goes_away(rvtl, folder):
 def interrupted(rvtl, folder):
     """A run that is interrupted leaves no journal, and says nothing."""
     journal = os.path.join(folder, "interrupted.script")
-    run = [rvtl, "run", "--raw", "--limit", "1000000000", "--journal", journal, os.path.join(folder, "spin.bin")]
+    amos = os.path.join(folder, "amos.bin")
+    with open(amos, "wb") as file:
+        file.write(AMOS)
+    run = [rvtl, "run", "--raw", "--harts", "8", "--limit", "4000000", "--journal", journal, amos]
     child = subprocess.Popen(run, stdout=subprocess.PIPE, stderr=subprocess.PIPE)
-    time.sleep(1)
+    # Long before the limit is met.
+    time.sleep(0.1)
     child.send_signal(signal.SIGINT)
     out, err = child.communicate(timeout=60)
     is_well = child.returncode == -signal.SIGINT and out == err == b"" and not os.path.exists(journal)
@@ -96,7 +100,7 @@ def progress(rvtl, folder):
     with open(amos, "wb") as file:
         file.write(AMOS)
     journal = os.path.join(folder, "j")
-    shown = on_terminal([rvtl, "run", "--raw", "--harts", "8", "--limit", "2000000", "--journal", journal, amos])
+    shown = on_terminal([rvtl, "run", "--raw", "--harts", "8", "--limit", "4000000", "--journal", journal, amos])
     is_well = b" events, retired " in shown and b"\r" in shown and shown.endswith(b"hart 7: run\r\n")
     tell("progress on a terminal", is_well, shown)
 
@@ -104,7 +108,7 @@ def progress(rvtl, folder):
 def progress_of_a_search(rvtl):
     """On a terminal a long search tells its progress, and erases it before it prints; a short one tells nothing."""
     explore = [rvtl, "explore", "--harts"]
-    shown = on_terminal([*explore, "4", "--states", "1000000", os.path.join(EXAMPLES, "filter_lock.elf")])
+    shown = on_terminal([*explore, "4", "--states", "2000000", os.path.join(EXAMPLES, "treiber_stack.elf")])
     is_well = b" states (" in shown and b" a second), " in shown and shown.endswith(b" outcomes\x1b[K\r\x1b[K")
     tell("progress of a search on a terminal", is_well, shown)
     shown = on_terminal([*explore, "2", os.path.join(EXAMPLES, "dekker.elf")])
