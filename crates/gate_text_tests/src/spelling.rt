@@ -10,17 +10,20 @@ use text_fields::Page;
 
 /// Each text, and the word that `riscv64-unknown-elf-as -march=rv32ima -mabi=ilp32 -mno-relax` of
 /// binutils 2.40 makes of it.
-const ROWS: [(u32, &str); 82] = [
+const ROWS: [(u32, &str); 87] = [
     (0x8000_0637, "lui a2, 0x80000"),
     (0x0000_0037, "lui zero, 0x00000"),
     (0xffff_ffb7, "lui t6, 0xfffff"),
     (0x0000_1097, "auipc ra, 0x00001"),
     (0xabcd_e117, "auipc sp, 0xabcde"),
+    (0x0000_1617, "auipc a2, 0x00001"),
     (0xfedf_f06f, "jal zero, .-20"),
     (0x0e80_00ef, "jal ra, .+232"),
+    (0xfc5f_f06f, "jal zero, .-60"),
     (0x0085_00e7, "jalr ra, 8(a0)"),
     (0x8002_8067, "jalr zero, -2048(t0)"),
     (0xfe0f_06e3, "beq t5, zero, .-20"),
+    (0x000f_0463, "beq t5, zero, .+8"),
     (0xfdcd_9ce3, "bne s11, t3, .-40"),
     (0x7d39_4a63, "blt s2, s3, .+2004"),
     (0x015a_5063, "bge s4, s5, .+0"),
@@ -29,6 +32,7 @@ const ROWS: [(u32, &str); 82] = [
     (0x0005_8503, "lb a0, 0(a1)"),
     (0xffe6_9603, "lh a2, -2(a3)"),
     (0x0006_2703, "lw a4, 0(a2)"),
+    (0xffc6_2703, "lw a4, -4(a2)"),
     (0x7ff8_4783, "lbu a5, 2047(a6)"),
     (0x8004_5883, "lhu a7, -2048(s0)"),
     (0x10d6_00a3, "sb a3, 257(a2)"),
@@ -76,6 +80,7 @@ const ROWS: [(u32, &str); 82] = [
     (0x0000_0073, "ecall"),
     (0x0010_0073, "ebreak"),
     (0x1005_a52f, "lr.w a0, (a1)"),
+    (0x1405_a52f, "lr.w.aq a0, (a1)"),
     (0x1406_a62f, "lr.w.aq a2, (a3)"),
     (0x1207_a72f, "lr.w.rl a4, (a5)"),
     (0x1608_a82f, "lr.w.aqrl a6, (a7)"),

@@ -3,7 +3,6 @@
 #![tactic(auto)]
 
 mod decoding;
-mod display;
 mod encoding;
 mod fence;
 mod fields;
