@@ -6,7 +6,7 @@
 static atomic_uint taken;
 static unsigned counter;
 
-static void lock(void)
+static void lock(unsigned hart)
 {
     unsigned seen;
     do
@@ -14,16 +14,9 @@ static void lock(void)
     while (!atomic_compare_exchange_weak_explicit(&taken, &seen, 1, memory_order_acquire, memory_order_relaxed));
 }
 
-static void unlock(void)
+static void unlock(unsigned hart)
 {
     atomic_store_explicit(&taken, 0, memory_order_release);
 }
 
-int main(unsigned hart, unsigned harts)
-{
-    lock();
-    unsigned mine = ++counter;
-    unlock();
-    put_out(mine);
-    return 0;
-}
+#include "counted.h"  /* main */

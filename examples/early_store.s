@@ -1,8 +1,13 @@
-# A store that is performed before the load that precedes it: hart 0 writes 2 into a word and then raises a flag, behind
-# a fence; hart 1 loads the flag, writes 1 into the word, and puts out what it loaded. The machine performs the load
-# first: where it finds the flag raised, the word is 2 already, and ends as 1. Where it doesn't, either store may come
-# last. RVWMO lets hart 1's store be performed before its load: it may put out 1, and the word may end as 2. A
-# `fence r, w` between them forbids that (early_store_fenced). The file keeps its symbols, so that the word can be named.
+# A store that is performed before the load that precedes it: hart 0 writes 2 into a word and then raises a flag,
+# behind a fence; hart 1 loads the flag, writes 1 into the word, and puts out what it loaded. Where it doesn't find
+# the flag raised, either store may come last.
+# - early_store: the machine performs the load first. Where it finds the flag raised, the word is 2 already, and ends
+#   as 1. RVWMO lets hart 1's store be performed before its load: it may put out 1, and the word may end as 2.
+# - early_store_fenced, with .LFENCED: the store comes behind the load. Where that finds the flag raised, the word
+#   ends as 1, on the machine and under RVWMO.
+# The files keep their symbols, so that the word can be named; a symbol that begins with .L isn't kept.
+
+        .include "rvtl.inc"
 
         .globl  _start, word
 _start: la      t0, word
@@ -16,12 +21,10 @@ _start: la      t0, word
         j       done
 second: li      t2, 1
         lw      a0, 0(t1)
+        when    .LFENCED, fence r, w    # else RVWMO lets the store be performed before the load
         sw      t2, 0(t0)
-        li      a7, 1                   # put out
-        ecall
-done:   li      a0, 0
-        li      a7, 0                   # exit
-        ecall
+        put_out
+done:   exit
 
         .balign 64
 word:   .word   0

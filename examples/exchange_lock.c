@@ -6,22 +6,15 @@
 static atomic_uint taken;
 static unsigned counter;
 
-static void lock(void)
+static void lock(unsigned hart)
 {
     while (atomic_exchange_explicit(&taken, 1, memory_order_acquire))
         ;
 }
 
-static void unlock(void)
+static void unlock(unsigned hart)
 {
     atomic_store_explicit(&taken, 0, memory_order_release);
 }
 
-int main(unsigned hart, unsigned harts)
-{
-    lock();
-    unsigned mine = ++counter;
-    unlock();
-    put_out(mine);
-    return 0;
-}
+#include "counted.h"  /* main */

@@ -3,6 +3,8 @@
 # last level it adds 1 to a counter and puts out what it wrote.
 # With fences one enters behind the other: with n harts the numbers 1 to n are put out, in any of the n! orders.
 
+        .include "rvtl.inc"
+
         .globl  _start
 _start: li      s0, 0x80000200          # the harts' levels, one word each
         li      s1, 0x80000240          # who came last to each level, one word each
@@ -32,13 +34,8 @@ next:   addi    t2, t2, 4
 pass:   addi    s5, s5, 1
         j       level
 inside: fence   r, rw
-        lw      a0, 0(s2)
-        addi    a0, a0, 1
-        sw      a0, 0(s2)
+        add_one s2
         fence   rw, w
         sw      zero, 0(s3)
-        li      a7, 1                   # put out
-        ecall
-        li      a0, 0
-        li      a7, 0                   # exit
-        ecall
+        put_out
+        exit

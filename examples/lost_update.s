@@ -2,14 +2,14 @@
 # word shows. Where both load it before either stores, one update is lost: 1 or 2, whatever the number of harts 1 to
 # their number. The file keeps its symbols, so that the counter can be named.
 
+        .include "rvtl.inc"
+
         .globl  _start, counter
 _start: la      t0, counter
         lw      t1, 0(t0)
         addi    t1, t1, 1
         sw      t1, 0(t0)
-        li      a0, 0
-        li      a7, 0                   # exit
-        ecall
+        exit
 
         .balign 64
 counter:

@@ -1,6 +1,10 @@
-# The queue lock of Mellor-Crummey and Scott for any number of harts: each waits at a word of its own until the
-# hart before it in the queue hands the lock on. It then adds 1 to a counter and puts out what it wrote.
-# One enters behind the other: with n harts the numbers 1 to n are put out, in any of the n! orders.
+# The queue lock of Mellor-Crummey and Scott for any number of harts: each waits at a word of its own until the hart
+# before it in the queue hands the lock on. It then adds 1 to a counter and puts out what it wrote.
+# - mcs_lock: one enters behind the other. With n harts the numbers 1 to n are put out, in any of the n! orders.
+# - mcs_lock_unacquired, with UNACQUIRED: the machine performs loads in order, with 2 harts 1 2 and 2 1. RVWMO lets
+#   the counter be read before the wait has ended: then both read 0, and it may be 1 1 too.
+
+        .include "rvtl.inc"
 
         .globl  _start
 _start: li      s0, 0x80000200          # the queue's tail: the last one's node
@@ -15,10 +19,8 @@ _start: li      s0, 0x80000200          # the queue's tail: the last one's node
         sw      s2, 0(t0)
 wait:   lw      t1, 4(s2)
         bnez    t1, wait
-inside: fence   r, rw
-        lw      a0, 0(s1)
-        addi    a0, a0, 1
-        sw      a0, 0(s1)
+inside: unless  UNACQUIRED, fence r, rw # the counter behind the wait: else RVWMO lets it be read before
+        add_one s1
         fence   rw, rw
 leave:  lw      t0, 0(s2)
         bnez    t0, hand_on
@@ -29,8 +31,5 @@ leave:  lw      t0, 0(s2)
         j       out
 hand_on:
         sw      zero, 4(t0)
-out:    li      a7, 1                   # put out
-        ecall
-        li      a0, 0
-        li      a7, 0                   # exit
-        ecall
+out:    put_out
+        exit

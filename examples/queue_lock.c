@@ -13,8 +13,9 @@ static struct node nodes[8];
 static _Atomic(struct node *) last;
 static unsigned counter;
 
-static void lock(struct node *mine)
+static void lock(unsigned hart)
 {
+    struct node *mine = &nodes[hart];
     atomic_store_explicit(&mine->waits, 1, memory_order_relaxed);
     struct node *before = atomic_exchange_explicit(&last, mine, memory_order_acq_rel);
     if (!before)
@@ -24,8 +25,9 @@ static void lock(struct node *mine)
         ;
 }
 
-static void unlock(struct node *mine)
+static void unlock(unsigned hart)
 {
+    struct node *mine = &nodes[hart];
     struct node *seen = mine;
     struct node *behind = atomic_load_explicit(&mine->next, memory_order_acquire);
     if (!behind && atomic_compare_exchange_strong(&last, &seen, 0))
@@ -35,11 +37,4 @@ static void unlock(struct node *mine)
     atomic_store_explicit(&behind->waits, 0, memory_order_release);
 }
 
-int main(unsigned hart, unsigned harts)
-{
-    lock(&nodes[hart]);
-    unsigned mine = ++counter;
-    unlock(&nodes[hart]);
-    put_out(mine);
-    return 0;
-}
+#include "counted.h"  /* main */

@@ -3,6 +3,8 @@
 # put out, in any of the n! orders. Where they hold one, the load drives the counter's line out of the cache,
 # the SC fails each time, and no hart ever ends: no outcome.
 
+        .include "rvtl.inc"
+
         .globl  _start
 _start: li      s0, 0x80000100          # the counter
         li      s1, 0x80000140          # a word of another line of its set
@@ -12,8 +14,5 @@ again:  lr.w    t0, (s0)
         addi    a0, a0, 1
         sc.w    t2, a0, (s0)
         bnez    t2, again
-        li      a7, 1                   # put out
-        ecall
-        li      a0, 0
-        li      a7, 0                   # exit
-        ecall
+        put_out
+        exit

@@ -1,20 +1,20 @@
 # A lock by LR and SC: each hart takes it, adds 1 to a counter, and puts out what it wrote.
-# Whatever the order of events, one hart puts out 1 and the other 2.
+# - reserved_lock: whatever the order of events, one hart puts out 1 and the other 2.
+# - reserved_lock_unacquired, with UNACQUIRED: the machine performs loads in order, 1 2 and 2 1. RVWMO lets the
+#   counter be read before the lock is seen free: then both read 0, and it may be 1 1 too.
+
+        .include "rvtl.inc"
 
         .globl  _start
 _start: li      t0, 0x80000100          # the lock: 0 is free
         li      t1, 0x80000140          # the counter
         li      t2, 1
-take:   lr.w.aq t3, (t0)
+take:   unless  UNACQUIRED, lr.w.aq t3, (t0)
+        when    UNACQUIRED, lr.w t3, (t0) # without aq RVWMO lets what follows be read before
         bnez    t3, take
         sc.w    t4, t2, (t0)
         bnez    t4, take
-        lw      a0, 0(t1)
-        addi    a0, a0, 1
-        sw      a0, 0(t1)
+        add_one t1
         amoswap.w.rl zero, zero, (t0)
-        li      a7, 1                   # put out
-        ecall
-        li      a0, 0
-        li      a7, 0                   # exit
-        ecall
+        put_out
+        exit

@@ -1,6 +1,8 @@
 # A Treiber stack: each hart pushes a node of its own and then pops one, by LR and SC on the head.
 # Each puts out the value that it popped: 10 and 11, in either order.
 
+        .include "rvtl.inc"
+
         .globl  _start
 _start: li      t0, 0x80000100          # the head: 0 is the empty stack
         slli    t1, a0, 6
@@ -18,8 +20,5 @@ pop:    lr.w.aq t4, (t0)
         sc.w    t5, t6, (t0)
         bnez    t5, pop
         lw      a0, 4(t4)
-        li      a7, 1                   # put out
-        ecall
-empty:  li      a0, 0
-        li      a7, 0                   # exit
-        ecall
+        put_out
+empty:  exit
