@@ -171,6 +171,15 @@ class Shape:
     image: dict = field(default_factory=dict)
 
 
+def under(heading, path):
+    """The lines of a file, each with what the last heading above it names."""
+    name = ''
+    for line in open(path):
+        found = re.match(heading, line)
+        name = found.group(1) if found else name
+        yield name, line
+
+
 def shapes():
     found, lines = {}, []
     for line in open(f'{SPECS}/LitmusPrograms.antt'):
@@ -185,15 +194,12 @@ def shapes():
                 shape.harts.append(hart.items)
             found[line.split()[2]] = shape
             lines = []
-    for line in open(f'{SPECS}/LitmusPrograms.antt'):
-        name = re.match(r'abbrev pub (\w+)', line)
-        if name:
-            current = name.group(1)
+    for name, line in under(r'abbrev pub (\w+)', f'{SPECS}/LitmusPrograms.antt'):
         words = re.search(r'image_with \((.*?) ∷ \[\]\)', line)
         if words:
             for i, word in enumerate(words.group(1).split(' ∷ ')):
                 for k in range(4):
-                    found[current].image[0x80000000 + 4 * i + k] = byte(int(word, 0), 0, k)
+                    found[name].image[0x80000000 + 4 * i + k] = byte(int(word, 0), 0, k)
     return found
 
 
@@ -207,11 +213,7 @@ class Verdict:
 
 
 def verdicts():
-    record = ''
-    for line in open(f'{SPECS}/Litmus.antt'):
-        heading = re.match(r'pub record (\w+)', line)
-        if heading:
-            record = heading.group(1)
+    for record, line in under(r'pub record (\w+)', f'{SPECS}/Litmus.antt'):
         m = re.match(r'  pub (\w+) : (Passes|IsIllegal) (\w+) (\w+) \((.*?)\[\]\)(.*)', line)
         if m:
             names = [tuple(map(int, p)) for p in re.findall(r'op (\d+) (\d+)', m.group(5))]

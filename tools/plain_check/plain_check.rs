@@ -16,18 +16,18 @@ const RULES: usize = 13;
 
 // ---- the text
 
-struct Entry {
-    pc: u32,
-    word: u32,
-    loaded: Option<u32>,
-    succeeded: Option<bool>,
-}
-
 #[derive(Clone, Copy)]
 enum Status {
     Running,
     Stopped(u32),
     Exited(u32),
+}
+
+struct Entry {
+    pc: u32,
+    word: u32,
+    loaded: Option<u32>,
+    succeeded: Option<bool>,
 }
 
 struct Trace {

@@ -171,14 +171,18 @@ pub fn is_first_version(harts: u32, line: u32) -> bool {
     line == 16 && harts <= 4
 }
 
+/// Whether a text is of the first version, and not of the second; then how many harts and KiB it is of.
+fn read_head(r: &mut Reader, first: &str, second: &str) -> Option<(bool, u32, u32)> {
+    let is_first = r.text(first).is_some();
+    if !is_first {
+        r.text(second)?;
+    }
+    Some((is_first, r.number(b' ', 8)?, r.number(b' ', 1024)?))
+}
+
 pub fn read_script(text: &[u8]) -> Option<Script> {
     let mut r = Reader { rest: text };
-    let first = r.text("rvtl-script 1 ").is_some();
-    if !first {
-        r.text("rvtl-script 2 ")?;
-    }
-    let harts = r.number(b' ', 8)?;
-    let kib = r.number(b' ', 1024)?;
+    let (first, harts, kib) = read_head(&mut r, "rvtl-script 1 ", "rvtl-script 2 ")?;
     let sets = r.number(b' ', 64)?;
     let ways = r.number(if first { b'\n' } else { b' ' }, 4)?;
     let line = if first { 16 } else { r.number(b'\n', 64)? };
@@ -251,12 +255,7 @@ fn read_message(r: &mut Reader, harts: u32, kib: u32, line: u32) -> Option<Messa
 
 fn read_trace(text: &[u8]) -> Option<(Trace, usize)> {
     let mut r = Reader { rest: text };
-    let first = r.text("rvtl-trace 1\nT ").is_some();
-    if !first {
-        r.text("rvtl-trace 2\nT ")?;
-    }
-    let harts = r.number(b' ', 8)?;
-    let kib = r.number(b' ', 1024)?;
+    let (first, harts, kib) = read_head(&mut r, "rvtl-trace 1\nT ", "rvtl-trace 2\nT ")?;
     let entry = r.word()?;
     r.text(if first { "\n" } else { " " })?;
     let line = if first { 16 } else { r.number(b'\n', 64)? };
