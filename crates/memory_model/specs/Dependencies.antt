@@ -5,8 +5,7 @@
 use Rattle.std.specs.Prelude.{ℕ, Bool, true, false, ◌&&◌, ◌||◌, nat_lt, List, [], ◌∷◌, ◌++◌, Option, Some, None, filter, replicate, slice_get, slice_index_or, slice_set}
 use Rattle.std.specs.List.{list_any}
 use Rattle.rv32_decode.specs.declared.instruction.Instr.{Instr}
-use Rattle.rv32_decode.specs.declared.instruction.Instr.TheVariants as instr
-use Rattle.rv32_exec.specs.Uses.{Uses, uses_of}
+use Rattle.rv32_exec.specs.Uses.{Uses, is_steering, uses_of}
 use Rattle.memory_model.specs.declared.operation.Operation.{Operation}
 use Rattle.memory_model.specs.Operations.{precedes}
 use Rattle.memory_model.specs.Items.{Item}
@@ -70,9 +69,8 @@ has_data_dependency items a b = precedes a b && holds (held_at items a b) (uses_
 
 -- conditional branches and JALR
 abbrev pub steers : Option Instr → Bool
-steers (Some (instr.Branch op rs1 rs2 offset)) = true
-steers (Some (instr.Jalr rd rs1 offset)) = true
-steers _ = false
+steers None = false
+steers (Some i) = is_steering i
 
 -- one of these is a branch or a JALR that depends on what the flags say
 abbrev pub any_steers : List Bool → List Item → Bool

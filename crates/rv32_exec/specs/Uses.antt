@@ -1,6 +1,6 @@
 -- Which registers an instruction reads, and for what, and which it writes, as dependencies count them (RISC-V Unprivileged ISA 20191213, chapters 14.1, "Syntactic Dependencies", and 14.3).
 -- x0, FENCE, ECALL and EBREAK take no part.
-use Rattle.std.specs.Prelude.{ℕ, ◌==◌, if◌then◌else◌, List, [], ◌∷◌, ◌++◌, Option, Some, None}
+use Rattle.std.specs.Prelude.{ℕ, Bool, true, false, ◌==◌, if◌then◌else◌, List, [], ◌∷◌, ◌++◌, Option, Some, None}
 use Rattle.rv32_decode.specs.declared.instruction.Instr.{Instr}
 use Rattle.rv32_decode.specs.declared.instruction.Instr.TheVariants.{Upper, Jal, Jalr, Branch, Load, Store, Immediate, Shift, Register, Fence, FenceTso, System, Lr, Sc, Amo}
 use Rattle.rv32_decode.specs.declared.instruction.SystemOp.TheVariants.{Ecall}
@@ -32,6 +32,12 @@ uses_of (System op) = record { address = []; stored = []; other = []; written = 
 uses_of (Lr rd rs1 bits) = record { address = named rs1; stored = []; other = []; written = named rd }
 uses_of (Sc rd rs1 rs2 bits) = record { address = named rs1; stored = named rs2; other = []; written = named rd }
 uses_of (Amo op rd rs1 rs2 bits) = record { address = named rs1; stored = named rs2; other = []; written = named rd }
+
+-- conditional branches and JALR: what follows depends on the registers that they read
+abbrev pub is_steering : Instr → Bool
+is_steering (Branch op rs1 rs2 offset) = true
+is_steering (Jalr rd rs1 offset) = true
+is_steering _ = false
 
 -- an environment call has its number in x17 and its argument in x10
 abbrev pub call_registers : Instr → List ℕ

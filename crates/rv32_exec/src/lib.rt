@@ -18,4 +18,4 @@ pub use finishing::finish;
 pub use laws::{reads_are_as_named, stops_are_decided_first, writes_are_as_named};
 pub use planning::plan;
 pub use registers::Regs;
-pub use uses::{address_register, destination, other_registers, stored_register};
+pub use uses::{address_register, destination, is_steering, other_registers, stored_register};

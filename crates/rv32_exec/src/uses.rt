@@ -2,6 +2,7 @@
 //! chapters 14.1, "Syntactic Dependencies", and 14.3). x0 is never one of them, since nothing comes from it.
 ghost use Rattle.std.specs.Prelude.{◌≡◌, ◌++◌};
 ghost use Rattle.std.specs.Option.{option_to_list};
+ghost use Rattle.rv32_exec.specs.Uses as spec;
 ghost use Rattle.rv32_exec.specs.Uses.{named, uses_of};
 
 use rv32_decode::{Instr, Register};
@@ -104,5 +105,27 @@ pub fn other_registers(instr: &Instr) -> (Option<Register>, Option<Register>)
         | Instr::Fence(_)
         | Instr::FenceTso
         | Instr::System(_) => (None, None),
+    }
+}
+
+/// Whether it is a conditional branch or a JALR: what follows depends on the registers that it reads.
+pub fn is_steering(instr: &Instr) -> bool
+    ensures { result ≡ spec.is_steering instr.now }
+{
+    match *instr {
+        Instr::Branch { .. } | Instr::Jalr { .. } => true,
+        Instr::Load { .. }
+        | Instr::Store { .. }
+        | Instr::Lr { .. }
+        | Instr::Sc { .. }
+        | Instr::Amo { .. }
+        | Instr::Upper { .. }
+        | Instr::Jal { .. }
+        | Instr::Immediate { .. }
+        | Instr::Shift { .. }
+        | Instr::Register { .. }
+        | Instr::Fence(_)
+        | Instr::FenceTso
+        | Instr::System(_) => false,
     }
 }

@@ -7,9 +7,8 @@ ghost use Rattle.memory_model.specs.Dependencies as dependencies;
 ghost use Rattle.rvwmo_order.specs.Carried as spec;
 ghost use Rattle.rvwmo_order.specs.Carried.{greatest};
 
-use crate::uses::is_steering;
 use rv32_decode::{Instr, Register};
-use rv32_exec::{address_register, destination, other_registers, stored_register};
+use rv32_exec::{address_register, destination, is_steering, other_registers, stored_register};
 
 #[derive(Clone, Copy)]
 pub(crate) struct Carried {

@@ -14,11 +14,11 @@ ghost use Rattle.trace_operations.specs.Placed.{GivesOwn};
 
 use crate::ranking::Ranking;
 use crate::sources::is_same_source;
-use crate::uses::{instr_at, is_steering};
+use crate::uses::instr_at;
 use crate::verdict::Rule;
 use memory_model::Operation;
 use rv32_decode::{Instr, Register};
-use rv32_exec::{address_register, destination, other_registers, stored_register};
+use rv32_exec::{address_register, destination, is_steering, other_registers, stored_register};
 use std::alloc::{AllocError, Global};
 use trace_operations::accesses::{end_of, precedes, reads, writes};
 use trace_operations::{Item, Items, Stretch};

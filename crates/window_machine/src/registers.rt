@@ -29,8 +29,3 @@ pub(crate) fn registers_of(instr: &Instr) -> Registers {
         written: number(destination(instr)),
     }
 }
-
-/// Whether it is a conditional branch or a JALR.
-pub(crate) fn is_steering(instr: &Instr) -> bool {
-    matches!(instr, Instr::Branch { .. } | Instr::Jalr { .. })
-}

@@ -5,10 +5,10 @@ ghost use Rattle.std.specs.Option.{option_to_list};
 ghost use Rattle.rv32_exec.specs.Uses.{uses_of};
 ghost use Rattle.memory_model.specs.Dependencies as spec;
 
-use crate::uses::{instr_at, is_steering};
+use crate::uses::instr_at;
 use memory_model::Operation;
 use rv32_decode::{Instr, Register};
-use rv32_exec::{address_register, destination, other_registers, stored_register};
+use rv32_exec::{address_register, destination, is_steering, other_registers, stored_register};
 use trace_operations::Items;
 use trace_operations::accesses::precedes;
 
