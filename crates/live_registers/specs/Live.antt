@@ -60,7 +60,7 @@ writes (Amo op rd rs1 rs2 bits) = one rd
 abbrev pub everything : ℕ
 everything = 2 ^ 32 - 1
 
--- what is live at a pc, by the table: everything at an address that is no word's, the first word's below memory, nothing behind it
+-- what is live at a pc, by the table: everything where the pc is no multiple of 4; else what its word has, below memory what the first word has, and behind memory nothing
 abbrev pub live_in : List ℕ → ℕ → ℕ
 live_in table pc = if pc % 4 == 0 then slice_index table ((pc - base) / 4) else everything
 

@@ -1,5 +1,5 @@
 //! Operations and their bytes (chapter 14.1, "Memory Model Primitives").
-ghost use Rattle.std.specs.Prelude.{◌≡◌, ◌≤◌, ◌<◌, ◌+◌, ◌*◌, ◌/◌, ◌%◌, ◌^◌};
+ghost use Rattle.std.specs.Prelude.{◌≡◌, ◌≤◌, ◌<◌, ◌+◌, ◌*◌, ◌/◌, ◌%◌, ◌^◌, min};
 ghost use Rattle.memory_model.specs.Operations as spec;
 ghost use Rattle.memory_model.specs.Verdict as verdict;
 ghost use Rattle.elf_loader.specs.Image as images;
@@ -185,6 +185,7 @@ pub fn behind_in_word(x: u64, end: u64) -> u64
     ensures further { x < result }
     ensures up_to { result ≤ end }
     ensures within { result ≤ x / 4 * 4 + 4 }
+    ensures least { result ≡ min end (x / 4 * 4 + 4) }
 {
     end.min((x / 4 * 4).saturating_add(4))
 }
