@@ -184,11 +184,7 @@ impl Trace {
         requires { 0 < self.old.room.log }
         ensures { self.new ≡ logged (record { direction = Direction.Sent; hart = hart; message = message }) self.old }
     {
-        self.log.push_reserved(Logged {
-            direction: Direction::Sent,
-            hart,
-            message,
-        });
+        self.note(Direction::Sent, hart, message);
     }
 
     /// A message leaves a queue of the hart's. There is room.
@@ -196,8 +192,16 @@ impl Trace {
         requires { 0 < self.old.room.log }
         ensures { self.new ≡ logged (record { direction = Direction.Taken; hart = hart; message = message }) self.old }
     {
+        self.note(Direction::Taken, hart, message);
+    }
+
+    // One more line of the log, for which there is room.
+    fn note(&mut self, direction: Direction, hart: u8, message: Msg)
+        requires { 0 < self.old.room.log }
+        ensures { self.new ≡ logged (record { direction = direction; hart = hart; message = message }) self.old }
+    {
         self.log.push_reserved(Logged {
-            direction: Direction::Taken,
+            direction,
             hart,
             message,
         });
