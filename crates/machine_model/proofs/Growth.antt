@@ -1,5 +1,5 @@
 -- Each act only adds to the trace, and leaves image and configuration.
-use Rattle.std.proofs.Common.{◌≡◌, ◌+◌, ℕ, zero, suc, List, [], ◌∷◌, ◌++◌, Bool, true, false, Option, Some, None, refl, cond, sym, ap, ◌∙◌, slice_index_or, slice_set}
+use Rattle.std.proofs.Common.{◌≡◌, ◌+◌, ℕ, zero, suc, List, [], ◌∷◌, ◌++◌, Option, Some, None, refl, sym, ap, ◌∙◌, slice_index_or, slice_set}
 use Rattle.std.proofs.lemmas.List.{append-nil, append_assoc}
 use Rattle.client_cache.specs.Cache.{probed, evicted}
 use Rattle.client_cache.specs.declared.answers.Evict.{Evict}
@@ -20,13 +20,11 @@ use Rattle.machine_model.specs.declared.act.Act.{Act}
 use Rattle.machine_model.specs.declared.act.Act.TheVariants as act
 use Rattle.machine_model.specs.declared.act.Deed.{Deed}
 use Rattle.machine_model.specs.declared.act.Deed.TheVariants as deed
-use Rattle.machine_model.specs.declared.act.Plan.{Plan}
-use Rattle.machine_model.specs.declared.act.Plan.TheVariants as plan
 use Rattle.machine_types.specs.declared.event.Event.{Event}
 use Rattle.machine_types.specs.declared.outcome.Outcome.{Outcome}
-use Rattle.machine_model.specs.Changing.{acted, does, outcome_of_act, performs_own, next_place, performs, with_halt, with_entries, retired, sent_if_evicted}
+use Rattle.machine_model.specs.Changing.{acted, does, performs_own, next_place, performs, with_halt, with_entries, retired, sent_if_evicted}
 use Rattle.machine_model.specs.Deliveries.{handled, taken, sent_probes, sent_any, sent_if_handled, sent_if_granted, sent_if_answered, with_memory, with_notes, with_less, on_probe_ack}
-use Rattle.machine_model.specs.Events.{Verdict, counted, verdict, verdict_by, state_by, happens, is_good, is_limited, plan_of, hart_of}
+use Rattle.machine_model.specs.Events.{Verdict, counted, verdict, happens, hart_of}
 use Rattle.machine_model.specs.Laws.{Grows, KeepsImageAndConfig}
 use Rattle.machine_model.specs.LawfulLog.{IsBeginningOf}
 use Rattle.machine_model.specs.Views.{State, line_size, place_of, node_at, with_node, with_trace, sent}
@@ -41,6 +39,7 @@ use Rattle.store_buffer.specs.Groups.{oldest}
 use Rattle.tl_types.specs.declared.permission.Cap.{Cap}
 use Rattle.tl_types.specs.declared.permission.Change.{Change}
 use Rattle.trace_recorder.specs.History.{History, entries_of, with_entry}
+use Rattle.machine_model.proofs.Events.{by_event, has_moved}
 
 -- ---- beginnings
 
@@ -230,36 +229,12 @@ happens_then a b c f g = record { grows = grows_then _ _ _ f.grows g.grows; stay
 happens_counted : (s t : State) → Follows s t → Happens s (counted t)
 happens_counted s t f = record { grows = f.grows; stays = record { image = f.stays.image; line = f.stays.line; config = f.stays.config } }
 
-limited_follows : (b : Bool) (s new : State) (o : _) → Happens s new → Happens s (state_by s (cond b Verdict.IsLimited (Verdict.Moves o new)))
-limited_follows true s new o f = happens_not s
-limited_follows false s new o f = f
-
-by_plan : (s : State) (h : ℕ) (p : Plan) → Happens s (state_by s (verdict_by s h p))
-by_plan s h (plan.Stays o) = happens_not s
-by_plan s h (plan.Changes a) = limited_follows (is_limited s h a) s (counted (acted h a s)) (outcome_of_act s h a) (happens_counted s (acted h a s) (acted_follows h a s))
-
-if_good : (b : Bool) (s : State) (v : Verdict) → Happens s (state_by s v) → Happens s (state_by s (cond b v Verdict.IsBad))
-if_good true s v f = f
-if_good false s v f = happens_not s
-
 pub happens_follows : (s : State) (e : Event) → Happens s (happens s e)
-happens_follows s e = if_good (is_good s e) s _ (by_plan s (hart_of e) (plan_of s e))
+happens_follows s e = by_event (Happens s) s e (happens_not s) (λ a m. happens_counted s (acted (hart_of e) a s) (acted_follows (hart_of e) a s))
 
 -- ---- the count of changes
 
-counted_by : (s : State) (h : ℕ) (a : Act) (limited : Bool) (o : Outcome) (new : State)
-    → cond limited Verdict.IsLimited (Verdict.Moves (outcome_of_act s h a) (counted (acted h a s))) ≡ Verdict.Moves o new
-    → new.views.changes ≡ s.views.changes + 1
-counted_by s h a true o new e = absurd (cc e)
-counted_by s h a false o new e = sym (ap (λ (v : Verdict). (state_by s v).views.changes) e) ∙ ap (λ (n : ℕ). n + 1) (acted_follows h a s).changes
-
-counted_plan : (s : State) (h : ℕ) (p : Plan) (o : Outcome) (new : State) → verdict_by s h p ≡ Verdict.Moves o new → new.views.changes ≡ s.views.changes + 1
-counted_plan s h (plan.Stays k) o new e = absurd (cc e)
-counted_plan s h (plan.Changes a) o new e = counted_by s h a (is_limited s h a) o new e
-
-counted_if : (good : Bool) (s : State) (v : Verdict) (o : Outcome) (new : State) → (v ≡ Verdict.Moves o new → new.views.changes ≡ s.views.changes + 1) → cond good v Verdict.IsBad ≡ Verdict.Moves o new → new.views.changes ≡ s.views.changes + 1
-counted_if true s v o new so e = so e
-counted_if false s v o new so e = absurd (cc e)
-
 pub is_counted : (s : State) (e : Event) (o : Outcome) (new : State) → verdict s e ≡ Verdict.Moves o new → new.views.changes ≡ s.views.changes + 1
-is_counted s e o new moves = counted_if (is_good s e) s _ o new (counted_plan s (hart_of e) (plan_of s e) o new) moves
+is_counted s e o new moves =
+    let m = has_moved s e o new moves in
+    ap (λ (t : State). t.views.changes) m.new_is ∙ ap (λ (n : ℕ). n + 1) (acted_follows (hart_of e) m.act s).changes

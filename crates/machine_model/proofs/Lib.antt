@@ -1,3 +1,6 @@
+pub mod CacheCalls
+pub mod Plans
+pub mod Events
 pub mod Growth
 pub mod Nodes
 pub mod runs

@@ -3,7 +3,6 @@
 -- (`Caches`, `Sends`, `Answers`), since its flags are what the log has unanswered (`Flags`). `Parts` puts the lawful log
 -- together; what the manager sends is in the folder `manager`.
 pub mod Acts
-pub mod Always
 pub mod Answers
 pub mod Caches
 pub mod Counts
@@ -15,5 +14,4 @@ pub mod Plans
 pub mod Queues
 pub mod Sends
 pub mod Sums
-pub mod Wanted
 pub mod manager

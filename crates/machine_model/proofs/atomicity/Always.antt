@@ -1,18 +1,14 @@
 -- In every state that a list of events leads to, the completed order keeps the atomicity axiom; with that it is legal, and the headline holds.
-use Rattle.std.proofs.Common.{◌≡◌, ℕ, ◌+◌, ◌<◌, List, [], ◌∷◌, ◌++◌, Bool, true, false, Option, Some, None, refl, cond, sym, ap, ◌∙◌, subst, not, ◌||◌, arith, length}
-use Rattle.std.specs.Prelude.{nat_lt}
+use Rattle.std.proofs.Common.{◌≡◌, ℕ, ◌+◌, ◌<◌, List, [], ◌∷◌, ◌++◌, Bool, true, false, Option, Some, None, refl, sym, ap, ◌∙◌, subst, not, ◌||◌, arith, length}
 use Rattle.std.specs.List.{AllByRecursion as Each, filter, list_all, list_any}
-use Rattle.std.proofs.lemmas.Bool.{false≢true, and_parts, and_from, le-leb, lt-ltb, ltb-true}
+use Rattle.std.proofs.lemmas.Bool.{false≢true, and_from, le-leb, lt-ltb}
 use Rattle.std.proofs.lemmas.List.{get_or-replicate}
 use Rattle.elf_loader.specs.Image.{Initial}
 use Rattle.hart.specs.Run.{at_reset}
-use Rattle.machine_model.specs.declared.act.Plan.{Plan}
-use Rattle.machine_model.specs.declared.act.Plan.TheVariants.{Stays, Changes}
 use Rattle.machine_types.specs.declared.config.Config.{Config}
 use Rattle.machine_types.specs.declared.event.Event.{Event}
-use Rattle.machine_types.specs.declared.outcome.Outcome.{Outcome}
-use Rattle.machine_model.specs.Changing.{acted, outcome_of_act}
-use Rattle.machine_model.specs.Events.{Verdict, verdict_by, state_by, happens, after_events, is_good, is_limited, plan_of, hart_of, counted}
+use Rattle.machine_model.specs.Changing.{acted}
+use Rattle.machine_model.specs.Events.{happens, after_events, hart_of, counted}
 use Rattle.machine_model.specs.HeadlineLaws.{AtomicityAlways}
 use Rattle.machine_model.specs.Laws.{Headline, LegalAlways}
 use Rattle.machine_model.specs.Views.{Node, State, node_at, opening}
@@ -22,7 +18,7 @@ use Rattle.machine_model.proofs.atomicity.Order.{none_left, pair_more}
 use Rattle.machine_model.proofs.atomicity.Steps.{AllAtomic, acted_atomic, atomic_still}
 use Rattle.machine_model.proofs.bytes.Always.{coherent_always, load_values_always}
 use Rattle.machine_model.proofs.order.Buffers.{still}
-use Rattle.machine_model.proofs.order.Events.{IsFitPlan, fresh, happens_kept, opening_kept, opening_stand, order_kept, plan_fit}
+use Rattle.machine_model.proofs.order.Events.{fresh, happens_kept, opening_kept, opening_stand, order_kept, rests_fit}
 use Rattle.machine_model.proofs.order.Moves.{OrderKept}
 use Rattle.machine_model.proofs.order.Returns.{all_range, sees_part, tail_of}
 use Rattle.machine_model.proofs.order.Traces.{done, items_at, items_of-at}
@@ -42,28 +38,20 @@ use Rattle.memory_model.specs.Traces.{completed, instructions, names_in, operati
 use Rattle.memory_model.proofs.Lists.{Each-append, Each-both, Each-weaker, filter_none, list_all-from_Each}
 use Rattle.machine_model.proofs.order.Lists.{Each-always}
 use Rattle.trace_recorder.specs.History.{entries_of}
+use Rattle.machine_model.proofs.Events.{by_event}
 
 -- ---- events
 
-limited_atomic : (b : Bool) (s t : State) (o : Outcome) → AllAtomic s → AllAtomic t → AllAtomic (state_by s (cond b Verdict.IsLimited (Verdict.Moves o t)))
-limited_atomic true s t o a c = a
-limited_atomic false s t o a c = c
-
-planned_atomic : (s : State) (h : ℕ) (p : Plan) → h < s.views.config.harts → AllStand s → IsFitPlan s h p → Fits s → OrderKept s → AllAtomic s → AllAtomic (state_by s (verdict_by s h p))
-planned_atomic s h (Stays o) l st p fit k a = a
-planned_atomic s h (Changes x) l st p fit k a =
-    let next = acted h x s in
-    limited_atomic (is_limited s h x) s (counted next) (outcome_of_act s h x) a (atomic_still next (counted next) (still next (counted next) refl refl refl) (less_still next (counted next) refl refl refl) (acted_atomic h x s l st p fit k a))
-
-good_atomic : (b : Bool) (s : State) (e : Event) → is_good s e ≡ b → AllStand s → Fits s → OrderKept s → AllAtomic s → AllAtomic (state_by s (cond b (verdict_by s (hart_of e) (plan_of s e)) Verdict.IsBad))
-good_atomic true s e g st fit k a =
-    let l = ltb-true (hart_of e) (length s.views.nodes) (and_parts (nat_lt (hart_of e) (length s.views.nodes)) _ g).0 in
-    planned_atomic s (hart_of e) (plan_of s e) (subst (λ x. hart_of e < x) st.nodes l) st (plan_fit s e) fit k a
-good_atomic false s e g st fit k a = a
+happens_atomic : (s : State) (e : Event) → AllStand s → Fits s → OrderKept s → AllAtomic s → AllAtomic (happens s e)
+happens_atomic s e st fit k a =
+    by_event AllAtomic s e a (λ x m.
+    let next = acted (hart_of e) x s in
+    atomic_still next (counted next) (still next (counted next) refl refl refl) (less_still next (counted next) refl refl refl)
+    (acted_atomic (hart_of e) x s (subst (λ n. hart_of e < n) st.nodes m.in_h) st (rests_fit s e x m.rests) fit k a))
 
 events_atomic : (events : List Event) (s : State) → AllStand s → Fits s → OrderKept s → AllAtomic s → AllAtomic (after_events s events)
 events_atomic [] s st fit k a = a
-events_atomic (e ∷ events) s st fit k a = events_atomic events (happens s e) (happens_stand s e st) (happens_fits s e fit) (happens_kept s e st k) (good_atomic (is_good s e) s e refl st fit k a)
+events_atomic (e ∷ events) s st fit k a = events_atomic events (happens s e) (happens_stand s e st) (happens_fits s e fit) (happens_kept s e st k) (happens_atomic s e st fit k a)
 
 -- ---- from reset
 

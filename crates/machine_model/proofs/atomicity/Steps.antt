@@ -30,7 +30,8 @@ use Rattle.machine_model.proofs.atomicity.Order.{harmless}
 use Rattle.machine_model.proofs.order.Acts.{alone_grown, alone_step, image-with_halt, node-with_trace, retired_gave, retired_known, retired_step, retired_trace}
 use Rattle.machine_model.proofs.order.Buffers.{KeepsBuffers, delivered_keeps, given_up_keeps, missed_keeps, stopped_keeps}
 use Rattle.machine_model.proofs.order.Deeds.{FitsDeed}
-use Rattle.machine_model.proofs.order.Events.{HasTrunk, IsFit}
+use Rattle.machine_model.proofs.Plans.{HasTrunk}
+use Rattle.machine_model.proofs.order.Events.{IsFit}
 use Rattle.machine_model.proofs.order.Kept.{IsBelow, IsWaiting, joined, of_word}
 use Rattle.machine_model.proofs.order.Moves.{Changes, OrderKept, done_more, done_same, drained_done, drained_moves, drained_names, drained_out, drained_step, oldest_group, oldest_line, oldest_waiting, younger}
 use Rattle.machine_model.proofs.order.Steps.{HartKept, names_by}

@@ -121,12 +121,12 @@ drained_agrees h word s last l m o aligned =
 -- ---- instructions
 
 -- a deed's word is aligned
-abbrev IsAlignedDeed : Deed → Type 0
+abbrev pub IsAlignedDeed : Deed → Type 0
 IsAlignedDeed (deed.Sc word value) = word % 4 ≡ 0
 IsAlignedDeed (deed.Amo word value) = word % 4 ≡ 0
 IsAlignedDeed _ = Unit {0}
 
-deed_aligned : (model : MemoryModel) (n : Node) (f : Fetched) (e : Retired) (a : Access) (d : Deed) → Facts f.instr a → FitsDeed model n f a e d → IsAlignedDeed d
+pub deed_aligned : (model : MemoryModel) (n : Node) (f : Fetched) (e : Retired) (a : Access) (d : Deed) → Facts f.instr a → FitsDeed model n f a e d → IsAlignedDeed d
 deed_aligned model n f e (DoesSc address value) (deed.Sc word v) x fits = ap (λ w. w % 4) fits.0 ∙ x.1
 deed_aligned model n f e (DoesAmo address op operand) (deed.Amo word v) x fits = ap (λ w. w % 4) fits.0 ∙ x.1
 deed_aligned model n f e a deed.Private x fits = tt

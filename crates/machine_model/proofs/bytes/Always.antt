@@ -1,19 +1,17 @@
 -- In every state that a list of events leads to, each copy of a line has the bytes that were performed last, and so the completed order keeps load values.
-use Rattle.std.proofs.Common.{◌≡◌, ℕ, ◌-◌, ◌%◌, ◌<◌, Bool, true, false, List, [], ◌∷◌, Some, None, refl, ap, sym, ◌∙◌, subst, arith, length, cond}
-use Rattle.std.specs.Prelude.{◌+◌, ◌&&◌, ◌==◌, nat_le, nat_lt}
-use Rattle.std.proofs.lemmas.Bool.{and_parts, eqb-true, ltb-true}
+use Rattle.std.proofs.Common.{◌≡◌, ℕ, ◌-◌, ◌%◌, ◌<◌, Bool, true, false, List, [], ◌∷◌, Some, None, refl, ap, sym, ◌∙◌, subst, arith, length}
+use Rattle.std.specs.Prelude.{◌+◌, ◌&&◌, ◌==◌, nat_le}
+use Rattle.std.proofs.lemmas.Bool.{and_parts, eqb-true}
 use Rattle.client_cache.specs.Cache.{copy_at}
 use Rattle.client_cache.specs.Held.{bytes_in}
 use Rattle.client_cache.specs.declared.held.Held.{Held}
 use Rattle.elf_loader.specs.Image.{Initial, end_of}
 use Rattle.elf_loader.specs.Size.{base}
-use Rattle.machine_model.specs.declared.act.Plan.{Plan}
-use Rattle.machine_model.specs.declared.act.Plan.TheVariants.{Stays, Changes}
 use Rattle.machine_types.specs.declared.config.Config.{Config}
 use Rattle.machine_types.specs.declared.event.Event.{Event}
-use Rattle.machine_model.specs.Changing.{acted, outcome_of_act}
+use Rattle.machine_model.specs.Changing.{acted}
 use Rattle.machine_model.specs.Coherent.{IsCoherent}
-use Rattle.machine_model.specs.Events.{IsBad, IsLimited, Moves, after_events, counted, happens, hart_of, is_limited, is_piece, names_well, plan_of, state_by, verdict_by}
+use Rattle.machine_model.specs.Events.{after_events, counted, happens, hart_of, is_piece}
 use Rattle.machine_model.specs.JointLaws.{LoadValuesAlways}
 use Rattle.machine_model.specs.Laws.{Always, CoherentAlways}
 use Rattle.machine_model.specs.Views.{State, line_size, node_at, opening}
@@ -21,19 +19,20 @@ use Rattle.machine_model.proofs.bytes.Acts.{Agrees, acted_agrees, agrees_still}
 use Rattle.machine_model.proofs.bytes.Lines.{IsOf, image_line}
 use Rattle.machine_model.proofs.coherence.LineStands.{IsLast, Side, newest}
 use Rattle.machine_model.proofs.order.Buffers.{still}
-use Rattle.machine_model.proofs.order.Events.{IsFitPlan, happens_kept, opening_kept, opening_stand, plan_fit}
+use Rattle.machine_model.proofs.order.Events.{happens_kept, opening_kept, opening_stand, rests_fit}
 use Rattle.machine_model.proofs.order.Joint.{CopiesFit, coherent_holds}
 use Rattle.machine_model.proofs.order.Moves.{OrderKept}
 use Rattle.machine_model.proofs.order.Returns as returns
 use Rattle.machine_model.proofs.order.Returns.{HoldAlways}
 use Rattle.machine_model.proofs.runs.Runs.{AllStand, happens_stand}
-use Rattle.machine_model.proofs.coherence.WorldEvents.{IsGoodPlan, counted_fits, good_event}
+use Rattle.machine_model.proofs.coherence.WorldEvents.{act_aligned, act_fits, counted_fits}
 use Rattle.machine_model.proofs.coherence.WorldFits.{IsFit}
 use Rattle.machine_model.proofs.coherence.WorldOpening.{one_writer, opening_is_fit, opening_last}
 use Rattle.machine_model.proofs.coherence.WorldSteps.{last_after}
 use Rattle.memory_model.specs.Traces.{last_performed}
 use Rattle.tl_types.specs.Line.{length_of}
 use Rattle.tl_types.specs.declared.line.LineData.{LineData}
+use Rattle.machine_model.proofs.Events.{by_event}
 
 -- the lines' last writes fit the state, and have the bytes that were performed last
 pub record Joins (s : State) (last : ℕ → LineData) : Type 0 where
@@ -46,34 +45,12 @@ Joint s = (last : ℕ → LineData) × Joins s last
 -- ---- events
 
 happens_joint : (s : State) (e : Event) → AllStand s → OrderKept s → Joint s → Joint (happens s e)
-happens_joint s e st k j = go (nat_lt (hart_of e) (length s.views.nodes)) refl (names_well s e) refl
-  where
-    moves : (p : Plan) → hart_of e < length s.views.nodes → IsGoodPlan s j.0 (hart_of e) p → IsFitPlan s (hart_of e) p → Joint (state_by s (verdict_by s (hart_of e) p))
-    moves (Stays o) l good fit = j
-    moves (Changes a) l good fit = limited (is_limited s (hart_of e) a)
-      where
-        later : ℕ → LineData
-        later = last_after s (hart_of e) a j.0
-
-        next : State
-        next = acted (hart_of e) a s
-
-        limited : (b : Bool) → Joint (state_by s (cond b IsLimited (Moves (outcome_of_act s (hart_of e) a) (counted next))))
-        limited true = j
-        limited false = (
-          later,
-          record {
-            fit = counted_fits next later good.0;
-            agrees = agrees_still next (counted next) later (still next (counted next) refl refl refl) (acted_agrees (hart_of e) a s j.0 (subst (λ n. hart_of e < n) st.nodes l) st fit good.1 k j.1.agrees);
-          },
-        )
-
-    go : (b : Bool) → nat_lt (hart_of e) (length s.views.nodes) ≡ b → (w : Bool) → names_well s e ≡ w → Joint (state_by s (cond (b && w) (verdict_by s (hart_of e) (plan_of s e)) IsBad))
-    go false f w g = j
-    go true f false g = j
-    go true f true g =
-        let inside = ltb-true (hart_of e) (length s.views.nodes) f in
-        moves (plan_of s e) inside (good_event s j.0 j.1.fit e inside g) (plan_fit s e)
+happens_joint s e st k j =
+    by_event Joint s e j (λ a m.
+    let next = acted (hart_of e) a s in
+    let later = last_after s (hart_of e) a j.0 in
+    let agrees = acted_agrees (hart_of e) a s j.0 (subst (λ n. hart_of e < n) st.nodes m.in_h) st (rests_fit s e a m.rests) (act_aligned s e a m) k j.1.agrees in
+    (later, record { fit = counted_fits next later (act_fits s j.0 j.1.fit e a m); agrees = agrees_still next (counted next) later (still next (counted next) refl refl refl) agrees }))
 
 events_joint : (events : List Event) (s : State) → AllStand s → OrderKept s → Joint s → Joint (after_events s events)
 events_joint [] s st k j = j

@@ -1,22 +1,21 @@
 -- Each answer is sent while its question is unanswered.
-use Rattle.std.proofs.Common.{ℕ, ◌<◌, true, List, [], ◌∷◌, ◌++◌, ◌≡◌, Option, Some, None, refl, sym, subst, length}
+use Rattle.std.proofs.Common.{ℕ, true, List, [], ◌∷◌, ◌++◌, ◌≡◌, Option, Some, None, refl, sym, subst}
 use Rattle.std.specs.Prelude.{IsTrue}
 use Rattle.std.proofs.lemmas.Bool.{lt-ltb}
 use native.Mathlib.Omega.{arith}
 use Rattle.elf_loader.specs.Image.{Initial}
 use Rattle.machine_model.specs.Changing.{acted}
 use Rattle.machine_model.specs.Deliveries.{probe_ack_body, taken}
-use Rattle.machine_model.specs.Events.{hart_of, plan_of}
+use Rattle.machine_model.specs.Events.{hart_of}
 use Rattle.machine_model.specs.LawfulLog.{is_grant, is_grant_ack, is_probe, is_probe_ack, is_release, is_release_ack}
 use Rattle.machine_model.proofs.log.Parts.{AnswersDueAlways, is_due}
 use Rattle.machine_model.specs.Views.{State, opening, sent}
 use Rattle.machine_model.specs.declared.act.Act.{Act}
 use Rattle.machine_model.specs.declared.act.Act.TheVariants as act
-use Rattle.machine_model.specs.declared.act.Plan.TheVariants.{Changes}
 use Rattle.machine_types.specs.declared.config.Config.{Config}
 use Rattle.machine_types.specs.declared.event.Event.{Event}
 use Rattle.machine_model.proofs.log.Acts.{Delivers, IsAsking, acted_keeps, handled_keeps}
-use Rattle.machine_model.proofs.log.Always.{Anything, events_keep}
+use Rattle.machine_model.proofs.Events.{Anything, IsMove, events_keep}
 use Rattle.machine_model.proofs.log.Counts.{EachSent, NoneTooMany, Owes, no_last, none_in, none_out, one_sent, one_taken, owes_out}
 use Rattle.machine_model.proofs.log.Lists.{comes_out, goes_in}
 use Rattle.machine_model.proofs.log.Queues.{Quiet}
@@ -114,8 +113,8 @@ delivers s h (act.Drain word) i = tt
 delivers s h (act.Evict line) i = tt
 delivers s h (act.Local count) i = tt
 
-acts : (s : State) (e : Event) (a : Act) → plan_of s e ≡ Changes a → hart_of e < length s.views.nodes → Answered s → Answered (acted (hart_of e) a s)
-acts s e a is in_h i = acted_keeps Answered quiet_answered asks (hart_of e) a s (delivers s (hart_of e) a i) i
+acts : (s : State) (e : Event) (a : Act) → IsMove s e a → Anything s → Answered s → Answered (acted (hart_of e) a s)
+acts s e a k g i = acted_keeps Answered quiet_answered asks (hart_of e) a s (delivers s (hart_of e) a i) i
 
 opening_answered : (image : Initial) (config : Config) → Answered (opening image config)
 opening_answered image config = record {
@@ -126,4 +125,4 @@ opening_answered image config = record {
 }
 
 pub answers_due_always : AnswersDueAlways
-answers_due_always image config events is within = (events_keep Anything Answered (λ s e g. tt) (λ s i. i) (λ s e a is in_h g i. acts s e a is in_h i) events (opening image config) tt (opening_answered image config)).each
+answers_due_always image config events is within = (events_keep Anything Answered (λ s e g. tt) (λ s e a k g i. acts s e a k g i) events (opening image config) tt (opening_answered image config)).each

@@ -3,46 +3,46 @@ use Rattle.std.proofs.Common.{ℕ, ◌<◌, [], ◌≡◌, refl, ap, sym, ◌∙
 use native.Mathlib.Omega.{arith}
 use Rattle.std.proofs.lemmas.List.FromFn.{get_or-map-range_with_len, length-map-range_with_len}
 use Rattle.elf_loader.specs.Image.{Initial}
-use Rattle.machine_model.specs.Changing.{acted}
 use Rattle.machine_model.specs.Deliveries.{taken}
-use Rattle.machine_model.specs.Events.{counted, happens, hart_of, plan_of}
+use Rattle.machine_model.specs.Events.{counted, happens, hart_of}
 use Rattle.machine_model.specs.Laws.{Always}
 use Rattle.machine_model.proofs.log.Parts.{LogInOrderAlways}
-use Rattle.machine_model.specs.Views.{Node, State, node_at, opening, opening_node}
+use Rattle.machine_model.specs.Views.{Node, State, opening, opening_node}
 use Rattle.machine_model.specs.declared.act.Act.{Act}
 use Rattle.machine_model.specs.declared.act.Act.TheVariants as act
-use Rattle.machine_model.specs.declared.act.Plan.TheVariants.{Changes}
 use Rattle.machine_types.specs.declared.config.Config.{Config}
 use Rattle.machine_types.specs.declared.event.Event.{Event}
 use Rattle.machine_model.proofs.log.Acts.{Delivers, acted_keeps, handled_keeps, same_nodes}
-use Rattle.machine_model.proofs.log.Always.{Anything, events_keep, happens_keeps}
+use Rattle.machine_model.proofs.Events.{Anything, IsMove, after_act, events_keep, happens_keeps}
 use Rattle.machine_model.proofs.log.Lists.{no_first}
-use Rattle.machine_model.proofs.log.Plans.{IsFrontPlan, plan_front_of}
+use Rattle.machine_model.proofs.log.Plans.{front_of_move}
 use Rattle.machine_model.proofs.log.Queues.{IsInOrder, IsQueueOrder, quiet_order, sent_order, taken_order}
 use Rattle.tilelink_channels.specs.Queues.{queue_of}
 use Rattle.tl_types.specs.declared.message.Channel.{Channel}
 use Rattle.tl_types.specs.declared.message.Channel.TheVariants.{A, B, C, D, E}
 
-delivers : (s : State) (h : ℕ) (a : Act) → IsInOrder s → h < length s.views.nodes → IsFrontPlan (node_at s h) (Changes a) → Delivers IsInOrder s h a
-delivers s h (act.Deliver m) i in_h front =
+delivers : (s : State) (e : Event) (a : Act) → IsInOrder s → IsMove s e a → Delivers IsInOrder s (hart_of e) a
+delivers s e (act.Deliver m) i k =
+    let h = hart_of e in
+    let front = front_of_move s i e m k in
     handled_keeps IsInOrder quiet_order (λ h m s is i. sent_order h m s i) (λ h m s. IsInOrder s) (λ h m s t. quiet_order s t) (λ h m s i. i)
     (λ h line cap change bytes s i. sent_order h _ s i) (λ h line body s is i. sent_order h _ s i) (λ h line body s is i. sent_order h _ s i)
-    h m.line m.body (taken h m s) (taken_order h m s i front.0 in_h front.1)
-delivers s h (act.Stop code) i in_h front = tt
-delivers s h (act.Retire entry instr d) i in_h front = tt
-delivers s h (act.Miss line grow) i in_h front = tt
-delivers s h (act.Drain word) i in_h front = tt
-delivers s h (act.Evict line) i in_h front = tt
-delivers s h (act.Local count) i in_h front = tt
-
-acts : (s : State) (e : Event) (a : Act) → plan_of s e ≡ Changes a → hart_of e < length s.views.nodes → IsInOrder s → IsInOrder (acted (hart_of e) a s)
-acts s e a is in_h i = acted_keeps IsInOrder quiet_order (λ h m s is i. sent_order h m s i) (hart_of e) a s (delivers s (hart_of e) a i in_h (subst (IsFrontPlan (node_at s (hart_of e))) is (plan_front_of s i e in_h))) i
+    h m.line m.body (taken h m s) (taken_order h m s i front.0 k.in_h front.1)
+delivers s e (act.Stop code) i k = tt
+delivers s e (act.Retire entry instr d) i k = tt
+delivers s e (act.Miss line grow) i k = tt
+delivers s e (act.Drain word) i k = tt
+delivers s e (act.Evict line) i k = tt
+delivers s e (act.Local count) i k = tt
 
 counted_order : (s : State) → IsInOrder s → IsInOrder (counted s)
 counted_order s i = quiet_order s (counted s) (same_nodes s (counted s) refl refl).quiet i
 
+acts : (s : State) (e : Event) (a : Act) → IsMove s e a → Anything s → IsInOrder s → IsInOrder (after_act s e a)
+acts s e a k g i = counted_order _ (acted_keeps IsInOrder quiet_order (λ h m s is i. sent_order h m s i) (hart_of e) a s (delivers s e a i k) i)
+
 pub happens_order : (s : State) (e : Event) → IsInOrder s → IsInOrder (happens s e)
-happens_order s e i = happens_keeps Anything IsInOrder (λ s e g. tt) counted_order (λ s e a is in_h g i. acts s e a is in_h i) s e tt i
+happens_order s e i = happens_keeps Anything IsInOrder (λ s e g. tt) acts s e tt i
 
 -- nothing waits at reset
 pub opening_order : (image : Initial) (config : Config) → IsInOrder (opening image config)
@@ -64,7 +64,7 @@ opening_order image config = record {
         ap (λ (n : Node). queue_of n.queues c) (get_or-map-range_with_len (opening_node image config) 0 config.harts k k d within (omega arith)) ∙ nothing image config k c
 
 pub in_order_always : Always (λ image config s. IsInOrder s)
-in_order_always image config events is within = events_keep Anything IsInOrder (λ s e g. tt) counted_order (λ s e a is in_h g i. acts s e a is in_h i) events (opening image config) tt (opening_order image config)
+in_order_always image config events is within = events_keep Anything IsInOrder (λ s e g. tt) acts events (opening image config) tt (opening_order image config)
 
 pub log_in_order_always : LogInOrderAlways
 log_in_order_always image config events is within c h before rest e = (in_order_always image config events is within).moments before rest e c h

@@ -15,26 +15,24 @@ use Rattle.directory.specs.Lines.{known_at}
 use Rattle.elf_loader.specs.Image.{Initial}
 use Rattle.machine_model.specs.Changing.{acted}
 use Rattle.machine_model.specs.Deliveries.{handled, on_release, taken, with_memory, with_notes}
-use Rattle.machine_model.specs.Events.{counted, happens, hart_of, plan_of}
+use Rattle.machine_model.specs.Events.{counted, happens, hart_of}
 use Rattle.machine_model.specs.LawfulLog.{may_send}
 use Rattle.machine_model.proofs.log.Parts.{OthersLawfulAlways, is_due, is_probe_or_grant}
 use Rattle.machine_model.specs.Views.{Node, State, line_size, node_at, opening, opening_node, place_of}
 use Rattle.machine_model.specs.declared.act.Act.{Act}
 use Rattle.machine_model.specs.declared.act.Act.TheVariants as act
-use Rattle.machine_model.specs.declared.act.Plan.TheVariants.{Changes}
 use Rattle.machine_types.specs.declared.config.Config.{Config}
 use Rattle.machine_types.specs.declared.event.Event.{Event}
 use Rattle.machine_model.proofs.coherence.LineStands.{Side, Part, Stands, Leaves, Left, LeavesProbed, LeftProbed, LeavesAnswered, Receives, Upgrades, LeavesGranted, LeftGranted}
 use Rattle.machine_model.proofs.coherence.LineViews.{evicted_says, front_here, of_line}
 use Rattle.machine_model.proofs.log.Acts.{acknowledged, acquired_keeps, alone_still, noted_still, same_nodes}
-use Rattle.machine_model.proofs.log.Always.{events_keep, happens_keeps}
+use Rattle.machine_model.proofs.Events.{IsMove, after_act, events_keep, happens_keeps}
 use Rattle.machine_model.proofs.log.Answers.{answers_due_always}
 use Rattle.machine_model.proofs.log.Caches.{IsFlagged, given_up_flagged, granted_flagged, is_free, managed, missed_flagged, plus_none, plain_sent, plain_taken, probed_flagged, rested_flagged, still_flagged}
 use Rattle.machine_model.proofs.log.Counts.{bit, no_last}
 use Rattle.machine_model.proofs.log.Events.{happens_order, opening_order}
-use Rattle.machine_model.proofs.log.Plans.{IsFrontPlan, plan_front_of}
+use Rattle.machine_model.proofs.log.Plans.{front_of_move}
 use Rattle.machine_model.proofs.log.Queues.{IsInOrder}
-use Rattle.machine_model.proofs.log.Wanted.{IsWanted, plan_wanted}
 use Rattle.machine_model.proofs.coherence.WorldEvents.{happens_fits}
 use Rattle.machine_model.proofs.coherence.WorldFits.{kit_at, kit_of}
 use Rattle.machine_model.proofs.coherence.WorldKept.{front_line, is_line, side}
@@ -135,23 +133,24 @@ Known s = Fits s × IsInOrder s
 pub known : (s : State) (e : Event) → Known s → Known (happens s e)
 known s e g = (happens_fits s e g.0, happens_order s e g.1)
 
-flagged : (s : State) (h : ℕ) (a : Act) → h < length s.views.nodes → Fits s → IsWanted s h (Changes a) → IsFrontPlan (node_at s h) (Changes a) → IsFlagged s → IsFlagged (acted h a s)
-flagged s h (act.Miss line grow) in_h fit is front i = missed_flagged s h in_h i line grow is.0
-flagged s h (act.Evict line) in_h fit is front i = given_up_flagged s h in_h i line is.0 is.1 is.2 (copy_rests s fit h line (evicted_says (node_at s h).cache line is.0 is.1 is.2).held)
-flagged s h (act.Deliver m) in_h fit is front i = delivered_flagged s fit h in_h i m.line m.body front.0 front.1
-flagged s h (act.Stop code) in_h fit is front i = still_flagged s _ (alone_still h (act.Stop code) s tt) i
-flagged s h (act.Retire entry instr d) in_h fit is front i = still_flagged s _ (alone_still h (act.Retire entry instr d) s tt) i
-flagged s h (act.Drain word) in_h fit is front i = still_flagged s _ (alone_still h (act.Drain word) s tt) i
-flagged s h (act.Local count) in_h fit is front i = still_flagged s _ (alone_still h (act.Local count) s tt) i
+flagged : (s : State) (e : Event) (a : Act) → IsMove s e a → Known s → IsFlagged s → IsFlagged (acted (hart_of e) a s)
+flagged s e (act.Miss line grow) k g i = missed_flagged s (hart_of e) k.in_h i line grow k.rests.2.answer
+flagged s e (act.Evict line) k g i =
+    let is = k.rests.1 in
+    given_up_flagged s (hart_of e) k.in_h i line is.0 is.1 is.2 (copy_rests s g.0 (hart_of e) line (evicted_says (node_at s (hart_of e)).cache line is.0 is.1 is.2).held)
+flagged s e (act.Deliver m) k g i =
+    let front = front_of_move s g.1 e m k in
+    delivered_flagged s g.0 (hart_of e) k.in_h i m.line m.body front.0 front.1
+flagged s e (act.Stop code) k g i = still_flagged s _ (alone_still (hart_of e) (act.Stop code) s tt) i
+flagged s e (act.Retire entry instr d) k g i = still_flagged s _ (alone_still (hart_of e) (act.Retire entry instr d) s tt) i
+flagged s e (act.Drain word) k g i = still_flagged s _ (alone_still (hart_of e) (act.Drain word) s tt) i
+flagged s e (act.Local count) k g i = still_flagged s _ (alone_still (hart_of e) (act.Local count) s tt) i
 
-acts : (s : State) (e : Event) (a : Act) → plan_of s e ≡ Changes a → hart_of e < length s.views.nodes → Known s → IsFlagged s → IsFlagged (acted (hart_of e) a s)
-acts s e a is in_h g i = flagged s (hart_of e) a in_h g.0 (subst (IsWanted s (hart_of e)) is (plan_wanted s e)) (subst (IsFrontPlan (node_at s (hart_of e))) is (plan_front_of s g.1 e in_h)) i
-
-counted_flagged : (s : State) → IsFlagged s → IsFlagged (counted s)
-counted_flagged s i = still_flagged s (counted s) (same_nodes s (counted s) refl refl) i
+acts : (s : State) (e : Event) (a : Act) → IsMove s e a → Known s → IsFlagged s → IsFlagged (after_act s e a)
+acts s e a k g i = let next = acted (hart_of e) a s in still_flagged next (counted next) (same_nodes next (counted next) refl refl) (flagged s e a k g i)
 
 pub happens_flagged : (s : State) (e : Event) → Known s → IsFlagged s → IsFlagged (happens s e)
-happens_flagged s e g i = happens_keeps Known IsFlagged known counted_flagged acts s e g i
+happens_flagged s e g i = happens_keeps Known IsFlagged known acts s e g i
 
 -- nothing is outstanding at reset
 pub opening_flagged : (image : Initial) (config : Config) → IsFlagged (opening image config)
@@ -181,4 +180,4 @@ may _ h l log due free is = cc is
 pub others_lawful_always : OthersLawfulAlways
 others_lawful_always image config events is within h m before rest e other =
     may m.body h m.line before (answers_due_always image config events is within h m before rest e)
-    ((events_keep Known IsFlagged known counted_flagged acts events (opening image config) (opening_fits image config is.legal_size.whole_pages, opening_order image config) (opening_flagged image config)).each h m before rest e) other
+    ((events_keep Known IsFlagged known acts events (opening image config) (opening_fits image config is.legal_size.whole_pages, opening_order image config) (opening_flagged image config)).each h m before rest e) other

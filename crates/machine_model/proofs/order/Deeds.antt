@@ -1,22 +1,15 @@
 -- What a step that retires has found: what its access reads, and what its deed may pass.
-use Rattle.std.proofs.Common.{◌≡◌, ℕ, ◌+◌, ◌%◌, ◌≤◌, List, [], Bool, true, false, Option, Some, None, refl, cond, not, ◌&&◌, ◌⊎◌, inl, inr, arith}
+use Rattle.std.proofs.Common.{◌≡◌, ℕ, ◌+◌, ◌%◌, ◌≤◌, List, [], Bool, true, false, Some, None, refl, cond, not, ◌&&◌, ◌⊎◌, arith}
 use Rattle.std.specs.Prelude.{nat_eq}
-use Rattle.std.proofs.lemmas.Bool.{true≢false, eqb-true}
-use Rattle.client_cache.specs.Cache.{Cache, copy_at, wanted}
+use Rattle.std.proofs.lemmas.Bool.{eqb-true}
+use Rattle.client_cache.specs.Cache.{copy_at}
 use Rattle.client_cache.specs.Held.{bytes_in}
-use Rattle.client_cache.specs.declared.answers.Want.{Want}
-use Rattle.client_cache.specs.declared.answers.Want.TheVariants as want
 use Rattle.client_cache.specs.declared.held.Held.{Held}
 use Rattle.client_cache.specs.declared.held.Held.TheVariants.{Branch, Trunk}
 use Rattle.hart.specs.declared.retired.Retired.{Retired}
-use Rattle.machine_model.specs.declared.act.Act.TheVariants as act
 use Rattle.machine_model.specs.declared.act.Deed.{Deed}
 use Rattle.machine_model.specs.declared.act.Deed.TheVariants as deed
-use Rattle.machine_model.specs.declared.act.Plan.{Plan}
-use Rattle.machine_model.specs.declared.act.Plan.TheVariants.{Stays, Changes}
-use Rattle.machine_types.specs.declared.outcome.Outcome.TheVariants as outcome
-use Rattle.machine_model.specs.Deciding.{miss_by, reading, reading_by, writing, writing_by}
-use Rattle.machine_model.specs.Steps.{Fetched, retires, plan_load, plan_store, plan_lr, plan_sc, plan_amo, plan_fence, plan_call, plan_access, waits_for_stores, write_waits, update}
+use Rattle.machine_model.specs.Steps.{Fetched, waits_for_stores, write_waits}
 use Rattle.machine_model.specs.Views.{Node, line_of}
 use Rattle.machine_model.specs.Words.{word_of, word_in, read_from, store_of}
 use Rattle.machine_types.specs.declared.model.MemoryModel.{MemoryModel}
@@ -26,7 +19,6 @@ use Rattle.memory_model.specs.Items.{annotations_of}
 use Rattle.memory_model.specs.Rules.{fences}
 use Rattle.reservations.specs.Reservation.{is_valid}
 use Rattle.rv32_decode.specs.Amo.{combined}
-use Rattle.rv32_decode.specs.declared.instruction.AmoOp.{AmoOp}
 use Rattle.rv32_decode.specs.declared.instruction.Instr.{Instr}
 use Rattle.rv32_decode.specs.declared.instruction.Instr.TheVariants as instr
 use Rattle.rv32_decode.specs.declared.instruction.LoadOp.{LoadOp}
@@ -38,9 +30,8 @@ use Rattle.rv32_exec.specs.Arithmetic.{bytes_loaded, bytes_stored}
 use Rattle.rv32_exec.specs.Meaning.{Access, Private, Loads, Stores, DoesLr, DoesSc, DoesAmo, Fences, Calls, access_of, stop_of, access_stop, is_outside}
 use Rattle.rv32_exec.specs.Uses.{uses_of}
 use Rattle.store_buffer.specs.ByteMask.{covers, laid_over, marks_of_access}
-use Rattle.store_buffer.specs.Groups.{fits, forwarded, is_empty}
+use Rattle.store_buffer.specs.Groups.{forwarded, is_empty}
 use Rattle.tl_types.specs.declared.line.LineData.{LineData}
-use Rattle.tl_types.specs.declared.permission.Grow.TheVariants.{NtoB, NtoT, BtoT}
 
 -- ---- what a deed has found
 
@@ -68,98 +59,6 @@ FitsDeed model n f (DoesAmo address op operand) e (deed.Amo word v) = (word ≡ 
 FitsDeed model n f Fences e deed.Private = ((fences (Some f.instr) kind.Store kind.Load && not (is_empty n.buffer)) ≡ false) × (fences (Some f.instr) kind.Store kind.Store ≡ false)
 FitsDeed model n f Fences e deed.Seal = (fences (Some f.instr) kind.Store kind.Load && not (is_empty n.buffer)) ≡ false
 FitsDeed model n f _ e _ = ⊥
-
--- the same of a plan
-abbrev pub FitsPlan : MemoryModel → Node → Fetched → Access → Plan → Type 0
-FitsPlan model n f a (Stays o) = Unit {0}
-FitsPlan model n f a (Changes (act.Retire e i d)) = (i ≡ f.instr) × FitsDeed model n f a e d
-FitsPlan model n f a (Changes (act.Miss line grow)) = Unit {0}
-FitsPlan model n f a (Changes _) = ⊥
-
--- ---- by cases
-
-by_test : (P : Plan → Type 0) (b : Bool) (p q : Plan) → (b ≡ true → P p) → (b ≡ false → P q) → P (cond b p q)
-by_test P true p q x y = x refl
-by_test P false p q x y = y refl
-
-miss_fits : (model : MemoryModel) (n : Node) (f : Fetched) (a : Access) (line : ℕ) (w : Want) → FitsPlan model n f a (miss_by line w)
-miss_fits model n f a line want.WaitRelease = tt
-miss_fits model n f a line want.WaitGrant = tt
-miss_fits model n f a line want.NoTracker = tt
-miss_fits model n f a line want.SetFull = tt
-miss_fits model n f a line (want.Missed grow) = tt
-
-reading_fits : (model : MemoryModel) (n : Node) (f : Fetched) (a : Access) (go : LineData → Plan) (c : Cache) (line : ℕ) (copy : Option Held) → ((held : Held) → copy ≡ Some held → FitsPlan model n f a (go (bytes_in held))) → FitsPlan model n f a (reading_by copy go c line)
-reading_fits model n f a go c line None g = miss_fits model n f a line (wanted c line NtoB).0
-reading_fits model n f a go c line (Some held) g = g held refl
-
-writing_fits : (model : MemoryModel) (n : Node) (f : Fetched) (a : Access) (go : LineData → Plan) (c : Cache) (line : ℕ) (copy : Option Held) → ((dirty : Bool) (bytes : LineData) → copy ≡ Some (Trunk dirty bytes) → FitsPlan model n f a (go bytes)) → FitsPlan model n f a (writing_by copy go c line)
-writing_fits model n f a go c line None g = miss_fits model n f a line (wanted c line NtoT).0
-writing_fits model n f a go c line (Some (Branch bytes)) g = miss_fits model n f a line (wanted c line BtoT).0
-writing_fits model n f a go c line (Some (Trunk dirty bytes)) g = g dirty bytes refl
-
-load_fits : (model : MemoryModel) (n : Node) (f : Fetched) (address bytes : ℕ) → FitsPlan model n f (Loads address bytes) (plan_load n f address bytes)
-load_fits model n f address bytes =
-    let waiting = forwarded (word_of address) n.buffer in
-    let line = line_of n.cache.shape.size address in
-    let go : LineData → Plan = λ held. retires n f (Some (read_from (laid_over waiting.0 waiting.1 (word_in held (word_of address))) address bytes)) None deed.Load in
-    by_test (FitsPlan model n f (Loads address bytes)) (covers waiting.0 (marks_of_access (address % 4) bytes)) (retires n f (Some (read_from waiting.1 address bytes)) None deed.Load) (reading go n.cache line)
-    (λ e. (refl, (refl, inl (e, refl))))
-    (λ e. reading_fits model n f (Loads address bytes) go n.cache line (copy_at n.cache line) (λ held g. (refl, (refl, inr (held, g, refl)))))
-
-store_fits : (model : MemoryModel) (n : Node) (f : Fetched) (address bytes value : ℕ) → FitsPlan model n f (Stores address bytes value) (plan_store n f address bytes value)
-store_fits model n f address bytes value =
-    by_test (FitsPlan model n f (Stores address bytes value)) (fits (word_of address) n.buffer) (retires n f None None (deed.Store (store_of address bytes value f.place))) (Stays outcome.BufferFull) (λ e. (refl, refl)) (λ e. tt)
-
-lr_fits : (model : MemoryModel) (n : Node) (f : Fetched) (address : ℕ) → FitsPlan model n f (DoesLr address) (plan_lr n f address)
-lr_fits model n f address =
-    let line = line_of n.cache.shape.size address in
-    let go : LineData → Plan = λ held. retires n f (Some (read_from (word_in held address) address 4)) None (deed.Lr address) in
-    by_test (FitsPlan model n f (DoesLr address)) (waits_for_stores n.buffer f.instr address) (Stays outcome.MustDrain) (writing go n.cache line) (λ e. tt)
-    (λ e. writing_fits model n f (DoesLr address) go n.cache line (copy_at n.cache line) (λ dirty held g. (refl, (refl, e, refl, read_from (word_in held address) address 4, refl, (dirty, held, g, refl)))))
-
-sc_fits : (model : MemoryModel) (n : Node) (f : Fetched) (address value : ℕ) → FitsPlan model n f (DoesSc address value) (plan_sc model n f address value)
-sc_fits model n f address value =
-    let writes = retires n f None (Some true) (deed.Sc address value) in
-    by_test (FitsPlan model n f (DoesSc address value)) (not (is_valid address n.reserved)) (retires n f None (Some false) deed.Fail) (cond (write_waits model n.buffer f.instr address) (Stays outcome.MustDrain) writes) (λ e. (refl, refl))
-    (λ v. by_test (FitsPlan model n f (DoesSc address value)) (write_waits model n.buffer f.instr address) (Stays outcome.MustDrain) writes (λ e. tt) (λ e. (refl, (refl, refl, refl, valid (is_valid address n.reserved) v, e))))
-  where
-    valid : (b : Bool) → not b ≡ false → b ≡ true
-    valid true e = refl
-    valid false e = absurd (true≢false e)
-
-amo_fits : (model : MemoryModel) (n : Node) (f : Fetched) (address : ℕ) (op : AmoOp) (operand : ℕ) → FitsPlan model n f (DoesAmo address op operand) (plan_amo model n f address op operand)
-amo_fits model n f address op operand =
-    let line = line_of n.cache.shape.size address in
-    let go : LineData → Plan = λ held. update n f address op operand (read_from (word_in held address) address 4) in
-    by_test (FitsPlan model n f (DoesAmo address op operand)) (write_waits model n.buffer f.instr address) (Stays outcome.MustDrain) (writing go n.cache line) (λ e. tt)
-    (λ e. writing_fits model n f (DoesAmo address op operand) go n.cache line (copy_at n.cache line) (λ dirty held g. (refl, (refl, e, refl, read_from (word_in held address) address 4, refl, refl, (dirty, held, g, refl)))))
-
-fence_fits : (model : MemoryModel) (n : Node) (f : Fetched) → FitsPlan model n f Fences (plan_fence n f)
-fence_fits model n f =
-    by_test (FitsPlan model n f Fences) (fences (Some f.instr) kind.Store kind.Load && not (is_empty n.buffer)) (Stays outcome.MustDrain) (retires n f None None (cond (fences (Some f.instr) kind.Store kind.Store) deed.Seal deed.Private)) (λ e. tt)
-    (λ e. go e (fences (Some f.instr) kind.Store kind.Store) refl)
-  where
-    go : (fences (Some f.instr) kind.Store kind.Load && not (is_empty n.buffer)) ≡ false → (b : Bool) → fences (Some f.instr) kind.Store kind.Store ≡ b → FitsPlan model n f Fences (retires n f None None (cond b deed.Seal deed.Private))
-    go e true g = (refl, e)
-    go e false g = (refl, (e, g))
-
-call_fits : (model : MemoryModel) (n : Node) (f : Fetched) (number argument : ℕ) → FitsPlan model n f (Calls number argument) (plan_call n f number argument)
-call_fits model n f number argument = go (nat_eq number 0)
-  where
-    go : (b : Bool) → FitsPlan model n f (Calls number argument) (retires n f None None (cond b deed.Private (deed.Output argument)))
-    go true = (refl, tt)
-    go false = (refl, tt)
-
-pub access_fits : (model : MemoryModel) (n : Node) (f : Fetched) (a : Access) → FitsPlan model n f a (plan_access model n f a)
-access_fits model n f Private = (refl, tt)
-access_fits model n f (Loads address bytes) = load_fits model n f address bytes
-access_fits model n f (Stores address bytes value) = store_fits model n f address bytes value
-access_fits model n f (DoesLr address) = lr_fits model n f address
-access_fits model n f (DoesSc address value) = sc_fits model n f address value
-access_fits model n f (DoesAmo address op operand) = amo_fits model n f address op operand
-access_fits model n f Fences = fence_fits model n f
-access_fits model n f (Calls number argument) = call_fits model n f number argument
 
 -- ---- what an instruction that doesn't stop says of its access
 

@@ -1,23 +1,20 @@
 -- Where in every state each copy holds what was performed, each load returned its sources' bytes in the completed order.
-use Rattle.std.proofs.Common.{◌≡◌, ◌≢◌, ℕ, zero, suc, ◌+◌, ◌<◌, ◌≤◌, List, [], ◌∷◌, ◌++◌, Bool, true, false, refl, cond, sym, ap, ◌∙◌, subst, not, ◌||◌, append-nil, arith, length, slice_index_or}
-use Rattle.std.specs.Prelude.{nat_eq, nat_lt, IsTrue}
+use Rattle.std.proofs.Common.{◌≡◌, ◌≢◌, ℕ, zero, suc, ◌+◌, ◌<◌, ◌≤◌, List, [], ◌∷◌, ◌++◌, Bool, true, false, refl, sym, ap, ◌∙◌, subst, not, ◌||◌, append-nil, arith, length, slice_index_or}
+use Rattle.std.specs.Prelude.{nat_eq, IsTrue}
 use Rattle.std.specs.List.{AllByRecursion as Each, filter, list_all, range_with_len}
-use Rattle.std.proofs.lemmas.Bool.{and_parts, and_from, and_right, eq-eqb, ltb-true, le-leb, lt-ltb}
+use Rattle.std.proofs.lemmas.Bool.{and_from, and_right, eq-eqb, le-leb, lt-ltb}
 use Rattle.std.proofs.lemmas.List.Elements.{filter-append, filter_map-append}
 use Rattle.elf_loader.specs.Image.{Initial, byte_at as image_byte}
 use Rattle.hart.specs.declared.retired.Retired.{Retired}
-use Rattle.machine_model.specs.declared.act.Plan.{Plan}
-use Rattle.machine_model.specs.declared.act.Plan.TheVariants.{Stays, Changes}
 use Rattle.machine_types.specs.declared.event.Event.{Event}
-use Rattle.machine_types.specs.declared.outcome.Outcome.{Outcome}
-use Rattle.machine_model.specs.Changing.{acted, outcome_of_act}
-use Rattle.machine_model.specs.Events.{Verdict, verdict_by, state_by, happens, after_events, is_good, is_limited, plan_of, hart_of, counted}
+use Rattle.machine_model.specs.Changing.{acted}
+use Rattle.machine_model.specs.Events.{happens, after_events, hart_of, counted}
 use Rattle.machine_model.specs.Laws.{Always}
 use Rattle.machine_model.specs.Views.{State, node_at, opening}
 use Rattle.machine_model.proofs.Growth.{happens_follows}
 use Rattle.machine_model.proofs.runs.Runs.{AllStand, happens_stand}
 use Rattle.machine_model.proofs.order.Buffers.{still}
-use Rattle.machine_model.proofs.order.Events.{IsFitPlan, plan_fit, happens_kept, opening_stand, opening_kept, order_kept}
+use Rattle.machine_model.proofs.order.Events.{rests_fit, happens_kept, opening_stand, opening_kept, order_kept}
 use Rattle.machine_model.proofs.order.Kept.{IsWaiting}
 use Rattle.machine_model.proofs.order.Lists.{Each-always}
 use Rattle.machine_model.proofs.order.Loads.{HoldsLast}
@@ -35,12 +32,9 @@ use Rattle.memory_model.specs.Order.{byte_from, source}
 use Rattle.memory_model.specs.Traces.{completed, image_of, instructions, last_performed, names_from, names_of_harts, names_in, operation_at, operations_at}
 use Rattle.memory_model.proofs.Lists.{Each-append, Each-weaker, Each-both, filter_none, list_all-from_Each}
 use Rattle.trace_recorder.specs.History.{entries_of}
+use Rattle.machine_model.proofs.Events.{by_event}
 
 -- ---- events
-
-limited_values : (b : Bool) (s t : State) (o : Outcome) → ValuesKept s → ValuesKept t → ValuesKept (state_by s (cond b Verdict.IsLimited (Verdict.Moves o t)))
-limited_values true s t o a c = a
-limited_values false s t o a c = c
 
 -- each copy of the machine holds what was performed
 abbrev pub AllHold : State → Type 0
@@ -49,18 +43,12 @@ AllHold s = (h : ℕ) → h < s.views.config.harts → HoldsLast (last_performed
 abbrev SmallImage : State → Type 0
 SmallImage s = (y : ℕ) → image_of s.trace y < 256
 
-planned_values : (s : State) (h : ℕ) (p : Plan) → h < s.views.config.harts → AllStand s → IsFitPlan s h p → SmallImage s → AllHold s → OrderKept s → ValuesKept s → ValuesKept (state_by s (verdict_by s h p))
-planned_values s h (Stays o) l st p small holds k v = v
-planned_values s h (Changes x) l st p small holds k v = limited_values (is_limited s h x) s (counted (acted h x s)) (outcome_of_act s h x) v (values_still (acted h x s) (counted (acted h x s)) (still (acted h x s) (counted (acted h x s)) refl refl refl) (acted_values h x s l st p small (holds h l) k v))
-
-good_values : (b : Bool) (s : State) (e : Event) → is_good s e ≡ b → AllStand s → SmallImage s → AllHold s → OrderKept s → ValuesKept s → ValuesKept (state_by s (cond b (verdict_by s (hart_of e) (plan_of s e)) Verdict.IsBad))
-good_values true s e g st small holds k v =
-    let l = ltb-true (hart_of e) (length s.views.nodes) (and_parts (nat_lt (hart_of e) (length s.views.nodes)) _ g).0 in
-    planned_values s (hart_of e) (plan_of s e) (subst (λ x. hart_of e < x) st.nodes l) st (plan_fit s e) small holds k v
-good_values false s e g st small holds k v = v
-
 happens_values : (s : State) (e : Event) → AllStand s → SmallImage s → AllHold s → OrderKept s → ValuesKept s → ValuesKept (happens s e)
-happens_values s e st small holds k v = good_values (is_good s e) s e refl st small holds k v
+happens_values s e st small holds k v =
+    by_event ValuesKept s e v (λ a m.
+    let l = subst (λ n. hart_of e < n) st.nodes m.in_h in
+    let next = acted (hart_of e) a s in
+    values_still next (counted next) (still next (counted next) refl refl refl) (acted_values (hart_of e) a s l st (rests_fit s e a m.rests) small (holds (hart_of e) l) k v))
 
 events_values : (events : List Event) (s : State) → AllStand s → SmallImage s → ((later : List Event) → AllHold (after_events s later)) → OrderKept s → ValuesKept s → ValuesKept (after_events s events)
 events_values [] s st small holds k v = v

@@ -1,25 +1,21 @@
 -- Each message of the log is of one of the harts and of a line of memory, and carries whole lines.
-use Rattle.std.proofs.Common.{ℕ, ◌<◌, Bool, true, false, List, [], ◌∷◌, ◌++◌, ◌≡◌, Option, Some, None, refl, sym, subst, cond, length}
-use Rattle.std.specs.Prelude.{◌==◌, ◌&&◌, not, nat_lt, if◌then◌else◌}
+use Rattle.std.proofs.Common.{ℕ, ◌<◌, Bool, true, false, List, [], ◌∷◌, ◌++◌, ◌≡◌, Option, Some, None, refl, sym, subst, length}
+use Rattle.std.specs.Prelude.{◌==◌, ◌&&◌, not, if◌then◌else◌}
 use Rattle.std.specs.List.{AllByRecursion, cons_option}
-use Rattle.std.proofs.lemmas.Bool.{and_parts, eq-eqb, false≢true, ltb-true}
+use Rattle.std.proofs.lemmas.Bool.{eq-eqb, false≢true}
 use Rattle.std.proofs.lemmas.List.{append-nil}
 use Rattle.elf_loader.specs.Image.{Initial, IsImage}
-use Rattle.machine_model.specs.Changing.{acted, outcome_of_act}
 use Rattle.machine_types.specs.Config.{is_within_limits}
 use Rattle.machine_model.specs.Deliveries.{taken}
-use Rattle.machine_model.specs.Events.{IsBad, IsLimited, Moves, after_events, counted, happens, hart_of, is_good, is_limited, is_piece, names_well, plan_of, state_by, verdict_by}
+use Rattle.machine_model.specs.Events.{after_events, happens, hart_of, is_piece}
 use Rattle.machine_model.specs.LawfulLog.{IsBeginningOf, is_on, is_sent, sent_on, taken_on}
 use Rattle.machine_model.specs.Laws.{Always, KeepsImageAndConfig}
 use Rattle.machine_model.specs.Ranges.{CarriesWhole, InRangeAlways, IsOfMachine}
 use Rattle.machine_model.specs.Views.{State, line_size, no_node, node_at, opening}
 use Rattle.machine_model.specs.declared.act.Act.{Act}
 use Rattle.machine_model.specs.declared.act.Act.TheVariants as act
-use Rattle.machine_model.specs.declared.act.Plan.{Plan}
-use Rattle.machine_model.specs.declared.act.Plan.TheVariants.{Stays, Changes}
 use Rattle.machine_types.specs.declared.config.Config.{Config}
 use Rattle.machine_types.specs.declared.event.Event.{Event}
-use Rattle.machine_types.specs.declared.outcome.Outcome.{Outcome}
 use Rattle.machine_model.proofs.Growth.{happens_follows}
 use Rattle.machine_model.proofs.bytes.Always.{Joint, joint_always}
 use Rattle.machine_model.proofs.log.Acts.{Delivers, acted_keeps, handled_keeps}
@@ -27,7 +23,7 @@ use Rattle.machine_model.proofs.log.Events.{in_order_always}
 use Rattle.machine_model.proofs.log.Lists.{sent_on_taken, taken_on_sent}
 use Rattle.machine_model.proofs.log.manager.Always.{governed_always}
 use Rattle.machine_model.proofs.log.manager.Sums.{AreBelow}
-use Rattle.machine_model.proofs.log.Plans.{IsFrontPlan, plan_front_of}
+use Rattle.machine_model.proofs.log.Plans.{front_of_move}
 use Rattle.machine_model.proofs.log.Queues.{IsInOrder, Quiet, taken_order}
 use Rattle.machine_model.proofs.order.Whole.{performed_once_always}
 use Rattle.machine_model.proofs.ranges.Lines.{queued}
@@ -44,6 +40,7 @@ use Rattle.tl_types.specs.declared.message.Msg.{Msg}
 use Rattle.trace_recorder.specs.declared.logged.Direction.{Direction}
 use Rattle.trace_recorder.specs.declared.logged.Direction.TheVariants.{Sent, Taken}
 use Rattle.trace_recorder.specs.declared.logged.Logged.{Logged}
+use Rattle.machine_model.proofs.Events.{IsMove, by_event}
 
 -- ---- what was taken had been sent before
 
@@ -66,37 +63,22 @@ module _ (s : State) (i : IsInOrder s) where
       let log = (taken h m s).trace.log in
       subst (IsBeginningOf (taken_on c k log)) (sent_on_taken c k s.trace.log h m) ((taken_order h m s i rest in_h front).moments log [] (append-nil log) c k)
 
-  delivers : (h : ℕ) (a : Act) → h < length s.views.nodes → IsFrontPlan (node_at s h) (Changes a) → Delivers (TakesFrom s) s h a
-  delivers h (act.Deliver m) in_h front =
+  delivers : (e : Event) (a : Act) → IsMove s e a → Delivers (TakesFrom s) s (hart_of e) a
+  delivers e (act.Deliver m) k =
+      let h = hart_of e in
+      let front = front_of_move s i e m k in
       handled_keeps (TakesFrom s) quiet (λ h m a is p. sends h m a p) (λ h m a. TakesFrom s a) (λ h m a b. quiet a b) (λ h m a p. p)
       (λ h line cap change bytes a p. sends h _ a p) (λ h line body a is p. sends h _ a p) (λ h line body a is p. sends h _ a p)
-      h m.line m.body (taken h m s) (takes h m front.0 in_h front.1)
-  delivers h (act.Stop code) in_h front = tt
-  delivers h (act.Retire entry instr d) in_h front = tt
-  delivers h (act.Miss line grow) in_h front = tt
-  delivers h (act.Drain word) in_h front = tt
-  delivers h (act.Evict line) in_h front = tt
-  delivers h (act.Local count) in_h front = tt
-
-  acted_takes : (h : ℕ) (a : Act) → h < length s.views.nodes → IsFrontPlan (node_at s h) (Changes a) → TakesFrom s (acted h a s)
-  acted_takes h a in_h front = acted_keeps (TakesFrom s) quiet (λ h m b is p. sends h m b p) h a s (delivers h a in_h front) nothing_new
-
-  -- ---- an event
-
-  limited : (b : Bool) (t : State) (o : Outcome) → TakesFrom s t → TakesFrom s (state_by s (cond b IsLimited (Moves o t)))
-  limited true t o p = nothing_new
-  limited false t o p = p
-
-  planned : (e : Event) (p : Plan) → plan_of s e ≡ p → hart_of e < length s.views.nodes → TakesFrom s (state_by s (verdict_by s (hart_of e) p))
-  planned e (Stays o) is in_h = nothing_new
-  planned e (Changes a) is in_h = limited (is_limited s (hart_of e) a) (counted (acted (hart_of e) a s)) (outcome_of_act s (hart_of e) a) (acted_takes (hart_of e) a in_h (subst (IsFrontPlan (node_at s (hart_of e))) is (plan_front_of s i e in_h)))
+      h m.line m.body (taken h m s) (takes h m front.0 k.in_h front.1)
+  delivers e (act.Stop code) k = tt
+  delivers e (act.Retire entry instr d) k = tt
+  delivers e (act.Miss line grow) k = tt
+  delivers e (act.Drain word) k = tt
+  delivers e (act.Evict line) k = tt
+  delivers e (act.Local count) k = tt
 
   happens_takes : (e : Event) → TakesFrom s (happens s e)
-  happens_takes e = good (is_good s e) refl
-    where
-      good : (b : Bool) → is_good s e ≡ b → TakesFrom s (state_by s (cond b (verdict_by s (hart_of e) (plan_of s e)) IsBad))
-      good true is = planned e (plan_of s e) refl (ltb-true (hart_of e) (length s.views.nodes) (and_parts (nat_lt (hart_of e) (length s.views.nodes)) (names_well s e) is).0)
-      good false is = nothing_new
+  happens_takes e = by_event (TakesFrom s) s e nothing_new (λ a k. acted_keeps (TakesFrom s) quiet (λ h m b is p. sends h m b p) (hart_of e) a s (delivers e a k) nothing_new)
 
 -- ---- lists
 

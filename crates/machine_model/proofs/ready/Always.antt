@@ -10,9 +10,10 @@ use Rattle.machine_model.specs.Views.{State, opening}
 use Rattle.machine_types.specs.declared.config.Config.{Config}
 use Rattle.machine_types.specs.declared.event.Event.{Event}
 use Rattle.machine_model.proofs.Growth.{happens_follows}
-use Rattle.machine_model.proofs.ready.Kept.{IsSized, act_ready, events_sized, moves, opening_sized}
+use Rattle.machine_model.proofs.ready.Kept.{IsSized, act_ready, events_sized, opening_sized}
 use Rattle.machine_model.proofs.ready.Messages.{queued_line}
 use Rattle.machine_model.proofs.room.Queues.{queues_fit_always}
+use Rattle.machine_model.proofs.Events.{IsMove, move_by, move_is}
 
 stays : (events : List Event) (s : State) → KeepsImageAndConfig s (after_events s events)
 stays [] s = record { image = refl; line = refl; config = refl }
@@ -59,12 +60,15 @@ sound_always image config events is within = record {
 
 pub ready_always : ReadyAlways
 ready_always image config events is within e a good planned free = record {
-  act = act_ready (s image config events is) k e a good planned;
+  act = act_ready (s image config events is) k e a m;
   room = subst QueuesFit leads (queues_fit_always image config (events ++ e ∷ []) is within);
 }
   where
     k : IsSized (s image config events is)
     k = sized image config events is
 
+    m : IsMove (s image config events is) e a
+    m = move_by (s image config events is) e a good planned free
+
     leads : after_events (opening image config) (events ++ e ∷ []) ≡ counted (acted (hart_of e) a (s image config events is))
-    leads = after_one_more events (opening image config) e ∙ moves (s image config events is) k e a good planned free
+    leads = after_one_more events (opening image config) e ∙ move_is (s image config events is) e a m

@@ -1,7 +1,7 @@
 -- How large everything is, in each state that a list of events leads to.
-use Rattle.std.proofs.Common.{ℕ, zero, suc, ◌+◌, ◌<◌, ◌≤◌, ◌%◌, Bool, true, false, List, [], ◌∷◌, ◌≡◌, refl, ap, sym, ◌∙◌, subst, length, map, slice_index_or}
-use Rattle.std.specs.Prelude.{◌==◌, ◌||◌, if◌then◌else◌, nat_le, nat_lt}
-use Rattle.std.proofs.lemmas.Bool.{and_parts, cases_lt, leb-false, ltb-false, ltb-true}
+use Rattle.std.proofs.Common.{ℕ, zero, suc, ◌<◌, ◌≤◌, ◌%◌, Bool, true, false, List, [], ◌∷◌, ◌≡◌, refl, ap, sym, ◌∙◌, subst, length, map, slice_index_or}
+use Rattle.std.specs.Prelude.{◌==◌, if◌then◌else◌}
+use Rattle.std.proofs.lemmas.Bool.{cases_lt}
 use Rattle.std.proofs.lemmas.Bool.Decides.{eqb_tells}
 use Rattle.std.proofs.lemmas.List.{get_or-replicate, get_or_past, length-replicate}
 use Rattle.std.proofs.lemmas.List.FromFn.{length-map-range_with_len}
@@ -12,8 +12,8 @@ use Rattle.backing_memory.specs.Memory.{lines_of, pieces_of}
 use Rattle.client_cache.specs.Word.{with_word}
 use Rattle.elf_loader.specs.Image.{Initial}
 use Rattle.hart.specs.declared.retired.Retired.{Retired}
-use Rattle.machine_model.specs.Changing.{acted, next_place}
-use Rattle.machine_model.specs.Events.{after_events, counted, entries_by, happens, hart_of, is_good, is_limited, is_piece, names_well, plan_of}
+use Rattle.machine_model.specs.Changing.{acted}
+use Rattle.machine_model.specs.Events.{after_events, counted, entries_by, happens, hart_of, is_piece}
 use Rattle.machine_model.specs.Laws.{KeepsImageAndConfig}
 use Rattle.machine_model.specs.Ready.{IsReadyAct, IsReadyBody, shape_of}
 use Rattle.machine_model.specs.Views.{Node, State, line_of, line_size, no_node, node_at, opening, opening_node, place_of}
@@ -21,22 +21,20 @@ use Rattle.machine_model.specs.declared.act.Act.{Act}
 use Rattle.machine_model.specs.declared.act.Act.TheVariants as act
 use Rattle.machine_model.specs.declared.act.Deed.{Deed}
 use Rattle.machine_model.specs.declared.act.Deed.TheVariants as deed
-use Rattle.machine_model.specs.declared.act.Plan.{Plan}
-use Rattle.machine_model.specs.declared.act.Plan.TheVariants.{Stays, Changes}
 use Rattle.machine_types.specs.declared.config.Config.{Config}
 use Rattle.machine_types.specs.declared.event.Event.{Event}
 use Rattle.machine_model.proofs.Growth.{happens_follows}
 use Rattle.machine_model.proofs.coherence.LinePlaces.{place_inside}
 use Rattle.machine_model.proofs.log.Events.{happens_order, opening_order}
-use Rattle.machine_model.proofs.log.Plans.{IsFrontPlan, plan_front_of}
+use Rattle.machine_model.proofs.log.Plans.{front_of_move}
 use Rattle.machine_model.proofs.log.Queues.{IsInOrder}
 use Rattle.machine_model.proofs.order.Events.{fresh, opening_stand}
 use Rattle.machine_model.proofs.ready.Lists.{IsLonger, acted_longer}
 use Rattle.machine_model.proofs.ready.Messages.{IsLine, ready_message}
-use Rattle.machine_model.proofs.ready.Plans.{IsFound, plan_found}
+use Rattle.machine_model.proofs.ready.Plans.{deed_ready, drain_ready}
 use Rattle.machine_model.proofs.ready.Sizes.{AllSized, IsSizedAct, Keeps, acted_keeps, word_size}
 use Rattle.machine_model.proofs.runs.Runs.{AllStand, happens_stand}
-use Rattle.machine_model.proofs.coherence.WorldEvents.{IsGoodPlan, counted_fits, good_event}
+use Rattle.machine_model.proofs.coherence.WorldEvents.{act_fits, counted_fits}
 use Rattle.machine_model.proofs.coherence.WorldFits.{IsFit}
 use Rattle.machine_model.proofs.coherence.WorldOpening.{opening_is_fit, opening_last}
 use Rattle.machine_model.proofs.coherence.WorldSteps.{last_after, last_by, wrote_word}
@@ -50,6 +48,7 @@ use Rattle.tl_types.specs.declared.line.LineSize.TheVariants.{Bytes16, Bytes64}
 use Rattle.tl_types.specs.declared.message.Body.{Body}
 use Rattle.tl_types.specs.declared.message.Body.TheVariants.{ProbeAckData, ReleaseData}
 use Rattle.trace_recorder.specs.History.{entries_of}
+use Rattle.machine_model.proofs.Events.{IsMove, IsUnlimited, by_event, move_is, unlimited}
 
 pub record IsSized (s : State) : Type 0 where
   pub stand : AllStand s
@@ -84,41 +83,22 @@ last_size s h _ last q = refl
 
 -- ---- an act
 
--- the limits were tested
-record IsUnlimited (s : State) (h : ℕ) (a : Act) : Type 0 where
-  few_changes : s.views.changes < MAX_CHANGES
-  few_entries : next_place s h + entries_by a ≤ MAX_ENTRIES
-
-unlimited : (s : State) (h : ℕ) (a : Act) → is_limited s h a ≡ false → IsUnlimited s h a
-unlimited s h a e = go (nat_le MAX_CHANGES s.views.changes) refl (nat_lt MAX_ENTRIES (next_place s h + entries_by a)) refl e
-  where
-    go : (t : Bool) → nat_le MAX_CHANGES s.views.changes ≡ t → (u : Bool) → nat_lt MAX_ENTRIES (next_place s h + entries_by a) ≡ u → t || u ≡ false → IsUnlimited s h a
-    go true f u g e = cc e
-    go false f true g e = cc e
-    go false f false g e = record { few_changes = leb-false MAX_CHANGES s.views.changes f; few_entries = ltb-false MAX_ENTRIES (next_place s h + entries_by a) g }
-
 -- an event that changes the machine
-module _ (s : State) (k : IsSized s) (e : Event) (a : Act) (good : is_good s e ≡ true) (planned : plan_of s e ≡ Changes a) where
+module _ (s : State) (k : IsSized s) (e : Event) (a : Act) (m : IsMove s e a) where
   abbrev hart : ℕ
   hart = hart_of e
 
-  in_h : hart < length s.views.nodes
-  in_h = ltb-true _ _ (and_parts (nat_lt (hart_of e) (length s.views.nodes)) (names_well s e) good).0
-
-  well : names_well s e ≡ true
-  well = (and_parts (nat_lt (hart_of e) (length s.views.nodes)) (names_well s e) good).1
-
   pub act_ready : IsReadyAct hart a s
-  act_ready = go a (subst (IsFrontPlan (node_at s hart)) planned (plan_front_of s k.order e in_h)) (subst (IsFound s k.last k.fit hart) planned (plan_found s k.last k.fit e well))
+  act_ready = go a m
     where
-      go : (b : Act) → IsFrontPlan (node_at s hart) (Changes b) → IsFound s k.last k.fit hart (Changes b) → IsReadyAct hart b s
-      go (act.Stop code) front found = tt
-      go (act.Retire entry i d) front found = found
-      go (act.Miss line grow) front found = tt
-      go (act.Drain word) front found = found
-      go (act.Evict line) front found = tt
-      go (act.Deliver m) front found = ready_message s k.last k.fit k.lines hart m front
-      go (act.Local count) front found = tt
+      go : (b : Act) → IsMove s e b → IsReadyAct hart b s
+      go (act.Retire entry i d) x = deed_ready s k.last k.fit hart entry i d x.rests.1
+      go (act.Drain word) x = drain_ready s k.last k.fit e word x
+      go (act.Deliver msg) x = ready_message s k.last k.fit k.lines hart msg (front_of_move s k.order e msg x)
+      go (act.Stop code) x = tt
+      go (act.Miss line grow) x = tt
+      go (act.Evict line) x = tt
+      go (act.Local count) x = tt
 
   sized : IsSizedAct (line_size s) a
   sized = go a act_ready
@@ -132,80 +112,58 @@ module _ (s : State) (k : IsSized s) (e : Event) (a : Act) (good : is_good s e �
       go (act.Deliver m) is = carried m.line m.body is.body
       go _ is = tt
 
-  module _ (free : is_limited s hart a ≡ false) where
-    pub moves : happens s e ≡ counted (acted hart a s)
-    moves = rw (good, planned, free) refl
+  moves : happens s e ≡ counted (acted hart a s)
+  moves = move_is s e a m
 
-    stays : KeepsImageAndConfig s (counted (acted hart a s))
-    stays = subst (KeepsImageAndConfig s) moves (happens_follows s e).stays
+  stays : KeepsImageAndConfig s (counted (acted hart a s))
+  stays = subst (KeepsImageAndConfig s) moves (happens_follows s e).stays
 
-    kept : Keeps (line_size s) s.views (acted hart a s).views
-    kept = acted_keeps (line_size s) hart a s sized
+  kept : Keeps (line_size s) s.views (acted hart a s).views
+  kept = acted_keeps (line_size s) hart a s sized
 
-    longer : IsLonger hart (entries_by a) s.trace.entries (acted hart a s).trace.entries
-    longer = acted_longer hart a s
+  longer : IsLonger hart (entries_by a) s.trace.entries (acted hart a s).trace.entries
+  longer = acted_longer hart a s
 
-    few : IsUnlimited s hart a
-    few = unlimited s hart a free
+  few : IsUnlimited s hart a
+  few = unlimited s hart a m.free
 
-    pub moved_sized : IsSized (counted (acted hart a s))
-    moved_sized = record {
-      stand = subst AllStand moves (happens_stand s e k.stand);
-      order = subst IsInOrder moves (happens_order s e k.order);
-      last = last_after s hart a k.last;
-      fit = counted_fits (acted hart a s) (last_after s hart a k.last) (subst (IsGoodPlan s k.last hart) planned (good_event s k.last k.fit e in_h well)).0;
-      lines = λ l on. last_size s hart a k.last l ∙ (k.lines l (there l on) ∙ same_size);
-      cells = subst (λ size. AllSized size (acted hart a s).views.memory) same_size (kept.cells k.cells);
-      shapes = shapes;
-      harts = kept.harts ∙ (k.harts ∙ ap (λ (c : Config). c.harts) (sym stays.config));
-      changes = omega (arith, kept.changes, few.few_changes);
-      places = λ j. places j (eqb_tells j hart);
-    }
-      where
-        same_size : line_size s ≡ line_size (counted (acted hart a s))
-        same_size = ap (λ (c : Config). c.line) (sym stays.config)
+  pub moved_sized : IsSized (counted (acted hart a s))
+  moved_sized = record {
+    stand = subst AllStand moves (happens_stand s e k.stand);
+    order = subst IsInOrder moves (happens_order s e k.order);
+    last = last_after s hart a k.last;
+    fit = counted_fits (acted hart a s) (last_after s hart a k.last) (act_fits s k.last k.fit e a m);
+    lines = λ l on. last_size s hart a k.last l ∙ (k.lines l (there l on) ∙ same_size);
+    cells = subst (λ size. AllSized size (acted hart a s).views.memory) same_size (kept.cells k.cells);
+    shapes = shapes;
+    harts = kept.harts ∙ (k.harts ∙ ap (λ (c : Config). c.harts) (sym stays.config));
+    changes = omega (arith, kept.changes, few.few_changes);
+    places = λ j. places j (eqb_tells j hart);
+  }
+    where
+      same_size : line_size s ≡ line_size (counted (acted hart a s))
+      same_size = ap (λ (c : Config). c.line) (sym stays.config)
 
-        there : (l : ℕ) → IsLine (counted (acted hart a s)) l → IsLine s l
-        there l on = subst (λ (image : Initial). is_piece image l (length_of (line_size s)) ≡ true) stays.image (subst (λ size. is_piece (acted hart a s).trace.image l (length_of size) ≡ true) (sym same_size) on)
+      there : (l : ℕ) → IsLine (counted (acted hart a s)) l → IsLine s l
+      there l on = subst (λ (image : Initial). is_piece image l (length_of (line_size s)) ≡ true) stays.image (subst (λ size. is_piece (acted hart a s).trace.image l (length_of size) ≡ true) (sym same_size) on)
 
-        blank : no_node (counted (acted hart a s)) ≡ no_node s
-        blank = rw (stays.image, stays.config) refl
+      blank : no_node (counted (acted hart a s)) ≡ no_node s
+      blank = rw (stays.image, stays.config) refl
 
-        shapes : (j : ℕ) → (node_at (counted (acted hart a s)) j).cache.shape ≡ shape_of (counted (acted hart a s))
-        shapes j =
-            kept.shapes j (no_node (counted (acted hart a s)))
-            ∙ (ap (λ (d : Node). (slice_index_or s.views.nodes j d).cache.shape) blank
-            ∙ (k.shapes j ∙ ap (λ (c : Config). record { sets = c.sets; ways = c.ways; size = c.line }) (sym stays.config)))
+      shapes : (j : ℕ) → (node_at (counted (acted hart a s)) j).cache.shape ≡ shape_of (counted (acted hart a s))
+      shapes j =
+          kept.shapes j (no_node (counted (acted hart a s)))
+          ∙ (ap (λ (d : Node). (slice_index_or s.views.nodes j d).cache.shape) blank
+          ∙ (k.shapes j ∙ ap (λ (c : Config). record { sets = c.sets; ways = c.ways; size = c.line }) (sym stays.config)))
 
-        places : (j : ℕ) → (((j == hart) ≡ true) × (j ≡ hart)) ⊎ (((j == hart) ≡ false) × (j ≡ hart → ⊥)) → length (entries_of (counted (acted hart a s)).trace j) ≤ MAX_ENTRIES
-        places j (inl is) = subst (λ i. length (entries_of (counted (acted hart a s)).trace i) ≤ MAX_ENTRIES) (sym is.1) (omega (arith, longer.here, few.few_entries))
-        places j (inr is) = subst (λ (row : List Retired). length row ≤ MAX_ENTRIES) (sym (longer.there j is.1)) (k.places j)
+      places : (j : ℕ) → (((j == hart) ≡ true) × (j ≡ hart)) ⊎ (((j == hart) ≡ false) × (j ≡ hart → ⊥)) → length (entries_of (counted (acted hart a s)).trace j) ≤ MAX_ENTRIES
+      places j (inl is) = subst (λ i. length (entries_of (counted (acted hart a s)).trace i) ≤ MAX_ENTRIES) (sym is.1) (omega (arith, longer.here, few.few_entries))
+      places j (inr is) = subst (λ (row : List Retired). length row ≤ MAX_ENTRIES) (sym (longer.there j is.1)) (k.places j)
 
 -- ---- any event
 
 happens_sized : (s : State) (e : Event) → IsSized s → IsSized (happens s e)
-happens_sized s e k = good (is_good s e) refl
-  where
-    moves_on : (a : Act) → is_good s e ≡ true → plan_of s e ≡ Changes a → (t : Bool) → is_limited s (hart_of e) a ≡ t → IsSized (happens s e)
-    moves_on a is planned true limited = subst IsSized (sym stays_here) k
-      where
-        stays_here : happens s e ≡ s
-        stays_here = rw (is, planned, limited) refl
-    moves_on a is planned false free = subst IsSized (sym (moves s k e a is planned free)) (moved_sized s k e a is planned free)
-
-    by_plan : is_good s e ≡ true → (p : Plan) → plan_of s e ≡ p → IsSized (happens s e)
-    by_plan is (Stays o) planned = subst IsSized (sym stays_here) k
-      where
-        stays_here : happens s e ≡ s
-        stays_here = rw (is, planned) refl
-    by_plan is (Changes a) planned = moves_on a is planned (is_limited s (hart_of e) a) refl
-
-    good : (t : Bool) → is_good s e ≡ t → IsSized (happens s e)
-    good true is = by_plan is (plan_of s e) refl
-    good false is = subst IsSized (sym stays_here) k
-      where
-        stays_here : happens s e ≡ s
-        stays_here = rw is refl
+happens_sized s e k = by_event IsSized s e k (moved_sized s k e)
 
 pub events_sized : (events : List Event) (s : State) → IsSized s → IsSized (after_events s events)
 events_sized [] s k = k

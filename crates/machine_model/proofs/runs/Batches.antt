@@ -1,7 +1,7 @@
 -- A Local event that retires is as many single steps.
-use Rattle.std.proofs.Common.{◌≡◌, ℕ, zero, suc, ◌+◌, ◌<◌, ◌≤◌, List, [], ◌∷◌, ◌++◌, Bool, true, false, Option, Some, None, refl, cond, sym, ap, ◌∙◌, subst, not, ◌&&◌, ◌||◌, length, slice_index_or, slice_set, arith}
-use Rattle.std.specs.Prelude.{nat_eq, nat_lt, nat_le, is_none}
-use Rattle.std.proofs.lemmas.Bool.{false≢true, and_parts, and_from, eqb-true, ltb-true, ltb-false, lt-ltb, leb-true}
+use Rattle.std.proofs.Common.{◌≡◌, ℕ, zero, suc, ◌+◌, ◌<◌, ◌≤◌, List, [], ◌∷◌, ◌++◌, Bool, true, false, Option, Some, None, refl, cond, sym, ap, ◌∙◌, subst, not, ◌||◌, length, slice_index_or, slice_set, arith}
+use Rattle.std.specs.Prelude.{nat_lt, nat_le, is_none}
+use Rattle.std.proofs.lemmas.Bool.{false≢true, and_parts, and_from, ltb-true, lt-ltb, leb-true}
 use Rattle.std.proofs.lemmas.List.{set-set, set-get_or, length-set, length-append}
 use Rattle.machine_types.specs.declared.limits.TheConstants.{MAX_CHANGES, MAX_ENTRIES}
 use Rattle.elf_loader.specs.Image.{Initial, word_at}
@@ -19,7 +19,7 @@ use Rattle.machine_model.specs.declared.act.Plan.TheVariants.{Stays, Changes}
 use Rattle.machine_types.specs.declared.event.Event.TheVariants as event
 use Rattle.machine_types.specs.declared.outcome.Outcome.{Outcome}
 use Rattle.machine_types.specs.declared.outcome.Outcome.TheVariants as outcome
-use Rattle.machine_model.specs.Changing.{with_entries, outcome_by, next_place, retired, went_alone, with_halt}
+use Rattle.machine_model.specs.Changing.{with_entries, outcome_by, outcome_of_act, next_place, retired, went_alone, with_halt}
 use Rattle.machine_model.specs.Events.{Verdict, counted, is_good, plan_of, verdict, verdict_by}
 use Rattle.machine_model.specs.Laws.{LocalIsSteps, StepsRetire, with_changes}
 use Rattle.machine_model.specs.Steps.{plan_access, plan_instr, plan_step, plan_unless}
@@ -30,6 +30,8 @@ use Rattle.rv32_decode.specs.Rows.{decoded}
 use Rattle.rv32_decode.specs.declared.instruction.Instr.{Instr}
 use Rattle.rv32_exec.specs.Meaning.{Private, access_of, stop_of}
 use Rattle.trace_recorder.specs.History.{with_entry}
+use Rattle.machine_model.specs.declared.act.Act.{Act}
+use Rattle.machine_model.proofs.Events.{HasMoved, IsMove, after_act, has_moved, unlimited}
 
 -- ---- one step of a private instruction
 
@@ -180,36 +182,33 @@ pub record Retires (s : State) (h count : ℕ) (o : Outcome) (new : State) : Typ
   pub retires : o ≡ outcome.Retired
   pub new_is : new ≡ counted (went_alone h count s)
 
-moves_are : (o p : Outcome) (s t : State) → Verdict.Moves o s ≡ Verdict.Moves p t → (p ≡ o) × (t ≡ s)
-moves_are o p s t e = (cc, cc)
+local_moves : (s : State) (h count : ℕ) (o : Outcome) (new : State) → verdict s (event.Local h count) ≡ Verdict.Moves o new → Retires s h count o new
+local_moves s h count o new v = go m.act m.move m.outcome_is m.new_is
+  where
+    m : HasMoved s (event.Local h count) o new
+    m = has_moved s (event.Local h count) o new v
 
-abbrev limited : State → ℕ → ℕ → Bool → Bool → Verdict
-limited s h count a b = cond (a || b) Verdict.IsLimited (Verdict.Moves outcome.Retired (counted (went_alone h count s)))
-
-by_limit : (s : State) (h count : ℕ) (o : Outcome) (new : State) (a b : Bool) → nat_lt MAX_ENTRIES (next_place s h + count) ≡ b → h < length s.views.nodes → count ≤ 256 → length (private_row s.trace.image (node_at s h).hart count) ≡ count → limited s h count a b ≡ Verdict.Moves o new → Retires s h count o new
-by_limit s h count o new true b e l f w v = absurd cc
-by_limit s h count o new false true e l f w v = absurd cc
-by_limit s h count o new false false e l f w v =
-    let m = moves_are outcome.Retired o (counted (went_alone h count s)) new v in
-    record { there = l; few = f; whole = w; place = ltb-false MAX_ENTRIES (next_place s h + count) e; retires = m.0; new_is = m.1 }
-
-by_row : (s : State) (h count : ℕ) (o : Outcome) (new : State) (b : Bool) → nat_eq (length (private_row s.trace.image (node_at s h).hart count)) count ≡ b → h < length s.views.nodes → count ≤ 256 → verdict_by s h (cond b (Changes (act.Local count)) (Stays outcome.NotLocal)) ≡ Verdict.Moves o new → Retires s h count o new
-by_row s h count o new true e l f v = by_limit s h count o new (nat_le MAX_CHANGES s.views.changes) (nat_lt MAX_ENTRIES (next_place s h + count)) refl l f (eqb-true _ _ e) v
-by_row s h count o new false e l f v = absurd cc
-
-by_running : (s : State) (h count : ℕ) (o : Outcome) (new : State) (b : Bool) → h < length s.views.nodes → count ≤ 256 → verdict_by s h (cond (not b) (Stays outcome.Halted) (cond (nat_eq (length (private_row s.trace.image (node_at s h).hart count)) count) (Changes (act.Local count)) (Stays outcome.NotLocal))) ≡ Verdict.Moves o new → Retires s h count o new
-by_running s h count o new true l f v = by_row s h count o new (nat_eq (length (private_row s.trace.image (node_at s h).hart count)) count) refl l f v
-by_running s h count o new false l f v = absurd cc
-
-by_good : (s : State) (h count : ℕ) (o : Outcome) (new : State) (b : Bool) → is_good s (event.Local h count) ≡ b → cond b (verdict_by s h (plan_of s (event.Local h count))) Verdict.IsBad ≡ Verdict.Moves o new → Retires s h count o new
-by_good s h count o new true g v =
-    let p = and_parts (nat_lt h (length s.views.nodes)) (nat_le 1 count && nat_le count 256) g in
-    by_running s h count o new (is_running (node_at s h).hart.status) (ltb-true h (length s.views.nodes) p.0) (leb-true count 256 (and_parts (nat_le 1 count) (nat_le count 256) p.1).1) v
-by_good s h count o new false g v = absurd cc
+    go : (a : Act) → IsMove s (event.Local h count) a → outcome_of_act s h a ≡ o → new ≡ after_act s (event.Local h count) a → Retires s h count o new
+    go (act.Local n) k is e =
+        let same : n ≡ count = cc k.rests.0 in
+        record {
+          there = k.in_h;
+          few = leb-true count 256 (and_parts (nat_le 1 count) (nat_le count 256) k.named).1;
+          whole = subst (λ m. length (private_row s.trace.image (node_at s h).hart m) ≡ m) same k.rests.2;
+          place = subst (λ m. next_place s h + m ≤ MAX_ENTRIES) same (unlimited s h (act.Local n) k.free).few_entries;
+          retires = sym is;
+          new_is = e ∙ ap (λ m. counted (went_alone h m s)) same;
+        }
+    go (act.Stop code) k is e = absurd (cc k.rests.0)
+    go (act.Retire entry i d) k is e = absurd (cc k.rests.0)
+    go (act.Miss line grow) k is e = absurd k.rests.1
+    go (act.Drain word) k is e = absurd (cc k.rests.0)
+    go (act.Evict line) k is e = absurd (cc k.rests.0)
+    go (act.Deliver _) k is e = absurd (cc k.rests.1)
 
 pub local_is_steps : LocalIsSteps
 local_is_steps s h count o new v =
-    let r = by_good s h count o new (is_good s (event.Local h count)) refl v in
+    let r = local_moves s h count o new v in
     let few : 0 + count ≤ MAX_CHANGES = let x = r.few in omega arith in
     let w = went count (with_changes 0 s) h r.there r.whole few r.place in
     record {

@@ -1,22 +1,11 @@
 -- Each hart's list is a run of the image, with its status.
-use Rattle.std.proofs.Common.{◌≡◌, ◌≢◌, ℕ, suc, ◌+◌, ◌<◌, ◌⊎◌, inl, inr, List, [], ◌∷◌, ◌++◌, Bool, true, false, Option, Some, None, refl, cond, sym, ap, ◌∙◌, subst, not, length, slice_index_or, slice_set, arith}
-use Rattle.std.specs.Prelude.{nat_eq, nat_lt, nat_le}
-use Rattle.std.proofs.lemmas.Bool.{false≢true, and_parts, and_from, eq-eqb, ltb-true}
+use Rattle.std.proofs.Common.{◌≡◌, ◌≢◌, ℕ, suc, ◌+◌, ◌<◌, ◌⊎◌, inl, inr, List, [], ◌∷◌, ◌++◌, Bool, true, false, Some, refl, cond, sym, ap, ◌∙◌, subst, length, slice_index_or, slice_set, arith}
+use Rattle.std.specs.Prelude.{nat_eq}
+use Rattle.std.proofs.lemmas.Bool.{false≢true, and_from, eq-eqb}
 use Rattle.std.proofs.lemmas.Bool.Decides.{eqb_tells}
 use Rattle.std.proofs.lemmas.List.{length-set, get_or-set_same, get_or-set_other, set-get_or, set-set, append-nil, append_assoc, length-replicate, get_or-replicate}
 use Rattle.std.proofs.lemmas.List.FromFn.{get_or-map-range_with_len, length-map-range_with_len}
-use Rattle.client_cache.specs.Cache.{copy_at, evicted, probed, wanted}
 use Rattle.client_cache.specs.declared.answers.Evict.{Evict}
-use Rattle.client_cache.specs.declared.answers.Evict.TheVariants as evict
-use Rattle.client_cache.specs.declared.answers.Probed.{Probed}
-use Rattle.client_cache.specs.declared.answers.Probed.TheVariants as probe
-use Rattle.client_cache.specs.declared.answers.Want.{Want}
-use Rattle.client_cache.specs.declared.answers.Want.TheVariants as want
-use Rattle.client_cache.specs.declared.held.Held.{Held}
-use Rattle.client_cache.specs.declared.held.Held.TheVariants.{Branch, Trunk}
-use Rattle.directory.specs.Directory.{acquired}
-use Rattle.directory.specs.declared.answer.Acquired.{Acquired}
-use Rattle.directory.specs.declared.answer.Acquired.TheVariants.{Handled, Busy}
 use Rattle.elf_loader.specs.Image.{Initial}
 use Rattle.hart.specs.declared.retired.Retired.{Retired}
 use Rattle.hart.specs.declared.state.Hart.{Hart}
@@ -28,34 +17,21 @@ use Rattle.hart.proofs.Alone.{row-steps, row-running}
 use Rattle.hart.proofs.Endings.{reached-append, are_steps-append, step_runs}
 use Rattle.machine_model.specs.declared.act.Act.{Act}
 use Rattle.machine_model.specs.declared.act.Act.TheVariants as act
-use Rattle.machine_model.specs.declared.act.Plan.{Plan}
-use Rattle.machine_model.specs.declared.act.Plan.TheVariants.{Stays, Changes}
-use Rattle.machine_types.specs.declared.outcome.Outcome.{Outcome}
-use Rattle.machine_types.specs.declared.outcome.Outcome.TheVariants as outcome
 use Rattle.machine_types.specs.declared.config.Config.{Config}
 use Rattle.machine_types.specs.declared.event.Event.{Event}
-use Rattle.machine_types.specs.declared.event.Event.TheVariants as event
-use Rattle.machine_model.specs.Changing.{acted, does, drained, given_up, missed, outcome_of_act, next_place, retired, stopped, with_halt, with_entries, went_alone}
-use Rattle.machine_model.specs.Deliveries.{delivered}
-use Rattle.machine_model.specs.Deciding.{miss_by, writing_by}
-use Rattle.machine_model.specs.Deliveries.{plan_body, plan_front, unless_acks_full, unless_busy, unless_releasing}
-use Rattle.machine_model.specs.Events.{counted, evict_by, plan_drain, Verdict, verdict_by, state_by, happens, after_events, is_good, is_limited, plan_of, hart_of}
+use Rattle.machine_model.specs.Changing.{acted, does, retired, stopped, with_halt, with_entries, went_alone}
+use Rattle.machine_model.specs.Events.{counted, happens, after_events, hart_of}
 use Rattle.machine_model.specs.Laws.{RunsAlways}
-use Rattle.machine_model.specs.Views.{Node, State, line_of, line_size, place_of, node_at, no_node, opening, opening_node}
+use Rattle.machine_model.specs.Views.{Node, State, node_at, no_node, opening, opening_node}
 use Rattle.machine_model.proofs.Growth.{Happens, happens_follows, happens_not, happens_then}
 use Rattle.machine_model.proofs.Nodes.{KeepsHarts, does_keeps, drained_keeps, given_up_keeps, missed_keeps, delivered_keeps}
-use Rattle.machine_model.proofs.runs.Retiring.{IsNext, step_is_next}
+use Rattle.machine_model.proofs.Events.{by_event}
+use Rattle.machine_model.proofs.Plans.{Rests}
+use Rattle.machine_model.proofs.runs.Retiring.{retires_step}
 use Rattle.memory_model.specs.Traces.{are_runs, are_runs_from}
 use Rattle.rv32_decode.specs.Rows.{decoded}
 use Rattle.rv32_decode.specs.declared.instruction.Instr.{Instr}
 use Rattle.rv32_exec.specs.Meaning.{Access, Private, Loads, Stores, DoesLr, DoesSc, DoesAmo, Fences, Calls, access_of}
-use Rattle.store_buffer.specs.Groups.{drainable, has}
-use Rattle.tilelink_channels.specs.Queues.{front_of, queue_of, room_of}
-use Rattle.tl_types.specs.declared.message.Body.{Body}
-use Rattle.tl_types.specs.declared.message.Body.TheVariants.{AcquireBlock, ProbeBlock, ProbeAck, ProbeAckData, Release, ReleaseData, Grant, GrantData, ReleaseAck, GrantAck}
-use Rattle.tl_types.specs.declared.message.Channel.TheVariants.{E}
-use Rattle.tl_types.specs.declared.message.Msg.{Msg}
-use Rattle.tl_types.specs.declared.permission.Grow.TheVariants.{NtoT, BtoT}
 use Rattle.trace_recorder.specs.History.{History, entries_of, with_entry}
 
 -- ---- one hart
@@ -275,135 +251,30 @@ alone_stand h count s l r a =
     (image-with_entries h row s.trace) refl refl (entries-with_entries h row s.trace (subst (λ x. h < x) (sym a.entries) l)) (statuses-with_entries h row s.trace ∙ sym (set-get_or s.trace.statuses h Running)) l
     (stands_alone s.trace.image s.views.config.harts h (node_at s h).hart (entries_of s.trace h) (slice_index_or s.trace.statuses h Running) count (a.each h l) r) a
 
--- what an act needs of its hart: a stop is its next stop, what retires is its next step, and a row is of a hart that runs
-abbrev IsAllowed : Initial → Node → Act → Type 0
-IsAllowed image n (act.Stop code) = (is_running n.hart.status ≡ true) × (next_stop image n.hart ≡ Some code)
-IsAllowed image n (act.Retire e i d) = (is_step image n.hart e ≡ true) × (decoded e.word ≡ Some i)
-IsAllowed image n (act.Local count) = is_running n.hart.status ≡ true
-IsAllowed image n (act.Miss line grow) = Unit {0}
-IsAllowed image n (act.Drain word) = Unit {0}
-IsAllowed image n (act.Evict line) = Unit {0}
-IsAllowed image n (act.Deliver m) = Unit {0}
-
 did_stand : (h : ℕ) (entry : Retired) (i : Instr) (s t : State) → KeepsHarts s t → h < s.views.config.harts → is_step s.trace.image (node_at s h).hart entry ≡ true → decoded entry.word ≡ Some i → AllStand s → AllStand (retired h entry i t)
 did_stand h entry i s t k l step d a =
     let l' : h < t.views.config.harts = subst (λ (c : Config). h < c.harts) (sym k.config) l in
     let step' : is_step t.trace.image (node_at t h).hart entry ≡ true = subst (λ (image : Initial). is_step image (node_at t h).hart entry ≡ true) (sym k.image) (subst (λ (x : Hart). is_step s.trace.image x entry ≡ true) (sym (k.harts h)) step) in
     retired_stand h entry i t l' step' d (step_runs t.trace.image (node_at t h).hart entry step') (all_kept s t k a)
 
-acted_stand : (h : ℕ) (a : Act) (s : State) → h < s.views.config.harts → IsAllowed s.trace.image (node_at s h) a → AllStand s → AllStand (acted h a s)
-acted_stand h (act.Stop code) s l p st = stopped_stand h code s l p.0 p.1 st
-acted_stand h (act.Retire e i d) s l p st = did_stand h e i s (does s.views.config.model h d s) (does_keeps s.views.config.model h d s) l p.0 p.1 st
-acted_stand h (act.Miss line grow) s l p st = all_kept s (missed h line grow s) (missed_keeps h line grow s) st
-acted_stand h (act.Drain word) s l p st = all_kept s (drained h word s) (drained_keeps h word s) st
-acted_stand h (act.Evict line) s l p st = all_kept s (given_up h line s) (given_up_keeps h line s) st
-acted_stand h (act.Deliver m) s l p st = all_kept s (delivered h m s) (delivered_keeps h m s) st
-acted_stand h (act.Local count) s l p st = alone_stand h count s l p st
-
--- ---- plans
-
-abbrev IsAllowedPlan : Initial → Node → Plan → Type 0
-IsAllowedPlan image n (Stays o) = Unit {0}
-IsAllowedPlan image n (Changes a) = IsAllowed image n a
-
-next_allowed : (image : Initial) (n : Node) (p : Plan) → IsNext image n p → IsAllowedPlan image n p
-next_allowed image n (Stays o) x = tt
-next_allowed image n (Changes (act.Stop code)) x = x
-next_allowed image n (Changes (act.Retire e i d)) x = x
-next_allowed image n (Changes (act.Miss line grow)) x = tt
-next_allowed image n (Changes (act.Drain word)) x = tt
-next_allowed image n (Changes (act.Evict line)) x = tt
-next_allowed image n (Changes (act.Deliver m)) x = tt
-next_allowed image n (Changes (act.Local count)) x = absurd x
-
-either : (P : Plan → Type 0) (b : Bool) (p q : Plan) → P p → P q → P (cond b p q)
-either P true p q x y = x
-either P false p q x y = y
-
-miss_allowed : (image : Initial) (n : Node) (line : ℕ) (w : Want) → IsAllowedPlan image n (miss_by line w)
-miss_allowed image n line want.WaitRelease = tt
-miss_allowed image n line want.WaitGrant = tt
-miss_allowed image n line want.NoTracker = tt
-miss_allowed image n line want.SetFull = tt
-miss_allowed image n line (want.Missed grow) = tt
-
-writing_allowed : (image : Initial) (n : Node) (word line : ℕ) (copy : Option Held) → IsAllowedPlan image n (writing_by copy (λ bytes. Changes (act.Drain word)) n.cache line)
-writing_allowed image n word line None = miss_allowed image n line (wanted n.cache line NtoT).0
-writing_allowed image n word line (Some (Branch bytes)) = miss_allowed image n line (wanted n.cache line BtoT).0
-writing_allowed image n word line (Some (Trunk dirty bytes)) = tt
-
-drain_allowed : (image : Initial) (n : Node) (word : ℕ) → IsAllowedPlan image n (plan_drain n word)
-drain_allowed image n word =
-    let line = line_of n.cache.shape.size word in
-    let drains = writing_by (copy_at n.cache line) (λ bytes. Changes (act.Drain word)) n.cache line in
-    either (IsAllowedPlan image n) (not (has word n.buffer)) (Stays outcome.NoEntry) (cond (not (drainable word n.buffer)) (Stays outcome.NotOldest) drains) tt
-    (either (IsAllowedPlan image n) (not (drainable word n.buffer)) (Stays outcome.NotOldest) drains tt (writing_allowed image n word line (copy_at n.cache line)))
-
-evict_allowed : (image : Initial) (n : Node) (line : ℕ) (e : Evict) → IsAllowedPlan image n (evict_by line e)
-evict_allowed image n line evict.NotHeld = tt
-evict_allowed image n line evict.AcquirePending = tt
-evict_allowed image n line evict.ReleaseFull = tt
-evict_allowed image n line (evict.Evicted change bytes) = tt
-
-busy_allowed : (image : Initial) (n : Node) (m : Msg) (a : Acquired) → IsAllowedPlan image n (unless_busy a (Changes (act.Deliver m)))
-busy_allowed image n m Busy = tt
-busy_allowed image n m (Handled sends) = tt
-
-releasing_allowed : (image : Initial) (n : Node) (m : Msg) (p : Probed) → IsAllowedPlan image n (unless_releasing p (Changes (act.Deliver m)))
-releasing_allowed image n m probe.Releasing = tt
-releasing_allowed image n m (probe.Answered change bytes) = tt
-
-full_allowed : (image : Initial) (n k : Node) (m : Msg) → IsAllowedPlan image n (unless_acks_full k (Changes (act.Deliver m)))
-full_allowed image n k m = either (IsAllowedPlan image n) (nat_le (room_of E) (length k.queues.e)) (Stays outcome.AckFull) (Changes (act.Deliver m)) tt tt
-
-body_allowed : (image : Initial) (s : State) (h : ℕ) (n : Node) (m : Msg) (line : ℕ) (body : Body) → IsAllowedPlan image n (plan_body s h n line body (Changes (act.Deliver m)))
-body_allowed image s h n m line (AcquireBlock grow) = busy_allowed image n m (acquired s.views.notes (place_of (line_size s) line) h grow).0
-body_allowed image s h n m line (ProbeBlock cap) = releasing_allowed image n m (probed n.cache line cap).0
-body_allowed image s h n m line (ProbeAck change) = tt
-body_allowed image s h n m line (ProbeAckData change bytes) = tt
-body_allowed image s h n m line (Release change) = tt
-body_allowed image s h n m line (ReleaseData change bytes) = tt
-body_allowed image s h n m line (Grant cap) = full_allowed image n n m
-body_allowed image s h n m line (GrantData cap bytes) = full_allowed image n n m
-body_allowed image s h n m line ReleaseAck = tt
-body_allowed image s h n m line GrantAck = tt
-
-front_allowed : (image : Initial) (s : State) (h : ℕ) (n : Node) (o : Option Msg) → IsAllowedPlan image n (plan_front s h n o)
-front_allowed image s h n None = tt
-front_allowed image s h n (Some m) = body_allowed image s h n m m.line m.body
-
-local_by : (image : Initial) (n : Node) (count : ℕ) (b : Bool) → is_running n.hart.status ≡ b → IsAllowedPlan image n (cond (not b) (Stays outcome.Halted) (cond (nat_eq (length (private_row image n.hart count)) count) (Changes (act.Local count)) (Stays outcome.NotLocal)))
-local_by image n count true e = either (IsAllowedPlan image n) (nat_eq (length (private_row image n.hart count)) count) (Changes (act.Local count)) (Stays outcome.NotLocal) e tt
-local_by image n count false e = tt
-
-plan_allowed : (s : State) (e : Event) → IsAllowedPlan s.trace.image (node_at s (hart_of e)) (plan_of s e)
-plan_allowed s (event.Step h) = next_allowed s.trace.image (node_at s h) _ (step_is_next s.views.config.model s.trace.image (node_at s h) (next_place s h))
-plan_allowed s (event.Drain h word) = drain_allowed s.trace.image (node_at s h) word
-plan_allowed s (event.Evict h line) = evict_allowed s.trace.image (node_at s h) line (evicted (node_at s h).cache line).0
-plan_allowed s (event.Deliver channel h) = front_allowed s.trace.image s h (node_at s h) (front_of (queue_of (node_at s h).queues channel))
-plan_allowed s (event.Local h count) = local_by s.trace.image (node_at s h) count (is_running (node_at s h).hart.status) refl
+acted_stand : (s : State) (e : Event) (a : Act) → hart_of e < s.views.config.harts → Rests s e a → AllStand s → AllStand (acted (hart_of e) a s)
+acted_stand s e (act.Stop code) l p st = stopped_stand (hart_of e) code s l p.1 p.2 st
+acted_stand s e (act.Retire entry i d) l p st =
+    let step = retires_step s (hart_of e) entry i d p.1 in
+    did_stand (hart_of e) entry i s (does s.views.config.model (hart_of e) d s) (does_keeps s.views.config.model (hart_of e) d s) l step.0 step.1 st
+acted_stand s e (act.Miss line grow) l p st = all_kept s _ (missed_keeps (hart_of e) line grow s) st
+acted_stand s e (act.Drain word) l p st = all_kept s _ (drained_keeps (hart_of e) word s) st
+acted_stand s e (act.Evict line) l p st = all_kept s _ (given_up_keeps (hart_of e) line s) st
+acted_stand s e (act.Deliver m) l p st = all_kept s _ (delivered_keeps (hart_of e) m s) st
+acted_stand s e (act.Local count) l p st = alone_stand (hart_of e) count s l p.1 st
 
 -- ---- events
 
 counted_stand : (s : State) → AllStand s → AllStand (counted s)
 counted_stand s a = all_kept s (counted s) (record { image = refl; config = refl; entries = refl; statuses = refl; count = refl; harts = λ h. refl }) a
 
-limited_stand : (b : Bool) (s t : State) (o : Outcome) → AllStand s → AllStand t → AllStand (state_by s (cond b Verdict.IsLimited (Verdict.Moves o t)))
-limited_stand true s t o a c = a
-limited_stand false s t o a c = c
-
-planned_stand : (s : State) (h : ℕ) (p : Plan) → h < s.views.config.harts → IsAllowedPlan s.trace.image (node_at s h) p → AllStand s → AllStand (state_by s (verdict_by s h p))
-planned_stand s h (Stays o) l p a = a
-planned_stand s h (Changes x) l p a = limited_stand (is_limited s h x) s (counted (acted h x s)) (outcome_of_act s h x) a (counted_stand (acted h x s) (acted_stand h x s l p a))
-
-good_stand : (b : Bool) (s : State) (e : Event) → is_good s e ≡ b → AllStand s → AllStand (state_by s (cond b (verdict_by s (hart_of e) (plan_of s e)) Verdict.IsBad))
-good_stand true s e g a =
-    let l = ltb-true (hart_of e) (length s.views.nodes) (and_parts (nat_lt (hart_of e) (length s.views.nodes)) _ g).0 in
-    planned_stand s (hart_of e) (plan_of s e) (subst (λ x. hart_of e < x) a.nodes l) (plan_allowed s e) a
-good_stand false s e g a = a
-
 pub happens_stand : (s : State) (e : Event) → AllStand s → AllStand (happens s e)
-happens_stand s e a = good_stand (is_good s e) s e refl a
+happens_stand s e a = by_event AllStand s e a (λ b m. counted_stand (acted (hart_of e) b s) (acted_stand s e b (subst (λ x. hart_of e < x) a.nodes m.in_h) m.rests a))
 
 pub events_stand : (events : List Event) (s : State) → AllStand s → AllStand (after_events s events)
 events_stand [] s a = a

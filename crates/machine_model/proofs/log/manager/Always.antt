@@ -7,17 +7,16 @@ use Rattle.directory.specs.declared.answer.Transaction.TheVariants.{Idle}
 use Rattle.elf_loader.specs.Image.{Initial}
 use Rattle.machine_model.specs.Changing.{acted}
 use Rattle.machine_model.specs.Deliveries.{handled, taken}
-use Rattle.machine_model.specs.Events.{after_events, counted, happens, hart_of, plan_of}
+use Rattle.machine_model.specs.Events.{after_events, counted, happens, hart_of}
 use Rattle.machine_model.specs.LawfulLog.{may_send}
 use Rattle.machine_model.specs.Laws.{Always, LogLawfulAlways}
 use Rattle.machine_model.proofs.log.Parts.{is_probe_or_grant}
 use Rattle.machine_model.specs.Views.{State, line_size, node_at, opening, place_of}
 use Rattle.machine_model.specs.declared.act.Act.{Act}
 use Rattle.machine_model.specs.declared.act.Act.TheVariants as act
-use Rattle.machine_model.specs.declared.act.Plan.TheVariants.{Changes}
 use Rattle.machine_types.specs.declared.config.Config.{Config}
 use Rattle.machine_types.specs.declared.event.Event.{Event}
-use Rattle.machine_model.proofs.log.Always.{events_keep}
+use Rattle.machine_model.proofs.Events.{IsMove, after_act, events_keep}
 use Rattle.machine_model.proofs.log.Counts.{no_last}
 use Rattle.machine_model.proofs.log.Events.{log_in_order_always, opening_order}
 use Rattle.machine_model.proofs.log.Lists.{goes_in}
@@ -27,9 +26,9 @@ use Rattle.machine_model.proofs.log.manager.Caches.{happens_losing, opening_losi
 use Rattle.machine_model.proofs.log.manager.Kept.{IsGoverned, alone_governed, ended_governed, given_up_governed, granted_governed, missed_governed, probed_governed, released_governed, rested_governed, same_governed, same_views}
 use Rattle.machine_model.proofs.log.manager.Numbers.{IsPlain, noted}
 use Rattle.machine_model.proofs.log.manager.Probes.{acquired_governed}
-use Rattle.machine_model.proofs.log.Plans.{IsFront, IsFrontPlan, plan_front_of}
+use Rattle.machine_model.proofs.log.Plans.{IsFront, front_of_move}
 use Rattle.machine_model.proofs.log.Sends.{happens_flagged, known, opening_flagged, others_lawful_always}
-use Rattle.machine_model.proofs.log.Wanted.{IsReady, IsWanted, plan_wanted}
+use Rattle.machine_model.proofs.Plans.{IsReady}
 use Rattle.machine_model.proofs.order.Events.{opening_stand}
 use Rattle.machine_model.proofs.runs.Runs.{happens_stand}
 use Rattle.machine_model.proofs.coherence.WorldOpening.{opening_fits, same_everywhere}
@@ -55,14 +54,14 @@ module _ (s : State) (p : IsPlain s) (h : ℕ) (in_h : h < length s.views.nodes)
   delivered_governed l ReleaseAck ready front = rested_governed s h in_c i l ReleaseAck refl
   delivered_governed l GrantAck ready front = ended_governed s h in_c i l GrantAck refl
 
-  governed : (a : Act) → IsWanted s h (Changes a) → IsFrontPlan (node_at s h) (Changes a) → IsGoverned (acted h a s)
-  governed (act.Miss line grow) is front = missed_governed s h in_c i line grow
-  governed (act.Evict line) is front = given_up_governed s h in_c i line
-  governed (act.Deliver m) is front = delivered_governed m.line m.body is front
-  governed (act.Stop code) is front = alone_governed s h in_c i (act.Stop code) tt
-  governed (act.Retire entry instr d) is front = alone_governed s h in_c i (act.Retire entry instr d) tt
-  governed (act.Drain word) is front = alone_governed s h in_c i (act.Drain word) tt
-  governed (act.Local count) is front = alone_governed s h in_c i (act.Local count) tt
+governed : (s : State) (p : IsPlain s) (e : Event) (a : Act) (k : IsMove s e a) (i : IsGoverned s) → IsGoverned (acted (hart_of e) a s)
+governed s p e (act.Miss line grow) k i = missed_governed s (hart_of e) (in_c s p (hart_of e) k.in_h i) i line grow
+governed s p e (act.Evict line) k i = given_up_governed s (hart_of e) (in_c s p (hart_of e) k.in_h i) i line
+governed s p e (act.Deliver m) k i = delivered_governed s p (hart_of e) k.in_h i m.line m.body k.rests.2.ready (front_of_move s p.known.1 e m k)
+governed s p e (act.Stop code) k i = alone_governed s (hart_of e) (in_c s p (hart_of e) k.in_h i) i (act.Stop code) tt
+governed s p e (act.Retire entry instr d) k i = alone_governed s (hart_of e) (in_c s p (hart_of e) k.in_h i) i (act.Retire entry instr d) tt
+governed s p e (act.Drain word) k i = alone_governed s (hart_of e) (in_c s p (hart_of e) k.in_h i) i (act.Drain word) tt
+governed s p e (act.Local count) k i = alone_governed s (hart_of e) (in_c s p (hart_of e) k.in_h i) i (act.Local count) tt
 
 happens_plain : (s : State) (e : Event) → IsPlain s → IsPlain (happens s e)
 happens_plain s e p = record {
@@ -73,11 +72,8 @@ happens_plain s e p = record {
   standing = happens_stand s e p.standing;
 }
 
-acts : (s : State) (e : Event) (a : Act) → plan_of s e ≡ Changes a → hart_of e < length s.views.nodes → IsPlain s → IsGoverned s → IsGoverned (acted (hart_of e) a s)
-acts s e a is in_h p i = governed s p (hart_of e) in_h i a (subst (IsWanted s (hart_of e)) is (plan_wanted s e)) (subst (IsFrontPlan (node_at s (hart_of e))) is (plan_front_of s p.known.1 e in_h))
-
-counted_governed : (s : State) → IsGoverned s → IsGoverned (counted s)
-counted_governed s i = same_governed s (counted s) (same_views s (counted s) refl refl refl refl) i
+acts : (s : State) (e : Event) (a : Act) → IsMove s e a → IsPlain s → IsGoverned s → IsGoverned (after_act s e a)
+acts s e a k p i = let next = acted (hart_of e) a s in same_governed next (counted next) (same_views next (counted next) refl refl refl refl) (governed s p e a k i)
 
 opening_plain : (image : Initial) (config : Config) → length image.bytes % 4096 ≡ 0 → IsPlain (opening image config)
 opening_plain image config pages = record {
@@ -102,7 +98,7 @@ opening_governed image config = record {
 -- ---- the law
 
 pub governed_always : Always (λ image config s. IsGoverned s)
-governed_always image config events is within = events_keep IsPlain IsGoverned happens_plain counted_governed acts events (opening image config) (opening_plain image config is.legal_size.whole_pages) (opening_governed image config)
+governed_always image config events is within = events_keep IsPlain IsGoverned happens_plain acts events (opening image config) (opening_plain image config is.legal_size.whole_pages) (opening_governed image config)
 
 pub log_lawful_always : LogLawfulAlways
 log_lawful_always image config events is within = record {

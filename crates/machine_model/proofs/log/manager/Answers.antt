@@ -15,15 +15,14 @@ use Rattle.machine_model.specs.LawfulLog.{concerns, is_grant, is_grant_ack, is_p
 use Rattle.machine_model.specs.Views.{Node, State, no_node, node_at, opening, sent, with_node}
 use Rattle.machine_model.specs.declared.act.Act.{Act}
 use Rattle.machine_model.specs.declared.act.Act.TheVariants as act
-use Rattle.machine_model.specs.declared.act.Plan.TheVariants.{Changes}
 use Rattle.machine_types.specs.declared.config.Config.{Config}
 use Rattle.machine_types.specs.declared.event.Event.{Event}
 use Rattle.machine_model.proofs.log.Acts.{IsManaging, Still, acknowledged, acquired_keeps, alone_still, same-set}
-use Rattle.machine_model.proofs.log.Always.{Anything, happens_keeps}
+use Rattle.machine_model.proofs.Events.{by_event}
 use Rattle.machine_model.proofs.log.Counts.{bit, sent_in, sent_out, taken_in, taken_out}
 use Rattle.machine_model.proofs.log.Flags.{no_bit}
 use Rattle.machine_model.proofs.log.Lists.{comes_out, goes_in}
-use Rattle.machine_model.proofs.log.Wanted.{IsReady, IsWanted, plan_wanted}
+use Rattle.machine_model.proofs.Plans.{IsReady, Rests}
 use Rattle.tl_types.specs.declared.line.LineData.{LineData}
 use Rattle.tl_types.specs.declared.message.Body.{Body}
 use Rattle.tl_types.specs.declared.message.Body.TheVariants.{AcquireBlock, ProbeBlock, ProbeAck, ProbeAckData, Release, ReleaseData, Grant, GrantData, ReleaseAck, GrantAck}
@@ -140,21 +139,23 @@ module _ (s : State) (h l : ℕ) (i : IsAnswering s) where
   delivered_answering ReleaseAck ready = same_log (after ReleaseAck) _ refl (taken_answering h (record { line = l; body = ReleaseAck }) s refl refl i)
   delivered_answering GrantAck ready = same_log (after GrantAck) _ refl (taken_answering h (record { line = l; body = GrantAck }) s refl refl i)
 
-answering : (s : State) (h : ℕ) (a : Act) → IsWanted s h (Changes a) → IsAnswering s → IsAnswering (acted h a s)
-answering s h (act.Miss line grow) is i =
+answering : (s : State) (e : Event) (a : Act) → Rests s e a → IsAnswering s → IsAnswering (acted (hart_of e) a s)
+answering s e (act.Miss line grow) is i =
+    let h = hart_of e in
     let asking : State = with_node h (record (node_at s h) { cache = (wanted (node_at s h).cache line grow).1 }) s in
     sent_answering h (record { line = line; body = AcquireBlock grow }) asking refl refl (same_log s asking refl i)
-answering s h (act.Evict line) is i =
+answering s e (act.Evict line) is i =
+    let h = hart_of e in
     let less : State = with_node h (with_less (evicted (node_at s h).cache line).1 line (node_at s h)) s in
     evicted_answering h line (evicted (node_at s h).cache line).0 less (same_log s less refl i)
-answering s h (act.Deliver m) is i = delivered_answering s h m.line i m.body is
-answering s h (act.Stop code) is i = still_answering s _ (alone_still h (act.Stop code) s tt) i
-answering s h (act.Retire entry instr d) is i = still_answering s _ (alone_still h (act.Retire entry instr d) s tt) i
-answering s h (act.Drain word) is i = still_answering s _ (alone_still h (act.Drain word) s tt) i
-answering s h (act.Local count) is i = still_answering s _ (alone_still h (act.Local count) s tt) i
+answering s e (act.Deliver m) is i = delivered_answering s (hart_of e) m.line i m.body is.2.ready
+answering s e (act.Stop code) is i = still_answering s _ (alone_still (hart_of e) (act.Stop code) s tt) i
+answering s e (act.Retire entry instr d) is i = still_answering s _ (alone_still (hart_of e) (act.Retire entry instr d) s tt) i
+answering s e (act.Drain word) is i = still_answering s _ (alone_still (hart_of e) (act.Drain word) s tt) i
+answering s e (act.Local count) is i = still_answering s _ (alone_still (hart_of e) (act.Local count) s tt) i
 
 pub happens_answering : (s : State) (e : Event) → IsAnswering s → IsAnswering (happens s e)
-happens_answering s e i = happens_keeps Anything IsAnswering (λ s e g. tt) (λ s i. same_log s (counted s) refl i) (λ s e a is in_h g i. answering s (hart_of e) a (subst (IsWanted s (hart_of e)) is (plan_wanted s e)) i) s e tt i
+happens_answering s e i = by_event IsAnswering s e i (λ a k. let next = acted (hart_of e) a s in same_log next (counted next) refl (answering s e a k.rests i))
 
 pub opening_answering : (image : Initial) (config : Config) → IsAnswering (opening image config)
 opening_answering image config = record { grants = λ k l. refl; probes = λ k l. refl }

@@ -28,13 +28,12 @@ use Rattle.machine_model.specs.LawfulLog.{concerns, is_BtoN, is_acquire, is_loss
 use Rattle.machine_model.specs.Views.{Node, State, line_size, no_node, node_at, opening, place_of, sent, with_node}
 use Rattle.machine_model.specs.declared.act.Act.{Act}
 use Rattle.machine_model.specs.declared.act.Act.TheVariants as act
-use Rattle.machine_model.specs.declared.act.Plan.TheVariants.{Changes}
 use Rattle.machine_types.specs.declared.config.Config.{Config}
 use Rattle.machine_types.specs.declared.event.Event.{Event}
 use Rattle.machine_model.proofs.coherence.LineStands.{Side}
 use Rattle.machine_model.proofs.coherence.LineViews.{Answering, evicted_says, front_here, granted_other, answered_other, of_line, probed_says}
 use Rattle.machine_model.proofs.log.Acts.{IsAlone, Still, alone_still, if_granted, if_handled}
-use Rattle.machine_model.proofs.log.Always.{happens_keeps}
+use Rattle.machine_model.proofs.Events.{IsMove, by_event}
 use Rattle.machine_model.proofs.log.Counts.{bit, sent_in, sent_out, taken_in, taken_out}
 use Rattle.machine_model.proofs.log.Lists.{comes_out, goes_in}
 use Rattle.machine_model.proofs.log.manager.Alone.{KeepsPerms, alone_perms}
@@ -43,10 +42,10 @@ use Rattle.machine_model.proofs.log.manager.Losses.{IsLosing, Lost, framed_turns
 use Rattle.machine_model.proofs.log.manager.Parts.{asking_reads, branch_kept}
 use Rattle.machine_model.proofs.log.manager.Queues.{count_in}
 use Rattle.machine_model.proofs.log.manager.Readings.{and_off, asked_in, asked_now, asked_out, is_at, last_asked, losses_in, lost_asking, reading, reading_in, reading_out, same_count}
-use Rattle.machine_model.proofs.log.Plans.{IsFront, IsFrontPlan, plan_front_of}
+use Rattle.machine_model.proofs.log.Plans.{IsFront, front_of_move}
 use Rattle.machine_model.proofs.log.Queues.{same_within}
-use Rattle.machine_model.proofs.log.Sends.{Known, known}
-use Rattle.machine_model.proofs.log.Wanted.{IsMissed, IsReady, IsWanted, plan_wanted}
+use Rattle.machine_model.proofs.log.Sends.{Known}
+use Rattle.machine_model.proofs.Plans.{IsReady, Misses}
 use Rattle.machine_model.proofs.coherence.WorldFits.{Framed, framed_again, framed_node, framed_sent, framed_taken, kit_at, kit_of}
 use Rattle.machine_model.proofs.coherence.WorldKept.{front_line, is_line, side}
 use Rattle.machine_model.proofs.coherence.WorldSteps.{trunk_line}
@@ -88,8 +87,8 @@ module _ (s : State) (h : ℕ) (in_h : h < length s.views.nodes) (g : Known s) (
   abbrev IsLine : ℕ → Type 0
   IsLine l = is_line s.trace.image (line_size s) (length s.views.nodes) l ≡ true
 
-  missed_losing : (line : ℕ) (grow : Grow) → IsMissed n line grow → IsLosing (missed h line grow s)
-  missed_losing line grow is = turned_losing s t h line (wanted n.cache line grow).1 (framed_turns s t h _ f) (wanted_other n.cache line grow) (same_in h m s.trace.log) (λ _. here) i
+  missed_losing : (address line : ℕ) (grow : Grow) → Misses n address line grow → IsLosing (missed h line grow s)
+  missed_losing address line grow is = turned_losing s t h line (wanted n.cache line grow).1 (framed_turns s t h _ f) (wanted_other n.cache line grow) (same_in h m s.trace.log) (λ _. here) i
     where
       m : Msg
       m = record { line = line; body = AcquireBlock grow }
@@ -116,9 +115,9 @@ module _ (s : State) (h : ℕ) (in_h : h < length s.views.nodes) (g : Known s) (
       here : Lost h line (at_line (wanted n.cache line grow).1 line) t.trace.log
       here on last reader =
           let same : grow ≡ BtoT = let e : Some (AcquireBlock grow) ≡ Some (AcquireBlock BtoT) = sym (asked_now line s.trace.log h grow) ∙ last in cc e in
-          let branch : perm_of (copy_at n.cache line) ≡ Branch = is.1 same in
+          let branch : perm_of (copy_at n.cache line) ≡ Branch = is.branch same in
           let lost : lost_since_asking h line false t.trace.log ≡ false = lost_asking s.trace.log h m refl in
-          ap (λ (x : AtLine). needs_data BtoT (perm_of x.copy)) (missed_own n.cache line grow is.0) ∙ ap (needs_data BtoT) branch ∙ sym (λ j. lost j || none branch j)
+          ap (λ (x : AtLine). needs_data BtoT (perm_of x.copy)) (missed_own n.cache line grow is.answer) ∙ ap (needs_data BtoT) branch ∙ sym (λ j. lost j || none branch j)
 
   given_up_losing : (line : ℕ) (change : Change) (bytes : Option LineData) → (evicted n.cache line).0 ≡ evict.Evicted change bytes → IsLosing (given_up h line s)
   given_up_losing line change bytes is = subst IsLosing (ap (λ (a : Evict). sent_if_evicted h line a less) (sym is))
@@ -326,17 +325,17 @@ module _ (s : State) (h : ℕ) (in_h : h < length s.views.nodes) (g : Known s) (
       let flag : set.contains (node_at t k).cache.acquiring l ≡ set.contains (node_at s k).cache.acquiring l = ap (λ b. set.contains b l) (q.acquiring k (no_node t) ∙ ap (λ (x : Node). x.cache.acquiring) same) in
       ap (needs_data BtoT) perm ∙ i k l in_s (sym flag ∙ on) (ap (last_asked k l) (sym q.quiet.log) ∙ last) (ap is_trunk (sym perm) ∙ reader) ∙ ap (reading k l) (sym q.quiet.log)
 
-losing : (s : State) (h : ℕ) (a : Act) → h < length s.views.nodes → Known s → IsWanted s h (Changes a) → IsFrontPlan (node_at s h) (Changes a) → IsLosing s → IsLosing (acted h a s)
-losing s h (act.Miss line grow) in_h g is front i = missed_losing s h in_h g i line grow is
-losing s h (act.Evict line) in_h g is front i = given_up_losing s h in_h g i line is.0 is.1 is.2
-losing s h (act.Deliver m) in_h g is front i = delivered_losing s h in_h g i m.line m.body is front
-losing s h (act.Stop code) in_h g is front i = alone_losing s h in_h g i (act.Stop code) tt
-losing s h (act.Retire entry instr d) in_h g is front i = alone_losing s h in_h g i (act.Retire entry instr d) tt
-losing s h (act.Drain word) in_h g is front i = alone_losing s h in_h g i (act.Drain word) tt
-losing s h (act.Local count) in_h g is front i = alone_losing s h in_h g i (act.Local count) tt
+losing : (s : State) (e : Event) (a : Act) → IsMove s e a → Known s → IsLosing s → IsLosing (acted (hart_of e) a s)
+losing s e (act.Miss line grow) k g i = missed_losing s (hart_of e) k.in_h g i k.rests.0 line grow k.rests.2
+losing s e (act.Evict line) k g i = given_up_losing s (hart_of e) k.in_h g i line k.rests.1.0 k.rests.1.1 k.rests.1.2
+losing s e (act.Deliver m) k g i = delivered_losing s (hart_of e) k.in_h g i m.line m.body k.rests.2.ready (front_of_move s g.1 e m k)
+losing s e (act.Stop code) k g i = alone_losing s (hart_of e) k.in_h g i (act.Stop code) tt
+losing s e (act.Retire entry instr d) k g i = alone_losing s (hart_of e) k.in_h g i (act.Retire entry instr d) tt
+losing s e (act.Drain word) k g i = alone_losing s (hart_of e) k.in_h g i (act.Drain word) tt
+losing s e (act.Local count) k g i = alone_losing s (hart_of e) k.in_h g i (act.Local count) tt
 
 pub happens_losing : (s : State) (e : Event) → Known s → IsLosing s → IsLosing (happens s e)
-happens_losing s e g i = happens_keeps Known IsLosing known (λ a i. i) (λ s e a is in_h g i. losing s (hart_of e) a in_h g (subst (IsWanted s (hart_of e)) is (plan_wanted s e)) (subst (IsFrontPlan (node_at s (hart_of e))) is (plan_front_of s g.1 e in_h)) i) s e g i
+happens_losing s e g i = by_event IsLosing s e i (λ a k. losing s e a k g i)
 
 pub opening_losing : (image : Initial) (config : Config) → IsLosing (opening image config)
 opening_losing image config k l in_k on last reader = cc last
