@@ -1,45 +1,26 @@
 -- Each act only adds to the trace, and leaves image and configuration.
-use Rattle.std.proofs.Common.{◌≡◌, ◌+◌, ℕ, zero, suc, List, [], ◌∷◌, ◌++◌, Option, Some, None, refl, sym, ap, ◌∙◌, slice_index_or, slice_set}
+use Rattle.std.proofs.Common.{◌≡◌, ◌+◌, ℕ, zero, suc, List, [], ◌∷◌, ◌++◌, refl, sym, ap, ◌∙◌, slice_index_or, slice_set}
 use Rattle.std.proofs.lemmas.List.{append-nil, append_assoc}
-use Rattle.client_cache.specs.Cache.{probed, evicted}
 use Rattle.client_cache.specs.declared.answers.Evict.{Evict}
-use Rattle.client_cache.specs.declared.answers.Evict.TheVariants as evict
-use Rattle.client_cache.specs.declared.answers.Probed.{Probed}
-use Rattle.client_cache.specs.declared.answers.Probed.TheVariants as probe
-use Rattle.directory.specs.Directory.{acquired, probe_acked}
-use Rattle.directory.specs.declared.answer.Acquired.{Acquired}
-use Rattle.directory.specs.declared.answer.Acquired.TheVariants.{Handled, Busy}
-use Rattle.directory.specs.declared.answer.Grant.{Grant as Granting}
-use Rattle.directory.specs.declared.answer.Sent.{Sent}
-use Rattle.directory.specs.declared.answer.Sent.TheVariants.{Probes, Granting as Grants}
 use Rattle.hart.specs.declared.retired.Retired.{Retired}
 use Rattle.hart.specs.Local.{private_row}
 use Rattle.hart.specs.declared.status.Status.{Status}
 use Rattle.hart.specs.declared.status.Status.TheVariants.{Running, Stopped, Exited}
 use Rattle.machine_model.specs.declared.act.Act.{Act}
 use Rattle.machine_model.specs.declared.act.Act.TheVariants as act
-use Rattle.machine_model.specs.declared.act.Deed.{Deed}
-use Rattle.machine_model.specs.declared.act.Deed.TheVariants as deed
 use Rattle.machine_types.specs.declared.event.Event.{Event}
 use Rattle.machine_types.specs.declared.outcome.Outcome.{Outcome}
-use Rattle.machine_model.specs.Changing.{acted, does, performs_own, next_place, performs, with_halt, with_entries, retired, sent_if_evicted}
-use Rattle.machine_model.specs.Deliveries.{handled, taken, sent_probes, sent_any, sent_if_handled, sent_if_granted, sent_if_answered, with_memory, with_notes, with_less, on_probe_ack}
+use Rattle.machine_model.specs.Changing.{acted, performs, with_halt, with_entries, retired}
+use Rattle.machine_model.specs.Deliveries.{taken}
 use Rattle.machine_model.specs.Events.{Verdict, counted, verdict, happens, hart_of}
 use Rattle.machine_model.specs.Laws.{Grows, KeepsImageAndConfig}
 use Rattle.machine_model.specs.LawfulLog.{IsBeginningOf}
-use Rattle.machine_model.specs.Views.{State, line_size, place_of, node_at, with_node, with_trace, sent}
-use Rattle.machine_types.specs.declared.model.MemoryModel.{MemoryModel}
+use Rattle.machine_model.specs.Views.{State, node_at, with_trace, sent}
 use Rattle.rv32_decode.specs.declared.instruction.Instr.{Instr}
-use Rattle.tl_types.specs.declared.line.LineData.{LineData}
-use Rattle.tl_types.specs.declared.message.Body.{Body}
-use Rattle.tl_types.specs.declared.message.Body.TheVariants.{AcquireBlock, ProbeBlock, ProbeAck, ProbeAckData, Release, ReleaseData, Grant, GrantData, ReleaseAck, GrantAck}
 use Rattle.tl_types.specs.declared.message.Msg.{Msg}
-use Rattle.store_buffer.specs.Entry.{entry_of}
-use Rattle.store_buffer.specs.Groups.{oldest}
-use Rattle.tl_types.specs.declared.permission.Cap.{Cap}
-use Rattle.tl_types.specs.declared.permission.Change.{Change}
 use Rattle.trace_recorder.specs.History.{History, entries_of, with_entry}
 use Rattle.machine_model.proofs.Events.{by_event, has_moved}
+use Rattle.machine_model.proofs.Parts.{KeptByDeeds, KeptByMessages, delivered_by, does_by, drained_by, given_up_by, missed_by}
 
 -- ---- beginnings
 
@@ -95,81 +76,25 @@ sent_follows h m s = record { grows = record { performed = begins _; entries = �
 taken_follows : (h : ℕ) (m : Msg) (s : State) → Follows s (taken h m s)
 taken_follows h m s = record { grows = record { performed = begins _; entries = λ k. begins _; log = begins_with s.trace.log _ }; stays = record { image = refl; line = refl; config = refl }; changes = refl }
 
-abbrev probe_of : ℕ → Cap → Msg
-probe_of line cap = record { line = line; body = ProbeBlock cap }
+by_messages : (s : State) → KeptByMessages (Follows s)
+by_messages s = record {
+  sends = λ h m t k. follows_then s t _ k (sent_follows h m t);
+  takes = λ h m t k. follows_then s t _ k (taken_follows h m t);
+  caches = λ h n t e k. follows_then s t _ k (still t _ refl refl refl);
+  stores = λ memory notes t k. follows_then s t _ k (still t _ refl refl refl);
+}
 
-probes_follow : (harts : List ℕ) (line : ℕ) (cap : Cap) (s : State) → Follows s (sent_probes harts line cap s)
-probes_follow [] line cap s = still s s refl refl refl
-probes_follow (hart ∷ harts) line cap s = follows_then _ _ _ (sent_follows hart (probe_of line cap) s) (probes_follow harts line cap (sent hart (probe_of line cap) s))
+by_deeds : (s : State) → KeptByDeeds (Follows s)
+by_deeds s = record {
+  performs = λ h place t k. follows_then s t _ k (record { grows = record { performed = begins_with t.trace.performed _; entries = λ j. begins _; log = begins _ }; stays = record { image = refl; line = refl; config = refl }; changes = refl });
+  puts_out = λ h numbers t k. follows_then s t _ k (still t _ refl refl refl);
+  buffers = λ h b t k. follows_then s t _ k (still t _ refl refl refl);
+  reserves = λ h o t k. follows_then s t _ k (still t _ refl refl refl);
+  writes = λ h word marks bytes t k. follows_then s t _ k (still t _ refl refl refl);
+}
 
-any_follows : (line : ℕ) (a : Sent) (s : State) → Follows s (sent_any line a s)
-any_follows line (Probes cap harts) s = probes_follow harts line cap s
-any_follows line (Grants g) s = sent_follows g.hart _ s
-
-if_handled : (line : ℕ) (a : Acquired) (s : State) → Follows s (sent_if_handled line a s)
-if_handled line Busy s = still s s refl refl refl
-if_handled line (Handled sends) s = any_follows line sends s
-
-if_granted : (line : ℕ) (g : Option Granting) (s : State) → Follows s (sent_if_granted line g s)
-if_granted line None s = still s s refl refl refl
-if_granted line (Some g) s = sent_follows g.hart _ s
-
-if_answered : (h line : ℕ) (p : Probed) (s : State) → Follows s (sent_if_answered h line p s)
-if_answered h line probe.Releasing s = still s s refl refl refl
-if_answered h line (probe.Answered change bytes) s = sent_follows h _ s
-
-if_evicted : (h line : ℕ) (e : Evict) (s : State) → Follows s (sent_if_evicted h line e s)
-if_evicted h line (evict.Evicted change bytes) s = sent_follows h _ s
-if_evicted h line evict.NotHeld s = still s s refl refl refl
-if_evicted h line evict.AcquirePending s = still s s refl refl refl
-if_evicted h line evict.ReleaseFull s = still s s refl refl refl
-
-memory_follows : (line : ℕ) (bytes : Option LineData) (s : State) → Follows s (with_memory line bytes s)
-memory_follows line None s = still s s refl refl refl
-memory_follows line (Some bytes) s = still s _ refl refl refl
-
-acknowledged : (h line : ℕ) (change : Change) (bytes : Option LineData) (s : State) → Follows s (on_probe_ack h line change bytes s)
-acknowledged h line change bytes s =
-    let answer = probe_acked s.views.notes (place_of (line_size s) line) h change in
-    let noted = with_notes answer.1 (with_memory line bytes s) in
-    follows_then s noted _ (follows_then s (with_memory line bytes s) noted (memory_follows line bytes s) (still _ _ refl refl refl)) (if_granted line answer.0 noted)
-
-handled_follows : (h line : ℕ) (body : Body) (s : State) → Follows s (handled h line body s)
-handled_follows h line (AcquireBlock grow) s =
-    let answer = acquired s.views.notes (place_of (line_size s) line) h grow in
-    follows_then s (with_notes answer.1 s) _ (still s _ refl refl refl) (if_handled line answer.0 (with_notes answer.1 s))
-handled_follows h line (ProbeBlock cap) s =
-    let answer = probed (node_at s h).cache line cap in
-    let probed = with_node h (with_less answer.1 line (node_at s h)) s in
-    follows_then s probed _ (still s _ refl refl refl) (if_answered h line answer.0 probed)
-handled_follows h line (ProbeAck change) s = acknowledged h line change None s
-handled_follows h line (ProbeAckData change bytes) s = acknowledged h line change (Some bytes) s
-handled_follows h line (Release change) s = follows_then _ _ _ (still s _ refl refl refl) (sent_follows h _ _)
-handled_follows h line (ReleaseData change bytes) s = follows_then _ _ _ (still s _ refl refl refl) (sent_follows h _ _)
-handled_follows h line (Grant cap) s = follows_then _ _ _ (still s _ refl refl refl) (sent_follows h _ _)
-handled_follows h line (GrantData cap bytes) s = follows_then _ _ _ (still s _ refl refl refl) (sent_follows h _ _)
-handled_follows h line ReleaseAck s = still s _ refl refl refl
-handled_follows h line GrantAck s = still s _ refl refl refl
-
--- ---- instructions
-
-performs_follows : (h : ℕ) (places : List ℕ) (s : State) → Follows s (performs h places s)
-performs_follows h [] s = still s s refl refl refl
-performs_follows h (place ∷ places) s = follows_then _ _ _ (record { grows = record { performed = begins_with s.trace.performed _; entries = λ k. begins _; log = begins _ }; stays = record { image = refl; line = refl; config = refl }; changes = refl }) (performs_follows h places _)
-
-own_follows : (h : ℕ) (s : State) → Follows s (performs_own h s)
-own_follows h s = performs_follows h (next_place s h ∷ []) s
-
-does_follows : (model : MemoryModel) (h : ℕ) (d : Deed) (s : State) → Follows s (does model h d s)
-does_follows model h deed.Private s = still s s refl refl refl
-does_follows model h (deed.Output number) s = still s _ refl refl refl
-does_follows model h deed.Load s = own_follows h s
-does_follows model h (deed.Store store) s = still s _ refl refl refl
-does_follows model h deed.Seal s = still s _ refl refl refl
-does_follows model h (deed.Lr word) s = follows_then _ _ _ (own_follows h s) (still _ _ refl refl refl)
-does_follows model h deed.Fail s = still s _ refl refl refl
-does_follows model h (deed.Sc word value) s = follows_then _ _ _ (own_follows h s) (still _ _ refl refl refl)
-does_follows model h (deed.Amo word value) s = follows_then _ _ _ (own_follows h s) (still _ _ refl refl refl)
+follows_not : (s : State) → Follows s s
+follows_not s = still s s refl refl refl
 
 -- a halt changes a status alone
 halt_grows : (h : ℕ) (status : Status) (old t : History) → Grows old t → Grows old (with_halt h status t)
@@ -201,14 +126,11 @@ entries_follow h (entry ∷ rest) s = follows_then s (with_trace (with_entry h e
 
 pub acted_follows : (h : ℕ) (a : Act) (s : State) → Follows s (acted h a s)
 acted_follows h (act.Stop code) s = record { grows = record { performed = begins _; entries = λ k. begins _; log = begins _ }; stays = record { image = refl; line = refl; config = refl }; changes = refl }
-acted_follows h (act.Retire entry i d) s = follows_then _ _ _ (does_follows _ h d s) (retired_follows h entry i _)
-acted_follows h (act.Miss line grow) s = follows_then _ _ _ (still s _ refl refl refl) (sent_follows h _ _)
-acted_follows h (act.Drain word) s = follows_then _ _ _ (performs_follows h (entry_of word (oldest (node_at s h).buffer)).ops s) (still _ _ refl refl refl)
-acted_follows h (act.Evict line) s =
-    let answer = evicted (node_at s h).cache line in
-    let less = with_node h (with_less answer.1 line (node_at s h)) s in
-    follows_then s less _ (still s _ refl refl refl) (if_evicted h line answer.0 less)
-acted_follows h (act.Deliver m) s = follows_then _ _ _ (taken_follows h m s) (handled_follows h m.line m.body _)
+acted_follows h (act.Retire entry i d) s = follows_then _ _ _ (does_by (Follows s) (by_deeds s) s.views.config.model h d s (follows_not s)) (retired_follows h entry i _)
+acted_follows h (act.Miss line grow) s = missed_by (Follows s) (by_messages s) h line grow s (follows_not s)
+acted_follows h (act.Drain word) s = drained_by (Follows s) (by_deeds s) h word s (follows_not s)
+acted_follows h (act.Evict line) s = given_up_by (Follows s) (by_messages s) h line s (follows_not s)
+acted_follows h (act.Deliver m) s = delivered_by (Follows s) (by_messages s) h m s (follows_not s)
 acted_follows h (act.Local count) s = follows_then s (with_trace (with_entries h row s.trace) s) _ (entries_follow h row s) (still _ _ refl refl refl)
   where
     row : List Retired

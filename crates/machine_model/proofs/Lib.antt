@@ -1,6 +1,7 @@
 pub mod CacheCalls
 pub mod Plans
 pub mod Events
+pub mod Parts
 pub mod Growth
 pub mod Nodes
 pub mod runs

@@ -6,7 +6,7 @@ use Rattle.std.proofs.lemmas.Bool.{false≢true, true≢false, and_left, and_rig
 use Rattle.machine_model.specs.Words.{word_of}
 use Rattle.machine_model.proofs.atomicity.Deeds.{Ends, IsNewest, IsReserving, Plain, Takes}
 use Rattle.machine_model.proofs.atomicity.Kept.{AreLater, Atomic, Grows, IsClear, IsMarked, IsPair, IsStill, Reserves, clear_more, grown, pair_parts, pairs_now, reserves_more, theirs_later}
-use Rattle.machine_model.proofs.atomicity.Nodes.{IsLess}
+use Rattle.machine_model.proofs.Parts.{IsLess}
 use Rattle.machine_model.proofs.atomicity.Order.{free_now, harmless}
 use Rattle.machine_model.proofs.order.Kept.{IsBelow, IsWaiting, get_new, joined, of_word}
 use Rattle.machine_model.proofs.order.Lists.{Each-always}

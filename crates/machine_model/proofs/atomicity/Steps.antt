@@ -25,7 +25,8 @@ use Rattle.machine_model.specs.Words.{word_of}
 use Rattle.machine_model.proofs.atomicity.Acts.{Before, IsOutside, SparesWord, foreign_atomic, none_atomic, none_of_word, once_atomic, outside_atomic}
 use Rattle.machine_model.proofs.atomicity.Deeds.{Ends, IsNewest, Plain, Takes, Writable, deed_is, deed_writes, out_is, store_word, trunk_writable}
 use Rattle.machine_model.proofs.atomicity.Kept.{AreLater, Atomic, IsClear, IsStill, is_pairing, marked_item, pairing_is}
-use Rattle.machine_model.proofs.atomicity.Nodes.{IsLess, LosesReservations, delivered_less, does_reserved, drained_less, given_up_less, missed_less, node_less, reserved_by, stopped_less}
+use Rattle.machine_model.proofs.atomicity.Nodes.{LosesReservations, delivered_less, does_reserved, drained_less, given_up_less, missed_less, node_less, reserved_by, stopped_less}
+use Rattle.machine_model.proofs.Parts.{IsLess}
 use Rattle.machine_model.proofs.atomicity.Order.{harmless}
 use Rattle.machine_model.proofs.order.Acts.{alone_grown, alone_step, image-with_halt, node-with_trace, retired_gave, retired_known, retired_step, retired_trace}
 use Rattle.machine_model.proofs.order.Buffers.{KeepsBuffers, delivered_keeps, given_up_keeps, missed_keeps, stopped_keeps}
