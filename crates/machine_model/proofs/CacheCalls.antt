@@ -1,10 +1,10 @@
 -- What a call of the cache comes to: it stalls and changes nothing, or it goes through. A new stall of the cache is spoken of here and in `Plans`, and nowhere else.
-use Rattle.std.proofs.Common.{ℕ, Bool, true, false, ◌≡◌, Option, Some, None, refl}
+use Rattle.std.proofs.Common.{ℕ, Bool, true, false, List, ◌≡◌, Option, Some, None, refl}
 use Rattle.std.specs.Prelude.{if◌then◌else◌, nat_le}
 use Rattle.std.specs.FinMap as map
 use Rattle.std.specs.FinSet as set
 use Rattle.machine_types.specs.declared.limits.TheConstants.{TRACKERS}
-use Rattle.client_cache.specs.Cache.{Cache, copy_at, evicted, evicted_copy, is_set_full, probed, probed_copy, wanted}
+use Rattle.client_cache.specs.Cache.{Cache, copy_at, evicted, evicted_copy, is_set_full, probed, probed_copy, wanted, word_written, word_written_in}
 use Rattle.client_cache.specs.Held.{eviction_of}
 use Rattle.client_cache.specs.declared.answers.Evict.{Evict}
 use Rattle.client_cache.specs.declared.answers.Evict.TheVariants as evict
@@ -73,3 +73,25 @@ by_evicted P c l stalls leaves = by (copy_at c l) refl
 
 pub by_probed : (P : Probed × Cache → Type 0) (c : Cache) (l : ℕ) (cap : Cap) → P (probe.Releasing, c) → (set.contains c.releasing l ≡ false → P (probed_copy c l cap (copy_at c l))) → P (probed c l cap)
 by_probed P c l cap stalls answers = by_test P (set.contains c.releasing l) (probe.Releasing, c) (probed_copy c l cap (copy_at c l)) (λ e. stalls) answers
+
+-- ---- what a call leaves of the shape and, of a miss, of the copies
+
+pub wanted_keeps : (c : Cache) (l : ℕ) (grow : Grow) → ((wanted c l grow).1.shape ≡ c.shape) × ((wanted c l grow).1.copies ≡ c.copies)
+wanted_keeps c l grow = by_wanted (λ a. (a.1.shape ≡ c.shape) × (a.1.copies ≡ c.copies)) c l grow (λ w is. (refl, refl)) (λ may. (refl, refl))
+
+pub evicted_shape : (c : Cache) (l : ℕ) → (evicted c l).1.shape ≡ c.shape
+evicted_shape c l = by_evicted (λ a. a.1.shape ≡ c.shape) c l (λ e is. refl) (λ held e may. refl)
+
+pub probed_shape : (c : Cache) (l : ℕ) (cap : Cap) → (probed c l cap).1.shape ≡ c.shape
+probed_shape c l cap = by_probed (λ a. a.1.shape ≡ c.shape) c l cap refl (λ e. go (copy_at c l))
+  where
+    go : (o : Option Held) → (probed_copy c l cap o).1.shape ≡ c.shape
+    go None = refl
+    go (Some held) = refl
+
+pub written_shape : (c : Cache) (l word : ℕ) (marks : List Bool) (bytes : List ℕ) → (word_written c l word marks bytes).shape ≡ c.shape
+written_shape c l word marks bytes = go (copy_at c l)
+  where
+    go : (o : Option Held) → (word_written_in c l word marks bytes o).shape ≡ c.shape
+    go None = refl
+    go (Some held) = refl

@@ -37,15 +37,15 @@ use Rattle.trace_recorder.specs.History.{with_performed}
 -- ---- what may go out: nothing, or a message
 
 module _ (P : State → Type 0) (s : State) (nothing : P s) where
-  pub by_answered : (h line : ℕ) (a : Probed) → ((change : Change) (bytes : Option LineData) → P (sent h (record { line = line; body = probe_ack_body change bytes }) s)) → P (sent_if_answered h line a s)
+  pub by_answered : (h line : ℕ) (a : Probed) → ((change : Change) (bytes : Option LineData) → a ≡ probe.Answered change bytes → P (sent h (record { line = line; body = probe_ack_body change bytes }) s)) → P (sent_if_answered h line a s)
   by_answered h line probe.Releasing sends = nothing
-  by_answered h line (probe.Answered change bytes) sends = sends change bytes
+  by_answered h line (probe.Answered change bytes) sends = sends change bytes refl
 
-  pub by_evicted : (h line : ℕ) (e : Evict) → ((change : Change) (bytes : Option LineData) → P (sent h (record { line = line; body = release_body change bytes }) s)) → P (sent_if_evicted h line e s)
-  by_evicted h line evict.NotHeld sends = nothing
-  by_evicted h line evict.AcquirePending sends = nothing
-  by_evicted h line evict.ReleaseFull sends = nothing
-  by_evicted h line (evict.Evicted change bytes) sends = sends change bytes
+  pub by_left : (h line : ℕ) (e : Evict) → ((change : Change) (bytes : Option LineData) → P (sent h (record { line = line; body = release_body change bytes }) s)) → P (sent_if_evicted h line e s)
+  by_left h line evict.NotHeld sends = nothing
+  by_left h line evict.AcquirePending sends = nothing
+  by_left h line evict.ReleaseFull sends = nothing
+  by_left h line (evict.Evicted change bytes) sends = sends change bytes
 
   pub by_granted : (line : ℕ) (g : Option Granting) → ((g : Granting) → P (sent_grant line g s)) → P (sent_if_granted line g s)
   by_granted line None sends = nothing
@@ -126,7 +126,7 @@ module _ (P : State → Type 0) (k : KeptByMessages P) where
       let answer = probed (node_at s h).cache line cap in
       let shrunk = with_node h (with_less answer.1 line (node_at s h)) s in
       let q = k.caches h (with_less answer.1 line (node_at s h)) s (less_only (node_at s h) answer.1 line) p in
-      by_answered P shrunk q h line answer.0 (λ change bytes. sends_to h line (probe_ack_body change bytes) shrunk q)
+      by_answered P shrunk q h line answer.0 (λ change bytes e. sends_to h line (probe_ack_body change bytes) shrunk q)
   handled_keeps h line (ProbeAck change) s p = acknowledged h line change None s p
   handled_keeps h line (ProbeAckData change bytes) s p = acknowledged h line change (Some bytes) s p
   handled_keeps h line (Release change) s p = sends_to h line ReleaseAck _ (stored line None (released s.views.notes (place_of (line_size s) line) h) s p)
@@ -147,7 +147,7 @@ module _ (P : State → Type 0) (k : KeptByMessages P) where
       let answer = evicted (node_at s h).cache line in
       let less = with_node h (with_less answer.1 line (node_at s h)) s in
       let q = k.caches h (with_less answer.1 line (node_at s h)) s (less_only (node_at s h) answer.1 line) p in
-      by_evicted P less q h line answer.0 (λ change bytes. sends_to h line (release_body change bytes) less q)
+      by_left P less q h line answer.0 (λ change bytes. sends_to h line (release_body change bytes) less q)
 
 -- ---- deeds and drains
 

@@ -1,19 +1,15 @@
 -- What a cache, its queues and the manager's note make of one line, and what each act does to that.
-use Rattle.std.proofs.Common.{ℕ, Bool, true, false, List, [], ◌∷◌, ◌++◌, ◌≡◌, Option, Some, None, refl, ap, sym, ◌∙◌}
-use Rattle.std.specs.Prelude.{◌≢◌, ◌==◌, if◌then◌else◌, is_some, nat_le}
+use Rattle.std.proofs.Common.{subst, ℕ, Bool, true, false, List, [], ◌∷◌, ◌++◌, ◌≡◌, Option, Some, None, refl, ap, sym, ◌∙◌}
+use Rattle.std.specs.Prelude.{◌≢◌, ◌==◌, if◌then◌else◌, is_some}
 use Rattle.std.specs.FinSet as set
-use Rattle.std.specs.FinMap as map
 use Rattle.std.proofs.lemmas.Bool.{eq-eqb}
-use Rattle.machine_types.specs.declared.limits.TheConstants.{TRACKERS}
 use Rattle.client_cache.proofs.AtLines.{wanted_other, probed_other, evicted_other, missed_own, probed_own, evicted_own, put_own, put_other, remove_own, remove_other}
 use Rattle.client_cache.specs.AtLine.{AtLine, at_line, KeepsOthers}
-use Rattle.client_cache.specs.Cache.{Cache, copy_at, wanted, probed, probed_copy, granted, answered, evicted, evicted_copy, is_set_full, written}
-use Rattle.client_cache.specs.Held.{eviction_of, granted_copy, perm_of}
-use Rattle.client_cache.specs.declared.answers.Want.{Want}
-use Rattle.client_cache.specs.declared.answers.Want.TheVariants.{WaitRelease, WaitGrant, NoTracker, SetFull, Missed}
-use Rattle.client_cache.specs.declared.answers.Evict.{Evict}
-use Rattle.client_cache.specs.declared.answers.Evict.TheVariants.{AcquirePending, ReleaseFull, Evicted}
-use Rattle.client_cache.specs.declared.answers.Probed.TheVariants.{Releasing, Answered}
+use Rattle.client_cache.specs.Cache.{Cache, copy_at, wanted, probed, probed_copy, granted, answered, evicted, written}
+use Rattle.client_cache.specs.Held.{granted_copy, perm_of}
+use Rattle.client_cache.specs.declared.answers.Want.TheVariants.{Missed}
+use Rattle.client_cache.specs.declared.answers.Evict.TheVariants.{Evicted}
+use Rattle.client_cache.specs.declared.answers.Probed.TheVariants.{Answered}
 use Rattle.client_cache.specs.declared.held.Held.{Held}
 use Rattle.client_cache.specs.declared.held.Held.TheVariants as held
 use Rattle.directory.specs.declared.answer.Known.{Known}
@@ -34,6 +30,7 @@ use Rattle.tl_types.specs.declared.permission.Cap.{Cap}
 use Rattle.tl_types.specs.declared.permission.Cap.TheVariants.{ToN}
 use Rattle.tl_types.specs.declared.permission.Change.{Change}
 use Rattle.tl_types.specs.declared.permission.Grow.{Grow}
+use Rattle.machine_model.proofs.CacheCalls.{IsNoEviction, IsNoMiss, by_evicted, by_probed, by_wanted}
 
 -- ---- the messages of one line
 
@@ -122,16 +119,10 @@ pushed_probe_ack w k change (Some bytes) = refl
 -- ---- a miss
 
 -- an Acquire goes out only where neither an Acquire nor a Release of the line is under way
-abbrev pub chosen : Cache → Cache → Grow → (a b d f : Bool) → Want × Cache
-chosen c after grow a b d f = if a then (WaitRelease, c) else if b then (WaitGrant, c) else if d then (NoTracker, c) else if f then (SetFull, c) else (Missed grow, after)
-
 pub missed_says : (c : Cache) (k : ℕ) (grow : Grow) → (wanted c k grow).0 ≡ Missed grow → (set.contains c.releasing k ≡ false) × (set.contains c.acquiring k ≡ false)
-missed_says c k grow is = go (set.contains c.releasing k) (set.contains c.acquiring k) (nat_le TRACKERS (set.len c.acquiring)) (is_set_full c k) is
-  where
-    go : (a b d f : Bool) → (chosen c (record c { acquiring = set.insert c.acquiring k }) grow a b d f).0 ≡ Missed grow → (a ≡ false) × (b ≡ false)
-    go true b d f e = cc e
-    go false true d f e = cc e
-    go false false d f e = (refl, refl)
+missed_says c k grow is =
+    by_wanted (λ a. a.0 ≡ Missed grow → (set.contains c.releasing k ≡ false) × (set.contains c.acquiring k ≡ false)) c k grow
+    (λ w none e. absurd (subst IsNoMiss e none)) (λ may e. (may.not_releasing, may.not_acquiring)) is
 
 pub missed_here : (c : Cache) (w : Waiting) (z : Known) (k : ℕ) (grow : Grow) → (wanted c k grow).0 ≡ Missed grow → seen (wanted c k grow).1 (pushed w (record { line = k; body = AcquireBlock grow })) z k ≡ asked (seen c w z k) grow
 missed_here c w z k grow is = ap (λ x. side_of x (pushed w (record { line = k; body = AcquireBlock grow })) z k) (missed_own c k grow is) ∙ rw (of_line_same k w.a (AcquireBlock grow)) refl
@@ -141,9 +132,6 @@ missed_elsewhere c w z k l grow ne = pushed_elsewhere (at_line (wanted c k grow)
 
 -- ---- an eviction
 
-abbrev leaving : Cache → Cache → Evict → (a b : Bool) → Evict × Cache
-leaving c after answer a b = if a then (AcquirePending, c) else if b then (ReleaseFull, c) else (answer, after)
-
 pub record Leaving (c : Cache) (k : ℕ) (change : Change) (bytes : Option LineData) : Type 0 where
   pub held : is_some (copy_at c k) ≡ true
   pub unasked : set.contains c.acquiring k ≡ false
@@ -151,21 +139,9 @@ pub record Leaving (c : Cache) (k : ℕ) (change : Change) (bytes : Option LineD
   pub bytes_are : bytes ≡ dirty_of (copy_at c k)
 
 pub evicted_says : (c : Cache) (k : ℕ) (change : Change) (bytes : Option LineData) → (evicted c k).0 ≡ Evicted change bytes → Leaving c k change bytes
-evicted_says c k change bytes is = go (copy_at c k) refl is
-  where
-    go : (o : Option Held) → copy_at c k ≡ o → (evicted_copy c k o).0 ≡ Evicted change bytes → Leaving c k change bytes
-    go None e is = cc is
-    go (Some h) e is = inner (set.contains c.acquiring k) refl (nat_le TRACKERS (set.len c.releasing)) (same (set.contains c.acquiring k) (nat_le TRACKERS (set.len c.releasing)) is)
-      where
-        same : (a b : Bool) → (leaving c (record c { copies = map.remove c.copies k; releasing = set.insert c.releasing k }) (eviction_of h) a b).0 ≡ Evicted change bytes → (leaving c c (eviction_of h) a b).0 ≡ Evicted change bytes
-        same true b e = e
-        same false true e = e
-        same false false e = e
-
-        inner : (a : Bool) → set.contains c.acquiring k ≡ a → (b : Bool) → (leaving c c (eviction_of h) a b).0 ≡ Evicted change bytes → Leaving c k change bytes
-        inner true f b is = cc is
-        inner false f true is = cc is
-        inner false f false is = record { held = rw e refl; unasked = f; change_is = rw e cc; bytes_are = rw e cc }
+evicted_says c k change bytes is =
+    by_evicted (λ a. a.0 ≡ Evicted change bytes → Leaving c k change bytes) c k (λ e none f. absurd (subst IsNoEviction f none))
+    (λ h e may f. record { held = rw e refl; unasked = may.not_acquiring; change_is = rw e cc; bytes_are = rw e cc }) is
 
 pub evicted_here : (c : Cache) (w : Waiting) (z : Known) (k : ℕ) (change : Change) (bytes : Option LineData) → (evicted c k).0 ≡ Evicted change bytes → seen (evicted c k).1 (pushed w (record { line = k; body = release_body change bytes })) z k ≡ left (seen c w z k)
 evicted_here c w z k change bytes is =
@@ -184,15 +160,11 @@ pub record Answering (c : Cache) (k : ℕ) (cap : Cap) (change : Change) (bytes 
   pub bytes_are : bytes ≡ dirty_of (copy_at c k)
 
 pub probed_says : (c : Cache) (k : ℕ) (cap : Cap) (change : Change) (bytes : Option LineData) → (probed c k cap).0 ≡ Answered change bytes → Answering c k cap change bytes
-probed_says c k cap change bytes is = go (set.contains c.releasing k) refl is
+probed_says c k cap change bytes is = by_probed (λ a. a.0 ≡ Answered change bytes → Answering c k cap change bytes) c k cap (λ f. cc f) (λ rested f. go (copy_at c k) refl rested f) is
   where
-    inner : (o : Option Held) → copy_at c k ≡ o → set.contains c.releasing k ≡ false → (probed_copy c k cap o).0 ≡ Answered change bytes → Answering c k cap change bytes
-    inner None e f is = record { rested = f; change_is = rw e cc; bytes_are = rw e cc }
-    inner (Some h) e f is = record { rested = f; change_is = rw e cc; bytes_are = rw e cc }
-
-    go : (t : Bool) → set.contains c.releasing k ≡ t → (if t then (Releasing, c) else probed_copy c k cap (copy_at c k)).0 ≡ Answered change bytes → Answering c k cap change bytes
-    go true e is = cc is
-    go false e is = inner (copy_at c k) refl e is
+    go : (o : Option Held) → copy_at c k ≡ o → set.contains c.releasing k ≡ false → (probed_copy c k cap o).0 ≡ Answered change bytes → Answering c k cap change bytes
+    go None e f is = record { rested = f; change_is = rw e cc; bytes_are = rw e cc }
+    go (Some h) e f is = record { rested = f; change_is = rw e cc; bytes_are = rw e cc }
 
 pub probed_here : (c : Cache) (w : Waiting) (z : Known) (k : ℕ) (cap : Cap) (rest : List Msg) (change : Change) (bytes : Option LineData) → w.b ≡ (record { line = k; body = ProbeBlock cap }) ∷ rest → (probed c k cap).0 ≡ Answered change bytes →
     seen (probed c k cap).1 (pushed (popped w B) (record { line = k; body = probe_ack_body change bytes })) z k ≡ shrunk (seen c w z k) cap (of_line k rest)

@@ -1,17 +1,12 @@
 -- Each act of a cache keeps what holds of a machine's state.
-use Rattle.std.proofs.Common.{ℕ, Bool, true, false, List, [], ◌∷◌, ◌≡◌, ◌<◌, Option, Some, None, refl, ap, sym, ◌∙◌, subst, length}
-use Rattle.std.specs.Prelude.{◌≢◌, if◌then◌else◌, nat_le}
-use Rattle.std.specs.FinSet as set
-use Rattle.std.specs.FinMap as map
-use Rattle.machine_types.specs.declared.limits.TheConstants.{TRACKERS}
-use Rattle.client_cache.specs.Cache.{Cache, copy_at, wanted, probed, probed_copy, granted, answered, evicted, evicted_copy, is_set_full}
-use Rattle.client_cache.specs.Held.{eviction_of}
+use Rattle.std.proofs.Common.{ℕ, true, List, [], ◌∷◌, ◌≡◌, ◌<◌, Option, refl, ap, sym, ◌∙◌, subst, length}
+use Rattle.std.specs.Prelude.{◌≢◌}
+use Rattle.client_cache.specs.Cache.{copy_at, wanted, probed, granted, answered, evicted}
 use Rattle.client_cache.proofs.AtLines.{probed_other, evicted_other}
-use Rattle.client_cache.specs.declared.answers.Want.TheVariants.{WaitRelease, WaitGrant, NoTracker, SetFull, Missed}
+use Rattle.client_cache.specs.declared.answers.Want.TheVariants.{Missed}
 use Rattle.client_cache.specs.declared.answers.Evict.{Evict}
-use Rattle.client_cache.specs.declared.answers.Evict.TheVariants.{AcquirePending, ReleaseFull, Evicted}
-use Rattle.client_cache.specs.declared.answers.Probed.TheVariants.{Releasing, Answered}
-use Rattle.client_cache.specs.declared.held.Held.{Held}
+use Rattle.client_cache.specs.declared.answers.Evict.TheVariants.{Evicted}
+use Rattle.client_cache.specs.declared.answers.Probed.TheVariants.{Answered}
 use Rattle.directory.specs.Directory.{line_at}
 use Rattle.directory.specs.Lines.{known_at, unknown}
 use Rattle.directory.specs.declared.answer.Known.{Known}
@@ -33,40 +28,7 @@ use Rattle.tl_types.specs.declared.message.Msg.{Msg}
 use Rattle.tl_types.specs.declared.permission.Cap.{Cap}
 use Rattle.tl_types.specs.declared.permission.Change.{Change}
 use Rattle.tl_types.specs.declared.permission.Grow.{Grow}
-
--- ---- what a call leaves of the cache's shape and copies
-
-abbrev choice : {X : Type 0} → Bool → X × Cache → X × Cache → X × Cache
-choice t x y = if t then x else y
-
-either : {X : Type 0} (P : Cache → Type 0) (t : Bool) (x y : X × Cache) → P x.1 → P y.1 → P (choice t x y).1
-either P true x y p q = p
-either P false x y p q = q
-
-probed_shape : (c : Cache) (l : ℕ) (cap : Cap) → (probed c l cap).1.shape ≡ c.shape
-probed_shape c l cap = either (λ (d : Cache). d.shape ≡ c.shape) (set.contains c.releasing l) (Releasing, c) (probed_copy c l cap (copy_at c l)) refl (inner (copy_at c l))
-  where
-    inner : (o : Option Held) → (probed_copy c l cap o).1.shape ≡ c.shape
-    inner None = refl
-    inner (Some h) = refl
-
-evicted_shape : (c : Cache) (l : ℕ) → (evicted c l).1.shape ≡ c.shape
-evicted_shape c l = inner (copy_at c l)
-  where
-    inner : (o : Option Held) → (evicted_copy c l o).1.shape ≡ c.shape
-    inner None = refl
-    inner (Some h) =
-        either (λ (d : Cache). d.shape ≡ c.shape) (set.contains c.acquiring l) (AcquirePending, c) _ refl
-        (either (λ (d : Cache). d.shape ≡ c.shape) (nat_le TRACKERS (set.len c.releasing)) (ReleaseFull, c) (eviction_of h, record c { copies = map.remove c.copies l; releasing = set.insert c.releasing l }) refl refl)
-
--- a miss leaves shape and copies
-wanted_keeps : (c : Cache) (l : ℕ) (grow : Grow) → ((wanted c l grow).1.shape ≡ c.shape) × ((wanted c l grow).1.copies ≡ c.copies)
-wanted_keeps c l grow =
-    let P : Cache → Type 0 = λ d. (d.shape ≡ c.shape) × (d.copies ≡ c.copies) in
-    either P (set.contains c.releasing l) (WaitRelease, c) _ (refl, refl)
-    (either P (set.contains c.acquiring l) (WaitGrant, c) _ (refl, refl)
-    (either P (nat_le TRACKERS (set.len c.acquiring)) (NoTracker, c) _ (refl, refl)
-    (either P (is_set_full c l) (SetFull, c) (Missed grow, record c { acquiring = set.insert c.acquiring l }) (refl, refl) (refl, refl))))
+use Rattle.machine_model.proofs.CacheCalls.{evicted_shape, probed_shape, wanted_keeps}
 
 module _ (s : State) (last : ℕ → LineData) (i : IsFit s last) (h : ℕ) (in_h : h < length s.views.nodes) where
   abbrev n : Node

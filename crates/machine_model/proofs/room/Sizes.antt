@@ -3,48 +3,31 @@ use Rattle.std.proofs.Common.{ℕ, zero, suc, ◌+◌, ◌-◌, Bool, true, fals
 use Rattle.std.specs.Prelude.{if◌then◌else◌, nat_le, slice_set, slice_index_or}
 use Rattle.std.specs.Cmp.{nat_cmp_total}
 use Rattle.std.specs.Ordering.{nat_cmp}
-use Rattle.std.specs.FinMap as map
 use Rattle.std.specs.FinSet as set
 use Rattle.std.specs.FinSet.{FinSet}
 use Rattle.std.proofs.lemmas.Bool.{leb-false}
 use Rattle.std.proofs.lemmas.List.{length-append, length-set}
 use Rattle.machine_types.specs.declared.limits.TheConstants.{MAX_HARTS, TRACKERS}
 use native.Mathlib.Omega.{arith}
-use Rattle.client_cache.specs.Cache.{Cache, copy_at, wanted, probed, probed_copy, granted, answered, evicted, evicted_copy, is_set_full, word_written, word_written_in}
-use Rattle.client_cache.specs.Held.{eviction_of}
+use Rattle.client_cache.specs.Cache.{Cache, copy_at, wanted, probed, probed_copy, granted, answered, evicted, word_written, word_written_in}
 use Rattle.client_cache.specs.declared.answers.Evict.{Evict}
-use Rattle.client_cache.specs.declared.answers.Evict.TheVariants as evict
-use Rattle.client_cache.specs.declared.answers.Probed.{Probed}
-use Rattle.client_cache.specs.declared.answers.Probed.TheVariants as probe
-use Rattle.client_cache.specs.declared.answers.Want.TheVariants as want
 use Rattle.client_cache.specs.declared.held.Held.{Held}
 use Rattle.directory.specs.Directory.{acquired, probe_acked, released}
-use Rattle.directory.specs.declared.answer.Acquired.{Acquired}
-use Rattle.directory.specs.declared.answer.Acquired.TheVariants.{Handled, Busy}
 use Rattle.directory.specs.declared.answer.Grant.{Grant as Granting}
-use Rattle.directory.specs.declared.answer.Sent.TheVariants.{Probes, Granting as Grants}
 use Rattle.elf_loader.specs.Image.{Initial}
 use Rattle.hart.specs.Local.{private_row}
 use Rattle.hart.specs.Run.{after_instr, reached}
 use Rattle.hart.specs.declared.state.Hart.{Hart}
 use Rattle.hart.specs.declared.status.Status.TheVariants.{Stopped}
-use Rattle.machine_model.specs.Changing.{acted, does, drained, given_up, missed, performs, performs_own, next_place, put_behind, release_body, sent_if_evicted, with_buffer, with_reservation, writes_word}
-use Rattle.machine_model.specs.Deliveries.{delivered, grant_body, handled, line_in_memory, on_grant, on_probe, on_probe_ack, on_release, on_release_ack, probe_ack_body, sent_grant, sent_if_answered, sent_if_granted, sent_if_handled, sent_probes, taken, with_less, with_memory, with_notes}
+use Rattle.machine_model.specs.Changing.{acted, does, given_up, missed, performs, release_body}
+use Rattle.machine_model.specs.Deliveries.{delivered, grant_body, handled, line_in_memory, on_grant, on_probe, on_probe_ack, on_release, on_release_ack, probe_ack_body, sent_grant, taken, with_less, with_memory, with_notes}
 use Rattle.machine_model.specs.LawfulLog.{is_grant}
-use Rattle.machine_model.specs.Views.{Node, State, line_of, line_size, node_at, opening_node, place_of, sent, with_node, with_trace}
-use Rattle.machine_model.specs.Words.{bytes_of_word}
+use Rattle.machine_model.specs.Views.{Node, State, line_of, line_size, node_at, opening_node, place_of, sent, with_node}
 use Rattle.machine_model.specs.declared.act.Act.{Act}
 use Rattle.machine_model.specs.declared.act.Act.TheVariants as act
-use Rattle.machine_model.specs.declared.act.Deed.{Deed}
-use Rattle.machine_model.specs.declared.act.Deed.TheVariants as deed
 use Rattle.machine_types.specs.declared.config.Config.{Config}
 use Rattle.machine_model.proofs.Nodes.{node_same}
 use Rattle.machine_model.proofs.coherence.WorldFits.{framed_taken}
-use Rattle.machine_types.specs.declared.model.MemoryModel.{MemoryModel}
-use Rattle.store_buffer.specs.ByteMask.{marks_of_access}
-use Rattle.store_buffer.specs.Entry.{entry_of}
-use Rattle.store_buffer.specs.Groups.{Groups, after_seal, after_take, oldest}
-use Rattle.store_buffer.specs.declared.entry.Entry.{Entry}
 use Rattle.tilelink_channels.specs.Queues.{Waiting, behind, popped, pushed, queue_of, with_queue}
 use Rattle.tl_types.specs.Message.{channel_of, channel_of_body}
 use Rattle.tl_types.specs.declared.line.LineData.{LineData}
@@ -56,7 +39,8 @@ use Rattle.tl_types.specs.declared.message.Msg.{Msg}
 use Rattle.tl_types.specs.declared.permission.Cap.{Cap}
 use Rattle.tl_types.specs.declared.permission.Change.{Change}
 use Rattle.tl_types.specs.declared.permission.Grow.{Grow}
-use Rattle.trace_recorder.specs.History.{with_performed}
+use Rattle.machine_model.proofs.CacheCalls.{by_evicted, by_probed, by_wanted}
+use Rattle.machine_model.proofs.Parts.{KeptByDeeds, by_answered, by_left, by_granted, by_handled, does_by, drained_by}
 
 -- ---- sizes
 
@@ -104,39 +88,18 @@ node_opens_small image config id = record { few_acquires = none; few_releases = 
 
 -- ---- what a call of the cache leaves
 
-abbrev choice : {X : Type 0} → Bool → X × Cache → X × Cache → X × Cache
-choice t x y = if t then x else y
-
-either : {X : Type 0} (P : Cache → Type 0) (t : Bool) (x y : X × Cache) → P x.1 → P y.1 → P (choice t x y).1
-either P true x y p q = p
-either P false x y p q = q
-
 module _ (acks : List Msg) where
   abbrev IsSmallCache : Cache → Type 0
   IsSmallCache c = IsSmall c.acquiring c.releasing acks
 
   wanted_small : (c : Cache) (l : ℕ) (grow : Grow) → IsSmallCache c → IsSmallCache (wanted c l grow).1
-  wanted_small c l grow i =
-      either IsSmallCache (set.contains c.releasing l) (want.WaitRelease, c) _ i
-      (either IsSmallCache (set.contains c.acquiring l) (want.WaitGrant, c) _ i (tracked (nat_le TRACKERS (set.len c.acquiring)) refl))
-    where
-      tracked : (t : Bool) → nat_le TRACKERS (set.len c.acquiring) ≡ t → IsSmallCache (choice t (want.NoTracker, c) (choice (is_set_full c l) (want.SetFull, c) (want.Missed grow, record c { acquiring = set.insert c.acquiring l }))).1
-      tracked true f = i
-      tracked false f = either IsSmallCache (is_set_full c l) (want.SetFull, c) (want.Missed grow, record c { acquiring = set.insert c.acquiring l }) i (record { few_acquires = inserted c.acquiring l f; few_releases = i.few_releases; few_acks = i.few_acks })
+  wanted_small c l grow i = by_wanted (λ a. IsSmallCache a.1) c l grow (λ w is. i) (λ may. record { few_acquires = inserted c.acquiring l may.tracked; few_releases = i.few_releases; few_acks = i.few_acks })
 
   evicted_small : (c : Cache) (l : ℕ) → IsSmallCache c → IsSmallCache (evicted c l).1
-  evicted_small c l i = go (copy_at c l)
-    where
-      tracked : (h : Held) (t : Bool) → nat_le TRACKERS (set.len c.releasing) ≡ t → IsSmallCache (choice t (evict.ReleaseFull, c) (eviction_of h, record c { copies = map.remove c.copies l; releasing = set.insert c.releasing l })).1
-      tracked h true f = i
-      tracked h false f = record { few_acquires = i.few_acquires; few_releases = inserted c.releasing l f; few_acks = i.few_acks }
-
-      go : (o : Option Held) → IsSmallCache (evicted_copy c l o).1
-      go None = i
-      go (Some h) = either IsSmallCache (set.contains c.acquiring l) (evict.AcquirePending, c) _ i (tracked h (nat_le TRACKERS (set.len c.releasing)) refl)
+  evicted_small c l i = by_evicted (λ a. IsSmallCache a.1) c l (λ e is. i) (λ held e may. record { few_acquires = i.few_acquires; few_releases = inserted c.releasing l may.tracked; few_acks = i.few_acks })
 
   probed_small : (c : Cache) (l : ℕ) (cap : Cap) → IsSmallCache c → IsSmallCache (probed c l cap).1
-  probed_small c l cap i = either IsSmallCache (set.contains c.releasing l) (probe.Releasing, c) (probed_copy c l cap (copy_at c l)) i (go (copy_at c l))
+  probed_small c l cap i = by_probed (λ a. IsSmallCache a.1) c l cap i (λ e. go (copy_at c l))
     where
       go : (o : Option Held) → IsSmallCache (probed_copy c l cap o).1
       go None = i
@@ -225,21 +188,8 @@ release_quiet change (Some bytes) = tt
 
 -- ---- the manager's side
 
-probes_small : (hs : List ℕ) (l : ℕ) (cap : Cap) (s : State) → IsSmallState s → IsSmallState (sent_probes hs l cap s)
-probes_small [] l cap s k = k
-probes_small (h ∷ hs) l cap s k = probes_small hs l cap (sent h (record { line = l; body = ProbeBlock cap }) s) (sent_small s h (record { line = l; body = ProbeBlock cap }) tt k)
-
 grant_small : (l : ℕ) (g : Granting) (s : State) → IsSmallState s → IsSmallState (sent_grant l g s)
 grant_small l g s k = sent_small s g.hart (record { line = l; body = grant_body g (line_in_memory s l) }) (grant_quiet g (line_in_memory s l)) k
-
-handled_any_small : (l : ℕ) (a : Acquired) (s : State) → IsSmallState s → IsSmallState (sent_if_handled l a s)
-handled_any_small l Busy s k = k
-handled_any_small l (Handled (Probes cap hs)) s k = probes_small hs l cap s k
-handled_any_small l (Handled (Grants g)) s k = grant_small l g s k
-
-granted_any_small : (l : ℕ) (g : Option Granting) (s : State) → IsSmallState s → IsSmallState (sent_if_granted l g s)
-granted_any_small l None s k = k
-granted_any_small l (Some g) s k = grant_small l g s k
 
 memory_small : (l : ℕ) (bytes : Option LineData) (s : State) → IsSmallState s → IsSmallState (with_memory l bytes s)
 memory_small l None s k = k
@@ -248,22 +198,21 @@ memory_small l (Some bytes) s k = k
 probe_ack_small : (h l : ℕ) (change : Change) (bytes : Option LineData) (s : State) → IsSmallState s → IsSmallState (on_probe_ack h l change bytes s)
 probe_ack_small h l change bytes s k =
     let answer = probe_acked s.views.notes (place_of (line_size s) l) h change in
-    granted_any_small l answer.0 (with_notes answer.1 (with_memory l bytes s)) (memory_small l bytes s k)
+    let noted = with_notes answer.1 (with_memory l bytes s) in
+    let small : IsSmallState noted = memory_small l bytes s k in
+    by_granted IsSmallState noted small l answer.0 (λ g. grant_small l g noted small)
 
 release_small : (h l : ℕ) (bytes : Option LineData) (s : State) → IsSmallState s → IsSmallState (on_release h l bytes s)
 release_small h l bytes s k = sent_small (with_notes (released s.views.notes (place_of (line_size s) l) h) (with_memory l bytes s)) h (record { line = l; body = ReleaseAck }) tt (memory_small l bytes s k)
 
 -- ---- the cache's side
 
-answered_any_small : (h l : ℕ) (a : Probed) (s : State) → IsSmallState s → IsSmallState (sent_if_answered h l a s)
-answered_any_small h l probe.Releasing s k = k
-answered_any_small h l (probe.Answered change bytes) s k = sent_small s h (record { line = l; body = probe_ack_body change bytes }) (probe_ack_quiet change bytes) k
-
 probe_small : (h l : ℕ) (cap : Cap) (s : State) → IsSmallState s → IsSmallState (on_probe h l cap s)
 probe_small h l cap s k =
     let n = node_at s h in
-    answered_any_small h l (probed n.cache l cap).0 (with_node h (with_less (probed n.cache l cap).1 l n) s)
-    (with_small s h (with_less (probed n.cache l cap).1 l n) k (probed_small n.queues.e n.cache l cap (node_small s k h)))
+    let shrunk = with_node h (with_less (probed n.cache l cap).1 l n) s in
+    let small = with_small s h (with_less (probed n.cache l cap).1 l n) k (probed_small n.queues.e n.cache l cap (node_small s k h)) in
+    by_answered IsSmallState shrunk small h l (probed n.cache l cap).0 (λ change bytes e. sent_small shrunk h (record { line = l; body = probe_ack_body change bytes }) (probe_ack_quiet change bytes) small)
 
 -- a Grant's GrantAck goes where there is room for it
 on_grant_small : (h l : ℕ) (cap : Cap) (bytes : Option LineData) (s : State) → h < length s.views.nodes → length (node_at s h).queues.e < TRACKERS → IsSmallState s → IsSmallState (on_grant h l cap bytes s)
@@ -303,7 +252,7 @@ release_ack_small h l s k =
 handled_small : (h l : ℕ) (body : Body) (s : State) → h < length s.views.nodes → (is_grant body ≡ true → length (node_at s h).queues.e < TRACKERS) → IsSmallState s → IsSmallState (handled h l body s)
 handled_small h l (AcquireBlock grow) s in_h room k =
     let answer = acquired s.views.notes (place_of (line_size s) l) h grow in
-    handled_any_small l answer.0 (with_notes answer.1 s) k
+    by_handled IsSmallState (λ h l cap s k. sent_small s h (record { line = l; body = ProbeBlock cap }) tt k) grant_small l answer.0 (with_notes answer.1 s) k
 handled_small h l (ProbeBlock cap) s in_h room k = probe_small h l cap s k
 handled_small h l (ProbeAck change) s in_h room k = probe_ack_small h l change None s k
 handled_small h l (ProbeAckData change bytes) s in_h room k = probe_ack_small h l change (Some bytes) s k
@@ -332,51 +281,26 @@ missed_small s h l grow k =
     sent_small (with_node h (record n { cache = (wanted n.cache l grow).1 }) s) h (record { line = l; body = AcquireBlock grow }) tt
     (with_small s h (record n { cache = (wanted n.cache l grow).1 }) k (wanted_small n.queues.e n.cache l grow (node_small s k h)))
 
-evicted_any_small : (h l : ℕ) (a : Evict) (s : State) → IsSmallState s → IsSmallState (sent_if_evicted h l a s)
-evicted_any_small h l (evict.Evicted change bytes) s k = sent_small s h (record { line = l; body = release_body change bytes }) (release_quiet change bytes) k
-evicted_any_small h l evict.NotHeld s k = k
-evicted_any_small h l evict.AcquirePending s k = k
-evicted_any_small h l evict.ReleaseFull s k = k
-
 given_up_small : (s : State) (h l : ℕ) → IsSmallState s → IsSmallState (given_up h l s)
 given_up_small s h l k =
     let n = node_at s h in
-    evicted_any_small h l (evicted n.cache l).0 (with_node h (with_less (evicted n.cache l).1 l n) s)
-    (with_small s h (with_less (evicted n.cache l).1 l n) k (evicted_small n.queues.e n.cache l (node_small s k h)))
-
-performs_small : (h : ℕ) (places : List ℕ) (s : State) → IsSmallState s → IsSmallState (performs h places s)
-performs_small h [] s k = k
-performs_small h (place ∷ places) s k = performs_small h places (with_trace (with_performed (record { hart = h; place = place }) s.trace) s) k
-
-buffer_small : (s : State) (h : ℕ) (b : Groups) → IsSmallState s → IsSmallState (with_buffer h b s)
-buffer_small s h b k = with_small s h (record (node_at s h) { buffer = b }) k (node_small s k h)
-
-reservation_small : (s : State) (h : ℕ) (reserved : Option ℕ) → IsSmallState s → IsSmallState (with_reservation h reserved s)
-reservation_small s h reserved k = with_small s h (record (node_at s h) { reserved = reserved }) k (node_small s k h)
-
-writes_small : (s : State) (h word : ℕ) (marks : List Bool) (bytes : List ℕ) → IsSmallState s → IsSmallState (writes_word h word marks bytes s)
-writes_small s h word marks bytes k =
-    let n = node_at s h in
-    with_small s h (record n { cache = word_written n.cache (line_of n.cache.shape.size word) word marks bytes }) k (written_small n.queues.e n.cache (line_of n.cache.shape.size word) word marks bytes (node_small s k h))
+    let less = with_node h (with_less (evicted n.cache l).1 l n) s in
+    let small = with_small s h (with_less (evicted n.cache l).1 l n) k (evicted_small n.queues.e n.cache l (node_small s k h)) in
+    by_left IsSmallState less small h l (evicted n.cache l).0 (λ change bytes. sent_small less h (record { line = l; body = release_body change bytes }) (release_quiet change bytes) small)
 
 hart_small : (s : State) (h : ℕ) (hart : Hart) → IsSmallState s → IsSmallState (with_node h (record (node_at s h) { hart = hart }) s)
 hart_small s h hart k = with_small s h (record (node_at s h) { hart = hart }) k (node_small s k h)
 
-drained_small : (s : State) (h word : ℕ) → IsSmallState s → IsSmallState (drained h word s)
-drained_small s h word k =
-    let e : Entry = entry_of word (oldest (node_at s h).buffer) in
-    buffer_small (writes_word h word e.mask e.bytes (performs h e.ops s)) h (after_take word (node_at s h).buffer) (writes_small (performs h e.ops s) h word e.mask e.bytes (performs_small h e.ops s k))
-
-does_small : (model : MemoryModel) (h : ℕ) (d : Deed) (s : State) → IsSmallState s → IsSmallState (does model h d s)
-does_small model h deed.Private s k = k
-does_small model h (deed.Output number) s k = with_small s h (record (node_at s h) { output = (node_at s h).output ++ number ∷ [] }) k (node_small s k h)
-does_small model h deed.Load s k = performs_small h (next_place s h ∷ []) s k
-does_small model h (deed.Store store) s k = buffer_small s h (put_behind model store (node_at s h).buffer) k
-does_small model h deed.Seal s k = buffer_small s h (after_seal (node_at s h).buffer) k
-does_small model h (deed.Lr word) s k = reservation_small (performs_own h s) h (Some word) (performs_small h (next_place s h ∷ []) s k)
-does_small model h deed.Fail s k = reservation_small s h None k
-does_small model h (deed.Sc word value) s k = reservation_small (writes_word h word (marks_of_access 0 4) (bytes_of_word value) (performs_own h s)) h None (writes_small (performs_own h s) h word (marks_of_access 0 4) (bytes_of_word value) (performs_small h (next_place s h ∷ []) s k))
-does_small model h (deed.Amo word value) s k = writes_small (performs_own h s) h word (marks_of_access 0 4) (bytes_of_word value) (performs_small h (next_place s h ∷ []) s k)
+by_deeds : KeptByDeeds IsSmallState
+by_deeds = record {
+  performs = λ h place s k. k;
+  puts_out = λ h numbers s k. with_small s h (record (node_at s h) { output = numbers }) k (node_small s k h);
+  buffers = λ h b s k. with_small s h (record (node_at s h) { buffer = b }) k (node_small s k h);
+  reserves = λ h o s k. with_small s h (record (node_at s h) { reserved = o }) k (node_small s k h);
+  writes = λ h word marks bytes s k.
+      let n = node_at s h in
+      with_small s h (record n { cache = word_written n.cache (line_of n.cache.shape.size word) word marks bytes }) k (written_small n.queues.e n.cache (line_of n.cache.shape.size word) word marks bytes (node_small s k h));
+}
 
 -- ---- an act
 
@@ -389,9 +313,9 @@ pub acted_small : (s : State) (h : ℕ) (a : Act) → h < length s.views.nodes �
 acted_small s h (act.Stop code) in_h room k = hart_small s h (record (node_at s h).hart { status = Stopped code }) k
 acted_small s h (act.Retire entry i d) in_h room k =
     let t = does s.views.config.model h d s in
-    hart_small t h (after_instr (node_at t h).hart entry (Some i)) (does_small s.views.config.model h d s k)
+    hart_small t h (after_instr (node_at t h).hart entry (Some i)) (does_by IsSmallState by_deeds s.views.config.model h d s k)
 acted_small s h (act.Miss l grow) in_h room k = missed_small s h l grow k
-acted_small s h (act.Drain word) in_h room k = drained_small s h word k
+acted_small s h (act.Drain word) in_h room k = drained_by IsSmallState by_deeds h word s k
 acted_small s h (act.Evict l) in_h room k = given_up_small s h l k
 acted_small s h (act.Deliver m) in_h room k = delivered_small s h m in_h room k
 acted_small s h (act.Local count) in_h room k = hart_small s h (reached (node_at s h).hart (private_row s.trace.image (node_at s h).hart count)) k
