@@ -3,36 +3,23 @@ use Rattle.std.proofs.Common.{ℕ, zero, suc, Bool, true, false, List, [], ◌�
 use Rattle.std.specs.Prelude.{if◌then◌else◌}
 use Rattle.client_cache.specs.Cache.{Cache, answered, copy_at, evicted, granted, probed, wanted, word_written, word_written_in}
 use Rattle.client_cache.specs.declared.answers.Evict.{Evict}
-use Rattle.client_cache.specs.declared.answers.Evict.TheVariants as evict
-use Rattle.client_cache.specs.declared.answers.Probed.{Probed}
-use Rattle.client_cache.specs.declared.answers.Probed.TheVariants as probe
 use Rattle.client_cache.specs.declared.held.Held.{Held}
 use Rattle.directory.specs.Directory.{Notes, acquired, probe_acked, released, grant_acked}
 use Rattle.directory.specs.declared.answer.Acquired.{Acquired}
-use Rattle.directory.specs.declared.answer.Acquired.TheVariants.{Handled, Busy}
 use Rattle.directory.specs.declared.answer.Grant.{Grant as Granting}
-use Rattle.directory.specs.declared.answer.Sent.{Sent}
-use Rattle.directory.specs.declared.answer.Sent.TheVariants.{Probes, Granting as Grants}
 use Rattle.hart.specs.Local.{private_row}
 use Rattle.hart.specs.Run.{after_instr}
 use Rattle.hart.specs.declared.retired.Retired.{Retired}
 use Rattle.hart.specs.declared.state.Hart.{Hart}
 use Rattle.hart.specs.declared.status.Status.{Status}
 use Rattle.hart.specs.declared.status.Status.TheVariants.{Running, Stopped, Exited}
-use Rattle.machine_model.specs.Changing.{acted, does, drained, given_up, performs, performs_own, next_place, release_body, sent_if_evicted, with_entries, with_halt, writes_word}
-use Rattle.machine_model.specs.Deliveries.{delivered, grant_body, handled, line_in_memory, on_acquire, on_grant, on_probe_ack, on_release, probe_ack_body, sent_any, sent_grant, sent_if_answered, sent_if_granted, sent_if_handled, sent_probes, with_less, with_memory, with_notes}
+use Rattle.machine_model.specs.Changing.{acted, does, given_up, performs, release_body, with_entries, with_halt, writes_word}
+use Rattle.machine_model.specs.Deliveries.{delivered, grant_body, handled, line_in_memory, on_acquire, on_grant, on_probe_ack, on_release, probe_ack_body, sent_grant, sent_if_granted, sent_if_handled, with_less, with_memory, with_notes}
 use Rattle.machine_model.specs.LawfulLog.{is_grant, is_grant_ack, is_probe_ack, is_release, is_release_ack}
 use Rattle.machine_model.specs.Views.{Node, State, line_of, line_size, no_node, node_at, place_of, sent, with_node, with_trace}
-use Rattle.machine_model.specs.Words.{bytes_of_word}
 use Rattle.machine_model.specs.declared.act.Act.{Act}
 use Rattle.machine_model.specs.declared.act.Act.TheVariants as act
-use Rattle.machine_model.specs.declared.act.Deed.{Deed}
-use Rattle.machine_model.specs.declared.act.Deed.TheVariants as deed
 use Rattle.machine_model.proofs.log.Queues.{Quiet, quiet_node, quiet_trace}
-use Rattle.machine_types.specs.declared.model.MemoryModel.{MemoryModel}
-use Rattle.store_buffer.specs.ByteMask.{marks_of_access}
-use Rattle.store_buffer.specs.Entry.{entry_of}
-use Rattle.store_buffer.specs.Groups.{oldest}
 use Rattle.tl_types.specs.declared.line.LineData.{LineData}
 use Rattle.tl_types.specs.declared.message.Body.{Body}
 use Rattle.tl_types.specs.declared.message.Body.TheVariants.{AcquireBlock, ProbeBlock, ProbeAck, ProbeAckData, Release, ReleaseData, Grant, GrantData, ReleaseAck, GrantAck}
@@ -40,7 +27,8 @@ use Rattle.tl_types.specs.declared.message.Msg.{Msg}
 use Rattle.tl_types.specs.declared.permission.Cap.{Cap}
 use Rattle.tl_types.specs.declared.permission.Change.{Change}
 use Rattle.tl_types.specs.declared.permission.Grow.{Grow}
-use Rattle.trace_recorder.specs.History.{History, with_entry, with_performed}
+use Rattle.trace_recorder.specs.History.{History, with_entry}
+use Rattle.machine_model.proofs.Parts.{KeptByDeeds, by_answered, by_granted, by_handled, by_left, does_by, drained_by}
 
 -- ---- log, queues and what is outstanding stay
 
@@ -85,15 +73,6 @@ still_node h n s q a r = record {
   releasing = λ k d. same-set (λ (x : Node). x.cache.releasing) s.views.nodes h k n d (no_node s) r;
 }
 
-performs_still : (h : ℕ) (places : List ℕ) (s : State) → Still s (performs h places s)
-performs_still h [] s = still_not s
-performs_still h (place ∷ places) s =
-    let one = with_trace (with_performed (record { hart = h; place = place }) s.trace) s in
-    still_then s one _ (still_trace s _ refl) (performs_still h places one)
-
-own_still : (h : ℕ) (s : State) → Still s (performs_own h s)
-own_still h s = performs_still h (next_place s h ∷ []) s
-
 written_same : (c : Cache) (line word : ℕ) (marks : List Bool) (bytes : List ℕ) (o : Option Held) → ((word_written_in c line word marks bytes o).acquiring ≡ c.acquiring) × ((word_written_in c line word marks bytes o).releasing ≡ c.releasing)
 written_same c line word marks bytes None = (refl, refl)
 written_same c line word marks bytes (Some x) = (refl, refl)
@@ -105,18 +84,14 @@ writes_still h word marks bytes s =
     let same = written_same c line word marks bytes (copy_at c line) in
     still_node h (record (node_at s h) { cache = word_written c line word marks bytes }) s refl same.0 same.1
 
-does_still : (model : MemoryModel) (h : ℕ) (d : Deed) (s : State) → Still s (does model h d s)
-does_still model h deed.Private s = still_not s
-does_still model h (deed.Output number) s = still_node h _ s refl refl refl
-does_still model h deed.Load s = own_still h s
-does_still model h (deed.Store store) s = still_node h _ s refl refl refl
-does_still model h deed.Seal s = still_node h _ s refl refl refl
-does_still model h (deed.Lr word) s = still_then s (performs_own h s) _ (own_still h s) (still_node h _ (performs_own h s) refl refl refl)
-does_still model h deed.Fail s = still_node h _ s refl refl refl
-does_still model h (deed.Sc word value) s =
-    let stored = writes_word h word (marks_of_access 0 4) (bytes_of_word value) (performs_own h s) in
-    still_then s (performs_own h s) _ (own_still h s) (still_then (performs_own h s) stored _ (writes_still h word (marks_of_access 0 4) (bytes_of_word value) (performs_own h s)) (still_node h _ stored refl refl refl))
-does_still model h (deed.Amo word value) s = still_then s (performs_own h s) _ (own_still h s) (writes_still h word (marks_of_access 0 4) (bytes_of_word value) (performs_own h s))
+by_deeds : (s : State) → KeptByDeeds (Still s)
+by_deeds s = record {
+  performs = λ h place t k. still_then s t _ k (still_trace t _ refl);
+  puts_out = λ h numbers t k. still_then s t _ k (still_node h _ t refl refl refl);
+  buffers = λ h b t k. still_then s t _ k (still_node h _ t refl refl refl);
+  reserves = λ h o t k. still_then s t _ k (still_node h _ t refl refl refl);
+  writes = λ h word marks bytes t k. still_then s t _ k (writes_still h word marks bytes t);
+}
 
 halt_log : (h : ℕ) (status : Status) (t : History) → (with_halt h status t).log ≡ t.log
 halt_log h Running t = refl
@@ -131,13 +106,6 @@ hart_still : (h : ℕ) (hart : Hart) (t : History) (s : State) → t.log ≡ s.t
 hart_still h hart t s log =
     let moved = with_node h (record (node_at s h) { hart = hart }) s in
     still_then s moved _ (still_node h _ s refl refl refl) (still_trace moved t log)
-
-drained_still : (h word : ℕ) (s : State) → Still s (drained h word s)
-drained_still h word s =
-    let e = entry_of word (oldest (node_at s h).buffer) in
-    let done = performs h e.ops s in
-    let stored = writes_word h word e.mask e.bytes done in
-    still_then s done _ (performs_still h e.ops s) (still_then done stored _ (writes_still h word e.mask e.bytes done) (still_node h _ stored refl refl refl))
 
 memory_still : (line : ℕ) (bytes : Option LineData) (s : State) → Still s (with_memory line bytes s)
 memory_still line None s = still_not s
@@ -158,8 +126,8 @@ alone_still h (act.Stop code) s is = hart_still h _ _ s refl
 alone_still h (act.Retire entry i d) s is =
     let did = does s.views.config.model h d s in
     let after = after_instr (node_at did h).hart entry (Some i) in
-    still_then s did _ (does_still s.views.config.model h d s) (hart_still h after (with_halt h after.status (with_entry h entry did.trace)) did (halt_log h after.status (with_entry h entry did.trace)))
-alone_still h (act.Drain word) s is = drained_still h word s
+    still_then s did _ (does_by (Still s) (by_deeds s) s.views.config.model h d s (still_not s)) (hart_still h after (with_halt h after.status (with_entry h entry did.trace)) did (halt_log h after.status (with_entry h entry did.trace)))
+alone_still h (act.Drain word) s is = drained_by (Still s) (by_deeds s) h word s (still_not s)
 alone_still h (act.Local count) s is = hart_still h _ _ s (entries_log h (private_row s.trace.image (node_at s h).hart count) s.trace)
 alone_still h (act.Miss line grow) s is = absurd is
 alone_still h (act.Evict line) s is = absurd is
@@ -202,26 +170,14 @@ grant_manages g bytes = go g.with_data
 
 -- what the manager sends
 module _ (P : State → Type 0) (manages : (h : ℕ) (m : Msg) (s : State) → IsManaging m.body → P s → P (sent h m s)) where
-  probes_keep : (harts : List ℕ) (line : ℕ) (cap : Cap) (s : State) → P s → P (sent_probes harts line cap s)
-  probes_keep [] line cap s p = p
-  probes_keep (hart ∷ harts) line cap s p =
-      let query : Msg = record { line = line; body = ProbeBlock cap } in
-      probes_keep harts line cap (sent hart query s) (manages hart query s tt p)
-
   grant_keeps : (line : ℕ) (g : Granting) (s : State) → P s → P (sent_grant line g s)
   grant_keeps line g s p = manages g.hart (record { line = line; body = grant_body g (line_in_memory s line) }) s (grant_manages g (line_in_memory s line)) p
 
-  any_keeps : (line : ℕ) (a : Sent) (s : State) → P s → P (sent_any line a s)
-  any_keeps line (Probes cap harts) s p = probes_keep harts line cap s p
-  any_keeps line (Grants g) s p = grant_keeps line g s p
-
   pub if_handled : (line : ℕ) (a : Acquired) (s : State) → P s → P (sent_if_handled line a s)
-  if_handled line Busy s p = p
-  if_handled line (Handled out) s p = any_keeps line out s p
+  if_handled line a s p = by_handled P (λ h line cap s p. manages h (record { line = line; body = ProbeBlock cap }) s tt p) grant_keeps line a s p
 
   pub if_granted : (line : ℕ) (g : Option Granting) (s : State) → P s → P (sent_if_granted line g s)
-  if_granted line None s p = p
-  if_granted line (Some g) s p = grant_keeps line g s p
+  if_granted line g s p = by_granted P s p line g (λ g. grant_keeps line g s p)
 
 module _ (P : State → Type 0) (still : (s t : State) → Still s t → P s → P t) (manages : (h : ℕ) (m : Msg) (s : State) → IsManaging m.body → P s → P (sent h m s)) where
   pub acknowledged : (h line : ℕ) (change : Change) (bytes : Option LineData) (s : State) → P s → P (on_probe_ack h line change bytes s)
@@ -237,12 +193,6 @@ module _ (P : State → Type 0) (still : (s t : State) → Still s t → P s →
       if_handled P manages line answer.0 noted (still s noted (same_nodes s noted refl refl) p)
 
 module _ (P : State → Type 0) (quiet : (s t : State) → Quiet s t → P s → P t) (asks : (h : ℕ) (m : Msg) (s : State) → IsAsking m.body → P s → P (sent h m s)) where
-  if_evicted : (h line : ℕ) (e : Evict) (s : State) → P s → P (sent_if_evicted h line e s)
-  if_evicted h line (evict.Evicted change bytes) s p = asks h (record { line = line; body = release_body change bytes }) s (release_asks change bytes) p
-  if_evicted h line evict.NotHeld s p = p
-  if_evicted h line evict.AcquirePending s p = p
-  if_evicted h line evict.ReleaseFull s p = p
-
   by_manager : (h : ℕ) (m : Msg) (s : State) → IsManaging m.body → P s → P (sent h m s)
   by_manager h m s is p = asks h m s (managing_asks m.body is) p
 
@@ -250,7 +200,8 @@ module _ (P : State → Type 0) (quiet : (s t : State) → Quiet s t → P s →
   evicted_keeps h line s p =
       let answer = evicted (node_at s h).cache line in
       let less = with_node h (with_less answer.1 line (node_at s h)) s in
-      if_evicted h line answer.0 less (quiet s less (quiet_node h _ s refl) p)
+      let q = quiet s less (quiet_node h _ s refl) p in
+      by_left P less q h line answer.0 (λ change bytes. asks h (record { line = line; body = release_body change bytes }) less (release_asks change bytes) q)
 
   pub acted_keeps : (h : ℕ) (a : Act) (s : State) → Delivers P s h a → P s → P (acted h a s)
   acted_keeps h (act.Stop code) s t p = quiet s (acted h (act.Stop code) s) (alone_still h (act.Stop code) s tt).quiet p
@@ -268,10 +219,6 @@ module _ (P : State → Type 0) (quiet : (s t : State) → Quiet s t → P s →
       (acks_probe : (h line : ℕ) (cap : Cap) (change : Change) (bytes : Option LineData) (s : State) → R h (record { line = line; body = ProbeBlock cap }) s → P (sent h (record { line = line; body = probe_ack_body change bytes }) s))
       (acks_release : (h line : ℕ) (body : Body) (s : State) → is_release body ≡ true → R h (record { line = line; body = body }) s → P (sent h (record { line = line; body = ReleaseAck }) s))
       (acks_grant : (h line : ℕ) (body : Body) (s : State) → is_grant body ≡ true → R h (record { line = line; body = body }) s → P (sent h (record { line = line; body = GrantAck }) s)) where
-    if_answered : (h line : ℕ) (cap : Cap) (a : Probed) (s : State) → R h (record { line = line; body = ProbeBlock cap }) s → P (sent_if_answered h line a s)
-    if_answered h line cap probe.Releasing s r = forget h _ s r
-    if_answered h line cap (probe.Answered change bytes) s r = acks_probe h line cap change bytes s r
-
     released_keeps : (h line : ℕ) (body : Body) (bytes : Option LineData) (s : State) → is_release body ≡ true → R h (record { line = line; body = body }) s → P (on_release h line bytes s)
     released_keeps h line body bytes s is r =
         let notes = released s.views.notes (place_of (line_size s) line) h in
@@ -288,7 +235,8 @@ module _ (P : State → Type 0) (quiet : (s t : State) → Quiet s t → P s →
     handled_keeps h line (ProbeBlock cap) s r =
         let answer = probed (node_at s h).cache line cap in
         let shrunk = with_node h (with_less answer.1 line (node_at s h)) s in
-        if_answered h line cap answer.0 shrunk (quiet_taken h _ s shrunk (quiet_node h _ s refl) r)
+        let q = quiet_taken h _ s shrunk (quiet_node h _ s refl) r in
+        by_answered P shrunk (forget h _ shrunk q) h line answer.0 (λ change bytes e. acks_probe h line cap change bytes shrunk q)
     handled_keeps h line (ProbeAck change) s r = acknowledged P (λ s t q. quiet s t q.quiet) by_manager h line change None s (forget h _ s r)
     handled_keeps h line (ProbeAckData change bytes) s r = acknowledged P (λ s t q. quiet s t q.quiet) by_manager h line change (Some bytes) s (forget h _ s r)
     handled_keeps h line (Release change) s r = released_keeps h line (Release change) None s refl r

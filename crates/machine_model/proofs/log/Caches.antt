@@ -1,6 +1,6 @@
 -- A cache sends no Acquire and no Release of a line, nor answers a Probe of it, before its Release is answered, and so with its Acquire.
 use Rattle.std.proofs.Common.{ℕ, ◌+◌, ◌<◌, Bool, true, false, List, [], ◌∷◌, ◌++◌, ◌≡◌, Option, Some, None, refl, ap, sym, ◌∙◌, subst, length}
-use Rattle.std.specs.Prelude.{◌≢◌, ◌==◌, ◌&&◌, if◌then◌else◌}
+use Rattle.std.specs.Prelude.{◌≢◌, ◌==◌, ◌&&◌}
 use Rattle.std.specs.FinSet as set
 use Rattle.std.specs.FinSet.{FinSet}
 use Rattle.std.specs.Ordering.{nat_cmp}
@@ -12,12 +12,11 @@ use Rattle.client_cache.specs.AtLine.{AtLine}
 use Rattle.client_cache.specs.Cache.{Cache, answered, copy_at, evicted, granted, probed, probed_copy, wanted}
 use Rattle.client_cache.specs.declared.answers.Evict.{Evict}
 use Rattle.client_cache.specs.declared.answers.Evict.TheVariants.{Evicted}
-use Rattle.client_cache.specs.declared.answers.Probed.{Probed}
-use Rattle.client_cache.specs.declared.answers.Probed.TheVariants.{Releasing, Answered}
+use Rattle.client_cache.specs.declared.answers.Probed.TheVariants.{Answered}
 use Rattle.client_cache.specs.declared.answers.Want.TheVariants.{Missed}
 use Rattle.client_cache.specs.declared.held.Held.{Held}
 use Rattle.machine_model.specs.Changing.{given_up, missed, release_body, sent_if_evicted}
-use Rattle.machine_model.specs.Deliveries.{on_grant, on_probe, on_release_ack, probe_ack_body, sent_if_answered, taken, with_less}
+use Rattle.machine_model.specs.Deliveries.{on_grant, on_probe, on_release_ack, probe_ack_body, taken, with_less}
 use Rattle.machine_model.specs.LawfulLog.{is_acquire, is_grant, is_release, is_release_ack, no_acquire_open, no_release_open}
 use Rattle.machine_model.specs.Views.{Node, State, no_node, node_at, sent, with_node}
 use Rattle.machine_model.proofs.coherence.LineViews.{evicted_says, missed_says, probed_says}
@@ -33,6 +32,8 @@ use Rattle.tl_types.specs.declared.permission.Cap.{Cap}
 use Rattle.tl_types.specs.declared.permission.Change.{Change}
 use Rattle.tl_types.specs.declared.permission.Grow.{Grow}
 use Rattle.trace_recorder.specs.declared.logged.Logged.{Logged}
+use Rattle.machine_model.proofs.CacheCalls.{by_probed}
+use Rattle.machine_model.proofs.Parts.{by_answered}
 
 -- what of the hart has to be answered before the message goes out
 abbrev pub is_free : Body → ℕ → ℕ → List Logged → Bool
@@ -253,15 +254,14 @@ module _ (s : State) (h : ℕ) (in_h : h < length s.views.nodes) (i : IsFlagged 
         u = turned_taken c
 
     probed_same : (l : ℕ) (cap : Cap) → ((probed n1.cache l cap).1.acquiring ≡ n1.cache.acquiring) × ((probed n1.cache l cap).1.releasing ≡ n1.cache.releasing)
-    probed_same l cap = go (set.contains n1.cache.releasing l) (copy_at n1.cache l)
+    probed_same l cap = by_probed (λ a. (a.1.acquiring ≡ n1.cache.acquiring) × (a.1.releasing ≡ n1.cache.releasing)) n1.cache l cap (refl, refl) (λ e. go (copy_at n1.cache l))
       where
-        go : (b : Bool) (o : Option Held) → ((if b then (Releasing, n1.cache) else probed_copy n1.cache l cap o).1.acquiring ≡ n1.cache.acquiring) × ((if b then (Releasing, n1.cache) else probed_copy n1.cache l cap o).1.releasing ≡ n1.cache.releasing)
-        go true o = (refl, refl)
-        go false None = (refl, refl)
-        go false (Some x) = (refl, refl)
+        go : (o : Option Held) → ((probed_copy n1.cache l cap o).1.acquiring ≡ n1.cache.acquiring) × ((probed_copy n1.cache l cap o).1.releasing ≡ n1.cache.releasing)
+        go None = (refl, refl)
+        go (Some x) = (refl, refl)
 
     pub probed_flagged : (cap : Cap) → IsFlagged s1 → IsFlagged (on_probe h m.line cap s1)
-    probed_flagged cap j = go (probed n1.cache m.line cap).0 refl
+    probed_flagged cap j = by_answered IsFlagged shrunk k h m.line (probed n1.cache m.line cap).0 (λ change bytes e. goes change bytes e)
       where
         shrunk : State
         shrunk = with_node h (with_less (probed n1.cache m.line cap).1 m.line n1) s1
@@ -277,7 +277,7 @@ module _ (s : State) (h : ℕ) (in_h : h < length s.views.nodes) (i : IsFlagged 
         plain change None = (refl, refl)
         plain change (Some bytes) = (refl, refl)
 
-        go : (a : Probed) → (probed n1.cache m.line cap).0 ≡ a → IsFlagged (sent_if_answered h m.line a shrunk)
-        go Releasing e = k
-        go (Answered change bytes) e = plain_sent h (record { line = m.line; body = probe_ack_body change bytes }) shrunk (plain change bytes).0 (plain change bytes).1
+        goes : (change : Change) (bytes : Option LineData) → (probed n1.cache m.line cap).0 ≡ Answered change bytes → IsFlagged (sent h (record { line = m.line; body = probe_ack_body change bytes }) shrunk)
+        goes change bytes e =
+            plain_sent h (record { line = m.line; body = probe_ack_body change bytes }) shrunk (plain change bytes).0 (plain change bytes).1
             (free change bytes (settled is_release is_release_ack rel s1 h m.line j.left in_1 (probed_says n1.cache m.line cap change bytes e).rested)) k

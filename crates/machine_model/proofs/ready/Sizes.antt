@@ -1,40 +1,18 @@
 -- Each act keeps the caches' shapes, the notes' number of harts, the sizes of memory's lines and the count of events.
-use Rattle.std.proofs.Common.{ℕ, zero, suc, ◌<◌, Bool, true, false, List, [], ◌∷◌, ◌≡◌, Option, Some, None, refl, ◌∙◌, length, slice_set, slice_index_or}
-use Rattle.std.specs.Prelude.{if◌then◌else◌, nat_le}
-use Rattle.std.specs.FinMap as map
-use Rattle.std.specs.FinSet as set
-use Rattle.machine_types.specs.declared.limits.TheConstants.{TRACKERS}
+use Rattle.std.proofs.Common.{ℕ, zero, suc, ◌<◌, Bool, List, [], ◌∷◌, ◌≡◌, Option, Some, None, refl, ◌∙◌, length, slice_set, slice_index_or}
 use native.Mathlib.Omega.{arith}
 use Rattle.backing_memory.specs.Memory.{line_data}
-use Rattle.client_cache.specs.Cache.{Cache, copy_at, wanted, probed, probed_copy, granted, answered, evicted, evicted_copy, is_set_full, word_written, word_written_in}
-use Rattle.client_cache.specs.Held.{eviction_of}
+use Rattle.client_cache.specs.Cache.{wanted, probed, granted, answered, evicted}
 use Rattle.client_cache.specs.Word.{with_word}
 use Rattle.client_cache.specs.declared.answers.Evict.{Evict}
-use Rattle.client_cache.specs.declared.answers.Evict.TheVariants as evict
-use Rattle.client_cache.specs.declared.answers.Probed.{Probed}
-use Rattle.client_cache.specs.declared.answers.Probed.TheVariants as probe
-use Rattle.client_cache.specs.declared.answers.Want.TheVariants as want
-use Rattle.client_cache.specs.declared.held.Held.{Held}
 use Rattle.directory.specs.Directory.{Notes, acquired, grant_acked, probe_acked, released}
-use Rattle.directory.specs.declared.answer.Acquired.{Acquired}
-use Rattle.directory.specs.declared.answer.Acquired.TheVariants.{Handled, Busy}
-use Rattle.directory.specs.declared.answer.Grant.{Grant as Granting}
-use Rattle.directory.specs.declared.answer.Sent.{Sent}
-use Rattle.directory.specs.declared.answer.Sent.TheVariants.{Probes, Granting as Grants}
-use Rattle.machine_model.specs.Changing.{acted, does, performs, performs_own, drained, given_up, missed, sent_if_evicted, writes_word}
-use Rattle.machine_model.specs.Deliveries.{delivered, handled, on_acquire, on_grant, on_probe, on_probe_ack, on_release, sent_any, sent_if_answered, sent_if_granted, sent_if_handled, sent_probes, taken, with_less, with_memory, with_notes}
+use Rattle.machine_model.specs.Changing.{acted, does, performs, given_up, missed}
+use Rattle.machine_model.specs.Deliveries.{delivered, handled, on_acquire, on_grant, on_probe, on_probe_ack, on_release, taken, with_less, with_memory, with_notes}
 use Rattle.hart.specs.Run.{after_instr}
-use Rattle.machine_model.specs.Views.{Node, State, Views, line_of, line_size, no_node, node_at, place_of, sent, with_node, with_trace}
-use Rattle.machine_model.specs.Words.{bytes_of_word}
+use Rattle.machine_model.specs.Views.{Node, State, Views, line_of, line_size, no_node, node_at, place_of, sent, with_node}
 use Rattle.machine_model.specs.declared.act.Act.{Act}
 use Rattle.machine_model.specs.declared.act.Act.TheVariants as act
-use Rattle.machine_model.specs.declared.act.Deed.{Deed}
-use Rattle.machine_model.specs.declared.act.Deed.TheVariants as deed
 use Rattle.machine_model.proofs.log.Acts.{same-set}
-use Rattle.machine_types.specs.declared.model.MemoryModel.{MemoryModel}
-use Rattle.store_buffer.specs.ByteMask.{marks_of_access}
-use Rattle.store_buffer.specs.Entry.{entry_of}
-use Rattle.store_buffer.specs.Groups.{oldest}
 use Rattle.tl_types.specs.Line.{size_of}
 use Rattle.tl_types.specs.declared.line.LineData.{LineData}
 use Rattle.tl_types.specs.declared.line.LineData.TheVariants as data_of
@@ -45,55 +23,8 @@ use Rattle.tl_types.specs.declared.message.Msg.{Msg}
 use Rattle.tl_types.specs.declared.permission.Cap.{Cap}
 use Rattle.tl_types.specs.declared.permission.Change.{Change}
 use Rattle.tl_types.specs.declared.permission.Grow.{Grow}
-use Rattle.trace_recorder.specs.History.{with_performed}
-
--- ---- what a call of the cache leaves
-
-abbrev choice : {X : Type 0} → Bool → X × Cache → X × Cache → X × Cache
-choice t x y = if t then x else y
-
-either : {X : Type 0} (P : Cache → Type 0) (t : Bool) (x y : X × Cache) → P x.1 → P y.1 → P (choice t x y).1
-either P true x y p q = p
-either P false x y p q = q
-
-module _ (c : Cache) (l : ℕ) where
-  abbrev IsShaped : Cache → Type 0
-  IsShaped d = d.shape ≡ c.shape
-
-  wanted_shape : (grow : Grow) → IsShaped (wanted c l grow).1
-  wanted_shape grow =
-      let asked = record c { acquiring = set.insert c.acquiring l } in
-      let roomy = choice (is_set_full c l) (want.SetFull, c) (want.Missed grow, asked) in
-      let tracked = choice (nat_le TRACKERS (set.len c.acquiring)) (want.NoTracker, c) roomy in
-      either IsShaped (set.contains c.releasing l) (want.WaitRelease, c) (choice (set.contains c.acquiring l) (want.WaitGrant, c) tracked) refl
-      (either IsShaped (set.contains c.acquiring l) (want.WaitGrant, c) tracked refl
-      (either IsShaped (nat_le TRACKERS (set.len c.acquiring)) (want.NoTracker, c) roomy refl
-      (either IsShaped (is_set_full c l) (want.SetFull, c) (want.Missed grow, asked) refl refl)))
-
-  evicted_shape : IsShaped (evicted c l).1
-  evicted_shape = go (copy_at c l)
-    where
-      go : (o : Option Held) → (evicted_copy c l o).1.shape ≡ c.shape
-      go None = refl
-      go (Some h) =
-          let gone = record c { copies = map.remove c.copies l; releasing = set.insert c.releasing l } in
-          let tracked = choice (nat_le TRACKERS (set.len c.releasing)) (evict.ReleaseFull, c) (eviction_of h, gone) in
-          either IsShaped (set.contains c.acquiring l) (evict.AcquirePending, c) tracked refl
-          (either IsShaped (nat_le TRACKERS (set.len c.releasing)) (evict.ReleaseFull, c) (eviction_of h, gone) refl refl)
-
-  probed_shape : (cap : Cap) → IsShaped (probed c l cap).1
-  probed_shape cap = either IsShaped (set.contains c.releasing l) (probe.Releasing, c) (probed_copy c l cap (copy_at c l)) refl (go (copy_at c l))
-    where
-      go : (o : Option Held) → (probed_copy c l cap o).1.shape ≡ c.shape
-      go None = refl
-      go (Some h) = refl
-
-  written_shape : (word : ℕ) (marks : List Bool) (bytes : List ℕ) → IsShaped (word_written c l word marks bytes)
-  written_shape word marks bytes = go (copy_at c l)
-    where
-      go : (o : Option Held) → (word_written_in c l word marks bytes o).shape ≡ c.shape
-      go None = refl
-      go (Some h) = refl
+use Rattle.machine_model.proofs.CacheCalls.{evicted_shape, probed_shape, wanted_keeps, written_shape}
+use Rattle.machine_model.proofs.Parts.{KeptByDeeds, by_answered, by_granted, by_handled, by_left, does_by, drained_by}
 
 -- ---- lines of one size
 
@@ -140,35 +71,9 @@ module _ (size : LineSize) where
   taken_keeps : (h : ℕ) (m : Msg) (s : State) → Keeps s.views (taken h m s).views
   taken_keeps h m s = keeps_node h _ s refl
 
-  -- ---- what the manager sends
-
-  probes_keep : (harts : List ℕ) (line : ℕ) (cap : Cap) (s : State) → Keeps s.views (sent_probes harts line cap s).views
-  probes_keep [] line cap s = keeps_all s.views
-  probes_keep (hart ∷ harts) line cap s =
-      let query : Msg = record { line = line; body = ProbeBlock cap } in
-      keeps_then s.views (sent hart query s).views _ (sent_keeps hart query s) (probes_keep harts line cap (sent hart query s))
-
-  any_keeps : (line : ℕ) (a : Sent) (s : State) → Keeps s.views (sent_any line a s).views
-  any_keeps line (Probes cap harts) s = probes_keep harts line cap s
-  any_keeps line (Grants g) s = sent_keeps g.hart _ s
-
-  if_handled : (line : ℕ) (a : Acquired) (s : State) → Keeps s.views (sent_if_handled line a s).views
-  if_handled line Busy s = keeps_all s.views
-  if_handled line (Handled sends) s = any_keeps line sends s
-
-  if_granted : (line : ℕ) (g : Option Granting) (s : State) → Keeps s.views (sent_if_granted line g s).views
-  if_granted line None s = keeps_all s.views
-  if_granted line (Some g) s = sent_keeps g.hart _ s
-
-  if_answered : (h line : ℕ) (p : Probed) (s : State) → Keeps s.views (sent_if_answered h line p s).views
-  if_answered h line probe.Releasing s = keeps_all s.views
-  if_answered h line (probe.Answered change bytes) s = sent_keeps h _ s
-
-  if_evicted : (h line : ℕ) (e : Evict) (s : State) → Keeps s.views (sent_if_evicted h line e s).views
-  if_evicted h line (evict.Evicted change bytes) s = sent_keeps h _ s
-  if_evicted h line evict.NotHeld s = keeps_all s.views
-  if_evicted h line evict.AcquirePending s = keeps_all s.views
-  if_evicted h line evict.ReleaseFull s = keeps_all s.views
+  -- what is sent after a change of the views
+  sends_on : (h : ℕ) (m : Msg) (v : Views) (s : State) → Keeps v s.views → Keeps v (sent h m s).views
+  sends_on h m v s k = keeps_then v s.views (sent h m s).views k (sent_keeps h m s)
 
   -- ---- deliveries
 
@@ -185,7 +90,8 @@ module _ (size : LineSize) where
   acknowledged_keeps h line change bytes s is =
       let answer = probe_acked s.views.notes (place_of (line_size s) line) h change in
       let noted = with_notes answer.1 (with_memory line bytes s) in
-      keeps_then s.views noted.views _ (stored_keeps line bytes answer.1 s refl is) (if_granted line answer.0 noted)
+      let k = stored_keeps line bytes answer.1 s refl is in
+      by_granted (λ t. Keeps s.views t.views) noted k line answer.0 (λ g. sends_on g.hart _ s.views noted k)
 
   released_keeps : (h line : ℕ) (bytes : Option LineData) (s : State) → IsSized bytes → Keeps s.views (on_release h line bytes s).views
   released_keeps h line bytes s is =
@@ -196,14 +102,14 @@ module _ (size : LineSize) where
   acquired_keeps : (h line : ℕ) (grow : Grow) (s : State) → Keeps s.views (on_acquire h line grow s).views
   acquired_keeps h line grow s =
       let answer = acquired s.views.notes (place_of (line_size s) line) h grow in
-      let noted = with_notes answer.1 s in
-      keeps_then s.views noted.views _ (stored_keeps line None answer.1 s refl tt) (if_handled line answer.0 noted)
+      by_handled (λ t. Keeps s.views t.views) (λ h line cap t k. sends_on h (record { line = line; body = ProbeBlock cap }) s.views t k) (λ line g t k. sends_on g.hart _ s.views t k) line answer.0 (with_notes answer.1 s) (stored_keeps line None answer.1 s refl tt)
 
   probed_keeps : (h line : ℕ) (cap : Cap) (s : State) → Keeps s.views (on_probe h line cap s).views
   probed_keeps h line cap s =
       let answer = probed (node_at s h).cache line cap in
       let shrunk = with_node h (with_less answer.1 line (node_at s h)) s in
-      keeps_then s.views shrunk.views _ (keeps_node h (with_less answer.1 line (node_at s h)) s (probed_shape (node_at s h).cache line cap)) (if_answered h line answer.0 shrunk)
+      let k = keeps_node h (with_less answer.1 line (node_at s h)) s (probed_shape (node_at s h).cache line cap) in
+      by_answered (λ t. Keeps s.views t.views) shrunk k h line answer.0 (λ change bytes e. sends_on h _ s.views shrunk k)
 
   granted_keeps : (h line : ℕ) (cap : Cap) (bytes : Option LineData) (s : State) → Keeps s.views (on_grant h line cap bytes s).views
   granted_keeps h line cap bytes s =
@@ -234,42 +140,23 @@ module _ (size : LineSize) where
   -- ---- the other acts
 
   missed_keeps : (h line : ℕ) (grow : Grow) (s : State) → Keeps s.views (missed h line grow s).views
-  missed_keeps h line grow s =
-      let asking = with_node h (record (node_at s h) { cache = (wanted (node_at s h).cache line grow).1 }) s in
-      keeps_then s.views asking.views _ (keeps_node h _ s (wanted_shape (node_at s h).cache line grow)) (sent_keeps h (record { line = line; body = AcquireBlock grow }) asking)
+  missed_keeps h line grow s = sends_on h (record { line = line; body = AcquireBlock grow }) s.views (with_node h (record (node_at s h) { cache = (wanted (node_at s h).cache line grow).1 }) s) (keeps_node h _ s (wanted_keeps (node_at s h).cache line grow).0)
 
   given_up_keeps : (h line : ℕ) (s : State) → Keeps s.views (given_up h line s).views
   given_up_keeps h line s =
       let answer = evicted (node_at s h).cache line in
       let less = with_node h (with_less answer.1 line (node_at s h)) s in
-      keeps_then s.views less.views _ (keeps_node h (with_less answer.1 line (node_at s h)) s (evicted_shape (node_at s h).cache line)) (if_evicted h line answer.0 less)
+      let k = keeps_node h (with_less answer.1 line (node_at s h)) s (evicted_shape (node_at s h).cache line) in
+      by_left (λ t. Keeps s.views t.views) less k h line answer.0 (λ change bytes. sends_on h _ s.views less k)
 
-  performs_keeps : (h : ℕ) (places : List ℕ) (s : State) → Keeps s.views (performs h places s).views
-  performs_keeps h [] s = keeps_all s.views
-  performs_keeps h (place ∷ places) s = performs_keeps h places (with_trace (with_performed (record { hart = h; place = place }) s.trace) s)
-
-  writes_keeps : (h word : ℕ) (marks : List Bool) (bytes : List ℕ) (s : State) → Keeps s.views (writes_word h word marks bytes s).views
-  writes_keeps h word marks bytes s = keeps_node h _ s (written_shape (node_at s h).cache (line_of (node_at s h).cache.shape.size word) word marks bytes)
-
-  drained_keeps : (h word : ℕ) (s : State) → Keeps s.views (drained h word s).views
-  drained_keeps h word s =
-      let e = entry_of word (oldest (node_at s h).buffer) in
-      let done = performs h e.ops s in
-      let stored = writes_word h word e.mask e.bytes done in
-      keeps_then s.views done.views _ (performs_keeps h e.ops s) (keeps_then done.views stored.views _ (writes_keeps h word e.mask e.bytes done) (keeps_node h _ stored refl))
-
-  does_keeps : (model : MemoryModel) (h : ℕ) (d : Deed) (s : State) → Keeps s.views (does model h d s).views
-  does_keeps model h deed.Private s = keeps_all s.views
-  does_keeps model h (deed.Output number) s = keeps_node h _ s refl
-  does_keeps model h deed.Load s = keeps_all s.views
-  does_keeps model h (deed.Store store) s = keeps_node h _ s refl
-  does_keeps model h deed.Seal s = keeps_node h _ s refl
-  does_keeps model h (deed.Lr word) s = keeps_node h _ (performs_own h s) refl
-  does_keeps model h deed.Fail s = keeps_node h _ s refl
-  does_keeps model h (deed.Sc word value) s =
-      let stored = writes_word h word (marks_of_access 0 4) (bytes_of_word value) (performs_own h s) in
-      keeps_then s.views stored.views _ (writes_keeps h word (marks_of_access 0 4) (bytes_of_word value) (performs_own h s)) (keeps_node h _ stored refl)
-  does_keeps model h (deed.Amo word value) s = writes_keeps h word (marks_of_access 0 4) (bytes_of_word value) (performs_own h s)
+  by_deeds : (v : Views) → KeptByDeeds (λ t. Keeps v t.views)
+  by_deeds v = record {
+    performs = λ h place t k. k;
+    puts_out = λ h numbers t k. keeps_then v t.views _ k (keeps_node h (record (node_at t h) { output = numbers }) t refl);
+    buffers = λ h b t k. keeps_then v t.views _ k (keeps_node h (record (node_at t h) { buffer = b }) t refl);
+    reserves = λ h o t k. keeps_then v t.views _ k (keeps_node h (record (node_at t h) { reserved = o }) t refl);
+    writes = λ h word marks bytes t k. keeps_then v t.views _ k (keeps_node h _ t (written_shape (node_at t h).cache (line_of (node_at t h).cache.shape.size word) word marks bytes));
+  }
 
   -- ---- an act
 
@@ -281,9 +168,9 @@ module _ (size : LineSize) where
   acted_keeps h (act.Stop code) s is = keeps_node h _ s refl
   acted_keeps h (act.Retire entry i d) s is =
       let did = does s.views.config.model h d s in
-      keeps_then s.views did.views _ (does_keeps s.views.config.model h d s) (keeps_node h (record (node_at did h) { hart = after_instr (node_at did h).hart entry (Some i) }) did refl)
+      keeps_then s.views did.views _ (does_by (λ t. Keeps s.views t.views) (by_deeds s.views) s.views.config.model h d s (keeps_all s.views)) (keeps_node h (record (node_at did h) { hart = after_instr (node_at did h).hart entry (Some i) }) did refl)
   acted_keeps h (act.Miss line grow) s is = missed_keeps h line grow s
-  acted_keeps h (act.Drain word) s is = drained_keeps h word s
+  acted_keeps h (act.Drain word) s is = drained_by (λ t. Keeps s.views t.views) (by_deeds s.views) h word s (keeps_all s.views)
   acted_keeps h (act.Evict line) s is = given_up_keeps h line s
   acted_keeps h (act.Deliver m) s is = delivered_keeps h m s is
   acted_keeps h (act.Local count) s is = keeps_node h _ s refl

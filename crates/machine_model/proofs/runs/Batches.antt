@@ -1,5 +1,5 @@
 -- A Local event that retires is as many single steps.
-use Rattle.std.proofs.Common.{◌≡◌, ℕ, zero, suc, ◌+◌, ◌<◌, ◌≤◌, List, [], ◌∷◌, ◌++◌, Bool, true, false, Option, Some, None, refl, cond, sym, ap, ◌∙◌, subst, not, ◌||◌, length, slice_index_or, slice_set, arith}
+use Rattle.std.proofs.Common.{◌≡◌, ℕ, zero, suc, ◌+◌, ◌<◌, ◌≤◌, List, [], ◌∷◌, ◌++◌, Bool, true, false, Option, Some, None, refl, cond, sym, ap, ◌∙◌, subst, ◌||◌, length, slice_index_or, slice_set, arith}
 use Rattle.std.specs.Prelude.{nat_lt, nat_le, is_none}
 use Rattle.std.proofs.lemmas.Bool.{false≢true, and_parts, and_from, ltb-true, lt-ltb, leb-true}
 use Rattle.std.proofs.lemmas.List.{set-set, set-get_or, length-set, length-append}
@@ -15,14 +15,14 @@ use Rattle.hart.proofs.Alone.{alone, after-running, private_is}
 use Rattle.hart.proofs.Rows.{stop_of-private}
 use Rattle.machine_model.specs.declared.act.Act.TheVariants as act
 use Rattle.machine_model.specs.declared.act.Deed.TheVariants as deed
-use Rattle.machine_model.specs.declared.act.Plan.TheVariants.{Stays, Changes}
+use Rattle.machine_model.specs.declared.act.Plan.TheVariants.{Changes}
 use Rattle.machine_types.specs.declared.event.Event.TheVariants as event
 use Rattle.machine_types.specs.declared.outcome.Outcome.{Outcome}
 use Rattle.machine_types.specs.declared.outcome.Outcome.TheVariants as outcome
 use Rattle.machine_model.specs.Changing.{with_entries, outcome_by, outcome_of_act, next_place, retired, went_alone, with_halt}
 use Rattle.machine_model.specs.Events.{Verdict, counted, is_good, plan_of, verdict, verdict_by}
 use Rattle.machine_model.specs.Laws.{LocalIsSteps, StepsRetire, with_changes}
-use Rattle.machine_model.specs.Steps.{plan_access, plan_instr, plan_step, plan_unless}
+use Rattle.machine_model.specs.Steps.{plan_step}
 use Rattle.machine_model.specs.Views.{Node, State, no_node, node_at, with_node, with_trace}
 use Rattle.machine_model.proofs.Nodes.{node_same}
 use Rattle.machine_types.specs.declared.model.MemoryModel.{MemoryModel}
@@ -50,11 +50,7 @@ no_stop image hart i c d p s =
     ∙ (ap (stop_with (length image.bytes) hart) d ∙ (stop_of-private i hart.pc hart.regs (length image.bytes) 0 p ∙ none_of (stop_of i hart.pc hart.regs 0) s))
 
 step_alone : (model : MemoryModel) (image : Initial) (n : Node) (place : ℕ) (i : Instr) → is_running n.hart.status ≡ true → next_stop image n.hart ≡ None → decoded (word_at image n.hart.pc) ≡ Some i → access_of i n.hart.regs ≡ Private → plan_step model image n place ≡ Changes (act.Retire (next_entry image n.hart) i deed.Private)
-step_alone model image n place i r s d p =
-    ap (λ (b : Bool). cond (not b) (Stays outcome.Halted) (plan_unless (next_stop image n.hart) (plan_instr model n (word_at image n.hart.pc) place (decoded (word_at image n.hart.pc))))) r
-    ∙ (ap (λ (o : Option ℕ). plan_unless o (plan_instr model n (word_at image n.hart.pc) place (decoded (word_at image n.hart.pc)))) s
-    ∙ (ap (plan_instr model n (word_at image n.hart.pc) place) d
-    ∙ ap (plan_access model n (record { word = word_at image n.hart.pc; instr = i; place = place })) p))
+step_alone model image n place i r s d p = rw (r, s, d, p) refl
 
 -- the state behind such a step
 abbrev stepped : ℕ → Instr → State → State

@@ -10,21 +10,19 @@ use Rattle.client_cache.specs.Word.{with_word}
 use Rattle.client_cache.specs.declared.held.Held.{Held}
 use Rattle.client_cache.specs.declared.held.Held.TheVariants.{Trunk}
 use Rattle.hart.specs.declared.state.Hart.{Hart}
-use Rattle.machine_model.specs.Changing.{acted, does, performs, performs_own, writes_word}
+use Rattle.machine_model.specs.Changing.{acted, does, performs, writes_word}
 use Rattle.machine_model.specs.Deliveries.{is_trunk}
 use Rattle.machine_model.specs.Views.{Node, State, Views, line_of, no_node, node_at, with_node, with_trace}
-use Rattle.machine_model.specs.Words.{bytes_of_word}
 use Rattle.machine_model.specs.declared.act.Act.{Act}
 use Rattle.machine_model.specs.declared.act.Act.TheVariants as act
 use Rattle.machine_model.specs.declared.act.Deed.{Deed}
 use Rattle.machine_model.specs.declared.act.Deed.TheVariants as deed
 use Rattle.machine_model.proofs.log.Acts.{IsAlone, same-set}
 use Rattle.machine_types.specs.declared.model.MemoryModel.{MemoryModel}
-use Rattle.store_buffer.specs.ByteMask.{marks_of_access}
 use Rattle.store_buffer.specs.Entry.{entry_of}
 use Rattle.store_buffer.specs.Groups.{oldest}
-use Rattle.store_buffer.specs.declared.entry.Entry.{Entry}
 use Rattle.trace_recorder.specs.History.{History, with_performed}
+use Rattle.machine_model.proofs.Parts.{KeptByDeeds, does_by, drained_by}
 
 -- ---- notes
 
@@ -97,21 +95,17 @@ writes_keep h word marks bytes s =
     let line : ℕ = line_of n.cache.shape.size word in
     record { same = λ k d. keeps_set s.views.nodes h k (record n { cache = word_written n.cache line word marks bytes }) d (no_node s) (written_keeps n.cache line word marks bytes (copy_at n.cache line)) }
 
-own_keeps : (h : ℕ) (s : State) → KeepsPerms s (performs_own h s)
-own_keeps h s = record { same = λ k d l f. refl }
+by_deeds : (s : State) → KeptByDeeds (KeepsPerms s)
+by_deeds s = record {
+  performs = λ h place t k. record { same = k.same };
+  puts_out = λ h numbers t k. then s t _ k (keeps_node h _ t refl);
+  buffers = λ h b t k. then s t _ k (keeps_node h _ t refl);
+  reserves = λ h o t k. then s t _ k (keeps_node h _ t refl);
+  writes = λ h word marks bytes t k. then s t _ k (writes_keep h word marks bytes t);
+}
 
-does_keep : (model : MemoryModel) (h : ℕ) (d : Deed) (s : State) → KeepsPerms s (does model h d s)
-does_keep model h deed.Private s = same_views s s refl
-does_keep model h (deed.Output number) s = keeps_node h _ s refl
-does_keep model h deed.Load s = own_keeps h s
-does_keep model h (deed.Store store) s = keeps_node h _ s refl
-does_keep model h deed.Seal s = keeps_node h _ s refl
-does_keep model h (deed.Lr word) s = then s (performs_own h s) _ (own_keeps h s) (keeps_node h _ (performs_own h s) refl)
-does_keep model h deed.Fail s = keeps_node h _ s refl
-does_keep model h (deed.Sc word value) s =
-    let wrote : State = writes_word h word (marks_of_access 0 4) (bytes_of_word value) (performs_own h s) in
-    then s (performs_own h s) _ (own_keeps h s) (then (performs_own h s) wrote _ (writes_keep h word (marks_of_access 0 4) (bytes_of_word value) (performs_own h s)) (keeps_node h _ wrote refl))
-does_keep model h (deed.Amo word value) s = then s (performs_own h s) _ (own_keeps h s) (writes_keep h word (marks_of_access 0 4) (bytes_of_word value) (performs_own h s))
+perms_not : (s : State) → KeepsPerms s s
+perms_not s = same_views s s refl
 
 hart_keeps : (h : ℕ) (hart : Hart) (t : History) (s : State) → KeepsPerms s (with_trace t (with_node h (record (node_at s h) { hart = hart }) s))
 hart_keeps h hart t s =
@@ -122,12 +116,8 @@ pub alone_perms : (h : ℕ) (a : Act) (s : State) → IsAlone a → KeepsPerms s
 alone_perms h (act.Stop code) s is = hart_keeps h _ _ s
 alone_perms h (act.Retire entry i d) s is =
     let did : State = does s.views.config.model h d s in
-    then s did _ (does_keep s.views.config.model h d s) (hart_keeps h _ _ did)
-alone_perms h (act.Drain word) s is =
-    let e : Entry = entry_of word (oldest (node_at s h).buffer) in
-    let done : State = performs h e.ops s in
-    let wrote : State = writes_word h word e.mask e.bytes done in
-    then s done _ (same_views s done (performs_views h e.ops s)) (then done wrote _ (writes_keep h word e.mask e.bytes done) (keeps_node h _ wrote refl))
+    then s did _ (does_by (KeepsPerms s) (by_deeds s) s.views.config.model h d s (perms_not s)) (hart_keeps h _ _ did)
+alone_perms h (act.Drain word) s is = drained_by (KeepsPerms s) (by_deeds s) h word s (perms_not s)
 alone_perms h (act.Local count) s is = hart_keeps h _ _ s
 alone_perms h (act.Miss line grow) s is = absurd is
 alone_perms h (act.Evict line) s is = absurd is

@@ -4,11 +4,10 @@ use Rattle.std.specs.Prelude.{◌==◌, ◌&&◌}
 use native.Mathlib.Omega.{arith}
 use Rattle.client_cache.specs.Cache.{evicted, probed, wanted}
 use Rattle.client_cache.specs.declared.answers.Evict.{Evict}
-use Rattle.client_cache.specs.declared.answers.Evict.TheVariants as evict
 use Rattle.client_cache.specs.declared.answers.Probed.{Probed}
 use Rattle.client_cache.specs.declared.answers.Probed.TheVariants.{Answered}
 use Rattle.elf_loader.specs.Image.{Initial}
-use Rattle.machine_model.specs.Changing.{acted, sent_if_evicted}
+use Rattle.machine_model.specs.Changing.{acted, release_body}
 use Rattle.machine_model.specs.Deliveries.{handled, sent_if_answered, taken, with_less}
 use Rattle.machine_model.specs.Events.{counted, happens, hart_of}
 use Rattle.machine_model.specs.LawfulLog.{concerns, is_grant, is_grant_ack, is_probe, is_probe_ack, sent_count, taken_count}
@@ -30,6 +29,7 @@ use Rattle.tl_types.specs.declared.message.Msg.{Msg}
 use Rattle.tl_types.specs.declared.permission.Cap.{Cap}
 use Rattle.tl_types.specs.declared.permission.Change.{Change}
 use Rattle.trace_recorder.specs.declared.logged.Logged.{Logged}
+use Rattle.machine_model.proofs.Parts.{by_left}
 
 -- ---- a question that is taken, and its answer behind it
 
@@ -100,12 +100,9 @@ taken_answering h m s g p i = record { grants = plain_out is_grant is_grant_ack 
 pub same_cache : (h : ℕ) (m : Msg) (s : State) → (node_at (taken h m s) h).cache ≡ (node_at s h).cache
 same_cache h m s = same-set (λ (x : Node). x.cache) s.views.nodes h h _ (no_node s) (no_node s) refl
 
-evicted_answering : (h line : ℕ) (e : Evict) (s : State) → IsAnswering s → IsAnswering (sent_if_evicted h line e s)
-evicted_answering h line (evict.Evicted change None) s i = sent_answering h _ s refl refl i
-evicted_answering h line (evict.Evicted change (Some bytes)) s i = sent_answering h _ s refl refl i
-evicted_answering h line evict.NotHeld s i = i
-evicted_answering h line evict.AcquirePending s i = i
-evicted_answering h line evict.ReleaseFull s i = i
+released_answering : (h line : ℕ) (change : Change) (bytes : Option LineData) (s : State) → IsAnswering s → IsAnswering (sent h (record { line = line; body = release_body change bytes }) s)
+released_answering h line change None s i = sent_answering h _ s refl refl i
+released_answering h line change (Some bytes) s i = sent_answering h _ s refl refl i
 
 module _ (s : State) (h l : ℕ) (i : IsAnswering s) where
   abbrev after : Body → State
@@ -147,7 +144,8 @@ answering s e (act.Miss line grow) is i =
 answering s e (act.Evict line) is i =
     let h = hart_of e in
     let less : State = with_node h (with_less (evicted (node_at s h).cache line).1 line (node_at s h)) s in
-    evicted_answering h line (evicted (node_at s h).cache line).0 less (same_log s less refl i)
+    let still = same_log s less refl i in
+    by_left IsAnswering less still h line (evicted (node_at s h).cache line).0 (λ change bytes. released_answering h line change bytes less still)
 answering s e (act.Deliver m) is i = delivered_answering s (hart_of e) m.line i m.body is.2.ready
 answering s e (act.Stop code) is i = still_answering s _ (alone_still (hart_of e) (act.Stop code) s tt) i
 answering s e (act.Retire entry instr d) is i = still_answering s _ (alone_still (hart_of e) (act.Retire entry instr d) s tt) i

@@ -7,18 +7,14 @@ use Rattle.std.proofs.lemmas.List.{get_or-set_same, get_or-set_other, get_or_pas
 use mathlib.Core.Logic.{◌⊎◌, inl, inr}
 use native.Mathlib.Omega.{arith}
 use Rattle.client_cache.specs.Cache.{evicted, granted, probed, wanted}
-use Rattle.client_cache.specs.declared.answers.Evict.{Evict}
-use Rattle.client_cache.specs.declared.answers.Evict.TheVariants as evict
-use Rattle.client_cache.specs.declared.answers.Probed.{Probed}
-use Rattle.client_cache.specs.declared.answers.Probed.TheVariants as probe
 use Rattle.directory.specs.Directory as directory
 use Rattle.directory.specs.Directory.{Notes, line_at, quiet, with_line}
 use Rattle.directory.specs.Lines as lines
 use Rattle.directory.specs.Lines.{Line}
 use Rattle.directory.specs.declared.answer.Transaction.TheVariants.{Probing}
 use Rattle.elf_loader.specs.Image.{Initial}
-use Rattle.machine_model.specs.Changing.{acted, given_up, missed, sent_if_evicted}
-use Rattle.machine_model.specs.Deliveries.{on_grant, on_grant_ack, on_probe, on_release, on_release_ack, sent_if_answered, taken, with_less, with_memory, with_notes}
+use Rattle.machine_model.specs.Changing.{acted, given_up, missed}
+use Rattle.machine_model.specs.Deliveries.{on_grant, on_grant_ack, on_probe, on_release, on_release_ack, taken, with_less, with_memory, with_notes}
 use Rattle.machine_model.specs.Events.{is_piece}
 use Rattle.machine_model.specs.LawfulLog.{is_acquire, may_send}
 use Rattle.machine_model.proofs.log.Parts.{is_probe_or_grant}
@@ -41,6 +37,10 @@ use Rattle.tl_types.specs.declared.message.Msg.{Msg}
 use Rattle.tl_types.specs.declared.permission.Cap.{Cap}
 use Rattle.tl_types.specs.declared.permission.Grow.{Grow}
 use Rattle.trace_recorder.specs.declared.logged.Logged.{Logged}
+use Rattle.machine_model.proofs.Parts.{by_answered, by_left}
+use Rattle.machine_model.specs.Changing.{release_body}
+use Rattle.machine_model.specs.Deliveries.{probe_ack_body}
+use Rattle.tl_types.specs.declared.permission.Change.{Change}
 
 -- a Probe or a Grant is sent where it may be
 abbrev pub Governed : ℕ → Msg → List Logged → Type 0
@@ -130,17 +130,15 @@ module _ (s : State) (h : ℕ) (in_h : h < s.views.config.harts) (i : IsGoverned
       let asking : State = with_node h (record (node_at s h) { cache = (wanted (node_at s h).cache line grow).1 }) s in
       plain_sent h (record { line = line; body = AcquireBlock grow }) asking in_h refl (same_governed s asking (same_views s asking refl refl refl refl) i)
 
-  evicted_governed : (line : ℕ) (e : Evict) (a : State) → h < a.views.config.harts → IsGoverned a → IsGoverned (sent_if_evicted h line e a)
-  evicted_governed line (evict.Evicted change None) a in_a j = plain_sent h (record { line = line; body = Release change }) a in_a refl j
-  evicted_governed line (evict.Evicted change (Some bytes)) a in_a j = plain_sent h (record { line = line; body = ReleaseData change bytes }) a in_a refl j
-  evicted_governed line evict.NotHeld a in_a j = j
-  evicted_governed line evict.AcquirePending a in_a j = j
-  evicted_governed line evict.ReleaseFull a in_a j = j
+  released_plain : (line : ℕ) (change : Change) (bytes : Option LineData) (a : State) → h < a.views.config.harts → IsGoverned a → IsGoverned (sent h (record { line = line; body = release_body change bytes }) a)
+  released_plain line change None a in_a j = plain_sent h (record { line = line; body = Release change }) a in_a refl j
+  released_plain line change (Some bytes) a in_a j = plain_sent h (record { line = line; body = ReleaseData change bytes }) a in_a refl j
 
   pub given_up_governed : (line : ℕ) → IsGoverned (given_up h line s)
   given_up_governed line =
       let less : State = with_node h (with_less (evicted (node_at s h).cache line).1 line (node_at s h)) s in
-      evicted_governed line (evicted (node_at s h).cache line).0 less in_h (same_governed s less (same_views s less refl refl refl refl) i)
+      let still = same_governed s less (same_views s less refl refl refl refl) i in
+      by_left IsGoverned less still h line (evicted (node_at s h).cache line).0 (λ change bytes. released_plain line change bytes less in_h still)
 
   -- ---- deliveries to a cache
 
@@ -159,15 +157,15 @@ module _ (s : State) (h : ℕ) (in_h : h < s.views.config.harts) (i : IsGoverned
     pub rested_governed : IsGoverned (on_release_ack h line s1)
     rested_governed = same_governed s1 (on_release_ack h line s1) (same_views s1 (on_release_ack h line s1) refl refl refl refl) i1
 
-    answered_governed : (a : Probed) (b : State) → h < b.views.config.harts → IsGoverned b → IsGoverned (sent_if_answered h line a b)
-    answered_governed probe.Releasing b in_b j = j
-    answered_governed (probe.Answered change None) b in_b j = plain_sent h (record { line = line; body = ProbeAck change }) b in_b refl j
-    answered_governed (probe.Answered change (Some bytes)) b in_b j = plain_sent h (record { line = line; body = ProbeAckData change bytes }) b in_b refl j
+    answered_plain : (change : Change) (bytes : Option LineData) (b : State) → h < b.views.config.harts → IsGoverned b → IsGoverned (sent h (record { line = line; body = probe_ack_body change bytes }) b)
+    answered_plain change None b in_b j = plain_sent h (record { line = line; body = ProbeAck change }) b in_b refl j
+    answered_plain change (Some bytes) b in_b j = plain_sent h (record { line = line; body = ProbeAckData change bytes }) b in_b refl j
 
     pub probed_governed : (cap : Cap) → IsGoverned (on_probe h line cap s1)
     probed_governed cap =
         let shrunk : State = with_node h (with_less (probed (node_at s1 h).cache line cap).1 line (node_at s1 h)) s1 in
-        answered_governed (probed (node_at s1 h).cache line cap).0 shrunk in_h (same_governed s1 shrunk (same_views s1 shrunk refl refl refl refl) i1)
+        let still = same_governed s1 shrunk (same_views s1 shrunk refl refl refl refl) i1 in
+        by_answered IsGoverned shrunk still h line (probed (node_at s1 h).cache line cap).0 (λ change bytes e. answered_plain change bytes shrunk in_h still)
 
     -- ---- deliveries to the manager that send no Probe and no Grant
 
