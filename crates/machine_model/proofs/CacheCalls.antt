@@ -1,4 +1,4 @@
--- What a call of the cache comes to: it stalls and changes nothing, or it goes through. A new stall of the cache is spoken of here and in `Plans`, and nowhere else.
+-- What a call of the cache comes to: it stalls and changes nothing, or it goes through. A stall of the cache is spoken of here, and nowhere else.
 use Rattle.std.proofs.Common.{ℕ, Bool, true, false, List, ◌≡◌, Option, Some, None, refl}
 use Rattle.std.specs.Prelude.{if◌then◌else◌, nat_le}
 use Rattle.std.specs.FinMap as map

@@ -1,3 +1,6 @@
+-- What the proofs of all folders share. `Plans` says what each act rests on that an event comes to, and `Events` goes from
+-- acts to events and lists of events. `Parts` goes from the parts of an act to the act, for what each part keeps, with
+-- `CacheCalls` for what a cache answers; `Nodes` is of one node's change, and `Growth` of what each act adds and leaves.
 pub mod CacheCalls
 pub mod Plans
 pub mod Events

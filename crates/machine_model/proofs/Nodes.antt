@@ -4,7 +4,7 @@ use Rattle.std.proofs.lemmas.List.{length-set, get_or-set_same, get_or-set_other
 use Rattle.machine_model.specs.declared.act.Deed.{Deed}
 use Rattle.machine_model.specs.Changing.{does, performs, missed, drained, given_up}
 use Rattle.machine_model.specs.Deliveries.{delivered, taken}
-use Rattle.machine_model.specs.Views.{Node, State, node_at, with_node, sent}
+use Rattle.machine_model.specs.Views.{no_node, Node, State, node_at, with_node, sent}
 use Rattle.machine_types.specs.declared.model.MemoryModel.{MemoryModel}
 use Rattle.tl_types.specs.declared.message.Msg.{Msg}
 use Rattle.tl_types.specs.declared.permission.Grow.{Grow}
@@ -16,15 +16,19 @@ node_same h n s l = get_or-set_same s.views.nodes h n _ l
 pub node_other : (h k : ℕ) (n : Node) (s : State) → k ≢ h → node_at (with_node h n s) k ≡ node_at s k
 node_other h k n s d = get_or-set_other s.views.nodes h k n _ d
 
--- ---- changes that leave the harts
+-- one node was replaced by one that is so related to it
+pub related-set : (R : Node → Node → Type 0) → ((n : Node) → R n n) → (nodes : List Node) (h k : ℕ) (n d e : Node) → R n (slice_index_or nodes h e) → R (slice_index_or (slice_set nodes h n) k d) (slice_index_or nodes k d)
+related-set R same [] h k n d e r = same d
+related-set R same (x ∷ xs) zero zero n d e r = r
+related-set R same (x ∷ xs) zero (suc k) n d e r = same (slice_index_or xs k d)
+related-set R same (x ∷ xs) (suc h) zero n d e r = same x
+related-set R same (x ∷ xs) (suc h) (suc k) n d e r = related-set R same xs h k n d e r
 
--- one node was replaced by one with the same hart
-hart-set : (nodes : List Node) (h k : ℕ) (n d : Node) → n.hart ≡ (slice_index_or nodes h d).hart → (slice_index_or (slice_set nodes h n) k d).hart ≡ (slice_index_or nodes k d).hart
-hart-set [] h k n d e = refl
-hart-set (x ∷ xs) zero zero n d e = e
-hart-set (x ∷ xs) zero (suc k) n d e = refl
-hart-set (x ∷ xs) (suc h) zero n d e = refl
-hart-set (x ∷ xs) (suc h) (suc k) n d e = hart-set xs h k n d e
+-- by one that is the same to a test
+pub same-set : {X : Type 0} (f : Node → X) (nodes : List Node) (h k : ℕ) (n d e : Node) → f n ≡ f (slice_index_or nodes h e) → f (slice_index_or (slice_set nodes h n) k d) ≡ f (slice_index_or nodes k d)
+same-set f nodes h k n d e q = related-set (λ x y. f x ≡ f y) (λ x. refl) nodes h k n d e q
+
+-- ---- changes that leave the harts
 
 -- the harts, their lists and their statuses are as they were
 pub record KeepsHarts (old new : State) : Type 0 where
@@ -49,7 +53,7 @@ harts_then a b c f g = record {
 }
 
 pub node_keeps : (h : ℕ) (n : Node) (s : State) → n.hart ≡ (node_at s h).hart → KeepsHarts s (with_node h n s)
-node_keeps h n s e = record { image = refl; config = refl; entries = refl; statuses = refl; count = length-set s.views.nodes h n; harts = λ k. hart-set s.views.nodes h k n _ e }
+node_keeps h n s e = record { image = refl; config = refl; entries = refl; statuses = refl; count = length-set s.views.nodes h n; harts = λ k. same-set (λ (x : Node). x.hart) s.views.nodes h k n (no_node s) (no_node s) e }
 
 sent_keeps : (h : ℕ) (m : Msg) (s : State) → KeepsHarts s (sent h m s)
 sent_keeps h m s = let k = node_keeps h _ s refl in record { image = refl; config = refl; entries = refl; statuses = refl; count = k.count; harts = k.harts }

@@ -9,13 +9,12 @@ use Rattle.client_cache.specs.declared.answers.Probed.{Probed}
 use Rattle.client_cache.specs.declared.answers.Probed.TheVariants as probe
 use Rattle.directory.specs.Directory.{Notes, acquired, grant_acked, probe_acked, released}
 use Rattle.directory.specs.declared.answer.Acquired.{Acquired}
-use Rattle.directory.specs.declared.answer.Acquired.TheVariants.{Handled, Busy}
+use Rattle.directory.specs.declared.answer.Acquired.TheVariants.{Handled}
 use Rattle.directory.specs.declared.answer.Grant.{Grant as Granting}
-use Rattle.directory.specs.declared.answer.Sent.{Sent}
 use Rattle.directory.specs.declared.answer.Sent.TheVariants.{Probes, Granting as Grants}
 use Rattle.machine_model.specs.Changing.{does, drained, given_up, missed, next_place, performs, performs_own, put_behind, release_body, sent_if_evicted, with_buffer, with_reservation, writes_word}
-use Rattle.machine_model.specs.Deliveries.{delivered, grant_body, handled, is_trunk, kept_reservation, line_in_memory, on_probe_ack, probe_ack_body, sent_any, sent_grant, sent_if_answered, sent_if_granted, sent_if_handled, sent_probes, taken, with_less, with_memory, with_notes}
-use Rattle.machine_model.specs.Views.{Node, State, line_of, line_size, node_at, place_of, sent, with_node, with_trace}
+use Rattle.machine_model.specs.Deliveries.{delivered, grant_body, handled, is_trunk, line_in_memory, on_probe_ack, probe_ack_body, sent_grant, sent_if_answered, sent_if_granted, sent_if_handled, sent_probes, taken, with_less, with_memory, with_notes}
+use Rattle.machine_model.specs.Views.{Node, State, line_size, node_at, place_of, sent, with_node, with_trace}
 use Rattle.machine_model.specs.Words.{bytes_of_word}
 use Rattle.machine_model.specs.declared.act.Deed.{Deed}
 use Rattle.machine_model.specs.declared.act.Deed.TheVariants as deed
@@ -38,14 +37,12 @@ use Rattle.trace_recorder.specs.History.{with_performed}
 
 module _ (P : State → Type 0) (s : State) (nothing : P s) where
   pub by_answered : (h line : ℕ) (a : Probed) → ((change : Change) (bytes : Option LineData) → a ≡ probe.Answered change bytes → P (sent h (record { line = line; body = probe_ack_body change bytes }) s)) → P (sent_if_answered h line a s)
-  by_answered h line probe.Releasing sends = nothing
   by_answered h line (probe.Answered change bytes) sends = sends change bytes refl
+  by_answered h line _ sends = nothing
 
   pub by_left : (h line : ℕ) (e : Evict) → ((change : Change) (bytes : Option LineData) → P (sent h (record { line = line; body = release_body change bytes }) s)) → P (sent_if_evicted h line e s)
-  by_left h line evict.NotHeld sends = nothing
-  by_left h line evict.AcquirePending sends = nothing
-  by_left h line evict.ReleaseFull sends = nothing
   by_left h line (evict.Evicted change bytes) sends = sends change bytes
+  by_left h line _ sends = nothing
 
   pub by_granted : (line : ℕ) (g : Option Granting) → ((g : Granting) → P (sent_grant line g s)) → P (sent_if_granted line g s)
   by_granted line None sends = nothing
@@ -58,9 +55,9 @@ module _ (P : State → Type 0) (probes : (h line : ℕ) (cap : Cap) (s : State)
   all_probes (h ∷ harts) line cap s p = all_probes harts line cap (sent h (record { line = line; body = ProbeBlock cap }) s) (probes h line cap s p)
 
   pub by_handled : (line : ℕ) (a : Acquired) (s : State) → P s → P (sent_if_handled line a s)
-  by_handled line Busy s p = p
   by_handled line (Handled (Probes cap harts)) s p = all_probes harts line cap s p
   by_handled line (Handled (Grants g)) s p = grants line g s p
+  by_handled line _ s p = p
 
 -- ---- messages and caches
 

@@ -1,11 +1,11 @@
 -- What an act rests on: all that its event's plan tested before it came to the act.
 -- This file alone walks over the plans; whoever asks something of every act asks it of what the act rests on (`Rests`), by seven cases. So an outcome by which nothing changes is spoken of here, and nowhere else.
-use Rattle.std.proofs.Common.{ℕ, ◌<◌, ◌/◌, ◌%◌, ◌^◌, Bool, true, false, List, ◌≡◌, ◌⊎◌, inl, inr, Option, Some, None, refl, ap, sym, ◌∙◌, subst, arith}
+use Rattle.std.proofs.Common.{ℕ, ◌<◌, ◌/◌, ◌%◌, ◌^◌, Bool, true, false, List, ◌≡◌, inl, inr, Option, Some, None, refl, ap, sym, ◌∙◌, subst, arith}
 use Rattle.std.specs.Prelude.{◌==◌, ◌&&◌, not, if◌then◌else◌, length, nat_le, nat_lt}
 use Rattle.std.proofs.Math.Nat.{mod-lt, one-le-pow}
 use Rattle.std.proofs.lemmas.Bool.{and_from, eqb-true, leb-false, lt-ltb}
 use Rattle.machine_types.specs.declared.limits.TheConstants.{TRACKERS}
-use Rattle.client_cache.specs.Cache.{Cache, copy_at, evicted, probed, wanted}
+use Rattle.client_cache.specs.Cache.{copy_at, evicted, probed, wanted}
 use Rattle.client_cache.specs.Held.{bytes_in, perm_of}
 use Rattle.client_cache.specs.declared.answers.Evict.{Evict}
 use Rattle.client_cache.specs.declared.answers.Evict.TheVariants as evict
@@ -17,7 +17,7 @@ use Rattle.client_cache.specs.declared.held.Held.{Held}
 use Rattle.client_cache.specs.declared.held.Held.TheVariants.{Branch, Trunk}
 use Rattle.directory.specs.Directory.{acquired}
 use Rattle.directory.specs.declared.answer.Acquired.{Acquired}
-use Rattle.directory.specs.declared.answer.Acquired.TheVariants.{Handled, Busy}
+use Rattle.directory.specs.declared.answer.Acquired.TheVariants.{Handled}
 use Rattle.directory.specs.declared.answer.Sent.{Sent}
 use Rattle.elf_loader.specs.Image.{word_at}
 use Rattle.hart.specs.Local.{private_row}
@@ -25,10 +25,10 @@ use Rattle.hart.specs.Run.{can_fetch, has_answers, is_running, next_stop, stop_w
 use Rattle.hart.specs.declared.retired.Retired.{Retired}
 use Rattle.machine_model.specs.Changing.{next_place}
 use Rattle.machine_model.specs.Deciding.{miss_by, plan_miss, reading, reading_by, writing, writing_by}
-use Rattle.machine_model.specs.Deliveries.{is_trunk, plan_body, plan_deliver, plan_front, unless_acks_full, unless_busy, unless_releasing}
-use Rattle.machine_model.specs.Events.{evict_by, hart_of, plan_drain, plan_local, plan_of}
+use Rattle.machine_model.specs.Deliveries.{is_trunk, plan_body, plan_front, unless_acks_full, unless_busy, unless_releasing}
+use Rattle.machine_model.specs.Events.{evict_by, hart_of, plan_of}
 use Rattle.machine_model.specs.LawfulLog.{is_grant}
-use Rattle.machine_model.specs.Steps.{Fetched, plan_access, plan_amo, plan_call, plan_fence, plan_instr, plan_load, plan_lr, plan_sc, plan_step, plan_store, plan_unless, retires, update, waits_for_stores, write_waits}
+use Rattle.machine_model.specs.Steps.{Fetched, plan_access, plan_amo, plan_call, plan_fence, plan_instr, plan_load, plan_lr, plan_sc, plan_store, plan_unless, retires, update, waits_for_stores, write_waits}
 use Rattle.machine_model.specs.Views.{Node, State, line_of, line_size, node_at, place_of}
 use Rattle.machine_model.specs.Words.{number_of_bytes, read_from, store_of, word_in, word_of}
 use Rattle.machine_model.specs.declared.act.Act.{Act}
@@ -42,7 +42,7 @@ use Rattle.machine_types.specs.declared.event.Event.TheVariants as event
 use Rattle.machine_types.specs.declared.model.MemoryModel.{MemoryModel}
 use Rattle.machine_types.specs.declared.outcome.Outcome.{Outcome}
 use Rattle.machine_types.specs.declared.outcome.Outcome.TheVariants as outcome
-use Rattle.machine_model.proofs.CacheCalls.{IsNoEviction, IsNoMiss, by_test, by_wanted}
+use Rattle.machine_model.proofs.CacheCalls.{IsNoMiss, by_test, by_wanted}
 use Rattle.machine_model.proofs.order.Deeds.{FitsDeed}
 use Rattle.memory_model.specs.Rules.{fences}
 use Rattle.memory_model.specs.declared.operation.Kind.TheVariants as kind
@@ -167,11 +167,8 @@ was_true true e = refl
 was_true false e = cc e
 
 no_miss : (Q : Act → Type 0) (line : ℕ) (w : Want) → IsNoMiss w → OfAct Q (miss_by line w)
-no_miss Q line want.WaitRelease is = tt
-no_miss Q line want.WaitGrant is = tt
-no_miss Q line want.NoTracker is = tt
-no_miss Q line want.SetFull is = tt
 no_miss Q line (want.Missed grow) is = absurd is
+no_miss Q line _ is = tt
 
 module _ (n : Node) (address : ℕ) where
   abbrev line : ℕ
@@ -334,10 +331,8 @@ module _ (s : State) (h : ℕ) where
   leave l = by (evicted n.cache l).0 refl
     where
       by : (e : Evict) → (evicted n.cache l).0 ≡ e → OfAct (Rests s (event.Evict h l)) (evict_by l e)
-      by evict.NotHeld e = tt
-      by evict.AcquirePending e = tt
-      by evict.ReleaseFull e = tt
       by (evict.Evicted change bytes) e = (refl, (change, bytes, e))
+      by _ e = tt
 
   go_alone : (count : ℕ) → OfAct (Rests s (event.Local h count)) (plan_of s (event.Local h count))
   go_alone count =
@@ -356,12 +351,12 @@ module _ (s : State) (h : ℕ) where
     ready b e is room = (channel, refl, record { front = front; ready = subst (IsReady s h m.line) (sym e) is; room = subst (λ c. is_grant c ≡ true → length n.queues.e < TRACKERS) (sym e) room })
 
     busy : (grow : Grow) → m.body ≡ AcquireBlock grow → (a : Acquired) → (acquired s.views.notes (place_of (line_size s) m.line) h grow).0 ≡ a → Delivered (unless_busy a (Changes (act.Deliver m)))
-    busy grow e Busy is = tt
     busy grow e (Handled sends) is = ready (AcquireBlock grow) e (sends, is) (λ g. cc g)
+    busy grow e _ is = tt
 
     releasing : (cap : Cap) → m.body ≡ ProbeBlock cap → (a : Probed) → (probed n.cache m.line cap).0 ≡ a → Delivered (unless_releasing a (Changes (act.Deliver m)))
-    releasing cap e probe.Releasing is = tt
     releasing cap e (probe.Answered change bytes) is = ready (ProbeBlock cap) e (change, bytes, is) (λ g. cc g)
+    releasing cap e _ is = tt
 
     granted : (b : Body) → m.body ≡ b → IsReady s h m.line b → Delivered (unless_acks_full n (Changes (act.Deliver m)))
     granted b e is = unless (Rests s (event.Deliver channel h)) (nat_le (room_of E) (length n.queues.e)) outcome.AckFull (Changes (act.Deliver m)) (λ f. ready b e is (λ g. leb-false TRACKERS (length n.queues.e) f))

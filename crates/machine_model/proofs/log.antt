@@ -8,9 +8,9 @@ pub mod Caches
 pub mod Counts
 pub mod Events
 pub mod Flags
+pub mod Fronts
 pub mod Lists
 pub mod Parts
-pub mod Plans
 pub mod Queues
 pub mod Sends
 pub mod Sums

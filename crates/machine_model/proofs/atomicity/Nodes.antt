@@ -1,5 +1,5 @@
 -- What each act leaves of the harts' reservations.
-use Rattle.std.proofs.Common.{◌≡◌, ◌≢◌, ℕ, zero, suc, ◌<◌, List, [], ◌∷◌, Option, Some, None, refl, sym, ap, ◌∙◌, subst, length, slice_index_or, slice_set}
+use Rattle.std.proofs.Common.{◌≡◌, ◌≢◌, ℕ, ◌<◌, List, [], ◌∷◌, Option, Some, None, refl, sym, ap, ◌∙◌, subst, length}
 use Rattle.std.proofs.lemmas.List.{length-set}
 use Rattle.machine_model.specs.declared.act.Deed.{Deed}
 use Rattle.machine_model.specs.declared.act.Deed.TheVariants as deed
@@ -7,7 +7,7 @@ use Rattle.machine_model.specs.Changing.{does, performs, performs_own, drained, 
 use Rattle.machine_model.specs.Deliveries.{delivered, taken}
 use Rattle.machine_model.specs.Views.{Node, State, no_node, node_at, with_node, with_trace, sent}
 use Rattle.machine_model.specs.Words.{bytes_of_word}
-use Rattle.machine_model.proofs.Nodes.{node_same, node_other}
+use Rattle.machine_model.proofs.Nodes.{node_same, node_other, related-set}
 use Rattle.machine_types.specs.declared.model.MemoryModel.{MemoryModel}
 use Rattle.store_buffer.specs.ByteMask.{marks_of_access}
 use Rattle.store_buffer.specs.Entry.{entry_of}
@@ -22,14 +22,6 @@ use Rattle.machine_model.proofs.Parts.{IsLess, KeptByMessages, delivered_by, giv
 pub record LosesReservations (old new : State) : Type 0 where
   pub less : (h : ℕ) → IsLess (node_at new h).reserved (node_at old h).reserved
 
--- one node was replaced by one with no other reservation
-less_set : (nodes : List Node) (h k : ℕ) (n d : Node) → IsLess n.reserved (slice_index_or nodes h d).reserved → IsLess (slice_index_or (slice_set nodes h n) k d).reserved (slice_index_or nodes k d).reserved
-less_set [] h k n d e = λ w f. f
-less_set (x ∷ xs) zero zero n d e = e
-less_set (x ∷ xs) zero (suc k) n d e = λ w f. f
-less_set (x ∷ xs) (suc h) zero n d e = λ w f. f
-less_set (x ∷ xs) (suc h) (suc k) n d e = less_set xs h k n d e
-
 less_not : (s : State) → LosesReservations s s
 less_not s = record { less = λ h w f. f }
 
@@ -37,7 +29,7 @@ pub less_then : (a b c : State) → LosesReservations a b → LosesReservations 
 less_then a b c f g = record { less = λ h w e. f.less h w (g.less h w e) }
 
 pub node_less : (h : ℕ) (n : Node) (s : State) → IsLess n.reserved (node_at s h).reserved → LosesReservations s (with_node h n s)
-node_less h n s e = record { less = λ k. less_set s.views.nodes h k n (no_node s) e }
+node_less h n s e = record { less = λ k. related-set (λ x y. IsLess x.reserved y.reserved) (λ x w f. f) s.views.nodes h k n (no_node s) (no_node s) e }
 
 sent_less : (h : ℕ) (m : Msg) (s : State) → LosesReservations s (sent h m s)
 sent_less h m s = let k = node_less h _ s (λ w f. f) in record { less = k.less }

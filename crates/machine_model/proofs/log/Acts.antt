@@ -1,5 +1,5 @@
 -- What stays while log and queues do, and as a message goes out, stays at each act but the taking of a message.
-use Rattle.std.proofs.Common.{ℕ, zero, suc, Bool, true, false, List, [], ◌∷◌, ◌≡◌, Option, Some, None, refl, ap, ◌∙◌, length, slice_index_or, slice_set}
+use Rattle.std.proofs.Common.{ℕ, Bool, true, false, List, [], ◌∷◌, ◌≡◌, Option, Some, None, refl, ap, ◌∙◌, length, slice_index_or}
 use Rattle.std.specs.Prelude.{if◌then◌else◌}
 use Rattle.client_cache.specs.Cache.{Cache, answered, copy_at, evicted, granted, probed, wanted, word_written, word_written_in}
 use Rattle.client_cache.specs.declared.answers.Evict.{Evict}
@@ -29,6 +29,7 @@ use Rattle.tl_types.specs.declared.permission.Change.{Change}
 use Rattle.tl_types.specs.declared.permission.Grow.{Grow}
 use Rattle.trace_recorder.specs.History.{History, with_entry}
 use Rattle.machine_model.proofs.Parts.{KeptByDeeds, by_answered, by_granted, by_handled, by_left, does_by, drained_by}
+use Rattle.machine_model.proofs.Nodes.{same-set}
 
 -- ---- log, queues and what is outstanding stay
 
@@ -57,14 +58,6 @@ same_nodes s t e n = record {
 
 still_trace : (s : State) (t : History) → t.log ≡ s.trace.log → Still s (with_trace t s)
 still_trace s t e = record { quiet = quiet_trace s t e; acquiring = λ k d. refl; releasing = λ k d. refl }
-
--- one node was replaced by one that is the same to a test
-pub same-set : {X : Type 0} (f : Node → X) (nodes : List Node) (h k : ℕ) (n d e : Node) → f n ≡ f (slice_index_or nodes h e) → f (slice_index_or (slice_set nodes h n) k d) ≡ f (slice_index_or nodes k d)
-same-set f [] h k n d e q = refl
-same-set f (x ∷ xs) zero zero n d e q = q
-same-set f (x ∷ xs) zero (suc k) n d e q = refl
-same-set f (x ∷ xs) (suc h) zero n d e q = refl
-same-set f (x ∷ xs) (suc h) (suc k) n d e q = same-set f xs h k n d e q
 
 pub still_node : (h : ℕ) (n : Node) (s : State) → n.queues ≡ (node_at s h).queues → n.cache.acquiring ≡ (node_at s h).cache.acquiring → n.cache.releasing ≡ (node_at s h).cache.releasing → Still s (with_node h n s)
 still_node h n s q a r = record {

@@ -19,8 +19,9 @@ use Rattle.machine_model.specs.Changing.{given_up, missed, release_body, sent_if
 use Rattle.machine_model.specs.Deliveries.{on_grant, on_probe, on_release_ack, probe_ack_body, taken, with_less}
 use Rattle.machine_model.specs.LawfulLog.{is_acquire, is_grant, is_release, is_release_ack, no_acquire_open, no_release_open}
 use Rattle.machine_model.specs.Views.{Node, State, no_node, node_at, sent, with_node}
+use Rattle.machine_model.proofs.Nodes.{same-set}
 use Rattle.machine_model.proofs.coherence.LineViews.{evicted_says, missed_says, probed_says}
-use Rattle.machine_model.proofs.log.Acts.{IsManaging, Still, same-set, still_node}
+use Rattle.machine_model.proofs.log.Acts.{IsManaging, Still, still_node}
 use Rattle.machine_model.proofs.log.Counts.{EachSent, bit, one_sent, one_taken}
 use Rattle.machine_model.proofs.log.Lists.{comes_out, goes_in}
 use Rattle.machine_model.proofs.log.Flags.{Tells, Turned, balance, comes, goes, no_bit, settled, still_tells}

@@ -15,7 +15,7 @@ use Rattle.machine_types.specs.declared.event.Event.{Event}
 use Rattle.machine_model.proofs.log.Acts.{Delivers, acted_keeps, handled_keeps, same_nodes}
 use Rattle.machine_model.proofs.Events.{Anything, IsMove, after_act, events_keep, happens_keeps}
 use Rattle.machine_model.proofs.log.Lists.{no_first}
-use Rattle.machine_model.proofs.log.Plans.{front_of_move}
+use Rattle.machine_model.proofs.log.Fronts.{front_of_move}
 use Rattle.machine_model.proofs.log.Queues.{IsInOrder, IsQueueOrder, quiet_order, sent_order, taken_order}
 use Rattle.tilelink_channels.specs.Queues.{queue_of}
 use Rattle.tl_types.specs.declared.message.Channel.{Channel}

@@ -31,7 +31,7 @@ use Rattle.machine_model.proofs.log.Answers.{answers_due_always}
 use Rattle.machine_model.proofs.log.Caches.{IsFlagged, given_up_flagged, granted_flagged, is_free, managed, missed_flagged, plus_none, plain_sent, plain_taken, probed_flagged, rested_flagged, still_flagged}
 use Rattle.machine_model.proofs.log.Counts.{bit, no_last}
 use Rattle.machine_model.proofs.log.Events.{happens_order, opening_order}
-use Rattle.machine_model.proofs.log.Plans.{front_of_move}
+use Rattle.machine_model.proofs.log.Fronts.{front_of_move}
 use Rattle.machine_model.proofs.log.Queues.{IsInOrder}
 use Rattle.machine_model.proofs.coherence.WorldEvents.{happens_fits}
 use Rattle.machine_model.proofs.coherence.WorldFits.{kit_at, kit_of}

@@ -1,12 +1,12 @@
 -- What messages, misses and stops leave: lists, performed order and store buffers.
-use Rattle.std.proofs.Common.{◌≡◌, ◌≢◌, ℕ, zero, suc, ◌<◌, List, [], ◌∷◌, ◌++◌, refl, sym, ap, ◌∙◌, append-nil, append_assoc, map, slice_index_or, slice_set, length}
+use Rattle.std.proofs.Common.{◌≡◌, ◌≢◌, ℕ, ◌<◌, List, [], ◌∷◌, ◌++◌, refl, sym, ap, ◌∙◌, append-nil, append_assoc, map, length}
 use Rattle.machine_model.specs.declared.act.Deed.{Deed}
 use Rattle.machine_model.specs.declared.act.Deed.TheVariants as deed
 use Rattle.machine_model.specs.Changing.{does, performs, performs_own, next_place, missed, given_up, writes_word, with_buffer, stopped, put_behind}
 use Rattle.machine_model.specs.Deliveries.{delivered, taken}
-use Rattle.machine_model.specs.Views.{Node, State, node_at, with_node, with_trace, sent}
+use Rattle.machine_model.specs.Views.{no_node, Node, State, node_at, with_node, with_trace, sent}
 use Rattle.machine_model.specs.Words.{bytes_of_word}
-use Rattle.machine_model.proofs.Nodes.{node_same, node_other}
+use Rattle.machine_model.proofs.Nodes.{node_same, node_other, same-set}
 use Rattle.machine_model.proofs.order.Steps.{buffer_by, names_by}
 use Rattle.machine_types.specs.declared.model.MemoryModel.{MemoryModel}
 use Rattle.store_buffer.specs.ByteMask.{marks_of_access}
@@ -16,14 +16,6 @@ use Rattle.tl_types.specs.declared.permission.Grow.{Grow}
 use Rattle.trace_recorder.specs.History.{with_performed}
 use Rattle.trace_recorder.specs.declared.operation.OpId.{OpId}
 use Rattle.machine_model.proofs.Parts.{KeptByMessages, delivered_by, given_up_by, missed_by}
-
--- one node was replaced by one with the same buffer
-buffer-set : (nodes : List Node) (h k : ℕ) (n d : Node) → n.buffer ≡ (slice_index_or nodes h d).buffer → (slice_index_or (slice_set nodes h n) k d).buffer ≡ (slice_index_or nodes k d).buffer
-buffer-set [] h k n d e = refl
-buffer-set (x ∷ xs) zero zero n d e = e
-buffer-set (x ∷ xs) zero (suc k) n d e = refl
-buffer-set (x ∷ xs) (suc h) zero n d e = refl
-buffer-set (x ∷ xs) (suc h) (suc k) n d e = buffer-set xs h k n d e
 
 -- the buffers are as they were, and so are the lists and the performed order
 pub record KeepsBuffers (old new : State) : Type 0 where
@@ -46,7 +38,7 @@ buffers_then a b c f g = record {
 }
 
 pub node_keeps : (h : ℕ) (n : Node) (s : State) → n.buffer ≡ (node_at s h).buffer → KeepsBuffers s (with_node h n s)
-node_keeps h n s e = record { image = refl; config = refl; entries = refl; performed = refl; buffers = λ k. buffer-set s.views.nodes h k n _ e }
+node_keeps h n s e = record { image = refl; config = refl; entries = refl; performed = refl; buffers = λ k. same-set (λ (x : Node). x.buffer) s.views.nodes h k n (no_node s) (no_node s) e }
 
 sent_keeps : (h : ℕ) (m : Msg) (s : State) → KeepsBuffers s (sent h m s)
 sent_keeps h m s = let k = node_keeps h _ s refl in record { image = refl; config = refl; entries = refl; performed = refl; buffers = k.buffers }

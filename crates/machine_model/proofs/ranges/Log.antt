@@ -23,7 +23,7 @@ use Rattle.machine_model.proofs.log.Events.{in_order_always}
 use Rattle.machine_model.proofs.log.Lists.{sent_on_taken, taken_on_sent}
 use Rattle.machine_model.proofs.log.manager.Always.{governed_always}
 use Rattle.machine_model.proofs.log.manager.Sums.{AreBelow}
-use Rattle.machine_model.proofs.log.Plans.{front_of_move}
+use Rattle.machine_model.proofs.log.Fronts.{front_of_move}
 use Rattle.machine_model.proofs.log.Queues.{IsInOrder, Quiet, taken_order}
 use Rattle.machine_model.proofs.order.Whole.{performed_once_always}
 use Rattle.machine_model.proofs.ranges.Lines.{queued}

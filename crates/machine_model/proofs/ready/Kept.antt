@@ -26,12 +26,12 @@ use Rattle.machine_types.specs.declared.event.Event.{Event}
 use Rattle.machine_model.proofs.Growth.{happens_follows}
 use Rattle.machine_model.proofs.coherence.LinePlaces.{place_inside}
 use Rattle.machine_model.proofs.log.Events.{happens_order, opening_order}
-use Rattle.machine_model.proofs.log.Plans.{front_of_move}
+use Rattle.machine_model.proofs.log.Fronts.{front_of_move}
 use Rattle.machine_model.proofs.log.Queues.{IsInOrder}
 use Rattle.machine_model.proofs.order.Events.{fresh, opening_stand}
 use Rattle.machine_model.proofs.ready.Lists.{IsLonger, acted_longer}
 use Rattle.machine_model.proofs.ready.Messages.{IsLine, ready_message}
-use Rattle.machine_model.proofs.ready.Plans.{deed_ready, drain_ready}
+use Rattle.machine_model.proofs.ready.Deeds.{deed_ready, drain_ready}
 use Rattle.machine_model.proofs.ready.Sizes.{AllSized, IsSizedAct, Keeps, acted_keeps, word_size}
 use Rattle.machine_model.proofs.runs.Runs.{AllStand, happens_stand}
 use Rattle.machine_model.proofs.coherence.WorldEvents.{act_fits, counted_fits}

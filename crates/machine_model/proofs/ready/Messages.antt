@@ -11,7 +11,7 @@ use Rattle.machine_model.specs.Views.{Node, State, line_size, node_at, place_of}
 use Rattle.machine_model.proofs.coherence.LineHeads.{queue_in}
 use Rattle.machine_model.proofs.coherence.LineStands.{Side, quiet_side}
 use Rattle.machine_model.proofs.coherence.LineViews.{front_here, of_line}
-use Rattle.machine_model.proofs.log.Plans.{IsFront}
+use Rattle.machine_model.proofs.log.Fronts.{IsFront}
 use Rattle.machine_model.proofs.ready.Heads.{IsAnswering, IsGranted, answering, granting}
 use Rattle.machine_model.proofs.coherence.WorldFits.{IsFit, kit_of}
 use Rattle.machine_model.proofs.coherence.WorldKept.{side}

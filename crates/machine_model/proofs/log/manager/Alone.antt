@@ -1,5 +1,5 @@
 -- What a hart does alone keeps the manager's notes, and changes no permission but of a copy that it may write.
-use Rattle.std.proofs.Common.{ℕ, zero, suc, Bool, true, false, List, [], ◌∷◌, ◌≡◌, Option, Some, None, refl, ap, ◌∙◌, sym, subst, slice_index_or, slice_set}
+use Rattle.std.proofs.Common.{ℕ, Bool, true, false, List, [], ◌∷◌, ◌≡◌, Option, Some, None, refl, ap, ◌∙◌, sym, subst, slice_index_or}
 use Rattle.std.specs.Prelude.{◌==◌}
 use Rattle.std.proofs.lemmas.Bool.Decides.{eqb_tells}
 use mathlib.Core.Logic.{◌⊎◌, inl, inr}
@@ -17,7 +17,8 @@ use Rattle.machine_model.specs.declared.act.Act.{Act}
 use Rattle.machine_model.specs.declared.act.Act.TheVariants as act
 use Rattle.machine_model.specs.declared.act.Deed.{Deed}
 use Rattle.machine_model.specs.declared.act.Deed.TheVariants as deed
-use Rattle.machine_model.proofs.log.Acts.{IsAlone, same-set}
+use Rattle.machine_model.proofs.Nodes.{same-set, related-set}
+use Rattle.machine_model.proofs.log.Acts.{IsAlone}
 use Rattle.machine_types.specs.declared.model.MemoryModel.{MemoryModel}
 use Rattle.store_buffer.specs.Entry.{entry_of}
 use Rattle.store_buffer.specs.Groups.{oldest}
@@ -59,13 +60,6 @@ Keeps x y = (l : ℕ) → is_trunk (perm_of (copy_at x.cache l)) ≡ false → p
 pub record KeepsPerms (s t : State) : Type 0 where
   pub same : (k : ℕ) (d : Node) (l : ℕ) → is_trunk (perm_of (copy_at (slice_index_or t.views.nodes k d).cache l)) ≡ false → perm_of (copy_at (slice_index_or t.views.nodes k d).cache l) ≡ perm_of (copy_at (slice_index_or s.views.nodes k d).cache l)
 
-keeps_set : (nodes : List Node) (h k : ℕ) (n d e : Node) → Keeps n (slice_index_or nodes h e) → Keeps (slice_index_or (slice_set nodes h n) k d) (slice_index_or nodes k d)
-keeps_set [] h k n d e q l f = refl
-keeps_set (x ∷ xs) zero zero n d e q l f = q l f
-keeps_set (x ∷ xs) zero (suc k) n d e q l f = refl
-keeps_set (x ∷ xs) (suc h) zero n d e q l f = refl
-keeps_set (x ∷ xs) (suc h) (suc k) n d e q l f = keeps_set xs h k n d e q l f
-
 keeps_node : (h : ℕ) (n : Node) (s : State) → n.cache ≡ (node_at s h).cache → KeepsPerms s (with_node h n s)
 keeps_node h n s e = record { same = λ k d l f. ap (λ (c : Cache). perm_of (copy_at c l)) (same-set (λ (x : Node). x.cache) s.views.nodes h k n d (no_node s) e) }
 
@@ -93,7 +87,7 @@ writes_keep : (h word : ℕ) (marks : List Bool) (bytes : List ℕ) (s : State) 
 writes_keep h word marks bytes s =
     let n : Node = node_at s h in
     let line : ℕ = line_of n.cache.shape.size word in
-    record { same = λ k d. keeps_set s.views.nodes h k (record n { cache = word_written n.cache line word marks bytes }) d (no_node s) (written_keeps n.cache line word marks bytes (copy_at n.cache line)) }
+    record { same = λ k d. related-set Keeps (λ x l f. refl) s.views.nodes h k (record n { cache = word_written n.cache line word marks bytes }) d (no_node s) (written_keeps n.cache line word marks bytes (copy_at n.cache line)) }
 
 by_deeds : (s : State) → KeptByDeeds (KeepsPerms s)
 by_deeds s = record {

@@ -26,7 +26,7 @@ use Rattle.machine_model.proofs.log.manager.Caches.{happens_losing, opening_losi
 use Rattle.machine_model.proofs.log.manager.Kept.{IsGoverned, alone_governed, ended_governed, given_up_governed, granted_governed, missed_governed, probed_governed, released_governed, rested_governed, same_governed, same_views}
 use Rattle.machine_model.proofs.log.manager.Numbers.{IsPlain, noted}
 use Rattle.machine_model.proofs.log.manager.Probes.{acquired_governed}
-use Rattle.machine_model.proofs.log.Plans.{IsFront, front_of_move}
+use Rattle.machine_model.proofs.log.Fronts.{IsFront, front_of_move}
 use Rattle.machine_model.proofs.log.Sends.{happens_flagged, known, opening_flagged, others_lawful_always}
 use Rattle.machine_model.proofs.Plans.{IsReady}
 use Rattle.machine_model.proofs.order.Events.{opening_stand}

@@ -16,7 +16,8 @@ use Rattle.machine_model.specs.declared.act.Act.{Act}
 use Rattle.machine_model.specs.declared.act.Act.TheVariants as act
 use Rattle.machine_types.specs.declared.config.Config.{Config}
 use Rattle.machine_types.specs.declared.event.Event.{Event}
-use Rattle.machine_model.proofs.log.Acts.{IsManaging, Still, acknowledged, acquired_keeps, alone_still, same-set}
+use Rattle.machine_model.proofs.Nodes.{same-set}
+use Rattle.machine_model.proofs.log.Acts.{IsManaging, Still, acknowledged, acquired_keeps, alone_still}
 use Rattle.machine_model.proofs.Events.{by_event}
 use Rattle.machine_model.proofs.log.Counts.{bit, sent_in, sent_out, taken_in, taken_out}
 use Rattle.machine_model.proofs.log.Flags.{no_bit}

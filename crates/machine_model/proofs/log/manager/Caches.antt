@@ -42,7 +42,7 @@ use Rattle.machine_model.proofs.log.manager.Losses.{IsLosing, Lost, framed_turns
 use Rattle.machine_model.proofs.log.manager.Parts.{asking_reads, branch_kept}
 use Rattle.machine_model.proofs.log.manager.Queues.{count_in}
 use Rattle.machine_model.proofs.log.manager.Readings.{and_off, asked_in, asked_now, asked_out, is_at, last_asked, losses_in, lost_asking, reading, reading_in, reading_out, same_count}
-use Rattle.machine_model.proofs.log.Plans.{IsFront, front_of_move}
+use Rattle.machine_model.proofs.log.Fronts.{IsFront, front_of_move}
 use Rattle.machine_model.proofs.log.Queues.{same_within}
 use Rattle.machine_model.proofs.log.Sends.{Known}
 use Rattle.machine_model.proofs.Plans.{IsReady, Misses}

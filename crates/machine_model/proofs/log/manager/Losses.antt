@@ -13,12 +13,13 @@ use Rattle.directory.specs.Lines.{needs_data}
 use Rattle.machine_model.specs.Deliveries.{is_trunk, taken}
 use Rattle.machine_model.specs.LawfulLog.{concerns, is_acquire, is_loss, lost_since_asking, sent_count, taken_count}
 use Rattle.machine_model.specs.Views.{Node, State, no_node, node_at, sent}
+use Rattle.machine_model.proofs.Nodes.{same-set}
 use Rattle.machine_model.proofs.coherence.LineViews.{front_here, of_line}
-use Rattle.machine_model.proofs.log.Acts.{IsManaging, same-set}
+use Rattle.machine_model.proofs.log.Acts.{IsManaging}
 use Rattle.machine_model.proofs.log.Lists.{comes_out, goes_in}
 use Rattle.machine_model.proofs.log.manager.Queues.{GoesOn, count_in, in_queue}
 use Rattle.machine_model.proofs.log.manager.Readings.{and_off, asked_in, asked_out, is_at, last_asked, lost_taken, reading, reading_in, reading_out}
-use Rattle.machine_model.proofs.log.Plans.{IsFront}
+use Rattle.machine_model.proofs.log.Fronts.{IsFront}
 use Rattle.machine_model.proofs.log.Queues.{IsInOrder}
 use Rattle.machine_model.proofs.coherence.WorldFits.{Framed}
 use Rattle.tilelink_channels.specs.Queues.{queue_of}
