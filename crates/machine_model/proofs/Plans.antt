@@ -289,11 +289,7 @@ module _ (s : State) (h : ℕ) where
   goes_on : (i : Instr) → GoesOn s h i → (b : Act) → OfAccess s.views.config.model n (fetched_at s h i) (access_of i n.hart.regs) b → Rests s (event.Step h) b
   goes_on i on (act.Retire e j d) x = (refl, subst (λ k. Retires s h e k d) (sym x.0) (record { goes_on = on; does = x.1 }))
   goes_on i on (act.Miss l grow) x = (x.0, (i, on, x.1), x.2)
-  goes_on i on (act.Stop code) x = absurd x
-  goes_on i on (act.Drain word) x = absurd x
-  goes_on i on (act.Evict l) x = absurd x
-  goes_on i on (act.Deliver m) x = absurd x
-  goes_on i on (act.Local count) x = absurd x
+  goes_on i on _ x = absurd x
 
   step : OfAct (Rests s (event.Step h)) (plan_of s (event.Step h))
   step = unless Q (not (is_running n.hart.status)) outcome.Halted (plan_unless (next_stop s.trace.image n.hart) go) (λ r. by_stop (was_true (is_running n.hart.status) r) (can_fetch s.trace.image n.hart.pc) refl (decoded word) refl (stop_with size n.hart (decoded word)) refl)

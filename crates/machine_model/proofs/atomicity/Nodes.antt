@@ -3,8 +3,8 @@ use Rattle.std.proofs.Common.{◌≡◌, ◌≢◌, ℕ, ◌<◌, List, [], ◌�
 use Rattle.std.proofs.lemmas.List.{length-set}
 use Rattle.machine_model.specs.declared.act.Deed.{Deed}
 use Rattle.machine_model.specs.declared.act.Deed.TheVariants as deed
-use Rattle.machine_model.specs.Changing.{does, performs, performs_own, drained, missed, given_up, writes_word, with_reservation, stopped}
-use Rattle.machine_model.specs.Deliveries.{delivered, taken}
+use Rattle.machine_model.specs.Changing.{acted, does, performs, performs_own, drained, writes_word, with_reservation}
+use Rattle.machine_model.specs.Deliveries.{taken}
 use Rattle.machine_model.specs.Views.{Node, State, no_node, node_at, with_node, with_trace, sent}
 use Rattle.machine_model.specs.Words.{bytes_of_word}
 use Rattle.machine_model.proofs.Nodes.{node_same, node_other, related-set}
@@ -13,9 +13,11 @@ use Rattle.store_buffer.specs.ByteMask.{marks_of_access}
 use Rattle.store_buffer.specs.Entry.{entry_of}
 use Rattle.store_buffer.specs.Groups.{oldest}
 use Rattle.tl_types.specs.declared.message.Msg.{Msg}
-use Rattle.tl_types.specs.declared.permission.Grow.{Grow}
 use Rattle.trace_recorder.specs.History.{with_performed}
 use Rattle.machine_model.proofs.Parts.{IsLess, KeptByMessages, delivered_by, given_up_by, missed_by}
+use Rattle.machine_model.specs.declared.act.Act.{Act}
+use Rattle.machine_model.specs.declared.act.Act.TheVariants as act
+use Rattle.machine_model.proofs.order.Buffers.{IsQuiet}
 
 -- ---- no hart has a reservation that it hadn't
 
@@ -48,17 +50,12 @@ by_messages s = record {
   stores = λ memory notes t k. less_then s t _ k (less_still t _ refl refl refl);
 }
 
-pub delivered_less : (h : ℕ) (m : Msg) (s : State) → LosesReservations s (delivered h m s)
-delivered_less h m s = delivered_by (LosesReservations s) (by_messages s) h m s (less_not s)
-
-pub missed_less : (h line : ℕ) (grow : Grow) (s : State) → LosesReservations s (missed h line grow s)
-missed_less h line grow s = missed_by (LosesReservations s) (by_messages s) h line grow s (less_not s)
-
-pub given_up_less : (h line : ℕ) (s : State) → LosesReservations s (given_up h line s)
-given_up_less h line s = given_up_by (LosesReservations s) (by_messages s) h line s (less_not s)
-
-pub stopped_less : (h code : ℕ) (s : State) → LosesReservations s (stopped h code s)
-stopped_less h code s = let k = node_less h _ s (λ w f. f) in record { less = k.less }
+pub quiet_less : (h : ℕ) (a : Act) (s : State) → IsQuiet a → LosesReservations s (acted h a s)
+quiet_less h (act.Stop code) s is = let k = node_less h _ s (λ w f. f) in record { less = k.less }
+quiet_less h (act.Miss line grow) s is = missed_by (LosesReservations s) (by_messages s) h line grow s (less_not s)
+quiet_less h (act.Evict line) s is = given_up_by (LosesReservations s) (by_messages s) h line s (less_not s)
+quiet_less h (act.Deliver m) s is = delivered_by (LosesReservations s) (by_messages s) h m s (less_not s)
+quiet_less h _ s is = absurd is
 
 performs_less : (h : ℕ) (places : List ℕ) (s : State) → LosesReservations s (performs h places s)
 performs_less h [] s = less_not s

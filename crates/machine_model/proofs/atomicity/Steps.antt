@@ -25,11 +25,11 @@ use Rattle.machine_model.specs.Words.{word_of}
 use Rattle.machine_model.proofs.atomicity.Acts.{Before, IsOutside, SparesWord, foreign_atomic, none_atomic, none_of_word, once_atomic, outside_atomic}
 use Rattle.machine_model.proofs.atomicity.Deeds.{Ends, IsNewest, Plain, Takes, Writable, deed_is, deed_writes, out_is, store_word, trunk_writable}
 use Rattle.machine_model.proofs.atomicity.Kept.{AreLater, Atomic, IsClear, IsStill, is_pairing, marked_item, pairing_is}
-use Rattle.machine_model.proofs.atomicity.Nodes.{LosesReservations, delivered_less, does_reserved, drained_less, given_up_less, missed_less, node_less, reserved_by, stopped_less}
+use Rattle.machine_model.proofs.atomicity.Nodes.{LosesReservations, does_reserved, drained_less, node_less, quiet_less, reserved_by}
 use Rattle.machine_model.proofs.Parts.{IsLess}
 use Rattle.machine_model.proofs.atomicity.Order.{harmless}
 use Rattle.machine_model.proofs.order.Acts.{alone_grown, alone_step, image-with_halt, node-with_trace, retired_gave, retired_known, retired_step, retired_trace}
-use Rattle.machine_model.proofs.order.Buffers.{KeepsBuffers, delivered_keeps, given_up_keeps, missed_keeps, stopped_keeps}
+use Rattle.machine_model.proofs.order.Buffers.{KeepsBuffers, quiet_keeps}
 use Rattle.machine_model.proofs.order.Deeds.{FitsDeed}
 use Rattle.machine_model.proofs.Plans.{HasTrunk}
 use Rattle.machine_model.proofs.order.Events.{IsFit}
@@ -261,10 +261,7 @@ alone_atomic h count s l st fit o a =
 -- ---- any act
 
 pub acted_atomic : (h : ℕ) (x : Act) (s : State) → h < s.views.config.harts → AllStand s → IsFit s h x → Fits s → OrderKept s → AllAtomic s → AllAtomic (acted h x s)
-acted_atomic h (act.Stop code) s l st p fit o a = atomic_still s _ (stopped_keeps h code s) (stopped_less h code s) a
 acted_atomic h (act.Retire e i d) s l st p fit o a = retired_atomic h e i d s l st p.0 p.1 p.2 p.3 p.4 p.5 fit o a
-acted_atomic h (act.Miss line grow) s l st p fit o a = atomic_still s _ (missed_keeps h line grow s) (missed_less h line grow s) a
 acted_atomic h (act.Drain word) s l st p fit o a = drained_atomic h word s (subst (λ n. h < n) (sym st.nodes) l) l p fit o a
-acted_atomic h (act.Evict line) s l st p fit o a = atomic_still s _ (given_up_keeps h line s) (given_up_less h line s) a
-acted_atomic h (act.Deliver m) s l st p fit o a = atomic_still s _ (delivered_keeps h m s) (delivered_less h m s) a
 acted_atomic h (act.Local count) s l st p fit o a = alone_atomic h count s l st fit o a
+acted_atomic h x s l st p fit o a = atomic_still s _ (quiet_keeps h x s tt) (quiet_less h x s tt) a

@@ -19,7 +19,7 @@ use Rattle.machine_model.specs.Words.{bytes_of_word, word_of}
 use Rattle.machine_model.proofs.bytes.Lines.{IsOf, IsWritten, same_bytes, wrote}
 use Rattle.machine_model.proofs.coherence.LinePlaces.{IsPiece, piece}
 use Rattle.machine_model.proofs.order.Acts.{alone_grown, retired_known, retired_step, retired_trace}
-use Rattle.machine_model.proofs.order.Buffers.{KeepsBuffers, delivered_keeps, given_up_keeps, missed_keeps, stopped_keeps}
+use Rattle.machine_model.proofs.order.Buffers.{KeepsBuffers, quiet_keeps}
 use Rattle.machine_model.proofs.order.Bytes.{place_at as byte_in}
 use Rattle.machine_model.proofs.order.Deeds.{Facts, FitsDeed}
 use Rattle.machine_model.proofs.order.Events.{IsFit}
@@ -189,10 +189,7 @@ retired_agrees h entry i d s last l st step dec f fi fp fits o =
 -- ---- any act
 
 pub acted_agrees : (h : ℕ) (a : Act) (s : State) (last : ℕ → LineData) → h < s.views.config.harts → AllStand s → IsFit s h a → IsAligned a → OrderKept s → Agrees s last → Agrees (acted h a s) (last_after s h a last)
-acted_agrees h (act.Stop code) s last l st p w o = agrees_still s _ last (stopped_keeps h code s)
 acted_agrees h (act.Retire e i d) s last l st p w o = retired_agrees h e i d s last l st p.0 p.1 p.2 p.3 p.4 p.5 o
-acted_agrees h (act.Miss line grow) s last l st p w o = agrees_still s _ last (missed_keeps h line grow s)
 acted_agrees h (act.Drain word) s last l st p w o = drained_agrees h word s last (subst (λ n. h < n) (sym st.nodes) l) l o w
-acted_agrees h (act.Evict line) s last l st p w o = agrees_still s _ last (given_up_keeps h line s)
-acted_agrees h (act.Deliver m) s last l st p w o = agrees_still s _ last (delivered_keeps h m s)
 acted_agrees h (act.Local count) s last l st p w o = alone_agrees h count s last l st o
+acted_agrees h a s last l st p w o = agrees_still s _ last (quiet_keeps h a s tt)

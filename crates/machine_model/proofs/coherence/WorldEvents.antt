@@ -115,9 +115,7 @@ word_inside image word on =
 wanted_inside : (s : State) (e : Event) (x : ℕ) → names_well s e ≡ true → IsFor s e x → IsInside s.trace.image x
 wanted_inside s (event.Step h) x named w = instr_inside s.trace.image w.0 (node_at s h).hart.pc (node_at s h).hart.regs w.1.no_stop x w.2
 wanted_inside s (event.Drain h word) x named w = subst (IsInside s.trace.image) (sym w) (word_inside s.trace.image word named)
-wanted_inside s (event.Evict h l) x named w = absurd w
-wanted_inside s (event.Deliver channel h) x named w = absurd w
-wanted_inside s (event.Local h count) x named w = absurd w
+wanted_inside s _ x named w = absurd w
 
 -- ---- acts
 
@@ -132,12 +130,7 @@ drained_piece s e word m = subst (λ f. names_well s f ≡ true) m.rests.0 m.nam
 
 pub act_aligned : (s : State) (e : Event) (a : Act) → IsMove s e a → IsAligned a
 act_aligned s e (act.Drain word) m = (piece s.trace.image word 4 (drained_piece s e word m)).aligned
-act_aligned s e (act.Stop code) m = tt
-act_aligned s e (act.Retire entry j d) m = tt
-act_aligned s e (act.Miss line grow) m = tt
-act_aligned s e (act.Evict line) m = tt
-act_aligned s e (act.Deliver msg) m = tt
-act_aligned s e (act.Local count) m = tt
+act_aligned s e _ m = tt
 
 module _ (s : State) (last : ℕ → LineData) (i : IsFit s last) (h : ℕ) where
   may_write : (address : ℕ) → is_trunk (perm_of (copy_at (node_at s h).cache (line_of (node_at s h).cache.shape.size address))) ≡ true → MayWrite s h address

@@ -122,9 +122,7 @@ alone_still h (act.Retire entry i d) s is =
     still_then s did _ (does_by (Still s) (by_deeds s) s.views.config.model h d s (still_not s)) (hart_still h after (with_halt h after.status (with_entry h entry did.trace)) did (halt_log h after.status (with_entry h entry did.trace)))
 alone_still h (act.Drain word) s is = drained_by (Still s) (by_deeds s) h word s (still_not s)
 alone_still h (act.Local count) s is = hart_still h _ _ s (entries_log h (private_row s.trace.image (node_at s h).hart count) s.trace)
-alone_still h (act.Miss line grow) s is = absurd is
-alone_still h (act.Evict line) s is = absurd is
-alone_still h (act.Deliver m) s is = absurd is
+alone_still h _ s is = absurd is
 
 -- ---- what messages that go out keep
 
@@ -197,15 +195,12 @@ module _ (P : State → Type 0) (quiet : (s t : State) → Quiet s t → P s →
       by_left P less q h line answer.0 (λ change bytes. asks h (record { line = line; body = release_body change bytes }) less (release_asks change bytes) q)
 
   pub acted_keeps : (h : ℕ) (a : Act) (s : State) → Delivers P s h a → P s → P (acted h a s)
-  acted_keeps h (act.Stop code) s t p = quiet s (acted h (act.Stop code) s) (alone_still h (act.Stop code) s tt).quiet p
-  acted_keeps h (act.Retire entry i d) s t p = quiet s (acted h (act.Retire entry i d) s) (alone_still h (act.Retire entry i d) s tt).quiet p
   acted_keeps h (act.Miss line grow) s t p =
       let asking = with_node h (record (node_at s h) { cache = (wanted (node_at s h).cache line grow).1 }) s in
       asks h (record { line = line; body = AcquireBlock grow }) asking (refl, refl, refl) (quiet s asking (quiet_node h _ s refl) p)
-  acted_keeps h (act.Drain word) s t p = quiet s (acted h (act.Drain word) s) (alone_still h (act.Drain word) s tt).quiet p
   acted_keeps h (act.Evict line) s t p = evicted_keeps h line s p
   acted_keeps h (act.Deliver m) s t p = t
-  acted_keeps h (act.Local count) s t p = quiet s (acted h (act.Local count) s) (alone_still h (act.Local count) s tt).quiet p
+  acted_keeps h a s t p = quiet s (acted h a s) (alone_still h a s tt).quiet p
 
   -- `R` holds once the message has left its queue, and until it is answered
   module _ (R : ℕ → Msg → State → Type 0) (quiet_taken : (h : ℕ) (m : Msg) (s t : State) → Quiet s t → R h m s → R h m t) (forget : (h : ℕ) (m : Msg) (s : State) → R h m s → P s)

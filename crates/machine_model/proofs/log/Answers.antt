@@ -106,12 +106,7 @@ delivers s h (act.Deliver m) i =
     handled_keeps Answered quiet_answered asks Unanswered (λ h m s t q u. subst (IsUnanswered h m) (sym q.log) u) (λ h m s u. u.answered)
     acks_probe acks_release acks_grant
     h m.line m.body (taken h m s) (taken_answered h m s.trace.log i)
-delivers s h (act.Stop code) i = tt
-delivers s h (act.Retire entry instr d) i = tt
-delivers s h (act.Miss line grow) i = tt
-delivers s h (act.Drain word) i = tt
-delivers s h (act.Evict line) i = tt
-delivers s h (act.Local count) i = tt
+delivers s h _ i = tt
 
 acts : (s : State) (e : Event) (a : Act) → IsMove s e a → Anything s → Answered s → Answered (acted (hart_of e) a s)
 acts s e a k g i = acted_keeps Answered quiet_answered asks (hart_of e) a s (delivers s (hart_of e) a i) i

@@ -28,12 +28,7 @@ delivers s e (act.Deliver m) i k =
     handled_keeps IsInOrder quiet_order (λ h m s is i. sent_order h m s i) (λ h m s. IsInOrder s) (λ h m s t. quiet_order s t) (λ h m s i. i)
     (λ h line cap change bytes s i. sent_order h _ s i) (λ h line body s is i. sent_order h _ s i) (λ h line body s is i. sent_order h _ s i)
     h m.line m.body (taken h m s) (taken_order h m s i front.0 k.in_h front.1)
-delivers s e (act.Stop code) i k = tt
-delivers s e (act.Retire entry instr d) i k = tt
-delivers s e (act.Miss line grow) i k = tt
-delivers s e (act.Drain word) i k = tt
-delivers s e (act.Evict line) i k = tt
-delivers s e (act.Local count) i k = tt
+delivers s e _ i k = tt
 
 counted_order : (s : State) → IsInOrder s → IsInOrder (counted s)
 counted_order s i = quiet_order s (counted s) (same_nodes s (counted s) refl refl).quiet i

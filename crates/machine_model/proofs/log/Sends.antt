@@ -141,10 +141,7 @@ flagged s e (act.Evict line) k g i =
 flagged s e (act.Deliver m) k g i =
     let front = front_of_move s g.1 e m k in
     delivered_flagged s g.0 (hart_of e) k.in_h i m.line m.body front.0 front.1
-flagged s e (act.Stop code) k g i = still_flagged s _ (alone_still (hart_of e) (act.Stop code) s tt) i
-flagged s e (act.Retire entry instr d) k g i = still_flagged s _ (alone_still (hart_of e) (act.Retire entry instr d) s tt) i
-flagged s e (act.Drain word) k g i = still_flagged s _ (alone_still (hart_of e) (act.Drain word) s tt) i
-flagged s e (act.Local count) k g i = still_flagged s _ (alone_still (hart_of e) (act.Local count) s tt) i
+flagged s e a k g i = still_flagged s _ (alone_still (hart_of e) a s tt) i
 
 acts : (s : State) (e : Event) (a : Act) → IsMove s e a → Known s → IsFlagged s → IsFlagged (after_act s e a)
 acts s e a k g i = let next = acted (hart_of e) a s in still_flagged next (counted next) (same_nodes next (counted next) refl refl) (flagged s e a k g i)

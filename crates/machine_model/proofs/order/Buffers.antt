@@ -2,7 +2,7 @@
 use Rattle.std.proofs.Common.{◌≡◌, ◌≢◌, ℕ, ◌<◌, List, [], ◌∷◌, ◌++◌, refl, sym, ap, ◌∙◌, append-nil, append_assoc, map, length}
 use Rattle.machine_model.specs.declared.act.Deed.{Deed}
 use Rattle.machine_model.specs.declared.act.Deed.TheVariants as deed
-use Rattle.machine_model.specs.Changing.{does, performs, performs_own, next_place, missed, given_up, writes_word, with_buffer, stopped, put_behind}
+use Rattle.machine_model.specs.Changing.{acted, does, performs, performs_own, next_place, missed, given_up, writes_word, with_buffer, stopped, put_behind}
 use Rattle.machine_model.specs.Deliveries.{delivered, taken}
 use Rattle.machine_model.specs.Views.{no_node, Node, State, node_at, with_node, with_trace, sent}
 use Rattle.machine_model.specs.Words.{bytes_of_word}
@@ -16,6 +16,8 @@ use Rattle.tl_types.specs.declared.permission.Grow.{Grow}
 use Rattle.trace_recorder.specs.History.{with_performed}
 use Rattle.trace_recorder.specs.declared.operation.OpId.{OpId}
 use Rattle.machine_model.proofs.Parts.{KeptByMessages, delivered_by, given_up_by, missed_by}
+use Rattle.machine_model.specs.declared.act.Act.{Act}
+use Rattle.machine_model.specs.declared.act.Act.TheVariants as act
 
 -- the buffers are as they were, and so are the lists and the performed order
 pub record KeepsBuffers (old new : State) : Type 0 where
@@ -74,6 +76,20 @@ given_up_keeps h line s = given_up_by (KeepsBuffers s) (by_messages s) h line s 
 
 pub stopped_keeps : (h code : ℕ) (s : State) → KeepsBuffers s (stopped h code s)
 stopped_keeps h code s = let k = node_keeps h _ s refl in record { image = refl; config = refl; entries = refl; performed = refl; buffers = k.buffers }
+
+-- an act by which nothing retires and nothing is performed
+abbrev pub IsQuiet : Act → Type 0
+IsQuiet (act.Retire entry i d) = ⊥
+IsQuiet (act.Drain word) = ⊥
+IsQuiet (act.Local count) = ⊥
+IsQuiet _ = Unit {0}
+
+pub quiet_keeps : (h : ℕ) (a : Act) (s : State) → IsQuiet a → KeepsBuffers s (acted h a s)
+quiet_keeps h (act.Stop code) s is = stopped_keeps h code s
+quiet_keeps h (act.Miss line grow) s is = missed_keeps h line grow s
+quiet_keeps h (act.Evict line) s is = given_up_keeps h line s
+quiet_keeps h (act.Deliver m) s is = delivered_keeps h m s
+quiet_keeps h _ s is = absurd is
 
 -- ---- what is performed, and what becomes of the buffers
 

@@ -24,7 +24,7 @@ use Rattle.machine_model.proofs.Plans.{HasTrunk, OfAct, Rests, fetched_at, plan_
 use Rattle.machine_model.proofs.runs.Retiring.{retires_step}
 use Rattle.machine_model.proofs.runs.Runs.{AllStand, Stands, happens_stand}
 use Rattle.machine_model.proofs.order.Acts.{retired_kept, alone_kept}
-use Rattle.machine_model.proofs.order.Buffers.{still, delivered_keeps, missed_keeps, given_up_keeps, stopped_keeps}
+use Rattle.machine_model.proofs.order.Buffers.{quiet_keeps, still}
 use Rattle.machine_model.proofs.order.Deeds.{FitsDeed}
 use Rattle.machine_model.proofs.order.Moves.{OrderKept, order_still, order_drained}
 use Rattle.machine_model.proofs.order.Steps.{HartKept}
@@ -47,13 +47,10 @@ IsFit s h (act.Drain word) = HasTrunk (node_at s h) word
 IsFit s h _ = Unit {0}
 
 pub acted_kept : (h : ℕ) (a : Act) (s : State) → h < s.views.config.harts → AllStand s → IsFit s h a → OrderKept s → OrderKept (acted h a s)
-acted_kept h (act.Stop code) s l st p o = order_still s _ (stopped_keeps h code s) o
 acted_kept h (act.Retire e i d) s l st p o = retired_kept h e i d s l st p.0 p.1 p.2 p.3 p.4 p.5 o
-acted_kept h (act.Miss line grow) s l st p o = order_still s _ (missed_keeps h line grow s) o
 acted_kept h (act.Drain word) s l st p o = order_drained h word s (subst (λ n. h < n) (sym st.nodes) l) l o
-acted_kept h (act.Evict line) s l st p o = order_still s _ (given_up_keeps h line s) o
-acted_kept h (act.Deliver m) s l st p o = order_still s _ (delivered_keeps h m s) o
 acted_kept h (act.Local count) s l st p o = alone_kept h count s l st o
+acted_kept h a s l st p o = order_still s _ (quiet_keeps h a s tt) o
 
 -- ---- plans
 
@@ -65,11 +62,7 @@ IsFitPlan s h (Changes a) = IsFit s h a
 pub rests_fit : (s : State) (e : Event) (a : Act) → Rests s e a → IsFit s (hart_of e) a
 rests_fit s e (act.Retire r i d) x = let step = retires_step s (hart_of e) r i d x.1 in (step.0, step.1, fetched_at s (hart_of e) i, refl, refl, x.1.does.fit)
 rests_fit s e (act.Drain word) x = x.1.trunk
-rests_fit s e (act.Stop code) x = tt
-rests_fit s e (act.Miss line grow) x = tt
-rests_fit s e (act.Evict line) x = tt
-rests_fit s e (act.Deliver m) x = tt
-rests_fit s e (act.Local count) x = tt
+rests_fit s e _ x = tt
 
 pub plan_fit : (s : State) (e : Event) → IsFitPlan s (hart_of e) (plan_of s e)
 plan_fit s e = go (plan_of s e) (plan_rests s e)

@@ -15,7 +15,7 @@ use Rattle.machine_model.specs.Steps.{Fetched}
 use Rattle.machine_model.specs.Views.{State, node_at}
 use Rattle.machine_model.proofs.runs.Runs.{AllStand}
 use Rattle.machine_model.proofs.order.Acts.{retired_step, retired_known, retired_gave, retired_trace, alone_step, alone_grown}
-use Rattle.machine_model.proofs.order.Buffers.{KeepsBuffers, delivered_keeps, missed_keeps, given_up_keeps, stopped_keeps}
+use Rattle.machine_model.proofs.order.Buffers.{KeepsBuffers, quiet_keeps}
 use Rattle.machine_model.proofs.order.Deeds.{FitsDeed}
 use Rattle.machine_model.proofs.order.Events.{IsFit}
 use Rattle.machine_model.proofs.order.Kept.{joined, of_word, IsWaiting, get_new}
@@ -142,10 +142,7 @@ alone_values h count s l st o v =
         not_so n ns e = cc
 
 pub acted_values : (h : ℕ) (a : Act) (s : State) → h < s.views.config.harts → AllStand s → IsFit s h a → ((y : ℕ) → image_of s.trace y < 256) → HoldsLast (last_performed s.trace) (node_at s h) → OrderKept s → ValuesKept s → ValuesKept (acted h a s)
-acted_values h (act.Stop code) s l st p small holds o v = values_still s _ (stopped_keeps h code s) v
 acted_values h (act.Retire e i d) s l st p small holds o v = retired_values h e i d s l st p.0 p.1 p.2 p.3 p.4 p.5 small holds o v
-acted_values h (act.Miss line grow) s l st p small holds o v = values_still s _ (missed_keeps h line grow s) v
 acted_values h (act.Drain word) s l st p small holds o v = drained_values h word s (subst (λ n. h < n) (sym st.nodes) l) l o v
-acted_values h (act.Evict line) s l st p small holds o v = values_still s _ (given_up_keeps h line s) v
-acted_values h (act.Deliver m) s l st p small holds o v = values_still s _ (delivered_keeps h m s) v
 acted_values h (act.Local count) s l st p small holds o v = alone_values h count s l st o v
+acted_values h a s l st p small holds o v = values_still s _ (quiet_keeps h a s tt) v

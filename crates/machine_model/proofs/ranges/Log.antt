@@ -70,12 +70,7 @@ module _ (s : State) (i : IsInOrder s) where
       handled_keeps (TakesFrom s) quiet (λ h m a is p. sends h m a p) (λ h m a. TakesFrom s a) (λ h m a b. quiet a b) (λ h m a p. p)
       (λ h line cap change bytes a p. sends h _ a p) (λ h line body a is p. sends h _ a p) (λ h line body a is p. sends h _ a p)
       h m.line m.body (taken h m s) (takes h m front.0 k.in_h front.1)
-  delivers e (act.Stop code) k = tt
-  delivers e (act.Retire entry instr d) k = tt
-  delivers e (act.Miss line grow) k = tt
-  delivers e (act.Drain word) k = tt
-  delivers e (act.Evict line) k = tt
-  delivers e (act.Local count) k = tt
+  delivers e _ k = tt
 
   happens_takes : (e : Event) → TakesFrom s (happens s e)
   happens_takes e = by_event (TakesFrom s) s e nothing_new (λ a k. acted_keeps (TakesFrom s) quiet (λ h m b is p. sends h m b p) (hart_of e) a s (delivers e a k) nothing_new)

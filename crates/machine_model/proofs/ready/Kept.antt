@@ -95,10 +95,7 @@ module _ (s : State) (k : IsSized s) (e : Event) (a : Act) (m : IsMove s e a) wh
       go (act.Retire entry i d) x = deed_ready s k.last k.fit hart entry i d x.rests.1
       go (act.Drain word) x = drain_ready s k.last k.fit e word x
       go (act.Deliver msg) x = ready_message s k.last k.fit k.lines hart msg (front_of_move s k.order e msg x)
-      go (act.Stop code) x = tt
-      go (act.Miss line grow) x = tt
-      go (act.Evict line) x = tt
-      go (act.Local count) x = tt
+      go _ x = tt
 
   sized : IsSizedAct (line_size s) a
   sized = go a act_ready

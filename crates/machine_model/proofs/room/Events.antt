@@ -3,7 +3,6 @@ use Rattle.std.proofs.Common.{ℕ, true, List, [], ◌∷◌, ◌≡◌}
 use Rattle.std.specs.Prelude.{map}
 use Rattle.std.specs.List.{range_with_len}
 use Rattle.std.proofs.lemmas.List.FromFn.{length-map-range_with_len}
-use Rattle.client_cache.specs.declared.answers.Evict.{Evict}
 use Rattle.elf_loader.specs.Image.{Initial}
 use Rattle.machine_types.specs.Config.{is_within_limits}
 use Rattle.machine_types.proofs.Within.{limits_of}
@@ -22,12 +21,7 @@ use Rattle.machine_model.proofs.room.Sizes.{AllSmall, IsSmallState, LeavesRoom, 
 -- a Grant is delivered only where its GrantAck has room
 leaves_room : (s : State) (e : Event) (a : Act) → Rests s e a → LeavesRoom s (hart_of e) a
 leaves_room s e (act.Deliver m) x = x.2.room
-leaves_room s e (act.Stop code) x = tt
-leaves_room s e (act.Retire entry i d) x = tt
-leaves_room s e (act.Miss line grow) x = tt
-leaves_room s e (act.Drain word) x = tt
-leaves_room s e (act.Evict line) x = tt
-leaves_room s e (act.Local count) x = tt
+leaves_room s e _ x = tt
 
 happens_small : (s : State) (e : Event) → IsSmallState s → IsSmallState (happens s e)
 happens_small s e k = by_event IsSmallState s e k (λ a m. acted_small s (hart_of e) a m.in_h (leaves_room s e a m.rests) k)

@@ -195,12 +195,9 @@ local_moves s h count o new v = go m.act m.move m.outcome_is m.new_is
           retires = sym is;
           new_is = e ∙ ap (λ m. counted (went_alone h m s)) same;
         }
-    go (act.Stop code) k is e = absurd (cc k.rests.0)
-    go (act.Retire entry i d) k is e = absurd (cc k.rests.0)
     go (act.Miss line grow) k is e = absurd k.rests.1
-    go (act.Drain word) k is e = absurd (cc k.rests.0)
-    go (act.Evict line) k is e = absurd (cc k.rests.0)
     go (act.Deliver _) k is e = absurd (cc k.rests.1)
+    go _ k is e = absurd (cc k.rests.0)
 
 pub local_is_steps : LocalIsSteps
 local_is_steps s h count o new v =

@@ -23,11 +23,7 @@ stopped_by (Exited c) code e = absurd (cc e)
 stops : (s : State) (h : ℕ) (a : Act) (code : ℕ) → outcome_of_act s h a ≡ outcome.Stopped code → acted h a s ≡ stopped h code s
 stops s h (act.Stop c) code e = ap (λ (k : ℕ). stopped h k s) (cc e)
 stops s h (act.Retire entry i d) code e = absurd (retired_stops_not s.trace.image (node_at s h).hart entry i code (stopped_by (after_instr (node_at s h).hart entry (Some i)).status code e))
-stops s h (act.Miss line grow) code e = absurd (cc e)
-stops s h (act.Drain word) code e = absurd (cc e)
-stops s h (act.Evict line) code e = absurd (cc e)
-stops s h (act.Deliver m) code e = absurd (cc e)
-stops s h (act.Local count) code e = absurd (cc e)
+stops s h _ code e = absurd (cc e)
 
 pub stops_change_status_alone : StopsChangeStatusAlone
 stops_change_status_alone s h code new e =

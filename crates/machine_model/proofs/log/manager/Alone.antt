@@ -47,9 +47,7 @@ alone_notes h (act.Stop code) s is = refl
 alone_notes h (act.Retire entry i d) s is = does_notes s.views.config.model h d s
 alone_notes h (act.Drain word) s is = ap (λ (v : Views). v.notes) (performs_views h (entry_of word (oldest (node_at s h).buffer)).ops s)
 alone_notes h (act.Local count) s is = refl
-alone_notes h (act.Miss line grow) s is = absurd is
-alone_notes h (act.Evict line) s is = absurd is
-alone_notes h (act.Deliver m) s is = absurd is
+alone_notes h _ s is = absurd is
 
 -- ---- permissions
 
@@ -113,6 +111,4 @@ alone_perms h (act.Retire entry i d) s is =
     then s did _ (does_by (KeepsPerms s) (by_deeds s) s.views.config.model h d s (perms_not s)) (hart_keeps h _ _ did)
 alone_perms h (act.Drain word) s is = drained_by (KeepsPerms s) (by_deeds s) h word s (perms_not s)
 alone_perms h (act.Local count) s is = hart_keeps h _ _ s
-alone_perms h (act.Miss line grow) s is = absurd is
-alone_perms h (act.Evict line) s is = absurd is
-alone_perms h (act.Deliver m) s is = absurd is
+alone_perms h _ s is = absurd is

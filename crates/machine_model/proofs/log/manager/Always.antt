@@ -58,10 +58,7 @@ governed : (s : State) (p : IsPlain s) (e : Event) (a : Act) (k : IsMove s e a) 
 governed s p e (act.Miss line grow) k i = missed_governed s (hart_of e) (in_c s p (hart_of e) k.in_h i) i line grow
 governed s p e (act.Evict line) k i = given_up_governed s (hart_of e) (in_c s p (hart_of e) k.in_h i) i line
 governed s p e (act.Deliver m) k i = delivered_governed s p (hart_of e) k.in_h i m.line m.body k.rests.2.ready (front_of_move s p.known.1 e m k)
-governed s p e (act.Stop code) k i = alone_governed s (hart_of e) (in_c s p (hart_of e) k.in_h i) i (act.Stop code) tt
-governed s p e (act.Retire entry instr d) k i = alone_governed s (hart_of e) (in_c s p (hart_of e) k.in_h i) i (act.Retire entry instr d) tt
-governed s p e (act.Drain word) k i = alone_governed s (hart_of e) (in_c s p (hart_of e) k.in_h i) i (act.Drain word) tt
-governed s p e (act.Local count) k i = alone_governed s (hart_of e) (in_c s p (hart_of e) k.in_h i) i (act.Local count) tt
+governed s p e a k i = alone_governed s (hart_of e) (in_c s p (hart_of e) k.in_h i) i a tt
 
 happens_plain : (s : State) (e : Event) → IsPlain s → IsPlain (happens s e)
 happens_plain s e p = record {

@@ -148,10 +148,7 @@ answering s e (act.Evict line) is i =
     let still = same_log s less refl i in
     by_left IsAnswering less still h line (evicted (node_at s h).cache line).0 (λ change bytes. released_answering h line change bytes less still)
 answering s e (act.Deliver m) is i = delivered_answering s (hart_of e) m.line i m.body is.2.ready
-answering s e (act.Stop code) is i = still_answering s _ (alone_still (hart_of e) (act.Stop code) s tt) i
-answering s e (act.Retire entry instr d) is i = still_answering s _ (alone_still (hart_of e) (act.Retire entry instr d) s tt) i
-answering s e (act.Drain word) is i = still_answering s _ (alone_still (hart_of e) (act.Drain word) s tt) i
-answering s e (act.Local count) is i = still_answering s _ (alone_still (hart_of e) (act.Local count) s tt) i
+answering s e a is i = still_answering s _ (alone_still (hart_of e) a s tt) i
 
 pub happens_answering : (s : State) (e : Event) → IsAnswering s → IsAnswering (happens s e)
 happens_answering s e i = by_event IsAnswering s e i (λ a k. let next = acted (hart_of e) a s in same_log next (counted next) refl (answering s e a k.rests i))

@@ -329,10 +329,7 @@ losing : (s : State) (e : Event) (a : Act) → IsMove s e a → Known s → IsLo
 losing s e (act.Miss line grow) k g i = missed_losing s (hart_of e) k.in_h g i k.rests.0 line grow k.rests.2
 losing s e (act.Evict line) k g i = given_up_losing s (hart_of e) k.in_h g i line k.rests.1.0 k.rests.1.1 k.rests.1.2
 losing s e (act.Deliver m) k g i = delivered_losing s (hart_of e) k.in_h g i m.line m.body k.rests.2.ready (front_of_move s g.1 e m k)
-losing s e (act.Stop code) k g i = alone_losing s (hart_of e) k.in_h g i (act.Stop code) tt
-losing s e (act.Retire entry instr d) k g i = alone_losing s (hart_of e) k.in_h g i (act.Retire entry instr d) tt
-losing s e (act.Drain word) k g i = alone_losing s (hart_of e) k.in_h g i (act.Drain word) tt
-losing s e (act.Local count) k g i = alone_losing s (hart_of e) k.in_h g i (act.Local count) tt
+losing s e a k g i = alone_losing s (hart_of e) k.in_h g i a tt
 
 pub happens_losing : (s : State) (e : Event) → Known s → IsLosing s → IsLosing (happens s e)
 happens_losing s e g i = by_event IsLosing s e i (λ a k. losing s e a k g i)
