@@ -1,7 +1,6 @@
 -- Each act only adds to the trace, and leaves image and configuration.
 use Rattle.std.proofs.Common.{◌≡◌, ◌+◌, ℕ, zero, suc, List, [], ◌∷◌, ◌++◌, refl, sym, ap, ◌∙◌, slice_index_or, slice_set}
 use Rattle.std.proofs.lemmas.List.{append-nil, append_assoc}
-use Rattle.client_cache.specs.declared.answers.Evict.{Evict}
 use Rattle.hart.specs.declared.retired.Retired.{Retired}
 use Rattle.hart.specs.Local.{private_row}
 use Rattle.hart.specs.declared.status.Status.{Status}
@@ -10,7 +9,7 @@ use Rattle.machine_model.specs.declared.act.Act.{Act}
 use Rattle.machine_model.specs.declared.act.Act.TheVariants as act
 use Rattle.machine_types.specs.declared.event.Event.{Event}
 use Rattle.machine_types.specs.declared.outcome.Outcome.{Outcome}
-use Rattle.machine_model.specs.Changing.{acted, performs, with_halt, with_entries, retired}
+use Rattle.machine_model.specs.Changing.{acted, with_halt, with_entries, retired}
 use Rattle.machine_model.specs.Deliveries.{taken}
 use Rattle.machine_model.specs.Events.{Verdict, counted, verdict, happens, hart_of}
 use Rattle.machine_model.specs.Laws.{Grows, KeepsImageAndConfig}

@@ -2,7 +2,7 @@
 use Rattle.std.proofs.Common.{◌≡◌, ◌≢◌, ℕ, zero, suc, ◌<◌, List, [], ◌∷◌, refl, ap, ◌∙◌, length, slice_index_or, slice_set}
 use Rattle.std.proofs.lemmas.List.{length-set, get_or-set_same, get_or-set_other}
 use Rattle.machine_model.specs.declared.act.Deed.{Deed}
-use Rattle.machine_model.specs.Changing.{does, performs, missed, drained, given_up}
+use Rattle.machine_model.specs.Changing.{does, missed, drained, given_up}
 use Rattle.machine_model.specs.Deliveries.{delivered, taken}
 use Rattle.machine_model.specs.Views.{no_node, Node, State, node_at, with_node, sent}
 use Rattle.machine_types.specs.declared.model.MemoryModel.{MemoryModel}

@@ -5,7 +5,6 @@ use Rattle.std.proofs.lemmas.Bool.{eqb-true, eq-eqb, le-leb, ltb-false}
 use native.Mathlib.Omega.{arith}
 use Rattle.client_cache.specs.Cache.{copy_at}
 use Rattle.client_cache.specs.Held.{perm_of}
-use Rattle.client_cache.specs.declared.answers.Evict.{Evict}
 use Rattle.directory.specs.Directory.{line_at}
 use Rattle.directory.specs.Lines.{known_at, unknown}
 use Rattle.elf_loader.specs.Image.{Initial, end_of}
@@ -30,7 +29,6 @@ use Rattle.machine_model.proofs.coherence.WorldFits.{Framed, IsFit, framed_taken
 use Rattle.machine_model.proofs.coherence.WorldKept.{front_line, is_line, side}
 use Rattle.machine_model.proofs.coherence.WorldSteps.{Fits, IsAllowed, MayWrite, drains_fits, last_after, retires_fits, stopped_fits, went_alone_fits}
 use Rattle.reservations.specs.Reservation.{is_valid}
-use Rattle.memory_model.specs.declared.operation.Kind.TheVariants.{Load}
 use Rattle.rv32_decode.specs.declared.instruction.Instr.{Instr}
 use Rattle.rv32_decode.specs.declared.instruction.Instr.TheVariants as instr
 use Rattle.rv32_decode.specs.declared.instruction.LoadOp.{LoadOp}

@@ -2,7 +2,6 @@
 use Rattle.std.proofs.Common.{ℕ, Bool, true, false, List, [], ◌∷◌, ◌≡◌, Option, Some, None, refl, ap, ◌∙◌, length, slice_index_or}
 use Rattle.std.specs.Prelude.{if◌then◌else◌}
 use Rattle.client_cache.specs.Cache.{Cache, answered, copy_at, evicted, granted, probed, wanted, word_written, word_written_in}
-use Rattle.client_cache.specs.declared.answers.Evict.{Evict}
 use Rattle.client_cache.specs.declared.held.Held.{Held}
 use Rattle.directory.specs.Directory.{Notes, acquired, probe_acked, released, grant_acked}
 use Rattle.directory.specs.declared.answer.Acquired.{Acquired}
@@ -13,7 +12,7 @@ use Rattle.hart.specs.declared.retired.Retired.{Retired}
 use Rattle.hart.specs.declared.state.Hart.{Hart}
 use Rattle.hart.specs.declared.status.Status.{Status}
 use Rattle.hart.specs.declared.status.Status.TheVariants.{Running, Stopped, Exited}
-use Rattle.machine_model.specs.Changing.{acted, does, given_up, performs, release_body, with_entries, with_halt, writes_word}
+use Rattle.machine_model.specs.Changing.{acted, does, given_up, release_body, with_entries, with_halt, writes_word}
 use Rattle.machine_model.specs.Deliveries.{delivered, grant_body, handled, line_in_memory, on_acquire, on_grant, on_probe_ack, on_release, probe_ack_body, sent_grant, sent_if_granted, sent_if_handled, with_less, with_memory, with_notes}
 use Rattle.machine_model.specs.LawfulLog.{is_grant, is_grant_ack, is_probe_ack, is_release, is_release_ack}
 use Rattle.machine_model.specs.Views.{Node, State, line_of, line_size, no_node, node_at, place_of, sent, with_node, with_trace}

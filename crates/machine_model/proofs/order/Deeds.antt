@@ -5,7 +5,7 @@ use Rattle.std.proofs.lemmas.Bool.{eqb-true}
 use Rattle.client_cache.specs.Cache.{copy_at}
 use Rattle.client_cache.specs.Held.{bytes_in}
 use Rattle.client_cache.specs.declared.held.Held.{Held}
-use Rattle.client_cache.specs.declared.held.Held.TheVariants.{Branch, Trunk}
+use Rattle.client_cache.specs.declared.held.Held.TheVariants.{Trunk}
 use Rattle.hart.specs.declared.retired.Retired.{Retired}
 use Rattle.machine_model.specs.declared.act.Deed.{Deed}
 use Rattle.machine_model.specs.declared.act.Deed.TheVariants as deed

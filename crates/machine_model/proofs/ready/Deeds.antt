@@ -9,7 +9,6 @@ use Rattle.machine_model.specs.declared.act.Deed.TheVariants as deed
 use Rattle.machine_types.specs.declared.event.Event.{Event}
 use Rattle.machine_model.proofs.coherence.LineStands.{is_writer}
 use Rattle.machine_model.proofs.coherence.WorldFits.{IsFit}
-use Rattle.memory_model.specs.declared.operation.Kind.TheVariants.{Store}
 use Rattle.rv32_decode.specs.declared.instruction.Instr.{Instr}
 use Rattle.rv32_exec.specs.Meaning.{access_of}
 use Rattle.tl_types.specs.declared.line.LineData.{LineData}

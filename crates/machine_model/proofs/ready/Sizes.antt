@@ -4,9 +4,8 @@ use native.Mathlib.Omega.{arith}
 use Rattle.backing_memory.specs.Memory.{line_data}
 use Rattle.client_cache.specs.Cache.{wanted, probed, granted, answered, evicted}
 use Rattle.client_cache.specs.Word.{with_word}
-use Rattle.client_cache.specs.declared.answers.Evict.{Evict}
 use Rattle.directory.specs.Directory.{Notes, acquired, grant_acked, probe_acked, released}
-use Rattle.machine_model.specs.Changing.{acted, does, performs, given_up, missed}
+use Rattle.machine_model.specs.Changing.{acted, does, given_up, missed}
 use Rattle.machine_model.specs.Deliveries.{delivered, handled, on_acquire, on_grant, on_probe, on_probe_ack, on_release, taken, with_less, with_memory, with_notes}
 use Rattle.hart.specs.Run.{after_instr}
 use Rattle.machine_model.specs.Views.{Node, State, Views, line_of, line_size, no_node, node_at, place_of, sent, with_node}

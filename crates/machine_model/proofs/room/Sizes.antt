@@ -10,7 +10,6 @@ use Rattle.std.proofs.lemmas.List.{length-append, length-set}
 use Rattle.machine_types.specs.declared.limits.TheConstants.{MAX_HARTS, TRACKERS}
 use native.Mathlib.Omega.{arith}
 use Rattle.client_cache.specs.Cache.{Cache, copy_at, wanted, probed, probed_copy, granted, answered, evicted, word_written, word_written_in}
-use Rattle.client_cache.specs.declared.answers.Evict.{Evict}
 use Rattle.client_cache.specs.declared.held.Held.{Held}
 use Rattle.directory.specs.Directory.{acquired, probe_acked, released}
 use Rattle.directory.specs.declared.answer.Grant.{Grant as Granting}
@@ -19,7 +18,7 @@ use Rattle.hart.specs.Local.{private_row}
 use Rattle.hart.specs.Run.{after_instr, reached}
 use Rattle.hart.specs.declared.state.Hart.{Hart}
 use Rattle.hart.specs.declared.status.Status.TheVariants.{Stopped}
-use Rattle.machine_model.specs.Changing.{acted, does, given_up, missed, performs, release_body}
+use Rattle.machine_model.specs.Changing.{acted, does, given_up, missed, release_body}
 use Rattle.machine_model.specs.Deliveries.{delivered, grant_body, handled, line_in_memory, on_grant, on_probe, on_probe_ack, on_release, on_release_ack, probe_ack_body, sent_grant, taken, with_less, with_memory, with_notes}
 use Rattle.machine_model.specs.LawfulLog.{is_grant}
 use Rattle.machine_model.specs.Views.{Node, State, line_of, line_size, node_at, opening_node, place_of, sent, with_node}

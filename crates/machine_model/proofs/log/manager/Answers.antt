@@ -3,7 +3,6 @@ use Rattle.std.proofs.Common.{ℕ, ◌+◌, Bool, false, List, [], ◌∷◌, �
 use Rattle.std.specs.Prelude.{◌==◌, ◌&&◌}
 use native.Mathlib.Omega.{arith}
 use Rattle.client_cache.specs.Cache.{evicted, probed, wanted}
-use Rattle.client_cache.specs.declared.answers.Evict.{Evict}
 use Rattle.client_cache.specs.declared.answers.Probed.{Probed}
 use Rattle.client_cache.specs.declared.answers.Probed.TheVariants.{Answered}
 use Rattle.elf_loader.specs.Image.{Initial}
