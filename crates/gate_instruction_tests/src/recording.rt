@@ -1,7 +1,8 @@
 //! Each call of a trace at least once.
 use crate::same::same;
-use elf_loader::{raw, size_of_kib};
+use elf_loader::{Image, raw, size_of_kib};
 use hart::{Retired, Status};
+use std::alloc::Global;
 use std::process::Abort;
 use std::test::Fail;
 use tl_types::{Body, LineSize, Msg};
@@ -45,38 +46,58 @@ fn is_filled(rt: &impl Abort, trace: &Trace) {
     same(rt, trace.line_size(), LineSize::Bytes16);
 }
 
+/// Memory of 4 KiB that begins with an instruction.
+fn image_of_one(alloc: Global) -> Result<Image, Fail> {
+    let size = size_of_kib(4).ok_or("a size")?;
+    Ok(raw(alloc, &[0x13, 0, 0, 0], size)?)
+}
+
 #[test]
 fn a_trace_keeps_what_happened(rt: HostRuntime) -> Result<(), Fail> {
-    let size = size_of_kib(4).ok_or("a size")?;
-    let image = raw(rt.alloc(), &[0x13, 0, 0, 0], size)?;
+    let image = image_of_one(rt.alloc())?;
     let mut trace = Trace::new(rt.alloc(), image, LineSize::Bytes16, 2)?;
     fill(&rt, &mut trace)?;
     is_filled(&rt, &trace);
     Ok(())
 }
 
+const SENT: Logged = Logged {
+    direction: Direction::Sent,
+    hart: 0,
+    message: ACK,
+};
+
+/// What the one hart has retired.
+fn retired(rt: &(impl Abort + AllocGlobal)) -> Vec<Vec<Retired>> {
+    let own = vec![in rt.alloc(); ENTRY; 3].expect(rt, "entries");
+    vec![in rt.alloc(); own].expect(rt, "a hart's list")
+}
+
+fn made_of_lists(rt: &(impl Abort + AllocGlobal), image: Image) -> Trace {
+    let alloc = rt.alloc();
+    let entries = retired(rt);
+    let statuses = vec![in alloc; Status::Exited(7); 1].expect(rt, "statuses");
+    let performed = vec![in alloc; OpId { hart: 0, place: 2 }; 1].expect(rt, "an order");
+    let log = vec![in alloc; SENT; 1].expect(rt, "a log");
+    assert!(rt; are_within_limits(&entries));
+    assert!(rt; entries.len() == 1);
+    Trace::from_parts(image, LineSize::Bytes64, entries, statuses, performed, log)
+}
+
+fn has_lists(rt: &impl Abort, trace: &Trace) {
+    assert!(rt; trace.harts() == 1);
+    same(rt, trace.entries(0).len(), 3);
+    same(rt, trace.statuses()[0], Status::Exited(7));
+    same(rt, trace.performed(), &[OpId { hart: 0, place: 2 }]);
+    assert!(rt; trace.log().len() == 1);
+    same(rt, trace.log()[0].hart, 0);
+    same(rt, trace.line_size(), LineSize::Bytes64);
+}
+
 #[test]
 fn a_trace_is_made_of_lists(rt: HostRuntime) -> Result<(), Fail> {
-    let alloc = rt.alloc();
-    let size = size_of_kib(4).ok_or("a size")?;
-    let image = raw(alloc, &[0x13, 0, 0, 0], size)?;
-    let mut entries = Vec::new(alloc);
-    entries.push(vec![in alloc; ENTRY; 3]?)?;
-    assert!(rt; are_within_limits(&entries));
-    let statuses = vec![in alloc; Status::Exited(7); 1]?;
-    let performed = vec![in alloc; OpId { hart: 0, place: 2 }; 1]?;
-    let sent = Logged {
-        direction: Direction::Sent,
-        hart: 0,
-        message: ACK,
-    };
-    let log = vec![in alloc; sent; 1]?;
-    let trace = Trace::from_parts(image, LineSize::Bytes64, entries, statuses, performed, log);
-    same(&rt, trace.harts(), 1);
-    assert!(rt; trace.entries(0).len() == 3);
-    same(&rt, trace.statuses()[0], Status::Exited(7));
-    same(&rt, trace.performed()[0].place, 2);
-    same(&rt, trace.log()[0].hart, 0);
-    same(&rt, trace.line_size(), LineSize::Bytes64);
+    let image = image_of_one(rt.alloc())?;
+    let trace = made_of_lists(&rt, image);
+    has_lists(&rt, &trace);
     Ok(())
 }

@@ -5,6 +5,7 @@ use crate::same::same;
 use elf_loader::{Image, raw, size_of_kib};
 use hart::{Hart, Status, run_local};
 use std::alloc::Global;
+use std::process::Abort;
 use std::test::Fail;
 
 fn image_of(alloc: Global, words: &[u32]) -> Result<Image, Fail> {
@@ -29,20 +30,21 @@ fn local_count(alloc: Global, image: &Image, hart: &Hart, limit: u32) -> Result<
     Ok(run.entries().len())
 }
 
+/// From reset the hart retires two instructions by itself, and no third.
+fn runs_two(rt: &(impl Abort + AllocGlobal), image: &Image, reset: &Hart) -> Result<(), Fail> {
+    let long = run_local(rt.alloc(), image, reset, 256)?;
+    same(rt, long.entries().len(), 2);
+    let places = (long.first().pc, long.last().pc);
+    same(rt, places, (0x8000_0000, 0x8000_0008));
+    same(rt, local_count(rt.alloc(), image, reset, 1)?, 1);
+    same(rt, local_count(rt.alloc(), image, long.last(), 256)?, 0);
+    Ok(())
+}
+
 #[test]
 fn row_39(rt: HostRuntime) -> Result<(), Fail> {
     let image = image_of(rt.alloc(), &ROW_39)?;
-    let reset = Hart::at_reset(0, 0x8000_0000, 1);
-    let long = run_local(rt.alloc(), &image, &reset, 256)?;
-    same(&rt, long.entries().len(), 2);
-    same(
-        &rt,
-        (long.first().pc, long.last().pc),
-        (0x8000_0000, 0x8000_0008),
-    );
-    same(&rt, local_count(rt.alloc(), &image, &reset, 1)?, 1);
-    same(&rt, local_count(rt.alloc(), &image, long.last(), 256)?, 0);
-    Ok(())
+    runs_two(&rt, &image, &Hart::at_reset(0, 0x8000_0000, 1))
 }
 
 #[test]
