@@ -6,7 +6,7 @@ mod programs;
 ghost use Rattle.elf_loader.specs.Size.{IsMemorySize};
 
 use crate::same::{same, same_of};
-use changed::{CUT, FILE, WITH_00, WITH_FF};
+use changed::{Answer, Answers, CUT, FILE, SUM, WITH_00, WITH_FF};
 use elf_loader::{BASE, Image, LoadError, load, raw, size_of_kib};
 use programs::Program;
 use std::alloc::{AllocError, Global};
@@ -280,53 +280,92 @@ fn compare_cut(rt: &impl Abort, alloc: Global, file: &[u8], size: u32, wants: &[
     same(rt, length.checked_sub(1), Some(file.len()));
 }
 
+/// A file, the size of the memory that it is loaded to, and the sum of its image.
+#[derive(Clone, Copy)]
+struct Loaded<'a> {
+    file: &'a [u8],
+    size: u32,
+    sum: u32,
+}
+
 /// The fault and the image's sum of the file with the byte at a place changed.
 fn changed_answer(
     alloc: Global,
-    file: &[u8],
-    size: u32,
+    loaded: &Loaded<'_>,
     value: u8,
     place: usize,
 ) -> Result<(u8, u32), AllocError>
-    requires { IsMemorySize size }
+    requires { IsMemorySize loaded.now.size }
 {
-    let mut changed = file.to_vec(alloc)?;
+    let mut changed = loaded.file.to_vec(alloc)?;
     if let Some(byte) = changed.get_mut(place) {
         *byte = value;
     }
-    match load(alloc, &changed, size) {
+    match load(alloc, &changed, loaded.size) {
         Ok(image) => Ok((0, sum_of(&image))),
         Err(fault) => Ok((fault.number(), 0)),
     }
 }
 
-/// Compares the answers to the file with the byte at each place of header and table changed.
-fn compare_changed(
-    rt: &impl Abort,
-    alloc: Global,
-    file: &[u8],
-    size: u32,
+/// The fault and the image's sum that a file changed so is to get.
+fn expected(loaded: &Loaded<'_>, answer: Answer) -> (u8, u32) {
+    match answer {
+        Answer::Fault(number) => (number, 0),
+        Answer::Whole => (0, loaded.sum),
+        Answer::Image(sum) => (0, sum),
+    }
+}
+
+/// Compares the answers to the file with the byte changed at each place from this one on, and gives the place behind
+/// them.
+fn compare_places(
+    rt: &(impl Abort + AllocGlobal),
+    loaded: &Loaded<'_>,
     value: u8,
-    wants: &[(usize, u8, u32)],
-) -> Result<(), Fail>
-    requires { IsMemorySize size }
+    place: usize,
+    wants: &[(usize, Answer)],
+) -> Result<usize, Fail>
+    requires { IsMemorySize loaded.now.size }
 {
-    let mut place = 0usize;
-    for (count, fault, sum) in wants {
+    let mut place = place;
+    for (count, answer) in wants {
         for _ in 0..*count {
-            let got = changed_answer(alloc, file, size, value, place)?;
-            same_of(rt, got, (*fault, *sum), &(value, place));
+            let got = changed_answer(rt.alloc(), loaded, value, place)?;
+            same_of(rt, got, expected(loaded, *answer), &(value, place));
             place = place.wrapping_add(1);
         }
+    }
+    Ok(place)
+}
+
+/// Compares the answers to the file with the byte at each place of header and table changed.
+fn compare_changed(
+    rt: &(impl Abort + AllocGlobal),
+    loaded: &Loaded<'_>,
+    value: u8,
+    wants: Answers,
+) -> Result<(), Fail>
+    requires { IsMemorySize loaded.now.size }
+{
+    let mut place = 0;
+    for part in wants {
+        place = compare_places(rt, loaded, value, place, part)?;
     }
     Ok(())
 }
 
+/// What the small file is loaded to.
+const SMALL: Loaded<'static> = Loaded {
+    file: &FILE,
+    size: 4096,
+    sum: SUM,
+};
+
 #[test]
 fn a_small_file_cut_and_changed(rt: HostRuntime) -> Result<(), Fail> {
     compare_cut(&rt, rt.alloc(), &FILE, 4096, &CUT);
-    compare_changed(&rt, rt.alloc(), &FILE, 4096, 0x00, &WITH_00)?;
-    compare_changed(&rt, rt.alloc(), &FILE, 4096, 0xff, &WITH_FF)
+    compare_changed(&rt, &SMALL, 0x00, WITH_00)?;
+    compare_changed(&rt, &SMALL, 0xff, WITH_FF)
 }
 
 /// The word at an address, where the image has one.
@@ -348,21 +387,44 @@ fn compare_words(rt: &impl Abort, image: &Image, words: &[u32]) {
     same(rt, word_of(image, address), Some(0));
 }
 
-/// Loads a program's file, whole, cut and changed.
-fn compare_program(rt: &impl Abort, alloc: Global, program: &Program) -> Result<(), Fail> {
-    let file = program.file(alloc)?;
-    let image = load(alloc, &file, 8192)?;
+/// The file's image has the program's words.
+fn compare_image(
+    rt: &(impl Abort + AllocGlobal),
+    file: &[u8],
+    program: &Program,
+) -> Result<(), Fail> {
+    let image = load(rt.alloc(), file, 8192)?;
     same(rt, image.entry(), 0x8000_0000);
     compare_words(rt, &image, program.words);
-    compare_cut(rt, alloc, &file, 8192, program.cut);
-    compare_changed(rt, alloc, &file, 8192, 0x00, program.with_00)?;
-    compare_changed(rt, alloc, &file, 8192, 0xff, program.with_ff)
+    Ok(())
+}
+
+/// Loads a program's file, whole, cut and changed.
+fn compare_file(
+    rt: &(impl Abort + AllocGlobal),
+    file: &[u8],
+    program: &Program,
+) -> Result<(), Fail> {
+    compare_image(rt, file, program)?;
+    compare_cut(rt, rt.alloc(), file, 8192, program.cut);
+    let loaded = Loaded {
+        file,
+        size: 8192,
+        sum: program.sum,
+    };
+    compare_changed(rt, &loaded, 0x00, program.with_00)?;
+    compare_changed(rt, &loaded, 0xff, program.with_ff)
+}
+
+fn compare_program(rt: &(impl Abort + AllocGlobal), program: &Program) -> Result<(), Fail> {
+    let file = program.file(rt.alloc())?;
+    compare_file(rt, &file, program)
 }
 
 #[test]
 fn programs_of_the_gnu_toolchain(rt: HostRuntime) -> Result<(), Fail> {
     for program in &programs::ALL {
-        compare_program(&rt, rt.alloc(), program)?;
+        compare_program(&rt, program)?;
     }
     Ok(())
 }
@@ -445,9 +507,9 @@ fn copy_again(rt: &impl Abort, alloc: Global, image: &Image) -> Image {
 #[test]
 fn a_refused_allocation_is_no_memory(rt: HostRuntime) {
     let image = load_again(&rt, rt.alloc(), &FILE);
-    same(&rt, sum_of(&image), 1_202_660);
+    same(&rt, sum_of(&image), SUM);
     let copy = copy_again(&rt, rt.alloc(), &image);
-    same(&rt, sum_of(&image), 1_202_660);
+    same(&rt, sum_of(&image), SUM);
     same(&rt, copy.bytes(), image.bytes());
     let words = raw_again(&rt, rt.alloc(), &[1, 0, 0, 0]);
     same(&rt, sum_of(&words), 1);

@@ -22,8 +22,8 @@ enum Step {
     Probed(u32, u8, Grow, Cap, &'static [u8]),
     /// An Acquire that has to wait.
     Busy(u32, u8, Grow),
-    /// A ProbeAck, and the Grant that it has sent.
-    ProbeAck(u32, u8, Change, Option<Grant>),
+    /// A ProbeAck, and the Grant that it has sent: to whom, its permission, and whether with data.
+    ProbeAck(u32, u8, Change, Option<(u8, Cap, bool)>),
     Release(u32, u8),
     GrantAck(u32),
     /// No message: a hart's record, and whether its ProbeAck is awaited.
@@ -32,12 +32,12 @@ enum Step {
     Stands(u32, Transaction),
 }
 
-fn grant(hart: u8, cap: Cap, with_data: bool) -> Option<Grant> {
-    Some(Grant {
-        hart,
-        cap,
-        with_data,
-    })
+/// To whom a Grant goes, its permission, and whether it has data.
+fn told(grant: Option<Grant>) -> Option<(u8, Cap, bool)> {
+    match grant {
+        Some(grant) => Some((grant.hart, grant.cap, grant.with_data)),
+        None => None,
+    }
 }
 
 /// The Grant that an Acquire has sent at once.
@@ -134,7 +134,8 @@ fn take(rt: &impl Abort, directory: &mut Directory, step: Step) {
     match step {
         Step::Granted(line, hart, grow, cap, with_data) => {
             let answer = acquire(rt, directory, line, hart, grow);
-            same_of(rt, granted_by(answer), grant(hart, cap, with_data), &step);
+            let grant = told(granted_by(answer));
+            same_of(rt, grant, Some((hart, cap, with_data)), &step);
         }
         Step::Probed(line, hart, grow, cap, harts) => {
             let answer = acquire(rt, directory, line, hart, grow);
@@ -145,7 +146,8 @@ fn take(rt: &impl Abort, directory: &mut Directory, step: Step) {
             same_of(rt, answer, Acquired::Busy, &step);
         }
         Step::ProbeAck(line, hart, change, due) => {
-            same_of(rt, probe_ack(rt, directory, line, hart, change), due, &step);
+            let sent = told(probe_ack(rt, directory, line, hart, change));
+            same_of(rt, sent, due, &step);
         }
         Step::Release(line, hart) => release(rt, directory, line, hart),
         Step::GrantAck(line) => grant_ack(rt, directory, line),
@@ -180,16 +182,7 @@ const ROW_10: [Step; 11] = [
     Step::Release(Y, 0),
     Step::Known(Y, 0, Perm::Nothing, true),
     Step::Stands(Y, Transaction::Probing(1, Grow::NtoB)),
-    Step::ProbeAck(
-        Y,
-        0,
-        Change::NtoN,
-        Some(Grant {
-            hart: 1,
-            cap: Cap::ToB,
-            with_data: true,
-        }),
-    ),
+    Step::ProbeAck(Y, 0, Change::NtoN, Some((1, Cap::ToB, true))),
     Step::Known(Y, 0, Perm::Nothing, false),
     Step::Known(Y, 1, Perm::Branch, false),
     Step::Stands(Y, Transaction::Granted(1)),
@@ -223,28 +216,10 @@ const ROWS_12_AND_48: [Step; 11] = [
     Step::GrantAck(X),
     Step::Probed(X, 0, Grow::BtoT, Cap::ToN, &[1]),
     Step::Busy(X, 1, Grow::BtoT),
-    Step::ProbeAck(
-        X,
-        1,
-        Change::BtoN,
-        Some(Grant {
-            hart: 0,
-            cap: Cap::ToT,
-            with_data: false,
-        }),
-    ),
+    Step::ProbeAck(X, 1, Change::BtoN, Some((0, Cap::ToT, false))),
     Step::GrantAck(X),
     Step::Probed(X, 1, Grow::BtoT, Cap::ToN, &[0]),
-    Step::ProbeAck(
-        X,
-        0,
-        Change::TtoN,
-        Some(Grant {
-            hart: 1,
-            cap: Cap::ToT,
-            with_data: true,
-        }),
-    ),
+    Step::ProbeAck(X, 0, Change::TtoN, Some((1, Cap::ToT, true))),
     Step::Known(X, 1, Perm::Trunk, false),
 ];
 
@@ -279,16 +254,7 @@ const ROW_31: [Step; 9] = [
     Step::GrantAck(X),
     Step::Probed(X, 1, Grow::NtoB, Cap::ToB, &[0]),
     Step::Release(X, 0),
-    Step::ProbeAck(
-        X,
-        0,
-        Change::NtoN,
-        Some(Grant {
-            hart: 1,
-            cap: Cap::ToB,
-            with_data: true,
-        }),
-    ),
+    Step::ProbeAck(X, 0, Change::NtoN, Some((1, Cap::ToB, true))),
     Step::Known(X, 0, Perm::Nothing, false),
     Step::Known(X, 1, Perm::Branch, false),
 ];
@@ -355,16 +321,7 @@ const SEVEN_READERS: [Step; 22] = [
     Step::ProbeAck(X, 1, Change::BtoN, None),
     Step::ProbeAck(X, 6, Change::BtoN, None),
     Step::ProbeAck(X, 2, Change::BtoN, None),
-    Step::ProbeAck(
-        X,
-        5,
-        Change::BtoN,
-        Some(Grant {
-            hart: 3,
-            cap: Cap::ToT,
-            with_data: true,
-        }),
-    ),
+    Step::ProbeAck(X, 5, Change::BtoN, Some((3, Cap::ToT, true))),
 ];
 
 /// Eight harts: seven readers are probed in rising order, and the last answer sends the Grant.

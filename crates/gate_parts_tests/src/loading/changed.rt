@@ -1,7 +1,21 @@
-//! A small file, and the answers that its changed forms must get.
+//! A small file, and the answers that its changed forms must get, some of which are those to other files too.
 //!
 //! The answers come from a program of its own, in Python, that was written from the table of faults
 //! alone: it tries the faults in order and fills the image segment by segment.
+
+/// What a changed file gets. An image is told by the sum of its bytes, each times its place from 1, modulo 2^32.
+#[derive(Clone, Copy)]
+pub enum Answer {
+    /// The fault of this number.
+    Fault(u8),
+    /// The image of the file as it was.
+    Whole,
+    /// The image of this sum.
+    Image(u32),
+}
+
+/// How many places in turn get each answer, in parts that other files may share.
+pub type Answers = &'static [&'static [(usize, Answer)]];
 
 /// Three program headers: two loadable segments with one of another type between them.
 pub const FILE: [u8; 172] = [
@@ -21,79 +35,95 @@ pub const FILE: [u8; 172] = [
 /// How many lengths in turn, from 0 on, get each answer: 0 for an image, else the fault's number.
 pub const CUT: [(usize, u8); 4] = [(52, 1), (96, 7), (24, 8), (1, 0)];
 
-/// With a byte of the header or the table made 00: how many places in turn, from 0 on, get each answer
-/// and image. An image is told by the sum of its bytes, each times its place from 1, modulo 2^32.
-pub const WITH_00: [(usize, u8, u32); 41] = [
-    (4, 2, 0),
-    (3, 3, 0),
-    (9, 0, 1202660),
-    (1, 4, 0),
-    (1, 0, 1202660),
-    (1, 5, 0),
-    (1, 0, 1202660),
-    (1, 3, 0),
-    (6, 0, 1202660),
-    (1, 10, 0),
-    (1, 0, 0),
-    (13, 0, 1202660),
-    (1, 7, 0),
-    (1, 0, 1202660),
-    (1, 0, 0),
-    (7, 0, 1202660),
-    (1, 0, 1192716),
-    (3, 0, 1202660),
-    (1, 0, 1199027),
-    (3, 0, 1202660),
-    (1, 0, 1196388),
-    (2, 0, 1202660),
-    (1, 8, 0),
-    (4, 0, 1202660),
-    (1, 0, 1192716),
-    (3, 0, 1202660),
-    (1, 8, 0),
-    (43, 0, 1202660),
-    (1, 0, 9944),
-    (3, 0, 1202660),
-    (1, 0, 1418335),
-    (3, 0, 1202660),
-    (1, 0, 1132580),
-    (1, 0, 81380),
-    (1, 0, 1202660),
-    (1, 8, 0),
-    (4, 0, 1202660),
-    (1, 0, 9944),
-    (3, 0, 1202660),
-    (1, 8, 0),
-    (11, 0, 1202660),
+/// The sum of the whole file's image.
+pub const SUM: u32 = 1_202_660;
+
+/// What each file gets with a byte of its header made 00, up to the first of the number of its segments.
+pub const HEADER_00: [(usize, Answer); 15] = [
+    (4, Answer::Fault(2)),
+    (3, Answer::Fault(3)),
+    (9, Answer::Whole),
+    (1, Answer::Fault(4)),
+    (1, Answer::Whole),
+    (1, Answer::Fault(5)),
+    (1, Answer::Whole),
+    (1, Answer::Fault(3)),
+    (6, Answer::Whole),
+    (1, Answer::Fault(10)),
+    (1, Answer::Image(0)),
+    (13, Answer::Whole),
+    (1, Answer::Fault(7)),
+    (1, Answer::Whole),
+    (1, Answer::Image(0)),
+];
+
+/// The same with the byte made ff, up to the last of the entry.
+pub const HEADER_FF: [(usize, Answer); 7] = [
+    (4, Answer::Fault(2)),
+    (3, Answer::Fault(3)),
+    (9, Answer::Whole),
+    (2, Answer::Fault(4)),
+    (2, Answer::Fault(5)),
+    (4, Answer::Fault(3)),
+    (4, Answer::Fault(10)),
+];
+
+/// What this file gets with a byte of the header or the table made 00.
+pub const WITH_00: Answers = &[
+    &HEADER_00,
+    &[
+        (7, Answer::Whole),
+        (1, Answer::Image(1_192_716)),
+        (3, Answer::Whole),
+        (1, Answer::Image(1_199_027)),
+        (3, Answer::Whole),
+        (1, Answer::Image(1_196_388)),
+        (2, Answer::Whole),
+        (1, Answer::Fault(8)),
+        (4, Answer::Whole),
+        (1, Answer::Image(1_192_716)),
+        (3, Answer::Whole),
+        (1, Answer::Fault(8)),
+        (43, Answer::Whole),
+        (1, Answer::Image(9_944)),
+        (3, Answer::Whole),
+        (1, Answer::Image(1_418_335)),
+        (3, Answer::Whole),
+        (1, Answer::Image(1_132_580)),
+        (1, Answer::Image(81_380)),
+        (1, Answer::Whole),
+        (1, Answer::Fault(8)),
+        (4, Answer::Whole),
+        (1, Answer::Image(9_944)),
+        (3, Answer::Whole),
+        (1, Answer::Fault(8)),
+        (11, Answer::Whole),
+    ],
 ];
 
 /// The same with the byte made ff.
-pub const WITH_FF: [(usize, u8, u32); 27] = [
-    (4, 2, 0),
-    (3, 3, 0),
-    (9, 0, 1202660),
-    (2, 4, 0),
-    (2, 5, 0),
-    (4, 3, 0),
-    (4, 10, 0),
-    (4, 7, 0),
-    (4, 0, 1202660),
-    (4, 6, 0),
-    (2, 0, 1202660),
-    (4, 7, 0),
-    (6, 0, 1202660),
-    (4, 0, 1192716),
-    (4, 8, 0),
-    (1, 0, 1296348),
-    (3, 8, 0),
-    (4, 0, 1202660),
-    (4, 8, 0),
-    (1, 0, 1202660),
-    (3, 8, 0),
-    (40, 0, 1202660),
-    (4, 0, 9944),
-    (8, 8, 0),
-    (4, 0, 1202660),
-    (8, 8, 0),
-    (8, 0, 1202660),
+pub const WITH_FF: Answers = &[
+    &HEADER_FF,
+    &[
+        (4, Answer::Fault(7)),
+        (4, Answer::Whole),
+        (4, Answer::Fault(6)),
+        (2, Answer::Whole),
+        (4, Answer::Fault(7)),
+        (6, Answer::Whole),
+        (4, Answer::Image(1_192_716)),
+        (4, Answer::Fault(8)),
+        (1, Answer::Image(1_296_348)),
+        (3, Answer::Fault(8)),
+        (4, Answer::Whole),
+        (4, Answer::Fault(8)),
+        (1, Answer::Whole),
+        (3, Answer::Fault(8)),
+        (40, Answer::Whole),
+        (4, Answer::Image(9_944)),
+        (8, Answer::Fault(8)),
+        (4, Answer::Whole),
+        (8, Answer::Fault(8)),
+        (8, Answer::Whole),
+    ],
 ];
