@@ -3,6 +3,7 @@ mod plain;
 
 use crate::same::same;
 use crate::streams::image_of;
+use elf_loader::Image;
 use hart::{Retired, Status};
 use rvwmo_order::{CheckError, Verdict, check};
 use std::alloc::{AllocError, Global};
@@ -35,25 +36,31 @@ fn entries_of(alloc: Global, count: usize) -> Result<Vec<Retired>, AllocError> {
     Ok(entries)
 }
 
-/// A hart that stores to one word so many times, in a loop, and none of its stores is performed.
-fn stores(alloc: Global, count: usize) -> Result<Trace, Fail> {
-    let image = image_of(alloc, &PROGRAM)?;
-    let harts = vec![in alloc; entries_of(alloc, count)?]?;
-    if !are_within_limits(&harts) {
-        return Err(Fail::from("too many stores"));
-    }
-    Ok(Trace::from_parts(
-        image,
-        LineSize::Bytes16,
-        harts,
-        vec![in alloc; Status::Running; 1]?,
-        Vec::new(alloc),
-        Vec::new(alloc),
-    ))
+/// The lists of that one hart.
+fn lists_of(rt: &(impl Abort + AllocGlobal), count: usize) -> Vec<Vec<Retired>> {
+    let entries = entries_of(rt.alloc(), count).expect(rt, "entries");
+    vec![in rt.alloc(); entries].expect(rt, "a hart's list")
 }
 
-fn judged(alloc: Global, trace: &Trace, order: &[OpId]) -> Result<Verdict, CheckError> {
-    check(alloc, trace, order)
+/// The trace of running harts that have retired this, and of what was performed.
+fn trace_of(
+    rt: &(impl Abort + AllocGlobal),
+    image: Image,
+    harts: Vec<Vec<Retired>>,
+    performed: Vec<OpId>,
+) -> Trace {
+    let alloc = rt.alloc();
+    assert!(rt; are_within_limits(&harts));
+    let statuses = vec![in alloc; Status::Running; harts.len()].expect(rt, "statuses");
+    let log = Vec::new(alloc);
+    Trace::from_parts(image, LineSize::Bytes16, harts, statuses, performed, log)
+}
+
+/// A hart that stores to one word so many times, in a loop, and none of its stores is performed.
+fn stores(rt: &(impl Abort + AllocGlobal), count: usize) -> Result<Trace, Fail> {
+    let image = image_of(rt.alloc(), &PROGRAM)?;
+    let harts = lists_of(rt, count);
+    Ok(trace_of(rt, image, harts, Vec::new(rt.alloc())))
 }
 
 fn is_judged(
@@ -62,24 +69,34 @@ fn is_judged(
     order: &[OpId],
     answer: Result<Verdict, CheckError>,
 ) {
-    same(rt, judged(rt.alloc(), trace, order), answer);
+    same(rt, check(rt.alloc(), trace, order), answer);
+}
+
+/// The order of 4096 stores is legal, and is none without the first.
+fn is_legal(rt: &(impl Abort + AllocGlobal), trace: &Trace) -> Result<(), Fail> {
+    let order = completed(rt.alloc(), trace)?;
+    assert!(rt; order.len() == 4096);
+    is_judged(rt, trace, &order, Ok(Verdict::Legal));
+    is_judged(rt, trace, &order[1..], Err(CheckError::NotAnOrder));
+    Ok(())
 }
 
 #[test]
 fn as_many_operations_as_are_judged(rt: HostRuntime) -> Result<(), Fail> {
-    let trace = stores(rt.alloc(), 4096)?;
-    let order = completed(rt.alloc(), &trace)?;
-    assert!(rt; order.len() == 4096);
-    is_judged(&rt, &trace, &order, Ok(Verdict::Legal));
-    is_judged(&rt, &trace, &order[1..], Err(CheckError::NotAnOrder));
+    let trace = stores(&rt, 4096)?;
+    is_legal(&rt, &trace)
+}
+
+/// Neither the whole order nor none of it is judged.
+fn is_too_long(rt: &(impl Abort + AllocGlobal), trace: &Trace) -> Result<(), Fail> {
+    let order = completed(rt.alloc(), trace)?;
+    is_judged(rt, trace, &order, Err(CheckError::TooLong));
+    is_judged(rt, trace, &[], Err(CheckError::TooLong));
     Ok(())
 }
 
 #[test]
 fn one_operation_more(rt: HostRuntime) -> Result<(), Fail> {
-    let trace = stores(rt.alloc(), 4097)?;
-    let order = completed(rt.alloc(), &trace)?;
-    is_judged(&rt, &trace, &order, Err(CheckError::TooLong));
-    is_judged(&rt, &trace, &[], Err(CheckError::TooLong));
-    Ok(())
+    let trace = stores(&rt, 4097)?;
+    is_too_long(&rt, &trace)
 }

@@ -5,6 +5,8 @@
 #[cfg(test)]
 mod judging;
 #[cfg(test)]
+mod pieces;
+#[cfg(test)]
 mod progress;
 #[cfg(test)]
 mod remarks;

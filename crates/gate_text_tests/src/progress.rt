@@ -6,6 +6,7 @@ use std::alloc::Global;
 use std::cell::{Cell, RefCell};
 use std::fmt::Display;
 use std::io::{self, Eprint, ErrorKind, Write};
+use std::process::Abort;
 use std::test::Fail;
 use std::time::{Clock, Duration};
 
@@ -46,14 +47,19 @@ impl Desk {
     }
 
     /// The clock is set, and what was written taken away.
-    fn turn_to(&self, millis: u64) -> Result<(), Fail> {
+    fn turn_to(&self, rt: &impl Abort, millis: u64) {
         self.millis.set(millis);
-        self.written.try_borrow_mut()?.clear();
-        Ok(())
+        self.written.try_borrow_mut().expect(rt, "a desk").clear();
     }
 
-    fn holds(&self, text: &str) -> Result<bool, Fail> {
-        Ok(self.written.try_borrow()?.as_slice() == text.as_bytes())
+    /// What was written is this.
+    fn holds(&self, rt: &impl Abort, text: &str) {
+        let written = self.written.try_borrow().expect(rt, "a desk");
+        same(rt, written.as_slice(), text.as_bytes());
+    }
+
+    fn is_empty(&self, rt: &impl Abort) -> bool {
+        self.written.try_borrow().expect(rt, "a desk").is_empty()
     }
 }
 
@@ -74,15 +80,19 @@ const TIMES: [(u64, bool); 8] = [
     (10_000, true),
 ];
 
+fn tells_at_times(rt: &impl Abort, desk: &Desk, progress: &impl Progress) {
+    for (millis, is_due) in &TIMES {
+        desk.turn_to(rt, millis.wrapping_add(70));
+        progress.tell(RUN);
+        same_of(rt, desk.is_empty(rt), !*is_due, millis);
+    }
+}
+
 #[test]
 fn a_line_comes_twice_a_second(rt: HostRuntime) -> Result<(), Fail> {
     let desk = Desk::new(rt.alloc(), 70);
     let progress = Some(ProgressLine::start(&desk)?);
-    for (millis, is_due) in &TIMES {
-        desk.turn_to(millis.wrapping_add(70))?;
-        progress.tell(RUN);
-        same_of(&rt, desk.holds("")?, !*is_due, millis);
-    }
+    tells_at_times(&rt, &desk, &progress);
     Ok(())
 }
 
@@ -115,20 +125,24 @@ const LINES: [(u64, Stage<'static>, &str); 3] = [
     ),
 ];
 
+fn tells_lines(rt: &impl Abort, desk: &Desk, progress: &impl Progress) {
+    progress.end();
+    desk.holds(rt, "");
+    for (millis, stage, line) in &LINES {
+        desk.turn_to(rt, *millis);
+        progress.tell(*stage);
+        desk.holds(rt, line);
+    }
+    desk.turn_to(rt, 25_000);
+    progress.end();
+    desk.holds(rt, "\x1b[K");
+}
+
 #[test]
 fn lines_are_short(rt: HostRuntime) -> Result<(), Fail> {
     let desk = Desk::new(rt.alloc(), 0);
     let progress = ProgressLine::start(&desk)?;
-    progress.end();
-    same(&rt, desk.holds("")?, true);
-    for (millis, stage, line) in &LINES {
-        desk.turn_to(*millis)?;
-        progress.tell(*stage);
-        same_of(&rt, desk.holds(line)?, true, millis);
-    }
-    desk.turn_to(25_000)?;
-    progress.end();
-    same(&rt, desk.holds("\x1b[K")?, true);
+    tells_lines(&rt, &desk, &progress);
     Silent.tell(RUN);
     Silent.end();
     Ok(())

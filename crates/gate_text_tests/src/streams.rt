@@ -1,5 +1,6 @@
 //! Whole streams of small programs, where they end, and writers that fail.
 
+use crate::pieces::{Text, joined};
 use crate::same::{same, same_of};
 use crate::writers::Narrow;
 use elf_loader::{Image, raw, size_of_kib};
@@ -14,6 +15,50 @@ use std::test::Fail;
 use tl_types::{Channel, LineSize};
 
 const STEP: Event = Event::Step { hart: 0 };
+
+/// One hart, and lines of 16 bytes.
+const SMALL: Config = Config {
+    harts: 1,
+    sets: 4,
+    ways: 2,
+    line: LineSize::Bytes16,
+    model: MemoryModel::Rvwmo,
+};
+
+/// A program's events on a machine, and their stream.
+#[derive(Clone, Copy)]
+struct Case {
+    words: &'static [u32],
+    config: Config,
+    events: &'static [Event],
+    how: Strictness,
+    stream: Text,
+}
+
+/// How a stream of one hart begins.
+const HEAD: &str = "rvtl-stream 1
+T 1 4 0x80000000
+";
+
+/// The first two steps of a program that loads the word at the beginning of memory.
+const ASKED: &str = "E 2 step 0 Retired
+R 0 0x80000000 0x80000637 - - ; lui a2, 0x80000
+E 3 step 0 Missed 0x80000000
+M s A 0 AcquireBlock 0x80000000 NtoB
+";
+
+const ACQUIRED: &str = "E 4 deliver A 0 Delivered
+M t A 0 AcquireBlock 0x80000000 NtoB
+";
+
+/// What follows the Grant's taking.
+const LOADED: &str = "M s E 0 GrantAck 0x80000000
+E 6 deliver E 0 Delivered
+M t E 0 GrantAck 0x80000000
+E 7 step 0 Retired
+R 0 0x80000004 0x00062703 0x80000637 - ; lw a4, 0(a2)
+P 0 1
+";
 
 /// `lui a2, 0x80000` and `lw a4, 0(a2)`.
 const LOAD: [u32; 2] = [0x8000_0637, 0x0006_2703];
@@ -36,27 +81,30 @@ const LOAD_EVENTS: [Event; 6] = [
     STEP,
 ];
 
+/// The I line of its image.
+const LOAD_IMAGE: &str = "I 0x80000000 37060080032706000000000000000000
+";
+
 /// The I, R, P, M and H lines are those of the program's trace in the README.
-const LOAD_STREAM: &str = "rvtl-stream 1
-T 1 4 0x80000000
-I 0x80000000 37060080032706000000000000000000
-E 2 step 0 Retired
-R 0 0x80000000 0x80000637 - - ; lui a2, 0x80000
-E 3 step 0 Missed 0x80000000
-M s A 0 AcquireBlock 0x80000000 NtoB
-E 4 deliver A 0 Delivered
-M t A 0 AcquireBlock 0x80000000 NtoB
-M s D 0 GrantData 0x80000000 toB 37060080032706000000000000000000
+const LOADING: Case = Case {
+    words: &LOAD,
+    config: SMALL,
+    events: &LOAD_EVENTS,
+    how: Strictness::Strict,
+    stream: &[
+        HEAD,
+        LOAD_IMAGE,
+        ASKED,
+        ACQUIRED,
+        "M s D 0 GrantData 0x80000000 toB 37060080032706000000000000000000
 E 5 deliver D 0 Delivered
 M t D 0 GrantData 0x80000000 toB 37060080032706000000000000000000
-M s E 0 GrantAck 0x80000000
-E 6 deliver E 0 Delivered
-M t E 0 GrantAck 0x80000000
-E 7 step 0 Retired
-R 0 0x80000004 0x00062703 0x80000637 - ; lw a4, 0(a2)
-P 0 1
-H 0 run ; Stopped 2
-";
+",
+        LOADED,
+        "H 0 run ; Stopped 2
+",
+    ],
+};
 
 /// The line's Acquire is outstanding, no Probe waits, and no store waits.
 const IDLE_EVENTS: [Event; 5] = [
@@ -73,28 +121,35 @@ const IDLE_EVENTS: [Event; 5] = [
     },
 ];
 
-const IDLE_STREAM: &str = "rvtl-stream 1
-T 1 4 0x80000000
-I 0x80000000 37060080032706000000000000000000
-E 2 step 0 Retired
-R 0 0x80000000 0x80000637 - - ; lui a2, 0x80000
-E 3 step 0 Missed 0x80000000
-M s A 0 AcquireBlock 0x80000000 NtoB
-E 4 step 0 WaitGrant
+const IDLING: Case = Case {
+    events: &IDLE_EVENTS,
+    how: Strictness::Lenient,
+    stream: &[
+        HEAD,
+        LOAD_IMAGE,
+        ASKED,
+        "E 4 step 0 WaitGrant
 E 5 deliver B 0 Empty
 E 6 drain 0 0x80000000 NoEntry
 H 0 run ; WaitGrant 0x80000000 ; lw a4, 0(a2)
-";
+",
+    ],
+    ..LOADING
+};
 
-/// What the same events give up to the first that changes nothing.
-const STRICT_STREAM: &str = "rvtl-stream 1
-T 1 4 0x80000000
-I 0x80000000 37060080032706000000000000000000
-E 2 step 0 Retired
-R 0 0x80000000 0x80000637 - - ; lui a2, 0x80000
-E 3 step 0 Missed 0x80000000
-M s A 0 AcquireBlock 0x80000000 NtoB
-";
+/// The same events up to the first that changes nothing.
+const STRICTLY: Case = Case {
+    events: &IDLE_EVENTS,
+    stream: &[HEAD, LOAD_IMAGE, ASKED],
+    ..LOADING
+};
+
+/// A second hart, which isn't there, is to step.
+const REFUSED: Case = Case {
+    events: &[STEP, STEP, Event::Step { hart: 1 }],
+    how: Strictness::Lenient,
+    ..STRICTLY
+};
 
 /// Puts out 7, and exits with it.
 const OUTPUT: [u32; 5] = [
@@ -112,7 +167,17 @@ const OUTPUT_EVENTS: [Event; 4] = [
     Event::Step { hart: 4 },
 ];
 
-const OUTPUT_STREAM: &str = "rvtl-stream 2
+const PUTTING_OUT: Case = Case {
+    words: &OUTPUT,
+    config: Config {
+        harts: 5,
+        line: LineSize::Bytes64,
+        ..SMALL
+    },
+    events: &OUTPUT_EVENTS,
+    how: Strictness::Lenient,
+    stream: &[
+        "rvtl-stream 2
 T 5 4 0x80000000 64
 I 0x80000000 13057000930810007300000093080000730000000000000000000000000000000000000000000000000000000000000000000000000000000000000000000000
 E 2 local 4 2 Retired
@@ -130,14 +195,21 @@ H 1 run ; Retired ; addi a0, zero, 7
 H 2 run ; Retired ; addi a0, zero, 7
 H 3 run ; Retired ; addi a0, zero, 7
 H 4 exit 7
-";
+",
+    ],
+};
 
 /// Two stores before a fence, which wait in the store buffer.
 const FENCED: [u32; 4] = [0x8000_0637, 0x00c6_2823, 0x00c6_2a23, 0x0330_000f];
 
-const FENCED_STREAM: &str = "rvtl-stream 1
-T 1 4 0x80000000
-I 0x80000000 370600802328c600232ac6000f003003
+const BEFORE_A_FENCE: Case = Case {
+    words: &FENCED,
+    config: SMALL,
+    events: &[STEP; 3],
+    how: Strictness::Lenient,
+    stream: &[
+        HEAD,
+        "I 0x80000000 370600802328c600232ac6000f003003
 E 2 step 0 Retired
 R 0 0x80000000 0x80000637 - - ; lui a2, 0x80000
 E 3 step 0 Retired
@@ -145,39 +217,51 @@ R 0 0x80000004 0x00c62823 - - ; sw a2, 16(a2)
 E 4 step 0 Retired
 R 0 0x80000008 0x00c62a23 - - ; sw a2, 20(a2)
 H 0 run ; MustDrain 0x80000010 0x80000014 ; fence rw, rw
-";
+",
+    ],
+};
 
 /// Loads from two lines, in a cache of one set by one way.
 const NARROW: [u32; 3] = [0x8000_0637, 0x0006_2703, 0x0106_2703];
 
-const NARROW_STREAM: &str = "rvtl-stream 1
-T 1 4 0x80000000
-I 0x80000000 37060080032706000327060100000000
-E 2 step 0 Retired
-R 0 0x80000000 0x80000637 - - ; lui a2, 0x80000
-E 3 step 0 Missed 0x80000000
-M s A 0 AcquireBlock 0x80000000 NtoB
-E 4 deliver A 0 Delivered
-M t A 0 AcquireBlock 0x80000000 NtoB
-M s D 0 GrantData 0x80000000 toB 37060080032706000327060100000000
+const AT_A_FULL_SET: Case = Case {
+    words: &NARROW,
+    config: Config {
+        sets: 1,
+        ways: 1,
+        ..SMALL
+    },
+    events: &LOAD_EVENTS,
+    how: Strictness::Lenient,
+    stream: &[
+        HEAD,
+        "I 0x80000000 37060080032706000327060100000000
+",
+        ASKED,
+        ACQUIRED,
+        "M s D 0 GrantData 0x80000000 toB 37060080032706000327060100000000
 E 5 deliver D 0 Delivered
 M t D 0 GrantData 0x80000000 toB 37060080032706000327060100000000
-M s E 0 GrantAck 0x80000000
-E 6 deliver E 0 Delivered
-M t E 0 GrantAck 0x80000000
-E 7 step 0 Retired
-R 0 0x80000004 0x00062703 0x80000637 - ; lw a4, 0(a2)
-P 0 1
-H 0 run ; SetFull 0x80000000 ; lw a4, 16(a2)
-";
+",
+        LOADED,
+        "H 0 run ; SetFull 0x80000000 ; lw a4, 16(a2)
+",
+    ],
+};
 
 /// An EBREAK.
-const STOPPED_STREAM: &str = "rvtl-stream 1
-T 1 4 0x80000000
-I 0x80000000 73001000000000000000000000000000
+const STOPPED: Case = Case {
+    words: &[0x0010_0073],
+    events: &[STEP],
+    stream: &[
+        HEAD,
+        "I 0x80000000 73001000000000000000000000000000
 E 2 step 0 Stopped 3
 H 0 stop 3 ; EBREAK ; ebreak
-";
+",
+    ],
+    ..BEFORE_A_FENCE
+};
 
 pub(crate) fn image_of_kib(alloc: Global, words: &[u32], kib: u32) -> Result<Image, Fail> {
     let size = size_of_kib(kib).ok_or("a size")?;
@@ -192,15 +276,6 @@ pub(crate) fn image_of(alloc: Global, words: &[u32]) -> Result<Image, Fail> {
     image_of_kib(alloc, words, 4)
 }
 
-/// One hart, and lines of 16 bytes.
-const SMALL: Config = Config {
-    harts: 1,
-    sets: 4,
-    ways: 2,
-    line: LineSize::Bytes16,
-    model: MemoryModel::Rvwmo,
-};
-
 pub(crate) fn config_of(harts: u32, line: LineSize) -> Config {
     Config {
         harts,
@@ -209,38 +284,44 @@ pub(crate) fn config_of(harts: u32, line: LineSize) -> Config {
     }
 }
 
-/// Writes the stream of a program's events.
+/// Writes the stream of a case.
 fn tell<W: Write>(
     alloc: Global,
-    words: &[u32],
-    config: Config,
-    events: &[Event],
-    strictness: Strictness,
+    case: &Case,
     out: &mut W,
 ) -> Result<Result<(), StreamError>, Fail> {
-    let image = image_of(alloc, words)?;
+    let image = image_of(alloc, case.words)?;
     let names = Symbols::new(alloc);
-    match write_stream(alloc, image, config, events, strictness, &names, out) {
+    match write_stream(
+        alloc,
+        image,
+        case.config,
+        case.events,
+        case.how,
+        &names,
+        out,
+    ) {
         Ok(_) => Ok(Ok(())),
         Err(error) => Ok(Err(error)),
     }
 }
 
-/// The stream of a program's events is whole.
-fn is_told(
-    rt: &impl Abort,
-    alloc: Global,
-    words: &[u32],
-    config: Config,
-    events: &[Event],
-    strictness: Strictness,
-    stream: &str,
-) -> Result<(), Fail> {
-    let mut out = Vec::new(alloc);
-    let told = tell(alloc, words, config, events, strictness, &mut out)?;
-    same(rt, told.is_ok(), true);
-    same(rt, out.as_slice(), stream.as_bytes());
+/// Whether it is whole.
+fn tells<W: Write>(alloc: Global, case: &Case, out: &mut W) -> Result<bool, Fail> {
+    Ok(tell(alloc, case, out)?.is_ok())
+}
+
+fn is_text(rt: &(impl Abort + AllocGlobal), got: &[u8], pieces: Text) -> Result<(), Fail> {
+    let text = joined(rt.alloc(), pieces)?;
+    same(rt, got, text.as_slice());
     Ok(())
+}
+
+/// The stream of a case is whole.
+fn is_told(rt: &(impl Abort + AllocGlobal), case: &Case) -> Result<(), Fail> {
+    let mut out = Vec::new(rt.alloc());
+    same(rt, tells(rt.alloc(), case, &mut out)?, true);
+    is_text(rt, out.as_slice(), case.stream)
 }
 
 fn is_shown<T: Debug>(rt: &impl Abort, alloc: Global, value: &T, text: &str) -> Result<(), Fail> {
@@ -249,112 +330,78 @@ fn is_shown<T: Debug>(rt: &impl Abort, alloc: Global, value: &T, text: &str) -> 
     Ok(())
 }
 
-/// The stream of the load's events ends before one of them, for a reason that is named.
-fn ends_before(
-    rt: &impl Abort,
-    alloc: Global,
-    events: &[Event],
-    strictness: Strictness,
-    reason: &str,
-) -> Result<(), Fail> {
-    let mut out = Vec::new(alloc);
-    let told = tell(alloc, &LOAD, SMALL, events, strictness, &mut out)?;
-    same(rt, out.as_slice(), STRICT_STREAM.as_bytes());
-    is_shown(rt, alloc, &told, reason)
+/// The stream ends before one of the case's events, for a reason that is named.
+fn ends_before(rt: &(impl Abort + AllocGlobal), case: &Case, reason: &str) -> Result<(), Fail> {
+    let mut out = Vec::new(rt.alloc());
+    let told = tell(rt.alloc(), case, &mut out)?;
+    is_text(rt, out.as_slice(), case.stream)?;
+    is_shown(rt, rt.alloc(), &told, reason)
 }
 
 #[test]
 fn a_stream_has_each_line_below_its_event(rt: HostRuntime) -> Result<(), Fail> {
-    let (alloc, how) = (rt.alloc(), Strictness::Strict);
-    is_told(&rt, alloc, &LOAD, SMALL, &LOAD_EVENTS, how, LOAD_STREAM)
+    is_told(&rt, &LOADING)
 }
 
 #[test]
 fn a_stream_tells_what_a_hart_puts_out(rt: HostRuntime) -> Result<(), Fail> {
-    let (alloc, how) = (rt.alloc(), Strictness::Lenient);
-    let wide = config_of(5, LineSize::Bytes64);
-    is_told(
-        &rt,
-        alloc,
-        &OUTPUT,
-        wide,
-        &OUTPUT_EVENTS,
-        how,
-        OUTPUT_STREAM,
-    )
+    is_told(&rt, &PUTTING_OUT)
 }
 
 #[test]
 fn a_lenient_stream_tells_events_that_change_nothing(rt: HostRuntime) -> Result<(), Fail> {
-    let (alloc, how) = (rt.alloc(), Strictness::Lenient);
-    is_told(&rt, alloc, &LOAD, SMALL, &IDLE_EVENTS, how, IDLE_STREAM)
+    is_told(&rt, &IDLING)
 }
 
 /// Harts at the end of a stream: before a fence, at a full set, and stopped.
 #[test]
 fn a_stream_ends_with_what_its_harts_wait_for(rt: HostRuntime) -> Result<(), Fail> {
-    let (alloc, how) = (rt.alloc(), Strictness::Lenient);
-    let narrow = Config {
-        sets: 1,
-        ways: 1,
-        ..SMALL
-    };
-    is_told(&rt, alloc, &FENCED, SMALL, &[STEP; 3], how, FENCED_STREAM)?;
-    is_told(
-        &rt,
-        alloc,
-        &NARROW,
-        narrow,
-        &LOAD_EVENTS,
-        how,
-        NARROW_STREAM,
-    )?;
-    is_told(
-        &rt,
-        alloc,
-        &[0x0010_0073],
-        SMALL,
-        &[STEP],
-        how,
-        STOPPED_STREAM,
-    )
+    is_told(&rt, &BEFORE_A_FENCE)?;
+    is_told(&rt, &AT_A_FULL_SET)?;
+    is_told(&rt, &STOPPED)
 }
 
 #[test]
 fn a_strict_stream_ends_before_them(rt: HostRuntime) -> Result<(), Fail> {
-    let reason = "Err(Idle(2, WaitGrant))";
-    ends_before(&rt, rt.alloc(), &IDLE_EVENTS, Strictness::Strict, reason)
+    ends_before(&rt, &STRICTLY, "Err(Idle(2, WaitGrant))")
 }
 
 #[test]
 fn a_stream_ends_before_a_refused_event(rt: HostRuntime) -> Result<(), Fail> {
-    let events = [STEP, STEP, Event::Step { hart: 1 }];
-    let reason = "Err(Refused(2, BadEvent))";
-    ends_before(&rt, rt.alloc(), &events, Strictness::Lenient, reason)
+    ends_before(&rt, &REFUSED, "Err(Refused(2, BadEvent))")
+}
+
+const LENIENT: Case = Case {
+    how: Strictness::Lenient,
+    ..LOADING
+};
+
+fn is_writers_fault(told: &Result<(), StreamError>) -> bool {
+    matches!(told, Err(StreamError::Writing(_)))
+}
+
+/// Whether the stream ends by its writer's fault.
+fn fails_to_write<W: Write>(alloc: Global, out: &mut W) -> Result<bool, Fail> {
+    Ok(is_writers_fault(&tell(alloc, &LENIENT, out)?))
 }
 
 /// The writer's fault is told, and it was given the stream's beginning.
-fn breaks_off(rt: &impl Abort, alloc: Global, room: usize) -> Result<(), Fail> {
-    let mut out = Narrow::new(alloc, room, true);
-    let told = tell(
-        alloc,
-        &LOAD,
-        SMALL,
-        &LOAD_EVENTS,
-        Strictness::Lenient,
-        &mut out,
-    )?;
-    let is_writers = matches!(told, Err(StreamError::Writing(_)));
-    same_of(rt, is_writers, true, &room);
-    let front = LOAD_STREAM.as_bytes().get(..room);
-    same_of(rt, Some(out.taken.as_slice()), front, &room);
+fn breaks_off(rt: &(impl Abort + AllocGlobal), stream: &[u8], room: usize) -> Result<(), Fail> {
+    let mut out = Narrow::new(rt.alloc(), room, true);
+    same_of(rt, fails_to_write(rt.alloc(), &mut out)?, true, &room);
+    same_of(rt, Some(out.taken.as_slice()), stream.get(..room), &room);
+    Ok(())
+}
+
+fn breaks_anywhere(rt: &(impl Abort + AllocGlobal), stream: &[u8]) -> Result<(), Fail> {
+    for room in 0..stream.len() {
+        breaks_off(rt, stream, room)?;
+    }
     Ok(())
 }
 
 #[test]
 fn a_beginning_goes_out_before_a_fault(rt: HostRuntime) -> Result<(), Fail> {
-    for room in 0..LOAD_STREAM.len() {
-        breaks_off(&rt, rt.alloc(), room)?;
-    }
-    Ok(())
+    let stream = joined(rt.alloc(), LENIENT.stream)?;
+    breaks_anywhere(&rt, &stream)
 }

@@ -2,6 +2,7 @@
 
 mod texts;
 
+use crate::pieces::{Text, joined};
 use crate::same::{same, same_of};
 use crate::writers::{Interrupted, Narrow};
 use std::alloc::{AllocError, Global};
@@ -128,17 +129,23 @@ fn scripts_are_read_and_spelled_back(rt: HostRuntime) -> Result<(), Fail> {
     Ok(())
 }
 
+/// The trace of these pieces is read, and spelled back to the byte.
+fn trace_is_spelled_back(rt: &(impl Abort + AllocGlobal), pieces: Text) -> Result<(), Fail> {
+    let text = joined(rt.alloc(), pieces)?;
+    is_spelled_back(rt, rt.alloc(), Kind::Trace, &text)
+}
+
 #[test]
 fn traces_are_read_and_spelled_back(rt: HostRuntime) -> Result<(), Fail> {
-    for text in &texts::TRACES {
-        is_spelled_back(&rt, rt.alloc(), Kind::Trace, text)?;
+    for pieces in &texts::TRACES {
+        trace_is_spelled_back(&rt, pieces)?;
     }
     Ok(())
 }
 
 #[test]
 fn messages_that_no_machine_sends(rt: HostRuntime) -> Result<(), Fail> {
-    is_spelled_back(&rt, rt.alloc(), Kind::Trace, texts::UNUSUAL)
+    trace_is_spelled_back(&rt, texts::UNUSUAL)
 }
 
 /// Spells the trace that a text begins with: how long it is, and how many harts and messages it has.
@@ -157,13 +164,13 @@ fn begins_with_row_18(rt: &(impl Abort + AllocGlobal), text: &[u8]) -> Result<()
     let mut out = Vec::new(rt.alloc());
     let measured = respell_front(rt.alloc(), text, &mut out)?;
     same(rt, measured, (texts::ROW_18.len(), 1, 6));
-    same(rt, out.as_slice(), texts::ROW_18);
+    same(rt, out.as_slice(), texts::ROW_18.as_bytes());
     Ok(())
 }
 
 #[test]
 fn row_18(rt: HostRuntime) -> Result<(), Fail> {
-    let mut more = texts::ROW_18.to_vec(rt.alloc())?;
+    let mut more = texts::ROW_18.as_bytes().to_vec(rt.alloc())?;
     more.push(b'H')?;
     begins_with_row_18(&rt, &more)
 }
@@ -176,20 +183,27 @@ fn rows_23_42_and_52(rt: HostRuntime) {
     }
 }
 
+/// What the trace of these pieces gets.
+fn answer_to_pieces(alloc: Global, pieces: Text) -> Result<(usize, u8), AllocError> {
+    let text = joined(alloc, pieces)?;
+    Ok(answer(alloc, Kind::Trace, &text))
+}
+
 #[test]
-fn rows_41_and_52(rt: HostRuntime) {
-    for (text, line, code) in &texts::TRACE_FAULTS {
-        let got = answer(rt.alloc(), Kind::Trace, text);
-        same_of(&rt, got, (*line, *code), text);
+fn rows_41_and_52(rt: HostRuntime) -> Result<(), Fail> {
+    for (pieces, line, code) in &texts::TRACE_FAULTS {
+        let got = answer_to_pieces(rt.alloc(), pieces)?;
+        same_of(&rt, got, (*line, *code), pieces);
     }
+    Ok(())
 }
 
 /// The text, cut at each length.
-fn compare_cut(rt: &impl Abort, alloc: Global, kind: Kind, broken: &Broken) {
-    for length in 0..=broken.text.len() {
-        let (front, _) = broken.text.split_at(length);
+fn compare_cut(rt: &impl Abort, alloc: Global, kind: Kind, text: &[u8], answers: Answers) {
+    for length in 0..=text.len() {
+        let (front, _) = text.split_at(length);
         let got = answer(alloc, kind, front);
-        same_of(rt, got, expected(broken.cut, length), &length);
+        same_of(rt, got, expected(answers, length), &length);
     }
 }
 
@@ -210,58 +224,84 @@ fn answer_to_changed(
 
 /// The text, each of its bytes set to this.
 fn compare_changed(
-    rt: &impl Abort,
-    alloc: Global,
+    rt: &(impl Abort + AllocGlobal),
     kind: Kind,
-    broken: &Broken,
+    text: &[u8],
+    answers: Answers,
     byte: u8,
 ) -> Result<(), Fail> {
-    for place in 0..broken.text.len() {
-        let got = answer_to_changed(alloc, kind, broken.text, place, byte)?;
-        same_of(rt, got, expected(broken.changed, place), &(byte, place));
+    for place in 0..text.len() {
+        let got = answer_to_changed(rt.alloc(), kind, text, place, byte)?;
+        same_of(rt, got, expected(answers, place), &(byte, place));
     }
     Ok(())
 }
 
-fn compare_broken(
-    rt: &impl Abort,
-    alloc: Global,
+fn compare_text(
+    rt: &(impl Abort + AllocGlobal),
     kind: Kind,
-    texts: &[Broken],
+    text: &[u8],
+    broken: &Broken,
 ) -> Result<(), Fail> {
-    for broken in texts {
-        compare_cut(rt, alloc, kind, broken);
-        compare_changed(rt, alloc, kind, broken, 0)?;
-        compare_changed(rt, alloc, kind, broken, 0xff)?;
-    }
-    Ok(())
+    compare_cut(rt, rt.alloc(), kind, text, broken.cut);
+    compare_changed(rt, kind, text, broken.changed, 0)?;
+    compare_changed(rt, kind, text, broken.changed, 0xff)
+}
+
+fn compare_broken(
+    rt: &(impl Abort + AllocGlobal),
+    kind: Kind,
+    broken: &Broken,
+) -> Result<(), Fail> {
+    let text = joined(rt.alloc(), broken.text)?;
+    compare_text(rt, kind, &text, broken)
 }
 
 #[test]
 fn broken_scripts(rt: HostRuntime) -> Result<(), Fail> {
-    compare_broken(&rt, rt.alloc(), Kind::Script, &texts::BROKEN_SCRIPTS)
+    for broken in &texts::BROKEN_SCRIPTS {
+        compare_broken(&rt, Kind::Script, broken)?;
+    }
+    Ok(())
 }
 
 #[test]
 fn broken_traces(rt: HostRuntime) -> Result<(), Fail> {
-    compare_broken(&rt, rt.alloc(), Kind::Trace, &texts::BROKEN_TRACES)
+    for broken in &texts::BROKEN_TRACES {
+        compare_broken(&rt, Kind::Trace, broken)?;
+    }
+    Ok(())
+}
+
+/// A writer of any room less than the text wants is given the text's beginning.
+fn breaks_anywhere(
+    rt: &(impl Abort + AllocGlobal),
+    kind: Kind,
+    text: &[u8],
+    fails: bool,
+) -> Result<(), Fail> {
+    for room in 0..text.len() {
+        breaks_off(rt, rt.alloc(), kind, text, room, fails)?;
+    }
+    Ok(())
 }
 
 #[test]
 fn a_beginning_goes_out_before_a_fault(rt: HostRuntime) -> Result<(), Fail> {
-    for room in 0..texts::ROW_18.len() {
-        breaks_off(&rt, rt.alloc(), Kind::Trace, texts::ROW_18, room, true)?;
-        breaks_off(&rt, rt.alloc(), Kind::Trace, texts::ROW_18, room, false)?;
-    }
-    Ok(())
+    let text = texts::ROW_18.as_bytes();
+    breaks_anywhere(&rt, Kind::Trace, text, true)?;
+    breaks_anywhere(&rt, Kind::Trace, text, false)
+}
+
+fn script_breaks_anywhere(rt: &(impl Abort + AllocGlobal), pieces: Text) -> Result<(), Fail> {
+    let text = joined(rt.alloc(), pieces)?;
+    breaks_anywhere(rt, Kind::Script, &text, true)
 }
 
 #[test]
 fn a_beginning_of_a_script_goes_out_before_a_fault(rt: HostRuntime) -> Result<(), Fail> {
     for broken in &texts::BROKEN_SCRIPTS {
-        for room in 0..broken.text.len() {
-            breaks_off(&rt, rt.alloc(), Kind::Script, broken.text, room, true)?;
-        }
+        script_breaks_anywhere(&rt, broken.text)?;
     }
     Ok(())
 }
@@ -281,7 +321,7 @@ fn goes_out_interrupted(
 
 #[test]
 fn an_interrupted_write_is_tried_again(rt: HostRuntime) -> Result<(), Fail> {
-    goes_out_interrupted(&rt, rt.alloc(), Kind::Trace, texts::ROW_18)
+    goes_out_interrupted(&rt, rt.alloc(), Kind::Trace, texts::ROW_18.as_bytes())
 }
 
 fn put_lines(text: &mut Vec<u8>) -> Result<(), AllocError> {

@@ -1,9 +1,10 @@
 //! The store that a byte comes from, by the index and by a walk over the whole order as it is defined.
 ghost use Rattle.std.specs.Prelude.{◌≡◌, ◌<◌};
 
+use super::trace_of;
 use crate::same::{same, same_of};
 use crate::streams::image_of_kib;
-use hart::{Retired, Status};
+use hart::Retired;
 use memory_model::Operation;
 use rvwmo_order::plain::source;
 use std::alloc::{AllocError, Global};
@@ -11,9 +12,9 @@ use std::marker::Brand;
 use std::process::Abort;
 use std::sync::ledger::{Blank, Ledger};
 use std::test::Fail;
-use tl_types::{LineSize, Ticks};
+use tl_types::Ticks;
 use trace_operations::{Index, completed};
-use trace_recorder::{OpId, Trace, are_within_limits};
+use trace_recorder::{OpId, Trace};
 
 /// `lui a2, 0x80001`, then `sw`, `lw`, `sb` at the second byte, `lh`, `amoswap.w`, `lr.w` and `sc.w`, all
 /// of one word.
@@ -57,21 +58,20 @@ fn entries_of(alloc: Global) -> Result<Vec<Retired>, AllocError> {
     Ok(entries)
 }
 
+/// What both harts have retired.
+fn lists(rt: &(impl Abort + AllocGlobal)) -> Vec<Vec<Retired>> {
+    let first = entries_of(rt.alloc()).expect(rt, "entries");
+    let second = entries_of(rt.alloc()).expect(rt, "entries");
+    vec![in rt.alloc(); first, second].expect(rt, "both lists")
+}
+
+const LOADS: [OpId; 2] = [OpId { hart: 1, place: 2 }, OpId { hart: 0, place: 2 }];
+
 /// Both harts run the program once; of each only the load at place 2 is performed.
-fn trace(alloc: Global) -> Result<Trace, Fail> {
-    let image = image_of_kib(alloc, &PROGRAM, 8)?;
-    let harts = vec![in alloc; entries_of(alloc)?, entries_of(alloc)?]?;
-    if !are_within_limits(&harts) {
-        return Err(Fail::from("too many harts"));
-    }
-    Ok(Trace::from_parts(
-        image,
-        LineSize::Bytes16,
-        harts,
-        vec![in alloc; Status::Running; 2]?,
-        vec![in alloc; OpId { hart: 1, place: 2 }, OpId { hart: 0, place: 2 }]?,
-        Vec::new(alloc),
-    ))
+fn trace(rt: &(impl Abort + AllocGlobal)) -> Result<Trace, Fail> {
+    let image = image_of_kib(rt.alloc(), &PROGRAM, 8)?;
+    let performed = LOADS.to_vec(rt.alloc()).expect(rt, "an order");
+    Ok(trace_of(rt, image, lists(rt), performed))
 }
 
 fn name_of(operation: &Operation) -> OpId {
@@ -137,10 +137,15 @@ fn agree_exchanged(
     Ok(())
 }
 
+/// They agree so in the order of all that the two harts have completed.
+fn agree_throughout(rt: &(impl Abort + AllocGlobal), trace: &Trace) -> Result<(), Fail> {
+    let mut order = completed(rt.alloc(), trace)?;
+    same(rt, order.len(), 14);
+    agree_exchanged(rt, trace, &mut order)
+}
+
 #[test]
 fn exchanged_neighbours_have_the_same_sources(rt: HostRuntime) -> Result<(), Fail> {
-    let trace = trace(rt.alloc())?;
-    let mut order = completed(rt.alloc(), &trace)?;
-    same(&rt, order.len(), 14);
-    agree_exchanged(&rt, &trace, &mut order)
+    let trace = trace(&rt)?;
+    agree_throughout(&rt, &trace)
 }
