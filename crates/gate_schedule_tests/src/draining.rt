@@ -2,6 +2,7 @@
 
 use crate::exploring::{Found, is_whole};
 use crate::programs::{ONE_WORD, S, TWO_WRITES, TWO_WRITES_FENCED, X, Y, config_of, image_of};
+use elf_loader::Image;
 use flat_machine::{DrainingMachine, Ending, Tables};
 use hart::Status;
 use machine_types::{Config, MemoryModel};
@@ -14,6 +15,7 @@ use std::test::Fail;
 type Drained = (u8, u32, u32);
 
 /// A program under a model, and all its ends.
+#[derive(Clone, Copy)]
 struct Case {
     words: &'static [u32],
     harts: u32,
@@ -52,8 +54,7 @@ fn found_by(
     })
 }
 
-fn find(alloc: Global, case: &Case) -> Result<Found, Fail> {
-    let image = image_of(alloc, case.words)?;
+fn found_in(alloc: Global, image: &Image, case: &Case) -> Result<Found, Fail> {
     let config = Config {
         model: case.model,
         ..config_of(case.harts, 2)
@@ -61,8 +62,13 @@ fn find(alloc: Global, case: &Case) -> Result<Found, Fail> {
     if !config.is_within_limits() {
         return Err("limits".into());
     }
-    let machine = DrainingMachine::new(alloc, &image, config, &[X, Y])?;
+    let machine = DrainingMachine::new(alloc, image, config, &[X, Y])?;
     Ok(found_by(alloc, &machine, case.ends)?)
+}
+
+fn find(alloc: Global, case: &Case) -> Result<Found, Fail> {
+    let image = image_of(alloc, case.words)?;
+    found_in(alloc, &image, case)
 }
 
 fn ends_so(rt: &(impl Abort + AllocGlobal), case: &Case) -> Result<(), Fail> {
@@ -86,16 +92,14 @@ fn either_hart_may_store_last_to_each_word(rt: HostRuntime) -> Result<(), Fail> 
 // Not both words 1: each hart's second store came before the other's first, and so before itself.
 const FENCED: Case = Case {
     words: &TWO_WRITES_FENCED,
-    harts: 2,
-    model: MemoryModel::Rvwmo,
     ends: &[(1, 1, 2), (1, 2, 1), (1, 2, 2)],
+    ..ANY_LAST
 };
 
 const TOTAL: Case = Case {
     words: &TWO_WRITES,
-    harts: 2,
     model: MemoryModel::Ztso,
-    ends: &[(1, 1, 2), (1, 2, 1), (1, 2, 2)],
+    ..FENCED
 };
 
 #[test]
@@ -106,9 +110,8 @@ fn stores_in_order_are_not_both_overtaken(rt: HostRuntime) -> Result<(), Fail> {
 
 const BEHIND_A_LOAD: Case = Case {
     words: &S,
-    harts: 2,
-    model: MemoryModel::Rvwmo,
     ends: &[(0, 1, 1), (0, 2, 1), (1, 1, 1)],
+    ..ANY_LAST
 };
 
 #[test]
@@ -119,8 +122,8 @@ fn a_store_behind_a_load_is_later_than_what_the_load_saw(rt: HostRuntime) -> Res
 const LAST_STAYS: Case = Case {
     words: &ONE_WORD,
     harts: 1,
-    model: MemoryModel::Rvwmo,
     ends: &[(0, 2, 0)],
+    ..ANY_LAST
 };
 
 #[test]

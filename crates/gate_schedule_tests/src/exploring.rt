@@ -5,6 +5,7 @@ use crate::programs::{
     are_ends, config_of, image_of,
 };
 use crate::same::same;
+use elf_loader::Image;
 use flat_machine::{FlatMachine, Results, Tables};
 use state_search::{Extent, Unwatched, search};
 use std::alloc::{AllocError, Global};
@@ -12,6 +13,7 @@ use std::process::Abort;
 use std::test::Fail;
 
 /// A program on harts with caches of one set, and all its outcomes, each by hart.
+#[derive(Clone, Copy)]
 struct Case {
     words: &'static [u32],
     harts: u32,
@@ -52,14 +54,18 @@ fn found_by(
     })
 }
 
-fn find(alloc: Global, case: &Case) -> Result<Found, Fail> {
-    let image = image_of(alloc, case.words)?;
+fn found_in(alloc: Global, image: &Image, case: &Case) -> Result<Found, Fail> {
     let config = config_of(case.harts, case.ways);
     if !config.is_within_limits() {
         return Err("limits".into());
     }
-    let machine = FlatMachine::new(alloc, &image, config)?;
+    let machine = FlatMachine::new(alloc, image, config)?;
     Ok(found_by(alloc, &machine, case.outcomes)?)
+}
+
+fn find(alloc: Global, case: &Case) -> Result<Found, Fail> {
+    let image = image_of(alloc, case.words)?;
+    found_in(alloc, &image, case)
 }
 
 /// Ends the test unless the search has found all states, each with an end before it, and just the outcomes that there
@@ -77,6 +83,16 @@ fn explored(rt: &(impl Abort + AllocGlobal), case: &Case) -> Result<usize, Fail>
     Ok(found.states)
 }
 
+fn is_explored(rt: &(impl Abort + AllocGlobal), case: &Case) -> Result<(), Fail> {
+    let _states = explored(rt, case)?;
+    Ok(())
+}
+
+fn has_states(rt: &(impl Abort + AllocGlobal), case: &Case, count: usize) -> Result<(), Fail> {
+    same(rt, explored(rt, case)?, count);
+    Ok(())
+}
+
 const BOTH_WAIT: Case = Case {
     words: &STORE_BUFFERING,
     harts: 2,
@@ -91,45 +107,34 @@ const BOTH_WAIT: Case = Case {
 
 #[test]
 fn store_buffering(rt: HostRuntime) -> Result<(), Fail> {
-    let _states = explored(&rt, &BOTH_WAIT)?;
-    Ok(())
+    is_explored(&rt, &BOTH_WAIT)
 }
 
 // Not both load 0.
 const FENCED: Case = Case {
     words: &STORE_BUFFERING_FENCED,
-    harts: 2,
-    ways: 2,
     outcomes: &[
         &[(0, None), (1, None)],
         &[(1, None), (0, None)],
         &[(1, None), (1, None)],
     ],
+    ..BOTH_WAIT
 };
 
 #[test]
 fn store_buffering_with_fences(rt: HostRuntime) -> Result<(), Fail> {
-    let _states = explored(&rt, &FENCED)?;
-    Ok(())
+    is_explored(&rt, &FENCED)
 }
 
 // At most one of two harts fails by the other's access; each may fail by itself.
 const CONDITIONAL: Case = Case {
     words: &RESERVED,
-    harts: 2,
-    ways: 2,
-    outcomes: &[
-        &[(0, None), (0, None)],
-        &[(0, None), (1, None)],
-        &[(1, None), (0, None)],
-        &[(1, None), (1, None)],
-    ],
+    ..BOTH_WAIT
 };
 
 #[test]
 fn a_store_conditional_may_fail(rt: HostRuntime) -> Result<(), Fail> {
-    let _states = explored(&rt, &CONDITIONAL)?;
-    Ok(())
+    is_explored(&rt, &CONDITIONAL)
 }
 
 const RIVAL_OF_ONE_WAY: Case = Case {
@@ -140,30 +145,26 @@ const RIVAL_OF_ONE_WAY: Case = Case {
 };
 
 const RIVAL_OF_TWO_WAYS: Case = Case {
-    words: &RIVAL,
-    harts: 1,
     ways: 2,
     outcomes: &[&[(0, None)], &[(1, None)]],
+    ..RIVAL_OF_ONE_WAY
 };
 
 #[test]
 fn an_own_access_ends_a_reservation_in_one_way(rt: HostRuntime) -> Result<(), Fail> {
-    let _one = explored(&rt, &RIVAL_OF_ONE_WAY)?;
-    let _two = explored(&rt, &RIVAL_OF_TWO_WAYS)?;
-    Ok(())
+    is_explored(&rt, &RIVAL_OF_ONE_WAY)?;
+    is_explored(&rt, &RIVAL_OF_TWO_WAYS)
 }
 
 const COUNTED: Case = Case {
     words: &COUNT,
-    harts: 2,
-    ways: 2,
     outcomes: &[&[(0, Some(0)), (1, Some(1))], &[(1, Some(1)), (0, Some(0))]],
+    ..BOTH_WAIT
 };
 
 #[test]
 fn what_is_put_out_is_told(rt: HostRuntime) -> Result<(), Fail> {
-    let _states = explored(&rt, &COUNTED)?;
-    Ok(())
+    is_explored(&rt, &COUNTED)
 }
 
 // Hart 0's store waits, or has drained; hart 1 stands before its first load, or before its second: four states, and
@@ -171,42 +172,35 @@ fn what_is_put_out_is_told(rt: HostRuntime) -> Result<(), Fail> {
 
 const SET_AGAIN: Case = Case {
     words: &UNREAD,
-    harts: 2,
-    ways: 2,
     outcomes: &[&[(0, None), (1, None)]],
+    ..BOTH_WAIT
 };
 
 #[test]
 fn a_register_that_is_set_again_tells_no_states_apart(rt: HostRuntime) -> Result<(), Fail> {
-    same(&rt, explored(&rt, &SET_AGAIN)?, 5);
-    Ok(())
+    has_states(&rt, &SET_AGAIN, 5)
 }
 
 const RESERVED_IN_VAIN: Case = Case {
     words: &UNASKED,
-    harts: 2,
-    ways: 2,
-    outcomes: &[&[(0, None), (1, None)]],
+    ..SET_AGAIN
 };
 
 #[test]
 fn a_reservation_that_no_sc_asks_for_tells_no_states_apart(rt: HostRuntime) -> Result<(), Fail> {
-    same(&rt, explored(&rt, &RESERVED_IN_VAIN)?, 5);
-    Ok(())
+    has_states(&rt, &RESERVED_IN_VAIN, 5)
 }
 
 #[test]
 fn what_may_be_read_tells_states_apart(rt: HostRuntime) -> Result<(), Fail> {
-    same(&rt, explored(&rt, &BOTH_WAIT)?, 20);
-    same(&rt, explored(&rt, &CONDITIONAL)?, 15);
-    Ok(())
+    has_states(&rt, &BOTH_WAIT, 20)?;
+    has_states(&rt, &CONDITIONAL, 15)
 }
 
 const CIRCLING: Case = Case {
     words: &CIRCLE,
-    harts: 2,
-    ways: 2,
     outcomes: &[],
+    ..BOTH_WAIT
 };
 
 #[test]

@@ -12,108 +12,133 @@ pub const X: u32 = 0x8000_0100;
 
 pub const Y: u32 = 0x8000_0200;
 
+// Instructions of the small programs, which find the words X and Y by a2, and whose other harts branch by a0.
+
+/// `lui a2, 0x80000`
+const LUI_A2: u32 = 0x8000_0637;
+
+/// `addi a2, a2, 0x100`
+const ADDI_A2_X: u32 = 0x1006_0613;
+
+/// `li t0, 1`
+const LI_T0_1: u32 = 0x0010_0293;
+
+/// `li t0, 5`
+const LI_T0_5: u32 = 0x0050_0293;
+
+/// `li t1, 2`
+const LI_T1_2: u32 = 0x0020_0313;
+
+/// `sw t0, 0x100(a2)`
+const SW_T0_X: u32 = 0x1056_2023;
+
+/// `sw t0, 0x200(a2)`
+const SW_T0_Y: u32 = 0x2056_2023;
+
+/// `sw t1, 0x100(a2)`
+const SW_T1_X: u32 = 0x1066_2023;
+
+/// `sw t1, 0x200(a2)`
+const SW_T1_Y: u32 = 0x2066_2023;
+
+/// `lw a0, 0x100(a2)`
+const LW_A0_X: u32 = 0x1006_2503;
+
+/// `lw a0, 0x200(a2)`
+const LW_A0_Y: u32 = 0x2006_2503;
+
+/// `lw t1, 0x100(a2)`
+const LW_T1_X: u32 = 0x1006_2303;
+
+/// `lw t1, 0x200(a2)`
+const LW_T1_Y: u32 = 0x2006_2303;
+
+/// `lr.w t0, (a2)`
+const LR_T0: u32 = 0x1006_22af;
+
+/// `sc.w a0, t0, (a2)`
+const SC_A0: u32 = 0x1856_252f;
+
+/// `fence rw, rw`
+const FENCE: u32 = 0x0330_000f;
+
+/// `fence w, w`
+const FENCE_W: u32 = 0x0110_000f;
+
+/// `bnez a0, .+16`
+const BNEZ_A0_16: u32 = 0x0005_1863;
+
+/// `bnez a0, .+20`
+const BNEZ_A0_20: u32 = 0x0005_1a63;
+
+/// `li a0, 0`
+const LI_A0_0: u32 = 0x0000_0513;
+
+/// `li a7, 1`
+const LI_A7_1: u32 = 0x0010_0893;
+
+/// `li a7, 0`
+const LI_A7_0: u32 = 0x0000_0893;
+
+/// `ecall`
+const ECALL: u32 = 0x0000_0073;
+
 /// `lui a2, 0x80000` and `lw a4, 0(a2)`; behind them lies no instruction.
 pub const LOAD: [u32; 2] = [0x8000_0637, 0x0006_2703];
 
 /// Hart 0 stores 1 to X and exits with Y, hart 1 stores 1 to Y and exits with X.
 pub const STORE_BUFFERING: [u32; 9] = [
-    0x8000_0637, // lui a2, 0x80000
-    0x0010_0293, // li t0, 1
-    0x0005_1863, // bnez a0, the second half
-    0x1056_2023, // sw t0, 0x100(a2)
-    0x2006_2503, // lw a0, 0x200(a2)
-    0x0000_0073, // ecall
-    0x2056_2023, // sw t0, 0x200(a2)
-    0x1006_2503, // lw a0, 0x100(a2)
-    0x0000_0073, // ecall
+    LUI_A2, LI_T0_1, BNEZ_A0_16, SW_T0_X, LW_A0_Y, ECALL, SW_T0_Y, LW_A0_X, ECALL,
 ];
 
 /// The same with a fence between store and load.
 pub const STORE_BUFFERING_FENCED: [u32; 11] = [
-    0x8000_0637, // lui a2, 0x80000
-    0x0010_0293, // li t0, 1
-    0x0005_1a63, // bnez a0, the second half
-    0x1056_2023, // sw t0, 0x100(a2)
-    0x0330_000f, // fence rw, rw
-    0x2006_2503, // lw a0, 0x200(a2)
-    0x0000_0073, // ecall
-    0x2056_2023, // sw t0, 0x200(a2)
-    0x0330_000f, // fence rw, rw
-    0x1006_2503, // lw a0, 0x100(a2)
-    0x0000_0073, // ecall
+    LUI_A2, LI_T0_1, BNEZ_A0_20, SW_T0_X, FENCE, LW_A0_Y, ECALL, SW_T0_Y, FENCE, LW_A0_X, ECALL,
 ];
 
 /// Exits with 0 where the store conditional succeeds, else with 1.
-pub const RESERVED: [u32; 5] = [
-    0x8000_0637, // lui a2, 0x80000
-    0x1006_0613, // addi a2, a2, 0x100
-    0x1006_22af, // lr.w t0, (a2)
-    0x1856_252f, // sc.w a0, t0, (a2)
-    0x0000_0073, // ecall
-];
+pub const RESERVED: [u32; 5] = [LUI_A2, ADDI_A2_X, LR_T0, SC_A0, ECALL];
 
 /// The same, and a line of the same set is loaded in between.
-pub const RIVAL: [u32; 6] = [
-    0x8000_0637, // lui a2, 0x80000
-    0x1006_0613, // addi a2, a2, 0x100
-    0x1006_22af, // lr.w t0, (a2)
-    0x1006_2303, // lw t1, 0x100(a2)
-    0x1856_252f, // sc.w a0, t0, (a2)
-    0x0000_0073, // ecall
-];
+pub const RIVAL: [u32; 6] = [LUI_A2, ADDI_A2_X, LR_T0, LW_T1_X, SC_A0, ECALL];
 
 /// The same with a second such line.
-pub const RIVALS: [u32; 7] = [
-    0x8000_0637, // lui a2, 0x80000
-    0x1006_0613, // addi a2, a2, 0x100
-    0x1006_22af, // lr.w t0, (a2)
-    0x1006_2303, // lw t1, 0x100(a2)
-    0x2006_2303, // lw t1, 0x200(a2)
-    0x1856_252f, // sc.w a0, t0, (a2)
-    0x0000_0073, // ecall
-];
+pub const RIVALS: [u32; 7] = [LUI_A2, ADDI_A2_X, LR_T0, LW_T1_X, LW_T1_Y, SC_A0, ECALL];
 
 /// Stores 5 to two lines, and exits with what it loads from the first.
-pub const TWO_LINES: [u32; 6] = [
-    0x8000_0637, // lui a2, 0x80000
-    0x0050_0293, // li t0, 5
-    0x1056_2023, // sw t0, 0x100(a2)
-    0x2056_2023, // sw t0, 0x200(a2)
-    0x1006_2503, // lw a0, 0x100(a2)
-    0x0000_0073, // ecall
-];
+pub const TWO_LINES: [u32; 6] = [LUI_A2, LI_T0_5, SW_T0_X, SW_T0_Y, LW_A0_X, ECALL];
 
 /// Stores 5 and then 0 to one word.
 pub const TWICE: [u32; 5] = [
-    0x8000_0637, // lui a2, 0x80000
-    0x0050_0293, // li t0, 5
-    0x1056_2023, // sw t0, 0x100(a2)
+    LUI_A2,
+    LI_T0_5,
+    SW_T0_X,
     0x1006_2023, // sw zero, 0x100(a2)
-    0x0000_0073, // ecall
+    ECALL,
 ];
 
 /// Hart 0 stores 7, the others load the word twice and exit with the second.
 pub const READERS: [u32; 8] = [
-    0x8000_0637, // lui a2, 0x80000
-    0x0005_1863, // bnez a0, the loads
+    LUI_A2,
+    BNEZ_A0_16,
     0x0070_0293, // li t0, 7
-    0x1056_2023, // sw t0, 0x100(a2)
-    0x0000_0073, // ecall
-    0x1006_2303, // lw t1, 0x100(a2)
-    0x1006_2503, // lw a0, 0x100(a2)
-    0x0000_0073, // ecall
+    SW_T0_X,
+    ECALL,
+    LW_T1_X,
+    LW_A0_X,
+    ECALL,
 ];
 
 /// Adds 1 to a counter, puts out what it was, and exits with it.
 pub const COUNT: [u32; 8] = [
-    0x8000_0637, // lui a2, 0x80000
-    0x1006_0613, // addi a2, a2, 0x100
-    0x0010_0293, // li t0, 1
+    LUI_A2,
+    ADDI_A2_X,
+    LI_T0_1,
     0x0056_252f, // amoadd.w a0, t0, (a2)
-    0x0010_0893, // li a7, 1
-    0x0000_0073, // ecall
-    0x0000_0893, // li a7, 0
-    0x0000_0073, // ecall
+    LI_A7_1,
+    ECALL,
+    LI_A7_0,
+    ECALL,
 ];
 
 /// Hart 0 exits with 0, the others run in a circle.
@@ -204,83 +229,39 @@ pub const DEKKER: [u32; 34] = [
 
 /// Hart 0 stores and exits, hart 1 loads what hart 0 stores into a register that its next load sets again.
 pub const UNREAD: [u32; 9] = [
-    0x8000_0637, // lui a2, 0x80000
-    0x0010_0293, // li t0, 1
-    0x0005_1863, // bnez a0, the second half
-    0x1056_2023, // sw t0, 0x100(a2)
-    0x0000_0513, // li a0, 0
-    0x0000_0073, // ecall
-    0x1006_2303, // lw t1, 0x100(a2)
-    0x2006_2303, // lw t1, 0x200(a2)
-    0x0000_0073, // ecall
+    LUI_A2, LI_T0_1, BNEZ_A0_16, SW_T0_X, LI_A0_0, ECALL, LW_T1_X, LW_T1_Y, ECALL,
 ];
 
 /// Hart 0 stores 0 and exits, hart 1 reserves the same word, which no SC asks for.
 pub const UNASKED: [u32; 8] = [
-    0x8000_0637, // lui a2, 0x80000
-    0x1006_0613, // addi a2, a2, 0x100
+    LUI_A2,
+    ADDI_A2_X,
     0x0005_1663, // bnez a0, the second half
     0x00a6_2023, // sw a0, (a2)
-    0x0000_0073, // ecall
+    ECALL,
     0x1006_232f, // lr.w t1, (a2)
-    0x1006_2303, // lw t1, 0x100(a2)
-    0x0000_0073, // ecall
+    LW_T1_X,
+    ECALL,
 ];
 
 /// 2+2W: hart 0 stores 1 to X and 2 to Y, hart 1 stores 1 to Y and 2 to X.
 pub const TWO_WRITES: [u32; 10] = [
-    0x8000_0637, // lui a2, 0x80000
-    0x0010_0293, // li t0, 1
-    0x0020_0313, // li t1, 2
-    0x0005_1863, // bnez a0, the second half
-    0x1056_2023, // sw t0, 0x100(a2)
-    0x2066_2023, // sw t1, 0x200(a2)
-    0x0000_0073, // ecall
-    0x2056_2023, // sw t0, 0x200(a2)
-    0x1066_2023, // sw t1, 0x100(a2)
-    0x0000_0073, // ecall
+    LUI_A2, LI_T0_1, LI_T1_2, BNEZ_A0_16, SW_T0_X, SW_T1_Y, ECALL, SW_T0_Y, SW_T1_X, ECALL,
 ];
 
 /// The same with a fence between the stores.
 pub const TWO_WRITES_FENCED: [u32; 12] = [
-    0x8000_0637, // lui a2, 0x80000
-    0x0010_0293, // li t0, 1
-    0x0020_0313, // li t1, 2
-    0x0005_1a63, // bnez a0, the second half
-    0x1056_2023, // sw t0, 0x100(a2)
-    0x0110_000f, // fence w, w
-    0x2066_2023, // sw t1, 0x200(a2)
-    0x0000_0073, // ecall
-    0x2056_2023, // sw t0, 0x200(a2)
-    0x0110_000f, // fence w, w
-    0x1066_2023, // sw t1, 0x100(a2)
-    0x0000_0073, // ecall
+    LUI_A2, LI_T0_1, LI_T1_2, BNEZ_A0_20, SW_T0_X, FENCE_W, SW_T1_Y, ECALL, SW_T0_Y, FENCE_W,
+    SW_T1_X, ECALL,
 ];
 
 /// S: hart 0 stores 2 to X and then 1 to Y, hart 1 loads Y, with which it exits, and then stores 1 to X.
 pub const S: [u32; 11] = [
-    0x8000_0637, // lui a2, 0x80000
-    0x0010_0293, // li t0, 1
-    0x0020_0313, // li t1, 2
-    0x0005_1a63, // bnez a0, the second half
-    0x1066_2023, // sw t1, 0x100(a2)
-    0x0110_000f, // fence w, w
-    0x2056_2023, // sw t0, 0x200(a2)
-    0x0000_0073, // ecall
-    0x2006_2503, // lw a0, 0x200(a2)
-    0x1056_2023, // sw t0, 0x100(a2)
-    0x0000_0073, // ecall
+    LUI_A2, LI_T0_1, LI_T1_2, BNEZ_A0_20, SW_T1_X, FENCE_W, SW_T0_Y, ECALL, LW_A0_Y, SW_T0_X, ECALL,
 ];
 
 /// Stores 1 and then 2 to X.
-pub const ONE_WORD: [u32; 6] = [
-    0x8000_0637, // lui a2, 0x80000
-    0x0010_0293, // li t0, 1
-    0x0020_0313, // li t1, 2
-    0x1056_2023, // sw t0, 0x100(a2)
-    0x1066_2023, // sw t1, 0x100(a2)
-    0x0000_0073, // ecall
-];
+pub const ONE_WORD: [u32; 6] = [LUI_A2, LI_T0_1, LI_T1_2, SW_T0_X, SW_T1_X, ECALL];
 
 /// How a hart ends: the code that it exits with, and the number that it has put out, if any.
 pub type End = (u8, Option<u32>);

@@ -25,13 +25,31 @@ pub const STEP_2: FlatEvent = FlatEvent::Step { hart: 2 };
 
 pub const DRAIN_X: FlatEvent = FlatEvent::Drain { hart: 0, word: X };
 
-/// Flat events of a program on caches of one set, and how the harts end, by hart, or why it isn't brought to them.
-struct Play {
+const DRAIN_Y: FlatEvent = FlatEvent::Drain { hart: 0, word: Y };
+
+/// Hart 1's store to Y.
+const DRAIN_Y_1: FlatEvent = FlatEvent::Drain { hart: 1, word: Y };
+
+const DRAIN_BEHIND_X: FlatEvent = FlatEvent::Drain {
+    hart: 0,
+    word: BEHIND_X,
+};
+
+/// Hart 1's store there.
+const DRAIN_BEHIND_X_1: FlatEvent = FlatEvent::Drain {
+    hart: 1,
+    word: BEHIND_X,
+};
+
+/// Flat events, and how the harts end, by hart, or why the machine isn't brought to them.
+type Play = (&'static [FlatEvent], Result<&'static [End], RealiseError>);
+
+/// A program on caches of one set, and what comes of its flat events.
+struct Plays {
     words: &'static [u32],
     harts: u32,
     ways: u32,
-    steps: &'static [FlatEvent],
-    ends: Result<&'static [End], RealiseError>,
+    plays: &'static [Play],
 }
 
 pub fn realised(
@@ -55,16 +73,20 @@ fn is_answer(
     }
 }
 
-fn comes_so(alloc: Global, play: &Play) -> Result<bool, Fail> {
-    let image = image_of(alloc, play.words)?;
-    let config = config_of(play.harts, play.ways);
-    let answer = realise(alloc, image, config, play.steps);
-    Ok(is_answer(&answer, &play.ends))
+fn comes_so(
+    alloc: Global,
+    of: &Plays,
+    steps: &[FlatEvent],
+    ends: &Result<&[End], RealiseError>,
+) -> Result<bool, Fail> {
+    let image = image_of(alloc, of.words)?;
+    let answer = realise(alloc, image, config_of(of.harts, of.ways), steps);
+    Ok(is_answer(&answer, ends))
 }
 
-fn all_come_so(rt: &(impl Abort + AllocGlobal), plays: &[Play]) -> Result<(), Fail> {
-    for play in plays {
-        same_of(rt, comes_so(rt.alloc(), play)?, true, &play.steps);
+fn all_come_so(rt: &(impl Abort + AllocGlobal), of: &Plays) -> Result<(), Fail> {
+    for (steps, ends) in of.plays {
+        same_of(rt, comes_so(rt.alloc(), of, steps, ends)?, true, steps);
     }
     Ok(())
 }
@@ -102,90 +124,60 @@ fn load_takes_one_round_of_messages(rt: HostRuntime) -> Result<(), Fail> {
     Ok(())
 }
 
-const STORE_BUFFERING_PLAYS: [Play; 3] = [
-    // Both loads come before both drains.
-    Play {
-        words: &STORE_BUFFERING,
-        harts: 2,
-        ways: 2,
-        steps: &[STEP_0, STEP_1],
-        ends: Ok(&[(0, None), (0, None)]),
-    },
-    Play {
-        words: &STORE_BUFFERING,
-        harts: 2,
-        ways: 2,
-        steps: &[STEP_0, DRAIN_X, STEP_1],
-        ends: Ok(&[(0, None), (1, None)]),
-    },
-    Play {
-        words: &STORE_BUFFERING,
-        harts: 2,
-        ways: 2,
-        steps: &[
-            FlatEvent::Drain { hart: 1, word: Y },
-            DRAIN_X,
-            STEP_1,
-            STEP_0,
-        ],
-        ends: Ok(&[(1, None), (1, None)]),
-    },
-];
+const STORE_BUFFERING_PLAYS: Plays = Plays {
+    words: &STORE_BUFFERING,
+    harts: 2,
+    ways: 2,
+    plays: &[
+        // Both loads come before both drains.
+        (&[STEP_0, STEP_1], Ok(&[(0, None), (0, None)])),
+        (&[STEP_0, DRAIN_X, STEP_1], Ok(&[(0, None), (1, None)])),
+        (
+            &[DRAIN_Y_1, DRAIN_X, STEP_1, STEP_0],
+            Ok(&[(1, None), (1, None)]),
+        ),
+    ],
+};
 
 #[test]
 fn store_buffering(rt: HostRuntime) -> Result<(), Fail> {
     all_come_so(&rt, &STORE_BUFFERING_PLAYS)
 }
 
-const FENCED_PLAYS: [Play; 2] = [
-    // The next instruction is the fence, which stalls.
-    Play {
-        words: &STORE_BUFFERING_FENCED,
-        harts: 2,
-        ways: 2,
-        steps: &[STEP_0],
-        ends: Err(RealiseError::Unrealised(0)),
-    },
-    Play {
-        words: &STORE_BUFFERING_FENCED,
-        harts: 2,
-        ways: 2,
-        steps: &[
-            DRAIN_X,
-            STEP_0,
-            FlatEvent::Drain { hart: 1, word: Y },
-            STEP_1,
-        ],
-        ends: Ok(&[(0, None), (1, None)]),
-    },
-];
+const FENCED_PLAYS: Plays = Plays {
+    words: &STORE_BUFFERING_FENCED,
+    harts: 2,
+    ways: 2,
+    plays: &[
+        // The next instruction is the fence, which stalls.
+        (&[STEP_0], Err(RealiseError::Unrealised(0))),
+        (
+            &[DRAIN_X, STEP_0, DRAIN_Y_1, STEP_1],
+            Ok(&[(0, None), (1, None)]),
+        ),
+    ],
+};
 
 #[test]
 fn fenced_load_waits_for_the_drain(rt: HostRuntime) -> Result<(), Fail> {
     all_come_so(&rt, &FENCED_PLAYS)
 }
 
-const FLAG_DRAINS: FlatEvent = FlatEvent::Drain {
-    hart: 0,
-    word: BEHIND_X,
+const MESSAGE_PLAYS: Plays = Plays {
+    words: &MESSAGE_PASSING,
+    harts: 2,
+    ways: 2,
+    plays: &[
+        (
+            &[DRAIN_BEHIND_X, STEP_1, STEP_1],
+            Ok(&[(0, None), (0, Some(0))]),
+        ),
+        (
+            &[DRAIN_X, DRAIN_BEHIND_X, STEP_1, STEP_1],
+            Ok(&[(0, None), (0, Some(42))]),
+        ),
+    ],
 };
-
-const MESSAGE_PLAYS: [Play; 2] = [
-    Play {
-        words: &MESSAGE_PASSING,
-        harts: 2,
-        ways: 2,
-        steps: &[FLAG_DRAINS, STEP_1, STEP_1],
-        ends: Ok(&[(0, None), (0, Some(0))]),
-    },
-    Play {
-        words: &MESSAGE_PASSING,
-        harts: 2,
-        ways: 2,
-        steps: &[DRAIN_X, FLAG_DRAINS, STEP_1, STEP_1],
-        ends: Ok(&[(0, None), (0, Some(42))]),
-    },
-];
 
 #[test]
 fn flag_may_be_seen_before_the_message(rt: HostRuntime) -> Result<(), Fail> {
@@ -193,29 +185,25 @@ fn flag_may_be_seen_before_the_message(rt: HostRuntime) -> Result<(), Fail> {
 }
 
 // Hart 1 finds the lock taken, and takes it once hart 0 has given it back.
-const LOCKED: [Play; 1] = [Play {
+const LOCKED: Plays = Plays {
     words: &SPIN_LOCK,
     harts: 2,
     ways: 1,
-    steps: &[
-        STEP_0,
-        STEP_1,
-        STEP_0,
-        FlatEvent::Drain {
-            hart: 0,
-            word: BEHIND_X,
-        },
-        STEP_0,
-        STEP_1,
-        STEP_1,
-        FlatEvent::Drain {
-            hart: 1,
-            word: BEHIND_X,
-        },
-        STEP_1,
-    ],
-    ends: Ok(&[(0, Some(1)), (0, Some(2))]),
-}];
+    plays: &[(
+        &[
+            STEP_0,
+            STEP_1,
+            STEP_0,
+            DRAIN_BEHIND_X,
+            STEP_0,
+            STEP_1,
+            STEP_1,
+            DRAIN_BEHIND_X_1,
+            STEP_1,
+        ],
+        Ok(&[(0, Some(1)), (0, Some(2))]),
+    )],
+};
 
 #[test]
 fn spin_lock_lets_one_in_after_the_other(rt: HostRuntime) -> Result<(), Fail> {
@@ -224,95 +212,87 @@ fn spin_lock_lets_one_in_after_the_other(rt: HostRuntime) -> Result<(), Fail> {
 
 // Both load the other's flag, and then the counter, before anything drains. The store that lowers the own flag joins
 // the one that raised it.
-const BOTH_INSIDE: [Play; 1] = [Play {
+const BOTH_INSIDE: Plays = Plays {
     words: &DEKKER,
     harts: 2,
     ways: 2,
-    steps: &[STEP_0, STEP_1, STEP_0, STEP_0, STEP_1, STEP_1],
-    ends: Ok(&[(0, Some(1)), (0, Some(1))]),
-}];
+    plays: &[(
+        &[STEP_0, STEP_1, STEP_0, STEP_0, STEP_1, STEP_1],
+        Ok(&[(0, Some(1)), (0, Some(1))]),
+    )],
+};
 
 #[test]
 fn both_are_inside_at_once(rt: HostRuntime) -> Result<(), Fail> {
     all_come_so(&rt, &BOTH_INSIDE)
 }
 
-const RESERVED_PLAYS: [Play; 2] = [
-    Play {
-        words: &RESERVED,
-        harts: 1,
-        ways: 2,
-        steps: &[STEP_0, STEP_0],
-        ends: Ok(&[(0, None)]),
-    },
-    Play {
-        words: &RESERVED,
-        harts: 1,
-        ways: 2,
-        steps: &[STEP_0, FlatEvent::Fail { hart: 0 }],
-        ends: Ok(&[(1, None)]),
-    },
-];
+const RESERVED_PLAYS: Plays = Plays {
+    words: &RESERVED,
+    harts: 1,
+    ways: 2,
+    plays: &[
+        (&[STEP_0, STEP_0], Ok(&[(0, None)])),
+        (&[STEP_0, FlatEvent::Fail { hart: 0 }], Ok(&[(1, None)])),
+    ],
+};
 
 #[test]
 fn store_conditional_may_fail(rt: HostRuntime) -> Result<(), Fail> {
     all_come_so(&rt, &RESERVED_PLAYS)
 }
 
-const RIVAL_PLAYS: [Play; 2] = [
-    // The load of the rival line gives up the reserved one, and the store conditional is quiet.
-    Play {
-        words: &RIVALS,
-        harts: 1,
-        ways: 1,
-        steps: &[STEP_0, STEP_0, STEP_0],
-        ends: Ok(&[(1, None)]),
-    },
-    // The second load gives up the first load's line.
-    Play {
-        words: &RIVALS,
-        harts: 1,
-        ways: 2,
-        steps: &[STEP_0, STEP_0, STEP_0, STEP_0],
-        ends: Ok(&[(0, None)]),
-    },
-];
+const RIVAL_OF_ONE_WAY: Plays = Plays {
+    words: &RIVALS,
+    harts: 1,
+    ways: 1,
+    plays: &[
+        // The load of the rival line gives up the reserved one, and the store conditional is quiet.
+        (&[STEP_0, STEP_0, STEP_0], Ok(&[(1, None)])),
+    ],
+};
+
+const RIVALS_OF_TWO_WAYS: Plays = Plays {
+    words: &RIVALS,
+    harts: 1,
+    ways: 2,
+    plays: &[
+        // The second load gives up the first load's line.
+        (&[STEP_0, STEP_0, STEP_0, STEP_0], Ok(&[(0, None)])),
+    ],
+};
 
 #[test]
 fn rival_line_ends_a_reservation_in_one_way(rt: HostRuntime) -> Result<(), Fail> {
-    all_come_so(&rt, &RIVAL_PLAYS)
+    all_come_so(&rt, &RIVAL_OF_ONE_WAY)?;
+    all_come_so(&rt, &RIVALS_OF_TWO_WAYS)
 }
 
-const BACK_AND_FORTH: [Play; 1] = [Play {
+const BACK_AND_FORTH: Plays = Plays {
     words: &TWO_LINES,
     harts: 1,
     ways: 1,
-    steps: &[DRAIN_X, FlatEvent::Drain { hart: 0, word: Y }, STEP_0],
-    ends: Ok(&[(5, None)]),
-}];
+    plays: &[(&[DRAIN_X, DRAIN_Y, STEP_0], Ok(&[(5, None)]))],
+};
 
 #[test]
 fn dirty_line_comes_back(rt: HostRuntime) -> Result<(), Fail> {
     all_come_so(&rt, &BACK_AND_FORTH)
 }
 
-const TWICE_PLAYS: [Play; 2] = [
-    Play {
-        words: &TWICE,
-        harts: 1,
-        ways: 2,
-        steps: &[DRAIN_X, DRAIN_X],
-        ends: Ok(&[(0, None)]),
-    },
-    // The second store joins the first one's entry, which drains once.
-    Play {
-        words: &TWICE,
-        harts: 1,
-        ways: 2,
-        steps: &[STEP_0, DRAIN_X, DRAIN_X],
-        ends: Err(RealiseError::Unrealised(2)),
-    },
-];
+const TWICE_PLAYS: Plays = Plays {
+    words: &TWICE,
+    harts: 1,
+    ways: 2,
+    plays: &[
+        (&[DRAIN_X, DRAIN_X], Ok(&[(0, None)])),
+        // The second store joins the first one's entry, which drains once.
+        (
+            &[STEP_0, DRAIN_X, DRAIN_X],
+            Err(RealiseError::Unrealised(2)),
+        ),
+    ],
+};
 
 #[test]
 fn second_store_to_a_word_is_no_quiet_step(rt: HostRuntime) -> Result<(), Fail> {
@@ -339,6 +319,12 @@ fn probed(alloc: Global, events: &[Event]) -> Result<Vec<u8>, AllocError> {
     Ok(harts)
 }
 
+fn are_probed(rt: &(impl Abort + AllocGlobal), events: &[Event], harts: &[u8]) -> Result<(), Fail> {
+    let probed = probed(rt.alloc(), events)?;
+    same(rt, probed.as_slice(), harts);
+    Ok(())
+}
+
 #[test]
 fn drain_probes_both_readers(rt: HostRuntime) -> Result<(), Fail> {
     let steps = [STEP_1, STEP_2, DRAIN_X, STEP_1, STEP_2];
@@ -346,73 +332,52 @@ fn drain_probes_both_readers(rt: HostRuntime) -> Result<(), Fail> {
     let ends = [(0, None), (7, None), (7, None)];
     same(&rt, are_ends(&schedule.results, &ends), true);
     // The drain takes the line from harts 1 and 2, and the load of hart 1 makes hart 0 share it.
-    let harts = probed(rt.alloc(), &schedule.events)?;
-    same(&rt, harts.as_slice(), &[1, 2, 0]);
-    Ok(())
+    are_probed(&rt, &schedule.events, &[1, 2, 0])
 }
 
-const COUNTED: [Play; 1] = [Play {
+const COUNTED: Plays = Plays {
     words: &COUNT,
     harts: 2,
     ways: 1,
-    steps: &[STEP_1, STEP_0],
-    ends: Ok(&[(1, Some(1)), (0, Some(0))]),
-}];
+    plays: &[(&[STEP_1, STEP_0], Ok(&[(1, Some(1)), (0, Some(0))]))],
+};
 
 #[test]
 fn numbers_put_out_are_told(rt: HostRuntime) -> Result<(), Fail> {
     all_come_so(&rt, &COUNTED)
 }
 
-const IMPOSSIBLE: [Play; 6] = [
-    Play {
-        words: &RESERVED,
-        harts: 1,
-        ways: 2,
-        steps: &[DRAIN_X],
-        ends: Err(RealiseError::Unrealised(0)),
-    },
-    Play {
-        words: &RESERVED,
-        harts: 1,
-        ways: 2,
-        steps: &[FlatEvent::Fail { hart: 0 }],
-        ends: Err(RealiseError::Unrealised(0)),
-    },
-    Play {
-        words: &RESERVED,
-        harts: 1,
-        ways: 2,
-        steps: &[STEP_1],
-        ends: Err(RealiseError::Unrealised(0)),
-    },
-    Play {
-        words: &RESERVED,
-        harts: 1,
-        ways: 2,
-        steps: &[FlatEvent::Fail { hart: 1 }],
-        ends: Err(RealiseError::Unrealised(0)),
-    },
-    // The hart has exited behind the second step.
-    Play {
-        words: &RESERVED,
-        harts: 1,
-        ways: 2,
-        steps: &[STEP_0, STEP_0, STEP_0],
-        ends: Err(RealiseError::Unrealised(2)),
-    },
-    Play {
-        words: &RESERVED,
-        harts: 0,
-        ways: 2,
-        steps: &[STEP_0, STEP_0, STEP_0],
-        ends: Err(RealiseError::Config),
-    },
-];
+const IMPOSSIBLE: Plays = Plays {
+    words: &RESERVED,
+    harts: 1,
+    ways: 2,
+    plays: &[
+        (&[DRAIN_X], Err(RealiseError::Unrealised(0))),
+        (
+            &[FlatEvent::Fail { hart: 0 }],
+            Err(RealiseError::Unrealised(0)),
+        ),
+        (&[STEP_1], Err(RealiseError::Unrealised(0))),
+        (
+            &[FlatEvent::Fail { hart: 1 }],
+            Err(RealiseError::Unrealised(0)),
+        ),
+        // The hart has exited behind the second step.
+        (&[STEP_0, STEP_0, STEP_0], Err(RealiseError::Unrealised(2))),
+    ],
+};
+
+const NO_HARTS: Plays = Plays {
+    words: &RESERVED,
+    harts: 0,
+    ways: 2,
+    plays: &[(&[STEP_0, STEP_0, STEP_0], Err(RealiseError::Config))],
+};
 
 #[test]
 fn what_cannot_happen_is_told(rt: HostRuntime) -> Result<(), Fail> {
-    all_come_so(&rt, &IMPOSSIBLE)
+    all_come_so(&rt, &IMPOSSIBLE)?;
+    all_come_so(&rt, &NO_HARTS)
 }
 
 fn sampled(
@@ -435,9 +400,18 @@ fn has_counted(schedule: &Schedule) -> bool {
 /// The sample ends as it may, and the same seed gives it again.
 fn ends_as_it_may(rt: &(impl Abort + AllocGlobal), ways: u32, seed: u64) -> Result<(), Fail> {
     let schedule = sampled(rt.alloc(), &COUNT, ways, seed, 100_000)?;
-    let again = sampled(rt.alloc(), &COUNT, ways, seed, 100_000)?;
-    same(rt, schedule.events.as_slice(), again.events.as_slice());
     same_of(rt, has_counted(&schedule), true, &seed);
+    is_given_again(rt, ways, seed, &schedule.events)
+}
+
+fn is_given_again(
+    rt: &(impl Abort + AllocGlobal),
+    ways: u32,
+    seed: u64,
+    events: &[Event],
+) -> Result<(), Fail> {
+    let again = sampled(rt.alloc(), &COUNT, ways, seed, 100_000)?;
+    same(rt, events, again.events.as_slice());
     Ok(())
 }
 

@@ -34,6 +34,36 @@ struct Program {
     harts: u32,
 }
 
+const CIRCLING: Program = Program {
+    words: &CIRCLE,
+    harts: 2,
+};
+
+const RESERVING: Program = Program {
+    words: &RESERVED,
+    ..STORING
+};
+
+const BUFFERING: Program = Program {
+    words: &STORE_BUFFERING,
+    ..CIRCLING
+};
+
+const STORING: Program = Program {
+    words: &TWICE,
+    harts: 1,
+};
+
+const LOCKING: Program = Program {
+    words: &DEKKER,
+    ..CIRCLING
+};
+
+const READING: Program = Program {
+    words: &READERS,
+    harts: 3,
+};
+
 /// No hart runs, and no store waits.
 #[derive(Clone, Copy)]
 struct Drained;
@@ -219,13 +249,18 @@ fn is_left(
     left: &[Event],
 ) -> Result<(), Fail> {
     let alloc = rt.alloc();
-    let program = Program {
-        words: &CIRCLE,
-        harts: 2,
-    };
     let harts = [result(alloc, statuses.0), result(alloc, statuses.1)];
-    let goal = HartResults { harts: &harts };
-    let short = shortened(alloc, program, &RUNNING, &goal, most_played)?;
+    is_left_for(rt, &harts, most_played, left)
+}
+
+fn is_left_for(
+    rt: &(impl Abort + AllocGlobal),
+    harts: &[HartResult],
+    most_played: u64,
+    left: &[Event],
+) -> Result<(), Fail> {
+    let goal = HartResults { harts };
+    let short = shortened(rt.alloc(), CIRCLING, &RUNNING, &goal, most_played)?;
     same(rt, short.as_slice(), left);
     Ok(())
 }
@@ -252,22 +287,14 @@ const RESERVES: [Event; 7] = [
 
 #[test]
 fn acknowledgement_is_left_out(rt: HostRuntime) -> Result<(), Fail> {
-    let program = Program {
-        words: &RESERVED,
-        harts: 1,
-    };
     let long = realised(rt.alloc(), &RESERVED, 1, &[STEP_0, STEP_0])?;
-    ends_by(&rt, program, &long, &RESERVES)
+    ends_by(&rt, RESERVING, &long, &RESERVES)
 }
 
 /// Each hart's private instructions, its store, its load that misses, the Acquire, the Grant, its load and its exit.
 #[test]
 fn both_loads_read_0_by_seven_events_a_hart(rt: HostRuntime) -> Result<(), Fail> {
-    let program = Program {
-        words: &STORE_BUFFERING,
-        harts: 2,
-    };
-    same(&rt, shortest(&rt, program, &[STEP_0, STEP_1])?, 14);
+    same(&rt, shortest(&rt, BUFFERING, &[STEP_0, STEP_1])?, 14);
     Ok(())
 }
 
@@ -285,31 +312,28 @@ const DRAINED: [Event; 8] = [
     DRAINS,
 ];
 
+/// What is left where no store may wait.
+fn drains_by(
+    rt: &(impl Abort + AllocGlobal),
+    events: &[Event],
+    left: &[Event],
+) -> Result<(), Fail> {
+    let short = shortened(rt.alloc(), STORING, events, &Drained, 1000)?;
+    same(rt, short.as_slice(), left);
+    Ok(())
+}
+
 #[test]
 fn a_drain_stays_where_no_store_may_wait(rt: HostRuntime) -> Result<(), Fail> {
-    let alloc = rt.alloc();
-    let program = Program {
-        words: &TWICE,
-        harts: 1,
-    };
-    let long = realised(alloc, &TWICE, 1, &[STEP_0, DRAIN_X])?;
-    let drained = shortened(alloc, program, &long.events, &Drained, 1000)?;
-    same(&rt, drained.as_slice(), &DRAINED);
-    ends_by(&rt, program, &long, &DRAINED[..4])
+    let long = realised(rt.alloc(), &TWICE, 1, &[STEP_0, DRAIN_X])?;
+    drains_by(&rt, &long.events, &DRAINED)?;
+    ends_by(&rt, STORING, &long, &DRAINED[..4])
 }
 
 #[test]
 fn no_event_is_left_that_is_not_needed(rt: HostRuntime) -> Result<(), Fail> {
-    let dekker = Program {
-        words: &DEKKER,
-        harts: 2,
-    };
-    let readers = Program {
-        words: &READERS,
-        harts: 3,
-    };
     let both_inside = [STEP_0, STEP_1, STEP_0, STEP_0, STEP_1, STEP_1];
-    let _left = shortest(&rt, dekker, &both_inside)?;
-    let _left = shortest(&rt, readers, &[STEP_1, STEP_2, DRAIN_X, STEP_1, STEP_2])?;
+    let _left = shortest(&rt, LOCKING, &both_inside)?;
+    let _left = shortest(&rt, READING, &[STEP_1, STEP_2, DRAIN_X, STEP_1, STEP_2])?;
     Ok(())
 }
