@@ -1,7 +1,5 @@
 use crate::same::same;
-use std::alloc::Global;
 use std::process::Abort;
-use std::test::Fail;
 use store_buffer::*;
 
 const X: u32 = 0x8000_0100;
@@ -69,11 +67,15 @@ fn put(buffer: &mut StoreBuffer, way: Way, store: Entering) -> Result<(), PutErr
     }
 }
 
-fn fill(buffer: &mut StoreBuffer, way: Way) -> Result<(), PutError> {
+/// A store that finds room.
+fn puts(rt: &impl Abort, buffer: &mut StoreBuffer, way: Way, store: Entering) {
+    put(buffer, way, store).expect(rt, "room");
+}
+
+fn fill(rt: &impl Abort, buffer: &mut StoreBuffer, way: Way) {
     for index in 0..8u32 {
-        put(buffer, way, whole(X + 4 * index, 1, 2 + index))?;
+        puts(rt, buffer, way, whole(X + 4 * index, 1, 2 + index));
     }
-    Ok(())
 }
 
 fn drains(rt: &impl Abort, buffer: &mut StoreBuffer, word: u32, value: u32, stores: &[u32]) {
@@ -111,22 +113,25 @@ fn finds_no_room(rt: &impl Abort, buffer: &mut StoreBuffer, store: Entering) {
     same(rt, put(buffer, Way::Joining, store), Err(PutError::Full));
 }
 
-fn answers(rt: &impl Abort, buffer: &mut StoreBuffer, call: Call) -> Result<(), PutError> {
+fn finds_no_room_singly(rt: &impl Abort, buffer: &mut StoreBuffer, store: Entering) {
+    same(rt, put(buffer, Way::Singly, store), Err(PutError::Full));
+}
+
+fn answers(rt: &impl Abort, buffer: &mut StoreBuffer, call: Call) {
     match call {
         Call::Stores(word, value, place) => {
-            return put(buffer, Way::Joining, whole(word, value, place));
+            puts(rt, buffer, Way::Joining, whole(word, value, place));
         }
-        Call::StoresPart(store) => return put(buffer, Way::Joining, store),
+        Call::StoresPart(store) => puts(rt, buffer, Way::Joining, store),
         Call::StoresSingly(word, value, place) => {
-            return put(buffer, Way::Singly, whole(word, value, place));
+            puts(rt, buffer, Way::Singly, whole(word, value, place));
         }
-        Call::Fills(way) => return fill(buffer, way),
+        Call::Fills(way) => fill(rt, buffer, way),
         Call::FindsNoRoom(word, value, place) => {
             finds_no_room(rt, buffer, whole(word, value, place));
         }
         Call::FindsNoRoomSingly(word, value, place) => {
-            let answer = put(buffer, Way::Singly, whole(word, value, place));
-            same(rt, answer, Err(PutError::Full));
+            finds_no_room_singly(rt, buffer, whole(word, value, place));
         }
         Call::Seals => buffer.seal(),
         Call::Drains(word, value, stores) => drains(rt, buffer, word, value, stores),
@@ -136,15 +141,16 @@ fn answers(rt: &impl Abort, buffer: &mut StoreBuffer, call: Call) -> Result<(), 
         Call::Holds(sealed, groups, entries) => holds(rt, buffer, sealed, groups, entries),
         Call::Lowest(word) => same(rt, buffer.lowest(), word),
     }
-    Ok(())
 }
 
-fn play(rt: &impl Abort, alloc: Global, calls: &[Call]) -> Result<(), Fail> {
-    let mut buffer = StoreBuffer::new(alloc);
+fn answers_all(rt: &impl Abort, buffer: &mut StoreBuffer, calls: &[Call]) {
     for call in calls {
-        answers(rt, &mut buffer, *call)?;
+        answers(rt, buffer, *call);
     }
-    Ok(())
+}
+
+fn play(rt: &(impl Abort + AllocGlobal), calls: &[Call]) {
+    answers_all(rt, &mut StoreBuffer::new(rt.alloc()), calls);
 }
 
 /// Stores wait by word, and a fence's two sides apart: each store performs with its own group.
@@ -273,26 +279,27 @@ const ROWS: [&[Call]; 9] = [
 ];
 
 #[test]
-fn rows_and_groups(rt: HostRuntime) -> Result<(), Fail> {
+fn rows_and_groups(rt: HostRuntime) {
     for calls in &ROWS {
-        play(&rt, rt.alloc(), calls)?;
+        play(&rt, calls);
     }
-    Ok(())
+}
+
+fn lends_groups(rt: &impl Abort, buffer: &mut StoreBuffer) {
+    puts(rt, buffer, Way::Joining, whole(X, 1, 0));
+    assert!(rt; buffer.drainable(X));
+    same(rt, buffer.entry(X).mask.marks(), WHOLE);
+    buffer.seal();
+    same(rt, buffer.oldest().len(), 1);
+    same(rt, buffer.current().len(), 0);
+    assert!(rt; buffer.group_count() == 2);
+    same(rt, buffer.group(0).len(), 1);
 }
 
 /// The groups that a buffer lends, the oldest first.
 #[test]
-fn lent_groups(rt: HostRuntime) -> Result<(), Fail> {
-    let mut buffer = StoreBuffer::new(rt.alloc());
-    put(&mut buffer, Way::Joining, whole(X, 1, 0))?;
-    assert!(rt; buffer.drainable(X));
-    same(&rt, buffer.entry(X).mask.marks(), WHOLE);
-    buffer.seal();
-    same(&rt, buffer.oldest().len(), 1);
-    same(&rt, buffer.current().len(), 0);
-    assert!(rt; buffer.group_count() == 2);
-    same(&rt, buffer.group(0).len(), 1);
-    Ok(())
+fn lent_groups(rt: HostRuntime) {
+    lends_groups(&rt, &mut StoreBuffer::new(rt.alloc()));
 }
 
 /// The numbers that a refused put is known by.
@@ -302,20 +309,23 @@ fn put_errors_have_their_numbers(rt: HostRuntime) {
     same(&rt, PutError::NoMemory as u8, 2);
 }
 
+fn keeps_places(rt: &(impl Abort + AllocGlobal)) {
+    let mut ops = Ops::from_vec(vec![in rt.alloc(); 3].expect(rt, "a list"));
+    ops.push(7).expect(rt, "a place");
+    same(rt, ops.len(), 2);
+    same(rt, ops.into_vec().as_slice(), [3, 7].as_slice());
+}
+
 #[test]
-fn masks_and_ops(rt: HostRuntime) -> Result<(), Fail> {
+fn masks_and_ops(rt: HostRuntime) {
     let mask = ByteMask::from_marks([true, false, false, true]);
     let all = mask.union(ByteMask::of_access(1, 2));
     same(&rt, all.marks(), WHOLE);
     assert!(rt; !ByteMask::none().covers(mask));
-    let mut ops = Ops::from_vec(vec![in rt.alloc(); 3]?);
-    ops.push(7)?;
-    same(&rt, ops.len(), 2);
-    same(&rt, ops.into_vec().as_slice(), [3, 7].as_slice());
+    keeps_places(&rt);
     group_of_stores();
     buffer_of_stores();
     single_groups_stay();
-    Ok(())
 }
 
 fn word_of(buffer: &StoreBuffer, word: u32) -> u32 {
@@ -347,18 +357,20 @@ fn asks_twice(rt: &impl Abort, buffer: &mut StoreBuffer, way: Way, store: Enteri
     let before = seen(buffer);
     if put(buffer, way, store).is_err() {
         same(rt, seen(buffer), before);
-        same(rt, put(buffer, way, store), Ok(()));
+        puts(rt, buffer, way, store);
     }
 }
 
-fn copies(rt: &impl Abort, buffer: &StoreBuffer) {
-    let before = seen(buffer);
-    let copy = match buffer.try_copy() {
+fn copied(rt: &impl Abort, buffer: &StoreBuffer) -> StoreBuffer {
+    match buffer.try_copy() {
         Ok(copy) => copy,
         Err(_) => buffer.try_copy().expect(rt, "a second copy"),
-    };
-    same(rt, seen(&copy), before);
-    holds(rt, &copy, true, 4, 5);
+    }
+}
+
+fn is_copy(rt: &impl Abort, buffer: &StoreBuffer, copy: &StoreBuffer) {
+    same(rt, seen(copy), seen(buffer));
+    holds(rt, copy, true, 4, 5);
 }
 
 /// Stores by how they enter, their word, and their place, which is also their value.
@@ -385,25 +397,31 @@ fn grows(rt: &impl Abort, buffer: &mut StoreBuffer, stores: &[(Way, u32, u32)]) 
     }
 }
 
+fn grows_and_is_copied(rt: &impl Abort, buffer: &mut StoreBuffer) {
+    grows(rt, buffer, &GROWTH);
+    buffer.seal();
+    grows(rt, buffer, &SEALED_GROWTH);
+    is_copy(rt, buffer, &copied(rt, buffer));
+}
+
 /// Meant for runs in which one allocation fails.
 #[test]
 fn a_refused_growth_changes_nothing(rt: HostRuntime) {
-    let mut buffer = StoreBuffer::new(rt.alloc());
-    grows(&rt, &mut buffer, &GROWTH);
-    buffer.seal();
-    grows(&rt, &mut buffer, &SEALED_GROWTH);
-    copies(&rt, &buffer);
+    grows_and_is_copied(&rt, &mut StoreBuffer::new(rt.alloc()));
+}
+
+fn keeps_one_list(rt: &impl Abort, buffer: &mut StoreBuffer) {
+    asks_twice(rt, buffer, Way::Joining, whole(X, 1, 1));
+    for place in 2..50u32 {
+        keeps_its_list(rt, buffer, place);
+    }
+    drains(rt, buffer, X, 49, &[49]);
 }
 
 /// Meant for runs in which one allocation fails: an entry takes no memory where the buffer kept a list.
 #[test]
 fn a_kept_list_serves_the_next_entry(rt: HostRuntime) {
-    let mut buffer = StoreBuffer::new(rt.alloc());
-    asks_twice(&rt, &mut buffer, Way::Joining, whole(X, 1, 1));
-    for place in 2..50u32 {
-        keeps_its_list(&rt, &mut buffer, place);
-    }
-    drains(&rt, &mut buffer, X, 49, &[49]);
+    keeps_one_list(&rt, &mut StoreBuffer::new(rt.alloc()));
 }
 
 /// The word's entry leaves, and its list serves the entry of another store.
@@ -411,9 +429,5 @@ fn keeps_its_list(rt: &impl Abort, buffer: &mut StoreBuffer, place: u32) {
     assert!(rt; buffer.drainable(X));
     let Entry { ops, .. } = buffer.take(X);
     buffer.keep(ops);
-    same(
-        rt,
-        put(buffer, Way::Joining, whole(X, place, place)),
-        Ok(()),
-    );
+    puts(rt, buffer, Way::Joining, whole(X, place, place));
 }

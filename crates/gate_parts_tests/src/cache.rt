@@ -5,9 +5,7 @@ mod sets;
 
 use crate::same::{same, same_of};
 use client_cache::{ClientCache, Evict, Held, Probed, Want};
-use std::alloc::Global;
 use std::process::Abort;
-use std::test::Fail;
 use tl_types::{Cap, Change, Grow, LineData, LineSize, Perm};
 
 const X: u32 = 0x8000_0100;
@@ -115,11 +113,29 @@ fn play(rt: &impl Abort, cache: &mut ClientCache, calls: &[(Call, Answer)]) {
     }
 }
 
-/// Plays calls on a new cache of four sets by two ways.
-fn plays(rt: &impl Abort, alloc: Global, calls: &[(Call, Answer)]) -> Result<(), Fail> {
-    let mut cache = ClientCache::new(alloc, 4, 2, LineSize::Bytes16)?;
-    play(rt, &mut cache, calls);
-    Ok(())
+/// A cache's sets and ways, and the size of its lines.
+type Shape = (u32, u32, LineSize);
+
+const USUAL: Shape = (4, 2, LineSize::Bytes16);
+
+/// A new cache. One that was refused, in runs in which one allocation fails, is asked for again; no call can take
+/// memory.
+fn cache_of(rt: &(impl Abort + AllocGlobal), shape: Shape) -> ClientCache {
+    let (sets, ways, size) = shape;
+    assert!(rt; 0 < sets && sets <= 64);
+    assert!(rt; 0 < ways && ways <= 4);
+    match ClientCache::new(rt.alloc(), sets, ways, size) {
+        Ok(cache) => cache,
+        Err(_) => ClientCache::new(rt.alloc(), sets, ways, size).expect(rt, "a second cache"),
+    }
+}
+
+/// Plays calls, in parts, on a new cache.
+fn plays_on(rt: &(impl Abort + AllocGlobal), shape: Shape, parts: &[&[(Call, Answer)]]) {
+    let mut cache = cache_of(rt, shape);
+    for calls in parts {
+        play(rt, &mut cache, calls);
+    }
 }
 
 fn ask(rt: &impl Abort, cache: &mut ClientCache, call: Call) -> Answer {

@@ -1,8 +1,6 @@
 //! Queues in the order of sending, and how many messages each holds in the worked rows.
 use crate::same::{same, same_of};
-use std::alloc::Global;
 use std::process::Abort;
-use std::test::Fail;
 use tilelink_channels::{Queues, room};
 use tl_types::{Body, Cap, Change, Channel, Grow, LineData, Msg};
 
@@ -75,11 +73,18 @@ fn play(rt: &impl Abort, queues: &mut Queues, acts: &[Act]) {
     }
 }
 
+/// New queues. Those that were refused, in runs in which one allocation fails, are asked for again; no act can take
+/// memory.
+fn queues_of(rt: &(impl Abort + AllocGlobal)) -> Queues {
+    match Queues::new(rt.alloc()) {
+        Ok(queues) => queues,
+        Err(_) => Queues::new(rt.alloc()).expect(rt, "queues again"),
+    }
+}
+
 /// Plays the acts on new queues.
-fn plays(rt: &impl Abort, alloc: Global, acts: &[Act]) -> Result<(), Fail> {
-    let mut queues = Queues::new(alloc)?;
-    play(rt, &mut queues, acts);
-    Ok(())
+fn plays(rt: &(impl Abort + AllocGlobal), acts: &[Act]) {
+    play(rt, &mut queues_of(rt), acts);
 }
 
 #[test]
@@ -112,8 +117,8 @@ const FIRST_IN_FIRST_OUT: [Act; 14] = [
 ];
 
 #[test]
-fn first_in_first_out_on_each_channel_alone(rt: HostRuntime) -> Result<(), Fail> {
-    plays(&rt, rt.alloc(), &FIRST_IN_FIRST_OUT)
+fn first_in_first_out_on_each_channel_alone(rt: HostRuntime) {
+    plays(&rt, &FIRST_IN_FIRST_OUT);
 }
 
 const RELEASE: Body = Body::ReleaseData {
@@ -134,8 +139,8 @@ const ROW_10: [Act; 8] = [
 
 /// A Release passes a Probe of the other direction; the hart's answers stay in order.
 #[test]
-fn row_10(rt: HostRuntime) -> Result<(), Fail> {
-    plays(&rt, rt.alloc(), &ROW_10)
+fn row_10(rt: HostRuntime) {
+    plays(&rt, &ROW_10);
 }
 
 const ROW_22: [Act; 7] = [
@@ -150,8 +155,8 @@ const ROW_22: [Act; 7] = [
 
 /// E is full with 4 GrantAcks, and has room once one is taken.
 #[test]
-fn row_22(rt: HostRuntime) -> Result<(), Fail> {
-    plays(&rt, rt.alloc(), &ROW_22)
+fn row_22(rt: HostRuntime) {
+    plays(&rt, &ROW_22);
 }
 
 const ROW_45: [Act; 8] = [
@@ -167,8 +172,8 @@ const ROW_45: [Act; 8] = [
 
 /// Four Acquires are outstanding; the fifth goes once the first was taken.
 #[test]
-fn row_45(rt: HostRuntime) -> Result<(), Fail> {
-    plays(&rt, rt.alloc(), &ROW_45)
+fn row_45(rt: HostRuntime) {
+    plays(&rt, &ROW_45);
 }
 
 const ROW_46: [Act; 9] = [
@@ -185,8 +190,8 @@ const ROW_46: [Act; 9] = [
 
 /// Four Releases stand in C, and room is left there for an answer to each Probe.
 #[test]
-fn row_46(rt: HostRuntime) -> Result<(), Fail> {
-    plays(&rt, rt.alloc(), &ROW_46)
+fn row_46(rt: HostRuntime) {
+    plays(&rt, &ROW_46);
 }
 
 /// Seven messages go and come, of lines from this one on.
@@ -199,15 +204,18 @@ fn seven_go_round(rt: &impl Abort, queues: &mut Queues, line: u32) {
     }
 }
 
+/// Many messages go and come, more than any ring has room for.
+fn many_go_round(rt: &impl Abort, queues: &mut Queues) {
+    for round in 0..100u32 {
+        seven_go_round(rt, queues, 0x8000_0000 + 112 * round);
+    }
+    same(rt, queues.len(Channel::D), 0);
+}
+
 /// A ring goes round: each message comes out once, in order, long after the first room was used.
 #[test]
-fn long_use_keeps_the_order(rt: HostRuntime) -> Result<(), Fail> {
-    let mut queues = Queues::new(rt.alloc())?;
-    for round in 0..100u32 {
-        seven_go_round(&rt, &mut queues, 0x8000_0000 + 112 * round);
-    }
-    same(&rt, queues.len(Channel::D), 0);
-    Ok(())
+fn long_use_keeps_the_order(rt: HostRuntime) {
+    many_go_round(&rt, &mut queues_of(&rt));
 }
 
 /// A message of each channel.
@@ -232,13 +240,9 @@ fn all_room_is_used(rt: &impl Abort, queues: &mut Queues, body: Body) {
 
 /// Meant for runs in which one allocation fails: queues that were made take no more memory.
 #[test]
-fn memory_is_taken_at_making_alone(rt: HostRuntime) -> Result<(), Fail> {
-    let mut queues = match Queues::new(rt.alloc()) {
-        Ok(queues) => queues,
-        Err(_) => Queues::new(rt.alloc())?,
-    };
+fn memory_is_taken_at_making_alone(rt: HostRuntime) {
+    let mut queues = queues_of(&rt);
     for body in &BODIES {
         all_room_is_used(&rt, &mut queues, *body);
     }
-    Ok(())
 }

@@ -9,7 +9,7 @@ use crate::same::{same, same_of};
 use changed::{Answer, Answers, CUT, FILE, SUM, WITH_00, WITH_FF};
 use elf_loader::{BASE, Image, LoadError, load, raw, size_of_kib};
 use programs::Program;
-use std::alloc::{AllocError, Global};
+use std::alloc::Global;
 use std::process::Abort;
 use std::test::Fail;
 
@@ -36,44 +36,43 @@ const GOOD: Header = Header {
 /// What the tests vary of an entry of the program header table: p_offset, p_vaddr, p_filesz and p_memsz.
 type Segment = (u32, u32, u32, u32);
 
-fn push_halves(file: &mut Vec<u8>, fields: &[u16]) -> Result<(), AllocError> {
-    for field in fields {
-        file.extend_from_slice(&field.to_le_bytes())?;
-    }
-    Ok(())
+fn push(rt: &impl Abort, file: &mut Vec<u8>, bytes: &[u8]) {
+    file.extend_from_slice(bytes).expect(rt, "a file");
 }
 
-fn push_words(file: &mut Vec<u8>, fields: &[u32]) -> Result<(), AllocError> {
+fn push_halves(rt: &impl Abort, file: &mut Vec<u8>, fields: &[u16]) {
     for field in fields {
-        file.extend_from_slice(&field.to_le_bytes())?;
+        push(rt, file, &field.to_le_bytes());
     }
-    Ok(())
 }
 
-fn push_segment(file: &mut Vec<u8>, segment: Segment) -> Result<(), AllocError> {
+fn push_words(rt: &impl Abort, file: &mut Vec<u8>, fields: &[u32]) {
+    for field in fields {
+        push(rt, file, &field.to_le_bytes());
+    }
+}
+
+fn push_segment(rt: &impl Abort, file: &mut Vec<u8>, segment: Segment) {
     let (offset, address, file_size, memory_size) = segment;
-    push_words(
-        file,
-        &[1, offset, address, address, file_size, memory_size, 7, 4],
-    )
+    let fields = [1, offset, address, address, file_size, memory_size, 7, 4];
+    push_words(rt, file, &fields);
 }
 
-fn push_header(file: &mut Vec<u8>, header: &Header) -> Result<(), AllocError> {
-    push_halves(file, &[header.e_type, header.e_machine])?;
-    push_words(
-        file,
-        &[1, header.e_entry, header.e_phoff, 0, header.e_flags],
-    )?;
-    push_halves(file, &[52, 32, header.e_phnum, 0, 0, 0])
+fn push_header(rt: &impl Abort, file: &mut Vec<u8>, header: &Header) {
+    push_halves(rt, file, &[header.e_type, header.e_machine]);
+    let words = [1, header.e_entry, header.e_phoff, 0, header.e_flags];
+    push_words(rt, file, &words);
+    push_halves(rt, file, &[52, 32, header.e_phnum, 0, 0, 0]);
 }
 
-fn file_of(alloc: Global, header: &Header, table: &[Segment]) -> Result<Vec<u8>, AllocError> {
-    let mut file = b"\x7fELF\x01\x01\x01\0\0\0\0\0\0\0\0\0".to_vec(alloc)?;
-    push_header(&mut file, header)?;
+fn file_of(rt: &(impl Abort + AllocGlobal), header: &Header, table: &[Segment]) -> Vec<u8> {
+    let mut file = Vec::new(rt.alloc());
+    push(rt, &mut file, b"\x7fELF\x01\x01\x01\0\0\0\0\0\0\0\0\0");
+    push_header(rt, &mut file, header);
     for segment in table {
-        push_segment(&mut file, *segment)?;
+        push_segment(rt, &mut file, *segment);
     }
-    Ok(file)
+    file
 }
 
 /// The number of the fault, 0 for an image.
@@ -90,12 +89,11 @@ fn answer(alloc: Global, file: &[u8], size: u32) -> u8
 type Case = (&'static str, Header, &'static [Segment], u8);
 
 /// Compares the answers to files, each of which is told by its first words.
-fn compare_files(rt: &impl Abort, alloc: Global, cases: &[Case]) -> Result<(), Fail> {
+fn compare_files(rt: &(impl Abort + AllocGlobal), cases: &[Case]) {
     for (of, header, table, want) in cases {
-        let file = file_of(alloc, header, table)?;
-        same_of(rt, answer(alloc, &file, 4096), *want, of);
+        let file = file_of(rt, header, table);
+        same_of(rt, answer(rt.alloc(), &file, 4096), *want, of);
     }
-    Ok(())
 }
 
 /// The sum of the bytes, each times its place from 1, modulo 2^32.
@@ -132,9 +130,9 @@ const ROW_15: [Case; 3] = [
 ];
 
 #[test]
-fn row_15(rt: HostRuntime) -> Result<(), Fail> {
+fn row_15(rt: HostRuntime) {
     same(&rt, answer(rt.alloc(), &[0x7f; 51], 4096), 1);
-    compare_files(&rt, rt.alloc(), &ROW_15)
+    compare_files(&rt, &ROW_15);
 }
 
 const ROW_30: [Case; 3] = [
@@ -166,12 +164,12 @@ const ROW_30: [Case; 3] = [
 ];
 
 #[test]
-fn row_30(rt: HostRuntime) -> Result<(), Fail> {
-    let file = file_of(rt.alloc(), &GOOD, &[])?;
+fn row_30(rt: HostRuntime) {
+    let file = file_of(&rt, &GOOD, &[]);
     same(&rt, file.len(), 52);
-    let image = load(rt.alloc(), &file, 4096)?;
+    let image = load(rt.alloc(), &file, 4096).expect(&rt, "an image");
     same(&rt, (image.entry(), sum_of(&image)), (BASE, 0));
-    compare_files(&rt, rt.alloc(), &ROW_30)
+    compare_files(&rt, &ROW_30);
 }
 
 const ROW_40: [Case; 5] = [
@@ -223,8 +221,8 @@ const ROW_40: [Case; 5] = [
 ];
 
 #[test]
-fn row_40(rt: HostRuntime) -> Result<(), Fail> {
-    compare_files(&rt, rt.alloc(), &ROW_40)
+fn row_40(rt: HostRuntime) {
+    compare_files(&rt, &ROW_40);
 }
 
 /// A byte at the beginning of memory.
@@ -253,8 +251,8 @@ const ROW_40_SEGMENTS: [Case; 4] = [
 ];
 
 #[test]
-fn row_40_segments(rt: HostRuntime) -> Result<(), Fail> {
-    compare_files(&rt, rt.alloc(), &ROW_40_SEGMENTS)
+fn row_40_segments(rt: HostRuntime) {
+    compare_files(&rt, &ROW_40_SEGMENTS);
 }
 
 /// The answer to the file's first bytes, where it has so many.
@@ -288,22 +286,22 @@ struct Loaded<'a> {
     sum: u32,
 }
 
-/// The fault and the image's sum of the file with the byte at a place changed.
-fn changed_answer(
-    alloc: Global,
-    loaded: &Loaded<'_>,
-    value: u8,
-    place: usize,
-) -> Result<(u8, u32), AllocError>
-    requires { IsMemorySize loaded.now.size }
-{
-    let mut changed = loaded.file.to_vec(alloc)?;
+/// The file with the byte at a place changed.
+fn with_byte(rt: &(impl Abort + AllocGlobal), file: &[u8], value: u8, place: usize) -> Vec<u8> {
+    let mut changed = file.to_vec(rt.alloc()).expect(rt, "a copy");
     if let Some(byte) = changed.get_mut(place) {
         *byte = value;
     }
-    match load(alloc, &changed, loaded.size) {
-        Ok(image) => Ok((0, sum_of(&image))),
-        Err(fault) => Ok((fault.number(), 0)),
+    changed
+}
+
+/// The fault and the image's sum of a file.
+fn whole_answer(alloc: Global, file: &[u8], size: u32) -> (u8, u32)
+    requires { IsMemorySize size }
+{
+    match load(alloc, file, size) {
+        Ok(image) => (0, sum_of(&image)),
+        Err(fault) => (fault.number(), 0),
     }
 }
 
@@ -316,6 +314,21 @@ fn expected(loaded: &Loaded<'_>, answer: Answer) -> (u8, u32) {
     }
 }
 
+/// Compares the answer to the file with the byte at a place changed.
+fn compare_place(
+    rt: &(impl Abort + AllocGlobal),
+    loaded: &Loaded<'_>,
+    value: u8,
+    place: usize,
+    answer: Answer,
+)
+    requires { IsMemorySize loaded.now.size }
+{
+    let file = with_byte(rt, loaded.file, value, place);
+    let got = whole_answer(rt.alloc(), &file, loaded.size);
+    same_of(rt, got, expected(loaded, answer), &(value, place));
+}
+
 /// Compares the answers to the file with the byte changed at each place from this one on, and gives the place behind
 /// them.
 fn compare_places(
@@ -324,34 +337,27 @@ fn compare_places(
     value: u8,
     place: usize,
     wants: &[(usize, Answer)],
-) -> Result<usize, Fail>
+) -> usize
     requires { IsMemorySize loaded.now.size }
 {
     let mut place = place;
     for (count, answer) in wants {
         for _ in 0..*count {
-            let got = changed_answer(rt.alloc(), loaded, value, place)?;
-            same_of(rt, got, expected(loaded, *answer), &(value, place));
+            compare_place(rt, loaded, value, place, *answer);
             place = place.wrapping_add(1);
         }
     }
-    Ok(place)
+    place
 }
 
 /// Compares the answers to the file with the byte at each place of header and table changed.
-fn compare_changed(
-    rt: &(impl Abort + AllocGlobal),
-    loaded: &Loaded<'_>,
-    value: u8,
-    wants: Answers,
-) -> Result<(), Fail>
+fn compare_changed(rt: &(impl Abort + AllocGlobal), loaded: &Loaded<'_>, value: u8, wants: Answers)
     requires { IsMemorySize loaded.now.size }
 {
     let mut place = 0;
     for part in wants {
-        place = compare_places(rt, loaded, value, place, part)?;
+        place = compare_places(rt, loaded, value, place, part);
     }
-    Ok(())
 }
 
 /// What the small file is loaded to.
@@ -362,10 +368,10 @@ const SMALL: Loaded<'static> = Loaded {
 };
 
 #[test]
-fn a_small_file_cut_and_changed(rt: HostRuntime) -> Result<(), Fail> {
+fn a_small_file_cut_and_changed(rt: HostRuntime) {
     compare_cut(&rt, rt.alloc(), &FILE, 4096, &CUT);
-    compare_changed(&rt, &SMALL, 0x00, WITH_00)?;
-    compare_changed(&rt, &SMALL, 0xff, WITH_FF)
+    compare_changed(&rt, &SMALL, 0x00, WITH_00);
+    compare_changed(&rt, &SMALL, 0xff, WITH_FF);
 }
 
 /// The word at an address, where the image has one.
@@ -388,37 +394,29 @@ fn compare_words(rt: &impl Abort, image: &Image, words: &[u32]) {
 }
 
 /// The file's image has the program's words.
-fn compare_image(
-    rt: &(impl Abort + AllocGlobal),
-    file: &[u8],
-    program: &Program,
-) -> Result<(), Fail> {
-    let image = load(rt.alloc(), file, 8192)?;
+fn compare_image(rt: &(impl Abort + AllocGlobal), file: &[u8], program: &Program) {
+    let image = load(rt.alloc(), file, 8192).expect(rt, "an image");
     same(rt, image.entry(), 0x8000_0000);
     compare_words(rt, &image, program.words);
-    Ok(())
 }
 
 /// Loads a program's file, whole, cut and changed.
-fn compare_file(
-    rt: &(impl Abort + AllocGlobal),
-    file: &[u8],
-    program: &Program,
-) -> Result<(), Fail> {
-    compare_image(rt, file, program)?;
+fn compare_file(rt: &(impl Abort + AllocGlobal), file: &[u8], program: &Program) {
+    compare_image(rt, file, program);
     compare_cut(rt, rt.alloc(), file, 8192, program.cut);
     let loaded = Loaded {
         file,
         size: 8192,
         sum: program.sum,
     };
-    compare_changed(rt, &loaded, 0x00, program.with_00)?;
-    compare_changed(rt, &loaded, 0xff, program.with_ff)
+    compare_changed(rt, &loaded, 0x00, program.with_00);
+    compare_changed(rt, &loaded, 0xff, program.with_ff);
 }
 
 fn compare_program(rt: &(impl Abort + AllocGlobal), program: &Program) -> Result<(), Fail> {
     let file = program.file(rt.alloc())?;
-    compare_file(rt, &file, program)
+    compare_file(rt, &file, program);
+    Ok(())
 }
 
 #[test]
@@ -442,36 +440,41 @@ const EXIT_WORDS: [(u32, Option<u32>); 6] = [
     (0xffff_fffc, None),
 ];
 
-#[test]
-fn bare_words(rt: HostRuntime) -> Result<(), Fail> {
-    let image = raw(rt.alloc(), &EXIT, 4096)?;
-    same(&rt, (image.size(), image.entry()), (4096, 0x8000_0000));
+fn has_exit_words(rt: &impl Abort, image: &Image) {
+    same(rt, (image.size(), image.entry()), (4096, 0x8000_0000));
     for (address, want) in &EXIT_WORDS {
-        same_of(&rt, word_of(&image, *address), *want, address);
+        same_of(rt, word_of(image, *address), *want, address);
     }
-    let copy = image.try_copy(rt.alloc())?;
-    same(&rt, copy.bytes(), image.bytes());
-    same(&rt, copy.entry(), image.entry());
-    Ok(())
+}
+
+fn is_copy(rt: &impl Abort, image: &Image, copy: &Image) {
+    same(rt, copy.bytes(), image.bytes());
+    same(rt, copy.entry(), image.entry());
+}
+
+#[test]
+fn bare_words(rt: HostRuntime) {
+    let image = raw_again(&rt, rt.alloc(), &EXIT);
+    has_exit_words(&rt, &image);
+    is_copy(&rt, &image, &copy_again(&rt, rt.alloc(), &image));
 }
 
 /// The number of the fault of so many bytes in memory of 4 KiB, 0 for an image.
-fn raw_answer(alloc: Global, length: usize) -> Result<u8, AllocError> {
-    let bytes = vec![in alloc; 0u8; length]?;
-    match raw(alloc, &bytes, 4096) {
-        Ok(_) => Ok(0),
-        Err(fault) => Ok(fault.number()),
+fn raw_answer(rt: &(impl Abort + AllocGlobal), length: usize) -> u8 {
+    let bytes = vec![in rt.alloc(); 0u8; length].expect(rt, "bytes");
+    match raw(rt.alloc(), &bytes, 4096) {
+        Ok(_) => 0,
+        Err(fault) => fault.number(),
     }
 }
 
 const LENGTHS: [(usize, u8); 5] = [(0, 0), (3, 1), (4096, 0), (4100, 8), (4101, 1)];
 
 #[test]
-fn bare_words_are_whole_and_fit(rt: HostRuntime) -> Result<(), Fail> {
+fn bare_words_are_whole_and_fit(rt: HostRuntime) {
     for (length, want) in &LENGTHS {
-        same_of(&rt, raw_answer(rt.alloc(), *length)?, *want, length);
+        same_of(&rt, raw_answer(&rt, *length), *want, length);
     }
-    Ok(())
 }
 
 /// The file's image. It may be refused for want of memory alone, and not when asked for again.
@@ -503,14 +506,19 @@ fn copy_again(rt: &impl Abort, alloc: Global, image: &Image) -> Image {
     }
 }
 
+/// The file loads, and its image is copied.
+fn is_loaded_and_copied(rt: &(impl Abort + AllocGlobal)) {
+    let image = load_again(rt, rt.alloc(), &FILE);
+    same(rt, sum_of(&image), SUM);
+    let copy = copy_again(rt, rt.alloc(), &image);
+    same(rt, sum_of(&image), SUM);
+    same(rt, copy.bytes(), image.bytes());
+}
+
 /// Meant for runs in which one allocation fails: the answer is NoMemory, and the call succeeds when asked again.
 #[test]
 fn a_refused_allocation_is_no_memory(rt: HostRuntime) {
-    let image = load_again(&rt, rt.alloc(), &FILE);
-    same(&rt, sum_of(&image), SUM);
-    let copy = copy_again(&rt, rt.alloc(), &image);
-    same(&rt, sum_of(&image), SUM);
-    same(&rt, copy.bytes(), image.bytes());
+    is_loaded_and_copied(&rt);
     let words = raw_again(&rt, rt.alloc(), &[1, 0, 0, 0]);
     same(&rt, sum_of(&words), 1);
 }
@@ -545,11 +553,14 @@ const FAULTS: [(LoadError, u8, &str); 11] = [
     (LoadError::NoMemory, 11, "NoMemory"),
 ];
 
+fn is_named(rt: &(impl Abort + AllocGlobal), fault: LoadError, number: u8, name: &str) {
+    let printed = fault.to_string(rt.alloc()).expect(rt, "a name");
+    same(rt, (fault.number(), printed.as_str()), (number, name));
+}
+
 #[test]
-fn names_of_faults(rt: HostRuntime) -> Result<(), Fail> {
+fn names_of_faults(rt: HostRuntime) {
     for (fault, number, name) in &FAULTS {
-        let printed = fault.to_string(rt.alloc())?;
-        same(&rt, (fault.number(), printed.as_str()), (*number, *name));
+        is_named(&rt, *fault, *number, name);
     }
-    Ok(())
 }

@@ -2,9 +2,8 @@
 
 use crate::same::{same, same_of};
 use elf_symbols::{Place, Symbols};
-use std::alloc::{AllocError, Global};
+use std::alloc::AllocError;
 use std::process::Abort;
-use std::test::Fail;
 
 /// Two functions, two labels, an object and an absolute constant.
 const FILE: &[u8] =
@@ -48,9 +47,9 @@ fn is_nameless(symbols: &Symbols, address: u32) -> bool {
     symbols.nearest(address).is_none()
 }
 
-/// The names that a file has with these bytes at this place.
-fn changed(alloc: Global, at: usize, bytes: &[u8]) -> Result<Symbols, AllocError> {
-    let mut file = FILE.to_vec(alloc)?;
+/// The file with these bytes at this place.
+fn changed(rt: &(impl Abort + AllocGlobal), at: usize, bytes: &[u8]) -> Vec<u8> {
+    let mut file = FILE.to_vec(rt.alloc()).expect(rt, "a file");
     let mut at = at;
     for byte in bytes {
         if let Some(place) = file.get_mut(at) {
@@ -58,7 +57,20 @@ fn changed(alloc: Global, at: usize, bytes: &[u8]) -> Result<Symbols, AllocError
         }
         at = at.wrapping_add(1);
     }
-    Symbols::read(alloc, &file)
+    file
+}
+
+/// The names that a file has. Where one allocation fails, a second reading gives the same.
+fn read(rt: &(impl Abort + AllocGlobal), file: &[u8]) -> Symbols {
+    match Symbols::read(rt.alloc(), file) {
+        Ok(symbols) => symbols,
+        Err(AllocError) => Symbols::read(rt.alloc(), file).expect(rt, "a second reading"),
+    }
+}
+
+fn has_no_names(rt: &(impl Abort + AllocGlobal), file: &[u8], of: usize) {
+    let symbols = read(rt, file);
+    same_of(rt, is_nameless(&symbols, u32::MAX), true, &of);
 }
 
 /// Addresses, and the name and the distance that each is told by.
@@ -82,41 +94,36 @@ const ADDRESSES: [(&[u8], Option<u32>); 5] = [
     (b"", None),
 ];
 
-#[test]
-fn names_of_a_file(rt: HostRuntime) -> Result<(), Fail> {
-    let symbols = Symbols::read(rt.alloc(), FILE)?;
+fn tells_all(rt: &impl Abort, symbols: &Symbols) {
     for (address, name, offset) in &TOLD {
-        same_of(
-            &rt,
-            is_told(&symbols, *address, name, *offset),
-            true,
-            address,
-        );
+        let told = is_told(symbols, *address, name, *offset);
+        same_of(rt, told, true, address);
     }
-    same(&rt, is_nameless(&symbols, 0x7fff_ffff), true);
+    same(rt, is_nameless(symbols, 0x7fff_ffff), true);
     for (name, address) in &ADDRESSES {
-        same_of(&rt, symbols.address_of(name), *address, name);
+        same_of(rt, symbols.address_of(name), *address, name);
     }
-    Ok(())
 }
 
 #[test]
-fn no_names(rt: HostRuntime) -> Result<(), Fail> {
+fn names_of_a_file(rt: HostRuntime) {
+    tells_all(&rt, &read(&rt, FILE));
+}
+
+#[test]
+fn no_names(rt: HostRuntime) {
     let symbols = Symbols::new(rt.alloc());
     same(&rt, is_nameless(&symbols, u32::MAX), true);
     same(&rt, symbols.address_of(b"_start"), None);
-    Ok(())
 }
 
 /// A file that is cut anywhere gives its names or none: its table of sections stands last.
 #[test]
-fn cut_files(rt: HostRuntime) -> Result<(), Fail> {
+fn cut_files(rt: HostRuntime) {
     for length in 0..FILE.len() {
         let (front, _) = FILE.split_at(length);
-        let symbols = Symbols::read(rt.alloc(), front)?;
-        same_of(&rt, is_nameless(&symbols, u32::MAX), true, &length);
+        has_no_names(&rt, front, length);
     }
-    Ok(())
 }
 
 /// Where the header of the table of symbols stands.
@@ -141,12 +148,10 @@ const BROKEN: [(usize, &[u8]); 13] = [
 
 /// One field of the tables turned: no names.
 #[test]
-fn broken_tables(rt: HostRuntime) -> Result<(), Fail> {
+fn broken_tables(rt: HostRuntime) {
     for (at, bytes) in &BROKEN {
-        let symbols = changed(rt.alloc(), *at, bytes)?;
-        same_of(&rt, is_nameless(&symbols, u32::MAX), true, at);
+        has_no_names(&rt, &changed(&rt, *at, bytes), *at);
     }
-    Ok(())
 }
 
 /// Where `done`'s entry stands.
@@ -166,35 +171,46 @@ const UNTOLD: [(usize, &[u8]); 10] = [
     (STRINGS + 9, b"\xe9"),
 ];
 
+fn tells_loop_for_done(rt: &(impl Abort + AllocGlobal), file: &[u8], at: usize) {
+    let symbols = read(rt, file);
+    same_of(rt, is_told(&symbols, 0x8000_000c, b"loop", 8), true, &at);
+    same_of(rt, is_told(&symbols, 0x8000_0014, b"shared", 0), true, &at);
+}
+
 /// One field of `done`'s entry or name turned: it is told no more, and `loop` stands for its address.
 #[test]
-fn untold_names(rt: HostRuntime) -> Result<(), Fail> {
+fn untold_names(rt: HostRuntime) {
     for (at, bytes) in &UNTOLD {
-        let symbols = changed(rt.alloc(), *at, bytes)?;
-        same_of(&rt, is_told(&symbols, 0x8000_000c, b"loop", 8), true, at);
-        same_of(&rt, is_told(&symbols, 0x8000_0014, b"shared", 0), true, at);
+        tells_loop_for_done(&rt, &changed(&rt, *at, bytes), *at);
     }
-    Ok(())
+}
+
+/// The file tells an address by this name alone, and another name's address.
+fn tells_one(
+    rt: &(impl Abort + AllocGlobal),
+    file: &[u8],
+    told: (u32, &[u8]),
+    named: (&[u8], u32),
+) {
+    let symbols = read(rt, file);
+    same(rt, is_told(&symbols, told.0, told.1, 0), true);
+    same(rt, symbols.address_of(named.0), Some(named.1));
 }
 
 /// Of names of one address the last of the table is the nearest: a global one stands behind local ones.
 #[test]
-fn names_of_one_address(rt: HostRuntime) -> Result<(), Fail> {
-    let symbols = changed(rt.alloc(), ENTRIES + 3 * 16 + 4, b"\x14")?;
-    same(&rt, is_told(&symbols, 0x8000_0014, b"shared", 0), true);
-    same(&rt, symbols.address_of(b"alias"), Some(0x8000_0014));
-    let symbols = changed(rt.alloc(), ENTRIES + 2 * 16, b"\x01")?;
-    same(&rt, is_told(&symbols, 0x8000_000c, b"loop", 0), true);
-    same(&rt, symbols.address_of(b"loop"), Some(0x8000_0004));
-    Ok(())
+fn names_of_one_address(rt: HostRuntime) {
+    let file = changed(&rt, ENTRIES + 3 * 16 + 4, b"\x14");
+    let shared = (0x8000_0014, b"shared".as_slice());
+    tells_one(&rt, &file, shared, (b"alias", 0x8000_0014));
+    let file = changed(&rt, ENTRIES + 2 * 16, b"\x01");
+    let inner = (0x8000_000c, b"loop".as_slice());
+    tells_one(&rt, &file, inner, (b"loop", 0x8000_0004));
 }
 
-/// Where one allocation fails, a second reading gives the same.
+/// Meant for runs in which one allocation fails.
 #[test]
 fn refused_memory(rt: HostRuntime) {
-    let symbols = match Symbols::read(rt.alloc(), FILE) {
-        Ok(symbols) => symbols,
-        Err(AllocError) => Symbols::read(rt.alloc(), FILE).expect(&rt, "a second reading"),
-    };
+    let symbols = read(&rt, FILE);
     same(&rt, is_told(&symbols, 0x8000_0010, b"done", 4), true);
 }

@@ -38,16 +38,10 @@ fn coming_to(from: Start) -> &'static [(Call, Answer)] {
 }
 
 /// Plays the calls on a cache that has this of X.
-fn plays_from(
-    rt: &impl Abort,
-    alloc: Global,
-    from: Start,
-    calls: &[(Call, Answer)],
-) -> Result<(), Fail> {
-    let mut cache = ClientCache::new(alloc, 4, 2, LineSize::Bytes16)?;
+fn plays_from(rt: &(impl Abort + AllocGlobal), from: Start, calls: &[(Call, Answer)]) {
+    let mut cache = cache_of(rt, USUAL);
     play(rt, &mut cache, coming_to(from));
     play(rt, &mut cache, calls);
-    Ok(())
 }
 
 /// What the cache has before a Probe, the Probe, the change and the bytes that it answers, and what is left.
@@ -74,7 +68,7 @@ const PROBES: [(Start, Cap, Change, Option<LineData>, Option<Held>); 12] = [
 
 /// A Probe shrinks the copy, and takes the bytes of a dirty one.
 #[test]
-fn probes(rt: HostRuntime) -> Result<(), Fail> {
+fn probes(rt: HostRuntime) {
     for (from, cap, change, bytes, left) in &PROBES {
         let answer = Probed::Answered {
             change: *change,
@@ -84,9 +78,8 @@ fn probes(rt: HostRuntime) -> Result<(), Fail> {
             (Call::Probe(X, *cap), Answer::Probe(answer)),
             (Call::Copy(X), Answer::Copy(*left)),
         ];
-        plays_from(&rt, rt.alloc(), *from, &calls)?;
+        plays_from(&rt, *from, &calls);
     }
-    Ok(())
 }
 
 const BRANCH_TWO: Option<Held> = Some(Held::Branch(TWO));
@@ -114,16 +107,15 @@ const GRANTS: [(Start, Cap, Option<LineData>, Option<Held>); 12] = [
 
 /// A Grant installs its bytes clean; without bytes the copy's own stay.
 #[test]
-fn grants(rt: HostRuntime) -> Result<(), Fail> {
+fn grants(rt: HostRuntime) {
     for (from, cap, bytes, left) in &GRANTS {
         let calls = [
             (Call::Want(X, Grow::BtoT), UPGRADES),
             (Call::Grant(X, *cap, *bytes), Answer::Done),
             (Call::Copy(X), Answer::Copy(*left)),
         ];
-        plays_from(&rt, rt.alloc(), *from, &calls)?;
+        plays_from(&rt, *from, &calls);
     }
-    Ok(())
 }
 
 const NOTHING_TO_EVICT: [(Call, Answer); 3] = [
@@ -141,8 +133,8 @@ const EVICTIONS: [(Start, Answer); 3] = [
 
 /// An eviction hands the dirty bytes back, and a Probe then waits for the ReleaseAck.
 #[test]
-fn evictions(rt: HostRuntime) -> Result<(), Fail> {
-    plays_from(&rt, rt.alloc(), Start::Nothing, &NOTHING_TO_EVICT)?;
+fn evictions(rt: HostRuntime) {
+    plays_from(&rt, Start::Nothing, &NOTHING_TO_EVICT);
     for (from, answer) in &EVICTIONS {
         let calls = [
             (Call::Evict(X), *answer),
@@ -151,9 +143,8 @@ fn evictions(rt: HostRuntime) -> Result<(), Fail> {
             (Call::ReleaseAck(X), Answer::Done),
             (Call::Probe(X, Cap::ToN), NO_COPY),
         ];
-        plays_from(&rt, rt.alloc(), *from, &calls)?;
+        plays_from(&rt, *from, &calls);
     }
-    Ok(())
 }
 
 /// What the cache has before and after a ReleaseAck.
@@ -166,7 +157,7 @@ const RELEASE_ACKS: [(Start, Option<Held>); 4] = [
 
 /// A ReleaseAck leaves the copy and the outstanding Acquire as they are.
 #[test]
-fn release_acks(rt: HostRuntime) -> Result<(), Fail> {
+fn release_acks(rt: HostRuntime) {
     for (from, left) in &RELEASE_ACKS {
         let calls = [
             (Call::Want(X, Grow::BtoT), UPGRADES),
@@ -174,7 +165,6 @@ fn release_acks(rt: HostRuntime) -> Result<(), Fail> {
             (Call::Want(X, Grow::BtoT), Answer::Want(Want::WaitGrant)),
             (Call::Copy(X), Answer::Copy(*left)),
         ];
-        plays_from(&rt, rt.alloc(), *from, &calls)?;
+        plays_from(&rt, *from, &calls);
     }
-    Ok(())
 }

@@ -20,9 +20,9 @@ const ROW_10_SECOND: [(Call, Answer); 4] = [
 ];
 
 #[test]
-fn row_10(rt: HostRuntime) -> Result<(), Fail> {
-    plays(&rt, rt.alloc(), &ROW_10_FIRST)?;
-    plays(&rt, rt.alloc(), &ROW_10_SECOND)
+fn row_10(rt: HostRuntime) {
+    plays_on(&rt, USUAL, &[&ROW_10_FIRST]);
+    plays_on(&rt, USUAL, &[&ROW_10_SECOND]);
 }
 
 const ROW_11: [(Call, Answer); 5] = [
@@ -34,8 +34,8 @@ const ROW_11: [(Call, Answer); 5] = [
 ];
 
 #[test]
-fn row_11(rt: HostRuntime) -> Result<(), Fail> {
-    plays(&rt, rt.alloc(), &ROW_11)
+fn row_11(rt: HostRuntime) {
+    plays_on(&rt, USUAL, &[&ROW_11]);
 }
 
 /// The hart reads a line, and then upgrades it.
@@ -64,19 +64,11 @@ const ROW_12_SECOND: [(Call, Answer); 8] = [
     (Call::Copy(X), Answer::Copy(DIRTY_ONE)),
 ];
 
-/// Plays calls on a cache of four sets by two ways, whose hart has asked to upgrade the line.
-fn plays_upgrade(rt: &impl Abort, alloc: Global, calls: &[(Call, Answer)]) -> Result<(), Fail> {
-    let mut cache = ClientCache::new(alloc, 4, 2, LineSize::Bytes16)?;
-    play(rt, &mut cache, &UPGRADE_IS_ASKED);
-    play(rt, &mut cache, calls);
-    Ok(())
-}
-
 /// Both harts upgrade a shared line; the second one's copy is probed away while its Acquire waits.
 #[test]
-fn row_12_and_row_48(rt: HostRuntime) -> Result<(), Fail> {
-    plays_upgrade(&rt, rt.alloc(), &ROW_12_FIRST)?;
-    plays(&rt, rt.alloc(), &ROW_12_SECOND)
+fn row_12_and_row_48(rt: HostRuntime) {
+    plays_on(&rt, USUAL, &[&UPGRADE_IS_ASKED, &ROW_12_FIRST]);
+    plays_on(&rt, USUAL, &[&ROW_12_SECOND]);
 }
 
 const ROW_21: [(Call, Answer); 6] = [
@@ -89,11 +81,11 @@ const ROW_21: [(Call, Answer); 6] = [
 ];
 
 #[test]
-fn row_21(rt: HostRuntime) -> Result<(), Fail> {
-    let mut cache = ClientCache::new(rt.alloc(), 1, 1, LineSize::Bytes16)?;
-    play(&rt, &mut cache, &ROW_21);
-    Ok(())
+fn row_21(rt: HostRuntime) {
+    plays_on(&rt, (1, 1, LineSize::Bytes16), &[&ROW_21]);
 }
+
+const MANY_SETS: Shape = (64, 2, LineSize::Bytes16);
 
 const FIVE_ARE_TAKEN: [(Call, Answer); 10] = [
     (Call::Want(X, Grow::NtoB), MISSED_B),
@@ -121,11 +113,8 @@ const FOUR_ARE_GIVEN_UP: [(Call, Answer); 7] = [
 /// Five lines are taken one after the other, and row 46 goes on to give them up: four Releases may be
 /// unanswered.
 #[test]
-fn row_22_and_row_46(rt: HostRuntime) -> Result<(), Fail> {
-    let mut cache = ClientCache::new(rt.alloc(), 64, 2, LineSize::Bytes16)?;
-    play(&rt, &mut cache, &FIVE_ARE_TAKEN);
-    play(&rt, &mut cache, &FOUR_ARE_GIVEN_UP);
-    Ok(())
+fn row_22_and_row_46(rt: HostRuntime) {
+    plays_on(&rt, MANY_SETS, &[&FIVE_ARE_TAKEN, &FOUR_ARE_GIVEN_UP]);
 }
 
 const ROW_31: [(Call, Answer); 7] = [
@@ -140,8 +129,8 @@ const ROW_31: [(Call, Answer); 7] = [
 
 /// The dirty line is evicted while its Probe is on the way.
 #[test]
-fn row_31(rt: HostRuntime) -> Result<(), Fail> {
-    plays_upgrade(&rt, rt.alloc(), &ROW_31)
+fn row_31(rt: HostRuntime) {
+    plays_on(&rt, USUAL, &[&UPGRADE_IS_ASKED, &ROW_31]);
 }
 
 const ROW_45: [(Call, Answer); 9] = [
@@ -161,8 +150,6 @@ const ROW_45: [(Call, Answer); 9] = [
 
 /// Four Acquires may be outstanding.
 #[test]
-fn row_45(rt: HostRuntime) -> Result<(), Fail> {
-    let mut cache = ClientCache::new(rt.alloc(), 64, 2, LineSize::Bytes16)?;
-    play(&rt, &mut cache, &ROW_45);
-    Ok(())
+fn row_45(rt: HostRuntime) {
+    plays_on(&rt, MANY_SETS, &[&ROW_45]);
 }

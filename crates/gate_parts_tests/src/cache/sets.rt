@@ -27,8 +27,8 @@ const ACQUIRES_FILL_A_SET: [(Call, Answer); 9] = [
 
 /// A set is full of lines of which Acquires are outstanding, before any copy is there.
 #[test]
-fn acquires_fill_a_set(rt: HostRuntime) -> Result<(), Fail> {
-    plays(&rt, rt.alloc(), &ACQUIRES_FILL_A_SET)
+fn acquires_fill_a_set(rt: HostRuntime) {
+    plays_on(&rt, USUAL, &[&ACQUIRES_FILL_A_SET]);
 }
 
 const A_SLOT_WAITS: [(Call, Answer); 11] = [
@@ -50,10 +50,8 @@ const A_SLOT_WAITS: [(Call, Answer); 11] = [
 
 /// A line that is both held and being acquired counts once, and keeps its slot once a Probe took it.
 #[test]
-fn a_slot_waits_for_its_grant(rt: HostRuntime) -> Result<(), Fail> {
-    let mut cache = ClientCache::new(rt.alloc(), 1, 2, LineSize::Bytes16)?;
-    play(&rt, &mut cache, &A_SLOT_WAITS);
-    Ok(())
+fn a_slot_waits_for_its_grant(rt: HostRuntime) {
+    plays_on(&rt, (1, 2, LineSize::Bytes16), &[&A_SLOT_WAITS]);
 }
 
 const WIDE_ZERO: LineData = LineData::Bytes64([0; 64]);
@@ -82,10 +80,8 @@ const WIDE_LINES: [(Call, Answer); 7] = [
 
 /// Lines of 64 bytes that lie 256 bytes apart share one of four sets.
 #[test]
-fn wide_lines(rt: HostRuntime) -> Result<(), Fail> {
-    let mut cache = ClientCache::new(rt.alloc(), 4, 1, LineSize::Bytes64)?;
-    play(&rt, &mut cache, &WIDE_LINES);
-    Ok(())
+fn wide_lines(rt: HostRuntime) {
+    plays_on(&rt, (4, 1, LineSize::Bytes64), &[&WIDE_LINES]);
 }
 
 /// The word 0x44332211 at X.
@@ -141,8 +137,8 @@ const STORES: [(Call, Answer); 11] = [
 /// A store writes its own bytes of the word, here the byte at X + 1 over the word 0x44332211, and then
 /// the last word; also a store of what is there makes the copy dirty.
 #[test]
-fn stores(rt: HostRuntime) -> Result<(), Fail> {
-    plays(&rt, rt.alloc(), &STORES)
+fn stores(rt: HostRuntime) {
+    plays_on(&rt, USUAL, &[&STORES]);
 }
 
 #[test]
@@ -175,11 +171,6 @@ const EACH_CALL: [(Call, Answer); 8] = [
 
 /// Meant for runs in which one allocation fails: a cache that was made takes no more memory.
 #[test]
-fn memory_is_taken_at_making_alone(rt: HostRuntime) -> Result<(), Fail> {
-    let mut cache = match ClientCache::new(rt.alloc(), 4, 2, LineSize::Bytes16) {
-        Ok(cache) => cache,
-        Err(_) => ClientCache::new(rt.alloc(), 4, 2, LineSize::Bytes16)?,
-    };
-    play(&rt, &mut cache, &EACH_CALL);
-    Ok(())
+fn memory_is_taken_at_making_alone(rt: HostRuntime) {
+    plays_on(&rt, USUAL, &[&EACH_CALL]);
 }
