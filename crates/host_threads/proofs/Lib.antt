@@ -3,6 +3,7 @@ pub mod Joining
 pub mod Leading
 pub mod Limit
 pub mod Pace
+pub mod Reported
 pub mod Round
 pub mod Sets
 pub mod Telling

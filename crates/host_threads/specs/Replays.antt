@@ -1,12 +1,14 @@
 -- What a report says of a run.
 use Rattle.std.specs.Prelude.{◌≡◌, ℕ, ◌≤◌, length, map, sum}
 use Rattle.std.specs.List.{All}
-use Rattle.coherent_machine.specs.Machine.{Replayed, replayed_from}
+use Rattle.coherent_machine.specs.Machine.{IsReached, Replayed, replayed_from}
 use Rattle.elf_loader.specs.Image.{Initial}
 use Rattle.host_threads.specs.declared.report.Report.{Report}
 use Rattle.locked_fabric.specs.FabricState.{AreMoves}
 use Rattle.machine_types.specs.declared.config.Config.{Config}
 use Rattle.machine_model.specs.Events.{after_events}
+use Rattle.machine_model.specs.LawfulLog.{IsLawfulLog}
+use Rattle.machine_model.specs.Laws.{IsHeadline}
 use Rattle.machine_model.specs.Views.{State, opening}
 
 -- where the report's journal leads from reset
@@ -32,3 +34,13 @@ JournalMoves image config report = AreMoves (opening image config) report.journa
 -- no event of the journal is refused on the way there
 abbrev pub JournalReplays : Initial → Config → Report → Type 0
 JournalReplays image config report = replayed_from 0 (opening image config) report.journal.items ≡ Replayed.Reached (end_of_journal image config report)
+
+-- all that a run's report says, of this image and configuration and of so many events at most
+pub record IsRun (image : Initial) (config : Config) (most : ℕ) (left : Report) : Type 0 where
+  pub report : IsOf image config left
+  pub moves : JournalMoves image config left
+  pub replays : JournalReplays image config left
+  pub reached : IsReached (end_of_journal image config left)
+  pub headline : IsHeadline image config (end_of_journal image config left)
+  pub log : IsLawfulLog left.trace.history.log
+  pub limit : IsWithinLimit most left

@@ -1,5 +1,5 @@
 -- What a worker tells the board of its hart, by what it saw of the hart as it held the lock.
-use Rattle.std.specs.Prelude.{◌≡◌, ◌⊎◌, ℕ, ◌+◌, ◌==◌, ◌||◌, Bool, true, false, not, max, Option, Some, None, if◌then◌else◌}
+use Rattle.std.specs.Prelude.{◌≡◌, ◌⊎◌, ℕ, ◌+◌, ◌==◌, ◌||◌, Bool, false, not, max, Option, Some, None, if◌then◌else◌}
 use Rattle.hart.specs.Run.{is_running}
 use Rattle.hart.specs.declared.status.Status.{Status}
 use Rattle.locked_fabric.specs.FabricState.{FabricState}

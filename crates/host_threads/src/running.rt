@@ -1,10 +1,11 @@
 //! A whole run.
 
-ghost use Rattle.std.specs.Prelude.{◌≡◌, ◌≢◌, ◌↔◌, ◌⊎◌, Err, IfErr, IfOk, IsTrue, None, false, map, vec_len};
+ghost use Rattle.std.specs.Prelude.{◌≡◌, ◌≢◌, ◌↔◌, ◌⊎◌, ◌≤◌, Err, IfErr, IfOk, IsTrue, None, false, length, map, sum, vec_len};
 ghost use Rattle.std.specs.List.{All};
 ghost use Rattle.coherent_machine.specs.Machine.{IsReached};
-ghost use Rattle.host_threads.specs.Replays.{IsOf, IsWithinLimit, JournalMoves, JournalReplays, end_of_journal};
-ghost use Rattle.host_threads.specs.Workers.{AreFresh, IsFirstFault, first_fault};
+ghost use Rattle.host_threads.specs.Replays.{IsOf, IsRun, IsWithinLimit, JournalMoves, JournalReplays, end_of_journal};
+ghost use Rattle.host_threads.specs.Workers.{AreFresh, IsFirstFault, common_of, first_fault};
+ghost use Rattle.locked_fabric.specs.FabricState.{IsKept};
 ghost use Rattle.machine_types.specs.Config as limits;
 ghost use Rattle.machine_model.specs.LawfulLog.{IsLawfulLog};
 ghost use Rattle.machine_model.specs.Laws.{IsHeadline};
@@ -15,7 +16,7 @@ use crate::gate::Gate;
 use crate::report::{Report, RunError};
 use crate::rounds::Rounds;
 use crate::same::is_of;
-use crate::worker::{Common, Done};
+use crate::worker::{Common, Done, Worker};
 use elf_loader::Image;
 use locked_fabric::{Fabric, Share, Turn};
 use machine_types::Config;
@@ -88,6 +89,27 @@ pub fn run_with<G: Gate + Sync, T: Turn + Drop + Send, R: Threads + Wait + Sync>
     if !config.is_within_limits() || turns.len() != config.harts as usize {
         return Err(RunError::Config);
     }
+    let (common, seats) = shared(alloc, &image, config, limit)?;
+    let blank = Blank::new(u64::from(config.harts));
+    run_counted::<Brand, G, T, R>(rt, blank, image, &common, gate, seats, turns)
+}
+
+// What the threads share, and a seat for each hart.
+fn shared(
+    alloc: Global,
+    image: &Image,
+    config: Config,
+    limit: u64,
+) -> Result<(Common, Vec<Seat>), AllocError>
+    requires { IsTrue (limits.is_within_limits config) }
+    ensures image { IfOk result (λ made. made.0.image ≡ image.now) }
+    ensures config { IfOk result (λ made. made.0.config ≡ config) }
+    ensures limit { IfOk result (λ made. made.0.limit ≡ limit) }
+    ensures harts { IfOk result (λ made. harts_of made.0.board ≡ config.harts) }
+    ensures board { IfOk result (λ made. All (λ seat. IsSeatOf made.0.board seat) made.1.items) }
+    ensures seats { IfOk result (λ made. vec_len made.1 ≡ config.harts) }
+    ensures fresh { IfOk result (λ made. AreFresh made.1.items) }
+{
     let own = image.try_copy(alloc)?;
     let (board, seats) = Board::new(alloc, config.harts as u8)?;
     let common = Common {
@@ -98,8 +120,7 @@ pub fn run_with<G: Gate + Sync, T: Turn + Drop + Send, R: Threads + Wait + Sync>
         stop: AtomicBool::new(false),
         limit,
     };
-    let blank = Blank::new(u64::from(config.harts));
-    run_counted::<Brand, G, T, R>(rt, blank, image, &common, gate, seats, turns)
+    Ok((common, seats))
 }
 
 // The run, with the ledger that the threads count in.
@@ -127,34 +148,78 @@ fn run_counted<
     requires seats { vec_len seats ≡ common.now.config.harts }
     requires fresh { AreFresh seats.items }
     requires turns { vec_len turns ≡ common.now.config.harts }
-    ensures report { IfOk result (λ report. IsOf image common.now.config report) }
-    ensures moves { IfOk result (λ report. JournalMoves image common.now.config report) }
-    ensures replays { IfOk result (λ report. JournalReplays image common.now.config report) }
-    ensures reached { IfOk result (λ report. IsReached (end_of_journal image common.now.config report)) }
-    ensures headline { IfOk result (λ report. IsHeadline image common.now.config (end_of_journal image common.now.config report)) }
-    ensures log { IfOk result (λ report. IsLawfulLog report.trace.history.log) }
-    ensures limit { IfOk result (λ report. IsWithinLimit common.now.limit report) }
+    ensures run { IfOk result (λ report. IsRun image common.now.config common.now.limit report) }
     ensures config { result ≢ Err RunError.Config }
 {
-    let alloc = common.alloc;
-    let (fabric, shares) = Fabric::<L>::new(alloc, blank, image, common.config)?;
+    let (fabric, shares) = Fabric::<L>::new(common.alloc, blank, image, common.config)?;
     let lock = Mutex::new(fabric);
     let crew = workers(common, &lock, seats, shares, turns)?;
+    let shares = counted(rt, common, crew, gate)?;
+    report_of(common, lock.into_inner(), shares)
+}
+
+// The shares, once each thread is joined.
+fn counted<
+    'a,
+    L: Ledger + Send + Sync,
+    G: Gate + Sync,
+    T: Turn + Drop + Send,
+    R: Threads + Wait + Sync,
+>(
+    rt: &R,
+    common: &'a Common,
+    crew: Vec<Worker<'a, L, T>>,
+    gate: &G,
+) -> Result<Vec<Share<L>>, RunError>
+    requires made { harts_of common.now.board ≡ vec_len crew }
+    requires common { All (λ worker. common_of worker ≡ common.now) crew.items }
+    ensures harts { IfOk result (λ shares. length shares.items ≡ harts_of common.now.board) }
+    ensures limit { IfOk result (λ shares. sum shares.items ≤ common.now.limit) }
+    ensures config { result ≢ Err RunError.Config }
+{
     let done = run_all(rt, common, crew, gate)?;
-    let (seats, shares) = handed_back(alloc, done)?;
+    let (seats, shares) = handed_back(common.alloc, done)?;
     let _numbers = common.board.settle(seats);
-    let fabric = lock.into_inner();
+    Ok(shares)
+}
+
+// What the run leaves, where the fabric is of the image and configuration that it began with.
+fn report_of<L: Ledger>(
+    common: &Common,
+    fabric: Fabric<L>,
+    shares: Vec<Share<L>>,
+) -> Result<Report, RunError>
+    requires limits { IsTrue (limits.is_within_limits common.now.config) }
+    requires all { length shares.items ≡ L.parts }
+    requires harts { length shares.items ≡ common.now.config.harts }
+    requires limit { sum shares.items ≤ common.now.limit }
+    ensures run { IfOk result (λ report. IsRun common.now.image common.now.config common.now.limit report) }
+    ensures config { result ≢ Err RunError.Config }
+{
     if !is_of(fabric.machine(), &common.image, &common.config) {
         return Err(RunError::Mismatch);
     }
+    Ok(parts_of(fabric, shares))
+}
+
+fn parts_of<L: Ledger>(fabric: Fabric<L>, shares: Vec<Share<L>>) -> Report
+    requires all { length shares.items ≡ L.parts }
+    requires harts { length shares.items ≡ fabric.machine.views.config.harts }
+    ensures trace { result.trace.history ≡ fabric.machine.trace }
+    ensures outputs { map (λ output. output.items) result.outputs.items ≡ map (λ node. node.output) fabric.machine.views.nodes }
+    ensures journal { result.journal.items ≡ fabric.journal }
+    ensures receipts { result.receipts.items ≡ shares.items }
+    ensures total { sum result.receipts.items ≡ length result.journal.items }
+    ensures kept { IsKept fabric }
+{
     let (machine, journal, receipts) = fabric.into_parts(shares);
     let (trace, outputs) = machine.into_parts();
-    Ok(Report {
+    Report {
         trace,
         outputs,
         journal,
         receipts,
-    })
+    }
 }
 
 // The seats and the shares in their order, or the first fault.

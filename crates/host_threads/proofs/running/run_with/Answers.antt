@@ -1,21 +1,30 @@
-use Rattle.std.proofs.Common.{◌≡◌, ◌∙◌, ℕ, List, rules, length, map, ap, sym}
-use Rattle.std.proofs.lemmas.List.{length-map}
-use Rattle.std.proofs.lemmas.List.FromFn.{length-map-range_with_len}
-use Rattle.std.specs.List.{range_with_len}
-use Rattle.host_threads.specs.Workers.{AreFresh}
-use Rattle.progress_board.specs.Rule.{new_view}
-use Rattle.progress_board.specs.Seat.{view}
-use Rattle.progress_board.specs.declared.view.View.{View}
+use Rattle.host_threads.proofs.Reported.{told}
 use Rattle.host_threads.proofs.running.run_with.Goals as goal
 
-pub run_counted-requires-clause-seats : goal.run_counted-requires-clause-seats
-run_counted-requires-clause-seats g c =
-    let seats : length c.in_ok-board.seats.items ≡ c.args.config.harts = sym (length-map c.in_ok-board.seats.items view) ∙ ap (λ (views : List View). length views) c.in_ok-board.ensures.views ∙ length-map-range_with_len _ 0 c.args.config.harts in
-    search rules
+pub returns-clause-report : goal.returns-clause-report
+returns-clause-report g c =
+    told _ c.args.image c.args.config c.in_ok-common.common.config c.args.limit c.in_ok-common.common.limit c.run_counted.result c.in_ok-common.ensures.config c.in_ok-common.ensures.limit (λ left run. run.report) c.run_counted.ensures.run
 
-pub run_counted-requires-clause-fresh : goal.run_counted-requires-clause-fresh
-run_counted-requires-clause-fresh g c =
-    let views = c.in_ok-board.ensures.views in
-    let seats : length c.in_ok-board.seats.items ≡ c.args.config.harts = sym (length-map c.in_ok-board.seats.items view) ∙ ap (λ (l : List View). length l) views ∙ length-map-range_with_len _ 0 c.args.config.harts in
-    let fresh : AreFresh c.in_ok-board.seats.items = (c.args.config.harts, views ∙ ap (λ (n : ℕ). map (new_view c.args.config.harts) (range_with_len 0 n)) (sym seats)) in
-    search rules
+pub returns-clause-moves : goal.returns-clause-moves
+returns-clause-moves g c =
+    told _ c.args.image c.args.config c.in_ok-common.common.config c.args.limit c.in_ok-common.common.limit c.run_counted.result c.in_ok-common.ensures.config c.in_ok-common.ensures.limit (λ left run. run.moves) c.run_counted.ensures.run
+
+pub returns-clause-replays : goal.returns-clause-replays
+returns-clause-replays g c =
+    told _ c.args.image c.args.config c.in_ok-common.common.config c.args.limit c.in_ok-common.common.limit c.run_counted.result c.in_ok-common.ensures.config c.in_ok-common.ensures.limit (λ left run. run.replays) c.run_counted.ensures.run
+
+pub returns-clause-reached : goal.returns-clause-reached
+returns-clause-reached g c =
+    told _ c.args.image c.args.config c.in_ok-common.common.config c.args.limit c.in_ok-common.common.limit c.run_counted.result c.in_ok-common.ensures.config c.in_ok-common.ensures.limit (λ left run. run.reached) c.run_counted.ensures.run
+
+pub returns-clause-headline : goal.returns-clause-headline
+returns-clause-headline g c =
+    told _ c.args.image c.args.config c.in_ok-common.common.config c.args.limit c.in_ok-common.common.limit c.run_counted.result c.in_ok-common.ensures.config c.in_ok-common.ensures.limit (λ left run. run.headline) c.run_counted.ensures.run
+
+pub returns-clause-log : goal.returns-clause-log
+returns-clause-log g c =
+    told _ c.args.image c.args.config c.in_ok-common.common.config c.args.limit c.in_ok-common.common.limit c.run_counted.result c.in_ok-common.ensures.config c.in_ok-common.ensures.limit (λ left run. run.log) c.run_counted.ensures.run
+
+pub returns-clause-limit : goal.returns-clause-limit
+returns-clause-limit g c =
+    told _ c.args.image c.args.config c.in_ok-common.common.config c.args.limit c.in_ok-common.common.limit c.run_counted.result c.in_ok-common.ensures.config c.in_ok-common.ensures.limit (λ left run. run.limit) c.run_counted.ensures.run
