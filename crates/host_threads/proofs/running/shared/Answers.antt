@@ -17,3 +17,6 @@ returns-clause-fresh c =
     let views = c.in_ok-board.ensures.views in
     let seats : length c.in_ok-board.seats.items ≡ c.args.config.harts = sym (length-map c.in_ok-board.seats.items view) ∙ ap (λ (l : List View). length l) views ∙ length-map-range_with_len _ 0 c.args.config.harts in
     (c.args.config.harts, views ∙ ap (λ (n : ℕ). map (new_view c.args.config.harts) (range_with_len 0 n)) (sym seats))
+
+pub returns-clause-board : goal.returns-clause-board
+returns-clause-board c = c.in_ok-board.ensures.seats
