@@ -1,6 +1,7 @@
 mod Images
 pub mod Once
 pub mod Telling
+pub mod Told
 pub mod Views
 mod Drained
 mod Patched

@@ -6,6 +6,7 @@ pub mod Ranks
 pub mod Standing
 pub mod Stuck
 pub mod Visited
+pub mod Told
 pub mod FinalWords
 pub mod WordEnds
 pub mod WordOrders

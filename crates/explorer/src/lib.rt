@@ -2,6 +2,7 @@
 //! there or why there are none.
 #![tactic(auto)]
 
+mod account;
 mod effort;
 mod exploration;
 mod exploring;

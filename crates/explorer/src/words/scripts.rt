@@ -4,18 +4,10 @@ ghost use Rattle.flat_machine.specs.Onward.{are_aligned};
 ghost use Rattle.explorer.specs.WordEnds.{ShowsWords, ending_with};
 
 use crate::final_words::{has_drained, words_of};
-use crate::scripts::Program;
 use coherent_machine::Machine;
 use flat_model::HartResult;
 use schedules::{Goal, HartResults};
 use std::alloc::{AllocError, Global};
-
-/// The program that is explored, its machine, and the addresses of the words that an end shows.
-#[derive(Clone, Copy)]
-pub(crate) struct WordProgram<'a> {
-    pub program: Program<'a>,
-    pub addresses: &'a [u32],
-}
 
 /// No hart runs and no store waits, with these results and these words at the addresses.
 #[derive(Clone, Copy)]
