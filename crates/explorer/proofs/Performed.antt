@@ -1,5 +1,5 @@
 -- Memory behind one more operation.
-use Rattle.std.proofs.Common.{◌≡◌, ◌∙◌, ◌+◌, ◌-◌, ◌<◌, ◌≤◌, ℕ, Bool, true, false, List, [], ◌∷◌, Option, None, Some, refl, sym, ap, arith, drop, filter, get_or, if◌then◌else◌, length, take}
+use Rattle.std.proofs.Common.{◌≡◌, ◌∙◌, ◌+◌, ◌-◌, ◌<◌, ◌≤◌, ℕ, Bool, true, false, List, [], ◌∷◌, Some, refl, sym, ap, arith, drop, filter, get_or, if◌then◌else◌, length, take}
 use Rattle.std.specs.Prelude.{slice_index}
 use Rattle.std.specs.List.{last_or}
 use Rattle.std.proofs.lemmas.List.{ext_get_or, length-drop, take_all}
