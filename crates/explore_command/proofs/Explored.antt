@@ -21,6 +21,16 @@ use Rattle.explorer.specs.declared.exploration.Exploration.{Exploration}
 use Rattle.machine_types.specs.declared.config.Config.{Config}
 use Rattle.state_search.specs.declared.findings.Extent.TheVariants as extent
 use Rattle.text_fields.specs.Writing.{Begins}
+use Rattle.std.proofs.Common.{◌≤◌, All}
+use Rattle.std.specs.List.Sorted.{IsStrictlySortedBy}
+use Rattle.std.specs.Ordering.{on}
+use Rattle.std.specs.declared.alloc.AllocError.{AllocError}
+use Rattle.explorer.specs.Ends.{IsRealIn, outcomes_of}
+use Rattle.explorer.specs.Outcomes.{CanAlwaysEnd, HasEachEnd}
+use Rattle.explorer.specs.Ranks.{outcome_cmp}
+use Rattle.explorer.specs.Stuck.{IsStuckIn}
+use Rattle.explorer.specs.Visited.{AreVisited}
+use Rattle.flat_model.specs.Flat.{Flat}
 
 pub ok_more : {T E : Type 0} (P Q : T → Type 0) (r : Result T E) → ((x : T) → P x → Q x) → IfOk r P → IfOk r Q
 ok_more P Q (Ok x) more so = more x so
@@ -88,3 +98,10 @@ memory_left fault old new Has is so = subst (λ f. LeavesPart f old new Has) (sy
 
 pub memory_told : (held : Contents) (explore : Explore) (fault : Fault) → fault ≡ OutOfMemory → IsExploreFault held explore fault
 memory_told held explore fault is = subst (IsExploreFault held explore) (sym is) tt
+
+-- what is said of it, fact by fact
+pub found_in : (image : Initial) (config : Config) (limit : ℕ) (r : Result Exploration AllocError) → IfOk r (λ e. All (IsRealIn image config) e.outcomes.items) → IfOk r (λ e. e.extent ≡ extent.Complete → HasEachEnd image config (outcomes_of e.outcomes.items))
+    → IfOk r (λ e. e.extent ≡ extent.Complete → e.stuck ≡ None → CanAlwaysEnd image config) → IfOk r (λ e. e.extent ≡ extent.Complete → e.stuck ≡ None → e.outcomes.items ≢ []) → IfOk r (λ e. IfSome e.stuck (IsStuckIn image config))
+    → IfOk r (λ e. IsStrictlySortedBy (on outcome_of outcome_cmp) e.outcomes.items) → IfOk r (λ e. e.states ≤ limit) → IfOk r (λ e. e.extent ≡ extent.LimitMet → e.states ≡ limit) → IfOk r (λ e. (states : List Flat) × AreVisited image config e states) → IfOk r (IsFoundIn image config limit)
+found_in image config limit (Ok e) real complete none_stuck some stuck order within full visited = record { real = real; complete = complete; none_stuck = none_stuck; some = some; stuck = stuck; order = order; within = within; full = full; visited = visited }
+found_in image config limit (Err error) real complete none_stuck some stuck order within full visited = tt

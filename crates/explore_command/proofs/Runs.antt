@@ -16,6 +16,9 @@ use Rattle.explorer.specs.Ends.{outcome_of}
 use Rattle.machine_types.specs.declared.config.Config.{Config}
 use Rattle.explore_command.specs.Sampling.{AreRuns, IsSampleTold, SampleHas, SampleRefusals}
 use Rattle.explorer.specs.declared.samples.sampled.Sampled.{Sampled}
+use Rattle.std.proofs.Common.{Err, IfOk, Ok, Result}
+use Rattle.std.specs.declared.alloc.AllocError.{AllocError}
+use Rattle.explorer.specs.Sampled as ends
 
 module _ (held : Contents) (wanted : Explore) (runs : ℕ) (config : Config) (image : Initial) (found : Sampled)
     (config_is : config ≡ config_named wanted.machine) (file : HoldsImage held wanted.raw wanted.image.now wanted.machine.memory image) (are : AreRuns image config runs found) where
@@ -47,3 +50,8 @@ module _ (held : Contents) (wanted : Explore) (runs : ℕ) (config : Config) (im
 -- no fewer runs than were asked for, and no more
 pub all_made : (made runs : ℕ) {most : ℕ} → made ≤ most → most ≡ runs → runs ≤ made → made ≡ runs
 all_made made runs few same enough = omega (arith, few, same, enough)
+
+-- what is said of them, fact by fact
+pub runs_in : (image : Initial) (config : Config) (runs : ℕ) {most : ℕ} (r : Result Sampled AllocError) → most ≡ runs → IfOk r (ends.IsSampled image config) → IfOk r (λ s. s.runs ≤ most) → IfOk r (AreRuns image config runs)
+runs_in image config runs (Ok s) same sampled within = record { sampled = sampled; within = subst (λ (n : ℕ). s.runs ≤ n) same within }
+runs_in image config runs (Err error) same sampled within = tt

@@ -34,6 +34,15 @@ use Rattle.explorer.specs.declared.words.exploration.WordExploration.{WordExplor
 use Rattle.explorer.specs.declared.words.found.WordFound.{WordFound}
 use Rattle.explorer.specs.WordEnds.{ending_of}
 use Rattle.explorer.specs.Words.{CanShow}
+use Rattle.std.proofs.Common.{Err, IfOk, None, Ok, Result}
+use Rattle.std.specs.List.Sorted.{IsStrictlySortedBy}
+use Rattle.std.specs.Ordering.{on}
+use Rattle.std.specs.declared.alloc.AllocError.{AllocError}
+use Rattle.explorer.specs.WordEnds.{CanAlwaysDrain, HasEachEnding, IsRealIn, endings_of}
+use Rattle.explorer.specs.WordOrders.{ending_cmp}
+use Rattle.explorer.specs.WordStuck.{IsStuckIn}
+use Rattle.explorer.specs.WordVisited.{AreVisited}
+use Rattle.flat_model.specs.Flat.{Flat}
 
 -- ---- what is allowed
 
@@ -164,3 +173,11 @@ module _ (image : Initial) (symbols : List Named) where
     record { before = has.before; later = tail; whole = ap (λ (xs : List Name). has.before ++ xs) (sym first) ∙ has.whole; shown = has.shown },
     unplaced,
   )
+
+-- what is said of it, fact by fact
+pub found_in : (image : Initial) (config : Config) (addresses : List ℕ) (limit : ℕ) (r : Result WordExploration AllocError) → IfOk r (λ e. All (IsRealIn image config addresses) e.outcomes.items)
+    → IfOk r (λ e. e.extent ≡ extent.Complete → HasEachEnding image config addresses (endings_of e.outcomes.items)) → IfOk r (λ e. e.extent ≡ extent.Complete → e.stuck ≡ None → CanAlwaysDrain image config)
+    → IfOk r (λ e. e.extent ≡ extent.Complete → e.stuck ≡ None → e.outcomes.items ≢ []) → IfOk r (λ e. IfSome e.stuck (IsStuckIn image config addresses)) → IfOk r (λ e. IsStrictlySortedBy (on ending_of ending_cmp) e.outcomes.items)
+    → IfOk r (λ e. e.states ≤ limit) → IfOk r (λ e. e.extent ≡ extent.LimitMet → e.states ≡ limit) → IfOk r (λ e. (states : List Flat) × AreVisited image config addresses e states) → IfOk r (IsFoundIn image config addresses limit)
+found_in image config addresses limit (Ok e) real complete none_stuck some stuck order within full visited = record { real = real; complete = complete; none_stuck = none_stuck; some = some; stuck = stuck; order = order; within = within; full = full; visited = visited }
+found_in image config addresses limit (Err error) real complete none_stuck some stuck order within full visited = tt

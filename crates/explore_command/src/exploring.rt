@@ -1,10 +1,11 @@
 //! `rvtl explore`: every end that the machine can bring a program to is found, told, kept and judged.
 
-ghost use Rattle.std.specs.Prelude.{◌≡◌, ◌<◌, Err, IfErr, IfOk, OnErr};
+ghost use Rattle.std.specs.Prelude.{◌≡◌, ◌<◌, Err, IfErr, IfOk, OnErr, true};
 ghost use Rattle.command_files.specs.Sizes.{IsOutside};
-ghost use Rattle.explore_command.specs.Exploring.{ComesBeforeScripts, ExplorationHas, ExplorationRefusals, IsExploreFault, IsExplorationTold, LeavesPart};
+ghost use Rattle.explore_command.specs.Exploring.{ComesBeforeScripts, ExplorationHas, ExplorationRefusals, IsExploreFault, IsExplorationTold, IsFoundIn, LeavesPart};
 ghost use Rattle.explore_command.specs.Judging.{IsToldBy};
 ghost use Rattle.explore_command.specs.Keeping.{IsScriptFile, SparesOthers};
+ghost use Rattle.machine_types.specs.Config.{is_within_limits};
 
 use crate::asked::Asked;
 use crate::findings::print;
@@ -12,10 +13,10 @@ use crate::judging::{Judgement, judge};
 use crate::keeping::keep;
 use command_files::{Fault, Files};
 use command_settings::Explore;
-use explorer::{Exploring, explore};
+use explorer::{Exploration, Exploring, explore};
 use progress_line::{Progress, Stage};
 use state_search::Watch;
-use std::alloc::Global;
+use std::alloc::{AllocError, Global};
 use std::io::Write;
 
 /// Tells a command's progress how far its search is.
@@ -55,17 +56,31 @@ pub fn explore_files<'a, F: Files, O: Write, E: Write, P: Progress>(
     ensures silent { OnErr result (E.contents err.new ≡ E.contents err.old) }
 {
     let asked = Asked::read(alloc, files, wanted)?;
+    let Ok(found) = found_in(alloc, &asked, wanted, progress) else {
+        return Err(Fault::OutOfMemory);
+    };
+    print(alloc, &found, out)?;
+    keep(alloc, files, wanted, &found)?;
+    judge(alloc, &asked.allowed, &found, err)
+}
+
+/// The ends that the machine can bring a program to. While it explores, `progress` is told how far it is.
+fn found_in<P: Progress>(
+    alloc: Global,
+    asked: &Asked,
+    wanted: Explore<'_>,
+    progress: &P,
+) -> Result<Exploration, AllocError>
+    requires limits { is_within_limits asked.now.config ≡ true }
+    requires room { 0 < wanted.states }
+    ensures { IfOk result (IsFoundIn asked.now.image asked.now.config wanted.entry.states) }
+{
     let watch = Telling { progress };
     let exploring = Exploring {
         limit: wanted.states,
         shortened: wanted.scripts.is_some(),
     };
-    let Ok(found) = explore(alloc, &asked.image, asked.config, exploring, &watch) else {
-        progress.end();
-        return Err(Fault::OutOfMemory);
-    };
+    let found = explore(alloc, &asked.image, asked.config, exploring, &watch);
     progress.end();
-    print(alloc, &found, out)?;
-    keep(alloc, files, wanted, &found)?;
-    judge(alloc, &asked.allowed, &found, err)
+    found
 }

@@ -1,12 +1,14 @@
 //! `rvtl explore --architecture`: what a memory model allows a program is sought, told, kept and judged.
 
-ghost use Rattle.std.specs.Prelude.{◌≡◌, ◌<◌, Err, IfErr, IfOk, OnErr, OnOk};
+ghost use Rattle.std.specs.Prelude.{◌≡◌, ◌<◌, Err, IfErr, IfOk, OnErr, OnOk, true};
 ghost use Rattle.explore_command.specs.ModelKeeping.{IsFileInNamed};
-ghost use Rattle.explore_command.specs.Searching.{IsSearchFault, IsSearchNoted, IsSearched, SearchHas};
+ghost use Rattle.explore_command.specs.Searching.{IsFoundUnder, IsSearchFault, IsSearchNoted, IsSearched, SearchHas};
 ghost use Rattle.explore_command.specs.Telling.{AreRemarked};
 ghost use Rattle.command_files.specs.Sizes.{IsOutside};
 ghost use Rattle.explore_command.specs.Exploring.{ComesBeforeJudging, ComesBeforeScripts, LeavesPart};
 ghost use Rattle.explore_command.specs.Keeping.{SparesOthers};
+ghost use Rattle.explorer.specs.Words.{CanShowEach};
+ghost use Rattle.machine_types.specs.Config.{is_within_limits};
 
 use crate::architecture::allowed::Searched;
 use crate::architecture::telling::remarks_on;
@@ -15,12 +17,14 @@ use crate::findings::print;
 use crate::judging::{Judgement, judge};
 use crate::keeping::keep;
 use crate::show::AskedWords;
-use architecture_outcomes::{Outcome, explore_architecture};
+use architecture_outcomes::{Architecture, Outcome, explore_architecture};
 use command_files::{Fault, Files};
 use command_settings::Explore;
+use elf_loader::Image;
 use explorer::Exploring;
+use machine_types::Config;
 use progress_line::Progress;
-use std::alloc::Global;
+use std::alloc::{AllocError, Global};
 use std::io::Write;
 use text_fields::put;
 
@@ -56,24 +60,17 @@ pub fn architecture_files<'a, F: Files, O: Write, E: Write, P: Progress>(
         allowed,
         targets,
     } = AskedWords::read(alloc, files, wanted, words)?;
-    let watch = Telling { progress };
-    let exploring = Exploring {
-        limit: wanted.states,
-        shortened: wanted.scripts.is_some(),
-    };
-    let Ok(architecture) = explore_architecture(
+    let Ok(architecture) = found_under(
         alloc,
         &image,
         config,
         &targets.addresses,
         window,
-        exploring,
-        &watch,
+        wanted,
+        progress,
     ) else {
-        progress.end();
         return Err(Fault::OutOfMemory);
     };
-    progress.end();
     let found = Searched {
         names: targets.names,
         architecture,
@@ -84,6 +81,32 @@ pub fn architecture_files<'a, F: Files, O: Write, E: Write, P: Progress>(
     keep(alloc, files, wanted, &found)?;
     tell(alloc, wanted, &found.architecture.outcomes, err)?;
     judge(alloc, &allowed, &found, err)
+}
+
+/// What the memory model allows a program, with these words of memory. While it searches, `progress` is told how far it
+/// is.
+fn found_under<P: Progress>(
+    alloc: Global,
+    image: &Image,
+    config: Config,
+    addresses: &[u32],
+    window: u32,
+    wanted: Explore<'_>,
+    progress: &P,
+) -> Result<Architecture, AllocError>
+    requires limits { is_within_limits config ≡ true }
+    requires room { 0 < wanted.states }
+    requires words { CanShowEach image.now addresses.now }
+    ensures { IfOk result (IsFoundUnder image.now config addresses.now window wanted.entry.states) }
+{
+    let watch = Telling { progress };
+    let exploring = Exploring {
+        limit: wanted.states,
+        shortened: wanted.scripts.is_some(),
+    };
+    let found = explore_architecture(alloc, image, config, addresses, window, exploring, &watch);
+    progress.end();
+    found
 }
 
 /// Tells what the traces show, where they were written.

@@ -1,29 +1,25 @@
 //! `rvtl explore --sample`: random runs are made, and the ends they come to are told, kept and judged.
 
-ghost use Rattle.std.specs.Prelude.{◌≡◌, Err, IfErr, IfOk, OnErr};
+ghost use Rattle.std.specs.Prelude.{◌≡◌, Err, IfErr, IfOk, OnErr, true};
 ghost use Rattle.command_files.specs.Sizes.{IsOutside};
 ghost use Rattle.explore_command.specs.Exploring.{ComesBeforeScripts, IsExploreFault, LeavesPart};
 ghost use Rattle.explore_command.specs.Judging.{IsToldBy};
 ghost use Rattle.explore_command.specs.Keeping.{IsScriptFile, SparesOthers};
-ghost use Rattle.explore_command.specs.Sampling.{IsSampleTold, SampleHas, SampleRefusals};
+ghost use Rattle.explore_command.specs.Sampling.{AreRuns, IsSampleTold, SampleHas, SampleRefusals};
+ghost use Rattle.machine_types.specs.Config.{is_within_limits};
 
 use crate::asked::Asked;
+use crate::exploring::Telling;
 use crate::findings::print;
 use crate::judging::{Judgement, judge};
 use crate::keeping::keep;
 use crate::sample::random_runs::Runs;
 use command_files::{Fault, Files};
 use command_settings::Explore;
-use explorer::{SampleWatch, Sampling, sample_ends};
+use explorer::{SampleWatch, Sampled, Sampling, sample_ends};
 use progress_line::{Progress, Stage};
-use std::alloc::Global;
+use std::alloc::{AllocError, Global};
 use std::io::Write;
-
-/// Tells a command's progress how far its runs are.
-#[derive(Drop)]
-struct Telling<'p, P> {
-    progress: &'p P,
-}
 
 impl<P: Progress> SampleWatch for Telling<'_, P> {
     fn made(&self, runs: u64, ends: u64) {
@@ -57,17 +53,9 @@ pub fn sample_files<'a, F: Files, O: Write, E: Write, P: Progress>(
     ensures silent { OnErr result (E.contents err.new ≡ E.contents err.old) }
 {
     let asked = Asked::read(alloc, files, wanted)?;
-    let sampling = Sampling {
-        runs: u64::from(runs),
-        seed: u64::from(seed),
-        shortened: wanted.scripts.is_some(),
-    };
-    let watch = Telling { progress };
-    let Ok(sampled) = sample_ends(alloc, &asked.image, asked.config, sampling, &watch) else {
-        progress.end();
+    let Ok(sampled) = runs_of(alloc, &asked, wanted, runs, seed, progress) else {
         return Err(Fault::OutOfMemory);
     };
-    progress.end();
     let found = Runs {
         sampled,
         asked: runs,
@@ -75,4 +63,27 @@ pub fn sample_files<'a, F: Files, O: Write, E: Write, P: Progress>(
     print(alloc, &found, out)?;
     keep(alloc, files, wanted, &found)?;
     judge(alloc, &asked.allowed, &found, err)
+}
+
+/// The ends that so many random runs of a program come to. While they are made, `progress` is told how far they are.
+fn runs_of<P: Progress>(
+    alloc: Global,
+    asked: &Asked,
+    wanted: Explore<'_>,
+    runs: u32,
+    seed: u32,
+    progress: &P,
+) -> Result<Sampled, AllocError>
+    requires limits { is_within_limits asked.now.config ≡ true }
+    ensures { IfOk result (AreRuns asked.now.image asked.now.config runs) }
+{
+    let watch = Telling { progress };
+    let sampling = Sampling {
+        runs: u64::from(runs),
+        seed: u64::from(seed),
+        shortened: wanted.scripts.is_some(),
+    };
+    let sampled = sample_ends(alloc, &asked.image, asked.config, sampling, &watch);
+    progress.end();
+    sampled
 }

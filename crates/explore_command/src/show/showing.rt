@@ -1,13 +1,15 @@
 //! `rvtl explore --show`: every end that the machine can bring a program to is found with words of memory, told, kept
 //! and judged.
 
-ghost use Rattle.std.specs.Prelude.{◌≡◌, ◌⊎◌, ◌<◌, Err, IfErr, IfOk, IfSome, IsNone, OnErr};
+ghost use Rattle.std.specs.Prelude.{◌≡◌, ◌⊎◌, ◌<◌, Err, IfErr, IfOk, IfSome, IsNone, OnErr, true};
 ghost use Rattle.command_files.specs.Faults.{Name};
 ghost use Rattle.command_files.specs.Sizes.{IsOutside};
 ghost use Rattle.explore_command.specs.Exploring.{ComesBeforeScripts, LeavesPart};
 ghost use Rattle.explore_command.specs.Judging.{IsToldBy};
 ghost use Rattle.explore_command.specs.Keeping.{IsScriptFile, SparesOthers};
-ghost use Rattle.explore_command.specs.Showing.{IsElsewhere, IsFirstOf, IsShowFault, AreWordsShown, WordRefusals, WordsHave};
+ghost use Rattle.explore_command.specs.Showing.{IsElsewhere, IsFirstOf, IsFoundIn, IsShowFault, AreWordsShown, WordRefusals, WordsHave};
+ghost use Rattle.explorer.specs.Words.{CanShowEach};
+ghost use Rattle.machine_types.specs.Config.{is_within_limits};
 ghost use Rattle.text_fields.specs.Writing.{Begins};
 
 use crate::exploring::Telling;
@@ -17,10 +19,12 @@ use crate::show::asked::AskedWords;
 use crate::show::keeping::keep;
 use crate::show::words::Shown;
 use command_files::{Fault, Files, Unshown};
-use command_settings::Show;
-use explorer::{Exploring, explore_words};
+use command_settings::{Explore, Show};
+use elf_loader::Image;
+use explorer::{Exploring, WordExploration, explore_words};
+use machine_types::Config;
 use progress_line::Progress;
-use std::alloc::Global;
+use std::alloc::{AllocError, Global};
 use std::io::Write;
 
 /// Does what `explore_files` does, where words of memory are to be shown: each is judged behind the image. Random runs
@@ -60,23 +64,10 @@ pub fn show_files<'a, F: Files, O: Write, E: Write, P: Progress>(
         allowed,
         targets,
     } = AskedWords::read(alloc, files, explore, &wanted.words)?;
-    let watch = Telling { progress };
-    let exploring = Exploring {
-        limit: explore.states,
-        shortened: explore.scripts.is_some(),
-    };
-    let Ok(exploration) = explore_words(
-        alloc,
-        &image,
-        config,
-        &targets.addresses,
-        exploring,
-        &watch,
-    ) else {
-        progress.end();
+    let Ok(exploration) = found_in(alloc, &image, config, &targets.addresses, explore, progress)
+    else {
         return Err(Fault::OutOfMemory);
     };
-    progress.end();
     let found = Shown {
         names: targets.names,
         exploration,
@@ -85,6 +76,31 @@ pub fn show_files<'a, F: Files, O: Write, E: Write, P: Progress>(
     let judgement = judge(alloc, &allowed, &found, err);
     keep(alloc, files, explore, found.exploration)?;
     judgement
+}
+
+/// The ends that the machine can bring a program to, with these words of memory. While it explores, `progress` is told
+/// how far it is.
+fn found_in<P: Progress>(
+    alloc: Global,
+    image: &Image,
+    config: Config,
+    addresses: &[u32],
+    wanted: Explore<'_>,
+    progress: &P,
+) -> Result<WordExploration, AllocError>
+    requires limits { is_within_limits config ≡ true }
+    requires room { 0 < wanted.states }
+    requires words { CanShowEach image.now addresses.now }
+    ensures { IfOk result (IsFoundIn image.now config addresses.now wanted.entry.states) }
+{
+    let watch = Telling { progress };
+    let exploring = Exploring {
+        limit: wanted.states,
+        shortened: wanted.scripts.is_some(),
+    };
+    let found = explore_words(alloc, image, config, addresses, exploring, &watch);
+    progress.end();
+    found
 }
 
 /// The first of the words that are to be shown, where random runs are asked for.

@@ -25,11 +25,10 @@ returns-in_err-print-clause-told g c = handed_up _ c.from_residual-in_err-print.
 
 pub returns-in_err-print-clause-unfinished : goal.returns-in_err-print-clause-unfinished
 returns-in_err-print-clause-unfinished g c =
-    let found = c.in-Ok.ensures in
     handed_up _ c.from_residual-in_err-print.result _ c.from_residual-in_err-print.ensures.1
     (output_left _ _ _ _ c.in_err-print.ensures.told
     (has (g.F.Files.held c.args.files.now) c.args.wanted c.in_ok-asked.asked.config c.in_ok-asked.asked.image c.in-Ok.found c.in_ok-asked.ensures.config c.in_ok-asked.ensures.image
-    (record { real = found.real; complete = found.complete; none_stuck = found.none_stuck; some = found.some; stuck = found.stuck; order = found.strict; within = found.within; full = found.full; visited = found.visited })
+    c.in-Ok.ensures
     _ c.in_err-print.ensures.begun))
 
 pub returns-in_err-print-clause-spared : goal.returns-in_err-print-clause-spared
@@ -40,8 +39,7 @@ returns-in_err-keep-clause-told g c = handed_up _ c.from_residual-in_err-keep.re
 
 pub returns-in_err-keep-clause-unfinished : goal.returns-in_err-keep-clause-unfinished
 returns-in_err-keep-clause-unfinished g c =
-    let found = c.in-Ok.ensures in
-    let has_text = has (g.F.Files.held c.args.files.now) c.args.wanted c.in_ok-asked.asked.config c.in_ok-asked.asked.image c.in-Ok.found c.in_ok-asked.ensures.config c.in_ok-asked.ensures.image (record { real = found.real; complete = found.complete; none_stuck = found.none_stuck; some = found.some; stuck = found.stuck; order = found.strict; within = found.within; full = found.full; visited = found.visited }) in
+    let has_text = has (g.F.Files.held c.args.files.now) c.args.wanted c.in_ok-asked.asked.config c.in_ok-asked.asked.image c.in-Ok.found c.in_ok-asked.ensures.config c.in_ok-asked.ensures.image c.in-Ok.ensures in
     handed_up _ c.from_residual-in_err-keep.result _ c.from_residual-in_err-keep.ensures.1
     (folder_left c.args.wanted _ _ _ _ c.in_err-keep.ensures.told (has_text _ (all_of _ _ _ c.in_ok-print.ensures.printed)) (has_text _ c.in_ok-print.ensures.printed))
 
@@ -50,11 +48,10 @@ returns-in_err-keep-clause-spared g c = spared_after _ _ _ _ c.in_ok-asked.ensur
 
 pub returns-clause-explored : goal.returns-clause-explored
 returns-clause-explored g c =
-    let found = c.in-Ok.ensures in
     ok_more _ _ c.judge.result
     (λ judgement so.
     whole (g.F.Files.held c.args.files.now) c.args.wanted c.in_ok-asked.asked.config c.in_ok-asked.asked.image c.in-Ok.found c.in_ok-asked.ensures.config c.in_ok-asked.ensures.image
-    (record { real = found.real; complete = found.complete; none_stuck = found.none_stuck; some = found.some; stuck = found.stuck; order = found.strict; within = found.within; full = found.full; visited = found.visited })
+    c.in-Ok.ensures
     _ _ (g.F.Files.held c.keep.new.files) judgement c.in_ok-print.ensures.printed c.in_ok-keep.ensures.kept (spared_after _ _ _ _ c.in_ok-asked.ensures.stays c.keep.ensures.spared) (judged _ c.args.wanted.allow _ _ judgement c.in_ok-asked.ensures.allowed so.0) so.1)
     (ok_both _ _ c.judge.result c.judge.ensures.judged c.judge.ensures.whole)
 
@@ -63,12 +60,11 @@ returns-clause-told g c = err_more _ _ c.judge.result (λ fault is. memory_told 
 
 pub returns-clause-unfinished : goal.returns-clause-unfinished
 returns-clause-unfinished g c =
-    let found = c.in-Ok.ensures in
     err_more _ _ c.judge.result
     (λ fault is.
     memory_left fault _ _ _ is
     (has (g.F.Files.held c.args.files.now) c.args.wanted c.in_ok-asked.asked.config c.in_ok-asked.asked.image c.in-Ok.found c.in_ok-asked.ensures.config c.in_ok-asked.ensures.image
-    (record { real = found.real; complete = found.complete; none_stuck = found.none_stuck; some = found.some; stuck = found.stuck; order = found.strict; within = found.within; full = found.full; visited = found.visited })
+    c.in-Ok.ensures
     _ (all_of _ _ _ c.in_ok-print.ensures.printed)))
     c.judge.ensures.told
 
@@ -92,10 +88,9 @@ returns-clause-untouched g c = err_more _ _ c.judge.result (λ fault is early. a
 -- what is told of the outcomes that were printed
 pub returns-clause-noted : goal.returns-clause-noted
 returns-clause-noted g c =
-    let found = c.in-Ok.ensures in
     ok_more _ _ c.judge.result
     (λ judgement so.
     refusals (g.F.Files.held c.args.files.now) c.args.wanted c.in_ok-asked.asked.config c.in_ok-asked.asked.image c.in-Ok.found c.in_ok-asked.ensures.config c.in_ok-asked.ensures.image
-    (record { real = found.real; complete = found.complete; none_stuck = found.none_stuck; some = found.some; stuck = found.stuck; order = found.strict; within = found.within; full = found.full; visited = found.visited })
+    c.in-Ok.ensures
     _ _ _ c.in_ok-print.ensures.printed (refusals_in _ c.args.wanted.allow _ _ _ c.in_ok-asked.ensures.allowed so))
     c.judge.ensures.noted

@@ -39,12 +39,11 @@ pub returns-in_err-print-clause-unfinished : goal.returns-in_err-print-clause-un
 returns-in_err-print-clause-unfinished g c =
     let held = g.F.Files.held c.args.files.now in
     let asked = c.in_ok-config.field-0 in
-    let found = c.in-Ok.ensures in
     let program = subst (λ (a : List ℕ). HasProgram held c.args.wanted c.args.words.now asked.image a) (sym c.deref.ensures.value) c.in_ok-config.ensures.program in
     handed_up _ c.from_residual-in_err-print.result _ c.from_residual-in_err-print.ensures.1
     (output_left _ _ _ _ c.in_err-print.ensures.told
     (has held c.args.wanted c.args.words.now c.args.window asked.config asked.image c.deref.result.now _ c.in-Ok.architecture c.in_ok-config.ensures.config program c.in_ok-config.ensures.names
-    (record { shown = found.shown; machine = found.machine; alone = found.alone; opens = found.opens; bounded = found.bounded; order = found.order; within = found.within; full = found.full; model = found.model; visited = found.visited; window_is = found.window })
+    c.in-Ok.ensures
     _ c.in_err-print.ensures.begun))
 
 pub returns-in_err-print-clause-spared : goal.returns-in_err-print-clause-spared
@@ -57,10 +56,9 @@ pub returns-in_err-keep-clause-unfinished : goal.returns-in_err-keep-clause-unfi
 returns-in_err-keep-clause-unfinished g c =
     let held = g.F.Files.held c.args.files.now in
     let asked = c.in_ok-config.field-0 in
-    let found = c.in-Ok.ensures in
     let program = subst (λ (a : List ℕ). HasProgram held c.args.wanted c.args.words.now asked.image a) (sym c.deref.ensures.value) c.in_ok-config.ensures.program in
     let has_text = has held c.args.wanted c.args.words.now c.args.window asked.config asked.image c.deref.result.now _ c.in-Ok.architecture c.in_ok-config.ensures.config program c.in_ok-config.ensures.names
-    (record { shown = found.shown; machine = found.machine; alone = found.alone; opens = found.opens; bounded = found.bounded; order = found.order; within = found.within; full = found.full; model = found.model; visited = found.visited; window_is = found.window }) in
+    c.in-Ok.ensures in
     handed_up _ c.from_residual-in_err-keep.result _ c.from_residual-in_err-keep.ensures.1
     (folder_left c.args.wanted _ _ _ _ c.in_err-keep.ensures.told (has_text _ (all_of _ _ _ c.in_ok-print.ensures.printed)) (has_text _ c.in_ok-print.ensures.printed))
 
@@ -74,12 +72,11 @@ pub returns-in_err-tell-clause-unfinished : goal.returns-in_err-tell-clause-unfi
 returns-in_err-tell-clause-unfinished g c =
     let held = g.F.Files.held c.args.files.now in
     let asked = c.in_ok-config.field-0 in
-    let found = c.in-Ok.ensures in
     let program = subst (λ (a : List ℕ). HasProgram held c.args.wanted c.args.words.now asked.image a) (sym c.deref.ensures.value) c.in_ok-config.ensures.program in
     handed_up _ c.from_residual-in_err-tell.result _ c.from_residual-in_err-tell.ensures.1
     (memory_left _ _ _ _ c.in_err-tell.ensures.told
     (has held c.args.wanted c.args.words.now c.args.window asked.config asked.image c.deref.result.now _ c.in-Ok.architecture c.in_ok-config.ensures.config program c.in_ok-config.ensures.names
-    (record { shown = found.shown; machine = found.machine; alone = found.alone; opens = found.opens; bounded = found.bounded; order = found.order; within = found.within; full = found.full; model = found.model; visited = found.visited; window_is = found.window })
+    c.in-Ok.ensures
     _ (all_of _ _ _ c.in_ok-print.ensures.printed)))
 
 pub returns-in_err-tell-clause-spared : goal.returns-in_err-tell-clause-spared
@@ -89,12 +86,11 @@ pub returns-clause-searched : goal.returns-clause-searched
 returns-clause-searched g c =
     let held = g.F.Files.held c.args.files.now in
     let asked = c.in_ok-config.field-0 in
-    let found = c.in-Ok.ensures in
     let program = subst (λ (a : List ℕ). HasProgram held c.args.wanted c.args.words.now asked.image a) (sym c.deref.ensures.value) c.in_ok-config.ensures.program in
     ok_more _ _ c.judge.result
     (λ judgement is.
     whole held c.args.wanted c.args.words.now c.args.window asked.config asked.image c.deref.result.now _ c.in-Ok.architecture c.in_ok-config.ensures.config program c.in_ok-config.ensures.names
-    (record { shown = found.shown; machine = found.machine; alone = found.alone; opens = found.opens; bounded = found.bounded; order = found.order; within = found.within; full = found.full; model = found.model; visited = found.visited; window_is = found.window })
+    c.in-Ok.ensures
     _ _ (g.F.Files.held c.keep.new.files) judgement _ c.in_ok-print.ensures.printed c.in_ok-keep.ensures.kept (spared_after _ _ _ _ c.in_ok-config.ensures.stays c.keep.ensures.spared) c.in_ok-config.ensures.allowed is.0 is.1)
     (ok_both _ _ c.judge.result c.judge.ensures.judged c.judge.ensures.whole)
 
@@ -105,12 +101,11 @@ pub returns-clause-unfinished : goal.returns-clause-unfinished
 returns-clause-unfinished g c =
     let held = g.F.Files.held c.args.files.now in
     let asked = c.in_ok-config.field-0 in
-    let found = c.in-Ok.ensures in
     let program = subst (λ (a : List ℕ). HasProgram held c.args.wanted c.args.words.now asked.image a) (sym c.deref.ensures.value) c.in_ok-config.ensures.program in
     err_more _ _ c.judge.result
     (λ fault is. memory_left fault _ _ _ is
     (has held c.args.wanted c.args.words.now c.args.window asked.config asked.image c.deref.result.now _ c.in-Ok.architecture c.in_ok-config.ensures.config program c.in_ok-config.ensures.names
-    (record { shown = found.shown; machine = found.machine; alone = found.alone; opens = found.opens; bounded = found.bounded; order = found.order; within = found.within; full = found.full; model = found.model; visited = found.visited; window_is = found.window })
+    c.in-Ok.ensures
     _ (all_of _ _ _ c.in_ok-print.ensures.printed)))
     c.judge.ensures.told
 
@@ -154,12 +149,11 @@ pub returns-clause-noted : goal.returns-clause-noted
 returns-clause-noted g c =
     let held = g.F.Files.held c.args.files.now in
     let asked = c.in_ok-config.field-0 in
-    let found = c.in-Ok.ensures in
     let program = subst (λ (a : List ℕ). HasProgram held c.args.wanted c.args.words.now asked.image a) (sym c.deref.ensures.value) c.in_ok-config.ensures.program in
     let remarked = subst (λ (os : List Outcome). AreRemarked c.args.wanted.scripts os (g.E.Write.contents c.args.err.now) (g.E.Write.contents c.tell.new.err)) c.deref-2.ensures.value c.in_ok-tell.ensures.remarked in
     ok_more _ _ c.judge.result
     (λ judgement so.
     noted held c.args.wanted c.args.words.now c.args.window asked.config asked.image c.deref.result.now _ c.in-Ok.architecture c.in_ok-config.ensures.config program c.in_ok-config.ensures.names
-    (record { shown = found.shown; machine = found.machine; alone = found.alone; opens = found.opens; bounded = found.bounded; order = found.order; within = found.within; full = found.full; model = found.model; visited = found.visited; window_is = found.window })
+    c.in-Ok.ensures
     _ _ (g.E.Write.contents c.args.err.now) (g.E.Write.contents c.tell.new.err) (g.E.Write.contents c.judge.new.err) judgement _ c.in_ok-print.ensures.printed remarked c.in_ok-config.ensures.allowed so)
     c.judge.ensures.noted

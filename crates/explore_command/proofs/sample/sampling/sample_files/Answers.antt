@@ -26,11 +26,10 @@ returns-in_err-print-clause-told g c = handed_up _ c.from_residual-in_err-print.
 
 pub returns-in_err-print-clause-unfinished : goal.returns-in_err-print-clause-unfinished
 returns-in_err-print-clause-unfinished g c =
-    let found = c.in-Ok.ensures in
     handed_up _ c.from_residual-in_err-print.result _ c.from_residual-in_err-print.ensures.1
     (output_left _ _ _ _ c.in_err-print.ensures.told
     (has (g.F.Files.held c.args.files.now) c.args.wanted c.args.runs c.in_ok-asked.asked.config c.in_ok-asked.asked.image c.in-Ok.sampled c.in_ok-asked.ensures.config c.in_ok-asked.ensures.image
-    (record { sampled = found.sampled; within = subst (λ (n : ℕ). c.in-Ok.sampled.runs ≤ n) c.from.ensures found.within })
+    c.in-Ok.ensures
     _ c.in_err-print.ensures.begun))
 
 pub returns-in_err-print-clause-spared : goal.returns-in_err-print-clause-spared
@@ -41,8 +40,7 @@ returns-in_err-keep-clause-told g c = handed_up _ c.from_residual-in_err-keep.re
 
 pub returns-in_err-keep-clause-unfinished : goal.returns-in_err-keep-clause-unfinished
 returns-in_err-keep-clause-unfinished g c =
-    let found = c.in-Ok.ensures in
-    let has_text = has (g.F.Files.held c.args.files.now) c.args.wanted c.args.runs c.in_ok-asked.asked.config c.in_ok-asked.asked.image c.in-Ok.sampled c.in_ok-asked.ensures.config c.in_ok-asked.ensures.image (record { sampled = found.sampled; within = subst (λ (n : ℕ). c.in-Ok.sampled.runs ≤ n) c.from.ensures found.within }) in
+    let has_text = has (g.F.Files.held c.args.files.now) c.args.wanted c.args.runs c.in_ok-asked.asked.config c.in_ok-asked.asked.image c.in-Ok.sampled c.in_ok-asked.ensures.config c.in_ok-asked.ensures.image c.in-Ok.ensures in
     handed_up _ c.from_residual-in_err-keep.result _ c.from_residual-in_err-keep.ensures.1
     (folder_left c.args.wanted _ _ _ _ c.in_err-keep.ensures.told (has_text _ (all_of _ _ _ c.in_ok-print.ensures.printed)) (has_text _ c.in_ok-print.ensures.printed))
 
@@ -51,12 +49,11 @@ returns-in_err-keep-clause-spared g c = spared_after _ _ _ _ c.in_ok-asked.ensur
 
 pub returns-clause-sampled : goal.returns-clause-sampled
 returns-clause-sampled g c =
-    let found = c.in-Ok.ensures in
     ok_more _ _ c.judge.result
     (λ judgement so.
     all (g.F.Files.held c.args.files.now) c.args.wanted c.args.runs c.in_ok-asked.asked.config c.in_ok-asked.asked.image c.in-Ok.sampled c.in_ok-asked.ensures.config c.in_ok-asked.ensures.image
-    (record { sampled = found.sampled; within = subst (λ (n : ℕ). c.in-Ok.sampled.runs ≤ n) c.from.ensures found.within })
-    _ _ (g.F.Files.held c.keep.new.files) judgement c.in_ok-print.ensures.printed c.in_ok-keep.ensures.kept (spared_after _ _ _ _ c.in_ok-asked.ensures.stays c.keep.ensures.spared) (judged _ c.args.wanted.allow _ _ judgement c.in_ok-asked.ensures.allowed so.0) (λ is. all_made _ c.args.runs found.within c.from.ensures (so.1 is)))
+    c.in-Ok.ensures
+    _ _ (g.F.Files.held c.keep.new.files) judgement c.in_ok-print.ensures.printed c.in_ok-keep.ensures.kept (spared_after _ _ _ _ c.in_ok-asked.ensures.stays c.keep.ensures.spared) (judged _ c.args.wanted.allow _ _ judgement c.in_ok-asked.ensures.allowed so.0) (λ is. all_made _ c.args.runs c.in-Ok.ensures.within refl (so.1 is)))
     (ok_both _ _ c.judge.result c.judge.ensures.judged c.judge.ensures.whole)
 
 pub returns-clause-told : goal.returns-clause-told
@@ -64,12 +61,11 @@ returns-clause-told g c = err_more _ _ c.judge.result (λ fault is. memory_told 
 
 pub returns-clause-unfinished : goal.returns-clause-unfinished
 returns-clause-unfinished g c =
-    let found = c.in-Ok.ensures in
     err_more _ _ c.judge.result
     (λ fault is.
     memory_left fault _ _ _ is
     (has (g.F.Files.held c.args.files.now) c.args.wanted c.args.runs c.in_ok-asked.asked.config c.in_ok-asked.asked.image c.in-Ok.sampled c.in_ok-asked.ensures.config c.in_ok-asked.ensures.image
-    (record { sampled = found.sampled; within = subst (λ (n : ℕ). c.in-Ok.sampled.runs ≤ n) c.from.ensures found.within })
+    c.in-Ok.ensures
     _ (all_of _ _ _ c.in_ok-print.ensures.printed)))
     c.judge.ensures.told
 
@@ -93,10 +89,9 @@ returns-clause-untouched g c = err_more _ _ c.judge.result (λ fault is early. a
 -- what is told of the ends that were printed
 pub returns-clause-noted : goal.returns-clause-noted
 returns-clause-noted g c =
-    let found = c.in-Ok.ensures in
     ok_more _ _ c.judge.result
     (λ judgement so.
     refusals (g.F.Files.held c.args.files.now) c.args.wanted c.args.runs c.in_ok-asked.asked.config c.in_ok-asked.asked.image c.in-Ok.sampled c.in_ok-asked.ensures.config c.in_ok-asked.ensures.image
-    (record { sampled = found.sampled; within = subst (λ (n : ℕ). c.in-Ok.sampled.runs ≤ n) c.from.ensures found.within })
+    c.in-Ok.ensures
     _ _ _ c.in_ok-print.ensures.printed (refusals_in _ c.args.wanted.allow _ _ _ c.in_ok-asked.ensures.allowed so))
     c.judge.ensures.noted

@@ -1,0 +1,7 @@
+use Rattle.explore_command.proofs.Explored as explored
+use Rattle.explore_command.proofs.exploring.found_in.Goals as goal
+
+pub returns : goal.returns
+returns g c =
+    let is = c.explore-found.ensures in
+    explored.found_in c.args.asked.now.image c.args.asked.now.config c.args.wanted.states c.explore-found.result is.real is.complete is.none_stuck is.some is.stuck is.strict is.within is.full is.visited
