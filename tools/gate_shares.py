@@ -6,8 +6,8 @@ usage: tools/gate_shares.py [COMMAND..]     (from the top of the repository; COM
 It looks twice a second at the processes of the toolchain that run below the command, by Linux's /proc, and
 adds up the processor time that each had taken when it was last seen. So a process's last half second isn't
 counted, and what runs beside the toolchain's own program (the linker, the tests) stands under `other`.
-The command's output goes to standard output; the shares follow it, and the slowest edits: of a crate's edits
-the first is left out, which proves the crate from nothing, and so is the last check, which is of no edit.
+The command's output goes to standard output; the shares follow it, and the slowest edits: of a crate with
+several edits the first check is of the crate as it stands, for the edits to begin with, and so is the last.
 """
 import collections
 import os
@@ -68,8 +68,8 @@ def slowest(seen):
         checks = [*checks.values()]
         folder = f"crates/{crate}/must-fail"
         names = sorted(it for it in os.listdir(folder) if it.endswith(".edit"))
-        if len(checks) == len(names) + 1:
-            found += [(seconds, f"{crate}/{name}") for seconds, name in zip(checks[1:-1], names[1:])]
+        if len(checks) == len(names) + 2:
+            found += [(seconds, f"{crate}/{name}") for seconds, name in zip(checks[1:-1], names)]
     return sorted(found, reverse=True)
 
 
