@@ -10,5 +10,6 @@ mod Numbers
 mod Fronts
 mod PrivateRows
 mod FoundPlans
+mod FoundAccesses
 mod Taken
 pub mod Committed

@@ -1,6 +1,8 @@
 //! What an instruction comes to by its access: each check in its order, and then the act.
-ghost use Rattle.std.specs.Prelude.{◌≡◌, ◌<◌, ◌*◌, ◌%◌, ◌^◌, slice_index, Some};
+ghost use Rattle.std.specs.Prelude.{◌≡◌, ◌<◌, ◌*◌, ◌%◌, ◌^◌, None, slice_index, Some};
 ghost use Rattle.machine_model.specs.Steps as spec;
+ghost use Rattle.machine_model.specs.Words.{read_from};
+ghost use Rattle.machine_model.specs.declared.act.Deed.TheVariants as deed;
 ghost use Rattle.memory_model.specs.declared.operation.Kind.TheVariants.{Load, Store};
 ghost use Rattle.memory_model.specs.Rules.{fences};
 ghost use Rattle.machine_parts.specs.Accesses.{fetched_of};
@@ -62,14 +64,21 @@ pub(crate) fn plan_load(
 {
     let word = word_of(address);
     let (marks, waiting) = node.buffer.forward(word);
-    let bytes = if marks.covers(marks_of(address, width)) {
-        waiting
-    } else {
-        match reading(&node.cache, line_of(config.line, address)) {
-            Ok(line) => marks.lay_over(waiting, word_in(&line, word)),
-            Err(miss) => return miss,
-        }
+    if marks.covers(marks_of(address, width)) {
+        return load_of(node, fetched, waiting, address, width);
+    }
+    let line = match reading(&node.cache, line_of(config.line, address)) {
+        Ok(line) => line,
+        Err(miss) => return miss,
     };
+    let bytes = marks.lay_over(waiting, word_in(&line, word));
+    load_of(node, fetched, bytes, address, width)
+}
+
+/// A load from a word that has these bytes.
+fn load_of(node: &Node, fetched: &Fetched, bytes: [u8; 4], address: u32, width: Width) -> Plan
+    ensures { result ≡ spec.retires node.now (fetched_of fetched.now) (Some (read_from bytes address (byte_count width))) None deed.Load }
+{
     let loaded = read_from(bytes, address, width);
     retires(node, fetched, Some(loaded), None, Deed::Load)
 }

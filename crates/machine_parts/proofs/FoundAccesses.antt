@@ -1,0 +1,68 @@
+-- What an access comes to by what its checks found.
+use Rattle.std.specs.Prelude.{ℕ, ◌≡◌, ◌%◌, Bool, true, false, if◌then◌else◌, List, Some, None}
+use Rattle.std.proofs.Common.{sym, ◌∙◌, ap}
+use Rattle.std.specs.declared.result.Result.{Result}
+use Rattle.client_cache.specs.Cache.{Cache}
+use Rattle.machine_model.specs.Deciding.{reading, writing}
+use Rattle.machine_model.specs.Steps.{Fetched, plan_amo, plan_load, retires, update, write_waits}
+use Rattle.machine_model.specs.Views.{Node, line_of}
+use Rattle.machine_model.specs.Words.{read_from, word_in, word_of}
+use Rattle.machine_model.specs.declared.act.Deed.TheVariants as deed
+use Rattle.machine_model.specs.declared.act.Plan.{Plan}
+use Rattle.machine_model.specs.declared.act.Plan.TheVariants.{Stays}
+use Rattle.machine_parts.specs.Deciding.{with_line}
+use Rattle.machine_types.specs.declared.model.MemoryModel.{MemoryModel}
+use Rattle.machine_types.specs.declared.outcome.Outcome.TheVariants.{MustDrain}
+use Rattle.rv32_decode.specs.declared.instruction.AmoOp.{AmoOp}
+use Rattle.store_buffer.specs.ByteMask.{covers, laid_over, marks_of_access}
+use Rattle.store_buffer.specs.Groups.{Groups, forwarded}
+use Rattle.tl_types.specs.declared.line.LineData.{LineData}
+
+-- ---- loads
+
+-- from the line, under what waits for its word
+abbrev pub load_from : Node → Fetched → (address bytes word : ℕ) → List Bool × List ℕ → LineData → Plan
+load_from n f address bytes word waiting line = retires n f (Some (read_from (laid_over waiting.0 waiting.1 (word_in line word)) address bytes)) None deed.Load
+
+abbrev load_by : Node → Fetched → (address bytes word : ℕ) → List Bool × List ℕ → Bool → Plan
+load_by n f address bytes word waiting covered =
+    if covered
+    then retires n f (Some (read_from waiting.1 address bytes)) None deed.Load
+    else reading (load_from n f address bytes word waiting) n.cache (line_of n.cache.shape.size address)
+
+load_is : (n : Node) (f : Fetched) (address bytes word : ℕ) (waiting : List Bool × List ℕ) (marks : List Bool) (buffer : Groups) → word ≡ word_of address → waiting ≡ forwarded word buffer → marks ≡ marks_of_access (address % 4) bytes → buffer ≡ n.buffer
+    → load_by n f address bytes word waiting (covers waiting.0 marks) ≡ plan_load n f address bytes
+load_is n f address bytes word waiting marks buffer e found asked same =
+    ap (λ (m : List Bool). load_by n f address bytes word waiting (covers waiting.0 m)) asked
+    ∙ (ap (λ (w : List Bool × List ℕ). load_by n f address bytes word w (covers w.0 (marks_of_access (address % 4) bytes))) (found ∙ ap (forwarded word) same)
+    ∙ ap (λ (k : ℕ). load_by n f address bytes k (forwarded k n.buffer) (covers (forwarded k n.buffer).0 (marks_of_access (address % 4) bytes))) e)
+
+-- where all its bytes wait
+pub load_waiting : (n : Node) (f : Fetched) (address bytes word : ℕ) (waiting : List Bool × List ℕ) (marks : List Bool) (buffer : Groups) → word ≡ word_of address → waiting ≡ forwarded word buffer → marks ≡ marks_of_access (address % 4) bytes → buffer ≡ n.buffer
+    → covers waiting.0 marks ≡ true → retires n f (Some (read_from waiting.1 address bytes)) None deed.Load ≡ plan_load n f address bytes
+load_waiting n f address bytes word waiting marks buffer e found asked same covered =
+    sym (ap (load_by n f address bytes word waiting) covered) ∙ load_is n f address bytes word waiting marks buffer e found asked same
+
+-- where the copy is wanted, at what was found of it
+pub load_reading : (n : Node) (f : Fetched) (address bytes word line : ℕ) (waiting : List Bool × List ℕ) (marks : List Bool) (buffer : Groups) (cache : Cache) (found copy : Result LineData Plan)
+    → word ≡ word_of address → waiting ≡ forwarded word buffer → marks ≡ marks_of_access (address % 4) bytes → buffer ≡ n.buffer
+    → covers waiting.0 marks ≡ false → line ≡ line_of n.cache.shape.size address → cache ≡ n.cache → ((go : LineData → Plan) → reading go cache line ≡ with_line go found) → found ≡ copy
+    → with_line (load_from n f address bytes word waiting) copy ≡ plan_load n f address bytes
+load_reading n f address bytes word line waiting marks buffer cache found copy e forwards asked same free at there reads is =
+    let go = load_from n f address bytes word waiting in
+    sym (reads go ∙ ap (with_line go) is) ∙ (ap (λ (c : Cache). reading go c line) there ∙ (ap (reading go n.cache) at
+    ∙ (sym (ap (load_by n f address bytes word waiting) free) ∙ load_is n f address bytes word waiting marks buffer e forwards asked same)))
+
+-- ---- AMOs that no store holds up
+
+abbrev pub amo_of : Node → Fetched → (address : ℕ) → AmoOp → (operand : ℕ) → LineData → Plan
+amo_of n f address op operand line = update n f address op operand (read_from (word_in line address) address 4)
+
+pub amo_writing : (model : MemoryModel) (n : Node) (f : Fetched) (address : ℕ) (op : AmoOp) (operand line : ℕ) (buffer : Groups) (cache : Cache) (found copy : Result LineData Plan)
+    → buffer ≡ n.buffer → write_waits model buffer f.instr address ≡ false → line ≡ line_of n.cache.shape.size address → cache ≡ n.cache → ((go : LineData → Plan) → writing go cache line ≡ with_line go found) → found ≡ copy
+    → with_line (amo_of n f address op operand) copy ≡ plan_amo model n f address op operand
+amo_writing model n f address op operand line buffer cache found copy same free at there writes is =
+    let go = amo_of n f address op operand in
+    let none = ap (λ (b : Groups). write_waits model b f.instr address) (sym same) ∙ free in
+    sym (writes go ∙ ap (with_line go) is) ∙ (ap (λ (c : Cache). writing go c line) there ∙ (ap (writing go n.cache) at
+    ∙ sym (ap (λ (b : Bool). if b then Stays MustDrain else writing go n.cache (line_of n.cache.shape.size address)) none)))
