@@ -204,7 +204,7 @@ nothing-from_legal None None (Some p) e = cc
 nothing-from_legal None (Some a) p e = cc
 nothing-from_legal (Some f) v p e = cc
 
-legal-from_nothing : (f : Option (Rule × Operation × Operation)) (v : Option Operation) (p : Option (Operation × Operation)) → f ≡ None → v ≡ None → p ≡ None → verdict_by f v p ≡ Legal
+pub legal-from_nothing : (f : Option (Rule × Operation × Operation)) (v : Option Operation) (p : Option (Operation × Operation)) → f ≡ None → v ≡ None → p ≡ None → verdict_by f v p ≡ Legal
 legal-from_nothing f v p a b c = rw (a, b, c) refl
 
 pub legal-from_judged : (model : MemoryModel) (image : ℕ → ℕ) (harts : List (List Item)) (order : List Operation) → judged model image harts order ≡ Legal → IsLegal model image harts order
