@@ -9,7 +9,6 @@ mod fetching;
 mod finding;
 mod joining;
 mod left_out;
-mod liveness;
 mod memory;
 mod node;
 mod notes;
