@@ -1,13 +1,9 @@
 //! The machines, the checker and the command line on kept files: scripts played as kept, traces judged as
 //! kept, the examples played by their scripts and explored, and files that are spoiled.
 
-mod case;
 mod ends;
 mod examples;
-mod flat;
-mod machines;
 mod memory;
-mod play;
 mod rows;
 mod said;
 mod spoiled;

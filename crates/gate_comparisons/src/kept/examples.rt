@@ -2,7 +2,6 @@
 //! out, and the status with which it is explained.
 
 use super::said::Said;
-use command_files::SystemFiles;
 use std::io::{self, Write};
 use std::rt::Files;
 use std::sync::Wait;
@@ -30,15 +29,24 @@ pub fn play_all<R: Files + Threads + Wait + Sync + AllocGlobal, W: Write>(
     out: &mut W,
 ) -> io::Result<()> {
     let mut said = Said::nothing(rt.alloc());
-    for name in EXAMPLES {
-        ask(rt, "replay", name, &mut said)?;
-        writeln!(out, "{name}")?;
-        out.write_all(last_lines(&said.out))?;
-        out.write_all(&said.err)?;
-        ask(rt, "explain", name, &mut said)?;
-        writeln!(out, "explained: status {}", said.status)?;
+    for name in &EXAMPLES {
+        play(rt, name, &mut said, out)?;
     }
     Ok(())
+}
+
+fn play<R: Files + Threads + Wait + Sync + AllocGlobal, W: Write>(
+    rt: &R,
+    name: &str,
+    said: &mut Said,
+    out: &mut W,
+) -> io::Result<()> {
+    ask(rt, "replay", name, said)?;
+    writeln!(out, "{name}")?;
+    out.write_all(last_lines(&said.out))?;
+    out.write_all(&said.err)?;
+    ask(rt, "explain", name, said)?;
+    writeln!(out, "explained: status {}", said.status)
 }
 
 fn ask<R: Files + Threads + Wait + Sync + AllocGlobal>(
@@ -51,7 +59,7 @@ fn ask<R: Files + Threads + Wait + Sync + AllocGlobal>(
     let image = format!(in alloc; "{name}.elf")?;
     let script = format!(in alloc; "{name}.script")?;
     let words = ["rvtl", command, image.as_str(), script.as_str()];
-    said.ask(rt, &words, &mut SystemFiles::new(rt));
+    said.ask_of_system(rt, &words);
     Ok(())
 }
 

@@ -5,19 +5,11 @@
 //! and its memory model. Each case is played with the plain flat machine beside the machine, too, and each
 //! wrong variant of the flat machine is refuted by a script.
 
-use super::case::Case;
-use super::flat::{WRONG, play_beside};
-use super::play::Played;
 use super::said::Said;
-use crate::images::ImageKind;
-use crate::lockstep::{Counts, Failures};
 use anyhow::{Result, bail, ensure};
-use coherent_machine::Machine;
-use command_files::SystemFiles;
-use gate_plain_machine::{PlainMachine, Variant};
-use machine_types::MemoryModel;
+use gate_plain_comparisons::{Case, Counts, Differences, ImageKind, Played, refute_all, show};
 use std::fs;
-use std::io::Write;
+use std::io::{self, Write};
 use std::rt::Files;
 use std::str::from_utf8;
 use std::sync::Wait;
@@ -33,15 +25,14 @@ fn ask<'a, R: Files + Threads + Wait + Sync + AllocGlobal>(
     let model = case.model_name();
     let image = case.image_path.as_str();
     let script = case.script_path.as_str();
-    let mut files = SystemFiles::new(rt);
     match case.kind {
         ImageKind::Raw => {
             let words = ["rvtl", command, "--raw", "--model", model, image, script];
-            said.ask(rt, &words, &mut files);
+            said.ask_of_system(rt, &words);
         }
         ImageKind::Elf => {
             let words = ["rvtl", command, "--model", model, image, script];
-            said.ask(rt, &words, &mut files);
+            said.ask_of_system(rt, &words);
         }
     }
 }
@@ -101,6 +92,24 @@ fn is_explained(name: &str, case: &Case, said: &Said) -> Result<()> {
     Ok(())
 }
 
+/// Prints in what the machines and the command line differ from what is kept of a case; whether in nothing.
+fn print<W: Write>(
+    name: &str,
+    machines: Differences,
+    program: Option<&'static str>,
+    out: &mut W,
+) -> io::Result<bool> {
+    let Differences { plain, coherent } = machines;
+    writeln!(
+        out,
+        "{name}: plain {}, coherent {}, program {}",
+        plain.unwrap_or("as kept"),
+        coherent.unwrap_or("as kept"),
+        program.unwrap_or("as kept")
+    )?;
+    Ok(plain.is_none() && coherent.is_none() && program.is_none())
+}
+
 /// What cases are played with.
 #[derive(Drop)]
 struct Stage {
@@ -119,21 +128,10 @@ impl Stage {
         name: &str,
         out: &mut W,
     ) -> Result<bool> {
-        let alloc = rt.alloc();
-        self.played.play::<PlainMachine>(alloc, &self.case)?;
-        let plain = self.played.difference(&self.case);
-        self.played.play::<Machine>(alloc, &self.case)?;
-        let coherent = self.played.difference(&self.case);
+        let machines = self.played.differences(rt.alloc(), &self.case)?;
         ask(rt, "replay", &self.case, &mut self.said);
         let program = printed_difference(&self.said, &self.case);
-        writeln!(
-            out,
-            "{name}: plain {}, coherent {}, program {}",
-            plain.unwrap_or("as kept"),
-            coherent.unwrap_or("as kept"),
-            program.unwrap_or("as kept")
-        )?;
-        Ok(plain.is_none() && coherent.is_none() && program.is_none())
+        Ok(print(name, machines, program, out)?)
     }
 
     /// The flat machine shows each event of the case, and the command line draws and explains it.
@@ -142,20 +140,28 @@ impl Stage {
         rt: &R,
         name: &str,
     ) -> Result<()> {
-        let difference = play_beside(
-            rt.alloc(),
-            &self.case,
-            Variant::Right,
-            Failures::Follow,
-            &mut self.counts,
-        )?;
-        if let Some((difference, event)) = difference {
-            bail!("{name}: flat machine: {difference} behind event {event}");
-        }
+        show(rt.alloc(), name, &self.case, &mut self.counts)?;
         ask(rt, "chart", &self.case, &mut self.said);
         is_drawn(name, &self.case, &self.said)?;
         ask(rt, "explain", &self.case, &mut self.said);
         is_explained(name, &self.case, &self.said)
+    }
+
+    /// Plays the case of a line, and says what of it isn't as kept; whether all is.
+    fn play_case<R: Files + Threads + Wait + Sync + AllocGlobal, W: Write>(
+        &mut self,
+        rt: &R,
+        line: &str,
+        out: &mut W,
+    ) -> Result<bool> {
+        let Some(name) = self.case.set(line) else {
+            bail!("no case: {line}");
+        };
+        self.case.load(rt, name)?;
+        self.case.load_texts(rt, name)?;
+        let is_kept = self.play(rt, name, out)?;
+        self.show(rt, name)?;
+        Ok(is_kept)
     }
 
     /// Plays the cases of these lines; whether each is as kept.
@@ -167,50 +173,29 @@ impl Stage {
     ) -> Result<bool> {
         let mut all_kept = true;
         for line in cases.lines() {
-            let Some(name) = self.case.set(line) else {
-                bail!("no case: {line}");
-            };
-            self.case.load(rt, name)?;
-            self.case.load_texts(rt, name)?;
-            all_kept = self.play(rt, name, out)? && all_kept;
-            self.show(rt, name)?;
+            all_kept = self.play_case(rt, line, out)? && all_kept;
         }
         Ok(all_kept)
     }
 
-    /// The flat machine shows each event of the wrong variant's script, and the wrong variant doesn't.
-    fn refute<R: Files + AllocGlobal, W: Write>(
-        &mut self,
-        rt: &R,
-        name: &str,
-        variant: Variant,
-        out: &mut W,
-    ) -> Result<()> {
-        let case = &mut self.case;
-        case.kind = ImageKind::Raw;
-        case.model = MemoryModel::Rvwmo;
-        case.load(rt, name)?;
-        let decide = Failures::Decide;
-        let mut counts = Counts::nothing();
-        let right = play_beside(rt.alloc(), case, Variant::Right, decide, &mut counts)?;
-        ensure!(right.is_none(), "{name}: the flat machine differs");
-        let wrong = play_beside(rt.alloc(), case, variant, decide, &mut counts)?;
-        let Some((difference, event)) = wrong else {
-            bail!("{name}: the wrong variant isn't refuted");
-        };
-        writeln!(out, "flat, {name}: {difference} behind event {event}")?;
-        Ok(())
-    }
-
-    /// Says what was found of all cases, and refutes each wrong variant.
-    fn conclude<R: Files + AllocGlobal, W: Write>(&mut self, rt: &R, out: &mut W) -> Result<()> {
-        let counts = self.counts;
+    /// Says what was found of all cases.
+    fn conclude<W: Write>(&self, out: &mut W) -> io::Result<()> {
         writeln!(out, "each is drawn, with an arrow for each of its messages")?;
         writeln!(out, "each is explained, with the lines of its trace")?;
-        writeln!(out, "flat: {counts}")?;
-        for (name, variant) in WRONG {
-            self.refute(rt, name, variant, out)?;
-        }
+        writeln!(out, "flat: {}", self.counts)
+    }
+
+    /// Plays the cases of these lines, and refutes each wrong variant.
+    fn play_all<R: Files + Threads + Wait + Sync + AllocGlobal, W: Write>(
+        &mut self,
+        rt: &R,
+        cases: &str,
+        out: &mut W,
+    ) -> Result<()> {
+        let all_kept = self.play_cases(rt, cases, out)?;
+        self.conclude(out)?;
+        refute_all(rt, out)?;
+        ensure!(all_kept, "a case differs");
         Ok(())
     }
 }
@@ -220,15 +205,12 @@ pub fn play_all<R: Files + Threads + Wait + Sync + AllocGlobal, W: Write>(
     rt: &R,
     out: &mut W,
 ) -> Result<()> {
+    let cases = fs::read_to_string(rt, "cases")?;
     let mut stage = Stage {
         case: Case::blank(rt.alloc()),
         played: Played::nothing(rt.alloc()),
         said: Said::nothing(rt.alloc()),
         counts: Counts::nothing(),
     };
-    let cases = fs::read_to_string(rt, "cases")?;
-    let all_kept = stage.play_cases(rt, cases.as_str(), out)?;
-    stage.conclude(rt, out)?;
-    ensure!(all_kept, "a case differs");
-    Ok(())
+    stage.play_all(rt, cases.as_str(), out)
 }

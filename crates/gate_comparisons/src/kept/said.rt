@@ -1,9 +1,10 @@
 //! What the command line says.
 
-use command_files::Files;
+use command_files::{Files, SystemFiles};
 use command_line::run_line;
 use progress_line::Silent;
 use std::alloc::Global;
+use std::io::{self, Write};
 use std::sync::Wait;
 use std::thread::Threads;
 
@@ -43,5 +44,20 @@ impl Said {
             &mut self.err,
             &Silent,
         );
+    }
+
+    /// Runs the command line over the system's files.
+    pub fn ask_of_system<R: std::rt::Files + Threads + Wait + Sync + AllocGlobal>(
+        &mut self,
+        rt: &R,
+        words: &[&str],
+    ) {
+        self.ask(rt, words, &mut SystemFiles::new(rt));
+    }
+
+    /// Prints what was printed, and then what was told.
+    pub fn print<W: Write>(&self, out: &mut W) -> io::Result<()> {
+        out.write_all(&self.out)?;
+        out.write_all(&self.err)
     }
 }

@@ -5,9 +5,8 @@
 use super::memory::{File, MemoryFiles};
 use super::said::Said;
 use super::spoiling::{cut, reset};
-use crate::images::ImageKind;
-use crate::numbers::Numbers;
 use anyhow::{Result, bail, ensure};
+use gate_plain_comparisons::{ImageKind, Numbers};
 use std::fs;
 use std::rt::Files;
 use std::sync::Wait;
@@ -43,31 +42,52 @@ fn words_for(kind: ImageKind) -> &'static [&'static str] {
 pub fn spoil_all<R: Files + Threads + Wait + Sync + AllocGlobal>(rt: &R) -> Result<()> {
     let mut stream = Numbers::from_seed(1);
     let mut said = Said::nothing(rt.alloc());
-    for (image, script, kind) in REPLAYS {
-        let image = fs::read(rt, image)?;
-        let script = fs::read(rt, script)?;
-        let image = File {
-            name: "image",
-            bytes: &image,
-        };
-        let script = File {
-            name: "script",
-            bytes: &script,
-        };
-        let words = words_for(kind);
-        spoil(rt, words, image, script, &mut stream, &mut said)?;
-        spoil(rt, words, script, image, &mut stream, &mut said)?;
+    for (image, script, kind) in &REPLAYS {
+        spoil_replay(rt, image, script, *kind, &mut stream, &mut said)?;
     }
-    for trace in TRACES {
-        let bytes = fs::read(rt, trace)?;
-        let trace = File {
-            name: "trace",
-            bytes: &bytes,
-        };
-        let words = ["rvtl", "check", "trace"];
-        spoil(rt, &words, trace, trace, &mut stream, &mut said)?;
+    for trace in &TRACES {
+        spoil_trace(rt, trace, &mut stream, &mut said)?;
     }
     Ok(())
+}
+
+/// Spoils an image beside its script, and the script beside the image.
+fn spoil_replay<R: Files + Threads + Wait + Sync + AllocGlobal>(
+    rt: &R,
+    image: &str,
+    script: &str,
+    kind: ImageKind,
+    stream: &mut Numbers,
+    said: &mut Said,
+) -> Result<()> {
+    let image = fs::read(rt, image)?;
+    let script = fs::read(rt, script)?;
+    let image = File {
+        name: "image",
+        bytes: &image,
+    };
+    let script = File {
+        name: "script",
+        bytes: &script,
+    };
+    let words = words_for(kind);
+    spoil(rt, words, image, script, stream, said)?;
+    spoil(rt, words, script, image, stream, said)
+}
+
+fn spoil_trace<R: Files + Threads + Wait + Sync + AllocGlobal>(
+    rt: &R,
+    trace: &str,
+    stream: &mut Numbers,
+    said: &mut Said,
+) -> Result<()> {
+    let bytes = fs::read(rt, trace)?;
+    let trace = File {
+        name: "trace",
+        bytes: &bytes,
+    };
+    let words = ["rvtl", "check", "trace"];
+    spoil(rt, &words, trace, trace, stream, said)
 }
 
 /// Spoils a file in each way beside one that stays as it is.

@@ -1,6 +1,6 @@
 //! What is done to a file's bytes: they are cut short, or some of them are set.
 
-use crate::numbers::Numbers;
+use gate_plain_comparisons::Numbers;
 use std::alloc::AllocError;
 
 /// A number below the limit, or 0 where there is none. Of 24 bits, unlike `Numbers::below`: files may have more

@@ -92,10 +92,13 @@ pub fn every_flat_event(
         line: LineSize::Bytes16,
         model,
     };
+    let mut lockstep = at_reset(alloc, config)?;
+    play(&mut lockstep, events)
+}
+
+fn at_reset(alloc: Global, config: Config) -> Result<Lockstep> {
     let image = image_of_words(alloc, &PROGRAM)?;
-    let mut lockstep = Lockstep::at_reset(alloc, image, config, Variant::Right, Failures::Follow)?;
-    play(&mut lockstep, events)?;
-    Ok(lockstep.counts)
+    Lockstep::at_reset(alloc, image, config, Variant::Right, Failures::Follow)
 }
 
 /// Applies the event of this index, and compares what it comes to, now and then all.
@@ -110,7 +113,7 @@ fn difference_behind(
     }
 }
 
-fn play(lockstep: &mut Lockstep, events: u32) -> Result<()> {
+fn play(lockstep: &mut Lockstep, events: u32) -> Result<Counts> {
     let mut numbers = Numbers::from_seed(1);
     for index in 1..=events {
         let event = event_of(numbers.below(64));
@@ -121,5 +124,5 @@ fn play(lockstep: &mut Lockstep, events: u32) -> Result<()> {
     let counts = lockstep.counts;
     ensure!(counts.successes > 0, "no SC succeeds");
     ensure!(counts.failures > 0, "no SC fails for no reason");
-    Ok(())
+    Ok(counts)
 }

@@ -16,6 +16,17 @@ struct Write {
     value: u32,
 }
 
+impl Write {
+    fn put_in(&self, memory: &mut [u8]) {
+        let bytes = self.value.to_le_bytes();
+        if let Some(rest) = memory.get_mut(place_of(self.address)..) {
+            for (kept, byte) in rest.iter_mut().zip(bytes.iter().take(self.bytes)) {
+                *kept = *byte;
+            }
+        }
+    }
+}
+
 /// What was performed, and what waits to be.
 #[derive(Drop)]
 pub struct Written {
@@ -68,13 +79,7 @@ impl Written {
         for write in self.writes.iter() {
             if write.operation == operation {
                 self.last = write.address - write.address % 4;
-                let bytes = write.value.to_le_bytes();
-                let place = place_of(write.address);
-                if let Some(rest) = self.memory.as_mut_slice().get_mut(place..) {
-                    for (kept, byte) in rest.iter_mut().zip(bytes.iter().take(write.bytes)) {
-                        *kept = *byte;
-                    }
-                }
+                write.put_in(self.memory.as_mut_slice());
             }
         }
     }

@@ -69,15 +69,21 @@ fn play(pair: &mut Pair) -> Result<()> {
 /// Plays each stream, and says how many events were alike or shown.
 pub fn play_all<W: Write>(alloc: Global, out: &mut W) -> Result<()> {
     let models = [("rvwmo", MemoryModel::Rvwmo), ("ztso", MemoryModel::Ztso)];
-    for (name, model) in models {
-        every_event(alloc, model)?;
+    for (name, model) in &models {
+        every_event(alloc, *model)?;
         writeln!(out, "{name}: {EVENTS} events alike")?;
     }
-    for (name, model) in models {
-        for ways in 1..=2 {
-            let counts = every_flat_event(alloc, model, ways, EVENTS)?;
-            writeln!(out, "flat, {name}, ways {ways}: {counts}")?;
-        }
+    for (name, model) in &models {
+        play_flat(alloc, name, *model, out)?;
+    }
+    Ok(())
+}
+
+/// Plays the stream of the plain flat machine in sets of one line and of two.
+fn play_flat<W: Write>(alloc: Global, name: &str, model: MemoryModel, out: &mut W) -> Result<()> {
+    for ways in 1..=2 {
+        let counts = every_flat_event(alloc, model, ways, EVENTS)?;
+        writeln!(out, "flat, {name}, ways {ways}: {counts}")?;
     }
     Ok(())
 }

@@ -2,6 +2,7 @@
 //! two neighbouring performed operations exchanged, under both memory models, and compares what they answer.
 //! A file has one trace behind another.
 
+use super::are_alike;
 use super::traces::Traces;
 use anyhow::{Result, bail, ensure};
 use machine_types::MemoryModel;
@@ -83,6 +84,5 @@ fn compare_each(
 fn compare(alloc: Global, trace: &Trace, order: &[OpId], model: MemoryModel) -> Result<()> {
     let indexed = rvwmo_order::check_model(alloc, trace, order, model);
     let plain = plain::check_model(alloc, trace, order, model);
-    ensure!(indexed == plain, "{indexed:?} and {plain:?}");
-    Ok(())
+    are_alike(&indexed, &plain)
 }

@@ -7,7 +7,8 @@ mod orders;
 mod plain;
 mod traces;
 
-use anyhow::Result;
+use anyhow::{Result, ensure};
+use std::fmt::Debug;
 use std::io::Write;
 use std::rt::Files;
 
@@ -16,4 +17,10 @@ pub fn judge_all<R: Files + AllocGlobal, W: Write>(rt: &R, out: &mut W) -> Resul
     orders::judge_files(rt, out)?;
     logs::judge_logs(rt, out)?;
     logs::judge_wrong(rt, out)
+}
+
+// Fails where two answers differ.
+fn are_alike<T: PartialEq + Debug>(one: &T, other: &T) -> Result<()> {
+    ensure!(one == other, "{one:?} and {other:?}");
+    Ok(())
 }

@@ -3,7 +3,7 @@
 //! with those of a plain body that counts in the log anew at each entry.
 
 use super::traces::Traces;
-use super::{changes, plain};
+use super::{are_alike, changes, plain};
 use anyhow::{Result, bail, ensure};
 use lawful_log::{LogRule, LogVerdict, check_log};
 use std::alloc::Global;
@@ -47,9 +47,8 @@ pub fn judge_logs<R: Files + AllocGlobal, W: Write>(rt: &R, out: &mut W) -> Resu
 
 /// Judges the logs of wrong machines, and says of each which rule it breaks, and at which entry.
 pub fn judge_wrong<R: Files + AllocGlobal, W: Write>(rt: &R, out: &mut W) -> Result<()> {
-    for name in WRONG {
-        let bytes = fs::read(rt, name)?;
-        match judge_first(rt.alloc(), &bytes)? {
+    for name in &WRONG {
+        match judge_first(rt, name)? {
             LogVerdict::Lawful => bail!("{name} is lawful"),
             LogVerdict::Unlawful { rule, index } => writeln!(out, "{name}: {rule} {index}")?,
         }
@@ -57,10 +56,11 @@ pub fn judge_wrong<R: Files + AllocGlobal, W: Write>(rt: &R, out: &mut W) -> Res
     Ok(())
 }
 
-// The verdict on the log of the trace that stands first.
-fn judge_first(alloc: Global, bytes: &[u8]) -> Result<LogVerdict> {
-    let trace = Traces { rest: bytes }.next(alloc)?;
-    judge(alloc, trace.log())
+// The verdict on the log of the trace that stands first in a file.
+fn judge_first<R: Files + AllocGlobal>(rt: &R, name: &str) -> Result<LogVerdict> {
+    let bytes = fs::read(rt, name)?;
+    let trace = Traces { rest: &bytes }.next(rt.alloc())?;
+    judge(rt.alloc(), trace.log())
 }
 
 impl Judged {
@@ -68,10 +68,9 @@ impl Judged {
         let mut file = Traces { rest: bytes };
         for number in 0..TRACES {
             let trace = file.next(alloc)?;
-            ensure!(
-                self.judge_log(alloc, trace.log())?,
-                "the log of trace {number} isn't lawful"
-            );
+            if !self.judge_log(alloc, trace.log())? {
+                bail!("the log of trace {number} isn't lawful");
+            }
         }
         ensure!(file.rest.is_empty(), "the file has more traces");
         Ok(())
@@ -148,6 +147,6 @@ impl Judged {
 fn judge(alloc: Global, log: &[Logged]) -> Result<LogVerdict> {
     let verdict = check_log(alloc, log)?;
     let plain = plain::judge(log);
-    ensure!(verdict == plain, "{verdict:?} and {plain:?}");
+    are_alike(&verdict, &plain)?;
     Ok(verdict)
 }

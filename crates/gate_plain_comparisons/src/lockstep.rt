@@ -16,7 +16,7 @@ use rv32_exec::{Action, plan};
 use same::difference_of;
 use std::alloc::Global;
 use std::fmt;
-use trace_recorder::OpId;
+use trace_recorder::{OpId, Trace};
 use written::Written;
 
 /// What the flat machine makes of an SC that fails in the machine though its flat reservation stands.
@@ -84,6 +84,18 @@ pub struct Lockstep {
     pub counts: Counts,
 }
 
+/// The last instruction that a hart has retired, and its place in the hart's list.
+fn last_entry(trace: &Trace, hart: u8) -> Option<(u32, &Retired)> {
+    let hart = usize::from(hart);
+    if hart >= trace.harts() {
+        return None;
+    }
+    let entries = trace.entries(hart);
+    let entry = entries.last()?;
+    let length = u32::try_from(entries.len()).unwrap_or(0);
+    Some((length.checked_sub(1)?, entry))
+}
+
 impl Lockstep {
     /// Both at reset.
     pub fn at_reset(
@@ -122,29 +134,23 @@ impl Lockstep {
         Some(plan(&instr, hart.pc, &hart.regs, image.size()))
     }
 
-    /// The last instruction that a hart has retired, and its place in the hart's list.
-    fn last_entry(&self, hart: u8) -> Option<(u32, Retired)> {
-        let trace = self.machine.trace();
-        let hart = usize::from(hart);
-        if hart >= trace.harts() {
-            return None;
-        }
-        let entries = trace.entries(hart);
-        let entry = *entries.last()?;
-        let length = u32::try_from(entries.len()).unwrap_or(0);
-        Some((length.checked_sub(1)?, entry))
-    }
-
     /// The flat event of a step that retired, which writes what it does; an SC may fail though its flat
     /// reservation stands.
     fn retires(&mut self, hart: u8, access: Option<Action>) -> Result<FlatEvent> {
-        if let (Some(access), Some((place, entry))) = (access, self.last_entry(hart)) {
-            self.written.retired(OpId { hart, place }, access, &entry)?;
-            if let (Action::Sc { addr, .. }, Some(is_success)) = (access, entry.sc_ok) {
-                return Ok(self.ends_conditional(hart, addr, is_success));
+        let Some(access) = access else {
+            return Ok(FlatEvent::Step { hart });
+        };
+        let Some((place, entry)) = last_entry(self.machine.trace(), hart) else {
+            return Ok(FlatEvent::Step { hart });
+        };
+        let is_success = entry.sc_ok;
+        self.written.retired(OpId { hart, place }, access, entry)?;
+        Ok(match (access, is_success) {
+            (Action::Sc { addr, .. }, Some(is_success)) => {
+                self.ends_conditional(hart, addr, is_success)
             }
-        }
-        Ok(FlatEvent::Step { hart })
+            _ => FlatEvent::Step { hart },
+        })
     }
 
     /// The flat event of an SC that has retired.
