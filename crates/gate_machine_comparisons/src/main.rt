@@ -3,15 +3,15 @@
 #![tactic(auto)]
 
 mod allowed;
-mod refused;
 mod walked;
 mod words;
 
 use anyhow::Result;
+use gate_refusals::play_all;
 use std::env;
 
 fn main(rt: HostRuntime) -> Result<()> {
-    refused::play_all(&rt)?;
+    play_all(&rt)?;
     // With an argument that is all, to be tried with each allocation refused in turn.
     if env::args(&rt)?.count() > 1 {
         return Ok(());

@@ -1,9 +1,9 @@
 //! What a hart runs by itself, applied as an event, adopted by a machine and committed to a fabric as a batch.
 
-use super::case::Case;
-use super::fabric::play_fabric;
-use super::machine::{apply, at_reset};
-use super::shown::{Pages, show_machine};
+use crate::case::Case;
+use crate::fabric::play_fabric;
+use crate::machine::{apply, at_reset};
+use crate::shown::{Pages, show_machine};
 use anyhow::{Result, ensure};
 use coherent_machine::{AdoptError, Machine};
 use hart::{Batch, run_local};

@@ -1,7 +1,7 @@
 //! A case's events applied one by one, and replayed as one list. A call that wants memory is made again.
 
-use super::case::Case;
-use super::shown::{Pages, show_machine};
+use crate::case::Case;
+use crate::shown::{Pages, show_machine};
 use anyhow::{Result, bail, ensure};
 use coherent_machine::{ApplyError, Machine, NewError, ReplayError, replay};
 use hart::Status;

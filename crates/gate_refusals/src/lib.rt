@@ -2,6 +2,7 @@
 //! the call that met it is to say so and to leave all as it was, and the same call again is to go on.
 //! Whichever allocation of these plays is refused, the outcomes, the traces and the harts' ends are to be the kept
 //! ones, so the program prints the same. What wanted memory it tells on standard error.
+#![tactic(auto)]
 
 mod batch;
 mod case;

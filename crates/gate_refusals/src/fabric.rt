@@ -4,9 +4,9 @@
 
 ghost use Rattle.std.specs.Prelude.{◌≡◌, length, IfOk, IfSome};
 
-use super::case::Case;
-use super::machine::{compare_ends, is_as_kept};
-use super::shown::{Pages, show_fabric, show_machine};
+use crate::case::Case;
+use crate::machine::{compare_ends, is_as_kept};
+use crate::shown::{Pages, show_fabric, show_machine};
 use anyhow::{Result, ensure};
 use coherent_machine::{AdoptError, ApplyError, Machine, NewError};
 use hart::Batch;
