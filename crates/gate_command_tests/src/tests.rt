@@ -36,8 +36,28 @@ fn replay<R: Threads + Wait + Sync + AllocGlobal>(rt: &R, image: &[u8], script: 
     line(rt, &["rvtl", "replay", "--raw", "image", "script"], &files)
 }
 
+/// The same of a program.
+fn replay_of<R: Threads + Wait + Sync + AllocGlobal>(
+    rt: &R,
+    program: &[u32],
+    script: &[u8],
+) -> Result<Ran, Fail> {
+    let image = image_of(rt.alloc(), program)?;
+    Ok(replay(rt, image.as_slice(), script))
+}
+
 fn line<R: Threads + Wait + Sync + AllocGlobal>(rt: &R, words: &[&str], files: &[File<'_>]) -> Ran {
     line_over(rt, words, &mut MemoryFiles::new(rt.alloc(), files))
+}
+
+/// A run over a program's image.
+fn line_of<R: Threads + Wait + Sync + AllocGlobal>(
+    rt: &R,
+    words: &[&str],
+    program: &[u32],
+) -> Result<Ran, Fail> {
+    let image = image_of(rt.alloc(), program)?;
+    Ok(line(rt, words, &[File::whole("image", image.as_slice())]))
 }
 
 fn line_over<R: Threads + Wait + Sync + AllocGlobal>(
@@ -78,6 +98,30 @@ fn began(rt: &impl Abort, ran: &Ran, status: u8, out: &str, err: &str) {
     same_of(rt, ran.out.starts_with(out.as_bytes()), true, &out);
 }
 
+/// A run over a program's image ended well, and printed this and no more.
+fn gave_of<R: Abort + Threads + Wait + Sync + AllocGlobal>(
+    rt: &R,
+    words: &[&str],
+    program: &[u32],
+    out: &str,
+) -> Result<(), Fail> {
+    let ran = line_of(rt, words, program)?;
+    gave(rt, &ran, 0, out, "");
+    Ok(())
+}
+
+/// Each run over these files ended so, and printed nothing.
+fn refused<R: Abort + Threads + Wait + Sync + AllocGlobal>(
+    rt: &R,
+    files: &[File<'_>],
+    rows: &[(&[&str], &str, u8)],
+) {
+    for (words, message, status) in rows {
+        let ran = line(rt, words, files);
+        gave(rt, &ran, *status, "", message);
+    }
+}
+
 /// The run was asked for in words that mean nothing: it says so, and prints nothing.
 fn is_no_usage(rt: &impl Abort, ran: &Ran, of: &str) {
     let has = (ran.status, ran.out.is_empty(), ran.err.is_empty());
@@ -99,8 +143,7 @@ fn replays(
     trace: &str,
     ends: &str,
 ) -> Result<(), Fail> {
-    let image = image_of(rt.alloc(), words)?;
-    let ran = replay(rt, image.as_slice(), script.as_bytes());
+    let ran = replay_of(rt, words, script.as_bytes())?;
     gave(rt, &ran, 0, trace, ends);
     Ok(())
 }
@@ -109,12 +152,11 @@ fn replays(
 fn breaks_off<R: Abort + Threads + Wait + Sync + AllocGlobal, O: Write>(
     rt: &R,
     words: &[&str],
-    files: &[File<'_>],
+    files: &mut MemoryFiles<'_>,
     out: &mut O,
-) -> Result<(), Fail> {
+) {
     let mut err = Vec::new(rt.alloc());
-    let mut held = MemoryFiles::new(rt.alloc(), files);
-    let status = run_line(rt, rt.alloc(), words, &mut held, out, &mut err, &Silent);
+    let status = run_line(rt, rt.alloc(), words, files, out, &mut err, &Silent);
     same_of(rt, status, 1, &words);
     same_of(
         rt,
@@ -122,25 +164,35 @@ fn breaks_off<R: Abort + Threads + Wait + Sync + AllocGlobal, O: Write>(
         b"rvtl: cannot write\n".as_slice(),
         &words,
     );
-    Ok(())
 }
 
 /// Standard output that takes no more than so many bytes: they are the text's first.
+fn breaks_at<R: Abort + Threads + Wait + Sync + AllocGlobal>(
+    rt: &R,
+    words: &[&str],
+    files: &mut MemoryFiles<'_>,
+    text: &[u8],
+    room: usize,
+) {
+    let mut out = Narrow {
+        taken: Vec::new(rt.alloc()),
+        room,
+    };
+    breaks_off(rt, words, files, &mut out);
+    same(rt, Some(out.taken.as_slice()), text.get(..room));
+}
+
+/// Standard output that takes no more than any number of bytes below the text's.
 fn breaks_anywhere<R: Abort + Threads + Wait + Sync + AllocGlobal>(
     rt: &R,
     words: &[&str],
     files: &[File<'_>],
     text: &[u8],
-) -> Result<(), Fail> {
+) {
+    let mut held = MemoryFiles::new(rt.alloc(), files);
     for room in 0..text.len() {
-        let mut out = Narrow {
-            taken: Vec::new(rt.alloc()),
-            room,
-        };
-        breaks_off(rt, words, files, &mut out)?;
-        same(rt, Some(out.taken.as_slice()), text.get(..room));
+        breaks_at(rt, words, &mut held, text, room);
     }
-    Ok(())
 }
 
 /// Standard output that takes all bytes, and can't pass them on.
@@ -148,11 +200,16 @@ fn loses_the_end<R: Abort + Threads + Wait + Sync + AllocGlobal>(
     rt: &R,
     words: &[&str],
     files: &[File<'_>],
-) -> Result<(), Fail> {
+) {
     let mut out = Stuck {
         taken: Vec::new(rt.alloc()),
     };
-    breaks_off(rt, words, files, &mut out)
+    breaks_off(
+        rt,
+        words,
+        &mut MemoryFiles::new(rt.alloc(), files),
+        &mut out,
+    );
 }
 
 /// It also refuses a program that always tells want of memory, as each contract allows.
@@ -215,12 +272,9 @@ fn row_27(rt: HostRuntime) -> Result<(), Fail> {
 
 #[test]
 fn outputs_stand_behind_the_status(rt: HostRuntime) -> Result<(), Fail> {
-    let image = image_of(
-        rt.alloc(),
-        &[0x0010_0893, 0xfff0_0513, 0x0000_0073, 0x0000_0073],
-    )?;
-    let script = "rvtl-script 1 1 4 4 2\nstep 0\nstep 0\nstep 0\nstep 0\n";
-    let ran = replay(&rt, image.as_slice(), script.as_bytes());
+    let program = [0x0010_0893, 0xfff0_0513, 0x0000_0073, 0x0000_0073];
+    let script = b"rvtl-script 1 1 4 4 2\nstep 0\nstep 0\nstep 0\nstep 0\n";
+    let ran = replay_of(&rt, &program, script)?;
     told(&rt, &ran, 0, "hart 0: run output 4294967295 4294967295\n");
     Ok(())
 }
@@ -350,7 +404,8 @@ fn streams_that_break(rt: HostRuntime) -> Result<(), Fail> {
         File::whole("script", texts::LOAD_SCRIPT.as_bytes()),
     ];
     let words = ["rvtl", "replay", "--raw", "image", "script"];
-    breaks_anywhere(&rt, &words, &files, texts::LOAD_TRACE.as_bytes())
+    breaks_anywhere(&rt, &words, &files, texts::LOAD_TRACE.as_bytes());
+    Ok(())
 }
 
 const WRITERS: [&[&str]; 5] = [
@@ -372,7 +427,7 @@ fn streams_that_lose_the_end(rt: HostRuntime) -> Result<(), Fail> {
         File::whole("passing", orders::MESSAGE_PASSING.as_bytes()),
     ];
     for words in &WRITERS {
-        loses_the_end(&rt, words, &files)?;
+        loses_the_end(&rt, words, &files);
     }
     Ok(())
 }
@@ -380,9 +435,8 @@ fn streams_that_lose_the_end(rt: HostRuntime) -> Result<(), Fail> {
 /// Each hart has its line.
 #[test]
 fn two_harts_end(rt: HostRuntime) -> Result<(), Fail> {
-    let image = image_of(rt.alloc(), &texts::EXIT)?;
-    let script = "rvtl-script 1 2 4 4 2\nstep 1\nstep 1\nstep 0\n";
-    let ran = replay(&rt, image.as_slice(), script.as_bytes());
+    let script = b"rvtl-script 1 2 4 4 2\nstep 1\nstep 1\nstep 0\n";
+    let ran = replay_of(&rt, &texts::EXIT, script)?;
     told(&rt, &ran, 0, "hart 0: run\nhart 1: exit 5\n");
     Ok(())
 }
@@ -456,14 +510,18 @@ const HELP: [(&[&str], &str, &str); 5] = [
     ),
 ];
 
-/// Each help says how the words go, and has an example.
+/// The help says how the words go, and has an example.
+fn teaches(rt: &impl Abort, ran: &Ran, usage: &str, example: &str) {
+    told(rt, ran, 0, "");
+    let text = std::str::from_utf8(ran.out.as_slice()).unwrap_or("");
+    same_of(rt, text.contains(usage), true, &usage);
+    same_of(rt, text.ends_with(example), true, &usage);
+}
+
 #[test]
 fn help_teaches(rt: HostRuntime) {
     for (words, usage, example) in &HELP {
         let ran = line(&rt, words, &[]);
-        told(&rt, &ran, 0, "");
-        let text = std::str::from_utf8(ran.out.as_slice()).unwrap_or("");
-        same_of(&rt, text.contains(*usage), true, usage);
-        same_of(&rt, text.ends_with(*example), true, usage);
+        teaches(&rt, &ran, usage, example);
     }
 }

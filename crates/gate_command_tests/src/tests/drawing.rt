@@ -22,7 +22,8 @@ fn a_picture_is_drawn(rt: HostRuntime) -> Result<(), Fail> {
     let ran = line(&rt, &words, &files);
     began(&rt, &ran, 0, "<svg ", "");
     same(&rt, ran.out.ends_with(b"</svg>\n"), true);
-    loses_the_end(&rt, &words, &files)
+    loses_the_end(&rt, &words, &files);
+    Ok(())
 }
 
 /// 400 rows are drawn, and no more.

@@ -2,7 +2,8 @@
 
 use super::memory::{File, MemoryFiles};
 use super::{
-    Ran, began, breaks_anywhere, gave, image_of, is_no_usage, line, line_over, replay, texts, told,
+    Ran, began, breaks_anywhere, gave, gave_of, image_of, is_no_usage, line, line_of, line_over,
+    refused, replay_of, texts, told,
 };
 use crate::same::{same, same_of};
 use std::process::Abort;
@@ -128,11 +129,8 @@ const EXIT_OUTCOMES: &str = "1  hart 0: exit 5\ncomplete: 1 outcomes, 1 states\n
 /// All of its steps are its own alone, so that they are one state.
 #[test]
 fn an_exit_is_one_state(rt: HostRuntime) -> Result<(), Fail> {
-    let image = image_of(rt.alloc(), &texts::EXIT)?;
-    let files = [File::whole("image", &image)];
-    let ran = line(&rt, &["rvtl", "explore", "--raw", "image"], &files);
-    gave(&rt, &ran, 0, EXIT_OUTCOMES, "");
-    Ok(())
+    let words = ["rvtl", "explore", "--raw", "image"];
+    gave_of(&rt, &words, &texts::EXIT, EXIT_OUTCOMES)
 }
 
 #[test]
@@ -143,19 +141,23 @@ fn each_outcome_has_its_line(rt: HostRuntime) -> Result<(), Fail> {
     Ok(())
 }
 
+/// The script leads to the first outcome.
+fn loads_zeros<R: Abort + Threads + Wait + Sync + AllocGlobal>(
+    rt: &R,
+    script: &[u8],
+) -> Result<(), Fail> {
+    let ran = replay_of(rt, &STORE_BUFFERING, script)?;
+    let ends = "hart 0: exit 0 output 0\nhart 1: exit 0 output 0\n";
+    told(rt, &ran, 0, ends);
+    Ok(())
+}
+
 /// The last script to be written is that of the first outcome, and leads there.
 #[test]
 fn a_script_leads_to_its_outcome(rt: HostRuntime) -> Result<(), Fail> {
     let (ran, written) = explore(&rt, &["--scripts", "folder"], b"")?;
     began(&rt, &ran, 0, OUTCOMES, "");
-    let image = image_of(rt.alloc(), &STORE_BUFFERING)?;
-    let again = replay(&rt, &image, &written);
-    told(
-        &rt,
-        &again,
-        0,
-        "hart 0: exit 0 output 0\nhart 1: exit 0 output 0\n",
-    );
+    loads_zeros(&rt, &written)?;
     // A hart's private instructions before its store, the store, its load that misses, the Acquire, the Grant, the
     // load, and then what puts its number out and exits: `li`, `ecall`, two `li` and `ecall`.
     same(
@@ -212,10 +214,35 @@ fn a_folder_too_full_for_a_trace_is_told(rt: HostRuntime) -> Result<(), Fail> {
     finds_no_room(&rt, &program, &SEARCHING, outcomes)
 }
 
+/// The exploration ends so, and its output begins so.
+fn explores<R: Abort + Threads + Wait + Sync + AllocGlobal>(
+    rt: &R,
+    words: &[&str],
+    allowed: &str,
+    status: u8,
+    out: &str,
+    err: &str,
+) -> Result<(), Fail> {
+    let (ran, _) = explore(rt, words, allowed.as_bytes())?;
+    began(rt, &ran, status, out, err);
+    Ok(())
+}
+
 #[test]
 fn an_outcome_that_is_not_allowed(rt: HostRuntime) -> Result<(), Fail> {
-    let (ran, _) = explore(&rt, &["--allow", "allowed"], ALLOWED.as_bytes())?;
-    began(&rt, &ran, 3, OUTCOMES, "outcome 1 is not allowed\n");
+    let words = ["--allow", "allowed"];
+    let message = "outcome 1 is not allowed\n";
+    explores(&rt, &words, ALLOWED, 3, OUTCOMES, message)
+}
+
+/// A search of one state ends so.
+fn ends_at_its_limit<R: Abort + Threads + Wait + Sync + AllocGlobal>(
+    rt: &R,
+    words: &[&str],
+    allowed: &str,
+) -> Result<(), Fail> {
+    let (ran, _) = explore(rt, words, allowed.as_bytes())?;
+    gave(rt, &ran, 0, "incomplete: 1 states met\n", "");
     Ok(())
 }
 
@@ -223,29 +250,18 @@ fn an_outcome_that_is_not_allowed(rt: HostRuntime) -> Result<(), Fail> {
 #[test]
 fn an_incomplete_search_is_allowed(rt: HostRuntime) -> Result<(), Fail> {
     let words = ["--states", "1", "--allow", "allowed"];
-    let (ran, _) = explore(&rt, &words, ALLOWED.as_bytes())?;
-    gave(&rt, &ran, 0, "incomplete: 1 states met\n", "");
-    Ok(())
+    ends_at_its_limit(&rt, &words, ALLOWED)
 }
 
 /// What an exploration prints allows all that it found.
 #[test]
 fn what_was_printed_is_allowed(rt: HostRuntime) -> Result<(), Fail> {
-    let (ran, _) = explore(&rt, &["--allow", "allowed"], OUTCOMES.as_bytes())?;
-    told(&rt, &ran, 0, "");
-    Ok(())
+    explores(&rt, &["--allow", "allowed"], OUTCOMES, 0, OUTCOMES, "")
 }
 
 #[test]
 fn a_limit_ends_the_search(rt: HostRuntime) -> Result<(), Fail> {
-    let (ran, _) = explore(&rt, &["--states", "1"], b"")?;
-    same(
-        &rt,
-        ran.out.as_slice(),
-        b"incomplete: 1 states met\n".as_slice(),
-    );
-    same(&rt, ran.status, 0);
-    Ok(())
+    ends_at_its_limit(&rt, &["--states", "1"], "")
 }
 
 /// Words, and the message and the status that they give.
@@ -275,11 +291,7 @@ const FAULTS: [(&[&str], &str, u8); 4] = [
 #[test]
 fn faults_of_an_exploration(rt: HostRuntime) -> Result<(), Fail> {
     let image = image_of(rt.alloc(), &texts::EXIT)?;
-    let files = [File::whole("image", &image)];
-    for (words, message, status) in &FAULTS {
-        let ran = line(&rt, words, &files);
-        gave(&rt, &ran, *status, "", message);
-    }
+    refused(&rt, &[File::whole("image", &image)], &FAULTS);
     Ok(())
 }
 
@@ -301,28 +313,23 @@ fn an_output_that_breaks(rt: HostRuntime) -> Result<(), Fail> {
         &["rvtl", "explore", "--raw", "image"],
         &files,
         EXIT_OUTCOMES.as_bytes(),
-    )
+    );
+    Ok(())
 }
 
 /// So many of the runs came to the end.
 #[test]
 fn random_runs_are_counted(rt: HostRuntime) -> Result<(), Fail> {
-    let image = image_of(rt.alloc(), &texts::EXIT)?;
-    let files = [File::whole("image", &image)];
     let words = ["rvtl", "explore", "--raw", "--sample", "3", "image"];
-    let ran = line(&rt, &words, &files);
     let text = "1  3  hart 0: exit 5\nsampled: 3 runs, not complete\n";
-    gave(&rt, &ran, 0, text, "");
-    Ok(())
+    gave_of(&rt, &words, &texts::EXIT, text)
 }
 
 /// Behind each outcome stands who comes to it.
 #[test]
 fn what_the_model_allows(rt: HostRuntime) -> Result<(), Fail> {
-    let image = image_of(rt.alloc(), &texts::EXIT)?;
-    let files = [File::whole("image", &image)];
     let words = ["rvtl", "explore", "--raw", "--architecture", "image"];
-    let ran = line(&rt, &words, &files);
+    let ran = line_of(&rt, &words, &texts::EXIT)?;
     let start = "1  hart 0: exit 5   this machine\nsearched: 1 outcomes, ";
     began(&rt, &ran, 0, start, "");
     let end = b" states, no window over 16 (not proved complete)\n";
@@ -349,8 +356,6 @@ fn explore_model<R: Threads + Wait + Sync + AllocGlobal>(
     program: &[u32],
     harts: &str,
 ) -> Result<Ran, Fail> {
-    let image = image_of(rt.alloc(), program)?;
-    let files = [File::whole("image", &image)];
     let words = [
         "rvtl",
         "explore",
@@ -360,7 +365,19 @@ fn explore_model<R: Threads + Wait + Sync + AllocGlobal>(
         "--architecture",
         "image",
     ];
-    Ok(line(rt, &words, &files))
+    line_of(rt, &words, program)
+}
+
+/// What the model allows the program begins so.
+fn model_begins<R: Abort + Threads + Wait + Sync + AllocGlobal>(
+    rt: &R,
+    program: &[u32],
+    harts: &str,
+    start: &str,
+) -> Result<(), Fail> {
+    let ran = explore_model(rt, program, harts)?;
+    began(rt, &ran, 0, start, "");
+    Ok(())
 }
 
 /// A row of instructions without an access is followed as far as it may be long, and then told as left out.
@@ -371,28 +388,21 @@ fn a_long_delay_is_told(rt: HostRuntime) -> Result<(), Fail> {
 incomplete: 1 outcomes, 0 states, rows over 10000 instructions without an access left out
 ";
     gave(&rt, &ran, 0, text, "");
-    let ran = explore_model(&rt, &DELAYED_LESS, "1")?;
     let start = "1  hart 0: exit 0   this machine\nsearched: 1 outcomes, ";
-    began(&rt, &ran, 0, start, "");
-    Ok(())
+    model_begins(&rt, &DELAYED_LESS, "1", start)
 }
 
 /// A circle has no end, so that nothing is left out with it.
 #[test]
 fn a_circle_leaves_nothing_out(rt: HostRuntime) -> Result<(), Fail> {
-    let ran = explore_model(&rt, &CIRCLE, "2")?;
     let start = "1  hart 0: exit 0   hart 1: exit 0   this machine\nsearched: 1 outcomes, ";
-    began(&rt, &ran, 0, start, "");
-    Ok(())
+    model_begins(&rt, &CIRCLE, "2", start)
 }
 
 /// What the model allows beyond the machine is told with what would forbid it.
 #[test]
 fn what_would_forbid_an_outcome(rt: HostRuntime) -> Result<(), Fail> {
-    let image = image_of(rt.alloc(), &MESSAGE_PASSING)?;
-    let files = [File::whole("image", &image)];
-    let mut files = MemoryFiles::new(rt.alloc(), &files);
-    let ran = line_over(&rt, &SEARCHING, &mut files);
+    let ran = line_of(&rt, &SEARCHING, &MESSAGE_PASSING)?;
     let outcomes = "1  hart 0: exit 0   hart 1: exit 0 output 0 0   this machine
 2  hart 0: exit 0   hart 1: exit 0 output 0 1   this machine
 3  hart 0: exit 0   hart 1: exit 0 output 1 0   RVWMO alone
@@ -427,17 +437,26 @@ const ALLOWING: [&str; 7] = [
     "image",
 ];
 
+fn allows_so<R: Abort + Threads + Wait + Sync + AllocGlobal>(
+    rt: &R,
+    image: &[u8],
+    allowed: &str,
+    status: u8,
+) {
+    let files = [
+        File::whole("image", image),
+        File::whole("allowed", allowed.as_bytes()),
+    ];
+    let ran = line(rt, &ALLOWING, &files);
+    same_of(rt, ran.status, status, &allowed);
+}
+
 /// Who comes to an outcome may stand behind it.
 #[test]
 fn a_line_is_allowed_as_printed(rt: HostRuntime) -> Result<(), Fail> {
     let image = image_of(rt.alloc(), &texts::EXIT)?;
     for (allowed, status) in &ALLOWED_LINES {
-        let files = [
-            File::whole("image", &image),
-            File::whole("allowed", allowed.as_bytes()),
-        ];
-        let ran = line(&rt, &ALLOWING, &files);
-        same_of(&rt, ran.status, *status, allowed);
+        allows_so(&rt, &image, allowed, *status);
     }
     Ok(())
 }

@@ -102,10 +102,10 @@ fn an_order_wants_a_whole_trace(rt: HostRuntime) -> Result<(), Fail> {
 }
 
 #[test]
-fn a_verdict_that_breaks(rt: HostRuntime) -> Result<(), Fail> {
+fn a_verdict_that_breaks(rt: HostRuntime) {
     let words = ["rvtl", "check", "--messages", "trace"];
     let lawful = [File::whole("trace", texts::LOAD_TRACE.as_bytes())];
-    breaks_anywhere(&rt, &words, &lawful, b"lawful\n")?;
+    breaks_anywhere(&rt, &words, &lawful, b"lawful\n");
     let cut = [File::whole("trace", ONE_TAKEN.as_bytes())];
-    breaks_anywhere(&rt, &words, &cut, b"unlawful in-order 0\n")
+    breaks_anywhere(&rt, &words, &cut, b"unlawful in-order 0\n");
 }

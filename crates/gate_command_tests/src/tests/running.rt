@@ -1,10 +1,8 @@
 //! Worked rows of `rvtl run`, and its faults.
 
-use super::memory::{File, MemoryFiles, Narrow};
-use super::{Ran, gave, image_of, line, line_over, replay, texts, told};
+use super::memory::{File, MemoryFiles};
+use super::{Ran, breaks_at, gave, image_of, line, line_over, replay_of, texts, told};
 use crate::same::same;
-use command_line::run_line;
-use progress_line::Silent;
 use std::process::Abort;
 use std::sync::Wait;
 use std::test::Fail;
@@ -22,16 +20,37 @@ const COUNT: [u32; 8] = [
     0x0000_0073,
 ];
 
-/// A run of the image, and the journal that it left.
+/// A run of the program, and the journal that it left.
 fn run<R: Threads + Wait + Sync + AllocGlobal>(
     rt: &R,
     words: &[&str],
-    image: &[u8],
-) -> (Ran, Vec<u8>) {
-    let files = [File::whole("image", image)];
+    program: &[u32],
+) -> Result<(Ran, Vec<u8>), Fail> {
+    let image = image_of(rt.alloc(), program)?;
+    let files = [File::whole("image", image.as_slice())];
     let mut files = MemoryFiles::new(rt.alloc(), &files);
     let ran = line_over(rt, words, &mut files);
-    (ran, files.written)
+    Ok((ran, files.written))
+}
+
+/// The journal leads the program to this trace.
+fn leads_to<R: Abort + Threads + Wait + Sync + AllocGlobal>(
+    rt: &R,
+    program: &[u32],
+    journal: &[u8],
+    trace: &[u8],
+) -> Result<(), Fail> {
+    let again = replay_of(rt, program, journal)?;
+    same(rt, again.out.as_slice(), trace);
+    Ok(())
+}
+
+/// The text that these bytes are.
+fn text_of<'a>(rt: &impl Abort, bytes: &'a [u8]) -> &'a str {
+    match std::str::from_utf8(bytes) {
+        Ok(text) => text,
+        Err(_) => panic!(rt; "this is no text"),
+    }
 }
 
 const OF_4_KIB: [&str; 8] = [
@@ -47,12 +66,9 @@ const OF_4_KIB: [&str; 8] = [
 
 #[test]
 fn row_16(rt: HostRuntime) -> Result<(), Fail> {
-    let image = image_of(rt.alloc(), &texts::EXIT)?;
-    let (ran, journal) = run(&rt, &OF_4_KIB, image.as_slice());
+    let (ran, journal) = run(&rt, &OF_4_KIB, &texts::EXIT)?;
     gave(&rt, &ran, 0, texts::EXIT_TRACE, "hart 0: exit 5\n");
-    let again = replay(&rt, image.as_slice(), journal.as_slice());
-    same(&rt, again.out.as_slice(), texts::EXIT_TRACE.as_bytes());
-    Ok(())
+    leads_to(&rt, &texts::EXIT, &journal, texts::EXIT_TRACE.as_bytes())
 }
 
 /// The trace with its first two `P` lines exchanged.
@@ -86,28 +102,51 @@ fn counts(
     harts: u8,
     last: &str,
 ) -> Result<(), Fail> {
-    let image = image_of(rt.alloc(), &COUNT)?;
-    let (ran, journal) = run(rt, words, image.as_slice());
+    let (ran, journal) = run(rt, words, &COUNT)?;
     same(rt, ran.status, 0);
-    let Ok(trace) = std::str::from_utf8(ran.out.as_slice()) else {
-        panic!(rt; "the trace is no text")
-    };
+    let trace = text_of(rt, &ran.out);
+    tells_counts(rt, trace, harts, last);
+    tells_local_rows(rt, text_of(rt, &journal), harts)?;
+    is_led_to(rt, &journal, &ran)?;
+    is_alone_legal(rt, trace)
+}
+
+/// So many operations are performed, and the last one loads this.
+fn tells_counts(rt: &impl Abort, trace: &str, harts: u8, last: &str) {
     let performed = trace.lines().filter(|row| row.starts_with("P ")).count();
     same(rt, performed, usize::from(harts) * 100);
     assert!(rt; trace.contains(last));
-    let Ok(events) = std::str::from_utf8(journal.as_slice()) else {
-        panic!(rt; "the journal is no text")
-    };
+}
+
+/// Each hart runs its first four instructions at once.
+fn tells_local_rows(rt: &(impl Abort + AllocGlobal), events: &str, harts: u8) -> Result<(), Fail> {
     for hart in 0..harts {
         let row = format!(in rt.alloc(); "local {hart} 4\n")?;
         assert!(rt; events.contains(row.as_str()));
     }
-    let again = replay(rt, image.as_slice(), journal.as_slice());
+    Ok(())
+}
+
+/// The journal leads to all that the run has told.
+fn is_led_to(
+    rt: &(impl Abort + Threads + Wait + Sync + AllocGlobal),
+    journal: &[u8],
+    ran: &Ran,
+) -> Result<(), Fail> {
+    let again = replay_of(rt, &COUNT, journal)?;
     assert!(rt; again.out.as_slice() == ran.out.as_slice());
     assert!(rt; again.err.as_slice() == ran.err.as_slice());
+    Ok(())
+}
+
+/// The trace is legal, and is no more where two lines are exchanged.
+fn is_alone_legal(
+    rt: &(impl Abort + Threads + Wait + Sync + AllocGlobal),
+    trace: &str,
+) -> Result<(), Fail> {
     let other = exchanged(rt, trace)?;
     let files = [
-        File::whole("trace", ran.out.as_slice()),
+        File::whole("trace", trace.as_bytes()),
         File::whole("other", other.as_slice()),
     ];
     same(rt, line(rt, &["rvtl", "check", "trace"], &files).status, 0);
@@ -175,32 +214,13 @@ fn runs_whose_stream_breaks(rt: HostRuntime) -> Result<(), Fail> {
     let image = image_of(rt.alloc(), &texts::EXIT)?;
     let given = [File::whole("image", image.as_slice())];
     let mut files = MemoryFiles::new(rt.alloc(), &given);
-    let mut out = Narrow {
-        taken: Vec::new(rt.alloc()),
-        room: 20,
-    };
-    let mut err = Vec::new(rt.alloc());
-    let status = run_line(
-        &rt,
-        rt.alloc(),
-        &OF_4_KIB,
-        &mut files,
-        &mut out,
-        &mut err,
-        &Silent,
-    );
-    same(&rt, status, 1);
-    same(&rt, err.as_slice(), b"rvtl: cannot write\n".as_slice());
-    let front = texts::EXIT_TRACE.as_bytes().get(..20);
-    same(&rt, Some(out.taken.as_slice()), front);
-    let again = replay(&rt, image.as_slice(), files.written.as_slice());
-    same(&rt, again.out.as_slice(), texts::EXIT_TRACE.as_bytes());
-    Ok(())
+    let trace = texts::EXIT_TRACE.as_bytes();
+    breaks_at(&rt, &OF_4_KIB, &mut files, trace, 20);
+    leads_to(&rt, &texts::EXIT, &files.written, trace)
 }
 
 #[test]
 fn a_limit_of_one(rt: HostRuntime) -> Result<(), Fail> {
-    let image = image_of(rt.alloc(), &texts::EXIT)?;
     let words = [
         "rvtl",
         "run",
@@ -211,7 +231,7 @@ fn a_limit_of_one(rt: HostRuntime) -> Result<(), Fail> {
         "j",
         "image",
     ];
-    let (ran, journal) = run(&rt, &words, image.as_slice());
+    let (ran, journal) = run(&rt, &words, &texts::EXIT)?;
     same(&rt, ran.status, 0);
     let lines = journal.iter().filter(|byte| **byte == b'\n').count();
     assert!(rt; lines <= 2);
@@ -221,7 +241,7 @@ fn a_limit_of_one(rt: HostRuntime) -> Result<(), Fail> {
 /// One hart exits while the other jumps to itself.
 #[test]
 fn a_hart_that_spins(rt: HostRuntime) -> Result<(), Fail> {
-    let image = image_of(rt.alloc(), &[0x0005_0463, 0x0000_006f, 0x0000_0073])?;
+    let program = [0x0005_0463, 0x0000_006f, 0x0000_0073];
     let words = [
         "rvtl",
         "run",
@@ -234,12 +254,9 @@ fn a_hart_that_spins(rt: HostRuntime) -> Result<(), Fail> {
         "j",
         "image",
     ];
-    let (ran, _) = run(&rt, &words, image.as_slice());
+    let (ran, _) = run(&rt, &words, &program)?;
     same(&rt, ran.status, 0);
-    let Ok(ends) = std::str::from_utf8(ran.err.as_slice()) else {
-        panic!(rt; "the harts' ends are no text")
-    };
-    assert!(rt; ends.ends_with("hart 1: run\n"));
+    assert!(rt; text_of(&rt, &ran.err).ends_with("hart 1: run\n"));
     Ok(())
 }
 

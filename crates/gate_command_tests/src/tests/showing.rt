@@ -4,6 +4,7 @@ use super::memory::{File, MemoryFiles};
 use super::{began, gave, is_no_usage, line, line_over, told};
 use crate::same::{same, same_of};
 use std::alloc::Global;
+use std::process::Abort;
 use std::sync::Wait;
 use std::test::Fail;
 use std::thread::Threads;
@@ -161,6 +162,18 @@ fn without(alloc: Global, script: &str, left_out: usize) -> Result<Vec<u8>, Fail
     Ok(rest)
 }
 
+/// Where one event is left out the script doesn't lead there.
+fn needs_each<R: Abort + Threads + Wait + Sync + AllocGlobal>(
+    rt: &R,
+    script: &str,
+) -> Result<(), Fail> {
+    for index in 1..script.lines().count() {
+        let fewer = without(rt.alloc(), script, index)?;
+        same_of(rt, loses_an_update(rt, &fewer)?, false, &index);
+    }
+    Ok(())
+}
+
 /// The last script to be written is that of the first outcome: no store waits behind it, and it needs each event.
 #[test]
 fn a_script_leads_to_where_no_store_waits(rt: HostRuntime) -> Result<(), Fail> {
@@ -183,11 +196,7 @@ fn a_script_leads_to_where_no_store_waits(rt: HostRuntime) -> Result<(), Fail> {
     let Ok(script) = std::str::from_utf8(files.written.as_slice()) else {
         return Err(Fail::from("a script"));
     };
-    for index in 1..script.lines().count() {
-        let fewer = without(rt.alloc(), script, index)?;
-        same_of(&rt, loses_an_update(&rt, &fewer)?, false, &index);
-    }
-    Ok(())
+    needs_each(&rt, script)
 }
 
 /// Words of a command line that are refused, what standard error tells, and the status.
