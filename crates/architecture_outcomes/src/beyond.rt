@@ -5,7 +5,6 @@ ghost use Rattle.std.specs.List.Sorted.{IsStrictlySortedBy};
 ghost use Rattle.std.specs.Ordering.{on};
 ghost use Rattle.architecture_outcomes.specs.Outcomes.{HasEachMachineEnd, IsDecided, IsWitnessed, TellOnce, end_of, ends_of, tells};
 ghost use Rattle.flat_machine.specs.Onward.{are_aligned};
-ghost use Rattle.machine_types.specs.Config.{is_within_limits};
 ghost use Rattle.window_machine.specs.Openings.{NeverOpens};
 ghost use Rattle.witnesses.specs.Witnesses.{IsWitness};
 ghost use Rattle.explorer.specs.WordOrders.{ending_cmp};
@@ -29,7 +28,6 @@ pub(crate) fn search_model<W: Watch>(
     limit: u32,
     watch: &W,
 ) -> Allowed
-    requires limits { IsTrue (is_within_limits config) }
     ensures witnessed { All (IsWitness image.now config) result.witnesses.items }
     ensures opens { result.reach ≡ Reach.Whole → result.states ≡ 0 → NeverOpens image.now config }
     ensures bounded { result.reach ≢ Reach.LimitMet → result.reach ≢ Reach.OutOfMemory → result.states ≤ limit }

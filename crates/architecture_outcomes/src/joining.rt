@@ -1,11 +1,10 @@
 //! The outcomes of the machine and those of the memory model, joined.
-ghost use Rattle.std.specs.Prelude.{◌≡◌, ◌≢◌, ◌<◌, ◌≤◌, All, IfOk, IsTrue, List, min};
+ghost use Rattle.std.specs.Prelude.{◌≡◌, ◌≢◌, ◌<◌, ◌≤◌, All, IfOk, List, min};
 ghost use Rattle.std.specs.List.Sorted.{IsStrictlySortedBy};
 ghost use Rattle.std.specs.Ordering.{on};
 ghost use Rattle.architecture_outcomes.specs.Outcomes.{IsDecided, IsWitnessed, TellsEachEnd, end_of};
 ghost use Rattle.architecture_outcomes.specs.Visited.{AreMachineStates, TellsEnd};
 ghost use Rattle.flat_model.specs.Flat.{Flat};
-ghost use Rattle.machine_types.specs.Config.{is_within_limits};
 ghost use Rattle.window_machine.specs.Openings.{NeverOpens};
 ghost use Rattle.explorer.specs.WordOrders.{ending_cmp};
 ghost use Rattle.explorer.specs.Words.{CanShowEach};
@@ -61,7 +60,6 @@ pub fn explore_architecture<W: Watch>(
     exploring: Exploring,
     watch: &W,
 ) -> Result<Architecture, AllocError>
-    requires limits { IsTrue (is_within_limits config) }
     requires room { 0 < exploring.limit }
     requires words { CanShowEach image.now addresses.now }
 

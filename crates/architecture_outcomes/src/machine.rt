@@ -1,12 +1,11 @@
 //! What the machine comes to.
-ghost use Rattle.std.specs.Prelude.{◌≡◌, ◌<◌, ◌≤◌, [], All, Contains, IfOk, IsTrue, List, map};
+ghost use Rattle.std.specs.Prelude.{◌≡◌, ◌<◌, ◌≤◌, [], All, Contains, IfOk, List, map};
 ghost use Rattle.std.specs.List.{AllZip};
 ghost use Rattle.std.specs.List.Sorted.{IsStrictlySortedBy};
 ghost use Rattle.std.specs.Ordering.{on};
 ghost use Rattle.architecture_outcomes.specs.Outcomes.{HasEachMachineEnd, IsMachine, IsOf, IsWitnessed, end_of, ends_of, of_found};
 ghost use Rattle.architecture_outcomes.specs.Visited.{AreMachineStates};
 ghost use Rattle.flat_model.specs.Flat.{Flat};
-ghost use Rattle.machine_types.specs.Config.{is_within_limits};
 ghost use Rattle.explorer.specs.WordOrders.{ending_cmp};
 ghost use Rattle.explorer.specs.Words.{CanShowEach};
 
@@ -34,7 +33,6 @@ pub(crate) fn search_machine<W: Watch>(
     exploring: Exploring,
     watch: &W,
 ) -> Result<Machine, AllocError>
-    requires limits { IsTrue (is_within_limits config) }
     requires room { 0 < exploring.limit }
     requires words { CanShowEach image.now addresses.now }
     ensures shown { IfOk result (λ m. All (IsWitnessed image.now config addresses.now) m.outcomes.items) }
@@ -70,7 +68,6 @@ fn search_results<W: Watch>(
     exploring: Exploring,
     watch: &W,
 ) -> Result<Machine, AllocError>
-    requires limits { IsTrue (is_within_limits config) }
     requires room { 0 < exploring.limit }
     ensures shown { IfOk result (λ m. All (IsWitnessed image.now config []) m.outcomes.items) }
     ensures machine { IfOk result (λ m. All (λ o. IsMachine o.way) m.outcomes.items) }

@@ -1,12 +1,11 @@
 -- What holds of a state that some list of events leads to, by the laws of every list of events.
-use Rattle.std.proofs.Common.{◌≡◌, ◌∙◌, refl, sym, ap, subst, ℕ, ◌+◌, List, [], ◌∷◌, ◌++◌, ◌⊎◌, IsTrue, OnErr, OnOk, Ok, Err, inl, inr}
+use Rattle.std.proofs.Common.{◌≡◌, ◌∙◌, refl, sym, ap, subst, ℕ, ◌+◌, List, [], ◌∷◌, ◌++◌, ◌⊎◌, OnErr, OnOk, Ok, Err, inl, inr}
 use Rattle.std.proofs.lemmas.List.{append-nil}
 use Rattle.std.specs.declared.result.Result.{Result}
 use Rattle.elf_loader.specs.Image.{Initial, IsImage}
 use Rattle.machine_types.specs.declared.config.Config.{Config}
 use Rattle.machine_types.specs.declared.event.Event.{Event}
 use Rattle.machine_types.specs.declared.outcome.Outcome.{Outcome}
-use Rattle.machine_types.specs.Config.{is_within_limits}
 use Rattle.machine_model.specs.Events.{Verdict, after_events, happens, state_by, verdict}
 use Rattle.machine_model.specs.Events.Verdict.{IsBad, Keeps, IsLimited, Moves}
 use Rattle.machine_model.specs.Laws.{Always, Grows, Headline, ImageAndConfigStay, IsHeadline, KeepsImageAndConfig, NothingIsRewritten}
@@ -17,8 +16,8 @@ use Rattle.coherent_machine.specs.Machine.{IsReached, KeepsHeadline, Replayed, r
 use Rattle.machine_parts.specs.declared.errors.ApplyError.{ApplyError}
 use Rattle.trace_recorder.specs.History.{entries_of}
 
-pub reached_opening : (image : Initial) (config : Config) → IsImage image → IsTrue (is_within_limits config) → IsReached (opening image config)
-reached_opening image config loaded within = record { events = []; loaded = loaded; within = within; leads = refl }
+pub reached_opening : (image : Initial) (config : Config) → IsImage image → IsReached (opening image config)
+reached_opening image config loaded = record { events = []; loaded = loaded; leads = refl }
 
 one_more : (s : State) (events : List Event) (e : Event) → after_events s (events ++ e ∷ []) ≡ happens (after_events s events) e
 one_more s [] e = refl
@@ -28,7 +27,6 @@ pub reached_more : ImageAndConfigStay → (s : State) (e : Event) → IsReached 
 reached_more stay s e r = record {
   events = more;
   loaded = subst IsImage (sym (stay s e).image) r.loaded;
-  within = subst (λ (c : Config). IsTrue (is_within_limits c)) (sym (stay s e).config) r.within;
   leads =
       subst (λ (c : Config). after_events (opening (happens s e).trace.image c) more ≡ happens s e) (sym (stay s e).config)
       (subst (λ (i : Initial). after_events (opening i s.views.config) more ≡ happens s e) (sym (stay s e).image)
@@ -101,7 +99,7 @@ stays_after law s new e result a =
 
 -- a law of every list of events holds here
 pub law_of : (P : Initial → Config → State → Type 0) → Always P → (s : State) → IsReached s → P s.trace.image s.views.config s
-law_of P law s r = subst (P s.trace.image s.views.config) r.leads (law s.trace.image s.views.config r.events r.loaded r.within)
+law_of P law s r = subst (P s.trace.image s.views.config) r.leads (law s.trace.image s.views.config r.events r.loaded)
 
 pub headline_of : Headline → (s : State) → IsReached s → KeepsHeadline s
 headline_of law s r = law_of IsHeadline law s r

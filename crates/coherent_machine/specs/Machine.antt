@@ -1,9 +1,8 @@
 -- What a machine is by its history, and what a list of events comes to from reset.
-use Rattle.std.specs.Prelude.{ℕ, ◌≡◌, ◌≢◌, ◌+◌, List, [], ◌∷◌, ◌++◌, length, IsTrue}
+use Rattle.std.specs.Prelude.{ℕ, ◌≡◌, ◌≢◌, ◌+◌, List, [], ◌∷◌, ◌++◌, length}
 use Rattle.elf_loader.specs.Image.{IsImage}
 use Rattle.machine_types.specs.declared.event.Event.{Event as AnEvent}
 use Rattle.machine_types.specs.declared.outcome.Outcome.TheVariants.{Stopped}
-use Rattle.machine_types.specs.Config.{is_within_limits}
 use Rattle.machine_model.specs.Events.{Verdict, after_events, happens, verdict}
 use Rattle.machine_model.specs.Events.Verdict.{IsBad, Keeps, IsLimited, Moves}
 use Rattle.machine_model.specs.Laws.{IsHeadline}
@@ -11,13 +10,12 @@ use Rattle.machine_model.specs.Views.{State, opening}
 use Rattle.machine_parts.specs.declared.errors.ApplyError.{ApplyError}
 use Rattle.machine_parts.specs.declared.errors.ApplyError.TheVariants.{BadEvent, Limit, NoMemory}
 use Rattle.coherent_machine.specs.declared.errors.ReplayError.{ReplayError}
-use Rattle.coherent_machine.specs.declared.errors.ReplayError.TheVariants.{Event, New}
+use Rattle.coherent_machine.specs.declared.errors.ReplayError.TheVariants as replay
 
 -- some list of events leads here from reset of the state's own image and configuration
 pub record IsReached (s : State) : Type 0 where
   pub events : List AnEvent
   pub loaded : IsImage s.trace.image
-  pub within : IsTrue (is_within_limits s.views.config)
   pub leads : after_events (opening s.trace.image s.views.config) events ≡ s
 
 -- the headline, by the machine's own image and configuration
@@ -59,7 +57,7 @@ pub record IsRefusedAt (s : State) (events : List AnEvent) (index : ℕ) (error 
   pub leads : replayed_from 0 s before ≡ Replayed.Reached state
   pub refused : Refuses error (verdict state event)
 
--- why a list of events isn't replayed from here: one is refused, or no machine was made
+-- why a list of events isn't replayed from here: one is refused, or memory for a machine was
 abbrev pub IsFirstRefusal : State → List AnEvent → ReplayError → Type 0
-IsFirstRefusal s events (Event index error) = IsRefusedAt s events index error
-IsFirstRefusal s events (New error) = Unit {0}
+IsFirstRefusal s events (replay.Event index error) = IsRefusedAt s events index error
+IsFirstRefusal s events replay.NoMemory = Unit {0}

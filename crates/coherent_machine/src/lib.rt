@@ -7,7 +7,7 @@ mod machine;
 mod outputs;
 mod views;
 
-pub use errors::{AdoptError, NewError, ReplayError};
+pub use errors::{AdoptError, ReplayError};
 pub use machine::{Machine, replay};
 pub use machine_parts::ApplyError;
 pub use views::Views;

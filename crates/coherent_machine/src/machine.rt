@@ -1,8 +1,7 @@
 //! The machine, and the calls on it.
 
-ghost use Rattle.std.specs.Prelude.{◌≡◌, ◌≢◌, ◌↔◌, ◌<◌, [], Err, IfErr, IfOk, IsTrue, OnOk, OnErr, false, length, map};
+ghost use Rattle.std.specs.Prelude.{◌≡◌, ◌≢◌, ◌↔◌, ◌<◌, [], Err, IfErr, IfOk, OnOk, OnErr, length, map};
 ghost use Rattle.hart.specs.Local.{IsPrivateRow};
-ghost use Rattle.machine_types.specs.Config as limits;
 ghost use Rattle.machine_model.specs.Events.{Verdict, happens, verdict};
 ghost use Rattle.machine_model.specs.LawfulLog.{IsLawfulLog};
 ghost use Rattle.machine_model.specs.Laws.{Grows, IsHeadline, KeepsImageAndConfig};
@@ -12,7 +11,7 @@ ghost use Rattle.coherent_machine.specs.Adopting.{IsCurrent, local_of};
 ghost use Rattle.coherent_machine.specs.Machine.{IsFirstRefusal, IsReached, IsRefusedAt, KeepsHeadline, Replayed, replayed_from};
 
 use crate::adopting::is_current;
-use crate::errors::{AdoptError, NewError, ReplayError};
+use crate::errors::{AdoptError, ReplayError};
 use crate::outputs::Outputs;
 use crate::views::Views;
 use elf_loader::Image;
@@ -23,7 +22,7 @@ use machine_model::{
 };
 use machine_parts::{ApplyError, Parts};
 use machine_types::{Config, Event, Outcome};
-use std::alloc::Global;
+use std::alloc::{AllocError, Global};
 use std::marker::Model;
 use trace_recorder::Trace;
 
@@ -52,10 +51,9 @@ impl Model for Machine {
 }
 
 impl Machine {
-    /// A machine at reset, of a configuration within the limits.
-    pub fn new(alloc: Global, image: Image, config: Config) -> Result<Machine, NewError>
+    /// A machine at reset. The only error is want of memory.
+    pub fn new(alloc: Global, image: Image, config: Config) -> Result<Machine, AllocError>
         ensures ok { IfOk result (λ machine. machine ≡ opening image config) }
-        ensures config { (result ≡ Err NewError.Config) ↔ (limits.is_within_limits config ≡ false) }
         ensures reached { IfOk result (λ machine. IsReached machine) }
         ensures headline { IfOk result (λ machine. IsHeadline image config machine) }
         ensures log { IfOk result (λ machine. IsLawfulLog machine.trace.log) }
@@ -63,9 +61,6 @@ impl Machine {
         headline();
         log_lawful_always();
         image_and_config_stay();
-        if !config.is_within_limits() {
-            return Err(NewError::Config);
-        }
         let outputs = Outputs::new(alloc)?;
         let parts = Parts::new(alloc, image, config)?;
         Ok(Machine { parts, outputs })
@@ -190,7 +185,6 @@ pub fn replay(
     events: &[Event],
 ) -> Result<Machine, ReplayError>
     ensures ok { IfOk result (λ machine. replayed_from 0 (opening image config) events.now ≡ Replayed.Reached machine) }
-    ensures config { (result ≡ Err (ReplayError.New NewError.Config)) ↔ (limits.is_within_limits config ≡ false) }
     ensures refused { IfErr result (λ error. IsFirstRefusal (opening image config) events.now error) }
     ensures reached { IfOk result (λ machine. IsReached machine) }
     ensures headline { IfOk result (λ machine. IsHeadline image config machine) }

@@ -13,7 +13,7 @@ use Rattle.trace_text.specs.TraceLimits.{IsTrace}
 use Rattle.trace_text.specs.declared.script.Script.{Script}
 
 pub readable : EveryTraceHasAText → (s : State) → IsReached s → IsTrace s.trace
-readable law s r = subst (λ (s : State). IsTrace s.trace) r.leads (law s.trace.image s.views.config r.events r.loaded r.within)
+readable law s r = subst (λ (s : State). IsTrace s.trace) r.leads (law s.trace.image s.views.config r.events r.loaded)
 
 pub leads_there : (image : Initial) (script : Script) (model : MemoryModel) (config : Config) (events : List Event) (s : State)
     → config ≡ config_of script model → events ≡ script.events

@@ -8,7 +8,6 @@ use Rattle.command_files.specs.declared.fault.Fault.TheVariants as fault
 use Rattle.command_files.specs.declared.fault.Fault.TheVariants.{BadAddress, BytesAfterTrace, CannotMake, CannotRead, CannotShow, CannotWrite, Check, Configuration, Event, Image, NoThread, NothingHappens, OutOfMemory, Text, TooManyRows}
 use Rattle.command_files.specs.declared.fault.Unshown.{Unshown}
 use Rattle.command_files.specs.declared.fault.Unshown.TheVariants.{Elsewhere, NoSymbol, NoWord}
-use Rattle.coherent_machine.specs.declared.errors.NewError.TheVariants as making
 use Rattle.coherent_machine.specs.declared.errors.ReplayError.{ReplayError}
 use Rattle.coherent_machine.specs.declared.errors.ReplayError.TheVariants as replay
 use Rattle.machine_parts.specs.declared.errors.ApplyError.TheVariants as applying
@@ -44,8 +43,7 @@ status_of OutOfMemory = 4
 
 -- which fault tells why a stream of this script is not whole
 abbrev pub IsStreamFault : Bor (List ℕ) → StreamError → Fault → Type 0
-IsStreamFault script (stream.New making.Config) told = told ≡ Configuration
-IsStreamFault script (stream.New making.NoMemory) told = told ≡ OutOfMemory
+IsStreamFault script stream.NoMemory told = told ≡ OutOfMemory
 IsStreamFault script (stream.Refused index applying.NoMemory) told = told ≡ OutOfMemory
 IsStreamFault script (stream.Refused index applying.BadEvent) told = told ≡ Event script (script_line_of index) applying.BadEvent
 IsStreamFault script (stream.Refused index applying.Limit) told = told ≡ Event script (script_line_of index) applying.Limit
@@ -54,5 +52,5 @@ IsStreamFault script (stream.Writing error) told = ((told ≡ CannotWrite) ⊎ (
 
 -- no memory for the machine, or for what an event adds
 abbrev pub IsOutOfMemory : ReplayError → Type 0
-IsOutOfMemory (replay.New error) = error ≡ making.NoMemory
+IsOutOfMemory replay.NoMemory = Unit {0}
 IsOutOfMemory (replay.Event index error) = error ≡ applying.NoMemory

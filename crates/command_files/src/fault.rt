@@ -6,7 +6,7 @@ ghost use Rattle.command_files.specs.Status.{IsOutOfMemory, IsStreamFault, statu
 ghost use Rattle.event_stream.specs.Lines.{script_line_of};
 ghost use Rattle.command_files.specs.declared.fault.Fault.TheVariants.{OutOfMemory};
 
-use coherent_machine::{ApplyError, NewError, ReplayError};
+use coherent_machine::{ApplyError, ReplayError};
 use elf_loader::LoadError;
 use event_stream::{StreamError, outcome_name};
 use machine_types::Outcome;
@@ -204,14 +204,12 @@ impl<'a> Fault<'a> {
 
     /// The script's first event stands on line 2.
     pub fn replay(script: &'a str, error: ReplayError) -> Fault<'a>
-        ensures told { (result ≡ Fault.Configuration) ⊎ ((result ≡ Fault.OutOfMemory) ⊎ ((index : ℕ) × (refusal : _)
-            × (error ≡ ReplayError.Event index refusal) × (result ≡ Fault.Event script.entry (script_line_of index) refusal))) }
-        ensures configuration { (result ≡ Fault.Configuration) ↔ (error ≡ ReplayError.New NewError.Config) }
+        ensures told { (result ≡ Fault.OutOfMemory) ⊎ ((index : ℕ) × (refusal : _)
+            × (error ≡ ReplayError.Event index refusal) × (result ≡ Fault.Event script.entry (script_line_of index) refusal)) }
         ensures memory { (result ≡ Fault.OutOfMemory) ↔ IsOutOfMemory error }
     {
         match error {
-            ReplayError::New(NewError::Config) => Fault::Configuration,
-            ReplayError::New(NewError::NoMemory) | ReplayError::Event(_, ApplyError::NoMemory) => {
+            ReplayError::NoMemory | ReplayError::Event(_, ApplyError::NoMemory) => {
                 Fault::OutOfMemory
             }
             ReplayError::Event(index, error) => Fault::Event {
@@ -229,9 +227,9 @@ impl<'a> Fault<'a> {
         ensures { IsStreamFault script.entry error result }
     {
         match error {
-            StreamError::New(NewError::Config) => Fault::Configuration,
-            StreamError::New(NewError::NoMemory) | StreamError::Refused(_, ApplyError::NoMemory) =>
-                Fault::OutOfMemory,
+            StreamError::NoMemory | StreamError::Refused(_, ApplyError::NoMemory) => {
+                Fault::OutOfMemory
+            }
             StreamError::Refused(index, error) => Fault::Event {
                 file: script,
                 line: index.saturating_add(2),

@@ -2,12 +2,12 @@
 
 ghost use Rattle.std.specs.Prelude.{◌≡◌, IfSome, IsNone};
 ghost use Rattle.std.specs.List.{AllByRecursion};
-ghost use Rattle.command_files.specs.Sizes.{IsInside, IsOutside, config_named, config_of, line_named, script_named};
+ghost use Rattle.command_files.specs.Sizes.{IsInside, IsOutside, config_named, config_of, script_for};
 ghost use Rattle.trace_text.specs.Scripts.{IsEvent};
 
 use command_settings::MachineOptions;
 use elf_loader::is_memory_kib;
-use machine_types::{Config, Event, MemoryModel};
+use machine_types::{Config, Event, MemoryModel, is_within_limits};
 use tl_types::LineSize;
 use trace_text::{Events, Script};
 
@@ -24,46 +24,36 @@ pub fn config_of(script: &Script, model: MemoryModel) -> Config
     }
 }
 
-/// The size of line that the words name. A number that no line has stands for 16 bytes here, and makes no
-/// machine.
-fn named_line(wanted: MachineOptions) -> LineSize
-    ensures { result ≡ line_named wanted }
-{
-    LineSize::of_bytes(wanted.line).unwrap_or(LineSize::Bytes16)
-}
-
 /// The machine that is wanted, where one of that size can be made.
 pub fn named_config(wanted: MachineOptions) -> Option<Config>
-    ensures config { IfSome result (λ config. (config ≡ config_named wanted) × IsInside wanted) }
+    ensures config { IfSome result (λ config. (inside : IsInside wanted) × (config ≡ config_named wanted inside)) }
     ensures outside { IsNone result → IsOutside wanted }
 {
-    let config = Config {
+    let line = LineSize::of_bytes(wanted.line)?;
+    if !is_within_limits(wanted.harts, wanted.sets, wanted.ways) || !is_memory_kib(wanted.memory) {
+        return None;
+    }
+    Some(Config {
         harts: wanted.harts,
         sets: wanted.sets,
         ways: wanted.ways,
-        line: named_line(wanted),
+        line,
         model: wanted.model,
-    };
-    let is_size = LineSize::of_bytes(wanted.line).is_some();
-    if is_size && config.is_within_limits() && is_memory_kib(wanted.memory) {
-        Some(config)
-    } else {
-        None
-    }
+    })
 }
 
-/// The script of these events, for the machine that is wanted.
-pub fn script_of(machine: MachineOptions, events: Vec<Event>) -> Script
-    ensures script { result ≡ script_named machine events.items }
+/// The script of these events, for a machine with so many KiB of memory.
+pub fn script_of(config: Config, kib: u32, events: Vec<Event>) -> Script
+    ensures script { result ≡ script_for config kib events.items }
     ensures events { AllByRecursion IsEvent result.events }
 {
     all_spelt(events.as_slice());
     Script {
-        harts: machine.harts,
-        kib: machine.memory,
-        sets: machine.sets,
-        ways: machine.ways,
-        line: named_line(machine),
+        harts: config.harts,
+        kib,
+        sets: config.sets,
+        ways: config.ways,
+        line: config.line,
         events: Events::new(events),
     }
 }

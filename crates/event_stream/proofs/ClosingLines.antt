@@ -1,6 +1,5 @@
 -- How an H line is spelled from left to right, and what a reached machine's numbers are.
-use Rattle.std.proofs.Common.{◌≡◌, ℕ, zero, suc, ◌<◌, ◌≤◌, List, [], ◌∷◌, ◌++◌, length, true, sym, ap, subst, ◌∙◌, append_assoc, arith}
-use Rattle.std.proofs.lemmas.Bool.{and_parts, false≢true, leb-true}
+use Rattle.std.proofs.Common.{◌≡◌, ℕ, ◌<◌, ◌≤◌, List, [], ◌∷◌, ◌++◌, length, sym, ap, subst, ◌∙◌, append_assoc}
 use Rattle.std.specs.Prelude.{codes, decimal}
 use Rattle.machine_types.specs.declared.limits.TheConstants.{MAX_HARTS}
 use Rattle.coherent_machine.specs.Machine.{IsReached}
@@ -8,9 +7,7 @@ use Rattle.coherent_machine.proofs.Reached.{law_of}
 use Rattle.elf_symbols.specs.Named.{Named}
 use Rattle.hart.specs.declared.status.Status.{Status}
 use Rattle.hart.specs.declared.status.Status.TheVariants.{Running, Stopped, Exited}
-use Rattle.machine_types.specs.declared.config.Config.{Config}
-use Rattle.machine_types.specs.Config.{is_within_limits}
-use Rattle.machine_types.proofs.Within.{limits_of}
+use Rattle.machine_types.proofs.Within.{config_limits}
 use Rattle.machine_model.specs.Ready.{IsSound, SoundAlways}
 use Rattle.machine_model.specs.Views.{State}
 use Rattle.text_fields.specs.Fields.{number}
@@ -66,6 +63,6 @@ sized law s r =
     let sound : IsSound s = law_of (λ image config t. IsSound t) law s r in
     record {
       statuses = sound.statuses ∙ sym sound.nodes;
-      few = subst (λ (n : ℕ). n ≤ MAX_HARTS) (sym sound.statuses) (limits_of s.views.config r.within).few_harts;
-      sets = (limits_of s.views.config r.within).some_sets;
+      few = subst (λ (n : ℕ). n ≤ MAX_HARTS) (sym sound.statuses) (config_limits s.views.config).few_harts;
+      sets = (config_limits s.views.config).some_sets;
     }

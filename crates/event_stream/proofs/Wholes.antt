@@ -54,7 +54,7 @@ cut_behind names m image config events index IsSuch old mid new page w p = recor
 
 unfinished_at : (names : List Named) (m : Strictness) (image : Initial) (config : Config) (events : List Event) (reached : State) (old mid new : Option (List ℕ)) (page after : List ℕ) (e : StreamError)
     → Paged old mid [] page (opening_lines (opening image config).trace) → IsTold names m (opening image config) events mid new page after (Err e) reached → IsStreamUnfinished names m image config events old new e
-unfinished_at names m image config events reached old mid new page after (errors.New error) w p = absurd p
+unfinished_at names m image config events reached old mid new page after errors.NoMemory w p = absurd p
 unfinished_at names m image config events reached old mid new page after (errors.Refused index error) w p = cut_behind names m image config events index (Refuses error) old mid new page w p
 unfinished_at names m image config events reached old mid new page after (errors.Idle index o) w p = (p.0, cut_behind names m image config events index (λ v. v ≡ Keeps o) old mid new page w p.1)
 unfinished_at names m image config events reached old mid new page after (errors.Writing fault) w p = begins_first old new _ _ (paged_fails old mid new [] page _ _ w p)

@@ -52,7 +52,7 @@ IsHandedOn old new page error answer = ((answer ≡ error) × Appends old new pa
 -- what became of telling events: all are told, onto the page; or one ends the stream, and what stood on the page and is told of those before it went out
 abbrev pub IsTold : List Named → Strictness → State → List Event → (old new : Option (List ℕ)) → (page after : List ℕ) → Result (Unit {0}) StreamError → State → Type 0
 IsTold names strictness s events old new page after (Ok _) reached = (ending strictness 0 s events ≡ StreamEnding.Reached reached) × Paged old new page after (lines names strictness 0 s events)
-IsTold names strictness s events old new page after (Err (errors.New error)) reached = ⊥
+IsTold names strictness s events old new page after (Err errors.NoMemory) reached = ⊥
 IsTold names strictness s events old new page after (Err (errors.Refused index error)) reached = IsCut strictness s events index (Refuses error) (λ told. page ++ lines names strictness 0 s told) old new
 IsTold names strictness s events old new page after (Err (errors.Idle index o)) reached =
     (strictness ≡ Strict) × IsCut strictness s events index (λ v. v ≡ Keeps o) (λ told. page ++ lines names strictness 0 s told) old new

@@ -36,7 +36,7 @@ pub record IsWholeStream (names : List Named) (strictness : Strictness) (image :
 
 -- why a stream isn't whole: no machine was made, and nothing went out; an event is refused, or a strict stream met one that changes nothing, and the stream up to there went out; or the writer had a fault, and a beginning of the stream did
 abbrev pub IsStreamUnfinished : List Named → Strictness → Initial → Config → List Event → Option (List ℕ) → Option (List ℕ) → StreamError → Type 0
-IsStreamUnfinished names strictness image config events old new (errors.New error) = new ≡ old
+IsStreamUnfinished names strictness image config events old new errors.NoMemory = new ≡ old
 IsStreamUnfinished names strictness image config events old new (errors.Refused index error) =
     IsCut strictness (opening image config) events index (Refuses error) (stream_up_to names strictness image config) old new
 IsStreamUnfinished names strictness image config events old new (errors.Idle index outcome) =

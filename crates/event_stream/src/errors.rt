@@ -1,14 +1,15 @@
 //! Why a stream is not whole.
 
-use coherent_machine::{ApplyError, NewError};
+use coherent_machine::ApplyError;
 use machine_types::Outcome;
+use std::alloc::AllocError;
 use std::io::Error;
 
 /// Why a stream is not whole.
 #[derive(Debug, Drop)]
 pub enum StreamError {
-    /// No machine was made: nothing was written.
-    New(NewError),
+    /// Memory for the machine was refused: nothing was written.
+    NoMemory,
     /// The event at this index, from 0, was refused: the stream of the events before it was written.
     Refused(usize, ApplyError),
     /// The event at this index, from 0, came to this and changed nothing: the stream of the events before
@@ -18,13 +19,13 @@ pub enum StreamError {
     Writing(Error),
 }
 
-impl From<NewError> for StreamError {
+impl From<AllocError> for StreamError {
     ghost use Rattle.std.specs.Prelude.{◌≡◌};
     ghost use Rattle.event_stream.specs.declared.errors.StreamError.TheVariants as stream;
 
-    ghost from_gives = { λ error e. e ≡ stream.New error };
+    ghost from_gives = { λ _ e. e ≡ stream.NoMemory };
 
-    fn from(error: NewError) -> Self {
-        StreamError::New(error)
+    fn from(_error: AllocError) -> Self {
+        StreamError::NoMemory
     }
 }

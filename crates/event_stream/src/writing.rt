@@ -1,12 +1,10 @@
 //! Writing a stream.
-ghost use Rattle.std.specs.Prelude.{◌≡◌, ◌↔◌, ◌++◌, Err, IfErr, IfOk, false};
+ghost use Rattle.std.specs.Prelude.{◌≡◌, ◌++◌, Err, IfErr, IfOk};
 ghost use Rattle.coherent_machine.specs.Machine.{IsReached};
-ghost use Rattle.coherent_machine.specs.declared.errors.NewError.TheVariants as making;
 ghost use Rattle.event_stream.specs.Reports.{StreamEnding};
 ghost use Rattle.event_stream.specs.Streams as streams;
 ghost use Rattle.event_stream.specs.Telling.{IsHandedOn, IsTold};
 ghost use Rattle.event_stream.specs.Writing.{IsStreamUnfinished, IsWholeStream};
-ghost use Rattle.machine_types.specs.Config.{is_within_limits};
 ghost use Rattle.text_fields.specs.Pages.{HasLineRoom, Spells};
 ghost use Rattle.text_fields.specs.Writing.{Writes};
 
@@ -134,7 +132,6 @@ pub fn write_stream<W: Write>(
 ) -> Result<Machine, StreamError>
     ensures whole { IfOk result (λ machine. IsWholeStream names.now strictness image config events.now (W.contents out.old) (W.contents out.new) machine) }
     ensures reached { IfOk result (λ machine. IsReached machine) }
-    ensures limits { (result ≡ Err (StreamError.New making.Config)) ↔ (is_within_limits config ≡ false) }
     ensures unfinished { IfErr result (λ error. IsStreamUnfinished names.now strictness image config events.now (W.contents out.old) (W.contents out.new) error) }
 {
     let mut machine = Machine::new(alloc, image, config)?;

@@ -5,7 +5,7 @@ use Rattle.std.specs.Io.KnownBytes.{Appends}
 use Rattle.command_files.specs.Faults.{Name}
 use Rattle.command_files.specs.Files.{HoldsImage}
 use Rattle.command_files.specs.Contents.{Contents}
-use Rattle.command_files.specs.Sizes.{config_named}
+use Rattle.command_files.specs.Sizes.{IsInside, config_named}
 use Rattle.command_files.specs.declared.fault.Fault.{Fault}
 use Rattle.command_files.specs.declared.fault.Fault.TheVariants.{OutOfMemory}
 use Rattle.command_settings.specs.declared.wanted.Explore.{Explore}
@@ -67,23 +67,24 @@ judged held (Some file) None lines judgement read is = absurd read
 judged held (Some file) (Some text) lines judgement read is = (text, read, is)
 
 module _ (held : Contents) (wanted : Explore) (config : Config) (image : Initial) (found : Exploration)
-    (config_is : config ≡ config_named wanted.machine) (file : HoldsImage held wanted.raw wanted.image.now wanted.machine.memory image) (is : IsFoundIn image config wanted.states found) where
-  is_found : IsFoundIn image (config_named wanted.machine) wanted.states found
+    (inside : IsInside wanted.machine) (config_is : config ≡ config_named wanted.machine inside) (file : HoldsImage held wanted.raw wanted.image.now wanted.machine.memory image) (is : IsFoundIn image config wanted.states found) where
+  is_found : IsFoundIn image (config_named wanted.machine inside) wanted.states found
   is_found = subst (λ (c : Config). IsFoundIn image c wanted.states found) config_is is
 
   pub has : (P : List ℕ → Type 0) → P (exploration_text found) → ExplorationHas held wanted P
-  has P so = record { image = image; exploration = found; image_file = file; found = is_found; of_text = so }
+  has P so = record { image = image; exploration = found; image_file = file; inside = inside; found = is_found; of_text = so }
 
-  pub whole : (old new : Option (List ℕ)) (left : Contents) (judgement : Judgement) → Appends old new (exploration_text found) → IfSome wanted.scripts (λ folder. AreKept left wanted.machine folder.now found)
+  pub whole : (old new : Option (List ℕ)) (left : Contents) (judgement : Judgement) → Appends old new (exploration_text found) → IfSome wanted.scripts (λ folder. AreKept left config wanted.machine.memory folder.now found)
       → SparesOthers (IsInNamed wanted.scripts (IsScriptOf (length found.outcomes.items) found.stuck)) held left
       → IsJudged held wanted.allow (map (λ f. harts_text 0 (outcome_of f)) found.outcomes.items) judgement → (judgement ≡ Allowed → found.extent ≢ extent.OutOfMemory) → IsExplorationTold held left wanted judgement old new
   whole old new left judgement told kept spares by memory = record {
     image = image;
     exploration = found;
     image_file = file;
+    inside = inside;
     found = is_found;
     printed = told;
-    kept = kept;
+    kept = subst (λ (c : Config). IfSome wanted.scripts (λ folder. AreKept left c wanted.machine.memory folder.now found)) config_is kept;
     spared = spares;
     judged = by;
     whole = memory;
@@ -91,7 +92,7 @@ module _ (held : Contents) (wanted : Explore) (config : Config) (image : Initial
 
   pub refusals : (old new : Option (List ℕ)) (P : List ℕ → Type 0) → Appends old new (exploration_text found) → HaveRefusals held wanted.allow (map (λ f. harts_text 0 (outcome_of f)) found.outcomes.items) P
       → ExplorationRefusals held wanted old new P
-  refusals old new P printed so = record { image = image; exploration = found; image_file = file; found = is_found; printed = printed; refusals = so }
+  refusals old new P printed so = record { image = image; exploration = found; image_file = file; inside = inside; found = is_found; printed = printed; refusals = so }
 
 pub memory_left : (fault : Fault) (old new : Option (List ℕ)) (Has : (List ℕ → Type 0) → Type 0) → fault ≡ OutOfMemory → Has (Begins old new) → LeavesPart fault old new Has
 memory_left fault old new Has is so = subst (λ f. LeavesPart f old new Has) (sym is) (inr so)

@@ -7,13 +7,12 @@ use Rattle.std.proofs.lemmas.List.{append_cancel_left, append_cancel_right, appe
 use Rattle.std.proofs.lemmas.Slice.Eq.{bytes_eq-Decides}
 use Rattle.command_files.specs.Files.{HoldsScript}
 use Rattle.command_files.specs.Contents.{Contents, HoldsBytes}
-use Rattle.command_files.specs.Sizes.{config_named, config_of, script_named}
+use Rattle.command_files.specs.Sizes.{script_for}
 use Rattle.command_files.proofs.Limits.{script_within}
 use Rattle.elf_loader.specs.Size.{IsMemoryKib}
-use Rattle.machine_types.specs.Config.{is_within_limits}
+use Rattle.machine_types.specs.declared.config.Config.{Config}
 use Rattle.machine_types.specs.declared.event.Event.{Event}
 use Rattle.std.specs.List.{AllByRecursion}
-use Rattle.command_settings.specs.declared.wanted.MachineOptions.{MachineOptions}
 use Rattle.explore_command.specs.Keeping.{AreKept, AreKeptFrom, FileName, IsInNamed, IsKeptAt, IsOutcomeScript, IsScriptFile, IsScriptOf, SparesOthers, outcome_path, stuck_path}
 use Rattle.explorer.specs.declared.exploration.Exploration.{Exploration}
 use Rattle.explorer.specs.declared.exploration.Stuck.{Stuck}
@@ -43,34 +42,31 @@ on_ok P Q (Ok x) more so = more so
 on_ok P Q (Err e) more so = tt
 
 -- a file of such a script's text has the script
-pub script_held : (left : Contents) (path : FileName) (machine : MachineOptions) (script : Text) (items events : List Event) → script ≡ script_named machine items → items ≡ events
-    → is_within_limits (config_named machine) ≡ true → IsMemoryKib machine.memory → AllByRecursion IsEvent script.events → HoldsBytes left path (text script) → HoldsScript left path (script_named machine events)
-script_held left path machine script items events script_is items_is within sized spelt bytes =
-    subst (HoldsScript left path) (script_is ∙ ap (script_named machine) items_is) (record {
-      is_script = record {
-        head = script_within script machine.model (subst (λ (s : Text). is_within_limits (config_of s machine.model) ≡ true) (sym script_is) within) (subst (λ (s : Text). IsMemoryKib s.kib) (sym script_is) sized);
-        events = spelt;
-      };
+pub script_held : (left : Contents) (path : FileName) (config : Config) (kib : ℕ) (script : Text) (items events : List Event) → script ≡ script_for config kib items → items ≡ events
+    → IsMemoryKib kib → AllByRecursion IsEvent script.events → HoldsBytes left path (text script) → HoldsScript left path (script_for config kib events)
+script_held left path config kib script items events script_is items_is sized spelt bytes =
+    subst (HoldsScript left path) (script_is ∙ ap (script_for config kib) items_is) (record {
+      is_script = record { head = script_within script (subst (λ (s : Text). IsMemoryKib s.kib) (sym script_is) sized); events = spelt };
       bytes = bytes;
     })
 
 -- ---- what another file's writing leaves
 
-module _ (before after : Contents) (machine : MachineOptions) (folder path : FileName) (others : (other : FileName) → other ≢ path → after other ≡ before other) where
+module _ (before after : Contents) (config : Config) (kib : ℕ) (folder path : FileName) (others : (other : FileName) → other ≢ path → after other ≡ before other) where
   holds : (name : FileName) (script : Text) → after name ≡ before name → HoldsScript before name script → HoldsScript after name script
   holds name script same held = record {
     is_script = held.is_script;
     bytes = subst (λ (o : Option (List ℕ)). IfSome o (λ known. known ≡ text script)) (sym same) held.bytes;
   }
 
-  kept_at : (name : FileName) (script : Realisation) → name ≢ path → IsKeptAt before machine name script → IsKeptAt after machine name script
+  kept_at : (name : FileName) (script : Realisation) → name ≢ path → IsKeptAt before config kib name script → IsKeptAt after config kib name script
   kept_at name (Events events) another kept = holds name _ (others name another) kept
   kept_at name NoMemory another kept = kept
   kept_at name Limit another kept = kept
   kept_at name Unrealised another kept = kept
 
-  pub kept_from : (number : ℕ) (found : List Found) → ((n : ℕ) → number ≤ n → n < number + length found → path ≢ outcome_path folder n) → AreKeptFrom before machine folder number found
-      → AreKeptFrom after machine folder number found
+  pub kept_from : (number : ℕ) (found : List Found) → ((n : ℕ) → number ≤ n → n < number + length found → path ≢ outcome_path folder n) → AreKeptFrom before config kib folder number found
+      → AreKeptFrom after config kib folder number found
   kept_from number [] differs kept = tt
   kept_from number (x ∷ xs) differs kept = (
     kept_at (outcome_path folder number) x.script (λ same. differs number (omega arith) (omega arith) (sym same)) kept.0,
@@ -94,14 +90,14 @@ module _ (before after : Contents) (machine : MachineOptions) (folder path : Fil
 -- ---- from the last outcome to the first
 
 -- the outcomes behind those that are left have their scripts
-pub record HasKept (held now : Contents) (machine : MachineOptions) (folder : FileName) (left all : List Found) : Type 0 where
+pub record HasKept (held now : Contents) (config : Config) (kib : ℕ) (folder : FileName) (left all : List Found) : Type 0 where
   pub done : List Found
   pub whole : left ++ done ≡ all
-  pub kept : AreKeptFrom now machine folder (length left + 1) done
+  pub kept : AreKeptFrom now config kib folder (length left + 1) done
   pub spared : SparesOthers (IsOutcomeScript (length all) folder) held now
 
-pub none_kept : (held : Contents) (machine : MachineOptions) (folder : FileName) (all : List Found) → HasKept held held machine folder all all
-none_kept held machine folder all = record {
+pub none_kept : (held : Contents) (config : Config) (kib : ℕ) (folder : FileName) (all : List Found) → HasKept held held config kib folder all all
+none_kept held config kib folder all = record {
   done = [];
   whole = append-nil all;
   kept = tt;
@@ -115,9 +111,9 @@ one_of left front all done path folder last left_is whole path_is =
     let total : length left + length done ≡ length all = sym (length-append left done) ∙ ap (λ (xs : List Found). length xs) whole in
     (length front, omega (arith, count, total), path_is ∙ ap (outcome_path folder) count)
 
-pub one_more : (held before after : Contents) (machine : MachineOptions) (folder path : FileName) (left front all : List Found) (last : Found) → length all < 2 ^ 64 → left ≡ front ++ last ∷ [] → path ≡ outcome_path folder (length left)
-    → ((other : FileName) → other ≢ path → after other ≡ before other) → IsKeptAt after machine path last.script → HasKept held before machine folder left all → HasKept held after machine folder front all
-one_more held before after machine folder path left front all last small left_is path_is others written has =
+pub one_more : (held before after : Contents) (config : Config) (kib : ℕ) (folder path : FileName) (left front all : List Found) (last : Found) → length all < 2 ^ 64 → left ≡ front ++ last ∷ [] → path ≡ outcome_path folder (length left)
+    → ((other : FileName) → other ≢ path → after other ≡ before other) → IsKeptAt after config kib path last.script → HasKept held before config kib folder left all → HasKept held after config kib folder front all
+one_more held before after config kib folder path left front all last small left_is path_is others written has =
     let count : length left ≡ length front + 1 = ap (λ (xs : List Found). length xs) left_is ∙ length-append front (last ∷ []) in
     let total : length left + length has.done ≡ length all = sym (length-append left has.done) ∙ ap (λ (xs : List Found). length xs) has.whole in
     let differs : (n : ℕ) → length left + 1 ≤ n → n < length left + 1 + length has.done → path ≢ outcome_path folder n =
@@ -127,10 +123,10 @@ one_more held before after machine folder path left front all last small left_is
       done = last ∷ has.done;
       whole = sym (append_assoc front (last ∷ []) has.done) ∙ (ap (λ (xs : List Found). xs ++ has.done) (sym left_is) ∙ has.whole);
       kept = (
-        subst (λ (p : FileName). IsKeptAt after machine p last.script) (path_is ∙ ap (outcome_path folder) count) written,
-        subst (λ (n : ℕ). AreKeptFrom after machine folder (n + 1) has.done) count (kept_from before after machine folder path others (length left + 1) has.done differs has.kept),
+        subst (λ (p : FileName). IsKeptAt after config kib p last.script) (path_is ∙ ap (outcome_path folder) count) written,
+        subst (λ (n : ℕ). AreKeptFrom after config kib folder (n + 1) has.done) count (kept_from before after config kib folder path others (length left + 1) has.done differs has.kept),
       );
-      spared = spares_more before after machine folder path others (IsOutcomeScript (length all) folder) held (one_of left front all has.done path folder last left_is has.whole path_is) has.spared;
+      spared = spares_more before after config kib folder path others (IsOutcomeScript (length all) folder) held (one_of left front all has.done path folder last left_is has.whole path_is) has.spared;
     }
 
 -- ---- the last of a list
@@ -148,12 +144,12 @@ last_is xs x d some is =
 
 -- ---- all scripts
 
-pub all_kept : (before after : Contents) (machine : MachineOptions) (folder path : FileName) (e : Exploration) (outcomes : List Found) (stuck : Stuck) → ((other : FileName) → other ≢ path → after other ≡ before other)
-    → path ≡ stuck_path folder → outcomes ≡ e.outcomes.items → e.stuck ≡ Some stuck → AreKeptFrom before machine folder 1 outcomes → IsKeptAt after machine path stuck.script → AreKept after machine folder e
-all_kept before after machine folder path e outcomes stuck others path_is outcomes_are stuck_is kept here = (
-  subst (AreKeptFrom after machine folder 1) outcomes_are
-      (kept_from before after machine folder path others 1 outcomes (λ n from below same. never_stuck folder n (sym path_is ∙ same)) kept),
-  subst (λ (o : Option Stuck). IfSome o (λ s. IsKeptAt after machine (stuck_path folder) s.script)) (sym stuck_is) (subst (λ (p : FileName). IsKeptAt after machine p stuck.script) path_is here),
+pub all_kept : (before after : Contents) (config : Config) (kib : ℕ) (folder path : FileName) (e : Exploration) (outcomes : List Found) (stuck : Stuck) → ((other : FileName) → other ≢ path → after other ≡ before other)
+    → path ≡ stuck_path folder → outcomes ≡ e.outcomes.items → e.stuck ≡ Some stuck → AreKeptFrom before config kib folder 1 outcomes → IsKeptAt after config kib path stuck.script → AreKept after config kib folder e
+all_kept before after config kib folder path e outcomes stuck others path_is outcomes_are stuck_is kept here = (
+  subst (AreKeptFrom after config kib folder 1) outcomes_are
+      (kept_from before after config kib folder path others 1 outcomes (λ n from below same. never_stuck folder n (sym path_is ∙ same)) kept),
+  subst (λ (o : Option Stuck). IfSome o (λ s. IsKeptAt after config kib (stuck_path folder) s.script)) (sym stuck_is) (subst (λ (p : FileName). IsKeptAt after config kib p stuck.script) path_is here),
 )
 
 -- ---- which files those are

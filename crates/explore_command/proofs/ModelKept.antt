@@ -1,5 +1,5 @@
 -- Files that were written stay where further ones are written.
-use Rattle.std.proofs.Common.{◌≡◌, ◌≢◌, All, ◌∙◌, ◌⊎◌, ◌+◌, ◌^◌, ◌<◌, ◌≤◌, ◌-◌, ℕ, List, [], ◌∷◌, ◌++◌, IfSome, None, Option, Some, drop, get_or, take, ap, arith, codes, decimal, fold, inl, inr, length, refl, subst, sym}
+use Rattle.std.proofs.Common.{◌≡◌, ◌≢◌, All, ◌∙◌, ◌+◌, ◌^◌, ◌<◌, ◌≤◌, ◌-◌, ℕ, List, [], ◌∷◌, ◌++◌, IfSome, None, Option, Some, drop, get_or, take, ap, arith, codes, decimal, fold, inl, inr, length, refl, subst, sym}
 use Rattle.std.specs.Borrow.{Bor}
 use Rattle.std.proofs.lemmas.Fmt.{decimal_injective}
 use Rattle.std.proofs.lemmas.List.{append_cancel_left, append_cancel_right, append_assoc, append-nil, drop_more, length-append, length-drop, take-append-drop}
@@ -11,7 +11,7 @@ use Rattle.architecture_outcomes.specs.declared.outcome.Way.{Way}
 use Rattle.architecture_outcomes.specs.declared.outcome.Way.TheVariants.{Machine, Model, ModelAlone}
 use Rattle.command_files.specs.Files.{HoldsScript, HoldsTrace}
 use Rattle.command_files.specs.Contents.{Contents, HoldsBytes}
-use Rattle.command_settings.specs.declared.wanted.MachineOptions.{MachineOptions}
+use Rattle.machine_types.specs.declared.config.Config.{Config}
 use Rattle.explore_command.proofs.Kept.{spares_more}
 use Rattle.explore_command.specs.Keeping.{FileName, IsInNamed, SparesOthers, outcome_path}
 use Rattle.explorer.specs.declared.found.Realisation.TheVariants.{Events, Limit, NoMemory, Unrealised}
@@ -57,7 +57,7 @@ is_file folder path number (Model w) is = inr (number, is)
 
 -- ---- what another file's writing leaves
 
-module _ (before after : Contents) (machine : MachineOptions) (folder path : FileName) (others : (other : FileName) → other ≢ path → after other ≡ before other) where
+module _ (before after : Contents) (config : Config) (kib : ℕ) (folder path : FileName) (others : (other : FileName) → other ≢ path → after other ≡ before other) where
   bytes_stay : (name bytes : FileName) → after name ≡ before name → HoldsBytes before name bytes → HoldsBytes after name bytes
   bytes_stay name bytes same held = subst (λ (o : Option (List ℕ)). IfSome o (λ known. known ≡ bytes)) (sym same) held
 
@@ -67,7 +67,7 @@ module _ (before after : Contents) (machine : MachineOptions) (folder path : Fil
   trace_stays : (name : FileName) (trace : History) → after name ≡ before name → HoldsTrace before name trace → HoldsTrace after name trace
   trace_stays name trace same held = record { is_trace = held.is_trace; bytes = bytes_stay name (trace_of trace) same held.bytes }
 
-  kept_at : (name : FileName) (way : Way) → name ≢ path → IsWayKeptAt before machine name way → IsWayKeptAt after machine name way
+  kept_at : (name : FileName) (way : Way) → name ≢ path → IsWayKeptAt before config kib name way → IsWayKeptAt after config kib name way
   kept_at name (Machine (Events events)) another kept = script_stays name _ (others name another) kept
   kept_at name (Machine NoMemory) another kept = kept
   kept_at name (Machine Limit) another kept = kept
@@ -75,8 +75,8 @@ module _ (before after : Contents) (machine : MachineOptions) (folder path : Fil
   kept_at name (ModelAlone trace) another kept = trace_stays name _ (others name another) kept
   kept_at name (Model trace) another kept = trace_stays name _ (others name another) kept
 
-  kept_from : (number : ℕ) (outcomes : List Outcome) → ((n : ℕ) (w : Way) → number ≤ n → n < number + length outcomes → path ≢ file_path folder n w) → AreWaysKept before machine folder number outcomes
-      → AreWaysKept after machine folder number outcomes
+  kept_from : (number : ℕ) (outcomes : List Outcome) → ((n : ℕ) (w : Way) → number ≤ n → n < number + length outcomes → path ≢ file_path folder n w) → AreWaysKept before config kib folder number outcomes
+      → AreWaysKept after config kib folder number outcomes
   kept_from number [] differs kept = tt
   kept_from number (o ∷ os) differs kept = (
     kept_at (file_path folder number o.way) o.way (λ same. differs number o.way (omega arith) (omega arith) (sym same)) kept.0,
@@ -97,10 +97,10 @@ way_of_left left front done all last folder path left_is whole path_is =
     subst (λ (os : List Outcome). IsWayFile 1 os folder path) (sym parts) (way_at 1 front done last folder path (path_is ∙ ap (λ (n : ℕ). file_path folder n last.way) count))
 
 -- its writing spares all others
-pub spares_one : (held before after : Contents) (machine : MachineOptions) (folder path : FileName) (left front done all : List Outcome) (last : Outcome) → left ≡ front ++ last ∷ [] → left ++ done ≡ all → path ≡ file_path folder (length left) last.way
+pub spares_one : (held before after : Contents) (config : Config) (kib : ℕ) (folder path : FileName) (left front done all : List Outcome) (last : Outcome) → left ≡ front ++ last ∷ [] → left ++ done ≡ all → path ≡ file_path folder (length left) last.way
     → ((other : FileName) → other ≢ path → after other ≡ before other) → SparesOthers (IsWayFile 1 all folder) held before → SparesOthers (IsWayFile 1 all folder) held after
-spares_one held before after machine folder path left front done all last left_is whole path_is others =
-    spares_more before after machine folder path others (IsWayFile 1 all folder) held (way_of_left left front done all last folder path left_is whole path_is)
+spares_one held before after config kib folder path left front done all last left_is whole path_is others =
+    spares_more before after config kib folder path others (IsWayFile 1 all folder) held (way_of_left left front done all last folder path left_is whole path_is)
 
 -- each is one that may be written
 way_in : (number : ℕ) (outcomes : List Outcome) (folder name : FileName) → IsWayFile number outcomes folder name → IsFileIn folder name
@@ -115,23 +115,23 @@ way_file outcomes (Some folder) name is = way_in 1 outcomes folder.now name is
 -- ---- from the last outcome to the first
 
 -- what shows the outcomes behind those that are left is written
-pub record HasKept (held now : Contents) (machine : MachineOptions) (folder : FileName) (left all : List Outcome) : Type 0 where
+pub record HasKept (held now : Contents) (config : Config) (kib : ℕ) (folder : FileName) (left all : List Outcome) : Type 0 where
   pub done : List Outcome
   pub whole : left ++ done ≡ all
-  pub kept : AreWaysKept now machine folder (length left + 1) done
+  pub kept : AreWaysKept now config kib folder (length left + 1) done
   pub spared : SparesOthers (IsWayFile 1 all folder) held now
 
-pub none_kept : (held : Contents) (machine : MachineOptions) (folder : FileName) (all : List Outcome) → HasKept held held machine folder all all
-none_kept held machine folder all = record {
+pub none_kept : (held : Contents) (config : Config) (kib : ℕ) (folder : FileName) (all : List Outcome) → HasKept held held config kib folder all all
+none_kept held config kib folder all = record {
   done = [];
   whole = append-nil all;
   kept = tt;
   spared = λ other. inl refl;
 }
 
-pub one_more : (held before after : Contents) (machine : MachineOptions) (folder path : FileName) (left front all : List Outcome) (last : Outcome) → length all < 2 ^ 64 → left ≡ front ++ last ∷ [] → path ≡ file_path folder (length left) last.way
-    → ((other : FileName) → other ≢ path → after other ≡ before other) → IsWayKeptAt after machine path last.way → HasKept held before machine folder left all → HasKept held after machine folder front all
-one_more held before after machine folder path left front all last small left_is path_is others written has =
+pub one_more : (held before after : Contents) (config : Config) (kib : ℕ) (folder path : FileName) (left front all : List Outcome) (last : Outcome) → length all < 2 ^ 64 → left ≡ front ++ last ∷ [] → path ≡ file_path folder (length left) last.way
+    → ((other : FileName) → other ≢ path → after other ≡ before other) → IsWayKeptAt after config kib path last.way → HasKept held before config kib folder left all → HasKept held after config kib folder front all
+one_more held before after config kib folder path left front all last small left_is path_is others written has =
     let count : length left ≡ length front + 1 = ap (λ (xs : List Outcome). length xs) left_is ∙ length-append front (last ∷ []) in
     let total : length left + length has.done ≡ length all = sym (length-append left has.done) ∙ ap (λ (xs : List Outcome). length xs) has.whole in
     let differs : (n : ℕ) (w : Way) → length left + 1 ≤ n → n < length left + 1 + length has.done → path ≢ file_path folder n w =
@@ -141,10 +141,10 @@ one_more held before after machine folder path left front all last small left_is
       done = last ∷ has.done;
       whole = sym (append_assoc front (last ∷ []) has.done) ∙ (ap (λ (xs : List Outcome). xs ++ has.done) (sym left_is) ∙ has.whole);
       kept = (
-        subst (λ (p : FileName). IsWayKeptAt after machine p last.way) (path_is ∙ ap (λ n. file_path folder n last.way) count) written,
-        subst (λ (n : ℕ). AreWaysKept after machine folder (n + 1) has.done) count (kept_from before after machine folder path others (length left + 1) has.done differs has.kept),
+        subst (λ (p : FileName). IsWayKeptAt after config kib p last.way) (path_is ∙ ap (λ n. file_path folder n last.way) count) written,
+        subst (λ (n : ℕ). AreWaysKept after config kib folder (n + 1) has.done) count (kept_from before after config kib folder path others (length left + 1) has.done differs has.kept),
       );
-      spared = spares_one held before after machine folder path left front has.done all last left_is has.whole path_is others has.spared;
+      spared = spares_one held before after config kib folder path left front has.done all last left_is has.whole path_is others has.spared;
     }
 
 -- what is known of all is known of the last that is left

@@ -1,10 +1,10 @@
 -- The trace of a witness is within the limits of its text.
-use Rattle.std.proofs.Common.{◌≡◌, ◌∙◌, ◌+◌, ◌*◌, ◌/◌, ◌^◌, ◌<◌, ◌≤◌, ℕ, suc, zero, Bool, true, false, List, [], ◌∷◌, Option, Some, None, All, IsTrue, ap, arith, length, refl, slice_index_or, subst, sym}
-use Rattle.std.specs.Prelude.{◌&&◌, nat_le, slice_index}
+use Rattle.std.proofs.Common.{◌≡◌, ◌∙◌, ◌+◌, ◌*◌, ◌/◌, ◌^◌, ◌<◌, ◌≤◌, ℕ, suc, zero, true, List, [], ◌∷◌, Option, Some, None, All, ap, arith, length, refl, slice_index_or, subst, sym}
+use Rattle.std.specs.Prelude.{slice_index}
 use Rattle.std.specs.List.{AllByRecursion}
-use Rattle.std.proofs.lemmas.Bool.{and_parts, false≢true, leb-true}
+use Rattle.std.proofs.lemmas.Bool.{and_parts, false≢true}
 use Rattle.std.proofs.lemmas.List.Elements.{All-weaker, recursion_from_All}
-use Rattle.machine_types.specs.declared.limits.TheConstants.{MAX_ENTRIES, MAX_HARTS}
+use Rattle.machine_types.specs.declared.limits.TheConstants.{MAX_ENTRIES}
 use Rattle.explore_command.specs.ModelKeeping.{HasText}
 use Rattle.architecture_outcomes.specs.Outcomes.{IsWitnessed, IsWitnessedBy}
 use Rattle.architecture_outcomes.specs.declared.outcome.Outcome.{Outcome}
@@ -16,13 +16,12 @@ use Rattle.hart.specs.declared.retired.Retired.{Retired}
 use Rattle.hart.specs.declared.status.Status.{Status}
 use Rattle.hart.specs.declared.status.Status.TheVariants.{Running, Stopped, Exited}
 use Rattle.hart.specs.Run.{is_run}
-use Rattle.machine_types.specs.Config.{is_within_limits}
-use Rattle.machine_types.proofs.Within.{limits_of}
+use Rattle.machine_types.proofs.Within.{config_limits}
 use Rattle.machine_types.specs.declared.config.Config.{Config}
 use Rattle.machine_model.specs.Ranges.{HasCode, HasWords, NamesPlace}
 use Rattle.machine_model.proofs.ranges.Runs.{named_in_range, runs_in_range}
 use Rattle.memory_model.specs.Traces.{are_runs_from}
-use Rattle.trace_recorder.specs.History.{History, entries_of}
+use Rattle.trace_recorder.specs.History.{History}
 use Rattle.trace_recorder.specs.declared.operation.OpId.{OpId}
 use Rattle.trace_text.specs.TraceHeads.{IsTraceHead}
 use Rattle.trace_text.specs.TraceLimits.{IsHart, IsLoaded, IsLogged, IsOperation, IsRetired, IsStatus, IsTrace}
@@ -81,10 +80,10 @@ memory_kib size is =
     let high = is.at_most in
     record { whole_pages = omega (arith, pages); at_least = omega (arith, low); at_most = omega (arith, high) }
 
-module _ (image : Initial) (config : Config) (loaded : IsImage image) (within : IsTrue (is_within_limits config)) where
+module _ (image : Initial) (config : Config) (loaded : IsImage image) where
   head_fits : (t : History) → IsImage t.image → length t.statuses ≡ config.harts → IsTraceHead (head_of t)
   head_fits t is count =
-      let limits = limits_of config within in
+      let limits = config_limits config in
       let some = limits.some_harts in
       let few = limits.few_harts in
       let size = whole_kib (length t.image.bytes) is.legal_size in

@@ -3,7 +3,7 @@ use Rattle.std.proofs.Common.{◌≡◌, ◌≤◌, ℕ, IfSome, List, Option, a
 use Rattle.std.specs.Io.KnownBytes.{Appends}
 use Rattle.command_files.specs.Files.{HoldsImage}
 use Rattle.command_files.specs.Contents.{Contents}
-use Rattle.command_files.specs.Sizes.{config_named}
+use Rattle.command_files.specs.Sizes.{IsInside, config_named}
 use Rattle.command_settings.specs.declared.wanted.Explore.{Explore}
 use Rattle.elf_loader.specs.Image.{Initial}
 use Rattle.exploration_text.specs.Sampling.{sampled_text}
@@ -21,23 +21,24 @@ use Rattle.std.specs.declared.alloc.AllocError.{AllocError}
 use Rattle.explorer.specs.Sampled as ends
 
 module _ (held : Contents) (wanted : Explore) (runs : ℕ) (config : Config) (image : Initial) (found : Sampled)
-    (config_is : config ≡ config_named wanted.machine) (file : HoldsImage held wanted.raw wanted.image.now wanted.machine.memory image) (are : AreRuns image config runs found) where
-  are_runs : AreRuns image (config_named wanted.machine) runs found
+    (inside : IsInside wanted.machine) (config_is : config ≡ config_named wanted.machine inside) (file : HoldsImage held wanted.raw wanted.image.now wanted.machine.memory image) (are : AreRuns image config runs found) where
+  are_runs : AreRuns image (config_named wanted.machine inside) runs found
   are_runs = subst (λ (c : Config). AreRuns image c runs found) config_is are
 
   pub has : (P : List ℕ → Type 0) → P (sampled_text found) → SampleHas held wanted runs P
-  has P so = record { image = image; found = found; image_file = file; runs_made = are_runs; of_text = so }
+  has P so = record { image = image; found = found; image_file = file; inside = inside; runs_made = are_runs; of_text = so }
 
-  pub all : (old new : Option (List ℕ)) (left : Contents) (judgement : Judgement) → Appends old new (sampled_text found) → IfSome wanted.scripts (λ folder. AreKeptFrom left wanted.machine folder.now 1 found.ends.items)
+  pub all : (old new : Option (List ℕ)) (left : Contents) (judgement : Judgement) → Appends old new (sampled_text found) → IfSome wanted.scripts (λ folder. AreKeptFrom left config wanted.machine.memory folder.now 1 found.ends.items)
       → SparesOthers (IsInNamed wanted.scripts (IsOutcomeScript (length found.ends.items))) held left
       → IsJudged held wanted.allow (map (λ f. harts_text 0 (outcome_of f)) found.ends.items) judgement → (judgement ≡ Allowed → found.runs ≡ runs) → IsSampleTold held left wanted runs judgement old new
   all old new left judgement printed kept spares by whole = record {
     image = image;
     found = found;
     image_file = file;
+    inside = inside;
     runs_made = are_runs;
     printed = printed;
-    kept = kept;
+    kept = subst (λ (c : Config). IfSome wanted.scripts (λ folder. AreKeptFrom left c wanted.machine.memory folder.now 1 found.ends.items)) config_is kept;
     spared = spares;
     judged = by;
     whole = whole;
@@ -45,7 +46,7 @@ module _ (held : Contents) (wanted : Explore) (runs : ℕ) (config : Config) (im
 
   pub refusals : (old new : Option (List ℕ)) (P : List ℕ → Type 0) → Appends old new (sampled_text found) → HaveRefusals held wanted.allow (map (λ f. harts_text 0 (outcome_of f)) found.ends.items) P
       → SampleRefusals held wanted runs old new P
-  refusals old new P printed so = record { image = image; found = found; image_file = file; runs_made = are_runs; printed = printed; refusals = so }
+  refusals old new P printed so = record { image = image; found = found; image_file = file; inside = inside; runs_made = are_runs; printed = printed; refusals = so }
 
 -- no fewer runs than were asked for, and no more
 pub all_made : (made runs : ℕ) {most : ℕ} → made ≤ most → most ≡ runs → runs ≤ made → made ≡ runs

@@ -9,7 +9,7 @@ use Rattle.architecture_outcomes.specs.Outcomes.{end_of}
 use Rattle.architecture_outcomes.specs.Text.{architecture_text}
 use Rattle.command_files.specs.Faults.{Name}
 use Rattle.command_files.specs.Contents.{Contents}
-use Rattle.command_files.specs.Sizes.{config_named}
+use Rattle.command_files.specs.Sizes.{IsInside, config_named}
 use Rattle.command_settings.specs.declared.wanted.Explore.{Explore}
 use Rattle.elf_loader.specs.Image.{Initial}
 use Rattle.exploration_text.specs.declared.wording.WordName.{WordName}
@@ -37,27 +37,29 @@ use Rattle.flat_model.specs.Flat.{Flat}
 use Rattle.window_machine.specs.Openings.{NeverOpens}
 
 module _ (held : Contents) (wanted : Explore) (words : List Name) (window : ℕ) (config : Config) (image : Initial) (addresses : List ℕ) (names : List WordName) (found : Architecture)
-    (config_is : config ≡ config_named wanted.machine) (program : HasProgram held wanted words image addresses) (named : names ≡ names_of words) (is : IsFoundUnder image config addresses window wanted.states found) where
+    (inside : IsInside wanted.machine) (config_is : config ≡ config_named wanted.machine inside) (program : HasProgram held wanted words image addresses) (named : names ≡ names_of words) (is : IsFoundUnder image config addresses window wanted.states found) where
   of_file : IsOfFile held wanted words window found
   of_file = record {
     image = image;
     addresses = addresses;
     program = program;
+    inside = inside;
     found = subst (λ (c : Config). IsFoundUnder image c addresses window wanted.states found) config_is is;
   }
 
   pub has : (P : List ℕ → Type 0) → P (architecture_text names found) → SearchHas held wanted words window P
   has P so = record { architecture = found; of_file = of_file; of_text = subst (λ (n : List WordName). P (architecture_text n found)) named so }
 
-  pub whole : (old new : Option (List ℕ)) (left : Contents) (judgement : Judgement) (text : Option (List ℕ)) → Appends old new (architecture_text names found) → IfSome wanted.scripts (λ folder. AreWaysKept left wanted.machine folder.now 1 found.outcomes.items)
+  pub whole : (old new : Option (List ℕ)) (left : Contents) (judgement : Judgement) (text : Option (List ℕ)) → Appends old new (architecture_text names found) → IfSome wanted.scripts (λ folder. AreWaysKept left config wanted.machine.memory folder.now 1 found.outcomes.items)
       → SparesOthers (IsInNamed wanted.scripts (IsWayFile 1 found.outcomes.items)) held left
       → IsAllowFile held wanted.allow text → judgement ≡ judgement_of_lines text (map (λ o. end_text names (end_of o)) found.outcomes.items)
       → (judgement ≡ Allowed → (found.machine ≢ extent.OutOfMemory) × (found.reach ≢ reach.OutOfMemory)) → IsSearched held left wanted words window judgement old new
+  unfolding of_file
   whole old new left judgement text printed kept spares read by memory = record {
     architecture = found;
     of_file = of_file;
     printed = subst (λ (n : List WordName). Appends old new (architecture_text n found)) named printed;
-    kept = kept;
+    kept = subst (λ (c : Config). IfSome wanted.scripts (λ folder. AreWaysKept left c wanted.machine.memory folder.now 1 found.outcomes.items)) config_is kept;
     spared = spares;
     judged = judged_of end_of held wanted.allow text names (names_of words) found.outcomes.items judgement named read by;
     whole = memory;

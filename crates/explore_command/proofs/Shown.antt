@@ -5,9 +5,8 @@ use Rattle.std.proofs.lemmas.List.Elements.{All-nil, All-push}
 use Rattle.std.specs.Io.KnownBytes.{Appends}
 use Rattle.command_files.specs.Faults.{Name}
 use Rattle.command_files.specs.Contents.{Contents}
-use Rattle.command_files.specs.Sizes.{config_named}
+use Rattle.command_files.specs.Sizes.{IsInside, config_named}
 use Rattle.command_files.specs.declared.fault.Fault.{Fault}
-use Rattle.command_settings.specs.declared.wanted.MachineOptions.{MachineOptions}
 use Rattle.command_settings.specs.declared.wanted.Show.{Show}
 use Rattle.elf_loader.specs.Image.{Initial}
 use Rattle.elf_symbols.specs.Named.{Named}
@@ -60,13 +59,14 @@ told_of ending held allow text names told xs P same read so =
 
 -- ---- what was found
 
-module _ (held : Contents) (show : Show) (config : Config) (image : Initial) (addresses : List ℕ) (words : List Name) (names : List WordName) (found : WordExploration) (config_is : config ≡ config_named show.explore.machine)
+module _ (held : Contents) (show : Show) (config : Config) (image : Initial) (addresses : List ℕ) (words : List Name) (names : List WordName) (found : WordExploration) (inside : IsInside show.explore.machine) (config_is : config ≡ config_named show.explore.machine inside)
     (words_are : words ≡ show.words.items) (program : HasProgram held show.explore words image addresses) (named : names ≡ names_of words) (is : IsFoundIn image config addresses show.explore.states found) where
   pub of_file : IsOfFile held show found
   of_file = record {
     image = image;
     addresses = addresses;
     program = subst (λ (w : List Name). HasProgram held show.explore w image addresses) words_are program;
+    inside = inside;
     found = subst (λ (c : Config). IsFoundIn image c addresses show.explore.states found) config_is is;
   }
 
@@ -88,14 +88,15 @@ module _ (held : Contents) (show : Show) (config : Config) (image : Initial) (ad
   }
 
   -- all of it was done
-  pub shown : (old new : Option (List ℕ)) (left : Contents) (judgement : Judgement) (text : Option (List ℕ)) → Appends old new (words_text names found) → IfSome show.explore.scripts (λ folder. AreWordsKept left show.explore.machine folder.now found)
+  pub shown : (old new : Option (List ℕ)) (left : Contents) (judgement : Judgement) (text : Option (List ℕ)) → Appends old new (words_text names found) → IfSome show.explore.scripts (λ folder. AreWordsKept left config show.explore.machine.memory folder.now found)
       → SparesOthers (IsInNamed show.explore.scripts (IsScriptOf (length found.outcomes.items) found.stuck)) held left → IsAllowFile held show.explore.allow text
       → judgement ≡ judgement_of_lines text (map (λ f. end_text names (ending_of f)) found.outcomes.items) → (judgement ≡ Allowed → found.extent ≢ extent.OutOfMemory) → AreWordsShown held left show judgement old new
+  unfolding of_file
   shown old new left judgement text printed kept spares read by whole = record {
     exploration = found;
     of_file = of_file;
     printed = subst (λ (n : List WordName). Appends old new (words_text n found)) names_are printed;
-    kept = kept;
+    kept = subst (λ (c : Config). IfSome show.explore.scripts (λ folder. AreWordsKept left c show.explore.machine.memory folder.now found)) config_is kept;
     spared = spares;
     judged = judged_of ending_of held show.explore.allow text names (names_of show.words.items) found.outcomes.items judgement names_are read by;
     whole = whole;
@@ -116,11 +117,11 @@ one_bare before left end bare all new whole popped is pushed so =
     ap (λ (xs : List Found). map bare_of left ++ xs) back ∙ (sym (append_assoc (map bare_of left) (bare ∷ []) (reverse all)) ∙ (ap (λ (xs : List Found). xs ++ reverse all) (sym front) ∙ so))
 
 -- scripts are kept as they are of the ends without words
-pub kept_bare : (left : Contents) (machine : MachineOptions) (folder : List ℕ) (e : Exploration) (found : WordExploration) → e.outcomes.items ≡ map bare_of found.outcomes.items → e.stuck ≡ found.stuck
-    → AreKept left machine folder e → AreWordsKept left machine folder found
-kept_bare left machine folder e found items stuck kept = (
-  subst (AreKeptFrom left machine folder 1) items kept.0,
-  subst (λ (o : Option Stuck). IfSome o (λ s. IsKeptAt left machine (stuck_path folder) s.script)) stuck kept.1,
+pub kept_bare : (left : Contents) (config : Config) (kib : ℕ) (folder : List ℕ) (e : Exploration) (found : WordExploration) → e.outcomes.items ≡ map bare_of found.outcomes.items → e.stuck ≡ found.stuck
+    → AreKept left config kib folder e → AreWordsKept left config kib folder found
+kept_bare left config kib folder e found items stuck kept = (
+  subst (AreKeptFrom left config kib folder 1) items kept.0,
+  subst (λ (o : Option Stuck). IfSome o (λ s. IsKeptAt left config kib (stuck_path folder) s.script)) stuck kept.1,
 )
 
 -- and spare the same other files

@@ -6,7 +6,7 @@ use Rattle.std.specs.Ordering.{on}
 use Rattle.command_files.specs.Faults.{IsImageFault, IsNoImage, IsReadFault, Name}
 use Rattle.command_files.specs.Files.{HoldsImage}
 use Rattle.command_files.specs.Contents.{Contents, HoldsBytes}
-use Rattle.command_files.specs.Sizes.{IsOutside, config_named}
+use Rattle.command_files.specs.Sizes.{IsInside, IsOutside, config_named}
 use Rattle.command_files.specs.declared.fault.Fault.{Fault}
 use Rattle.command_files.specs.declared.fault.Fault.TheVariants.{CannotMake, CannotRead, CannotWrite, Configuration, Image, OutOfMemory}
 use Rattle.command_settings.specs.declared.wanted.Explore.{Explore}
@@ -48,9 +48,10 @@ pub record IsExplorationTold (held left : Contents) (wanted : Explore) (judgemen
   pub image : Initial
   pub exploration : Exploration
   pub image_file : HoldsImage held wanted.raw wanted.image.now wanted.machine.memory image
-  pub found : IsFoundIn image (config_named wanted.machine) wanted.states exploration
+  pub inside : IsInside wanted.machine
+  pub found : IsFoundIn image (config_named wanted.machine inside) wanted.states exploration
   pub printed : Appends old new (exploration_text exploration)
-  pub kept : IfSome wanted.scripts (λ folder. AreKept left wanted.machine folder.now exploration)
+  pub kept : IfSome wanted.scripts (λ folder. AreKept left (config_named wanted.machine inside) wanted.machine.memory folder.now exploration)
   pub spared : SparesOthers (IsInNamed wanted.scripts (IsScriptOf (length exploration.outcomes.items) exploration.stuck)) held left
   pub judged : IsJudged held wanted.allow (map (λ f. harts_text 0 (outcome_of f)) exploration.outcomes.items) judgement
   pub whole : judgement ≡ Allowed → exploration.extent ≢ extent.OutOfMemory
@@ -60,7 +61,8 @@ pub record ExplorationHas (held : Contents) (wanted : Explore) (P : List ℕ →
   pub image : Initial
   pub exploration : Exploration
   pub image_file : HoldsImage held wanted.raw wanted.image.now wanted.machine.memory image
-  pub found : IsFoundIn image (config_named wanted.machine) wanted.states exploration
+  pub inside : IsInside wanted.machine
+  pub found : IsFoundIn image (config_named wanted.machine inside) wanted.states exploration
   pub of_text : P (exploration_text exploration)
 
 -- P holds of what is to be told of the outcomes that were printed, those of the image in the file
@@ -68,7 +70,8 @@ pub record ExplorationRefusals (held : Contents) (wanted : Explore) (old new : O
   pub image : Initial
   pub exploration : Exploration
   pub image_file : HoldsImage held wanted.raw wanted.image.now wanted.machine.memory image
-  pub found : IsFoundIn image (config_named wanted.machine) wanted.states exploration
+  pub inside : IsInside wanted.machine
+  pub found : IsFoundIn image (config_named wanted.machine inside) wanted.states exploration
   pub printed : Appends old new (exploration_text exploration)
   pub refusals : HaveRefusals held wanted.allow (map (λ f. harts_text 0 (outcome_of f)) exploration.outcomes.items) P
 

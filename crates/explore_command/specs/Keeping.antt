@@ -3,13 +3,13 @@ use Rattle.std.specs.Prelude.{ℕ, ◌≡◌, ◌⊎◌, ◌+◌, ◌<◌, ◌�
 use Rattle.std.specs.Borrow.{Bor}
 use Rattle.command_files.specs.Files.{HoldsScript}
 use Rattle.command_files.specs.Contents.{Contents}
-use Rattle.command_files.specs.Sizes.{script_named}
-use Rattle.command_settings.specs.declared.wanted.MachineOptions.{MachineOptions}
+use Rattle.command_files.specs.Sizes.{script_for}
 use Rattle.explorer.specs.declared.exploration.Exploration.{Exploration}
 use Rattle.explorer.specs.declared.exploration.Stuck.{Stuck}
 use Rattle.explorer.specs.declared.found.Found.{Found}
 use Rattle.explorer.specs.declared.found.Realisation.{Realisation}
 use Rattle.explorer.specs.declared.found.Realisation.TheVariants.{Events}
+use Rattle.machine_types.specs.declared.config.Config.{Config}
 
 abbrev pub FileName : Type 0
 FileName = List ℕ
@@ -22,19 +22,19 @@ outcome_path folder number = folder ++ (codes "/outcome-" ++ (decimal number ++ 
 abbrev pub stuck_path : FileName → FileName
 stuck_path folder = folder ++ codes "/stuck.script"
 
--- the file has the script of these events, for the machine that was named
-abbrev pub IsKeptAt : Contents → MachineOptions → FileName → Realisation → Type 0
-IsKeptAt left machine path (Events events) = HoldsScript left path (script_named machine events.items)
-IsKeptAt left machine path _ = ⊥
+-- the file has the script of these events, for this machine with so much memory
+abbrev pub IsKeptAt : Contents → Config → (kib : ℕ) → FileName → Realisation → Type 0
+IsKeptAt left config kib path (Events events) = HoldsScript left path (script_for config kib events.items)
+IsKeptAt left config kib path _ = ⊥
 
 -- each outcome's script, counted from a number on
-abbrev pub AreKeptFrom : Contents → MachineOptions → FileName → ℕ → List Found → Type 0
-AreKeptFrom left machine folder number [] = Unit {0}
-AreKeptFrom left machine folder number (found ∷ rest) = IsKeptAt left machine (outcome_path folder number) found.script × AreKeptFrom left machine folder (number + 1) rest
+abbrev pub AreKeptFrom : Contents → Config → (kib : ℕ) → FileName → ℕ → List Found → Type 0
+AreKeptFrom left config kib folder number [] = Unit {0}
+AreKeptFrom left config kib folder number (found ∷ rest) = IsKeptAt left config kib (outcome_path folder number) found.script × AreKeptFrom left config kib folder (number + 1) rest
 
 -- each outcome's script, and one that gets stuck, if any does
-abbrev pub AreKept : Contents → MachineOptions → FileName → Exploration → Type 0
-AreKept left machine folder e = AreKeptFrom left machine folder 1 e.outcomes.items × IfSome e.stuck (λ stuck. IsKeptAt left machine (stuck_path folder) stuck.script)
+abbrev pub AreKept : Contents → Config → (kib : ℕ) → FileName → Exploration → Type 0
+AreKept left config kib folder e = AreKeptFrom left config kib folder 1 e.outcomes.items × IfSome e.stuck (λ stuck. IsKeptAt left config kib (stuck_path folder) stuck.script)
 
 -- the file is one of those scripts
 abbrev pub IsScriptIn : FileName → FileName → Type 0

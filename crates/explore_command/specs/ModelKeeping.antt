@@ -1,15 +1,15 @@
 -- The files in which a folder has what shows the outcomes.
-use Rattle.std.specs.Prelude.{ℕ, ◌≡◌, ◌⊎◌, ◌+◌, ◌∷◌, ◌++◌, [], List, None, Option, Some, codes, decimal}
+use Rattle.std.specs.Prelude.{ℕ, ◌≡◌, ◌⊎◌, ◌+◌, ◌∷◌, ◌++◌, [], List, Option, codes, decimal}
 use Rattle.std.specs.Borrow.{Bor}
 use Rattle.architecture_outcomes.specs.declared.outcome.Outcome.{Outcome}
 use Rattle.architecture_outcomes.specs.declared.outcome.Way.{Way}
 use Rattle.architecture_outcomes.specs.declared.outcome.Way.TheVariants.{Machine, Model, ModelAlone}
 use Rattle.command_files.specs.Files.{HoldsScript, HoldsTrace}
 use Rattle.command_files.specs.Contents.{Contents}
-use Rattle.command_files.specs.Sizes.{script_named}
-use Rattle.command_settings.specs.declared.wanted.MachineOptions.{MachineOptions}
+use Rattle.command_files.specs.Sizes.{script_for}
 use Rattle.explore_command.specs.Keeping.{FileName, IsInNamed, outcome_path}
 use Rattle.explorer.specs.declared.found.Realisation.TheVariants.{Events, Limit, NoMemory, Unrealised}
+use Rattle.machine_types.specs.declared.config.Config.{Config}
 use Rattle.trace_text.specs.TraceLimits.{IsTrace}
 
 -- FOLDER/outcome-NUMBER.trace
@@ -22,14 +22,14 @@ file_path folder number (Machine script) = outcome_path folder number
 file_path folder number (ModelAlone trace) = trace_path folder number
 file_path folder number (Model trace) = trace_path folder number
 
--- the file has the script of these events, for the machine that was named, or the trace of the lists and the order
-abbrev pub IsWayKeptAt : Contents → MachineOptions → FileName → Way → Type 0
-IsWayKeptAt left machine path (Machine (Events events)) = HoldsScript left path (script_named machine events.items)
-IsWayKeptAt left machine path (Machine NoMemory) = ⊥
-IsWayKeptAt left machine path (Machine Limit) = ⊥
-IsWayKeptAt left machine path (Machine Unrealised) = ⊥
-IsWayKeptAt left machine path (ModelAlone trace) = HoldsTrace left path trace.history
-IsWayKeptAt left machine path (Model trace) = HoldsTrace left path trace.history
+-- the file has the script of these events, for this machine with so much memory, or the trace of the lists and the order
+abbrev pub IsWayKeptAt : Contents → Config → (kib : ℕ) → FileName → Way → Type 0
+IsWayKeptAt left config kib path (Machine (Events events)) = HoldsScript left path (script_for config kib events.items)
+IsWayKeptAt left config kib path (Machine NoMemory) = ⊥
+IsWayKeptAt left config kib path (Machine Limit) = ⊥
+IsWayKeptAt left config kib path (Machine Unrealised) = ⊥
+IsWayKeptAt left config kib path (ModelAlone trace) = HoldsTrace left path trace.history
+IsWayKeptAt left config kib path (Model trace) = HoldsTrace left path trace.history
 
 -- its trace, where it is told by one, is within the limits of a trace's text
 abbrev pub HasText : Way → Type 0
@@ -38,9 +38,9 @@ HasText (ModelAlone trace) = IsTrace trace.history
 HasText (Model trace) = IsTrace trace.history
 
 -- what shows each outcome, counted from a number on
-abbrev pub AreWaysKept : Contents → MachineOptions → FileName → ℕ → List Outcome → Type 0
-AreWaysKept left machine folder number [] = Unit {0}
-AreWaysKept left machine folder number (o ∷ rest) = IsWayKeptAt left machine (file_path folder number o.way) o.way × AreWaysKept left machine folder (number + 1) rest
+abbrev pub AreWaysKept : Contents → Config → (kib : ℕ) → FileName → ℕ → List Outcome → Type 0
+AreWaysKept left config kib folder number [] = Unit {0}
+AreWaysKept left config kib folder number (o ∷ rest) = IsWayKeptAt left config kib (file_path folder number o.way) o.way × AreWaysKept left config kib folder (number + 1) rest
 
 -- the file is one of those
 abbrev pub IsWayFile : ℕ → List Outcome → (folder name : FileName) → Type 0

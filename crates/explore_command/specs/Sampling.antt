@@ -3,7 +3,7 @@ use Rattle.std.specs.Prelude.{◌≡◌, ℕ, ◌≤◌, IfSome, List, Option, l
 use Rattle.std.specs.Io.KnownBytes.{Appends}
 use Rattle.command_files.specs.Files.{HoldsImage}
 use Rattle.command_files.specs.Contents.{Contents}
-use Rattle.command_files.specs.Sizes.{config_named}
+use Rattle.command_files.specs.Sizes.{IsInside, config_named}
 use Rattle.command_settings.specs.declared.wanted.Explore.{Explore}
 use Rattle.elf_loader.specs.Image.{Initial}
 use Rattle.exploration_text.specs.Sampling.{sampled_text}
@@ -27,9 +27,10 @@ pub record IsSampleTold (held left : Contents) (wanted : Explore) (runs : ℕ) (
   pub image : Initial
   pub found : Sampled
   pub image_file : HoldsImage held wanted.raw wanted.image.now wanted.machine.memory image
-  pub runs_made : AreRuns image (config_named wanted.machine) runs found
+  pub inside : IsInside wanted.machine
+  pub runs_made : AreRuns image (config_named wanted.machine inside) runs found
   pub printed : Appends old new (sampled_text found)
-  pub kept : IfSome wanted.scripts (λ folder. AreKeptFrom left wanted.machine folder.now 1 found.ends.items)
+  pub kept : IfSome wanted.scripts (λ folder. AreKeptFrom left (config_named wanted.machine inside) wanted.machine.memory folder.now 1 found.ends.items)
   pub spared : SparesOthers (IsInNamed wanted.scripts (IsOutcomeScript (length found.ends.items))) held left
   pub judged : IsJudged held wanted.allow (map (λ f. harts_text 0 (outcome_of f)) found.ends.items) judgement
   pub whole : judgement ≡ Allowed → found.runs ≡ runs
@@ -39,7 +40,8 @@ pub record SampleHas (held : Contents) (wanted : Explore) (runs : ℕ) (P : List
   pub image : Initial
   pub found : Sampled
   pub image_file : HoldsImage held wanted.raw wanted.image.now wanted.machine.memory image
-  pub runs_made : AreRuns image (config_named wanted.machine) runs found
+  pub inside : IsInside wanted.machine
+  pub runs_made : AreRuns image (config_named wanted.machine inside) runs found
   pub of_text : P (sampled_text found)
 
 -- P holds of what is to be told of the ends that were printed, those of runs of the image in the file
@@ -47,6 +49,7 @@ pub record SampleRefusals (held : Contents) (wanted : Explore) (runs : ℕ) (old
   pub image : Initial
   pub found : Sampled
   pub image_file : HoldsImage held wanted.raw wanted.image.now wanted.machine.memory image
-  pub runs_made : AreRuns image (config_named wanted.machine) runs found
+  pub inside : IsInside wanted.machine
+  pub runs_made : AreRuns image (config_named wanted.machine inside) runs found
   pub printed : Appends old new (sampled_text found)
   pub refusals : HaveRefusals held wanted.allow (map (λ f. harts_text 0 (outcome_of f)) found.ends.items) P

@@ -11,7 +11,7 @@ use Rattle.architecture_outcomes.specs.Text.{architecture_text}
 use Rattle.architecture_outcomes.specs.Visited.{AreMachineStates, TellsEnd}
 use Rattle.command_files.specs.Faults.{Name}
 use Rattle.command_files.specs.Contents.{Contents}
-use Rattle.command_files.specs.Sizes.{config_named}
+use Rattle.command_files.specs.Sizes.{IsInside, config_named}
 use Rattle.command_files.specs.declared.fault.Fault.{Fault}
 use Rattle.command_settings.specs.declared.wanted.Explore.{Explore}
 use Rattle.elf_loader.specs.Image.{Initial}
@@ -52,14 +52,15 @@ pub record IsOfFile (held : Contents) (wanted : Explore) (words : List Name) (wi
   pub image : Initial
   pub addresses : List ℕ
   pub program : HasProgram held wanted words image addresses
-  pub found : IsFoundUnder image (config_named wanted.machine) addresses window wanted.states architecture
+  pub inside : IsInside wanted.machine
+  pub found : IsFoundUnder image (config_named wanted.machine inside) addresses window wanted.states architecture
 
 -- what was found was printed, what shows it is in the folder, if one was named, and each other file is as before, and it was judged by the file that says what is allowed; it is allowed only where memory sufficed for both searches
 pub record IsSearched (held left : Contents) (wanted : Explore) (words : List Name) (window : ℕ) (judgement : Judgement) (old new : Option (List ℕ)) : Type 0 where
   pub architecture : Architecture
   pub of_file : IsOfFile held wanted words window architecture
   pub printed : Appends old new (architecture_text (names_of words) architecture)
-  pub kept : IfSome wanted.scripts (λ folder. AreWaysKept left wanted.machine folder.now 1 architecture.outcomes.items)
+  pub kept : IfSome wanted.scripts (λ folder. AreWaysKept left (config_named wanted.machine of_file.inside) wanted.machine.memory folder.now 1 architecture.outcomes.items)
   pub spared : SparesOthers (IsInNamed wanted.scripts (IsWayFile 1 architecture.outcomes.items)) held left
   pub judged : IsJudged held wanted.allow (map (λ o. end_text (names_of words) (end_of o)) architecture.outcomes.items) judgement
   pub whole : judgement ≡ Allowed → (architecture.machine ≢ extent.OutOfMemory) × (architecture.reach ≢ reach.OutOfMemory)

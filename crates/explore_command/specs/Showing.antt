@@ -5,7 +5,7 @@ use Rattle.std.specs.List.Sorted.{IsStrictlySortedBy}
 use Rattle.std.specs.Ordering.{on}
 use Rattle.command_files.specs.Faults.{Name}
 use Rattle.command_files.specs.Contents.{Contents}
-use Rattle.command_files.specs.Sizes.{config_named}
+use Rattle.command_files.specs.Sizes.{IsInside, config_named}
 use Rattle.command_files.specs.declared.fault.Fault.{Fault}
 use Rattle.command_files.specs.declared.fault.Fault.TheVariants.{CannotShow}
 use Rattle.command_files.specs.declared.fault.Unshown.TheVariants.{Elsewhere}
@@ -51,14 +51,15 @@ pub record IsOfFile (held : Contents) (show : Show) (exploration : WordExplorati
   pub image : Initial
   pub addresses : List ℕ
   pub program : HasProgram held show.explore show.words.items image addresses
-  pub found : IsFoundIn image (config_named show.explore.machine) addresses show.explore.states exploration
+  pub inside : IsInside show.explore.machine
+  pub found : IsFoundIn image (config_named show.explore.machine inside) addresses show.explore.states exploration
 
 -- what was found was printed, its scripts are in the folder, if one was named, and each other file is as before, and it was judged by the file that says what is allowed; it is allowed only where memory sufficed for all states, or for as many as were asked for
 pub record AreWordsShown (held left : Contents) (show : Show) (judgement : Judgement) (old new : Option (List ℕ)) : Type 0 where
   pub exploration : WordExploration
   pub of_file : IsOfFile held show exploration
   pub printed : Appends old new (words_text (names_of show.words.items) exploration)
-  pub kept : IfSome show.explore.scripts (λ folder. AreWordsKept left show.explore.machine folder.now exploration)
+  pub kept : IfSome show.explore.scripts (λ folder. AreWordsKept left (config_named show.explore.machine of_file.inside) show.explore.machine.memory folder.now exploration)
   pub spared : SparesOthers (IsInNamed show.explore.scripts (IsScriptOf (length exploration.outcomes.items) exploration.stuck)) held left
   pub judged : IsJudged held show.explore.allow (map (λ f. end_text (names_of show.words.items) (ending_of f)) exploration.outcomes.items) judgement
   pub whole : judgement ≡ Allowed → exploration.extent ≢ extent.OutOfMemory

@@ -1,12 +1,11 @@
 //! What a search is asked of.
 
-ghost use Rattle.std.specs.Prelude.{◌≡◌, Err, IfErr, IfOk, option_map, true};
+ghost use Rattle.std.specs.Prelude.{◌≡◌, Err, IfErr, IfOk, option_map};
 ghost use Rattle.command_files.specs.Faults.{IsReadFault};
 ghost use Rattle.command_files.specs.Files.{HoldsImage};
 ghost use Rattle.command_files.specs.Sizes.{IsInside, IsOutside, config_named};
 ghost use Rattle.elf_loader.specs.Size.{IsMemoryKib};
 ghost use Rattle.explore_command.specs.Exploring.{IsAllowFile, IsFirstFault, IsNamedBy};
-ghost use Rattle.machine_types.specs.Config.{is_within_limits};
 
 use command_files::{Fault, Files, contents, image_in, named_config, out_of_limits};
 use command_settings::Explore;
@@ -30,9 +29,7 @@ impl Asked {
         files: &mut F,
         wanted: Explore<'a>,
     ) -> Result<Asked, Fault<'a>>
-        ensures config { IfOk result (λ asked. asked.config ≡ config_named wanted.entry.machine) }
-        ensures size { IfOk result (λ asked. IsInside wanted.entry.machine) }
-        ensures within { IfOk result (λ asked. is_within_limits asked.config ≡ true) }
+        ensures config { IfOk result (λ asked. (inside : IsInside wanted.entry.machine) × (asked.config ≡ config_named wanted.entry.machine inside)) }
         ensures memory { IfOk result (λ asked. IsMemoryKib wanted.entry.machine.memory) }
         ensures image { IfOk result (λ asked. HoldsImage (F.held files.old) wanted.entry.raw wanted.entry.image.now wanted.entry.machine.memory asked.image) }
         ensures allowed { IfOk result (λ asked. IsAllowFile (F.held files.old) wanted.entry.allow (option_map (λ bytes. bytes.items) asked.allowed)) }

@@ -45,7 +45,7 @@ impl Findings for Exploration {
 impl Keepable for Exploration {
     ghost HasTexts = { λ e. Unit {0} };
 
-    ghost AreKept = { λ e left machine folder. AreKept left machine folder e };
+    ghost AreKept = { λ e left config kib folder. AreKept left config kib folder e };
 
     ghost IsFileOf = { λ e. IsScriptOf (length e.outcomes.items) e.stuck };
 

@@ -1,11 +1,10 @@
 //! `rvtl explore`: every end that the machine can bring a program to is found, told, kept and judged.
 
-ghost use Rattle.std.specs.Prelude.{◌≡◌, ◌<◌, Err, IfErr, IfOk, OnErr, true};
+ghost use Rattle.std.specs.Prelude.{◌≡◌, ◌<◌, Err, IfErr, IfOk, OnErr};
 ghost use Rattle.command_files.specs.Sizes.{IsOutside};
 ghost use Rattle.explore_command.specs.Exploring.{ComesBeforeScripts, ExplorationHas, ExplorationRefusals, IsExploreFault, IsExplorationTold, IsFoundIn, LeavesPart};
 ghost use Rattle.explore_command.specs.Judging.{IsToldBy};
 ghost use Rattle.explore_command.specs.Keeping.{IsScriptFile, SparesOthers};
-ghost use Rattle.machine_types.specs.Config.{is_within_limits};
 
 use crate::asked::Asked;
 use crate::findings::print;
@@ -60,7 +59,7 @@ pub fn explore_files<'a, F: Files, O: Write, E: Write, P: Progress>(
         return Err(Fault::OutOfMemory);
     };
     print(alloc, &found, out)?;
-    keep(alloc, files, wanted, &found)?;
+    keep(alloc, files, wanted, asked.config, &found)?;
     judge(alloc, &asked.allowed, &found, err)
 }
 
@@ -71,7 +70,6 @@ fn found_in<P: Progress>(
     wanted: Explore<'_>,
     progress: &P,
 ) -> Result<Exploration, AllocError>
-    requires limits { is_within_limits asked.now.config ≡ true }
     requires room { 0 < wanted.states }
     ensures { IfOk result (IsFoundIn asked.now.image asked.now.config wanted.entry.states) }
 {

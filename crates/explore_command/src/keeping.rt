@@ -1,21 +1,20 @@
 //! The scripts of what was found, as files of a folder.
 
-ghost use Rattle.std.specs.Prelude.{◌≡◌, ◌≢◌, IfErr, IfOk, IfSome, List, OnOk, length, true, ℕ};
+ghost use Rattle.std.specs.Prelude.{◌≡◌, ◌≢◌, IfErr, IfOk, IfSome, List, OnOk, length, ℕ};
 ghost use Rattle.std.specs.String.{string_bytes};
 ghost use Rattle.command_files.specs.Files.{HoldsScript};
 ghost use Rattle.command_files.specs.Contents.{Contents, HoldsBytes};
-ghost use Rattle.command_files.specs.Sizes.{config_named, script_named};
-ghost use Rattle.command_settings.specs.declared.wanted.MachineOptions.{MachineOptions};
+ghost use Rattle.command_files.specs.Sizes.{script_for};
 ghost use Rattle.elf_loader.specs.Size.{IsMemoryKib};
 ghost use Rattle.explore_command.specs.Exploring.{IsFolderFault, IsNamedBy};
 ghost use Rattle.explore_command.specs.Keeping.{AreKept, AreKeptFrom, FileName, IsInNamed, IsKeptAt, IsOutcomeScript, IsScriptOf, SparesOthers, outcome_path, stuck_path};
-ghost use Rattle.machine_types.specs.Config.{is_within_limits};
+ghost use Rattle.machine_types.specs.declared.config.Config.{Config};
 ghost use Rattle.trace_text.specs.Scripts.{text};
 
 use command_files::{Fault, Files, script_of, unmade};
-use command_settings::{Explore, MachineOptions};
+use command_settings::Explore;
 use explorer::{Exploration, Found, Realisation};
-use machine_types::Event;
+use machine_types::{Config, Event};
 use std::alloc::{AllocError, Global};
 use trace_text::{Script, write_script};
 
@@ -24,7 +23,9 @@ use trace_text::{Script, write_script};
 pub(crate) struct Folder<'a> {
     pub alloc: Global,
     pub name: &'a str,
-    pub machine: MachineOptions,
+    pub config: Config,
+    /// How many KiB of memory it has.
+    pub kib: u32,
 }
 
 /// What a folder may have of what was found.
@@ -32,18 +33,17 @@ pub(crate) trait Keepable {
     // All of it has a text.
     ghost HasTexts: { Self → Type 0 };
 
-    // The folder has it, for the machine that was named.
-    ghost AreKept: { Self → Contents → MachineOptions → FileName → Type 0 };
+    // The folder has it, for this machine with so many KiB of memory.
+    ghost AreKept: { Self → Contents → Config → ℕ → FileName → Type 0 };
 
     // The file is one of those that have it in this folder.
     ghost IsFileOf: { Self → FileName → FileName → Type 0 };
 
     /// Writes it into the folder.
     fn keep_in<'a, F: Files>(&self, folder: Folder<'a>, files: &mut F) -> Result<(), Fault<'a>>
-        requires within { is_within_limits (config_named folder.machine) ≡ true }
-        requires memory { IsMemoryKib folder.machine.memory }
+        requires memory { IsMemoryKib folder.kib }
         requires readable { HasTexts self.now }
-        ensures kept { OnOk result (AreKept self.now (F.held files.new) folder.entry.machine folder.entry.name.now) }
+        ensures kept { OnOk result (AreKept self.now (F.held files.new) folder.entry.config folder.entry.kib folder.entry.name.now) }
         ensures told { IfErr result (IsFolderFault folder.entry.name) }
         ensures spared { SparesOthers (IsFileOf self.now folder.entry.name.now) (F.held files.old) (F.held files.new) };
 }
@@ -53,12 +53,12 @@ pub(crate) fn keep<'a, T: Keepable, F: Files>(
     alloc: Global,
     files: &mut F,
     wanted: Explore<'a>,
+    config: Config,
     found: &T,
 ) -> Result<(), Fault<'a>>
-    requires within { is_within_limits (config_named wanted.machine) ≡ true }
     requires memory { IsMemoryKib wanted.machine.memory }
     requires readable { T.HasTexts found.now }
-    ensures kept { OnOk result (IfSome wanted.entry.scripts (λ folder. T.AreKept found.now (F.held files.new) wanted.entry.machine folder.now)) }
+    ensures kept { OnOk result (IfSome wanted.entry.scripts (λ folder. T.AreKept found.now (F.held files.new) config wanted.entry.machine.memory folder.now)) }
     ensures told { IfErr result (IsNamedBy wanted.entry.scripts IsFolderFault) }
     ensures spared { SparesOthers (IsInNamed wanted.entry.scripts (T.IsFileOf found.now)) (F.held files.old) (F.held files.new) }
 {
@@ -68,7 +68,8 @@ pub(crate) fn keep<'a, T: Keepable, F: Files>(
     let folder = Folder {
         alloc,
         name,
-        machine: wanted.machine,
+        config,
+        kib: wanted.machine.memory,
     };
     found.keep_in(folder, files)
 }
@@ -77,9 +78,8 @@ impl<'a> Folder<'a> {
     /// Writes a script for each outcome, and one that gets stuck. One that has none can't be written.
     #[tactic(auto, using(crate::proofs::Kept::outcome_spared))]
     pub fn keep<F: Files>(&self, files: &mut F, found: &Exploration) -> Result<(), Fault<'a>>
-        requires within { is_within_limits (config_named self.now.machine) ≡ true }
-        requires memory { IsMemoryKib self.now.machine.memory }
-        ensures kept { OnOk result (AreKept (F.held files.new) self.now.machine self.now.name.now found.now) }
+        requires { IsMemoryKib self.now.kib }
+        ensures kept { OnOk result (AreKept (F.held files.new) self.now.config self.now.kib self.now.name.now found.now) }
         ensures told { IfErr result (IsFolderFault self.now.name) }
         ensures spared { SparesOthers (IsScriptOf (length found.now.outcomes.items) found.now.stuck self.now.name.now) (F.held files.old) (F.held files.new) }
     {
@@ -99,9 +99,8 @@ impl<'a> Folder<'a> {
         files: &mut F,
         outcomes: &[Found],
     ) -> Result<(), Fault<'a>>
-        requires within { is_within_limits (config_named self.now.machine) ≡ true }
-        requires memory { IsMemoryKib self.now.machine.memory }
-        ensures kept { OnOk result (AreKeptFrom (F.held files.new) self.now.machine self.now.name.now 1 outcomes.now) }
+        requires { IsMemoryKib self.now.kib }
+        ensures kept { OnOk result (AreKeptFrom (F.held files.new) self.now.config self.now.kib self.now.name.now 1 outcomes.now) }
         ensures told { IfErr result (IsFolderFault self.now.name) }
         ensures spared { SparesOthers (IsOutcomeScript (length outcomes.now) self.now.name.now) (F.held files.old) (F.held files.new) }
     {
@@ -137,9 +136,8 @@ impl<'a> Folder<'a> {
         path: &str,
         way: &Realisation,
     ) -> Result<(), Fault<'a>>
-        requires within { is_within_limits (config_named self.now.machine) ≡ true }
-        requires memory { IsMemoryKib self.now.machine.memory }
-        ensures kept { OnOk result (IsKeptAt (F.held files.new) self.now.machine path.now way.now) }
+        requires { IsMemoryKib self.now.kib }
+        ensures kept { OnOk result (IsKeptAt (F.held files.new) self.now.config self.now.kib path.now way.now) }
         ensures told { IfErr result (IsFolderFault self.now.name) }
         ensures others { (other : List ℕ) → other ≢ path.now → F.held files.new other ≡ F.held files.old other }
     {
@@ -159,16 +157,15 @@ impl<'a> Folder<'a> {
         path: &str,
         events: &[Event],
     ) -> Result<(), Fault<'a>>
-        requires within { is_within_limits (config_named self.now.machine) ≡ true }
-        requires memory { IsMemoryKib self.now.machine.memory }
-        ensures kept { OnOk result (HoldsScript (F.held files.new) path.now (script_named self.now.machine events.now)) }
+        requires { IsMemoryKib self.now.kib }
+        ensures kept { OnOk result (HoldsScript (F.held files.new) path.now (script_for self.now.config self.now.kib events.now)) }
         ensures told { IfErr result (IsFolderFault self.now.name) }
         ensures others { (other : List ℕ) → other ≢ path.now → F.held files.new other ≡ F.held files.old other }
     {
         let Ok(copy) = copied(self.alloc, events) else {
             return Err(Fault::OutOfMemory);
         };
-        let script = script_of(self.machine, copy);
+        let script = script_of(self.config, self.kib, copy);
         self.put(files, path, &script)
     }
 

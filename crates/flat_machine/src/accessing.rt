@@ -1,9 +1,8 @@
 //! Which reservations the access of an address ends.
-ghost use Rattle.std.specs.Prelude.{◌≡◌, ◌<◌, IsTrue, if◌then◌else◌, length};
+ghost use Rattle.std.specs.Prelude.{◌≡◌, ◌<◌, if◌then◌else◌, length};
 ghost use Rattle.flat_machine.specs.States.{flat_of};
 ghost use Rattle.flat_model.specs.Changing as spec;
 ghost use Rattle.flat_model.specs.Flat.{node_at};
-ghost use Rattle.machine_types.specs.Config.{is_within_limits};
 ghost use Rattle.reservations.specs.Reservation.{without_line};
 
 use crate::node::Node;
@@ -19,7 +18,6 @@ fn line_of_address(config: &Config, address: u32) -> u32
 
 /// The set of that line.
 fn set_at(config: &Config, address: u32) -> u32
-    requires limits { IsTrue (is_within_limits config.now) }
     ensures { result ≡ spec.set_at config.now address }
 {
     line_of_address(config, address) / config.line.bytes() % config.sets
@@ -27,7 +25,6 @@ fn set_at(config: &Config, address: u32) -> u32
 
 /// Whether sets hold one line, and the two addresses lie in different lines of one set.
 fn are_rivals(config: &Config, one: u32, other: u32) -> bool
-    requires limits { IsTrue (is_within_limits config.now) }
     ensures { result ≡ spec.are_rivals config.now one other }
 {
     config.ways == 1
@@ -38,7 +35,6 @@ fn are_rivals(config: &Config, one: u32, other: u32) -> bool
 impl Node {
     /// What an access of an address, the hart's own or another's, leaves of the reservation.
     fn keep_reservation(&mut self, config: &Config, is_own: bool, address: u32)
-        requires limits { IsTrue (is_within_limits config.now) }
         ensures { self.new ≡ record self.old { reserved = if is_own then spec.without_rival config.now address self.old.reserved else without_line (spec.line_of_address config.now address) config.now.line self.old.reserved } }
     {
         if !is_own {
@@ -57,7 +53,6 @@ impl Node {
 
 /// A hart accesses an address: of each node stays what the access leaves of it.
 fn keep_reservations(config: &Config, nodes: &mut Vec<Node>, hart: u8, address: u32)
-    requires limits { IsTrue (is_within_limits config.now) }
     ensures { nodes.new.items ≡ spec.accessed_from config.now hart address 0 nodes.old.items }
 {
     for place in 0..nodes.len() {
@@ -68,7 +63,6 @@ fn keep_reservations(config: &Config, nodes: &mut Vec<Node>, hart: u8, address: 
 impl State<'_> {
     /// A hart accesses an address, or nothing.
     pub(crate) fn access(&mut self, hart: u8, accessed: Option<u32>)
-        requires limits { IsTrue (is_within_limits self.old.config) }
         ensures { flat_of self.new ≡ spec.accessed hart accessed (flat_of self.old) }
     {
         if let Some(address) = accessed {

@@ -19,7 +19,6 @@ use Rattle.machine_model.specs.declared.act.Plan.TheVariants.{Stays, Changes}
 use Rattle.machine_types.specs.declared.config.Config.{Config}
 use Rattle.machine_types.specs.declared.event.Event.{Event}
 use Rattle.machine_model.specs.Changing.{acted, outcome_of_act}
-use Rattle.machine_types.specs.Config.{is_within_limits}
 use Rattle.machine_model.specs.Events.{IsBad, IsLimited, Moves, after_events, counted, happens, hart_of, is_good, is_limited, names_well, plan_of, state_by, verdict_by}
 use Rattle.machine_model.specs.Laws.{AreRunsOf, IsCompletedLegally}
 use Rattle.machine_model.specs.Ready.{AreReady}
@@ -75,7 +74,7 @@ flat_append : (f : Flat) (xs ys : List FlatEvent) → flat_events.after_events f
 flat_append f [] ys = refl
 flat_append f (x ∷ xs) ys = flat_append (flat_events.happens f x) xs ys
 
-module _ (image : Initial) (config : Config) (whole : IsImage image) (within : is_within_limits config ≡ true) where
+module _ (image : Initial) (config : Config) (whole : IsImage image) where
   abbrev at : List Event → State
   at events = after_events (opening image config) events
 
@@ -86,10 +85,10 @@ module _ (image : Initial) (config : Config) (whole : IsImage image) (within : i
   base events alone = record {
     stand = (order_kept image config events).0;
     order = (order_kept image config events).1;
-    joint = joint_always image config events whole within;
-    coherent = coherent_always image config events whole within;
-    trunk = reserved_is_trunk_always image config events whole within;
-    shapes = (sound_always image config events whole within).shapes;
+    joint = joint_always image config events whole;
+    coherent = coherent_always image config events whole;
+    trunk = reserved_is_trunk_always image config events whole;
+    shapes = (sound_always image config events whole).shapes;
     alone = alone;
   }
 
@@ -97,7 +96,7 @@ module _ (image : Initial) (config : Config) (whole : IsImage image) (within : i
   more : (past : List Event) (known : List FlatEvent) → Shows (at past) (flat_at known) → AloneIn (at past) → (events : List Event) → IsShown image config (after_events (at past) events)
   more past known v alone [] = record { events = known; shows = v }
   more past known v alone (e ∷ events) =
-      let is = step (at past) (flat_at known) (base past alone) (ready_always image config past whole within) v e in
+      let is = step (at past) (flat_at known) (base past alone) (ready_always image config past whole) v e in
       let next : at (past ++ e ∷ []) ≡ happens (at past) e = after_one_more past (opening image config) e in
       let shown : Shows (at (past ++ e ∷ [])) (flat_at (known ++ is.reaches.events)) = subst (λ t. Shows t (flat_at (known ++ is.reaches.events))) (sym next) (subst (Shows (happens (at past) e)) (sym (flat_append (of_flat.opening image config) known is.reaches.events)) is.reaches.shows) in
       subst (λ t. IsShown image config (after_events t events)) next (more (past ++ e ∷ []) (known ++ is.reaches.events) shown (subst AloneIn (sym next) is.alone) events)
@@ -117,7 +116,7 @@ module _ (image : Initial) (config : Config) (whole : IsImage image) (within : i
           (record { hart = refl; output = refl; buffer = refl; reserved = λ word e. e })
 
 pub shown_always : ShownAlways
-shown_always image config events whole within = more image config whole within [] [] (opening_shows image config whole within) (opening_alone image config) events
+shown_always image config events whole = more image config whole [] [] (opening_shows image config whole) (opening_alone image config) events
 
 -- ---- results
 
@@ -139,8 +138,8 @@ same_results (n ∷ ns) (m ∷ ms) d e c f =
     ∙ ap (λ xs. result n ∷ xs) (same_results ns ms d e (omega (arith, c)) (λ h l. f (suc h) (omega (arith, l))))
 
 pub results_always : FlatResultsAlways
-results_always image config events whole within =
-    let shown = shown_always image config events whole within in
+results_always image config events whole =
+    let shown = shown_always image config events whole in
     let s = after_events (opening image config) events in
     let v = shown.shows in
     record { events = shown.events; same = same_results s.views.nodes (flat_events.after_events (of_flat.opening image config) shown.events).nodes (no_node s) _ v.count v.nodes }
@@ -154,9 +153,9 @@ quiet_order : (config : Config) (t : History) → IsCompletedLegally config t �
 quiet_order config t k = record { order = record { only = k.order.only; once = k.order.once; every = k.order.every }; begins = k.begins; legal = k.legal }
 
 pub order_always : FlatOrderAlways
-order_always image config events whole within f v =
+order_always image config events whole f v =
     let s = after_events (opening image config) events in
     record {
-      runs = subst (AreRunsOf image config) (sym v.trace) (quiet_runs image config s.trace (runs_always image config events whole within));
-      order = subst (IsCompletedLegally config) (sym v.trace) (quiet_order config s.trace (legal_always image config events whole within));
+      runs = subst (AreRunsOf image config) (sym v.trace) (quiet_runs image config s.trace (runs_always image config events whole));
+      order = subst (IsCompletedLegally config) (sym v.trace) (quiet_order config s.trace (legal_always image config events whole));
     }

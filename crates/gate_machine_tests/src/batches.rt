@@ -38,13 +38,7 @@ enum Call {
 type Line = (Call, Answer, u32);
 
 fn machine_of(alloc: Global, words: &[u32], harts: u32) -> Result<Machine, Fail> {
-    let config = Config {
-        harts,
-        sets: 4,
-        ways: 2,
-        line: LineSize::Bytes16,
-        model: MemoryModel::Rvwmo,
-    };
+    let config = Config::new(harts, 4, 2, LineSize::Bytes16, MemoryModel::Rvwmo).ok_or("limits")?;
     Ok(Machine::new(alloc, image_of(alloc, words)?, config)?)
 }
 

@@ -268,13 +268,7 @@ fn play_on<L: Ledger + Send + Sync, R: Threads + Wait + AllocGlobal + Sync>(
 {
     let programs = programs_of(rt.alloc(), words, harts)?;
     let seat = only_seat(rt.alloc())?;
-    let config = Config {
-        harts,
-        sets: 4,
-        ways: 2,
-        line: LineSize::Bytes16,
-        model: MemoryModel::Rvwmo,
-    };
+    let config = Config::new(harts, 4, 2, LineSize::Bytes16, MemoryModel::Rvwmo).ok_or("limits")?;
     let image = image_of(rt.alloc(), words)?;
     let (fabric, mut shares) = Fabric::<L>::new(rt.alloc(), blank, image, config)?;
     let share = shares.pop().ok_or("a share")?;

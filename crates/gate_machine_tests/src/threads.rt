@@ -61,14 +61,8 @@ impl Turn for Always {
     }
 }
 
-fn config_of(harts: u32, line: LineSize) -> Config {
-    Config {
-        harts,
-        sets: 4,
-        ways: 2,
-        line,
-        model: MemoryModel::Rvwmo,
-    }
+fn config_of(harts: u32, line: LineSize) -> Result<Config, Fail> {
+    Ok(Config::new(harts, 4, 2, line, MemoryModel::Rvwmo).ok_or("limits")?)
 }
 
 // Whether the lists of two traces are alike.
@@ -129,7 +123,7 @@ fn ran_by<G: Gate + Sync, R: Threads + Wait + AllocGlobal + Sync>(
         turns.push(Always(*event))?;
     }
     let image = image_of(alloc, words)?;
-    let config = config_of(harts, LineSize::Bytes16);
+    let config = config_of(harts, LineSize::Bytes16)?;
     Ok(run_with(rt, alloc, image, config, limit, gate, turns))
 }
 
@@ -148,7 +142,7 @@ fn is_refused<R: Threads + Wait + Abort + AllocGlobal + Sync>(
 
 #[test]
 fn row_16(rt: HostRuntime) -> Result<(), Fail> {
-    let report = ran_and_replayed(&rt, &EXIT, config_of(1, LineSize::Bytes16), LIMIT, &Open)?;
+    let report = ran_and_replayed(&rt, &EXIT, config_of(1, LineSize::Bytes16)?, LIMIT, &Open)?;
     let journal = [Event::Local { hart: 0, count: 1 }, Event::Step { hart: 0 }];
     same(&rt, report.journal.as_slice(), &journal);
     same(&rt, report.receipts.as_slice(), &[2]);
@@ -192,12 +186,12 @@ fn counts_up<R: Threads + Wait + Abort + AllocGlobal + Sync>(
 
 #[test]
 fn row_16_of_four_harts(rt: HostRuntime) -> Result<(), Fail> {
-    counts_up(&rt, config_of(4, LineSize::Bytes16), 400)
+    counts_up(&rt, config_of(4, LineSize::Bytes16)?, 400)
 }
 
 #[test]
 fn row_53(rt: HostRuntime) -> Result<(), Fail> {
-    counts_up(&rt, config_of(8, LineSize::Bytes64), 800)
+    counts_up(&rt, config_of(8, LineSize::Bytes64)?, 800)
 }
 
 /// The first pass of hart 0 waits for a pass of hart 1 that has seen a length of its own, which waits for
@@ -249,7 +243,7 @@ fn two_harts_meet(rt: HostRuntime) -> Result<(), Fail> {
     let report = ran_and_replayed(
         &rt,
         &STORE_BUFFERING,
-        config_of(2, LineSize::Bytes16),
+        config_of(2, LineSize::Bytes16)?,
         LIMIT,
         &meeting,
     )?;
@@ -322,7 +316,7 @@ fn row_25_of_lengths(rt: HostRuntime) -> Result<(), Fail> {
     let report = ran(
         &rt,
         &HUNDRED,
-        config_of(2, LineSize::Bytes16),
+        config_of(2, LineSize::Bytes16)?,
         LIMIT,
         &progress,
     )?;
@@ -349,7 +343,7 @@ fn row_25_of_numbers(rt: HostRuntime) -> Result<(), Fail> {
 
 #[test]
 fn row_47(rt: HostRuntime) -> Result<(), Fail> {
-    let report = ran(&rt, &SPIN, config_of(1, LineSize::Bytes16), LIMIT, &Open)?;
+    let report = ran(&rt, &SPIN, config_of(1, LineSize::Bytes16)?, LIMIT, &Open)?;
     same(&rt, report.journal.len(), 3906);
     let row = Event::Local {
         hart: 0,
@@ -362,7 +356,7 @@ fn row_47(rt: HostRuntime) -> Result<(), Fail> {
 
 #[test]
 fn a_limit_of_one_allows_one_event(rt: HostRuntime) -> Result<(), Fail> {
-    let report = ran_and_replayed(&rt, &EXIT, config_of(1, LineSize::Bytes16), 1, &Open)?;
+    let report = ran_and_replayed(&rt, &EXIT, config_of(1, LineSize::Bytes16)?, 1, &Open)?;
     same(&rt, report.journal.len(), 1);
     Ok(())
 }
@@ -372,7 +366,7 @@ fn a_hart_spins_while_another_exits(rt: HostRuntime) -> Result<(), Fail> {
     let report = ran_and_replayed(
         &rt,
         &ONE_EXITS,
-        config_of(2, LineSize::Bytes16),
+        config_of(2, LineSize::Bytes16)?,
         1000,
         &Open,
     )?;
@@ -428,10 +422,7 @@ const THREE_LINES: [Event; 20] = [
 // Of a set of two lines, the lower one is given up for a third, though it came later.
 #[test]
 fn a_full_set_gives_its_lowest_line_up(rt: HostRuntime) -> Result<(), Fail> {
-    let config = Config {
-        sets: 1,
-        ..config_of(1, LineSize::Bytes16)
-    };
+    let config = Config::new(1, 1, 2, LineSize::Bytes16, MemoryModel::Rvwmo).ok_or("limits")?;
     let report = ran(&rt, &THREE_LOADS, config, LIMIT, &Open)?;
     same(&rt, report.journal.as_slice(), &THREE_LINES);
     Ok(())
@@ -455,17 +446,29 @@ fn a_bad_event_ends_all_threads(rt: HostRuntime) -> Result<(), Fail> {
 }
 
 #[test]
-fn a_bad_configuration_is_told(rt: HostRuntime) -> Result<(), Fail> {
-    is_refused(&rt, &EXIT, 2, &[STEP], RunError::Config)?;
-    let image = image_of(rt.alloc(), &EXIT)?;
-    let answer = run(
-        &rt,
-        rt.alloc(),
-        image,
-        config_of(9, LineSize::Bytes16),
-        LIMIT,
-        &Open,
-    );
-    same(&rt, answer.err().map(|error| error.number()), Some(1));
+fn a_missing_turn_is_told(rt: HostRuntime) -> Result<(), Fail> {
+    is_refused(&rt, &EXIT, 2, &[STEP], RunError::Config)
+}
+
+// Harts, sets and ways outside the limits, and at them.
+const SIZES: [((u32, u32, u32), bool); 10] = [
+    ((0, 4, 2), false),
+    ((9, 4, 2), false),
+    ((1, 0, 2), false),
+    ((1, 3, 2), false),
+    ((1, 128, 2), false),
+    ((1, 4, 0), false),
+    ((1, 4, 5), false),
+    ((1, 1, 1), true),
+    ((4, 4, 2), true),
+    ((8, 64, 4), true),
+];
+
+#[test]
+fn a_configuration_is_within_the_limits(rt: HostRuntime) -> Result<(), Fail> {
+    for ((harts, sets, ways), is_one) in &SIZES {
+        let config = Config::new(*harts, *sets, *ways, LineSize::Bytes16, MemoryModel::Rvwmo);
+        same(&rt, config.is_some(), *is_one);
+    }
     Ok(())
 }

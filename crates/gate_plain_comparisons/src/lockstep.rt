@@ -4,7 +4,7 @@
 mod same;
 mod written;
 
-use anyhow::{Context, Result};
+use anyhow::Result;
 use coherent_machine::Machine;
 use elf_loader::Image;
 use flat_model::FlatEvent;
@@ -107,7 +107,7 @@ impl Lockstep {
     ) -> Result<Lockstep> {
         let written = Written::at_reset(alloc, &image)?;
         let copy = image.try_copy(alloc)?;
-        let flat = FlatMachine::new(alloc, copy, config, variant)?.context("a configuration")?;
+        let flat = FlatMachine::new(alloc, copy, config, variant)?;
         let machine = Machine::new(alloc, image, config)?;
         Ok(Lockstep {
             machine,

@@ -5,7 +5,7 @@ use crate::state::{Node, PlainMachine};
 use crate::steps::{fetch, next_alone, retires, stall_of};
 use crate::words::{bytes_at, line_of, word_of};
 use elf_loader::BASE;
-use machine_types::{Config, Event, Outcome};
+use machine_types::{Event, Outcome};
 use rv32_exec::Action;
 use std::alloc::AllocError;
 
@@ -30,13 +30,6 @@ impl From<AllocError> for Refusal {
     fn from(_error: AllocError) -> Self {
         Refusal::NoMemory
     }
-}
-
-/// The limits of a machine.
-pub(crate) fn is_within_limits(config: &Config) -> bool {
-    matches!(config.harts, 1..=8)
-        && matches!(config.sets, 1 | 2 | 4 | 8 | 16 | 32 | 64)
-        && matches!(config.ways, 1..=4)
 }
 
 fn hart_of(event: Event) -> u8 {

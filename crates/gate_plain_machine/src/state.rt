@@ -1,7 +1,6 @@
 //! What a machine is at a moment.
 
 use crate::cache::Cache;
-use crate::events::is_within_limits;
 use crate::hart_state::HartState;
 use crate::notes::Notes;
 use crate::queues::Waiting;
@@ -63,15 +62,8 @@ impl Node {
 }
 
 impl PlainMachine {
-    /// A machine at reset; none where the configuration is outside the limits.
-    pub fn new(
-        alloc: Global,
-        image: Image,
-        config: Config,
-    ) -> Result<Option<PlainMachine>, AllocError> {
-        if !is_within_limits(&config) {
-            return Ok(None);
-        }
+    /// A machine at reset.
+    pub fn new(alloc: Global, image: Image, config: Config) -> Result<PlainMachine, AllocError> {
         let mut machine = PlainMachine {
             alloc,
             config,
@@ -84,7 +76,7 @@ impl PlainMachine {
             log: Vec::new(alloc),
         };
         machine.reset()?;
-        Ok(Some(machine))
+        Ok(machine)
     }
 
     /// Memory is the image's, nobody has a line, and each hart is about to start.

@@ -36,13 +36,14 @@ impl Case {
         };
         Ok(Case {
             words: file(rt, name, "bin")?,
-            config: Config {
-                harts: script.harts,
-                sets: script.sets,
-                ways: script.ways,
-                line: script.line,
-                model: MemoryModel::Rvwmo,
-            },
+            config: Config::new(
+                script.harts,
+                script.sets,
+                script.ways,
+                script.line,
+                MemoryModel::Rvwmo,
+            )
+            .context("a configuration")?,
             script,
             outcomes: file(rt, name, "outcomes")?,
             trace: file(rt, name, "trace")?,

@@ -8,7 +8,7 @@ use crate::case::Case;
 use crate::machine::{compare_ends, is_as_kept};
 use crate::shown::{Pages, show_fabric, show_machine};
 use anyhow::{Result, ensure};
-use coherent_machine::{AdoptError, ApplyError, Machine, NewError};
+use coherent_machine::{AdoptError, ApplyError, Machine};
 use hart::Batch;
 use locked_fabric::{Fabric, Share};
 use machine_types::{Config, Event, Outcome};
@@ -89,11 +89,10 @@ fn at_reset<L: Ledger, R: Eprint + AllocGlobal>(
     let image = case.image(rt.alloc())?;
     match Fabric::<L>::new(rt.alloc(), blank, image, config) {
         Ok(made) => Ok(Some(made)),
-        Err(NewError::NoMemory) => {
+        Err(_) => {
             eprintln!(rt; "a fabric at reset wants memory")?;
             Ok(None)
         }
-        Err(error) => Err(error.into()),
     }
 }
 

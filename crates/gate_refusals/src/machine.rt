@@ -3,7 +3,7 @@
 use crate::case::Case;
 use crate::shown::{Pages, show_machine};
 use anyhow::{Result, bail, ensure};
-use coherent_machine::{ApplyError, Machine, NewError, ReplayError, replay};
+use coherent_machine::{ApplyError, Machine, ReplayError, replay};
 use hart::Status;
 use machine_types::{Event, Outcome};
 use std::io::{self, Write};
@@ -14,8 +14,8 @@ use trace_text::write_trace;
 pub fn at_reset<R: Eprint + AllocGlobal>(rt: &R, case: &Case) -> Result<Machine> {
     let image = case.image(rt.alloc())?;
     match Machine::new(rt.alloc(), image, case.config) {
-        Err(NewError::NoMemory) => eprintln!(rt; "a machine at reset wants memory")?,
-        made => return Ok(made?),
+        Ok(machine) => return Ok(machine),
+        Err(_) => eprintln!(rt; "a machine at reset wants memory")?,
     }
     Ok(Machine::new(rt.alloc(), case.image(rt.alloc())?, case.config)?)
 }
@@ -90,9 +90,7 @@ pub fn replay_events<R: Eprint + AllocGlobal>(
     let image = case.image(rt.alloc())?;
     match replay(rt.alloc(), image, case.config, events) {
         Ok(machine) => return compare_ends(case, machine, &mut pages.after),
-        Err(ReplayError::New(NewError::NoMemory)) => eprintln!(rt;
-            "replay: a machine at reset wants memory"
-        )?,
+        Err(ReplayError::NoMemory) => eprintln!(rt; "replay: a machine at reset wants memory")?,
         Err(ReplayError::Event(index, ApplyError::NoMemory)) => {
             ensure!(index < events.len(), "replay: no event {index}");
             eprintln!(rt; "replay: event {index} wants memory")?;

@@ -5,7 +5,7 @@ use crate::programs::{ONE_WORD, S, TWO_WRITES, TWO_WRITES_FENCED, X, Y, config_o
 use elf_loader::Image;
 use flat_machine::{DrainingMachine, Ending, Tables};
 use hart::Status;
-use machine_types::{Config, MemoryModel};
+use machine_types::MemoryModel;
 use state_search::{Unwatched, search};
 use std::alloc::{AllocError, Global};
 use std::process::Abort;
@@ -55,13 +55,8 @@ fn found_by(
 }
 
 fn found_in(alloc: Global, image: &Image, case: &Case) -> Result<Found, Fail> {
-    let config = Config {
-        model: case.model,
-        ..config_of(case.harts, 2)
-    };
-    if !config.is_within_limits() {
-        return Err("limits".into());
-    }
+    let mut config = config_of(case.harts, 2)?;
+    config.model = case.model;
     let machine = DrainingMachine::new(alloc, image, config, &[X, Y])?;
     Ok(found_by(alloc, &machine, case.ends)?)
 }

@@ -55,10 +55,7 @@ fn found_by(
 }
 
 fn found_in(alloc: Global, image: &Image, case: &Case) -> Result<Found, Fail> {
-    let config = config_of(case.harts, case.ways);
-    if !config.is_within_limits() {
-        return Err("limits".into());
-    }
+    let config = config_of(case.harts, case.ways)?;
     let machine = FlatMachine::new(alloc, image, config)?;
     Ok(found_by(alloc, &machine, case.outcomes)?)
 }

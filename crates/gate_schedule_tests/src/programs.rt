@@ -293,12 +293,7 @@ pub fn image_of(alloc: Global, words: &[u32]) -> Result<Image, Fail> {
 }
 
 /// Caches of one set.
-pub fn config_of(harts: u32, ways: u32) -> Config {
-    Config {
-        harts,
-        sets: 1,
-        ways,
-        line: LineSize::Bytes16,
-        model: MemoryModel::Rvwmo,
-    }
+pub fn config_of(harts: u32, ways: u32) -> Result<Config, Fail> {
+    let config = Config::new(harts, 1, ways, LineSize::Bytes16, MemoryModel::Rvwmo);
+    Ok(config.ok_or("limits")?)
 }

@@ -59,7 +59,7 @@ pub fn realised(
     steps: &[FlatEvent],
 ) -> Result<Schedule, Fail> {
     let image = image_of(alloc, words)?;
-    Ok(realise(alloc, image, config_of(harts, 2), steps)?)
+    Ok(realise(alloc, image, config_of(harts, 2)?, steps)?)
 }
 
 fn is_answer(
@@ -80,7 +80,7 @@ fn comes_so(
     ends: &Result<&[End], RealiseError>,
 ) -> Result<bool, Fail> {
     let image = image_of(alloc, of.words)?;
-    let answer = realise(alloc, image, config_of(of.harts, of.ways), steps);
+    let answer = realise(alloc, image, config_of(of.harts, of.ways)?, steps);
     Ok(is_answer(&answer, ends))
 }
 
@@ -367,17 +367,9 @@ const IMPOSSIBLE: Plays = Plays {
     ],
 };
 
-const NO_HARTS: Plays = Plays {
-    words: &RESERVED,
-    harts: 0,
-    ways: 2,
-    plays: &[(&[STEP_0, STEP_0, STEP_0], Err(RealiseError::Config))],
-};
-
 #[test]
 fn what_cannot_happen_is_told(rt: HostRuntime) -> Result<(), Fail> {
-    all_come_so(&rt, &IMPOSSIBLE)?;
-    all_come_so(&rt, &NO_HARTS)
+    all_come_so(&rt, &IMPOSSIBLE)
 }
 
 fn sampled(
@@ -388,7 +380,7 @@ fn sampled(
     most_events: u64,
 ) -> Result<Schedule, Fail> {
     let image = image_of(alloc, words)?;
-    Ok(sample(alloc, image, config_of(2, ways), seed, most_events)?)
+    Ok(sample(alloc, image, config_of(2, ways)?, seed, most_events)?)
 }
 
 /// One hart finds 0 and the other 1.

@@ -95,7 +95,7 @@ fn shortened<G: Goal>(
     requires asked { G.CanBeAsked goal.now }
 {
     let image = image_of(alloc, program.words)?;
-    let config = config_of(program.harts, 2);
+    let config = config_of(program.harts, 2)?;
     Ok(shorten(alloc, &image, config, events, goal, most_played)?)
 }
 
@@ -146,7 +146,7 @@ fn leads_there(
     goal: &HartResults<'_>,
 ) -> Result<bool, Fail> {
     let image = image_of(alloc, program.words)?;
-    let machine = replay(alloc, image, config_of(program.harts, 2), events)?;
+    let machine = replay(alloc, image, config_of(program.harts, 2)?, events)?;
     Ok(goal.is_met(&machine)?)
 }
 

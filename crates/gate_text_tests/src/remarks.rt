@@ -11,8 +11,7 @@ use std::fmt::Display;
 use std::io::{self, ErrorKind};
 use std::process::Abort;
 use std::test::Fail;
-use tl_types::LineSize;
-use trace_text::{Events, Script, read_script, read_trace};
+use trace_text::{read_script, read_trace};
 
 /// Scripts that are refused, and what is remarked of each.
 const SCRIPTS: [(&str, &str); 23] = [
@@ -376,14 +375,7 @@ const EVENTS: [(Event, &str); 4] = [
 
 #[test]
 fn events(rt: HostRuntime) -> Result<(), Fail> {
-    let script = Script {
-        harts: 2,
-        kib: 4,
-        sets: 4,
-        ways: 2,
-        line: LineSize::Bytes16,
-        events: Events::new(Vec::new(rt.alloc())),
-    };
+    let script = read_script(rt.alloc(), b"rvtl-script 1 2 4 4 2\n")?;
     for (event, text) in &EVENTS {
         let remark = EventRemark {
             event: *event,

@@ -151,7 +151,7 @@ fn machine_played(alloc: Global, words: &[u32], script: &Script) -> Result<Machi
     ensures { IfOk result (λ machine. IsReached machine) }
 {
     let image = image_of(alloc, words)?;
-    let config = config_of(script.harts, script.line);
+    let config = config_of(script.harts, script.line)?;
     let events = script.events.as_slice();
     let names = Symbols::new(alloc);
     let mut out = Vec::new(alloc);

@@ -16,20 +16,41 @@ use tl_types::{Channel, LineSize};
 
 const STEP: Event = Event::Step { hart: 0 };
 
+/// How large a machine is.
+#[derive(Clone, Copy)]
+struct Size {
+    harts: u32,
+    sets: u32,
+    ways: u32,
+    line: LineSize,
+}
+
+impl Size {
+    fn config(self) -> Result<Config, Fail> {
+        let config = Config::new(
+            self.harts,
+            self.sets,
+            self.ways,
+            self.line,
+            MemoryModel::Rvwmo,
+        );
+        Ok(config.ok_or("limits")?)
+    }
+}
+
 /// One hart, and lines of 16 bytes.
-const SMALL: Config = Config {
+const SMALL: Size = Size {
     harts: 1,
     sets: 4,
     ways: 2,
     line: LineSize::Bytes16,
-    model: MemoryModel::Rvwmo,
 };
 
 /// A program's events on a machine, and their stream.
 #[derive(Clone, Copy)]
 struct Case {
     words: &'static [u32],
-    config: Config,
+    size: Size,
     events: &'static [Event],
     how: Strictness,
     stream: Text,
@@ -88,7 +109,7 @@ const LOAD_IMAGE: &str = "I 0x80000000 37060080032706000000000000000000
 /// The I, R, P, M and H lines are those of the program's trace in the README.
 const LOADING: Case = Case {
     words: &LOAD,
-    config: SMALL,
+    size: SMALL,
     events: &LOAD_EVENTS,
     how: Strictness::Strict,
     stream: &[
@@ -169,7 +190,7 @@ const OUTPUT_EVENTS: [Event; 4] = [
 
 const PUTTING_OUT: Case = Case {
     words: &OUTPUT,
-    config: Config {
+    size: Size {
         harts: 5,
         line: LineSize::Bytes64,
         ..SMALL
@@ -204,7 +225,7 @@ const FENCED: [u32; 4] = [0x8000_0637, 0x00c6_2823, 0x00c6_2a23, 0x0330_000f];
 
 const BEFORE_A_FENCE: Case = Case {
     words: &FENCED,
-    config: SMALL,
+    size: SMALL,
     events: &[STEP; 3],
     how: Strictness::Lenient,
     stream: &[
@@ -226,7 +247,7 @@ const NARROW: [u32; 3] = [0x8000_0637, 0x0006_2703, 0x0106_2703];
 
 const AT_A_FULL_SET: Case = Case {
     words: &NARROW,
-    config: Config {
+    size: Size {
         sets: 1,
         ways: 1,
         ..SMALL
@@ -276,12 +297,13 @@ pub(crate) fn image_of(alloc: Global, words: &[u32]) -> Result<Image, Fail> {
     image_of_kib(alloc, words, 4)
 }
 
-pub(crate) fn config_of(harts: u32, line: LineSize) -> Config {
-    Config {
+pub(crate) fn config_of(harts: u32, line: LineSize) -> Result<Config, Fail> {
+    let size = Size {
         harts,
         line,
         ..SMALL
-    }
+    };
+    size.config()
 }
 
 /// Writes the stream of a case.
@@ -295,7 +317,7 @@ fn tell<W: Write>(
     match write_stream(
         alloc,
         image,
-        case.config,
+        case.size.config()?,
         case.events,
         case.how,
         &names,

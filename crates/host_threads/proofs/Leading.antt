@@ -1,12 +1,11 @@
 -- Where a journal leads, and that no event of it is refused where each changed the machine.
-use Rattle.std.proofs.Common.{◌≡◌, ◌∙◌, refl, sym, subst, ℕ, ◌+◌, List, [], ◌∷◌, IsTrue}
+use Rattle.std.proofs.Common.{◌≡◌, ◌∙◌, refl, sym, subst, ℕ, ◌+◌, List, [], ◌∷◌}
 use Rattle.coherent_machine.specs.Machine.{IsReached, KeepsHeadline, Replayed, replayed_from, unless_refused}
 use Rattle.elf_loader.specs.Image.{Initial, IsImage}
 use Rattle.locked_fabric.specs.FabricState.{AreMoves, FabricState, IsReplay, reset_of}
 use Rattle.machine_types.specs.declared.config.Config.{Config}
 use Rattle.machine_types.specs.declared.event.Event.{Event}
 use Rattle.machine_types.specs.declared.outcome.Outcome.{Outcome}
-use Rattle.machine_types.specs.Config.{is_within_limits}
 use Rattle.machine_model.specs.Events.{Verdict, after_events, happens, verdict}
 use Rattle.machine_model.specs.Events.Verdict.{Moves}
 use Rattle.machine_model.specs.Laws.{IsHeadline}
@@ -21,11 +20,10 @@ leads_to image config held journal machine of_image of_config replay of_journal 
 
 -- a list of events leads to it, where image and configuration are still those at reset
 pub reached_at : (image : Initial) (config : Config) (events : List Event) → (after_events (opening image config) events).trace.image ≡ image
-    → (after_events (opening image config) events).views.config ≡ config → IsImage image → IsTrue (is_within_limits config) → IsReached (after_events (opening image config) events)
-reached_at image config events image_is config_is loaded within = record {
+    → (after_events (opening image config) events).views.config ≡ config → IsImage image → IsReached (after_events (opening image config) events)
+reached_at image config events image_is config_is loaded = record {
   events = events;
   loaded = subst (λ (i : Initial). IsImage i) (sym image_is) loaded;
-  within = subst (λ (k : Config). IsTrue (is_within_limits k)) (sym config_is) within;
   leads =
       subst (λ (k : Config). after_events (opening s.trace.image k) events ≡ s) (sym config_is)
       (subst (λ (i : Initial). after_events (opening i config) events ≡ s) (sym image_is) refl);

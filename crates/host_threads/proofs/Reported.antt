@@ -1,5 +1,5 @@
 -- What is left of a fabric is a run's report, where the fabric is of the run's image and configuration.
-use Rattle.std.proofs.Common.{◌≡◌, ◌∙◌, ap, arith, refl, subst, sym, ℕ, ◌≤◌, length, map, sum, IsTrue, Ok, Err}
+use Rattle.std.proofs.Common.{◌≡◌, ◌∙◌, ap, arith, refl, subst, sym, ℕ, ◌≤◌, length, map, sum, Ok, Err}
 use Rattle.std.specs.Prelude.{IfOk}
 use Rattle.std.specs.declared.result.Result.{Result}
 use Rattle.elf_loader.specs.Image.{Initial, IsImage}
@@ -9,7 +9,6 @@ use Rattle.host_threads.specs.Replays.{IsRun}
 use Rattle.host_threads.specs.declared.report.Report.{Report}
 use Rattle.host_threads.specs.declared.report.RunError.{RunError}
 use Rattle.locked_fabric.specs.FabricState.{FabricState, IsKept}
-use Rattle.machine_types.specs.Config.{is_within_limits}
 use Rattle.machine_types.specs.declared.config.Config.{Config}
 use Rattle.machine_model.specs.Events.{after_events}
 use Rattle.machine_model.specs.LawfulLog.{IsLawfulLog}
@@ -31,10 +30,10 @@ pub record IsLeftOf (held : FabricState) (left : Report) : Type 0 where
   pub total : sum left.receipts.items ≡ length left.journal.items
   pub kept : IsKept held
 
-pub run_of : (image : Initial) (config : Config) (most : ℕ) (held : FabricState) (left : Report) → IsImage image → IsTrue (is_within_limits config)
+pub run_of : (image : Initial) (config : Config) (most : ℕ) (held : FabricState) (left : Report) → IsImage image
     → held.machine.trace.image ≡ image → held.machine.views.config ≡ config → IsLeftOf held left → length left.receipts.items ≡ config.harts → sum left.receipts.items ≤ most
     → IsRun image config most left
-run_of image config most held left loaded within of_image of_config is harts few =
+run_of image config most held left loaded of_image of_config is harts few =
     let leads : after_events (opening image config) left.journal.items ≡ held.machine =
     leads_to image config held left.journal.items held.machine of_image of_config is.kept.replay is.journal refl in
     let moves = moves_from image config held left.journal.items of_image of_config is.kept.moves is.journal in
@@ -47,7 +46,7 @@ run_of image config most held left loaded within of_image of_config is harts few
       };
       moves = moves;
       replays = none_refused 0 (opening image config) left.journal.items moves;
-      reached = reached_at image config left.journal.items (ap (λ (s : State). s.trace.image) leads ∙ of_image) (ap (λ (s : State). s.views.config) leads ∙ of_config) loaded within;
+      reached = reached_at image config left.journal.items (ap (λ (s : State). s.trace.image) leads ∙ of_image) (ap (λ (s : State). s.views.config) leads ∙ of_config) loaded;
       headline = headline_at image config held.machine _ of_image of_config (sym leads) is.kept.headline;
       log = subst (λ (t : History). IsLawfulLog t.log) (sym is.trace) is.kept.log;
       limit = record { events = omega (arith, is.total, few); harts = each_within most left.receipts.items few };

@@ -11,14 +11,14 @@ use Rattle.client_cache.specs.Shape.{set_of}
 use Rattle.elf_loader.specs.Size.{base}
 use Rattle.host_threads.specs.Due.{HasNoVictim, IsLine, IsLowestSpare, IsSpare}
 use Rattle.machine_types.specs.declared.config.Config.{Config}
-use Rattle.machine_types.specs.Config.{is_set_count, is_within_limits}
-use Rattle.machine_types.proofs.Within.{limits_of}
+use Rattle.machine_types.specs.Config.{is_set_count}
+use Rattle.machine_types.proofs.Within.{config_limits}
 use Rattle.machine_model.specs.Views.{shape_of_config}
 use Rattle.tl_types.specs.Line.{length_of}
 use Rattle.tl_types.specs.declared.line.LineSize.{LineSize}
 use Rattle.tl_types.specs.declared.line.LineSize.TheVariants.{Bytes16, Bytes64}
 
--- ---- the numbers of a configuration within the limits
+-- ---- the numbers of a configuration
 
 -- memory begins with a whole number of times so many lines of this size
 abbrev is_whole : LineSize → ℕ → Bool
@@ -63,9 +63,9 @@ short_length : (size : LineSize) → length_of size ≤ 64
 short_length Bytes16 = omega arith
 short_length Bytes64 = omega arith
 
-pub sized : (config : Config) → is_within_limits config ≡ true → Sized config
-sized config within =
-    let limits = limits_of config within in
+pub sized : (config : Config) → Sized config
+sized config =
+    let limits = config_limits config in
     record {
       some_bytes = some_length config.line;
       few_bytes = short_length config.line;

@@ -3,12 +3,15 @@ use Rattle.std.proofs.Common.{◌≡◌, ◌≢◌, ◌∙◌, ⊎_elim, ap, ari
 use Rattle.std.proofs.lemmas.Bool.Decides.{nat_tests}
 use Rattle.std.specs.Prelude.{◌||◌, ◌==◌, not, OnErr, OnOk}
 use Rattle.std.specs.declared.result.Result.{Result}
+use Rattle.coherent_machine.specs.Adopting.{local_of}
+use Rattle.coherent_machine.specs.declared.errors.AdoptError.{AdoptError}
+use Rattle.hart.specs.Local.{PrivateRow}
 use Rattle.hart.specs.declared.status.Status.{Status}
 use Rattle.host_threads.specs.Errors.{goes_on}
 use Rattle.host_threads.specs.Telling.{CountsTo, Reports, Tells, has_ended, longest_with}
 use Rattle.host_threads.specs.declared.report.Fault.{Fault}
 use Rattle.locked_fabric.specs.FabricState.{Answered, Does, FabricState, journalled}
-use Rattle.locked_fabric.specs.Port.{Applied, Left, seen_in}
+use Rattle.locked_fabric.specs.Port.{Applied, Committed, Left, seen_in}
 use Rattle.locked_fabric.specs.Turns.{Draws, DrewInVain, IsPick, Leaves}
 use Rattle.locked_fabric.specs.declared.taken.Taken.{Taken}
 use Rattle.locked_fabric.specs.declared.taken.Taken.TheVariants.{Nothing, Over, HeldBack, Tried}
@@ -100,6 +103,20 @@ applied_seen event result before count counted own hart seen same mine left =
         left.2.1 ∙ ap (λ (h : ℕ). seen_in left.0.machine.trace h) mine,
       ),
     )
+
+-- what was seen under the lock that took a row
+pub committed_seen : (row : PrivateRow) (result : Result Outcome AdoptError) (before counted own hart : ℕ) (seen : Option (ℕ × Status)) → own ≡ hart
+    → Left (λ left. Committed row result before counted left × (seen ≡ seen_in left.machine.trace own))
+    → OnOk result (Left (λ left. CountsTo before counted left × (seen ≡ seen_in left.machine.trace hart)))
+committed_seen row (Ok outcome) before counted own hart seen mine left = (
+  left.0,
+  left.1,
+  (
+    counts_one (local_of row.first.id row) left.2.0.old left.0 left.0.machine before counted left.2.0.ok left.2.0.counted,
+    left.2.1 ∙ ap (λ (h : ℕ). seen_in left.0.machine.trace h) mine,
+  ),
+)
+committed_seen row (Err error) before counted own hart seen mine left = tt
 
 -- ---- what a draw leaves
 

@@ -1,8 +1,6 @@
--- A run's errors by their numbers, which of them a machine that isn't made and a thread's fault come to, and whether a thread goes on behind an answer.
+-- A run's errors by their numbers, which of them a thread's fault comes to, and whether a thread goes on behind an answer.
 use Rattle.std.specs.Prelude.{ℕ, Bool, true, false, Ok, Err}
 use Rattle.std.specs.declared.result.Result.{Result}
-use Rattle.coherent_machine.specs.declared.errors.NewError.{NewError}
-use Rattle.coherent_machine.specs.declared.errors.NewError.TheVariants as new
 use Rattle.host_threads.specs.declared.report.Fault.{Fault}
 use Rattle.host_threads.specs.declared.report.Fault.TheVariants as fault
 use Rattle.host_threads.specs.declared.report.RunError.{RunError}
@@ -17,10 +15,6 @@ run_error_number NoMemory = 2
 run_error_number Thread = 3
 run_error_number Mismatch = 4
 run_error_number BadEvent = 5
-
-abbrev pub of_new : NewError → RunError
-of_new new.Config = Config
-of_new new.NoMemory = NoMemory
 
 abbrev pub of_fault : Fault → RunError
 of_fault fault.NoMemory = NoMemory

@@ -3,7 +3,6 @@
 ghost use Rattle.std.specs.Prelude.{◌≡◌};
 ghost use Rattle.host_threads.specs.Errors.{run_error_number};
 
-use coherent_machine::NewError;
 use machine_types::Event;
 use std::alloc::AllocError;
 use thiserror::Error;
@@ -24,8 +23,8 @@ pub struct Report {
 /// Why there is no report.
 #[derive(Clone, Copy, Debug, PartialEq, Eq, Error)]
 pub enum RunError {
-    /// The configuration is outside the limits, or there isn't one turn a hart.
-    #[error("bad configuration")]
+    /// There are more or fewer turns than harts.
+    #[error("not one turn a hart")]
     Config = 1,
     /// Memory was refused.
     #[error("out of memory")]
@@ -65,20 +64,6 @@ impl From<AllocError> for RunError {
 
     fn from(_error: AllocError) -> Self {
         RunError::NoMemory
-    }
-}
-
-impl From<NewError> for RunError {
-    ghost use Rattle.std.specs.Prelude.{◌≡◌};
-    ghost use Rattle.host_threads.specs.Errors.{of_new};
-
-    ghost from_gives = { λ error e. e ≡ of_new error };
-
-    fn from(error: NewError) -> Self {
-        match error {
-            NewError::Config => RunError::Config,
-            NewError::NoMemory => RunError::NoMemory,
-        }
     }
 }
 

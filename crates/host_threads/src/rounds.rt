@@ -5,7 +5,6 @@ ghost use Rattle.host_threads.specs.Asked as spec;
 ghost use Rattle.host_threads.specs.Asked.{Asks, AsksVictim, IsFirst, IsIdle, IsPickOf, behind, first_round, passing, told, told_at, wanted_by_event, wanted_by_hart};
 ghost use Rattle.host_threads.specs.Due.{IsDue};
 ghost use Rattle.host_threads.specs.Route.{Route};
-ghost use Rattle.machine_types.specs.Config.{is_within_limits};
 ghost use Rattle.machine_model.specs.Views.{node_at};
 
 use crate::spare::lowest_spare;
@@ -58,7 +57,6 @@ pub struct Rounds<'a> {
 impl<'a> Model for Rounds<'a> {
     ghost use Rattle.std.specs.Prelude.{◌<◌, IsTrue};
     ghost use Rattle.host_threads.specs.Route.{Route};
-    ghost use Rattle.machine_types.specs.Config.{is_within_limits};
 
     ghost Value = { Route };
 
@@ -71,13 +69,12 @@ impl<'a> Model for Rounds<'a> {
       full = r.full;
     } };
 
-    ghost invariant = { λ r. (r.next < 8) × IsTrue (is_within_limits r.config) };
+    ghost invariant = { λ r. r.next < 8 };
 }
 
 impl<'a> Rounds<'a> {
     /// The rounds of a hart of a machine of this image and configuration.
     pub fn new(hart: u8, image: &'a Image, config: Config) -> Rounds<'a>
-        requires { IsTrue (is_within_limits config) }
         ensures { result ≡ first_round hart image.now config }
     {
         Rounds {

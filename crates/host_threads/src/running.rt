@@ -1,12 +1,11 @@
 //! A whole run.
 
-ghost use Rattle.std.specs.Prelude.{◌≡◌, ◌≢◌, ◌↔◌, ◌⊎◌, ◌≤◌, Err, IfErr, IfOk, IsTrue, None, false, length, map, sum, vec_len};
+ghost use Rattle.std.specs.Prelude.{◌≡◌, ◌≢◌, ◌↔◌, ◌⊎◌, ◌≤◌, Err, IfErr, IfOk, None, false, length, map, sum, vec_len};
 ghost use Rattle.std.specs.List.{All};
 ghost use Rattle.coherent_machine.specs.Machine.{IsReached};
 ghost use Rattle.host_threads.specs.Replays.{IsOf, IsRun, IsWithinLimit, JournalMoves, JournalReplays, end_of_journal};
 ghost use Rattle.host_threads.specs.Workers.{AreFresh, IsFirstFault, common_of, first_fault};
 ghost use Rattle.locked_fabric.specs.FabricState.{IsKept};
-ghost use Rattle.machine_types.specs.Config as limits;
 ghost use Rattle.machine_model.specs.LawfulLog.{IsLawfulLog};
 ghost use Rattle.machine_model.specs.Laws.{IsHeadline};
 ghost use Rattle.progress_board.specs.Seat.{IsSeatOf, harts_of};
@@ -45,11 +44,8 @@ pub fn run<G: Gate + Sync, R: Threads + Wait + Sync>(
     ensures headline { IfOk result (λ report. IsHeadline image config (end_of_journal image config report)) }
     ensures log { IfOk result (λ report. IsLawfulLog report.trace.history.log) }
     ensures limit { IfOk result (λ report. IsWithinLimit limit report) }
-    ensures config { (result ≡ Err RunError.Config) ↔ (limits.is_within_limits config ≡ false) }
+    ensures config { result ≢ Err RunError.Config }
 {
-    if !config.is_within_limits() {
-        return Err(RunError::Config);
-    }
     let own = image.try_copy(alloc)?;
     let turns = rounds(alloc, &own, config)?;
     run_with(rt, alloc, image, config, limit, gate, turns)
@@ -57,7 +53,6 @@ pub fn run<G: Gate + Sync, R: Threads + Wait + Sync>(
 
 // A turn for each hart.
 fn rounds(alloc: Global, image: &Image, config: Config) -> Result<Vec<Rounds<'_>>, AllocError>
-    requires { IsTrue (limits.is_within_limits config) }
     ensures { IfOk result (λ turns. vec_len turns ≡ config.harts) }
 {
     let mut turns = Vec::new(alloc);
@@ -84,9 +79,9 @@ pub fn run_with<G: Gate + Sync, T: Turn + Drop + Send, R: Threads + Wait + Sync>
     ensures headline { IfOk result (λ report. IsHeadline image config (end_of_journal image config report)) }
     ensures log { IfOk result (λ report. IsLawfulLog report.trace.history.log) }
     ensures limit { IfOk result (λ report. IsWithinLimit limit report) }
-    ensures config { (result ≡ Err RunError.Config) ↔ ((limits.is_within_limits config ≡ false) ⊎ (vec_len turns ≢ config.harts)) }
+    ensures config { (result ≡ Err RunError.Config) ↔ (vec_len turns ≢ config.harts) }
 {
-    if !config.is_within_limits() || turns.len() != config.harts as usize {
+    if turns.len() != config.harts as usize {
         return Err(RunError::Config);
     }
     let (common, seats) = shared(alloc, &image, config, limit)?;
@@ -101,7 +96,6 @@ fn shared(
     config: Config,
     limit: u64,
 ) -> Result<(Common, Vec<Seat>), AllocError>
-    requires { IsTrue (limits.is_within_limits config) }
     ensures image { IfOk result (λ made. made.0.image ≡ image.now) }
     ensures config { IfOk result (λ made. made.0.config ≡ config) }
     ensures limit { IfOk result (λ made. made.0.limit ≡ limit) }
@@ -141,7 +135,6 @@ fn run_counted<
     requires name { blank.name ≡ L.name }
     requires parts { blank.parts ≡ L.parts }
     requires harts { blank.parts ≡ common.now.config.harts }
-    requires limits { IsTrue (limits.is_within_limits common.now.config) }
     requires image { common.now.image ≡ image }
     requires made { harts_of common.now.board ≡ common.now.config.harts }
     requires board { All (λ seat. IsSeatOf common.now.board seat) seats.items }
@@ -189,7 +182,6 @@ fn report_of<L: Ledger>(
     fabric: Fabric<L>,
     shares: Vec<Share<L>>,
 ) -> Result<Report, RunError>
-    requires limits { IsTrue (limits.is_within_limits common.now.config) }
     requires all { length shares.items ≡ L.parts }
     requires harts { length shares.items ≡ common.now.config.harts }
     requires limit { sum shares.items ≤ common.now.limit }

@@ -3,7 +3,6 @@
 ghost use Rattle.std.specs.Prelude.{◌↔◌, IfNone, IfSome, IsTrue};
 ghost use Rattle.elf_loader.specs.Size.{IsMemorySize};
 ghost use Rattle.host_threads.specs.Due.{HasNoVictim, IsSpare, IsVictim};
-ghost use Rattle.machine_types.specs.Config as limits;
 
 use client_cache::ClientCache;
 use elf_loader::BASE;
@@ -24,7 +23,6 @@ pub(crate) fn lowest_spare(
     size: u32,
     address: u32,
 ) -> Option<u32>
-    requires limits { IsTrue (limits.is_within_limits config.now) }
     requires memory { IsMemorySize size }
     ensures victim { IfSome result (λ line. IsVictim config.now cache.now address line) }
     ensures none { IfNone result (HasNoVictim config.now size cache.now address) }

@@ -1,10 +1,9 @@
 //! The machine with its journal, and the calls on both.
 
-ghost use Rattle.std.specs.Prelude.{◌≡◌, ◌≢◌, ◌+◌, ◌↔◌, [], length, replicate, sum, false, IsTrue, Err, IfOk, OnOk, OnErr};
+ghost use Rattle.std.specs.Prelude.{◌≡◌, ◌≢◌, ◌+◌, ◌↔◌, [], length, replicate, sum, Err, IfOk, OnOk, OnErr};
 ghost use Rattle.coherent_machine.specs.Adopting.{IsCurrent, local_of};
 ghost use Rattle.locked_fabric.specs.FabricState.{Answered, IsKept, journalled, opened};
 ghost use Rattle.locked_fabric.specs.Turns.{Takes};
-ghost use Rattle.machine_types.specs.Config.{is_within_limits};
 ghost use Rattle.machine_model.specs.Events.{Verdict, happens, verdict};
 ghost use Rattle.machine_model.specs.Laws.{IsHeadline, KeepsImageAndConfig};
 ghost use Rattle.progress_board.specs.Seat.{IsSeatOf, view};
@@ -13,13 +12,13 @@ use crate::numbers::Numbers;
 use crate::share::Share;
 use crate::taken::Taken;
 use crate::turn::Visit;
-use coherent_machine::{AdoptError, ApplyError, Machine, NewError};
+use coherent_machine::{AdoptError, ApplyError, Machine};
 use elf_loader::Image;
 use hart::Batch;
 use machine_model::changes_are_counted;
 use machine_types::{Config, Event, Outcome};
 use progress_board::Seat;
-use std::alloc::Global;
+use std::alloc::{AllocError, Global};
 use std::marker::Model;
 use std::sync::ledger;
 use std::sync::ledger::{Blank, Book, Ledger};
@@ -56,18 +55,17 @@ impl<L: Ledger> Model for Fabric<L> {
 }
 
 impl<L: Ledger> Fabric<L> {
-    /// A machine at reset with an empty journal, and a share for each hart, which counts nothing yet. It
-    /// errs as `Machine::new` does.
+    /// A machine at reset with an empty journal, and a share for each hart, which counts nothing yet. The
+    /// only error is want of memory.
     pub fn new(
         alloc: Global,
         blank: Blank,
         image: Image,
         config: Config,
-    ) -> Result<(Fabric<L>, Vec<Share<L>>), NewError>
-        requires { IsTrue (is_within_limits config) → (blank.name ≡ L.name) × (blank.parts ≡ L.parts) × (blank.parts ≡ config.harts) }
+    ) -> Result<(Fabric<L>, Vec<Share<L>>), AllocError>
+        requires { (blank.name ≡ L.name) × (blank.parts ≡ L.parts) × (blank.parts ≡ config.harts) }
         ensures fabric { IfOk result (λ made. made.0 ≡ opened image config) }
         ensures shares { IfOk result (λ made. made.1.items ≡ replicate config.harts 0) }
-        ensures config { (result ≡ Err NewError.Config) ↔ (is_within_limits config ≡ false) }
         ensures kept { IfOk result (λ made. IsKept made.0) }
         ensures headline { IfOk result (λ made. IsHeadline image config made.0.machine) }
     {

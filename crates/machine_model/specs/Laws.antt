@@ -11,7 +11,6 @@ use Rattle.machine_types.specs.declared.event.Event.TheVariants as event
 use Rattle.machine_types.specs.declared.outcome.Outcome.{Outcome}
 use Rattle.machine_types.specs.declared.outcome.Outcome.TheVariants as outcome
 use Rattle.machine_model.specs.Coherent.{IsCoherent, perm_at}
-use Rattle.machine_types.specs.Config.{is_within_limits}
 use Rattle.machine_model.specs.Changing.{stopped}
 use Rattle.machine_model.specs.Events.{Verdict, after_events, counted, happens, verdict}
 use Rattle.machine_model.specs.LawfulLog.{IsBeginningOf, IsLawfulLog, is_grant}
@@ -26,9 +25,9 @@ use Rattle.tl_types.specs.declared.permission.Cap.{Cap}
 use Rattle.tl_types.specs.declared.permission.Perm.TheVariants.{Branch, Trunk}
 use Rattle.trace_recorder.specs.History.{History, entries_of}
 
--- a law of every state that a list of events leads to, of an image and a configuration within the limits
+-- a law of every state that a list of events leads to, of an image and a configuration
 abbrev pub Always : (Initial → Config → State → Type 0) → Type 0
-Always P = (image : Initial) (config : Config) (events : List Event) → IsImage image → IsTrue (is_within_limits config) → P image config (after_events (opening image config) events)
+Always P = (image : Initial) (config : Config) (events : List Event) → IsImage image → P image config (after_events (opening image config) events)
 
 -- ---- coherence
 

@@ -1,5 +1,5 @@
 -- What a machine of numbers of fixed widths and queues of fixed rooms rests on: how large everything is, and what the act of an event finds.
-use Rattle.std.specs.Prelude.{ℕ, ◌≡◌, ◌≢◌, ◌<◌, ◌≤◌, ◌/◌, ◌%◌, Bool, false, List, length, Contains, IsTrue, Some}
+use Rattle.std.specs.Prelude.{ℕ, ◌≡◌, ◌≢◌, ◌<◌, ◌≤◌, ◌/◌, ◌%◌, false, length, Contains, IsTrue, Some}
 use Rattle.std.specs.FinSet as set
 use Rattle.machine_types.specs.declared.limits.TheConstants.{MAX_CHANGES, MAX_ENTRIES}
 use Rattle.backing_memory.specs.Memory.{line_data}
@@ -10,11 +10,9 @@ use Rattle.machine_model.specs.declared.act.Act.TheVariants as act
 use Rattle.machine_model.specs.declared.act.Deed.{Deed}
 use Rattle.machine_model.specs.declared.act.Deed.TheVariants as deed
 use Rattle.machine_model.specs.declared.act.Plan.TheVariants.{Changes}
-use Rattle.machine_types.specs.declared.config.Config.{Config}
 use Rattle.machine_types.specs.declared.event.Event.{Event}
 use Rattle.machine_model.specs.Changing.{acted}
 use Rattle.machine_model.specs.Coherent.{perm_at}
-use Rattle.machine_types.specs.Config.{is_within_limits}
 use Rattle.machine_model.specs.Events.{hart_of, is_good, is_limited, is_piece, plan_of}
 use Rattle.machine_model.specs.Laws.{Always, QueuesFit}
 use Rattle.machine_model.specs.Views.{State, line_of, line_size, node_at, shape_of_config}
@@ -24,7 +22,7 @@ use Rattle.tl_types.specs.Line.{length_of, size_of}
 use Rattle.tl_types.specs.Message.{channel_of}
 use Rattle.tl_types.specs.Permission.{left_by}
 use Rattle.tl_types.specs.declared.message.Body.{Body}
-use Rattle.tl_types.specs.declared.message.Body.TheVariants.{AcquireBlock, ProbeBlock, ProbeAck, ProbeAckData, Release, ReleaseData, Grant, GrantData, ReleaseAck, GrantAck}
+use Rattle.tl_types.specs.declared.message.Body.TheVariants.{ProbeAck, ProbeAckData, ReleaseData, Grant, GrantData}
 use Rattle.tl_types.specs.declared.message.Channel.{Channel}
 use Rattle.tl_types.specs.declared.message.Msg.{Msg}
 use Rattle.tl_types.specs.declared.permission.Perm.TheVariants.{Trunk}
@@ -40,7 +38,6 @@ line_count s = length s.trace.image.bytes / length_of (line_size s)
 
 pub record IsSound (s : State) : Type 0 where
   pub image : IsImage s.trace.image
-  pub limits : IsTrue (is_within_limits s.views.config)
   pub nodes : length s.views.nodes ≡ s.views.config.harts
   pub entries : length s.trace.entries ≡ s.views.config.harts
   pub statuses : length s.trace.statuses ≡ s.views.config.harts

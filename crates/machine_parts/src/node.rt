@@ -1,8 +1,7 @@
 //! What belongs to one hart.
 
-ghost use Rattle.std.specs.Prelude.{◌≡◌, IfOk, IsTrue};
+ghost use Rattle.std.specs.Prelude.{◌≡◌, IfOk};
 ghost use Rattle.client_cache.specs.Held.{perm_of};
-ghost use Rattle.machine_types.specs.Config.{is_within_limits};
 ghost use Rattle.machine_model.specs.Deliveries.{is_trunk, kept_reservation};
 ghost use Rattle.machine_model.specs.Views.{opening_node};
 
@@ -57,7 +56,6 @@ impl Node {
         size: LineSize,
         id: u8,
     ) -> Result<Node, AllocError>
-        requires limits { IsTrue (is_within_limits config.now) }
         requires line { size ≡ config.now.line }
         ensures { IfOk result (λ node. node ≡ opening_node image.now config.now id) }
     {

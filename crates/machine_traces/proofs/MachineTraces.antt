@@ -1,10 +1,9 @@
 -- What a machine's trace records is within the limits of its text.
-use Rattle.std.proofs.Common.{ℕ, suc, ◌*◌, ◌/◌, ◌%◌, ◌^◌, ◌<◌, ◌≤◌, Bool, true, false, List, [], ◌∷◌, ◌≡◌, Option, Some, None, refl, sym, ◌∙◌, subst, length, slice_index_or}
-use Rattle.std.specs.Prelude.{◌&&◌, nat_le, slice_index}
+use Rattle.std.proofs.Common.{ℕ, suc, ◌*◌, ◌/◌, ◌%◌, ◌^◌, ◌<◌, ◌≤◌, List, [], ◌∷◌, ◌≡◌, Option, Some, None, refl, sym, ◌∙◌, subst, length, slice_index_or}
+use Rattle.std.specs.Prelude.{slice_index}
 use Rattle.std.specs.List.{AllByRecursion}
-use Rattle.std.proofs.lemmas.Bool.{leb-true}
-use Rattle.machine_types.proofs.Within.{limits_of}
-use Rattle.machine_types.specs.declared.limits.TheConstants.{MAX_ENTRIES, MAX_HARTS}
+use Rattle.machine_types.proofs.Within.{config_limits}
+use Rattle.machine_types.specs.declared.limits.TheConstants.{MAX_ENTRIES}
 use native.Mathlib.Omega.{arith}
 use Rattle.elf_loader.specs.Size.{IsMemoryKib, IsMemorySize}
 use Rattle.hart.specs.declared.retired.Retired.{Retired}
@@ -107,7 +106,7 @@ memory_kib size is =
 
 head_fits : (s : State) → IsSound s → IsTraceHead (head_of s.trace)
 head_fits s k =
-    let limits = limits_of s.views.config k.limits in
+    let limits = config_limits s.views.config in
     let some = limits.some_harts in
     let few = limits.few_harts in
     let count = k.statuses in
@@ -125,7 +124,7 @@ head_fits s k =
 -- ---- the trace
 
 pub every_trace_has_a_text : EveryTraceHasAText
-every_trace_has_a_text image config events is within = record {
+every_trace_has_a_text image config events is = record {
   head = head_fits s sound;
   memory = record { len = sym (whole_kib (length t.image.bytes) sound.image.legal_size); small = bytes_small t.image.bytes sound.image.bytes_fit };
   lists = lists;
@@ -142,10 +141,10 @@ every_trace_has_a_text image config events is within = record {
     t = s.trace
 
     sound : IsSound s
-    sound = sound_always image config events is within
+    sound = sound_always image config events is
 
     ranges : IsInRange s
-    ranges = in_range_always image config events is within
+    ranges = in_range_always image config events is
 
     lists : length t.entries ≡ length t.statuses
     lists = sound.entries ∙ sym sound.statuses

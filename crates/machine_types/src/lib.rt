@@ -7,7 +7,7 @@ mod limits;
 mod model;
 mod outcome;
 
-pub use config::{Config, is_set_count};
+pub use config::{Config, is_set_count, is_within_limits};
 pub use event::Event;
 pub use limits::{
     BASE, BUFFER_ENTRIES, KIB_STEP, MAX_CHANGES, MAX_ENTRIES, MAX_HARTS, MAX_KIB, MAX_SETS,

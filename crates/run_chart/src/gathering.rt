@@ -1,8 +1,5 @@
 //! What happens in a run, row by row.
-ghost use Rattle.std.specs.Prelude.{◌≡◌, ◌↔◌, ◌<◌, ◌≤◌, ◌++◌, ◌∷◌, [], Err, IfErr, IfOk, OnOk, false, length, map};
-ghost use Rattle.coherent_machine.specs.declared.errors.NewError.TheVariants as making;
-ghost use Rattle.coherent_machine.specs.declared.errors.ReplayError.TheVariants as replaying;
-ghost use Rattle.machine_types.specs.Config.{is_within_limits};
+ghost use Rattle.std.specs.Prelude.{◌≡◌, ◌<◌, ◌≤◌, ◌++◌, ◌∷◌, [], Err, IfErr, IfOk, OnOk, length, map};
 ghost use Rattle.machine_model.specs.Events.{happens};
 ghost use Rattle.machine_model.specs.Views.{opening};
 ghost use Rattle.run_chart.specs.Accesses.{line_around};
@@ -143,7 +140,6 @@ pub fn gather(
     address: Option<u32>,
 ) -> Result<Story, ChartError>
     ensures told { IfOk result (IsStory image config events.now address) }
-    ensures limits { (result ≡ Err (ChartError.Replay (replaying.New making.Config))) ↔ (is_within_limits config ≡ false) }
     ensures untold { IfErr result (IsUntold image config events.now address) }
 {
     let machine = replay(alloc, image, config, events)?;

@@ -1,8 +1,5 @@
 //! Writing the picture of a run.
-ghost use Rattle.std.specs.Prelude.{◌≡◌, ◌↔◌, Err, IfErr, OnOk, false};
-ghost use Rattle.coherent_machine.specs.declared.errors.NewError.TheVariants as making;
-ghost use Rattle.coherent_machine.specs.declared.errors.ReplayError.TheVariants as replaying;
-ghost use Rattle.machine_types.specs.Config.{is_within_limits};
+ghost use Rattle.std.specs.Prelude.{◌≡◌, Err, IfErr, OnOk};
 ghost use Rattle.run_chart.specs.Charts.{IsDrawn, IsUndrawn};
 
 use crate::errors::ChartError;
@@ -27,7 +24,6 @@ pub fn write_chart<W: Write>(
     out: &mut W,
 ) -> Result<(), ChartError>
     ensures drawn { OnOk result (IsDrawn image config events.now address style.now (W.contents out.old) (W.contents out.new)) }
-    ensures limits { (result ≡ Err (ChartError.Replay (replaying.New making.Config))) ↔ (is_within_limits config ≡ false) }
     ensures undrawn { IfErr result (IsUndrawn image config events.now address style.now (W.contents out.old) (W.contents out.new)) }
 {
     let story = gather(alloc, image, config, events, address)?;

@@ -1,7 +1,7 @@
 -- What a run by threads has done, and which faults it tells.
 use Rattle.command_files.specs.Composition.{IsComposition, Leads}
 use Rattle.command_files.specs.Ends.{ends_of}
-use Rattle.command_files.specs.Sizes.{config_of, IsOutside, config_named}
+use Rattle.command_files.specs.Sizes.{config_of, IsInside, IsOutside, config_named}
 use Rattle.command_files.specs.Files.{HoldsImage, HoldsScript}
 use Rattle.command_files.specs.Faults.{IsNoImage}
 use Rattle.command_files.specs.Contents.{Contents}
@@ -20,7 +20,8 @@ use Rattle.trace_text.specs.declared.script.Script.{Script}
 -- the run of the image in the one file has left this script in the other: it is for the machine that was named, and has no more events than were asked for
 pub record IsJournalled (held left : Contents) (run : Run) (image : Initial) (script : Script) : Type 0 where
   pub image_file : HoldsImage held run.raw run.image.now run.machine.memory image
-  pub config : config_of script run.machine.model ≡ config_named run.machine
+  pub inside : IsInside run.machine
+  pub config : config_of script run.machine.model ≡ config_named run.machine inside
   pub memory : script.kib ≡ run.machine.memory
   pub journal_file : HoldsScript left run.journal.now script
   pub limit : length script.events ≤ run.limit

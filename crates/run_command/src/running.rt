@@ -114,7 +114,7 @@ pub fn run_files<'a, R: Threads + Wait + Sync, F: Files, O: Write, E: Write, P: 
         journal,
         receipts: _,
     } = report;
-    let script = script_of(wanted.machine, journal);
+    let script = script_of(config, wanted.machine.memory, journal);
     keep(alloc, files, wanted.journal, &script)?;
     print(&trace, out)?;
     // Standard error has no other place to tell that it takes no more.

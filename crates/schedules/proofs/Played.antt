@@ -1,18 +1,20 @@
 -- A machine with the events that changed it stays where they lead.
-use Rattle.std.proofs.Common.{◌≡◌, ◌≢◌, ◌∙◌, refl, sym, ap, subst, ℕ, ◌+◌, List, [], ◌∷◌, ◌++◌, Option, Ok, inl, inr, IsTrue, arith, Result as Answer}
+use Rattle.std.proofs.Common.{◌≡◌, ◌≢◌, ◌∙◌, refl, sym, ap, subst, ℕ, ◌+◌, List, [], ◌∷◌, ◌++◌, Option, Ok, Err, inl, inr, arith, Result as Answer}
+use Rattle.std.specs.Prelude.{IfOk}
+use Rattle.std.specs.declared.alloc.AllocError.{AllocError}
 use Rattle.elf_loader.specs.Image.{Initial}
 use Rattle.coherent_machine.specs.Machine.{Replayed, replayed_from, unless_refused}
 use Rattle.coherent_machine.specs.Moves.{AreMoves, IsMove}
 use Rattle.machine_types.specs.declared.config.Config.{Config}
 use Rattle.machine_types.specs.declared.event.Event.{Event}
 use Rattle.machine_types.specs.declared.outcome.Outcome.{Outcome}
-use Rattle.machine_types.specs.Config.{is_within_limits}
 use Rattle.machine_model.specs.Events.{Verdict, after_events, happens, state_by, verdict}
 use Rattle.machine_model.specs.Events.Verdict.{IsBad, Keeps, IsLimited, Moves}
 use Rattle.machine_model.specs.Laws.{ChangesAreCounted, KeepsImageAndConfig}
 use Rattle.machine_model.specs.Views.{State, opening}
 use Rattle.machine_parts.specs.Applying.{Answers}
 use Rattle.schedules.specs.declared.errors.Fault.{Fault}
+use Rattle.schedules.specs.declared.schedule.Schedule.{Schedule}
 use Rattle.schedules.specs.Schedules.{AnswersAs, IsPlayed, LeadsThere}
 
 -- where the number of changes stays, the machine does
@@ -86,7 +88,6 @@ played_moved machine events e o new is stays was = record {
   moves =
       subst (λ (s : State). AreMoves s (events ++ e ∷ [])) (sym (opens_alike machine new stays))
       (moves_more (opening machine.trace.image machine.views.config) events e (subst (λ (s : State). IsMove s e) (sym was.leads) (o, new, is)) was.moves);
-  within = subst (λ (c : Config). IsTrue (is_within_limits c)) (sym stays.config) was.within;
 }
 
 pub played_still : (machine : State) (events : List Event) (new : State) → new ≡ machine → IsPlayed (record { machine = machine; events = events }) → IsPlayed (record { machine = new; events = events })
@@ -104,6 +105,21 @@ replays_at reset start machine events same leads replays =
 
 pub moves_at : (reset start : State) (events : List Event) → start ≡ reset → AreMoves start events → AreMoves reset events
 moves_at reset start events same each = subst (λ (s : State). AreMoves s events) same each
+
+pub each_real : (reset start : State) (r : Answer Schedule AllocError) → start ≡ reset → IfOk r (λ schedule. after_events start schedule.events.items ≡ schedule.machine)
+    → IfOk r (λ schedule. schedule.machine ≡ after_events reset schedule.events.items)
+each_real reset start (Ok schedule) same leads = real_at reset start schedule.machine schedule.events.items same leads
+each_real reset start (Err error) same leads = tt
+
+pub each_replays : (reset start : State) (r : Answer Schedule AllocError) → start ≡ reset → IfOk r (λ schedule. after_events start schedule.events.items ≡ schedule.machine)
+    → IfOk r (λ schedule. replayed_from 0 start schedule.events.items ≡ Replayed.Reached schedule.machine)
+    → IfOk r (λ schedule. replayed_from 0 reset schedule.events.items ≡ Replayed.Reached (after_events reset schedule.events.items))
+each_replays reset start (Ok schedule) same leads replays = replays_at reset start schedule.machine schedule.events.items same leads replays
+each_replays reset start (Err error) same leads replays = tt
+
+pub each_moves : (reset start : State) (r : Answer Schedule AllocError) → start ≡ reset → IfOk r (λ schedule. AreMoves start schedule.events.items) → IfOk r (λ schedule. AreMoves reset schedule.events.items)
+each_moves reset start (Ok schedule) same each = moves_at reset start schedule.events.items same each
+each_moves reset start (Err error) same each = tt
 
 -- a replay that refuses nothing leads where its events lead
 goes_on : (v : Verdict) (i : ℕ) (rest : Replayed) (t : State) → unless_refused v i rest ≡ Replayed.Reached t → rest ≡ Replayed.Reached t

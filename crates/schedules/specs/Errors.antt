@@ -1,15 +1,9 @@
--- Which errors a machine that isn't made and an event that isn't taken come to.
+-- Which errors an event that isn't taken comes to.
 use Rattle.std.specs.Prelude.{ℕ, ◌<◌}
-use Rattle.coherent_machine.specs.declared.errors.NewError.{NewError}
-use Rattle.coherent_machine.specs.declared.errors.NewError.TheVariants as new
 use Rattle.schedules.specs.declared.errors.Fault.{Fault}
 use Rattle.schedules.specs.declared.errors.Fault.TheVariants as fault
 use Rattle.schedules.specs.declared.errors.RealiseError.{RealiseError}
-use Rattle.schedules.specs.declared.errors.RealiseError.TheVariants.{Config, NoMemory, Limit, Unrealised}
-
-abbrev pub of_new : NewError → RealiseError
-of_new new.Config = Config
-of_new new.NoMemory = NoMemory
+use Rattle.schedules.specs.declared.errors.RealiseError.TheVariants.{NoMemory, Limit, Unrealised}
 
 abbrev pub of_fault : Fault → RealiseError
 of_fault fault.NoMemory = NoMemory

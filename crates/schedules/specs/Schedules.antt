@@ -1,5 +1,5 @@
 -- What lists of events lead to, and what is told of it.
-use Rattle.std.specs.Prelude.{◌≡◌, ◌⊎◌, List, [], ◌∷◌, ◌++◌, IsTrue, Option, Some, None, Ok, Err}
+use Rattle.std.specs.Prelude.{◌≡◌, ◌⊎◌, List, [], ◌∷◌, ◌++◌, Option, Some, None, Ok, Err}
 use Rattle.std.specs.declared.result.Result.{Result}
 use Rattle.elf_loader.specs.Image.{Initial}
 use Rattle.coherent_machine.specs.Machine.{Replayed, replayed_from}
@@ -7,7 +7,6 @@ use Rattle.coherent_machine.specs.Moves.{AreMoves}
 use Rattle.flat_model.specs.Shown.{HartEnd, results}
 use Rattle.machine_types.specs.declared.config.Config.{Config}
 use Rattle.machine_types.specs.declared.event.Event.{Event}
-use Rattle.machine_types.specs.Config.{is_within_limits}
 use Rattle.machine_types.specs.declared.outcome.Outcome.{Outcome}
 use Rattle.machine_model.specs.Events.{Verdict, after_events}
 use Rattle.machine_model.specs.Views.{State, opening}
@@ -48,12 +47,11 @@ pub record Played : Type 0 where
 abbrev pub start_of : Played → State
 start_of p = opening p.machine.trace.image p.machine.views.config
 
--- the events lead to the machine, none is refused, each changes it, and the configuration is within the limits
+-- the events lead to the machine, none is refused, and each changes it
 pub record IsPlayed (p : Played) : Type 0 where
   pub leads : after_events (start_of p) p.events ≡ p.machine
   pub replays : replayed_from 0 (start_of p) p.events ≡ Replayed.Reached p.machine
   pub moves : AreMoves (start_of p) p.events
-  pub within : IsTrue (is_within_limits p.machine.views.config)
 
 -- the event is kept behind the others, or left out
 abbrev pub MayAdd : List Event → Event → List Event → Type 0

@@ -2,16 +2,12 @@
 
 ghost use Rattle.std.specs.Prelude.{◌≡◌};
 
-use coherent_machine::NewError;
 use std::alloc::AllocError;
 use thiserror::Error;
 
 /// Why flat events have no schedule.
 #[derive(Clone, Copy, Debug, PartialEq, Eq, Error)]
 pub enum RealiseError {
-    /// The configuration is outside the limits.
-    #[error("bad configuration")]
-    Config,
     /// Memory was refused.
     #[error("out of memory")]
     NoMemory,
@@ -21,20 +17,6 @@ pub enum RealiseError {
     /// The machine wasn't brought to the flat event at this index, from 0.
     #[error("flat event {0} not realised")]
     Unrealised(usize),
-}
-
-impl From<NewError> for RealiseError {
-    ghost use Rattle.std.specs.Prelude.{◌≡◌};
-    ghost use Rattle.schedules.specs.Errors.{of_new};
-
-    ghost from_gives = { λ error e. e ≡ of_new error };
-
-    fn from(error: NewError) -> Self {
-        match error {
-            NewError::Config => RealiseError::Config,
-            NewError::NoMemory => RealiseError::NoMemory,
-        }
-    }
 }
 
 impl From<Fault> for RealiseError {

@@ -1,21 +1,18 @@
 //! A machine with the events that changed it.
 
-ghost use Rattle.std.specs.Prelude.{◌≡◌, ◌≢◌, ◌↔◌, [], Err, IfErr, IfOk, IsTrue, OnOk, false};
+ghost use Rattle.std.specs.Prelude.{◌≡◌, [], IfErr, IfOk, OnOk};
 ghost use Rattle.flat_model.specs.Shown.{results, told};
-ghost use Rattle.machine_types.specs.Config.{is_within_limits};
 ghost use Rattle.machine_model.specs.Events.{after_events, verdict};
 ghost use Rattle.machine_model.specs.Views.{opening};
 ghost use Rattle.coherent_machine.specs.Machine.{IsFirstRefusal, Replayed, replayed_from};
 ghost use Rattle.coherent_machine.specs.Moves.{AreMoves};
-ghost use Rattle.coherent_machine.specs.declared.errors.NewError.TheVariants as making;
-ghost use Rattle.coherent_machine.specs.declared.errors.ReplayError.TheVariants as replaying;
 ghost use Rattle.schedules.specs.Schedules.{AnswersAs, MayAdd, Played, start_of};
 ghost use Rattle.schedules.specs.Sublists.{IsSublist};
 
 use crate::errors::Fault;
 use crate::results::results_of;
 use crate::schedule::Schedule;
-use coherent_machine::{ApplyError, Machine, NewError, ReplayError, Views};
+use coherent_machine::{ApplyError, Machine, ReplayError, Views};
 use elf_loader::Image;
 use machine_model::changes_are_counted;
 use machine_types::{Config, Event, MAX_HARTS, Outcome};
@@ -47,10 +44,9 @@ impl Model for Player {
 }
 
 impl Player {
-    /// A machine at reset, and no event yet. It errs as `Machine::new` does.
-    pub(crate) fn new(alloc: Global, image: Image, config: Config) -> Result<Player, NewError>
+    /// A machine at reset, and no event yet.
+    pub(crate) fn new(alloc: Global, image: Image, config: Config) -> Result<Player, AllocError>
         ensures ok { IfOk result (λ player. player ≡ record { machine = opening image config; events = [] }) }
-        ensures config { (result ≡ Err NewError.Config) ↔ (is_within_limits config ≡ false) }
     {
         let machine = Machine::new(alloc, image, config)?;
         Ok(Player {
@@ -89,7 +85,6 @@ impl Player {
         ensures ok { OnOk result (replayed_from 0 self.old.machine events.now ≡ Replayed.Reached self.new.machine) }
         ensures sublist { OnOk result (IsSublist self.new.events events.now) }
         ensures refused { IfErr result (λ error. IsFirstRefusal self.old.machine events.now error) }
-        ensures config { result ≢ Err (replaying.New making.Config) }
     {
         let mut index = 0;
         let mut rest = events;
@@ -98,7 +93,7 @@ impl Player {
                 Ok(Some(_)) => {}
                 Ok(None) => return Err(ReplayError::Event(index, ApplyError::BadEvent)),
                 Err(Fault::Limit) => return Err(ReplayError::Event(index, ApplyError::Limit)),
-                Err(Fault::NoMemory) => return Err(ReplayError::New(NewError::NoMemory)),
+                Err(Fault::NoMemory) => return Err(ReplayError::NoMemory),
             }
             index += 1;
             rest = tail;
@@ -114,8 +109,7 @@ impl Player {
 
     /// The machine as it stands.
     pub(crate) fn views(&self) -> Views<'_>
-        ensures now { result ≡ self.now.machine }
-        ensures within { IsTrue (is_within_limits self.now.machine.views.config) }
+        ensures { result ≡ self.now.machine }
     {
         self.machine.views()
     }

@@ -1,8 +1,7 @@
 //! The machine's events that do what a flat machine's events do.
 
-ghost use Rattle.std.specs.Prelude.{◌≡◌, ◌↔◌, Err, IfErr, IfOk, false, length};
+ghost use Rattle.std.specs.Prelude.{◌≡◌, IfErr, IfOk, length};
 ghost use Rattle.flat_model.specs.Shown.{results, told};
-ghost use Rattle.machine_types.specs.Config.{is_within_limits};
 ghost use Rattle.schedules.specs.Errors.{IsOneOf};
 ghost use Rattle.schedules.specs.Schedules.{EachMoves, Replays, led, start_of};
 
@@ -34,7 +33,6 @@ pub fn realise(
     ensures replays { IfOk result (λ schedule. Replays image config schedule.events.items) }
     ensures moves { IfOk result (λ schedule. EachMoves image config schedule.events.items) }
     ensures results { IfOk result (λ schedule. told schedule.results.items ≡ results schedule.machine) }
-    ensures config { (result ≡ Err RealiseError.Config) ↔ (is_within_limits config ≡ false) }
     ensures index { IfErr result (IsOneOf (length steps.now)) }
 {
     let mut player = Player::new(alloc, image, config)?;

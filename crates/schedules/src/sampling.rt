@@ -1,15 +1,13 @@
 //! One random schedule.
 
-ghost use Rattle.std.specs.Prelude.{◌≡◌, ◌↔◌, ◌+◌, ◌≤◌, Err, IfOk, false, length};
-ghost use Rattle.coherent_machine.specs.declared.errors.NewError.TheVariants as making;
+ghost use Rattle.std.specs.Prelude.{◌≡◌, ◌+◌, ◌≤◌, IfOk, length};
 ghost use Rattle.flat_model.specs.Shown.{results, told};
-ghost use Rattle.machine_types.specs.Config.{is_within_limits};
 ghost use Rattle.schedules.specs.Schedules.{EachMoves, Replays, led, start_of};
 
 use crate::errors::Fault;
 use crate::player::{MOST_HARTS, Player};
 use crate::schedule::Schedule;
-use coherent_machine::{NewError, Views};
+use coherent_machine::Views;
 use elf_loader::Image;
 use machine_types::{Config, Event, Outcome};
 use rand_core::{Rng, SeedableRng};
@@ -31,20 +29,19 @@ pub fn sample(
     config: Config,
     seed: u64,
     most_events: u64,
-) -> Result<Schedule, NewError>
+) -> Result<Schedule, AllocError>
     ensures real { IfOk result (λ schedule. schedule.machine ≡ led image config schedule.events.items) }
     ensures replays { IfOk result (λ schedule. Replays image config schedule.events.items) }
     ensures moves { IfOk result (λ schedule. EachMoves image config schedule.events.items) }
     ensures results { IfOk result (λ schedule. told schedule.results.items ≡ results schedule.machine) }
     ensures within { IfOk result (λ schedule. length schedule.events.items ≤ most_events) }
-    ensures config { (result ≡ Err making.Config) ↔ (is_within_limits config ≡ false) }
 {
     let mut player = Player::new(alloc, image, config)?;
     let mut picker = Picker::new(alloc, seed);
     if let Err(Fault::NoMemory) = player.play_at_random(&mut picker, most_events) {
-        return Err(NewError::NoMemory);
+        return Err(AllocError);
     }
-    Ok(player.into_schedule(alloc)?)
+    player.into_schedule(alloc)
 }
 
 impl Player {

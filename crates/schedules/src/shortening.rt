@@ -1,10 +1,7 @@
 //! Fewer events that lead to the same goal.
 
-ghost use Rattle.std.specs.Prelude.{◌≡◌, ◌≢◌, ◌↔◌, ◌<◌, [], Err, IfErr, IfOk, IfSome, IsTrue, Ok, OnOk, length, false, true};
+ghost use Rattle.std.specs.Prelude.{◌≡◌, ◌<◌, [], IfErr, IfOk, IfSome, Ok, OnOk, length, true};
 ghost use Rattle.coherent_machine.specs.Machine.{IsFirstRefusal};
-ghost use Rattle.coherent_machine.specs.declared.errors.NewError.TheVariants as making;
-ghost use Rattle.coherent_machine.specs.declared.errors.ReplayError.TheVariants as replaying;
-ghost use Rattle.machine_types.specs.Config as limits;
 ghost use Rattle.machine_model.specs.Views.{opening};
 ghost use Rattle.schedules.specs.Schedules.{EachMoves, LeadsThere, Replays, led, start_of};
 ghost use Rattle.schedules.specs.Sublists.{IsSublist};
@@ -12,10 +9,10 @@ ghost use Rattle.schedules.specs.Sublists.{IsSublist};
 use crate::errors::Fault;
 use crate::goal::Goal;
 use crate::player::Player;
-use coherent_machine::{Machine, NewError, ReplayError};
+use coherent_machine::ReplayError;
 use elf_loader::Image;
 use machine_types::{Config, Event};
-use std::alloc::Global;
+use std::alloc::{AllocError, Global};
 
 /// A machine's reset takes as long as an event for every so many bytes of its memory.
 const BYTES_AS_AN_EVENT: u32 = 256;
@@ -38,15 +35,11 @@ pub fn shorten<G: Goal>(
     ensures replays { IfOk result (λ short. Replays image.now config short.items) }
     ensures moves { IfOk result (λ short. EachMoves image.now config short.items) }
     ensures sublist { IfOk result (λ short. IsSublist short.items events.now) }
-    ensures config { (result ≡ Err (replaying.New making.Config)) ↔ (limits.is_within_limits config ≡ false) }
     ensures refused { IfErr result (λ error. IsFirstRefusal (opening image.now config) events.now error) }
 {
-    if !config.is_within_limits() {
-        return Err(ReplayError::New(NewError::Config));
-    }
-    let mut player = Player::new(alloc, copy_of(alloc, image)?, config)?;
+    let mut player = Player::new(alloc, image.try_copy(alloc)?, config)?;
     player.replay(events)?;
-    let is_there = has_met(goal, player.machine())?;
+    let is_there = goal.is_met(player.machine())?;
     let changing = player.into_events();
     if !is_there {
         return Ok(changing);
@@ -60,21 +53,6 @@ pub fn shorten<G: Goal>(
     Ok(script.shortened(changing, most_played)?)
 }
 
-fn copy_of(alloc: Global, image: &Image) -> Result<Image, NewError>
-    ensures copy { IfOk result (λ copy. copy ≡ image.now) }
-    ensures config { result ≢ Err making.Config }
-{
-    Ok(image.try_copy(alloc)?)
-}
-
-fn has_met<G: Goal>(goal: &G, machine: &Machine) -> Result<bool, NewError>
-    requires asked { G.CanBeAsked goal.now }
-    ensures met { result ≡ Ok true → G.Holds goal.now machine.now }
-    ensures config { result ≢ Err making.Config }
-{
-    Ok(goal.is_met(machine)?)
-}
-
 /// Where a shorter list is to lead, and from where.
 #[derive(Drop)]
 struct Script<'a, G> {
@@ -86,13 +64,11 @@ struct Script<'a, G> {
 
 impl<G: Goal> Script<'_, G> {
     // Leaves out what it can of the events.
-    fn shortened(&self, events: Vec<Event>, most_played: u64) -> Result<Vec<Event>, NewError>
+    fn shortened(&self, events: Vec<Event>, most_played: u64) -> Result<Vec<Event>, AllocError>
         requires asked { G.CanBeAsked self.now.goal.now }
-        requires limits { IsTrue (limits.is_within_limits self.now.config) }
         requires good { LeadsThere self.now.image.now self.now.config (G.Holds self.now.goal.now) events.items }
         ensures good { IfOk result (λ short. LeadsThere self.now.image.now self.now.config (G.Holds self.now.goal.now) short.items) }
         ensures sublist { IfOk result (λ short. IsSublist short.items events.items) }
-        ensures config { result ≢ Err making.Config }
     {
         let mut short = events;
         let mut left = most_played;
@@ -112,15 +88,13 @@ impl<G: Goal> Script<'_, G> {
         short: &mut Vec<Event>,
         size: usize,
         left: &mut u64,
-    ) -> Result<bool, NewError>
+    ) -> Result<bool, AllocError>
         requires asked { G.CanBeAsked self.now.goal.now }
-        requires limits { IsTrue (limits.is_within_limits self.now.config) }
         requires some { 0 < size }
         requires good { LeadsThere self.now.image.now self.now.config (G.Holds self.now.goal.now) short.old.items }
         ensures good { LeadsThere self.now.image.now self.now.config (G.Holds self.now.goal.now) short.new.items }
         ensures sublist { IsSublist short.new.items short.old.items }
         ensures left { result ≡ Ok true → left.new < left.old }
-        ensures config { result ≢ Err making.Config }
     {
         let mut has_left_out = false;
         let mut start = 0;
@@ -143,14 +117,12 @@ impl<G: Goal> Script<'_, G> {
         from: usize,
         to: usize,
         left: &mut u64,
-    ) -> Result<bool, NewError>
+    ) -> Result<bool, AllocError>
         requires asked { G.CanBeAsked self.now.goal.now }
-        requires limits { IsTrue (limits.is_within_limits self.now.config) }
         requires good { LeadsThere self.now.image.now self.now.config (G.Holds self.now.goal.now) short.old.items }
         ensures good { LeadsThere self.now.image.now self.now.config (G.Holds self.now.goal.now) short.new.items }
         ensures sublist { IsSublist short.new.items short.old.items }
         ensures left { 0 < length short.old.items → 0 < left.old → left.new < left.old }
-        ensures config { result ≢ Err making.Config }
     {
         let events = short.len() as u64;
         let reset = u64::from(self.image.size() / BYTES_AS_AN_EVENT);
@@ -174,21 +146,19 @@ impl<G: Goal> Script<'_, G> {
         events: &[Event],
         from: usize,
         to: usize,
-    ) -> Result<Option<Vec<Event>>, NewError>
+    ) -> Result<Option<Vec<Event>>, AllocError>
         requires asked { G.CanBeAsked self.now.goal.now }
-        requires limits { IsTrue (limits.is_within_limits self.now.config) }
         ensures good { IfOk result (λ found. IfSome found (λ short. LeadsThere self.now.image.now self.now.config (G.Holds self.now.goal.now) short.items)) }
         ensures sublist { IfOk result (λ found. IfSome found (λ short. IsSublist short.items events.now)) }
-        ensures config { result ≢ Err making.Config }
     {
-        let image = copy_of(self.alloc, self.image)?;
+        let image = self.image.try_copy(self.alloc)?;
         let mut player = Player::new(self.alloc, image, self.config)?;
         match player.play_without(events, from, to) {
             Ok(()) => {}
-            Err(Fault::NoMemory) => return Err(NewError::NoMemory),
+            Err(Fault::NoMemory) => return Err(AllocError),
             Err(Fault::Limit) => return Ok(None),
         }
-        if !has_met(self.goal, player.machine())? {
+        if !self.goal.is_met(player.machine())? {
             return Ok(None);
         }
         Ok(Some(player.into_events()))

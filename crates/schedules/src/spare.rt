@@ -1,8 +1,6 @@
 //! Lines that a cache may give up.
 
-ghost use Rattle.std.specs.Prelude.{IsTrue};
 ghost use Rattle.elf_loader.specs.Size.{IsMemorySize};
-ghost use Rattle.machine_types.specs.Config as limits;
 
 use client_cache::ClientCache;
 use elf_loader::BASE;
@@ -17,7 +15,6 @@ pub(crate) fn lowest_held(
     address: u32,
     kept: Option<u32>,
 ) -> Option<u32>
-    requires limits { IsTrue (limits.is_within_limits config.now) }
     requires memory { IsMemorySize size }
 {
     let bytes = config.line.bytes();

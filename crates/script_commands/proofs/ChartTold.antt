@@ -1,7 +1,6 @@
 -- Which faults a picture's parts hand up.
 use Rattle.std.proofs.Common.{◌≡◌, ◌∙◌, ◌⊎◌, ℕ, None, Option, Some, ap, inl, inr, refl, subst, sym}
 use Rattle.script_commands.specs.Charting.{IsChartFault, IsDrawingFault, IsNoAddress}
-use Rattle.coherent_machine.specs.declared.errors.NewError.TheVariants as making
 use Rattle.coherent_machine.specs.declared.errors.ReplayError.TheVariants as refusals
 use Rattle.command_files.specs.Faults.{IsImageFault, IsScriptFault, Name}
 use Rattle.command_files.specs.Files.{HoldsScript}
@@ -93,15 +92,12 @@ writing_never_misused fault is two = elim is [
   | inr at ↦ four_not_two (sym (ap status_of at) ∙ two)
 ]
 
--- nor does what is told of the drawing, where there is such a machine
-pub drawing_never_misused : (script : Name) (error : ChartError) (fault : Fault) → (error ≡ chart.Replay (refusals.New making.Config) → ⊥) → IsDrawingFault script error fault → status_of fault ≡ 2 → ⊥
-drawing_never_misused script (chart.Replay refusal) fault within told two = elim told.0 [
-  | inl at ↦ within (ap chart.Replay (told.1.0 at))
-  | inr other ↦ elim other [
-    | inl at ↦ four_not_two (sym (ap status_of at) ∙ two)
-    | inr event ↦ one_not_two (sym (ap status_of event.3) ∙ two)
-  ]
+-- nor does what is told of the drawing
+pub drawing_never_misused : (script : Name) (error : ChartError) (fault : Fault) → IsDrawingFault script error fault → status_of fault ≡ 2 → ⊥
+drawing_never_misused script (chart.Replay refusal) fault told two = elim told.0 [
+  | inl at ↦ four_not_two (sym (ap status_of at) ∙ two)
+  | inr event ↦ one_not_two (sym (ap status_of event.3) ∙ two)
 ]
-drawing_never_misused script chart.TooManyRows fault within told two = one_not_two (sym (ap status_of told) ∙ two)
-drawing_never_misused script chart.NoMemory fault within told two = four_not_two (sym (ap status_of told) ∙ two)
-drawing_never_misused script (chart.Writing error) fault within told two = writing_never_misused fault told.0 two
+drawing_never_misused script chart.TooManyRows fault told two = one_not_two (sym (ap status_of told) ∙ two)
+drawing_never_misused script chart.NoMemory fault told two = four_not_two (sym (ap status_of told) ∙ two)
+drawing_never_misused script (chart.Writing error) fault told two = writing_never_misused fault told.0 two

@@ -1,9 +1,7 @@
 -- What of a picture went out before a last flush, and how its end is told.
-use Rattle.std.proofs.Common.{◌≡◌, ◌∙◌, ◌⊎◌, ◌+◌, ◌-◌, ◌^◌, ℕ, Err, IfErr, List, Ok, Option, Result, Some, ap, inl, inr, refl, subst, sym}
-use Rattle.std.specs.Prelude.{OnOk, min}
-use Rattle.std.specs.Io.KnownBytes.{Appends, Keeps}
+use Rattle.std.proofs.Common.{◌≡◌, ◌⊎◌, ℕ, List, Option, inl, inr, refl, subst, sym}
+use Rattle.std.specs.Io.KnownBytes.{Keeps}
 use Rattle.coherent_machine.specs.Machine.{IsFirstRefusal}
-use Rattle.coherent_machine.specs.declared.errors.NewError.TheVariants as making
 use Rattle.coherent_machine.specs.declared.errors.ReplayError.TheVariants as refusals
 use Rattle.chart_drawing.specs.declared.sheet.TheConstants.{STYLE}
 use Rattle.script_commands.specs.Charting.{IsAddress, IsChartFault, IsDrawingFault, IsPictureCutOff}
@@ -12,7 +10,7 @@ use Rattle.command_files.specs.Files.{HoldsImage, HoldsScript}
 use Rattle.command_files.specs.Contents.{Contents}
 use Rattle.command_files.specs.Sizes.{config_of}
 use Rattle.command_files.specs.declared.fault.Fault.{Fault}
-use Rattle.command_files.specs.declared.fault.Fault.TheVariants.{CannotWrite, Configuration, Event, OutOfMemory}
+use Rattle.command_files.specs.declared.fault.Fault.TheVariants.{CannotWrite, OutOfMemory}
 use Rattle.command_files.proofs.Left.{spoiled}
 use Rattle.command_files.proofs.Written.{all_begun, kept_on}
 use Rattle.command_settings.specs.declared.wanted.Replay.{Replay}
@@ -20,10 +18,9 @@ use Rattle.elf_loader.specs.Image.{Initial}
 use Rattle.machine_model.specs.Views.{opening}
 use Rattle.machine_types.specs.declared.config.Config.{Config}
 use Rattle.machine_types.specs.declared.event.Event.{Event as AnEvent}
-use Rattle.run_chart.specs.Charts.{IsBegun, IsChart, IsDrawn, IsUndrawn}
+use Rattle.run_chart.specs.Charts.{IsBegun, IsDrawn, IsUndrawn}
 use Rattle.run_chart.specs.declared.errors.ChartError.{ChartError}
 use Rattle.run_chart.specs.declared.errors.ChartError.TheVariants as chart
-use Rattle.text_fields.specs.Writing.{Begins}
 use Rattle.trace_text.specs.declared.script.Script.{Script}
 
 module _ (image : Initial) (config : Config) (events : List AnEvent) (address : Option ℕ) (style : List ℕ) (old mid new : Option (List ℕ)) where
@@ -62,11 +59,8 @@ pub left_by : (held : Contents) (replay : Replay) (line : Option Name) (script :
     → IsUndrawn image (config_of script replay.model) script.events address STYLE.now old new error
     → IsDrawingFault replay.script error fault → LeavesAtFault fault old new (IsPictureCutOff held replay line old new)
 left_by held replay line script image address old new (chart.Replay refusal) fault script_file image_file named h told = elim told.0 [
-  | inl at ↦ subst (λ f. LeavesAtFault f old new (IsPictureCutOff held replay line old new)) (sym at) h.0
-  | inr other ↦ elim other [
-    | inl at ↦ subst (λ f. LeavesAtFault f old new (IsPictureCutOff held replay line old new)) (sym at) (inl h.0)
-    | inr event ↦ subst (λ f. LeavesAtFault f old new (IsPictureCutOff held replay line old new)) (sym event.3) h.0
-  ]
+  | inl at ↦ subst (λ f. LeavesAtFault f old new (IsPictureCutOff held replay line old new)) (sym at) (inl h.0)
+  | inr event ↦ subst (λ f. LeavesAtFault f old new (IsPictureCutOff held replay line old new)) (sym event.3) h.0
 ]
 left_by held replay line script image address old new chart.TooManyRows fault script_file image_file named h told =
     subst (λ f. LeavesAtFault f old new (IsPictureCutOff held replay line old new)) (sym told) h.0
@@ -78,31 +72,28 @@ left_by held replay line script image address old new (chart.Writing error) faul
 -- what the drawing's fault is told as
 pub told_as : (held : Contents) (replay : Replay) (line : Option Name) (script : Script) (image : Initial) (address : Option ℕ) (style : List ℕ) (old new : Option (List ℕ)) (error : ChartError) (fault : Fault)
     → HoldsScript held replay.script.now script → HoldsImage held replay.raw replay.image.now script.kib image → IsAddress line address
-    → (error ≡ chart.Replay (refusals.New making.Config) → ⊥) → IsUndrawn image (config_of script replay.model) script.events address style old new error
+    → IsUndrawn image (config_of script replay.model) script.events address style old new error
     → IsDrawingFault replay.script error fault → IsChartFault held replay line fault
-told_as held replay line script image address style old new (chart.Replay refusal) fault script_file image_file named within h told = elim told.0 [
-  | inl at ↦ absurd (within (ap chart.Replay (told.1.0 at)))
-  | inr other ↦ elim other [
-    | inl at ↦ subst (IsChartFault held replay line) (sym at) tt
-    | inr event ↦ subst (IsChartFault held replay line) (sym event.3) (
-      refl,
-      record {
-        script = script;
-        image = image;
-        script_file = script_file;
-        image_file = image_file;
-        index = event.0;
-        place = refl;
-        refused = subst (IsFirstRefusal (opening image (config_of script replay.model)) script.events) event.2 h.1;
-      },
-    )
-  ]
+told_as held replay line script image address style old new (chart.Replay refusal) fault script_file image_file named h told = elim told.0 [
+  | inl at ↦ subst (IsChartFault held replay line) (sym at) tt
+  | inr event ↦ subst (IsChartFault held replay line) (sym event.3) (
+    refl,
+    record {
+      script = script;
+      image = image;
+      script_file = script_file;
+      image_file = image_file;
+      index = event.0;
+      place = refl;
+      refused = subst (IsFirstRefusal (opening image (config_of script replay.model)) script.events) event.2 h.1;
+    },
+  )
 ]
-told_as held replay line script image address style old new chart.TooManyRows fault script_file image_file named within h told =
+told_as held replay line script image address style old new chart.TooManyRows fault script_file image_file named h told =
     subst (IsChartFault held replay line) (sym told)
     (refl, record { script = script; image = image; address = address; script_file = script_file; image_file = image_file; named = named; large = h.1 })
-told_as held replay line script image address style old new chart.NoMemory fault script_file image_file named within h told = subst (IsChartFault held replay line) (sym told) tt
-told_as held replay line script image address style old new (chart.Writing error) fault script_file image_file named within h told = elim told.0 [
+told_as held replay line script image address style old new chart.NoMemory fault script_file image_file named h told = subst (IsChartFault held replay line) (sym told) tt
+told_as held replay line script image address style old new (chart.Writing error) fault script_file image_file named h told = elim told.0 [
   | inl at ↦ subst (IsChartFault held replay line) (sym at) tt
   | inr at ↦ subst (IsChartFault held replay line) (sym at) tt
 ]

@@ -2,7 +2,6 @@
 use Rattle.std.proofs.Common.{◌≡◌, ◌⊎◌, ℕ, Bool, Err, IfErr, IsErrAnd, List, [], Ok, OnOk, Option, Result, ap, inl, inr, refl, subst, sym}
 use Rattle.std.specs.Io.KnownBytes.{Appends, Keeps}
 use Rattle.coherent_machine.specs.Machine.{Refuses}
-use Rattle.coherent_machine.specs.declared.errors.NewError.TheVariants as making
 use Rattle.elf_loader.specs.Image.{Initial}
 use Rattle.event_stream.specs.Reports.{StreamEnding, ending}
 use Rattle.event_stream.specs.Streams.{stream_up_to}
@@ -45,7 +44,7 @@ module _ (names : List Named) (strictness : Strictness) (with_state : Bool) (ima
 
   -- a beginning of the stream is one of all
   pub part_of_stream : (old new : Option (List ℕ)) (error : StreamError) → IsStreamUnfinished names strictness image config events old new error → IsPartOfStream names strictness with_state image config events old new error
-  part_of_stream old new (stream.New error) so = subst (λ (o : Option (List ℕ)). Appends old o []) (sym so) (appends_none old)
+  part_of_stream old new stream.NoMemory so = subst (λ (o : Option (List ℕ)). Appends old o []) (sym so) (appends_none old)
   part_of_stream old new (stream.Refused index error) so = so
   part_of_stream old new (stream.Idle index outcome) so = so
   part_of_stream old new (stream.Writing error) so = begins_first old new _ _ so
@@ -80,7 +79,7 @@ module _ (names : List Named) (strictness : Strictness) (with_state : Bool) (ima
   }
 
   pub part_on : (old mid new : Option (List ℕ)) (error : StreamError) → Keeps mid new → IsPartOfStream names strictness with_state image config events old mid error → IsPartOfStream names strictness with_state image config events old new error
-  part_on old mid new (stream.New error) kept so = kept_on old mid new [] so kept
+  part_on old mid new stream.NoMemory kept so = kept_on old mid new [] so kept
   part_on old mid new (stream.Refused index error) kept so = cut_on old mid new index (Refuses error) kept so
   part_on old mid new (stream.Idle index outcome) kept so = (so.0, cut_on old mid new index (λ v. v ≡ Stays outcome) kept so.1)
   part_on old mid new (stream.Writing error) kept so = begun_on old mid new _ so kept
@@ -113,21 +112,20 @@ whole_at names strictness with_state image config wanted events given old mid ne
 -- what a stream's end is told as
 pub told_as : (names : List Named) (held : Contents) (replay : Replay) (strictness : Strictness) (with_state : Bool) (script : Script) (image : Initial) (old new : Option (List ℕ)) (error : StreamError) (fault : Fault)
     → HoldsScript held replay.script.now script → HoldsNamedImage held replay.raw replay.image.now script.kib image names
-    → (error ≡ stream.New making.Config → ⊥) → IsPartOfStream names strictness with_state image (config_of script replay.model) script.events old new error
+    → IsPartOfStream names strictness with_state image (config_of script replay.model) script.events old new error
     → IsStreamFault replay.script error fault → IsExplainFault held replay strictness old new fault
-told_as names held replay strictness with_state script image old new (stream.New making.Config) fault script_file image_file within part told = absurd (within refl)
-told_as names held replay strictness with_state script image old new (stream.New making.NoMemory) fault script_file image_file within part told = subst (IsExplainFault held replay strictness old new) (sym told) tt
-told_as names held replay strictness with_state script image old new (stream.Refused index applying.NoMemory) fault script_file image_file within part told = subst (IsExplainFault held replay strictness old new) (sym told) tt
-told_as names held replay strictness with_state script image old new (stream.Refused index applying.BadEvent) fault script_file image_file within part told =
+told_as names held replay strictness with_state script image old new stream.NoMemory fault script_file image_file part told = subst (IsExplainFault held replay strictness old new) (sym told) tt
+told_as names held replay strictness with_state script image old new (stream.Refused index applying.NoMemory) fault script_file image_file part told = subst (IsExplainFault held replay strictness old new) (sym told) tt
+told_as names held replay strictness with_state script image old new (stream.Refused index applying.BadEvent) fault script_file image_file part told =
     subst (IsExplainFault held replay strictness old new) (sym told)
     (refl, record { script = script; image = image; names = names; script_file = script_file; image_file = image_file; index = index; place = refl; cut = part })
-told_as names held replay strictness with_state script image old new (stream.Refused index applying.Limit) fault script_file image_file within part told =
+told_as names held replay strictness with_state script image old new (stream.Refused index applying.Limit) fault script_file image_file part told =
     subst (IsExplainFault held replay strictness old new) (sym told)
     (refl, record { script = script; image = image; names = names; script_file = script_file; image_file = image_file; index = index; place = refl; cut = part })
-told_as names held replay strictness with_state script image old new (stream.Idle index outcome) fault script_file image_file within part told =
+told_as names held replay strictness with_state script image old new (stream.Idle index outcome) fault script_file image_file part told =
     subst (IsExplainFault held replay strictness old new) (sym told)
     (refl, (part.0, record { script = script; image = image; names = names; script_file = script_file; image_file = image_file; index = index; place = refl; cut = part.1 }))
-told_as names held replay strictness with_state script image old new (stream.Writing error) fault script_file image_file within part told = elim told.0 [
+told_as names held replay strictness with_state script image old new (stream.Writing error) fault script_file image_file part told = elim told.0 [
   | inl at ↦ subst (IsExplainFault held replay strictness old new) (sym at) tt
   | inr at ↦ subst (IsExplainFault held replay strictness old new) (sym at) tt
 ]
@@ -148,11 +146,10 @@ lost_left old new cut fault is so = elim is [
 ]
 
 -- and so does what a stream's end is told as
-pub cut_left : (script : Name) (old new : Option (List ℕ)) (cut : Type 0) (error : StreamError) (fault : Fault) → (error ≡ stream.New making.Config → ⊥) → IsStreamFault script error fault → cut → LeavesOfStream fault old new cut
-cut_left script old new cut (stream.New making.Config) fault within told so = absurd (within refl)
-cut_left script old new cut (stream.New making.NoMemory) fault within told so = subst (λ f. LeavesOfStream f old new cut) (sym told) (inr so)
-cut_left script old new cut (stream.Refused index applying.NoMemory) fault within told so = subst (λ f. LeavesOfStream f old new cut) (sym told) (inr so)
-cut_left script old new cut (stream.Refused index applying.BadEvent) fault within told so = subst (λ f. LeavesOfStream f old new cut) (sym told) so
-cut_left script old new cut (stream.Refused index applying.Limit) fault within told so = subst (λ f. LeavesOfStream f old new cut) (sym told) so
-cut_left script old new cut (stream.Idle index outcome) fault within told so = subst (λ f. LeavesOfStream f old new cut) (sym told) so
-cut_left script old new cut (stream.Writing error) fault within told so = lost_left old new cut fault told.0 so
+pub cut_left : (script : Name) (old new : Option (List ℕ)) (cut : Type 0) (error : StreamError) (fault : Fault) → IsStreamFault script error fault → cut → LeavesOfStream fault old new cut
+cut_left script old new cut stream.NoMemory fault told so = subst (λ f. LeavesOfStream f old new cut) (sym told) (inr so)
+cut_left script old new cut (stream.Refused index applying.NoMemory) fault told so = subst (λ f. LeavesOfStream f old new cut) (sym told) (inr so)
+cut_left script old new cut (stream.Refused index applying.BadEvent) fault told so = subst (λ f. LeavesOfStream f old new cut) (sym told) so
+cut_left script old new cut (stream.Refused index applying.Limit) fault told so = subst (λ f. LeavesOfStream f old new cut) (sym told) so
+cut_left script old new cut (stream.Idle index outcome) fault told so = subst (λ f. LeavesOfStream f old new cut) (sym told) so
+cut_left script old new cut (stream.Writing error) fault told so = lost_left old new cut fault told.0 so

@@ -1,8 +1,6 @@
 -- What drawing a script has done, and which faults it tells.
 use Rattle.script_commands.specs.Addresses.{address}
 use Rattle.chart_drawing.specs.declared.sheet.TheConstants.{STYLE}
-use Rattle.coherent_machine.specs.declared.errors.NewError.TheVariants as making
-use Rattle.coherent_machine.specs.declared.errors.ReplayError.{ReplayError}
 use Rattle.coherent_machine.specs.declared.errors.ReplayError.TheVariants as refusals
 use Rattle.command_files.specs.Faults.{IsReplayFault, Name}
 use Rattle.command_files.specs.Files.{HoldsImage, HoldsScript, IsTheScriptIn}
@@ -11,20 +9,17 @@ use Rattle.command_files.specs.Sizes.{config_of}
 use Rattle.command_files.specs.Status.{IsOutOfMemory}
 use Rattle.event_stream.specs.Lines.{script_line_of}
 use Rattle.command_files.specs.declared.fault.Fault.{Fault}
-use Rattle.command_files.specs.declared.fault.Fault.TheVariants.{BadAddress, CannotWrite, Configuration, Event, OutOfMemory, TooManyRows}
+use Rattle.command_files.specs.declared.fault.Fault.TheVariants.{BadAddress, CannotWrite, Event, OutOfMemory, TooManyRows}
 use Rattle.command_settings.specs.declared.wanted.Replay.{Replay}
 use Rattle.elf_loader.specs.Image.{Initial}
-use Rattle.machine_types.specs.declared.config.Config.{Config}
-use Rattle.machine_types.specs.declared.event.Event.{Event as AnEvent}
 use Rattle.machine_parts.specs.declared.errors.ApplyError.{ApplyError}
 use Rattle.run_chart.specs.Charts.{IsBegun, IsDrawn}
 use Rattle.run_chart.specs.Stories.{IsOverfull}
 use Rattle.run_chart.specs.declared.errors.ChartError.{ChartError}
 use Rattle.run_chart.specs.declared.errors.ChartError.TheVariants as chart
-use Rattle.std.specs.Io.KnownBytes.{Appends}
 use Rattle.std.specs.IoError.{error_kind}
 use Rattle.std.specs.declared.io.ErrorKind.TheVariants as io
-use Rattle.std.specs.Prelude.{◌≡◌, ◌⊎◌, ◌↔◌, ℕ, List, [], Option, Some, None}
+use Rattle.std.specs.Prelude.{◌≡◌, ◌⊎◌, ◌↔◌, ℕ, List, Option, Some, None}
 use Rattle.trace_text.specs.declared.script.Script.{Script}
 
 -- the address that the word names, where there is a word
@@ -71,8 +66,7 @@ pub record IsNotDrawable (held : Contents) (replay : Replay) (line : Option Name
 -- which fault tells why a script's run is not drawn
 abbrev pub IsDrawingFault : Name → ChartError → Fault → Type 0
 IsDrawingFault script (chart.Replay refusal) told =
-    ((told ≡ Configuration) ⊎ ((told ≡ OutOfMemory) ⊎ ((index : ℕ) × (error : ApplyError) × (refusal ≡ refusals.Event index error) × (told ≡ Event script (script_line_of index) error))))
-    × ((told ≡ Configuration) ↔ (refusal ≡ refusals.New making.Config))
+    ((told ≡ OutOfMemory) ⊎ ((index : ℕ) × (error : ApplyError) × (refusal ≡ refusals.Event index error) × (told ≡ Event script (script_line_of index) error)))
     × ((told ≡ OutOfMemory) ↔ IsOutOfMemory refusal)
 IsDrawingFault script chart.TooManyRows told = told ≡ TooManyRows script
 IsDrawingFault script chart.NoMemory told = told ≡ OutOfMemory

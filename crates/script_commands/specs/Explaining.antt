@@ -63,7 +63,7 @@ pub record IsExplained (held : Contents) (replay : Replay) (strictness : Strictn
 
 -- what of it went out where it is not whole: nothing, where no machine was made; all before the event that is refused, or that changes nothing and so ends a strict stream; or a beginning, where the output took no more
 abbrev pub IsPartOfStream : List Named → Strictness → Bool → Initial → Config → List Event → Option (List ℕ) → Option (List ℕ) → StreamError → Type 0
-IsPartOfStream names strictness with_state image config events old new (stream.New error) = Appends old new []
+IsPartOfStream names strictness with_state image config events old new stream.NoMemory = Appends old new []
 IsPartOfStream names strictness with_state image config events old new (stream.Refused index error) =
     IsCut strictness (opening image config) events index (Refuses error) (stream_up_to names strictness image config) old new
 IsPartOfStream names strictness with_state image config events old new (stream.Idle index outcome) =

@@ -20,7 +20,7 @@ use Rattle.trace_text.specs.Refusals.{line_feeds, has_line_feed, is_blank, first
 use Rattle.trace_text.specs.ScriptReading.{event_at, head_at}
 use Rattle.trace_text.specs.Scripts.{event, head, text, IsEvent}
 use Rattle.trace_text.specs.Stops.{is_parted, AreEventsBefore, StopsScript, IsEventStop, IsScriptStop, left_of, line_number}
-use Rattle.trace_text.proofs.Scripts.{event_reads, head_takes, head_again, made_of}
+use Rattle.trace_text.proofs.Scripts.{event_reads, head_fits, head_takes, head_again, made_of}
 
 -- ---- where it stops
 
@@ -59,7 +59,7 @@ stops_first bytes none = record { before = []; rest = bytes; parts = refl; ends 
 pub stops_later : (bytes : List ℕ) (h : Head) (behind : List ℕ) (left : ℕ) → head_at bytes ≡ Some (h, behind) → AreEventsBefore behind left → StopsScript bytes left
 stops_later bytes h behind left read w =
     let t = head_takes bytes h behind read in
-    let s : Script = made_of h w.events in
+    let s : Script = made_of h w.events (head_fits h t.1) in
     record {
       before = text s;
       rest = w.rest;

@@ -1,7 +1,8 @@
 -- What is read as a script is spelled so, and what is spelled so is read.
 use Rattle.std.proofs.Common.{◌≡◌, ℕ, ◌^◌, ◌<◌, ◌≤◌, Bool, ◌&&◌, true, false, eqb, List, [], ◌∷◌, ◌++◌, length, Option, Some, None, Result, Ok, Err, refl, sym, ap, subst, ◌∙◌, arith, inl, inr}
 use Rattle.std.specs.Prelude.{codes, not}
-use Rattle.std.specs.List.{flat_map}
+use Rattle.std.proofs.Math.Bool.{Bool-set}
+use Rattle.std.specs.List.{flat_map, AllByRecursion}
 use Rattle.std.proofs.lemmas.List.{length-append}
 use Rattle.std.specs.Option.{option_or}
 use Rattle.text_fields.specs.Fields.{number, word}
@@ -21,12 +22,12 @@ use Rattle.tl_types.specs.declared.line.LineSize.TheVariants.{Bytes16}
 use Rattle.trace_text.proofs.LineSizes.{number_law, size_16, size_reads}
 use Rattle.trace_text.specs.declared.script.Head.{Head}
 use Rattle.trace_text.specs.Words.{channel}
-use Rattle.trace_text.specs.Scripts.{event, IsEvent, is_first_version, head, config_in, is_head, head_of, text, IsScript}
+use Rattle.trace_text.specs.Scripts.{event, IsEvent, is_first_version, head, is_head, head_of, text, IsScript}
 use Rattle.trace_text.specs.declared.script.Script.{Script}
 use Rattle.trace_text.specs.declared.fault.TextError.{TextError}
 use Rattle.std.specs.Prelude.{IfOk}
 use Rattle.trace_text.specs.Reading.{IsReadOrRefused, IsNoMemory}
-use Rattle.trace_text.specs.ScriptReading.{channels, word_line_at, channel_at, step_at, drain_at, evict_at, deliver_at, local_at, event_at, most, last_two_at, size_at, ways_and_size_at, first_fields_at, first_head_at, second_fields_at, second_head_at, head_at, script_at}
+use Rattle.trace_text.specs.ScriptReading.{channels, word_line_at, channel_at, step_at, drain_at, evict_at, deliver_at, local_at, event_at, most, last_two_at, size_at, ways_and_size_at, first_fields_at, first_head_at, second_fields_at, second_head_at, head_at, script_at, content_of}
 
 word_line_reads : Reads (λ w. word w ++ 10 ∷ []) (λ w. w < 2 ^ 32) word_line_at
 unfolding word_line_at
@@ -206,8 +207,8 @@ record Bounds (h : Head) : Type 0 where
 
 bounds : (h : Head) → is_head h ≡ true → Bounds h
 bounds h e =
-    let both = both_true (is_within_limits (config_in h)) (is_memory_kib h.kib) e in
-    let limits = limits_of (config_in h) both.0 in
+    let both = both_true (is_within_limits h.harts h.sets h.ways) (is_memory_kib h.kib) e in
+    let limits = limits_of h.harts h.sets h.ways both.0 in
     record {
       harts = omega (arith, limits.few_harts);
       kib = (memory_kib h.kib both.1).at_most;
@@ -256,34 +257,50 @@ head_again h rest e = go (is_first_version h.harts h.line) refl
 
 -- ---- a script
 
-abbrev pub made_of : Head → List Event → Script
-made_of h es = record { harts = h.harts; kib = h.kib; sets = h.sets; ways = h.ways; line = h.line; events = es }
+abbrev Fits : Head → Type 0
+Fits h = is_within_limits h.harts h.sets h.ways ≡ true
 
-script_takes : (bytes : List ℕ) (s : Script) → script_at bytes ≡ Some s → IsScript s × (bytes ≡ text s)
+abbrev pub made_of : (h : Head) → List Event → Fits h → Script
+made_of h es fits = record { harts = h.harts; kib = h.kib; sets = h.sets; ways = h.ways; line = h.line; events = es; within = fits }
+
+pub head_fits : (h : Head) → is_head h ≡ true → Fits h
+head_fits h e = (both_true (is_within_limits h.harts h.sets h.ways) (is_memory_kib h.kib) e).0
+
+-- a script is its first line and its events
+same_made : (h k : Head) (es fs : List Event) (v : Fits h) (w : Fits k) → h ≡ k → es ≡ fs → made_of h es v ≡ made_of k fs w
+same_made h k es fs v w same events =
+    subst (λ (j : Head). (u : Fits j) → made_of h es v ≡ made_of j fs u) same
+    (λ u. ap (λ l. made_of h l v) events ∙ ap (made_of h fs) (Bool-set (is_within_limits h.harts h.sets h.ways) true v u)) w
+
+pub same_script : (s t : Script) → content_of s ≡ content_of t → s ≡ t
+same_script s t e = same_made (head_of s) (head_of t) s.events t.events s.within t.within (ap (λ (c : Head × List Event). c.0) e) (ap (λ (c : Head × List Event). c.1) e)
+
+script_takes : (bytes : List ℕ) (s : Script) → script_at bytes ≡ Some (content_of s) → IsScript s × (bytes ≡ text s)
 unfolding script_at
 script_takes bytes s e =
-    let p = bind_some (head_at bytes) (λ h. all_at event_at (length h.1) h.1 >>= λ es. Some (made_of h.0 es)) s e in
-    let q = bind_some (all_at event_at (length p.0.1) p.0.1) (λ es. Some (made_of p.0.0 es)) s p.2 in
+    let p = bind_some (head_at bytes) (λ h. all_at event_at (length h.1) h.1 >>= λ es. Some (h.0, es)) (content_of s) e in
+    let q = bind_some (all_at event_at (length p.0.1) p.0.1) (λ es. Some (p.0.0, es)) (content_of s) p.2 in
     let first = head_takes bytes p.0.0 p.0.1 p.1 in
     let others = all_takes event_reads (length p.0.1) p.0.1 q.0 q.1 in
-    subst (λ (y : Script). IsScript y × (bytes ≡ text y)) (some_is (made_of p.0.0 q.0) s q.2)
-    (record { head = first.1; events = others.1 }, first.0 ∙ ap (λ t. head p.0.0 ++ t) others.0)
+    let x = subst (λ (c : Head × List Event). ((is_head c.0 ≡ true) × AllByRecursion IsEvent c.1) × (bytes ≡ head c.0 ++ flat_map event c.1)) (some_is (p.0.0, q.0) (content_of s) q.2)
+    ((first.1, others.1), first.0 ∙ ap (λ t. head p.0.0 ++ t) others.0) in
+    (record { head = x.0.0; events = x.0.1 }, x.1)
 
-script_again : (s : Script) → IsScript s → script_at (text s) ≡ Some s
+script_again : (s : Script) → IsScript s → script_at (text s) ≡ Some (content_of s)
 unfolding script_at
 script_again s fits =
     rw (head_again (head_of s) (flat_map event s.events) fits.head, all_again event_reads event_long (length (flat_map event s.events)) s.events fits.events (omega arith)) refl
 
 -- ---- the clauses of read_script
 
-pub is_found : (bytes : List ℕ) (r : Result Script TextError) → IsReadOrRefused (λ s. s) r (script_at bytes) → IfOk r (λ s. IsScript s × (bytes ≡ text s))
+pub is_found : (bytes : List ℕ) (r : Result Script TextError) → IsReadOrRefused content_of r (script_at bytes) → IfOk r (λ s. IsScript s × (bytes ≡ text s))
 is_found bytes (Ok s) e = script_takes bytes s e
 is_found bytes (Err e) h = tt
 
-pub is_only : (bytes : List ℕ) (r : Result Script TextError) → IsReadOrRefused (λ s. s) r (script_at bytes) → (s : Script) → IsScript s → bytes ≡ text s → ¬ IsNoMemory r → r ≡ Ok s
-is_only bytes (Ok x) h s fits e some = ap (λ (y : Script). Ok y) (some_is x s (sym h ∙ ap script_at e ∙ script_again s fits))
+pub is_only : (bytes : List ℕ) (r : Result Script TextError) → IsReadOrRefused content_of r (script_at bytes) → (s : Script) → IsScript s → bytes ≡ text s → ¬ IsNoMemory r → r ≡ Ok s
+is_only bytes (Ok x) h s fits e some = ap (λ (y : Script). Ok y) (same_script x s (some_is (content_of x) (content_of s) (sym h ∙ ap script_at e ∙ script_again s fits)))
 is_only bytes (Err f) (inl gone) s fits e some = absurd (some gone)
 is_only bytes (Err f) (inr none) s fits e some = absurd (clash (sym none ∙ ap script_at e ∙ script_again s fits))
   where
-    clash : ◌≡◌ {A = Option Script} None (Some s) → ⊥
+    clash : ◌≡◌ {A = Option (Head × List Event)} None (Some (content_of s)) → ⊥
     clash e = cc

@@ -12,7 +12,7 @@ use Rattle.tl_types.specs.declared.message.Channel.{Channel}
 use Rattle.tl_types.specs.declared.message.Channel.TheVariants.{A, B, C, D, E}
 use Rattle.trace_text.specs.declared.script.Head.{Head}
 use Rattle.trace_text.specs.declared.script.Script.{Script}
-use Rattle.trace_text.specs.Scripts.{is_head, is_first_version}
+use Rattle.trace_text.specs.Scripts.{head_of, is_head, is_first_version}
 
 abbrev pub channels : List (List ℕ × Channel)
 channels = (codes "A ", A) ∷ (codes "B ", B) ∷ (codes "C ", C) ∷ (codes "D ", D) ∷ (codes "E ", E) ∷ []
@@ -77,5 +77,9 @@ second_head_at bytes = second_fields_at bytes >>= λ x. guarded (is_head x.0 && 
 unfoldable pub head_at : List ℕ → Option (Head × List ℕ)
 head_at bytes = option_or (first_head_at bytes) (second_head_at bytes)
 
-unfoldable pub script_at : List ℕ → Option Script
-script_at bytes = head_at bytes >>= λ h. all_at event_at (length h.1) h.1 >>= λ es. Some (record { harts = h.0.harts; kib = h.0.kib; sets = h.0.sets; ways = h.0.ways; line = h.0.line; events = es })
+-- the first line and the events
+unfoldable pub script_at : List ℕ → Option (Head × List Event)
+script_at bytes = head_at bytes >>= λ h. all_at event_at (length h.1) h.1 >>= λ es. Some (h.0, es)
+
+abbrev pub content_of : Script → Head × List Event
+content_of s = (head_of s, s.events)

@@ -4,10 +4,8 @@ use Rattle.std.specs.List.{flat_map, AllByRecursion}
 use Rattle.text_fields.specs.Fields.{number, word}
 use Rattle.elf_loader.specs.Size.{is_memory_kib}
 use Rattle.machine_types.specs.Config.{is_within_limits}
-use Rattle.machine_types.specs.declared.config.Config.{Config}
 use Rattle.machine_types.specs.declared.event.Event.{Event}
 use Rattle.machine_types.specs.declared.event.Event.TheVariants.{Step, Drain, Evict, Deliver, Local}
-use Rattle.machine_types.specs.declared.model.MemoryModel.TheVariants.{Rvwmo}
 use Rattle.tl_types.specs.Line.{length_of}
 use Rattle.tl_types.specs.declared.line.LineSize.{LineSize}
 use Rattle.tl_types.specs.declared.line.LineSize.TheVariants.{Bytes16, Bytes64}
@@ -46,13 +44,9 @@ head h =
     if is_first_version h.harts h.line then codes "rvtl-script 1 " ++ (number 32 h.harts ++ (number 32 h.kib ++ (number 32 h.sets ++ number 10 h.ways)))
     else codes "rvtl-script 2 " ++ (number 32 h.harts ++ (number 32 h.kib ++ (number 32 h.sets ++ (number 32 h.ways ++ number 10 (length_of h.line)))))
 
--- a machine of these numbers; the limits are the same under each memory model
-abbrev pub config_in : Head → Config
-config_in h = record { harts = h.harts; sets = h.sets; ways = h.ways; line = h.line; model = Rvwmo }
-
 -- the limits of a machine and of its memory
 abbrev pub is_head : Head → Bool
-is_head h = is_within_limits (config_in h) && is_memory_kib h.kib
+is_head h = is_within_limits h.harts h.sets h.ways && is_memory_kib h.kib
 
 abbrev pub head_of : Script → Head
 head_of s = record { harts = s.harts; kib = s.kib; sets = s.sets; ways = s.ways; line = s.line }

@@ -14,9 +14,10 @@ mod trace_faults;
 mod trace_lines;
 mod trace_reading;
 mod trace_writing;
+mod version;
 
 pub use fault::{TextCode, TextError};
-pub use script::{Events, Script, is_first_version};
+pub use script::{Events, Script};
 pub use script_reading::read_script;
 pub use script_writing::{spell_event, write_script};
 pub use spellings::spell_message;
@@ -24,3 +25,4 @@ pub use trace_reading::{no_text_begins_another, read_trace};
 pub use trace_writing::{
     put_image, put_log, put_performed, put_statuses, spell_retired, spell_status, write_trace,
 };
+pub use version::is_first_version;

@@ -1,6 +1,6 @@
 //! Scripts.
-ghost use Rattle.std.specs.Prelude.{◌≡◌};
-ghost use Rattle.trace_text.specs.Scripts.{is_first_version};
+ghost use Rattle.std.specs.Prelude.{◌≡◌, IsTrue};
+ghost use Rattle.machine_types.specs.Config.{is_within_limits};
 
 use machine_types::Event;
 use std::marker::Model;
@@ -54,6 +54,7 @@ pub struct Script {
     pub ways: u32,
     pub line: LineSize,
     pub events: Events,
+    pub ghost within: { IsTrue (is_within_limits harts sets ways) },
 }
 
 /// The numbers of a script's first line.
@@ -64,12 +65,4 @@ pub(crate) struct Head {
     pub sets: u32,
     pub ways: u32,
     pub line: LineSize,
-}
-
-/// Whether a text of so many harts and such lines is of version 1, which has lines of 16 bytes and at most
-/// 4 harts. Whatever is spelt there isn't in version 2.
-pub fn is_first_version(harts: u64, line: LineSize) -> bool
-    ensures { result ≡ is_first_version harts line }
-{
-    matches!(line, LineSize::Bytes16) && harts <= 4
 }

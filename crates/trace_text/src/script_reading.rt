@@ -4,15 +4,17 @@ ghost use Rattle.std.specs.Option.{option_map};
 ghost use Rattle.text_fields.specs.Reading.{all_at};
 ghost use Rattle.trace_text.specs.Scripts.{is_head, text, IsScript};
 ghost use Rattle.trace_text.specs.ScriptReading as reads;
+ghost use Rattle.trace_text.specs.ScriptReading.{content_of};
 ghost use Rattle.trace_text.specs.Reading.{Gives, IsReadOrRefused, IsNoMemory};
 ghost use Rattle.trace_text.specs.Refusals.{IsScriptRefusal};
 ghost use Rattle.trace_text.specs.Stops.{IsEventStop, IsScriptStop};
 
 use crate::fault::{Stop, TextError};
-use crate::script::{Events, Head, Script, is_first_version};
+use crate::script::{Events, Head, Script};
 use crate::script_faults::script_fault;
+use crate::version::is_first_version;
 use elf_loader::is_memory_kib;
-use machine_types::{Config, Event, MAX_KIB, MemoryModel};
+use machine_types::{Event, MAX_KIB, is_within_limits};
 use std::alloc::Global;
 use text_fields::{after, number_at, word_at};
 use tl_types::{Channel, LineSize};
@@ -124,15 +126,7 @@ fn event_at(bytes: &[u8]) -> Option<(Event, &[u8])>
 fn is_head(head: &Head) -> bool
     ensures { result ≡ is_head head.now }
 {
-    let config = Config {
-        harts: head.harts,
-        sets: head.sets,
-        ways: head.ways,
-        line: head.line,
-        // The limits are the same under each model.
-        model: MemoryModel::Rvwmo,
-    };
-    config.is_within_limits() && is_memory_kib(head.kib)
+    is_within_limits(head.harts, head.sets, head.ways) && is_memory_kib(head.kib)
 }
 
 #[tactic(auto, unfolding(crate::specs::ScriptReading::last_two_at))]
@@ -257,7 +251,7 @@ fn events_of(alloc: Global, bytes: &[u8]) -> Result<Vec<Event>, Stop>
 
 #[tactic(auto, unfolding(crate::specs::ScriptReading::script_at))]
 fn script_of(alloc: Global, bytes: &[u8]) -> Result<Script, Stop>
-    ensures value { Gives (λ s. s) result (reads.script_at bytes.now) }
+    ensures value { Gives content_of result (reads.script_at bytes.now) }
     ensures stop { IfErr result (IsScriptStop bytes.now) }
 {
     match head_at(bytes) {
@@ -277,7 +271,7 @@ fn script_of(alloc: Global, bytes: &[u8]) -> Result<Script, Stop>
 }
 
 fn all(alloc: Global, bytes: &[u8]) -> Result<Script, TextError>
-    ensures value { IsReadOrRefused (λ s. s) result (reads.script_at bytes.now) }
+    ensures value { IsReadOrRefused content_of result (reads.script_at bytes.now) }
     ensures refused { ¬ IsNoMemory result → IfErr result (IsScriptRefusal bytes.now) }
 {
     match script_of(alloc, bytes) {

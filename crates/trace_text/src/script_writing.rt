@@ -6,8 +6,9 @@ ghost use Rattle.text_fields.specs.Pages.{size, HasLineRoom, Spells};
 ghost use Rattle.text_fields.specs.Writing.{Writes};
 ghost use Rattle.trace_text.specs.Scripts.{event as event_text, event_ended, head as head_text, head_of, text};
 
-use crate::script::{Script, is_first_version};
+use crate::script::Script;
 use crate::spellings::spell_channel;
+use crate::version::is_first_version;
 use machine_types::Event;
 use std::io::{Result, Write};
 use text_fields::Page;

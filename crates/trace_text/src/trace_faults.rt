@@ -13,12 +13,12 @@ ghost use Rattle.trace_text.specs.TraceStops.{IsTraceLeft, IsTraceStop, IsHeader
 use crate::fault::{Stop, TextCode, TextError, is_word, line_at};
 use crate::head::TraceHead;
 use crate::message_reading::data_at;
-use crate::script::is_first_version;
 use crate::trace_lines::{
     first_numbers_at, head_at, is_line, logged_at, operation_at, retired_at, second_numbers_at,
     status_at,
 };
 use crate::trace_writing::any_set;
+use crate::version::is_first_version;
 use text_fields::{after, number_at, word_at};
 
 /// The fault of a trace whose reader stopped there.

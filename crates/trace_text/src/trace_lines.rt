@@ -8,9 +8,9 @@ ghost use Rattle.trace_text.specs.TraceReading as words_at;
 
 use crate::head::TraceHead;
 use crate::message_reading::{direction_at, message_at};
-use crate::script::is_first_version;
 use crate::script_reading::{MOST, size_at, word_line_at};
 use crate::trace_writing::any_set;
+use crate::version::is_first_version;
 use elf_loader::{BASE, is_memory_kib};
 use hart::{Retired, Status};
 use machine_types::{MAX_ENTRIES, MAX_HARTS};

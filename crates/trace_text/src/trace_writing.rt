@@ -10,8 +10,8 @@ ghost use Rattle.trace_text.specs.Traces as spelled;
 ghost use Rattle.trace_text.specs.Words as words;
 
 use crate::head::TraceHead;
-use crate::script::is_first_version;
 use crate::spellings::{spell_channel, spell_data, spell_direction, spell_name, spell_permissions};
+use crate::version::is_first_version;
 use elf_loader::BASE;
 use hart::{Retired, Status};
 use std::io::{Result, Write};

@@ -57,7 +57,7 @@ impl Findings for Searched<'_> {
 impl Keepable for Searched<'_> {
     ghost HasTexts = { λ s. All (λ o. HasText o.way) s.architecture.outcomes.items };
 
-    ghost AreKept = { λ s left machine folder. AreWaysKept left machine folder 1 s.architecture.outcomes.items };
+    ghost AreKept = { λ s left config kib folder. AreWaysKept left config kib folder 1 s.architecture.outcomes.items };
 
     ghost IsFileOf = { λ s. IsWayFile 1 s.architecture.outcomes.items };
 

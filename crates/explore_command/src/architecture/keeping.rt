@@ -1,14 +1,12 @@
 //! What shows the outcomes, as files of a folder: the machine's scripts, and traces of what only the memory model allows.
 
-ghost use Rattle.std.specs.Prelude.{◌≡◌, ◌≢◌, All, IfErr, IfOk, List, OnOk, true, ℕ};
+ghost use Rattle.std.specs.Prelude.{◌≡◌, ◌≢◌, All, IfErr, IfOk, List, OnOk, ℕ};
 ghost use Rattle.std.specs.String.{string_bytes};
 ghost use Rattle.explore_command.specs.ModelKeeping.{AreWaysKept, HasText, IsWayFile, IsWayKeptAt, file_path};
 ghost use Rattle.command_files.specs.Files.{HoldsTrace};
-ghost use Rattle.command_files.specs.Sizes.{config_named};
 ghost use Rattle.elf_loader.specs.Size.{IsMemoryKib};
 ghost use Rattle.explore_command.specs.Exploring.{IsFolderFault};
 ghost use Rattle.explore_command.specs.Keeping.{SparesOthers};
-ghost use Rattle.machine_types.specs.Config.{is_within_limits};
 ghost use Rattle.trace_text.specs.TraceLimits.{IsTrace};
 
 use crate::keeping::Folder;
@@ -25,10 +23,9 @@ pub(crate) fn keep_outcomes<'a, F: Files>(
     files: &mut F,
     outcomes: &[Outcome],
 ) -> Result<(), Fault<'a>>
-    requires within { is_within_limits (config_named folder.machine) ≡ true }
-    requires memory { IsMemoryKib folder.machine.memory }
+    requires memory { IsMemoryKib folder.kib }
     requires readable { All (λ o. HasText o.way) outcomes.now }
-    ensures kept { OnOk result (AreWaysKept (F.held files.new) folder.entry.machine folder.entry.name.now 1 outcomes.now) }
+    ensures kept { OnOk result (AreWaysKept (F.held files.new) folder.entry.config folder.entry.kib folder.entry.name.now 1 outcomes.now) }
     ensures told { IfErr result (IsFolderFault folder.entry.name) }
     ensures spared { SparesOthers (IsWayFile 1 outcomes.now folder.entry.name.now) (F.held files.old) (F.held files.new) }
 {
@@ -63,10 +60,9 @@ fn keep_at<'a, F: Files>(
     path: &str,
     way: &Way,
 ) -> Result<(), Fault<'a>>
-    requires within { is_within_limits (config_named folder.machine) ≡ true }
-    requires memory { IsMemoryKib folder.machine.memory }
+    requires memory { IsMemoryKib folder.kib }
     requires readable { HasText way.now }
-    ensures kept { OnOk result (IsWayKeptAt (F.held files.new) folder.entry.machine path.now way.now) }
+    ensures kept { OnOk result (IsWayKeptAt (F.held files.new) folder.entry.config folder.entry.kib path.now way.now) }
     ensures told { IfErr result (IsFolderFault folder.entry.name) }
     ensures others { (other : List ℕ) → other ≢ path.now → F.held files.new other ≡ F.held files.old other }
 {

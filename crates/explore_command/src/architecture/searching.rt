@@ -1,6 +1,6 @@
 //! `rvtl explore --architecture`: what a memory model allows a program is sought, told, kept and judged.
 
-ghost use Rattle.std.specs.Prelude.{◌≡◌, ◌<◌, Err, IfErr, IfOk, OnErr, OnOk, true};
+ghost use Rattle.std.specs.Prelude.{◌≡◌, ◌<◌, Err, IfErr, IfOk, OnErr, OnOk};
 ghost use Rattle.explore_command.specs.ModelKeeping.{IsFileInNamed};
 ghost use Rattle.explore_command.specs.Searching.{IsFoundUnder, IsSearchFault, IsSearchNoted, IsSearched, SearchHas};
 ghost use Rattle.explore_command.specs.Telling.{AreRemarked};
@@ -8,7 +8,6 @@ ghost use Rattle.command_files.specs.Sizes.{IsOutside};
 ghost use Rattle.explore_command.specs.Exploring.{ComesBeforeJudging, ComesBeforeScripts, LeavesPart};
 ghost use Rattle.explore_command.specs.Keeping.{SparesOthers};
 ghost use Rattle.explorer.specs.Words.{CanShowEach};
-ghost use Rattle.machine_types.specs.Config.{is_within_limits};
 
 use crate::architecture::allowed::Searched;
 use crate::architecture::telling::remarks_on;
@@ -78,7 +77,7 @@ pub fn architecture_files<'a, F: Files, O: Write, E: Write, P: Progress>(
     // Called for its clause that the bytes are an image's.
     let _entry = image.entry();
     print(alloc, &found, out)?;
-    keep(alloc, files, wanted, &found)?;
+    keep(alloc, files, wanted, config, &found)?;
     tell(alloc, wanted, &found.architecture.outcomes, err)?;
     judge(alloc, &allowed, &found, err)
 }
@@ -94,7 +93,6 @@ fn found_under<P: Progress>(
     wanted: Explore<'_>,
     progress: &P,
 ) -> Result<Architecture, AllocError>
-    requires limits { is_within_limits config ≡ true }
     requires room { 0 < wanted.states }
     requires words { CanShowEach image.now addresses.now }
     ensures { IfOk result (IsFoundUnder image.now config addresses.now window wanted.entry.states) }

@@ -52,7 +52,7 @@ impl Findings for Runs {
 impl Keepable for Runs {
     ghost HasTexts = { λ r. Unit {0} };
 
-    ghost AreKept = { λ r left machine folder. AreKeptFrom left machine folder 1 r.sampled.ends.items };
+    ghost AreKept = { λ r left config kib folder. AreKeptFrom left config kib folder 1 r.sampled.ends.items };
 
     ghost IsFileOf = { λ r. IsOutcomeScript (length r.sampled.ends.items) };
 

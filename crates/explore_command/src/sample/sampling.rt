@@ -1,12 +1,11 @@
 //! `rvtl explore --sample`: random runs are made, and the ends they come to are told, kept and judged.
 
-ghost use Rattle.std.specs.Prelude.{◌≡◌, Err, IfErr, IfOk, OnErr, true};
+ghost use Rattle.std.specs.Prelude.{◌≡◌, Err, IfErr, IfOk, OnErr};
 ghost use Rattle.command_files.specs.Sizes.{IsOutside};
 ghost use Rattle.explore_command.specs.Exploring.{ComesBeforeScripts, IsExploreFault, LeavesPart};
 ghost use Rattle.explore_command.specs.Judging.{IsToldBy};
 ghost use Rattle.explore_command.specs.Keeping.{IsScriptFile, SparesOthers};
 ghost use Rattle.explore_command.specs.Sampling.{AreRuns, IsSampleTold, SampleHas, SampleRefusals};
-ghost use Rattle.machine_types.specs.Config.{is_within_limits};
 
 use crate::asked::Asked;
 use crate::exploring::Telling;
@@ -61,7 +60,7 @@ pub fn sample_files<'a, F: Files, O: Write, E: Write, P: Progress>(
         asked: runs,
     };
     print(alloc, &found, out)?;
-    keep(alloc, files, wanted, &found)?;
+    keep(alloc, files, wanted, asked.config, &found)?;
     judge(alloc, &asked.allowed, &found, err)
 }
 
@@ -74,7 +73,6 @@ fn runs_of<P: Progress>(
     seed: u32,
     progress: &P,
 ) -> Result<Sampled, AllocError>
-    requires limits { is_within_limits asked.now.config ≡ true }
     ensures { IfOk result (AreRuns asked.now.image asked.now.config runs) }
 {
     let watch = Telling { progress };

@@ -1,10 +1,9 @@
 //! What a search that shows words of memory is asked of.
 
-ghost use Rattle.std.specs.Prelude.{◌≡◌, Err, IfErr, IfOk, option_map, true};
+ghost use Rattle.std.specs.Prelude.{◌≡◌, Err, IfErr, IfOk, option_map};
 ghost use Rattle.command_files.specs.Sizes.{IsInside, IsOutside, config_named};
 ghost use Rattle.elf_loader.specs.Size.{IsMemoryKib};
 ghost use Rattle.explore_command.specs.Exploring.{IsAllowFile};
-ghost use Rattle.machine_types.specs.Config.{is_within_limits};
 ghost use Rattle.explore_command.specs.Asking.{HasProgram, IsAskingFault};
 ghost use Rattle.explore_command.specs.Targets.{names_of};
 ghost use Rattle.explorer.specs.Words.{CanShowEach};
@@ -37,9 +36,7 @@ impl<'a> AskedWords<'a> {
         wanted: Explore<'a>,
         words: &[&'a str],
     ) -> Result<AskedWords<'a>, Fault<'a>>
-        ensures config { IfOk result (λ asked. asked.config ≡ config_named wanted.entry.machine) }
-        ensures size { IfOk result (λ asked. IsInside wanted.entry.machine) }
-        ensures within { IfOk result (λ asked. is_within_limits asked.config ≡ true) }
+        ensures config { IfOk result (λ asked. (inside : IsInside wanted.entry.machine) × (asked.config ≡ config_named wanted.entry.machine inside)) }
         ensures memory { IfOk result (λ asked. IsMemoryKib wanted.entry.machine.memory) }
         ensures program { IfOk result (λ asked. HasProgram (F.held files.old) wanted.entry words.now asked.image asked.targets.addresses.items) }
         ensures inside { IfOk result (λ asked. CanShowEach asked.image asked.targets.addresses.items) }

@@ -1,17 +1,16 @@
 //! The scripts of what was found, without its words.
 
-ghost use Rattle.std.specs.Prelude.{◌≡◌, IfErr, IfOk, IfSome, OnOk, length, map, true};
-ghost use Rattle.command_files.specs.Sizes.{config_named};
+ghost use Rattle.std.specs.Prelude.{◌≡◌, IfErr, IfOk, IfSome, OnOk, length, map};
 ghost use Rattle.elf_loader.specs.Size.{IsMemoryKib};
 ghost use Rattle.explore_command.specs.Exploring.{IsFolderFault, IsNamedBy};
 ghost use Rattle.explore_command.specs.Keeping.{IsInNamed, IsScriptOf, SparesOthers};
-ghost use Rattle.machine_types.specs.Config.{is_within_limits};
 ghost use Rattle.explore_command.specs.WordKeeping.{AreWordsKept, bare_of};
 
 use crate::keeping::Folder;
 use command_files::{Fault, Files};
 use command_settings::Explore;
 use explorer::{Exploration, Found, WordExploration, WordFound};
+use machine_types::Config;
 use std::alloc::{AllocError, Global};
 
 fn bare(end: WordFound) -> Found
@@ -62,11 +61,11 @@ pub(crate) fn keep<'a, F: Files>(
     alloc: Global,
     files: &mut F,
     wanted: Explore<'a>,
+    config: Config,
     found: WordExploration,
 ) -> Result<(), Fault<'a>>
-    requires within { is_within_limits (config_named wanted.machine) ≡ true }
-    requires memory { IsMemoryKib wanted.machine.memory }
-    ensures kept { OnOk result (IfSome wanted.entry.scripts (λ folder. AreWordsKept (F.held files.new) wanted.entry.machine folder.now found)) }
+    requires { IsMemoryKib wanted.machine.memory }
+    ensures kept { OnOk result (IfSome wanted.entry.scripts (λ folder. AreWordsKept (F.held files.new) config wanted.entry.machine.memory folder.now found)) }
     ensures told { IfErr result (IsNamedBy wanted.entry.scripts IsFolderFault) }
     ensures spared { SparesOthers (IsInNamed wanted.entry.scripts (IsScriptOf (length found.outcomes.items) found.stuck)) (F.held files.old) (F.held files.new) }
 {
@@ -79,7 +78,8 @@ pub(crate) fn keep<'a, F: Files>(
     let folder = Folder {
         alloc,
         name,
-        machine: wanted.machine,
+        config,
+        kib: wanted.machine.memory,
     };
     folder.keep(files, &found)
 }

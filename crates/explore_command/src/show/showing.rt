@@ -1,7 +1,7 @@
 //! `rvtl explore --show`: every end that the machine can bring a program to is found with words of memory, told, kept
 //! and judged.
 
-ghost use Rattle.std.specs.Prelude.{◌≡◌, ◌⊎◌, ◌<◌, Err, IfErr, IfOk, IfSome, IsNone, OnErr, true};
+ghost use Rattle.std.specs.Prelude.{◌≡◌, ◌⊎◌, ◌<◌, Err, IfErr, IfOk, IfSome, IsNone, OnErr};
 ghost use Rattle.command_files.specs.Faults.{Name};
 ghost use Rattle.command_files.specs.Sizes.{IsOutside};
 ghost use Rattle.explore_command.specs.Exploring.{ComesBeforeScripts, LeavesPart};
@@ -9,7 +9,6 @@ ghost use Rattle.explore_command.specs.Judging.{IsToldBy};
 ghost use Rattle.explore_command.specs.Keeping.{IsScriptFile, SparesOthers};
 ghost use Rattle.explore_command.specs.Showing.{IsElsewhere, IsFirstOf, IsFoundIn, IsShowFault, AreWordsShown, WordRefusals, WordsHave};
 ghost use Rattle.explorer.specs.Words.{CanShowEach};
-ghost use Rattle.machine_types.specs.Config.{is_within_limits};
 ghost use Rattle.text_fields.specs.Writing.{Begins};
 
 use crate::exploring::Telling;
@@ -74,7 +73,7 @@ pub fn show_files<'a, F: Files, O: Write, E: Write, P: Progress>(
     };
     print(alloc, &found, out)?;
     let judgement = judge(alloc, &allowed, &found, err);
-    keep(alloc, files, explore, found.exploration)?;
+    keep(alloc, files, explore, config, found.exploration)?;
     judgement
 }
 
@@ -88,7 +87,6 @@ fn found_in<P: Progress>(
     wanted: Explore<'_>,
     progress: &P,
 ) -> Result<WordExploration, AllocError>
-    requires limits { is_within_limits config ≡ true }
     requires room { 0 < wanted.states }
     requires words { CanShowEach image.now addresses.now }
     ensures { IfOk result (IsFoundIn image.now config addresses.now wanted.entry.states) }

@@ -1,8 +1,7 @@
 //! Random runs.
 
-ghost use Rattle.std.specs.Prelude.{◌≡◌, ◌<◌, ◌≤◌, IfOk, IsTrue, OnErr, OnOk, false, length, true};
+ghost use Rattle.std.specs.Prelude.{◌≡◌, ◌<◌, ◌≤◌, IfOk, OnErr, OnOk, false, length, true};
 ghost use Rattle.flat_model.specs.Shown.{results, told};
-ghost use Rattle.machine_types.specs.Config.{is_within_limits};
 ghost use Rattle.explorer.specs.Sampled.{IsSampled, IsTally, most_events};
 ghost use Rattle.schedules.specs.Schedules.{EachMoves, Replays, led};
 
@@ -10,7 +9,6 @@ use crate::effort::most_played;
 use crate::samples::sampled::Sampled;
 use crate::samples::tally::Tally;
 use crate::scripts::Program;
-use coherent_machine::NewError;
 use elf_loader::Image;
 use machine_types::Config;
 use rand_core::{Rng, SeedableRng};
@@ -48,7 +46,6 @@ pub fn sample_ends<W: SampleWatch>(
     sampling: Sampling,
     watch: &W,
 ) -> Result<Sampled, AllocError>
-    requires limits { IsTrue (is_within_limits config) }
     ensures sampled { IfOk result (IsSampled image.now config) }
 
     // As many runs are told as were asked for, unless memory ended.
@@ -82,9 +79,7 @@ fn make_runs<W: SampleWatch>(
 {
     let mut generator = SplitMix64::seed_from_u64(sampling.seed);
     while tally.runs < sampling.runs {
-        let Ok(schedule) = run(program, generator.next_u64()) else {
-            return Err(AllocError);
-        };
+        let schedule = run(program, generator.next_u64())?;
         tally.count(program, schedule)?;
         watch.made(tally.runs, tally.ends());
     }
@@ -92,7 +87,7 @@ fn make_runs<W: SampleWatch>(
 }
 
 /// A random schedule, played from reset.
-fn run(program: &Program<'_>, seed: u64) -> Result<Schedule, NewError>
+fn run(program: &Program<'_>, seed: u64) -> Result<Schedule, AllocError>
     ensures real { IfOk result (λ schedule. schedule.machine ≡ led program.now.image.now program.now.config schedule.events.items) }
     ensures replays { IfOk result (λ schedule. Replays program.now.image.now program.now.config schedule.events.items) }
     ensures moves { IfOk result (λ schedule. EachMoves program.now.image.now program.now.config schedule.events.items) }

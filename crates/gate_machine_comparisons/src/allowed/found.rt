@@ -1,6 +1,6 @@
 //! What is found of a program.
 
-use anyhow::{Result, ensure};
+use anyhow::{Context, Result, ensure};
 use elf_loader::Image;
 use explorer::{Exploring, Found, compare, explore};
 use flat_model::HartResult;
@@ -18,14 +18,8 @@ const WINDOW: usize = 16;
 const STATES: u32 = 1_000_000;
 
 /// Caches of one line of 16 bytes each.
-pub fn config_of(harts: u32, model: MemoryModel) -> Config {
-    Config {
-        harts,
-        sets: 1,
-        ways: 1,
-        line: LineSize::Bytes16,
-        model,
-    }
+pub fn config_of(harts: u32, model: MemoryModel) -> Result<Config> {
+    Config::new(harts, 1, 1, LineSize::Bytes16, model).context("a configuration")
 }
 
 /// Whether the harts come to this in one of the outcomes.
@@ -51,7 +45,6 @@ fn are_among(witnesses: &[Witness], outcomes: &[Found]) -> bool {
 /// The outcomes that are found under a model, which are to have all those among them to which the machine comes.
 pub fn allowed(alloc: Global, image: &Image, config: Config) -> Result<Vec<Witness>> {
     let model = config.model;
-    ensure!(config.is_within_limits(), "no configuration");
     let found = search(alloc, image, config, &[], WINDOW, STATES, &Unwatched)?;
     ensure!(found.reach == Reach::Whole, "{model:?}: a bound is met");
     let exploring = Exploring {

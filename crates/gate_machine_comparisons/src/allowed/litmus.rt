@@ -78,8 +78,8 @@ fn is_as_published(
 
 /// Asks a program under each model.
 fn ask_each(alloc: Global, image: &Image, harts: u32, name: &str, answers: Answers) -> Result<()> {
-    let rvwmo = config_of(harts, MemoryModel::Rvwmo);
-    let ztso = config_of(harts, MemoryModel::Ztso);
+    let rvwmo = config_of(harts, MemoryModel::Rvwmo)?;
+    let ztso = config_of(harts, MemoryModel::Ztso)?;
     is_as_published(alloc, image, rvwmo, name, answers.rvwmo)?;
     is_as_published(alloc, image, ztso, name, answers.ztso)
 }

@@ -4,7 +4,7 @@ use super::WORD;
 use super::pair::image_of_words;
 use crate::lockstep::{Counts, Failures, Lockstep};
 use crate::numbers::Numbers;
-use anyhow::{Result, bail, ensure};
+use anyhow::{Context, Result, bail, ensure};
 use gate_plain_machine::Variant;
 use machine_types::{Config, Event, MemoryModel};
 use std::alloc::Global;
@@ -85,13 +85,7 @@ pub fn every_flat_event(
     ways: u32,
     events: u32,
 ) -> Result<Counts> {
-    let config = Config {
-        harts: 2,
-        sets: 1,
-        ways,
-        line: LineSize::Bytes16,
-        model,
-    };
+    let config = Config::new(2, 1, ways, LineSize::Bytes16, model).context("a configuration")?;
     let mut lockstep = at_reset(alloc, config)?;
     play(&mut lockstep, events)
 }

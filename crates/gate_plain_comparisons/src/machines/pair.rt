@@ -22,14 +22,8 @@ const PROGRAM: [u32; 5] = [
 ];
 
 /// Caches of one line of 16 bytes each.
-fn config_of(model: MemoryModel) -> Config {
-    Config {
-        harts: 2,
-        sets: 1,
-        ways: 1,
-        line: LineSize::Bytes16,
-        model,
-    }
+fn config_of(model: MemoryModel) -> Result<Config> {
+    Config::new(2, 1, 1, LineSize::Bytes16, model).context("a configuration")
 }
 
 /// A memory of 4 KiB.
@@ -49,10 +43,10 @@ pub struct Pair {
 
 impl Pair {
     pub fn at_reset(alloc: Global, model: MemoryModel) -> Result<Pair> {
-        let config = config_of(model);
+        let config = config_of(model)?;
         let plain = PlainMachine::new(alloc, image_of_words(alloc, &PROGRAM)?, config)?;
         Ok(Pair {
-            plain: plain.context("a configuration")?,
+            plain,
             coherent: Machine::new(alloc, image_of_words(alloc, &PROGRAM)?, config)?,
         })
     }

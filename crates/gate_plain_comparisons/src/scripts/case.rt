@@ -89,13 +89,14 @@ impl Case {
 
     /// What machines are made of.
     pub fn opening(&self, alloc: Global, script: &Script) -> Result<(Image, Config)> {
-        let config = Config {
-            harts: script.harts,
-            sets: script.sets,
-            ways: script.ways,
-            line: script.line,
-            model: self.model,
-        };
+        let config = Config::new(
+            script.harts,
+            script.sets,
+            script.ways,
+            script.line,
+            self.model,
+        )
+        .context("a configuration")?;
         let image = image_of(alloc, self.kind, &self.image, script.kib)?;
         Ok((image, config))
     }

@@ -20,7 +20,7 @@ pub trait Playable: Sized {
 
 impl Playable for PlainMachine {
     fn at_reset(alloc: Global, image: Image, config: Config) -> Result<Self> {
-        PlainMachine::new(alloc, image, config)?.context("a configuration")
+        Ok(PlainMachine::new(alloc, image, config)?)
     }
 
     fn happen(&mut self, event: Event) -> Result<Outcome> {

@@ -1,7 +1,7 @@
 //! What a flat machine is at a moment, and what happens to it.
 
 use crate::deciding::{Act, Deed, Plan, outcome_of};
-use crate::events::{Refusal, is_within_limits};
+use crate::events::Refusal;
 use crate::flat::accesses::{Accessed, Kind, Rules, Variant};
 use crate::hart_state::HartState;
 use crate::steps::{fetch, retires, retires_as, stall_of, write_waits};
@@ -36,17 +36,13 @@ fn hart_of(event: FlatEvent) -> u8 {
 }
 
 impl FlatMachine {
-    /// A flat machine at reset; none where the configuration is outside the limits. Of the caches only the
-    /// lines, the sets and whether these hold one line count.
+    /// A flat machine at reset. Of the caches only the lines, the sets and whether these hold one line count.
     pub fn new(
         alloc: Global,
         image: Image,
         config: Config,
         variant: Variant,
-    ) -> Result<Option<FlatMachine>, AllocError> {
-        if !is_within_limits(&config) {
-            return Ok(None);
-        }
+    ) -> Result<FlatMachine, AllocError> {
         let mut machine = FlatMachine {
             alloc,
             rules: Rules { config, variant },
@@ -56,7 +52,7 @@ impl FlatMachine {
             performed: Vec::new(alloc),
         };
         machine.reset()?;
-        Ok(Some(machine))
+        Ok(machine)
     }
 
     /// Memory is the image's, and each hart is about to start.

@@ -134,19 +134,19 @@ atomicity s st o a =
 -- ---- the laws
 
 pub atomicity_always : AtomicityAlways
-atomicity_always image config events is within =
+atomicity_always image config events is =
     let start = opening image config in
     let k = order_kept image config events in
     atomicity (after_events start events) k.0 k.1 (events_atomic events start (opening_stand image config) (opening_fits image config is.legal_size.whole_pages) (opening_kept image config) (opening_atomic image config))
 
 pub legal_always : LegalAlways
-legal_always image config events is within =
+legal_always image config events is =
     let s = after_events (opening image config) events in
     record {
-      order = order_always image config events is within;
+      order = order_always image config events is;
       begins = (filter (missing s.trace) (names_in s.trace), refl);
-      legal = record { preserved_order = preserved_always image config events is within; load_values = load_values_always image config events is within; atomicity = atomicity_always image config events is within };
+      legal = record { preserved_order = preserved_always image config events is; load_values = load_values_always image config events is; atomicity = atomicity_always image config events is };
     }
 
 pub headline : Headline
-headline image config events is within = record { coherent = coherent_always image config events is within; runs = runs_always image config events is within; order = legal_always image config events is within }
+headline image config events is = record { coherent = coherent_always image config events is; runs = runs_always image config events is; order = legal_always image config events is }

@@ -60,7 +60,7 @@ opening_joint : (image : Initial) (config : Config) → length image.bytes % 409
 opening_joint image config pages = (opening_last image config, record { fit = opening_is_fit image config pages; agrees = λ q on. image_line config.line image q on })
 
 pub joint_always : Always (λ image config s. Joint s)
-joint_always image config events is within = events_joint events (opening image config) (opening_stand image config) (opening_kept image config) (opening_joint image config is.legal_size.whole_pages)
+joint_always image config events is = events_joint events (opening image config) (opening_stand image config) (opening_kept image config) (opening_joint image config is.legal_size.whole_pages)
 
 -- ---- copies
 
@@ -102,14 +102,14 @@ copies_fit s j = record {
 }
 
 pub coherent_always : CoherentAlways
-coherent_always image config events is within = coherent (after_events (opening image config) events) (joint_always image config events is within)
+coherent_always image config events is = coherent (after_events (opening image config) events) (joint_always image config events is)
 
 -- ---- load values
 
 hold_always : HoldAlways
-hold_always image config events is within =
+hold_always image config events is =
     let s = after_events (opening image config) events in
-    let j = joint_always image config events is within in
+    let j = joint_always image config events is in
     coherent_holds s (coherent s j) (copies_fit s j)
 
 pub load_values_always : LoadValuesAlways

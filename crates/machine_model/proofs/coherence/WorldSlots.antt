@@ -77,7 +77,7 @@ grants_have_slots s fit h m among grants = go (is_line s.trace.image (line_size 
     go false off = absurd (subst (λ bs. Member bs m.body) (ap (λ (x : Side). x.d) (fit.1.well.outside m.line off h)) member)
 
 pub grants_have_slots_always : Always (λ image config s. GrantsHaveSlots s)
-grants_have_slots_always image config events is within = grants_have_slots (after_events (opening image config) events) (after_events_fit events (opening image config) (opening_fits image config is.legal_size.whole_pages))
+grants_have_slots_always image config events is = grants_have_slots (after_events (opening image config) events) (after_events_fit events (opening image config) (opening_fits image config is.legal_size.whole_pages))
 
 pub reserved_is_trunk_always : Always (λ image config s. ReservedIsTrunk s)
-reserved_is_trunk_always image config events is within h word e = let fit : Fits (after_events (opening image config) events) = after_events_fit events (opening image config) (opening_fits image config is.legal_size.whole_pages) in is_writer _ (fit.1.reserved h word e)
+reserved_is_trunk_always image config events is h word e = let fit : Fits (after_events (opening image config) events) = after_events_fit events (opening image config) (opening_fits image config is.legal_size.whole_pages) in is_writer _ (fit.1.reserved h word e)

@@ -120,4 +120,4 @@ opening_answered image config = record {
 }
 
 pub answers_due_always : AnswersDueAlways
-answers_due_always image config events is within = (events_keep Anything Answered (λ s e g. tt) (λ s e a k g i. acts s e a k g i) events (opening image config) tt (opening_answered image config)).each
+answers_due_always image config events is = (events_keep Anything Answered (λ s e g. tt) (λ s e a k g i. acts s e a k g i) events (opening image config) tt (opening_answered image config)).each

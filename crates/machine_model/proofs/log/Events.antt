@@ -59,7 +59,7 @@ opening_order image config = record {
         ap (λ (n : Node). queue_of n.queues c) (get_or-map-range_with_len (opening_node image config) 0 config.harts k k d within (omega arith)) ∙ nothing image config k c
 
 pub in_order_always : Always (λ image config s. IsInOrder s)
-in_order_always image config events is within = events_keep Anything IsInOrder (λ s e g. tt) acts events (opening image config) tt (opening_order image config)
+in_order_always image config events is = events_keep Anything IsInOrder (λ s e g. tt) acts events (opening image config) tt (opening_order image config)
 
 pub log_in_order_always : LogInOrderAlways
-log_in_order_always image config events is within c h before rest e = (in_order_always image config events is within).moments before rest e c h
+log_in_order_always image config events is c h before rest e = (in_order_always image config events is).moments before rest e c h

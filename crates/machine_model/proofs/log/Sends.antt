@@ -175,6 +175,6 @@ may GrantAck h l log due free is = due
 may _ h l log due free is = cc is
 
 pub others_lawful_always : OthersLawfulAlways
-others_lawful_always image config events is within h m before rest e other =
-    may m.body h m.line before (answers_due_always image config events is within h m before rest e)
+others_lawful_always image config events is h m before rest e other =
+    may m.body h m.line before (answers_due_always image config events is h m before rest e)
     ((events_keep Known IsFlagged known acts events (opening image config) (opening_fits image config is.legal_size.whole_pages, opening_order image config) (opening_flagged image config)).each h m before rest e) other

@@ -147,7 +147,7 @@ abbrev pub HoldAlways : Type 0
 HoldAlways = Always (λ image config s. AllHold s)
 
 pub load_values_always : HoldAlways → Always (λ image config s. IsTrue (keeps_load_values (image_of s.trace) (operations_at (instructions s.trace) (completed s.trace))))
-load_values_always holds image config events i c =
+load_values_always holds image config events i =
     let k = order_kept image config events in
-    let v = events_values events (opening image config) (opening_stand image config) (λ y. i.bytes_fit _) (λ later. holds image config later i c) (opening_kept image config) (record { each = λ h l. tt }) in
+    let v = events_values events (opening image config) (opening_stand image config) (λ y. i.bytes_fit _) (λ later. holds image config later i) (opening_kept image config) (record { each = λ h l. tt }) in
     load_values (after_events (opening image config) events) k.0 k.1 v

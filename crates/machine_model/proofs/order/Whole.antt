@@ -123,11 +123,11 @@ performed_once s o = record {
 }
 
 pub performed_once_always : Always (λ image config s. IsPerformedOnce s.trace)
-performed_once_always image config events i c = performed_once (after_events (opening image config) events) (order_kept image config events).1
+performed_once_always image config events i = performed_once (after_events (opening image config) events) (order_kept image config events).1
 
 pub order_always : OrderAlways
-order_always image config events i c =
-    let p = performed_once_always image config events i c in completed_is_order (after_events (opening image config) events).trace p.operations p.once
+order_always image config events i =
+    let p = performed_once_always image config events i in completed_is_order (after_events (opening image config) events).trace p.operations p.once
 
 -- ---- what isn't performed, hart by hart
 
@@ -279,7 +279,7 @@ config_stays [] s = refl
 config_stays (e ∷ events) s = config_stays events (happens s e) ∙ (happens_follows s e).stays.config
 
 pub preserved_always : PreservedAlways
-preserved_always image config events i c =
+preserved_always image config events i =
     let s = after_events (opening image config) events in
     let k = order_kept image config events in
     let order = operations_at (instructions s.trace) (completed s.trace) in

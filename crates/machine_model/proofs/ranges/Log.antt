@@ -5,7 +5,6 @@ use Rattle.std.specs.List.{AllByRecursion, cons_option}
 use Rattle.std.proofs.lemmas.Bool.{eq-eqb, false≢true}
 use Rattle.std.proofs.lemmas.List.{append-nil}
 use Rattle.elf_loader.specs.Image.{Initial, IsImage}
-use Rattle.machine_types.specs.Config.{is_within_limits}
 use Rattle.machine_model.specs.Deliveries.{taken}
 use Rattle.machine_model.specs.Events.{after_events, happens, hart_of, is_piece}
 use Rattle.machine_model.specs.LawfulLog.{IsBeginningOf, is_on, is_sent, sent_on, taken_on}
@@ -108,16 +107,16 @@ more_sent s t j is i nodes stays takes all c k in_k =
     before : AllByRecursion P (taken_on c k t.trace.log)
     before = let p = takes c k in all_front P (taken_on c k t.trace.log) p.0 (subst (AllByRecursion P) (sym p.1) old)
 
-module _ (image : Initial) (config : Config) (is : IsImage image) (within : is_within_limits config ≡ true) where
+module _ (image : Initial) (config : Config) (is : IsImage image) where
   abbrev at : List Event → State
   at events = after_events (opening image config) events
 
   step : (done : List Event) (e : Event) → AllSent (at done) → AllSent (at (done ++ e ∷ []))
   step done e all =
-      let sound = sound_always image config (done ++ e ∷ []) is within in
+      let sound = sound_always image config (done ++ e ∷ []) is in
       let same : happens (at done) e ≡ at (done ++ e ∷ []) = sym (after_one_more done (opening image config) e) in
-      more_sent (at done) (at (done ++ e ∷ [])) (joint_always image config (done ++ e ∷ []) is within) sound.image (in_order_always image config (done ++ e ∷ []) is within) sound.nodes
-      (subst (KeepsImageAndConfig (at done)) same (happens_follows (at done) e).stays) (subst (TakesFrom (at done)) same (happens_takes (at done) (in_order_always image config done is within) e)) all
+      more_sent (at done) (at (done ++ e ∷ [])) (joint_always image config (done ++ e ∷ []) is) sound.image (in_order_always image config (done ++ e ∷ []) is) sound.nodes
+      (subst (KeepsImageAndConfig (at done)) same (happens_follows (at done) e).stays) (subst (TakesFrom (at done)) same (happens_takes (at done) (in_order_always image config done is) e)) all
 
   steps : (done rest : List Event) → AllSent (at done) → AllSent (after_events (at done) rest)
   steps done [] all = all
@@ -167,7 +166,7 @@ as_entries s [] all = tt
 as_entries s (e ∷ log) all = (record { hart = all.0.0; line = all.0.1.0; body = all.0.1.1 }, as_entries s log all.1)
 
 log_of_machine : Always (λ image config s. AllByRecursion (IsOfMachine s) s.trace.log)
-log_of_machine image config events is within = as_entries s s.trace.log (in_log good s.views.config.harts s.trace.log (governed_always image config events is within).below sent (λ c k l. let p = nothing_new s (in_order_always image config events is within) c k in all_front good (taken_on c k s.trace.log) p.0 (subst (AllByRecursion good) (sym p.1) (sent c k l))))
+log_of_machine image config events is = as_entries s s.trace.log (in_log good s.views.config.harts s.trace.log (governed_always image config events is).below sent (λ c k l. let p = nothing_new s (in_order_always image config events is) c k in all_front good (taken_on c k s.trace.log) p.0 (subst (AllByRecursion good) (sym p.1) (sent c k l))))
   where
     s : State
     s = after_events (opening image config) events
@@ -176,12 +175,12 @@ log_of_machine image config events is within = as_entries s s.trace.log (in_log 
     good = IsGood s.trace.image (line_size s)
 
     sent : AllSent s
-    sent = all_sent image config is within events
+    sent = all_sent image config is events
 
 pub in_range_always : InRangeAlways
-in_range_always image config events is within =
+in_range_always image config events is =
     let s = after_events (opening image config) events in
-    let runs = runs_always image config events is within in
-    let sound = sound_always image config events is within in
+    let runs = runs_always image config events is in
+    let sound = sound_always image config events is in
     let listed = runs_in_range s.trace.image (length s.trace.entries) 0 s.trace.entries s.trace.statuses sound.image runs.runs in
-    record { entries = listed.0; statuses = listed.1; performed = named_in_range s.trace s.trace.performed (performed_once_always image config events is within).operations; log = log_of_machine image config events is within }
+    record { entries = listed.0; statuses = listed.1; performed = named_in_range s.trace s.trace.performed (performed_once_always image config events is).operations; log = log_of_machine image config events is }

@@ -1,8 +1,7 @@
 -- How large everything is, and what each act finds, whatever events come.
-use Rattle.std.proofs.Common.{true, List, [], ◌∷◌, ◌++◌, ◌≡◌, refl, ap, sym, ◌∙◌, subst}
+use Rattle.std.proofs.Common.{List, [], ◌∷◌, ◌++◌, ◌≡◌, refl, ap, sym, ◌∙◌, subst}
 use Rattle.elf_loader.specs.Image.{Initial, IsImage}
 use Rattle.machine_model.specs.Changing.{acted}
-use Rattle.machine_types.specs.Config.{is_within_limits}
 use Rattle.machine_model.specs.Events.{after_events, counted, happens, hart_of}
 use Rattle.machine_model.specs.Laws.{KeepsImageAndConfig, QueuesFit}
 use Rattle.machine_model.specs.Ready.{ReadyAlways, SoundAlways}
@@ -35,9 +34,8 @@ module _ (image : Initial) (config : Config) (events : List Event) (is : IsImage
   sized = events_sized events (opening image config) (opening_sized image config is.legal_size.whole_pages)
 
 pub sound_always : SoundAlways
-sound_always image config events is within = record {
+sound_always image config events is = record {
   image = subst IsImage (sym kept.image) is;
-  limits = subst (λ (c : Config). is_within_limits c ≡ true) (sym kept.config) within;
   nodes = k.stand.nodes;
   entries = k.stand.entries;
   statuses = k.stand.statuses;
@@ -59,9 +57,9 @@ sound_always image config events is within = record {
     kept = stays events (opening image config)
 
 pub ready_always : ReadyAlways
-ready_always image config events is within e a good planned free = record {
+ready_always image config events is e a good planned free = record {
   act = act_ready (s image config events is) k e a m;
-  room = subst QueuesFit leads (queues_fit_always image config (events ++ e ∷ []) is within);
+  room = subst QueuesFit leads (queues_fit_always image config (events ++ e ∷ []) is);
 }
   where
     k : IsSized (s image config events is)

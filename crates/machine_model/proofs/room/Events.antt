@@ -1,11 +1,10 @@
 -- No event delivers a Grant without room for its GrantAck, so every list of events keeps few requests outstanding.
-use Rattle.std.proofs.Common.{ℕ, true, List, [], ◌∷◌, ◌≡◌}
+use Rattle.std.proofs.Common.{ℕ, List, [], ◌∷◌}
 use Rattle.std.specs.Prelude.{map}
 use Rattle.std.specs.List.{range_with_len}
 use Rattle.std.proofs.lemmas.List.FromFn.{length-map-range_with_len}
 use Rattle.elf_loader.specs.Image.{Initial}
-use Rattle.machine_types.specs.Config.{is_within_limits}
-use Rattle.machine_types.proofs.Within.{limits_of}
+use Rattle.machine_types.proofs.Within.{config_limits}
 use Rattle.machine_model.specs.Events.{after_events, happens, hart_of}
 use Rattle.machine_model.specs.Views.{State, opening, opening_node}
 use Rattle.machine_model.specs.declared.act.Act.TheVariants as act
@@ -32,9 +31,9 @@ after_events_small (e ∷ events) s k = after_events_small events (happens s e) 
 
 -- ---- from reset
 
-pub opening_small : (image : Initial) (config : Config) → is_within_limits config ≡ true → IsSmallState (opening image config)
-opening_small image config within = record {
-  few = rw (length-map-range_with_len (opening_node image config) 0 config.harts) (limits_of config within).few_harts;
+pub opening_small : (image : Initial) (config : Config) → IsSmallState (opening image config)
+opening_small image config = record {
+  few = rw (length-map-range_with_len (opening_node image config) 0 config.harts) (config_limits config).few_harts;
   each = fresh (range_with_len 0 config.harts);
 }
   where

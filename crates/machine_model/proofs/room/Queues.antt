@@ -75,6 +75,6 @@ queues_fit s fit k h channel = go (cases_lt h (length s.views.nodes))
     go (inr past) = subst (λ (n : Node). length (queue_of n.queues channel) ≤ room_of channel) (sym (get_or_past s.views.nodes h (no_node s) past)) (none_fit channel)
 
 pub queues_fit_always : Always (λ image config s. QueuesFit s)
-queues_fit_always image config events is within = queues_fit (after_events (opening image config) events)
+queues_fit_always image config events is = queues_fit (after_events (opening image config) events)
     (after_events_fit events (opening image config) (opening_fits image config is.legal_size.whole_pages))
-    (after_events_small events (opening image config) (opening_small image config within))
+    (after_events_small events (opening image config) (opening_small image config))

@@ -322,7 +322,7 @@ kept_always [] s = happens_not s
 kept_always (e ∷ events) s = happens_then _ _ _ (happens_follows s e) (kept_always events (happens s e))
 
 pub runs_always : RunsAlways
-runs_always image config events i c =
+runs_always image config events i =
     let a = events_stand events (opening image config) (opening_stands image config) in
     let k = kept_always events (opening image config) in
     record {

@@ -1,10 +1,8 @@
 //! `rvtl explain`: a script of events is applied to a machine, and told event by event.
 
-ghost use Rattle.std.specs.Prelude.{◌≡◌, IfErr, OnOk, false};
+ghost use Rattle.std.specs.Prelude.{◌≡◌, IfErr, OnOk};
 ghost use Rattle.coherent_machine.specs.Machine.{IsReached};
-ghost use Rattle.coherent_machine.specs.declared.errors.NewError.TheVariants as making;
 ghost use Rattle.script_commands.specs.Explaining.{IsExplainFault, IsExplained, IsPartOfStream, IsStreamCutOff, IsWholeExplanation, LeavesOfStream, state_if};
-ghost use Rattle.machine_types.specs.Config.{is_within_limits};
 ghost use Rattle.text_fields.specs.Writing.{Writes};
 
 use crate::explain::named::{NamedImage, named_image_in};
@@ -39,7 +37,6 @@ fn tell<O: Write>(
     out: &mut O,
 ) -> Result<(), StreamError>
     ensures whole { OnOk result (IsWholeExplanation named.names strictness with_state named.image config events.now (O.contents out.old) (O.contents out.new)) }
-    ensures limits { IfErr result (λ error. error ≡ StreamError.New making.Config → is_within_limits config ≡ false) }
     ensures unfinished { IfErr result (IsPartOfStream named.names strictness with_state named.image config events.now (O.contents out.old) (O.contents out.new)) }
 {
     let NamedImage { image, names } = named;

@@ -1,12 +1,8 @@
 //! A replay and its text.
 
-ghost use Rattle.std.specs.Prelude.{◌≡◌, ◌↔◌, Err, IfErr, IfOk, false};
-ghost use Rattle.coherent_machine.specs.declared.errors.NewError.TheVariants as making;
-ghost use Rattle.coherent_machine.specs.declared.errors.ReplayError.TheVariants as refusal;
-ghost use Rattle.machine_types.specs.Config.{is_within_limits};
+ghost use Rattle.std.specs.Prelude.{IfErr, IfOk};
 ghost use Rattle.command_files.specs.Composition.{IsComposition};
 ghost use Rattle.script_commands.specs.Unfinished.{IsTraceUnfinished};
-ghost use Rattle.command_files.specs.Sizes.{config_of};
 
 use coherent_machine::{Machine, ReplayError, replay};
 use command_files::config_of;
@@ -20,7 +16,7 @@ use trace_text::{Script, write_trace};
 /// Why a replay is not printed.
 #[derive(Debug, Drop)]
 pub enum CompositionError {
-    /// No machine was made, or an event was refused: nothing was written.
+    /// Memory for the machine was refused, or an event: nothing was written.
     Replay(ReplayError),
     /// The writer's fault: a beginning of the text went out.
     Writing(io::Error),
@@ -35,7 +31,6 @@ pub fn replay_and_write<W: Write>(
     out: &mut W,
 ) -> Result<Machine, CompositionError>
     ensures written { IfOk result (λ machine. IsComposition image script.now model (W.contents out.old) (W.contents out.new) machine) }
-    ensures limits { (result ≡ Err (CompositionError.Replay (refusal.New making.Config))) ↔ (is_within_limits (config_of script.now model) ≡ false) }
     ensures unfinished { IfErr result (λ error. IsTraceUnfinished image script.now model (W.contents out.old) (W.contents out.new) error) }
 {
     every_trace_has_a_text();

@@ -13,9 +13,6 @@ returns-in-Ok-clause-headline c =
 pub returns-in_err-machine-clause-ok : goal.returns-in_err-machine-clause-ok
 returns-in_err-machine-clause-ok c = search rules
 
-pub returns-in_err-machine-clause-config : goal.returns-in_err-machine-clause-config
-returns-in_err-machine-clause-config c = search rules
-
 pub returns-in_err-machine-clause-refused : goal.returns-in_err-machine-clause-refused
 returns-in_err-machine-clause-refused c = search rules
 
@@ -31,9 +28,6 @@ returns-in_err-machine-clause-log c = search rules
 pub returns-in-Ok-clause-ok : goal.returns-in-Ok-clause-ok
 returns-in-Ok-clause-ok c = search rules
 
-pub returns-in-Ok-clause-config : goal.returns-in-Ok-clause-config
-returns-in-Ok-clause-config c = search rules
-
 pub returns-in-Ok-clause-refused : goal.returns-in-Ok-clause-refused
 returns-in-Ok-clause-refused c = search rules
 
@@ -45,9 +39,6 @@ returns-in-Ok-clause-log c = search rules
 
 pub returns-in-Err-clause-ok : goal.returns-in-Err-clause-ok
 returns-in-Err-clause-ok c = search rules
-
-pub returns-in-Err-clause-config : goal.returns-in-Err-clause-config
-returns-in-Err-clause-config c = search rules
 
 pub returns-in-Err-clause-refused : goal.returns-in-Err-clause-refused
 returns-in-Err-clause-refused c = search rules

@@ -1,11 +1,9 @@
-use Rattle.std.proofs.Common.{◌≡◌, inl, inr, refl, subst, true}
+use Rattle.std.proofs.Common.{refl}
 use Rattle.command_files.proofs.Left.{handed_up}
 use Rattle.explore_command.proofs.Explored.{all_of, err_more, has, judged, memory_left, memory_told, ok_both, ok_more, refusals, spared, spared_after, whole}
 use Rattle.explore_command.proofs.Faults.{first_left, first_told, folder_late, folder_left, folder_told, memory_late, output_left, output_told}
 use Rattle.explore_command.proofs.Kept.{script_file, spares_wider}
 use Rattle.explore_command.proofs.Refused.{refusals_in}
-use Rattle.machine_types.specs.Config.{is_within_limits}
-use Rattle.machine_types.specs.declared.config.Config.{Config}
 use Rattle.explore_command.proofs.exploring.explore_files.Goals as goal
 
 pub returns-in_err-asked-clause-told : goal.returns-in_err-asked-clause-told
@@ -17,9 +15,6 @@ returns-in_err-asked-clause-unfinished g c = handed_up _ c.from_residual.result 
 pub returns-in_err-asked-clause-spared : goal.returns-in_err-asked-clause-spared
 returns-in_err-asked-clause-spared g c = spared _ _ _ c.read.ensures.stays
 
-pub keep-requires-clause-within : goal.keep-requires-clause-within
-keep-requires-clause-within g c = subst (λ (k : Config). is_within_limits k ≡ true) c.in_ok-asked.ensures.config c.in_ok-asked.ensures.within
-
 pub returns-in_err-print-clause-told : goal.returns-in_err-print-clause-told
 returns-in_err-print-clause-told g c = handed_up _ c.from_residual-in_err-print.result _ c.from_residual-in_err-print.ensures.1 (output_told _ c.args.wanted _ c.in_err-print.ensures.told)
 
@@ -27,7 +22,7 @@ pub returns-in_err-print-clause-unfinished : goal.returns-in_err-print-clause-un
 returns-in_err-print-clause-unfinished g c =
     handed_up _ c.from_residual-in_err-print.result _ c.from_residual-in_err-print.ensures.1
     (output_left _ _ _ _ c.in_err-print.ensures.told
-    (has (g.F.Files.held c.args.files.now) c.args.wanted c.in_ok-asked.asked.config c.in_ok-asked.asked.image c.in-Ok.found c.in_ok-asked.ensures.config c.in_ok-asked.ensures.image
+    (has (g.F.Files.held c.args.files.now) c.args.wanted c.in_ok-asked.asked.config c.in_ok-asked.asked.image c.in-Ok.found c.in_ok-asked.ensures.config.0 c.in_ok-asked.ensures.config.1 c.in_ok-asked.ensures.image
     c.in-Ok.ensures
     _ c.in_err-print.ensures.begun))
 
@@ -39,7 +34,7 @@ returns-in_err-keep-clause-told g c = handed_up _ c.from_residual-in_err-keep.re
 
 pub returns-in_err-keep-clause-unfinished : goal.returns-in_err-keep-clause-unfinished
 returns-in_err-keep-clause-unfinished g c =
-    let has_text = has (g.F.Files.held c.args.files.now) c.args.wanted c.in_ok-asked.asked.config c.in_ok-asked.asked.image c.in-Ok.found c.in_ok-asked.ensures.config c.in_ok-asked.ensures.image c.in-Ok.ensures in
+    let has_text = has (g.F.Files.held c.args.files.now) c.args.wanted c.in_ok-asked.asked.config c.in_ok-asked.asked.image c.in-Ok.found c.in_ok-asked.ensures.config.0 c.in_ok-asked.ensures.config.1 c.in_ok-asked.ensures.image c.in-Ok.ensures in
     handed_up _ c.from_residual-in_err-keep.result _ c.from_residual-in_err-keep.ensures.1
     (folder_left c.args.wanted _ _ _ _ c.in_err-keep.ensures.told (has_text _ (all_of _ _ _ c.in_ok-print.ensures.printed)) (has_text _ c.in_ok-print.ensures.printed))
 
@@ -50,7 +45,7 @@ pub returns-clause-explored : goal.returns-clause-explored
 returns-clause-explored g c =
     ok_more _ _ c.judge.result
     (λ judgement so.
-    whole (g.F.Files.held c.args.files.now) c.args.wanted c.in_ok-asked.asked.config c.in_ok-asked.asked.image c.in-Ok.found c.in_ok-asked.ensures.config c.in_ok-asked.ensures.image
+    whole (g.F.Files.held c.args.files.now) c.args.wanted c.in_ok-asked.asked.config c.in_ok-asked.asked.image c.in-Ok.found c.in_ok-asked.ensures.config.0 c.in_ok-asked.ensures.config.1 c.in_ok-asked.ensures.image
     c.in-Ok.ensures
     _ _ (g.F.Files.held c.keep.new.files) judgement c.in_ok-print.ensures.printed c.in_ok-keep.ensures.kept (spared_after _ _ _ _ c.in_ok-asked.ensures.stays c.keep.ensures.spared) (judged _ c.args.wanted.allow _ _ judgement c.in_ok-asked.ensures.allowed so.0) so.1)
     (ok_both _ _ c.judge.result c.judge.ensures.judged c.judge.ensures.whole)
@@ -63,7 +58,7 @@ returns-clause-unfinished g c =
     err_more _ _ c.judge.result
     (λ fault is.
     memory_left fault _ _ _ is
-    (has (g.F.Files.held c.args.files.now) c.args.wanted c.in_ok-asked.asked.config c.in_ok-asked.asked.image c.in-Ok.found c.in_ok-asked.ensures.config c.in_ok-asked.ensures.image
+    (has (g.F.Files.held c.args.files.now) c.args.wanted c.in_ok-asked.asked.config c.in_ok-asked.asked.image c.in-Ok.found c.in_ok-asked.ensures.config.0 c.in_ok-asked.ensures.config.1 c.in_ok-asked.ensures.image
     c.in-Ok.ensures
     _ (all_of _ _ _ c.in_ok-print.ensures.printed)))
     c.judge.ensures.told
@@ -90,7 +85,7 @@ pub returns-clause-noted : goal.returns-clause-noted
 returns-clause-noted g c =
     ok_more _ _ c.judge.result
     (λ judgement so.
-    refusals (g.F.Files.held c.args.files.now) c.args.wanted c.in_ok-asked.asked.config c.in_ok-asked.asked.image c.in-Ok.found c.in_ok-asked.ensures.config c.in_ok-asked.ensures.image
+    refusals (g.F.Files.held c.args.files.now) c.args.wanted c.in_ok-asked.asked.config c.in_ok-asked.asked.image c.in-Ok.found c.in_ok-asked.ensures.config.0 c.in_ok-asked.ensures.config.1 c.in_ok-asked.ensures.image
     c.in-Ok.ensures
     _ _ _ c.in_ok-print.ensures.printed (refusals_in _ c.args.wanted.allow _ _ _ c.in_ok-asked.ensures.allowed so))
     c.judge.ensures.noted

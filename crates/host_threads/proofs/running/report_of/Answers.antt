@@ -8,7 +8,7 @@ returns-clause-run g c =
     let common = c.args.common.now in
     let same = c.is_of.ensures.same.0 c.if-not-is_of.false in
     let parts = c.parts_of.ensures in
-    run_of common.image common.config common.limit c.args.fabric c.parts_of.result c.is_of.ensures.image c.requires.limits
+    run_of common.image common.config common.limit c.args.fabric c.parts_of.result c.is_of.ensures.image
     (ap (λ (s : State). s.trace.image) (sym c.machine.ensures.machine) ∙ same.0)
     (ap (λ (s : State). s.views.config) (sym c.machine.ensures.machine) ∙ same.1)
     (record { trace = parts.trace; outputs = parts.outputs; journal = parts.journal; total = parts.total; kept = parts.kept })

@@ -95,17 +95,17 @@ opening_governed image config = record {
 -- ---- the law
 
 pub governed_always : Always (λ image config s. IsGoverned s)
-governed_always image config events is within = events_keep IsPlain IsGoverned happens_plain acts events (opening image config) (opening_plain image config is.legal_size.whole_pages) (opening_governed image config)
+governed_always image config events is = events_keep IsPlain IsGoverned happens_plain acts events (opening image config) (opening_plain image config is.legal_size.whole_pages) (opening_governed image config)
 
 pub log_lawful_always : LogLawfulAlways
-log_lawful_always image config events is within = record {
-  in_order = log_in_order_always image config events is within;
+log_lawful_always image config events is = record {
+  in_order = log_in_order_always image config events is;
   each_sent = λ h m before rest e. go h m before rest e (is_probe_or_grant m.body) refl;
 }
   where
     all : IsGoverned (after_events (opening image config) events)
-    all = governed_always image config events is within
+    all = governed_always image config events is
 
     go : (h : ℕ) (m : Msg) (before rest : List Logged) → before ++ goes_in h m ∷ rest ≡ (after_events (opening image config) events).trace.log → (b : Bool) → is_probe_or_grant m.body ≡ b → IsTrue (may_send m.body h m.line before)
     go h m before rest e true kind = all.each h m before rest e kind
-    go h m before rest e false kind = others_lawful_always image config events is within h m before rest e (ap not kind)
+    go h m before rest e false kind = others_lawful_always image config events is h m before rest e (ap not kind)

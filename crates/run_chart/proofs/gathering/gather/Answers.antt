@@ -18,3 +18,13 @@ returns-in_err-columns-clause-untold c =
     given_up _ c.from_residual-in_err-columns.result _ c.from_residual-in_err-columns.ensures.1
     (untold_is c.args.image c.args.config c.args.events.now c.args.address c.in_err-columns.field-0.0
     (λ why. overfull_bars _ _ _ _ c.in_ok-machine.machine c.bytes-width.result c.only_of-only.result (search rules) (search rules) (search rules) (search rules)))
+
+pub returns-clause-told : goal.returns-clause-told
+returns-clause-told c = record {
+  reached = c.in_ok-machine.machine;
+  leads = c.in_ok-machine.ensures.ok;
+  harts_are = search rules;
+  columns_are = search rules;
+  rows_are = search rules;
+  fits = search rules;
+}

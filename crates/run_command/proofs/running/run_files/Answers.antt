@@ -1,5 +1,5 @@
-use Rattle.std.proofs.Common.{◌≡◌, ◌∙◌, ◌⊎◌, ◌≤◌, ℕ, List, Option, ap, arith, inl, inr, length, map, subst, sym, true}
-use Rattle.command_files.specs.Sizes.{IsInside, config_of, config_named, script_named}
+use Rattle.std.proofs.Common.{◌≡◌, ◌∙◌, ◌⊎◌, ◌≤◌, ℕ, List, Option, ap, arith, inl, inr, length, map, subst, sym}
+use Rattle.command_files.specs.Sizes.{IsInside, config_of, config_named, script_for}
 use Rattle.command_files.specs.Files.{HoldsImage}
 use Rattle.command_files.specs.Contents.{Contents, HoldsBytes}
 use Rattle.run_command.specs.Running.{ComesBeforeJournal, IsJournalled, IsRunFault}
@@ -9,7 +9,6 @@ use Rattle.command_files.specs.declared.fault.Fault.TheVariants.{CannotMake, Can
 use Rattle.command_settings.specs.declared.wanted.Run.{Run}
 use Rattle.elf_loader.specs.Image.{Initial}
 use Rattle.elf_loader.specs.Size.{IsMemoryKib}
-use Rattle.machine_types.specs.Config.{is_within_limits}
 use Rattle.machine_model.specs.LawfulLog.{IsLawfulLog}
 use Rattle.machine_model.specs.Laws.{IsHeadline}
 use Rattle.machine_types.specs.declared.config.Config.{Config}
@@ -28,20 +27,24 @@ use Rattle.command_files.proofs.Limits.{script_within}
 use Rattle.command_files.proofs.Replays.{leads_there, readable}
 use Rattle.run_command.proofs.running.run_files.Goals as goal
 
-kept : (held left : Contents) (run : Run) (image : Initial) (script : Script) (events : List Event) → script ≡ script_named run.machine events → IsInside run.machine → HoldsImage held run.raw run.image.now run.machine.memory image → AllByRecursion IsEvent script.events
-    → HoldsBytes left run.journal.now (script_text script) → length events ≤ run.limit → IsJournalled held left run image script
-kept held left run image script events script_is inside image_file spelt bytes few =
-    let config_same : config_of script run.machine.model ≡ config_named run.machine = ap (λ (s : Script). config_of s run.machine.model) script_is in
+-- the script is for the machine that runs
+config_kept : (config : Config) (run : Run) (script : Script) (events : List Event) (inside : IsInside run.machine) → config ≡ config_named run.machine inside → script ≡ script_for config run.machine.memory events → config ≡ config_of script run.machine.model
+config_kept config run script events inside config_is script_is =
+    let model = run.machine.model in
+    let kib = run.machine.memory in
+    config_is ∙ sym (ap (λ (s : Script). config_of s model) script_is ∙ ap (λ (c : Config). config_of (script_for c kib events) model) config_is)
+
+kept : (held left : Contents) (config : Config) (run : Run) (image : Initial) (script : Script) (events : List Event) (inside : IsInside run.machine) → config ≡ config_named run.machine inside → script ≡ script_for config run.machine.memory events
+    → HoldsImage held run.raw run.image.now run.machine.memory image → AllByRecursion IsEvent script.events → HoldsBytes left run.journal.now (script_text script) → length events ≤ run.limit → IsJournalled held left run image script
+kept held left config run image script events inside config_is script_is image_file spelt bytes few =
     let memory_same = ap (λ (s : Script). s.kib) script_is in
     record {
       image_file = image_file;
-      config = config_same;
+      inside = inside;
+      config = sym (config_kept config run script events inside config_is script_is) ∙ config_is;
       memory = memory_same;
       journal_file = record {
-        is_script = record {
-          head = script_within script run.machine.model (subst (λ (c : Config). is_within_limits c ≡ true) (sym config_same) inside.limits) (subst IsMemoryKib (sym memory_same) inside.memory);
-          events = spelt;
-        };
+        is_script = record { head = script_within script (subst IsMemoryKib (sym memory_same) inside.memory); events = spelt };
         bytes = bytes;
       };
       limit = subst (λ (s : Script). length s.events ≤ run.limit) (sym script_is) few;
@@ -83,14 +86,14 @@ returns-in_err-print-clause-unfinished g c =
     let s = end_of_journal image c.in-Some.config c.in-Ok.report in
     let named = c.in-Some.ensures.config in
     let same = c.script_of-script.ensures.script in
-    let config_same : c.in-Some.config ≡ config_of script run.machine.model = named.0 ∙ sym (ap (λ (t : Script). config_of t run.machine.model) same) in
+    let config_same = config_kept c.in-Some.config run script c.in-Ok.report.journal.items named.0 named.1 same in
     handed_up _ c.from_residual-in_err-print.result _ c.from_residual-in_err-print.ensures.1
     (spoiled _ _ _ _ c.in_err-print.ensures.told
     (record {
       script = script;
       image = image;
       reached = s;
-      kept = kept _ _ run image script c.in-Ok.report.journal.items same named.1 c.in_ok-image.ensures.image c.script_of-script.ensures.events c.in_ok-keep.ensures.kept (omega (arith, c.in-Ok.ensures.limit.events, c.from-limit.ensures));
+      kept = kept _ _ c.in-Some.config run image script c.in-Ok.report.journal.items named.0 named.1 same c.in_ok-image.ensures.image c.script_of-script.ensures.events c.in_ok-keep.ensures.kept (omega (arith, c.in-Ok.ensures.limit.events, c.from-limit.ensures));
       replayed = leads_there image script run.machine.model c.in-Some.config c.in-Ok.report.journal.items s config_same (sym (ap (λ (t : Script). t.events) same)) c.in-Ok.ensures.replays;
       begun = begun_same _ _ _ _ c.in-Ok.ensures.report.trace c.in_err-print.ensures.begun;
     }))
@@ -106,13 +109,13 @@ returns-clause-ran g c =
     let s = end_of_journal image c.in-Some.config c.in-Ok.report in
     let named = c.in-Some.ensures.config in
     let same = c.script_of-script.ensures.script in
-    let config_same : c.in-Some.config ≡ config_of script run.machine.model = named.0 ∙ sym (ap (λ (t : Script). config_of t run.machine.model) same) in
+    let config_same = config_kept c.in-Some.config run script c.in-Ok.report.journal.items named.0 named.1 same in
     let trace_same = c.in-Ok.ensures.report.trace in
     record {
       script = script;
       image = image;
       reached = s;
-      kept = kept _ _ run image script c.in-Ok.report.journal.items same named.1 c.in_ok-image.ensures.image c.script_of-script.ensures.events c.in_ok-keep.ensures.kept (omega (arith, c.in-Ok.ensures.limit.events, c.from-limit.ensures));
+      kept = kept _ _ c.in-Some.config run image script c.in-Ok.report.journal.items named.0 named.1 same c.in_ok-image.ensures.image c.script_of-script.ensures.events c.in_ok-keep.ensures.kept (omega (arith, c.in-Ok.ensures.limit.events, c.from-limit.ensures));
       composed = record {
         replayed = leads_there image script run.machine.model c.in-Some.config c.in-Ok.report.journal.items s config_same (sym (ap (λ (t : Script). t.events) same)) c.in-Ok.ensures.replays;
         printed = printed_same _ _ _ _ trace_same c.in_ok-print.ensures.printed;
@@ -130,12 +133,12 @@ returns-clause-ends g c =
     let s = end_of_journal image c.in-Some.config c.in-Ok.report in
     let named = c.in-Some.ensures.config in
     let same = c.script_of-script.ensures.script in
-    let config_same : c.in-Some.config ≡ config_of script run.machine.model = named.0 ∙ sym (ap (λ (t : Script). config_of t run.machine.model) same) in
+    let config_same = config_kept c.in-Some.config run script c.in-Ok.report.journal.items named.0 named.1 same in
     record {
       script = script;
       image = image;
       reached = s;
-      kept = kept _ _ run image script c.in-Ok.report.journal.items same named.1 c.in_ok-image.ensures.image c.script_of-script.ensures.events c.in_ok-keep.ensures.kept (omega (arith, c.in-Ok.ensures.limit.events, c.from-limit.ensures));
+      kept = kept _ _ c.in-Some.config run image script c.in-Ok.report.journal.items named.0 named.1 same c.in_ok-image.ensures.image c.script_of-script.ensures.events c.in_ok-keep.ensures.kept (omega (arith, c.in-Ok.ensures.limit.events, c.from-limit.ensures));
       replayed = leads_there image script run.machine.model c.in-Some.config c.in-Ok.report.journal.items s config_same (sym (ap (λ (t : Script). t.events) same)) c.in-Ok.ensures.replays;
       begun = ends_begun (g.E.Write.contents c.args.err.now) (g.E.Write.contents c.print_ends.new.err) s _ c.statuses.result.now _ c.print_ends.result c.statuses.ensures c.in-Ok.ensures.report.trace (ap (map (λ output. output.items)) c.as_slice.ensures.value ∙ c.in-Ok.ensures.report.outputs) c.print_ends.ensures;
     }

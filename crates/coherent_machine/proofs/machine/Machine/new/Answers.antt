@@ -1,5 +1,4 @@
 use Rattle.std.proofs.Common.{rules, [], ap, sym}
-use Rattle.std.proofs.lemmas.Bool.{not-false}
 use Rattle.machine_model.specs.LawfulLog.{IsLawfulLog}
 use Rattle.machine_model.specs.Views.{State}
 use Rattle.coherent_machine.specs.Machine.{Replayed}
@@ -8,7 +7,7 @@ use Rattle.machine_parts.specs.Parts.{state_of}
 use Rattle.coherent_machine.proofs.machine.Machine.new.Goals as goal
 
 pub invariant_of-result : goal.invariant_of-result
-invariant_of-result c = rw c.in_ok-parts.ensures (reached_opening c.args.image c.args.config (rw (← c.image.view_is) c.image.invariant) (search (rules, not-false)))
+invariant_of-result c = rw c.in_ok-parts.ensures (reached_opening c.args.image c.args.config (rw (← c.image.view_is) c.image.invariant))
 
 pub returns-clause-headline : goal.returns-clause-headline
 returns-clause-headline c =
@@ -22,26 +21,8 @@ returns-clause-log c = law_of (λ image config s. IsLawfulLog s.trace.log) c.log
 pub returns-clause-reached : goal.returns-clause-reached
 returns-clause-reached c = invariant_of-result c
 
-pub returns-then-not-is_within_limits-clause-ok : goal.returns-then-not-is_within_limits-clause-ok
-returns-then-not-is_within_limits-clause-ok c = search rules
-
-pub returns-then-not-is_within_limits-clause-config : goal.returns-then-not-is_within_limits-clause-config
-returns-then-not-is_within_limits-clause-config c = search rules
-
-pub returns-then-not-is_within_limits-clause-reached : goal.returns-then-not-is_within_limits-clause-reached
-returns-then-not-is_within_limits-clause-reached c = search rules
-
-pub returns-then-not-is_within_limits-clause-headline : goal.returns-then-not-is_within_limits-clause-headline
-returns-then-not-is_within_limits-clause-headline c = search rules
-
-pub returns-then-not-is_within_limits-clause-log : goal.returns-then-not-is_within_limits-clause-log
-returns-then-not-is_within_limits-clause-log c = search rules
-
 pub returns-in_err-outputs-clause-ok : goal.returns-in_err-outputs-clause-ok
 returns-in_err-outputs-clause-ok c = search rules
-
-pub returns-in_err-outputs-clause-config : goal.returns-in_err-outputs-clause-config
-returns-in_err-outputs-clause-config c = search rules
 
 pub returns-in_err-outputs-clause-reached : goal.returns-in_err-outputs-clause-reached
 returns-in_err-outputs-clause-reached c = search rules
@@ -55,9 +36,6 @@ returns-in_err-outputs-clause-log c = search rules
 pub returns-in_err-parts-clause-ok : goal.returns-in_err-parts-clause-ok
 returns-in_err-parts-clause-ok c = search rules
 
-pub returns-in_err-parts-clause-config : goal.returns-in_err-parts-clause-config
-returns-in_err-parts-clause-config c = search rules
-
 pub returns-in_err-parts-clause-reached : goal.returns-in_err-parts-clause-reached
 returns-in_err-parts-clause-reached c = search rules
 
@@ -69,6 +47,3 @@ returns-in_err-parts-clause-log c = search rules
 
 pub returns-clause-ok : goal.returns-clause-ok
 returns-clause-ok c = search rules
-
-pub returns-clause-config : goal.returns-clause-config
-returns-clause-config c = search rules

@@ -4,18 +4,18 @@ use Rattle.explore_command.proofs.ModelKept.{last_is, last_of_left, none_kept, o
 use Rattle.explore_command.proofs.architecture.keeping.keep_outcomes.Goals as goal
 
 pub loop-rest-init : goal.loop-rest-init
-loop-rest-init g c = none_kept _ _ _ _
+loop-rest-init g c = none_kept _ _ _ _ _
 
 pub returns-in_err-keep_at-clause-spared : goal.returns-in_err-keep_at-clause-spared
 returns-in_err-keep_at-clause-spared g c =
-    spares_one (g.F.Files.held c.args.files.now) (g.F.Files.held c.loop-rest.files) (g.F.Files.held c.keep_at.new.files) c.args.folder.machine c.args.folder.name.now c.deref.result.now c.loop-rest.rest.now _ c.loop-rest.invariant.done c.args.outcomes.now c.last-item.result
+    spares_one (g.F.Files.held c.args.files.now) (g.F.Files.held c.loop-rest.files) (g.F.Files.held c.keep_at.new.files) c.args.folder.config c.args.folder.kib c.args.folder.name.now c.deref.result.now c.loop-rest.rest.now _ c.loop-rest.invariant.done c.args.outcomes.now c.last-item.result
     (last_is c.loop-rest.rest.now c.last-item.result _ c.in-len1-up.len_at_least c.last-item.is) c.loop-rest.invariant.whole
     (c.deref.ensures ∙ c.in-Ok.ensures) c.keep_at.ensures.others c.loop-rest.invariant.spared
 
 pub loop-rest-preserved : goal.loop-rest-preserved
 loop-rest-preserved g c =
     let small : length c.args.outcomes.now < 2 ^ 64 = search rules in
-    one_more (g.F.Files.held c.args.files.now) (g.F.Files.held c.loop-rest.files) (g.F.Files.held c.keep_at.new.files) c.args.folder.machine c.args.folder.name.now c.deref.result.now
+    one_more (g.F.Files.held c.args.files.now) (g.F.Files.held c.loop-rest.files) (g.F.Files.held c.keep_at.new.files) c.args.folder.config c.args.folder.kib c.args.folder.name.now c.deref.result.now
     c.loop-rest.rest.now _ c.args.outcomes.now c.last-item.result small
     (last_is c.loop-rest.rest.now c.last-item.result _ c.in-len1-up.len_at_least c.last-item.is)
     (c.deref.ensures ∙ c.in-Ok.ensures) c.keep_at.ensures.others c.in_ok-keep_at.ensures.kept c.loop-rest.invariant

@@ -1,4 +1,4 @@
-use Rattle.std.proofs.Common.{◌≡◌, ◌∙◌, List, inl, refl, subst, sym, true, ℕ}
+use Rattle.std.proofs.Common.{List, inl, refl, subst, sym, ℕ}
 use Rattle.command_files.proofs.Left.{handed_up}
 use Rattle.explore_command.proofs.ModelKept.{way_file}
 use Rattle.explore_command.proofs.Readable.{each_has_text}
@@ -8,8 +8,6 @@ use Rattle.architecture_outcomes.specs.declared.outcome.Outcome.{Outcome}
 use Rattle.explore_command.proofs.Explored.{all_of, err_more, memory_left, memory_told, ok_both, ok_more, spared, spared_after}
 use Rattle.explore_command.proofs.Faults.{folder_late, folder_left, folder_told, memory_last, memory_late, output_left, output_told}
 use Rattle.explore_command.proofs.Kept.{spares_wider}
-use Rattle.machine_types.specs.Config.{is_within_limits}
-use Rattle.machine_types.specs.declared.config.Config.{Config}
 use Rattle.explore_command.proofs.Asking.{asking_left, asking_told}
 use Rattle.explore_command.specs.Asking.{HasProgram}
 use Rattle.explore_command.proofs.architecture.searching.architecture_files.Goals as goal
@@ -24,13 +22,10 @@ returns-in_err-config-clause-unfinished g c = handed_up _ c.from_residual.result
 pub returns-in_err-config-clause-spared : goal.returns-in_err-config-clause-spared
 returns-in_err-config-clause-spared g c = spared _ _ _ c.read.ensures.stays
 
-pub keep-requires-clause-within : goal.keep-requires-clause-within
-keep-requires-clause-within g c = subst (λ (k : Config). is_within_limits k ≡ true) c.in_ok-config.ensures.config c.in_ok-config.ensures.within
-
 pub keep-requires-clause-readable : goal.keep-requires-clause-readable
 keep-requires-clause-readable g c =
     let asked = c.in_ok-config.field-0 in
-    each_has_text asked.image asked.config c.entry-entry.ensures.image c.in_ok-config.ensures.within _ c.in-Ok.architecture.outcomes.items c.in-Ok.ensures.shown
+    each_has_text asked.image asked.config c.entry-entry.ensures.image _ c.in-Ok.architecture.outcomes.items c.in-Ok.ensures.shown
 
 pub returns-in_err-print-clause-told : goal.returns-in_err-print-clause-told
 returns-in_err-print-clause-told g c = handed_up _ c.from_residual-in_err-print.result _ c.from_residual-in_err-print.ensures.1 (inl (output_told _ c.args.wanted _ c.in_err-print.ensures.told))
@@ -42,7 +37,7 @@ returns-in_err-print-clause-unfinished g c =
     let program = subst (λ (a : List ℕ). HasProgram held c.args.wanted c.args.words.now asked.image a) (sym c.deref.ensures.value) c.in_ok-config.ensures.program in
     handed_up _ c.from_residual-in_err-print.result _ c.from_residual-in_err-print.ensures.1
     (output_left _ _ _ _ c.in_err-print.ensures.told
-    (has held c.args.wanted c.args.words.now c.args.window asked.config asked.image c.deref.result.now _ c.in-Ok.architecture c.in_ok-config.ensures.config program c.in_ok-config.ensures.names
+    (has held c.args.wanted c.args.words.now c.args.window asked.config asked.image c.deref.result.now _ c.in-Ok.architecture c.in_ok-config.ensures.config.0 c.in_ok-config.ensures.config.1 program c.in_ok-config.ensures.names
     c.in-Ok.ensures
     _ c.in_err-print.ensures.begun))
 
@@ -57,7 +52,7 @@ returns-in_err-keep-clause-unfinished g c =
     let held = g.F.Files.held c.args.files.now in
     let asked = c.in_ok-config.field-0 in
     let program = subst (λ (a : List ℕ). HasProgram held c.args.wanted c.args.words.now asked.image a) (sym c.deref.ensures.value) c.in_ok-config.ensures.program in
-    let has_text = has held c.args.wanted c.args.words.now c.args.window asked.config asked.image c.deref.result.now _ c.in-Ok.architecture c.in_ok-config.ensures.config program c.in_ok-config.ensures.names
+    let has_text = has held c.args.wanted c.args.words.now c.args.window asked.config asked.image c.deref.result.now _ c.in-Ok.architecture c.in_ok-config.ensures.config.0 c.in_ok-config.ensures.config.1 program c.in_ok-config.ensures.names
     c.in-Ok.ensures in
     handed_up _ c.from_residual-in_err-keep.result _ c.from_residual-in_err-keep.ensures.1
     (folder_left c.args.wanted _ _ _ _ c.in_err-keep.ensures.told (has_text _ (all_of _ _ _ c.in_ok-print.ensures.printed)) (has_text _ c.in_ok-print.ensures.printed))
@@ -75,7 +70,7 @@ returns-in_err-tell-clause-unfinished g c =
     let program = subst (λ (a : List ℕ). HasProgram held c.args.wanted c.args.words.now asked.image a) (sym c.deref.ensures.value) c.in_ok-config.ensures.program in
     handed_up _ c.from_residual-in_err-tell.result _ c.from_residual-in_err-tell.ensures.1
     (memory_left _ _ _ _ c.in_err-tell.ensures.told
-    (has held c.args.wanted c.args.words.now c.args.window asked.config asked.image c.deref.result.now _ c.in-Ok.architecture c.in_ok-config.ensures.config program c.in_ok-config.ensures.names
+    (has held c.args.wanted c.args.words.now c.args.window asked.config asked.image c.deref.result.now _ c.in-Ok.architecture c.in_ok-config.ensures.config.0 c.in_ok-config.ensures.config.1 program c.in_ok-config.ensures.names
     c.in-Ok.ensures
     _ (all_of _ _ _ c.in_ok-print.ensures.printed)))
 
@@ -89,7 +84,7 @@ returns-clause-searched g c =
     let program = subst (λ (a : List ℕ). HasProgram held c.args.wanted c.args.words.now asked.image a) (sym c.deref.ensures.value) c.in_ok-config.ensures.program in
     ok_more _ _ c.judge.result
     (λ judgement is.
-    whole held c.args.wanted c.args.words.now c.args.window asked.config asked.image c.deref.result.now _ c.in-Ok.architecture c.in_ok-config.ensures.config program c.in_ok-config.ensures.names
+    whole held c.args.wanted c.args.words.now c.args.window asked.config asked.image c.deref.result.now _ c.in-Ok.architecture c.in_ok-config.ensures.config.0 c.in_ok-config.ensures.config.1 program c.in_ok-config.ensures.names
     c.in-Ok.ensures
     _ _ (g.F.Files.held c.keep.new.files) judgement _ c.in_ok-print.ensures.printed c.in_ok-keep.ensures.kept (spared_after _ _ _ _ c.in_ok-config.ensures.stays c.keep.ensures.spared) c.in_ok-config.ensures.allowed is.0 is.1)
     (ok_both _ _ c.judge.result c.judge.ensures.judged c.judge.ensures.whole)
@@ -104,7 +99,7 @@ returns-clause-unfinished g c =
     let program = subst (λ (a : List ℕ). HasProgram held c.args.wanted c.args.words.now asked.image a) (sym c.deref.ensures.value) c.in_ok-config.ensures.program in
     err_more _ _ c.judge.result
     (λ fault is. memory_left fault _ _ _ is
-    (has held c.args.wanted c.args.words.now c.args.window asked.config asked.image c.deref.result.now _ c.in-Ok.architecture c.in_ok-config.ensures.config program c.in_ok-config.ensures.names
+    (has held c.args.wanted c.args.words.now c.args.window asked.config asked.image c.deref.result.now _ c.in-Ok.architecture c.in_ok-config.ensures.config.0 c.in_ok-config.ensures.config.1 program c.in_ok-config.ensures.names
     c.in-Ok.ensures
     _ (all_of _ _ _ c.in_ok-print.ensures.printed)))
     c.judge.ensures.told
@@ -153,7 +148,7 @@ returns-clause-noted g c =
     let remarked = subst (λ (os : List Outcome). AreRemarked c.args.wanted.scripts os (g.E.Write.contents c.args.err.now) (g.E.Write.contents c.tell.new.err)) c.deref-2.ensures.value c.in_ok-tell.ensures.remarked in
     ok_more _ _ c.judge.result
     (λ judgement so.
-    noted held c.args.wanted c.args.words.now c.args.window asked.config asked.image c.deref.result.now _ c.in-Ok.architecture c.in_ok-config.ensures.config program c.in_ok-config.ensures.names
+    noted held c.args.wanted c.args.words.now c.args.window asked.config asked.image c.deref.result.now _ c.in-Ok.architecture c.in_ok-config.ensures.config.0 c.in_ok-config.ensures.config.1 program c.in_ok-config.ensures.names
     c.in-Ok.ensures
     _ _ (g.E.Write.contents c.args.err.now) (g.E.Write.contents c.tell.new.err) (g.E.Write.contents c.judge.new.err) judgement _ c.in_ok-print.ensures.printed remarked c.in_ok-config.ensures.allowed so)
     c.judge.ensures.noted

@@ -3,7 +3,7 @@ use Rattle.explore_command.proofs.Kept.{HasKept}
 use Rattle.explore_command.proofs.keeping.Folder.keep_outcomes.Given as goal
 
 abbrev pub invariant-loop-rest : goal.invariant-loop-rest
-invariant-loop-rest g l = HasKept (g.F.Files.held l.initial.files) (g.F.Files.held l.files) l.self.machine l.self.name.now l.rest l.outcomes
+invariant-loop-rest g l = HasKept (g.F.Files.held l.initial.files) (g.F.Files.held l.files) l.self.config l.self.kib l.self.name.now l.rest l.outcomes
 
 abbrev pub decreases-loop-rest : goal.decreases-loop-rest
 decreases-loop-rest g l = length l.rest

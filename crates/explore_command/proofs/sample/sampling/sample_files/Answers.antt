@@ -1,11 +1,9 @@
-use Rattle.std.proofs.Common.{◌≡◌, ◌≤◌, ℕ, inl, inr, refl, subst, true}
+use Rattle.std.proofs.Common.{refl}
 use Rattle.command_files.proofs.Left.{handed_up}
 use Rattle.explore_command.proofs.Explored.{all_of, err_more, judged, memory_left, memory_told, ok_both, ok_more, spared, spared_after}
 use Rattle.explore_command.proofs.Faults.{first_left, first_told, folder_late, folder_left, folder_told, memory_late, output_left, output_told}
 use Rattle.explore_command.proofs.Kept.{outcome_file, spares_wider}
 use Rattle.explore_command.proofs.Refused.{refusals_in}
-use Rattle.machine_types.specs.Config.{is_within_limits}
-use Rattle.machine_types.specs.declared.config.Config.{Config}
 use Rattle.explore_command.proofs.Runs.{all, all_made, has, refusals}
 use Rattle.explore_command.proofs.sample.sampling.sample_files.Goals as goal
 
@@ -18,9 +16,6 @@ returns-in_err-asked-clause-unfinished g c = handed_up _ c.from_residual.result 
 pub returns-in_err-asked-clause-spared : goal.returns-in_err-asked-clause-spared
 returns-in_err-asked-clause-spared g c = spared _ _ _ c.read.ensures.stays
 
-pub keep-requires-clause-within : goal.keep-requires-clause-within
-keep-requires-clause-within g c = subst (λ (k : Config). is_within_limits k ≡ true) c.in_ok-asked.ensures.config c.in_ok-asked.ensures.within
-
 pub returns-in_err-print-clause-told : goal.returns-in_err-print-clause-told
 returns-in_err-print-clause-told g c = handed_up _ c.from_residual-in_err-print.result _ c.from_residual-in_err-print.ensures.1 (output_told _ c.args.wanted _ c.in_err-print.ensures.told)
 
@@ -28,7 +23,7 @@ pub returns-in_err-print-clause-unfinished : goal.returns-in_err-print-clause-un
 returns-in_err-print-clause-unfinished g c =
     handed_up _ c.from_residual-in_err-print.result _ c.from_residual-in_err-print.ensures.1
     (output_left _ _ _ _ c.in_err-print.ensures.told
-    (has (g.F.Files.held c.args.files.now) c.args.wanted c.args.runs c.in_ok-asked.asked.config c.in_ok-asked.asked.image c.in-Ok.sampled c.in_ok-asked.ensures.config c.in_ok-asked.ensures.image
+    (has (g.F.Files.held c.args.files.now) c.args.wanted c.args.runs c.in_ok-asked.asked.config c.in_ok-asked.asked.image c.in-Ok.sampled c.in_ok-asked.ensures.config.0 c.in_ok-asked.ensures.config.1 c.in_ok-asked.ensures.image
     c.in-Ok.ensures
     _ c.in_err-print.ensures.begun))
 
@@ -40,7 +35,7 @@ returns-in_err-keep-clause-told g c = handed_up _ c.from_residual-in_err-keep.re
 
 pub returns-in_err-keep-clause-unfinished : goal.returns-in_err-keep-clause-unfinished
 returns-in_err-keep-clause-unfinished g c =
-    let has_text = has (g.F.Files.held c.args.files.now) c.args.wanted c.args.runs c.in_ok-asked.asked.config c.in_ok-asked.asked.image c.in-Ok.sampled c.in_ok-asked.ensures.config c.in_ok-asked.ensures.image c.in-Ok.ensures in
+    let has_text = has (g.F.Files.held c.args.files.now) c.args.wanted c.args.runs c.in_ok-asked.asked.config c.in_ok-asked.asked.image c.in-Ok.sampled c.in_ok-asked.ensures.config.0 c.in_ok-asked.ensures.config.1 c.in_ok-asked.ensures.image c.in-Ok.ensures in
     handed_up _ c.from_residual-in_err-keep.result _ c.from_residual-in_err-keep.ensures.1
     (folder_left c.args.wanted _ _ _ _ c.in_err-keep.ensures.told (has_text _ (all_of _ _ _ c.in_ok-print.ensures.printed)) (has_text _ c.in_ok-print.ensures.printed))
 
@@ -51,7 +46,7 @@ pub returns-clause-sampled : goal.returns-clause-sampled
 returns-clause-sampled g c =
     ok_more _ _ c.judge.result
     (λ judgement so.
-    all (g.F.Files.held c.args.files.now) c.args.wanted c.args.runs c.in_ok-asked.asked.config c.in_ok-asked.asked.image c.in-Ok.sampled c.in_ok-asked.ensures.config c.in_ok-asked.ensures.image
+    all (g.F.Files.held c.args.files.now) c.args.wanted c.args.runs c.in_ok-asked.asked.config c.in_ok-asked.asked.image c.in-Ok.sampled c.in_ok-asked.ensures.config.0 c.in_ok-asked.ensures.config.1 c.in_ok-asked.ensures.image
     c.in-Ok.ensures
     _ _ (g.F.Files.held c.keep.new.files) judgement c.in_ok-print.ensures.printed c.in_ok-keep.ensures.kept (spared_after _ _ _ _ c.in_ok-asked.ensures.stays c.keep.ensures.spared) (judged _ c.args.wanted.allow _ _ judgement c.in_ok-asked.ensures.allowed so.0) (λ is. all_made _ c.args.runs c.in-Ok.ensures.within refl (so.1 is)))
     (ok_both _ _ c.judge.result c.judge.ensures.judged c.judge.ensures.whole)
@@ -64,7 +59,7 @@ returns-clause-unfinished g c =
     err_more _ _ c.judge.result
     (λ fault is.
     memory_left fault _ _ _ is
-    (has (g.F.Files.held c.args.files.now) c.args.wanted c.args.runs c.in_ok-asked.asked.config c.in_ok-asked.asked.image c.in-Ok.sampled c.in_ok-asked.ensures.config c.in_ok-asked.ensures.image
+    (has (g.F.Files.held c.args.files.now) c.args.wanted c.args.runs c.in_ok-asked.asked.config c.in_ok-asked.asked.image c.in-Ok.sampled c.in_ok-asked.ensures.config.0 c.in_ok-asked.ensures.config.1 c.in_ok-asked.ensures.image
     c.in-Ok.ensures
     _ (all_of _ _ _ c.in_ok-print.ensures.printed)))
     c.judge.ensures.told
@@ -91,7 +86,7 @@ pub returns-clause-noted : goal.returns-clause-noted
 returns-clause-noted g c =
     ok_more _ _ c.judge.result
     (λ judgement so.
-    refusals (g.F.Files.held c.args.files.now) c.args.wanted c.args.runs c.in_ok-asked.asked.config c.in_ok-asked.asked.image c.in-Ok.sampled c.in_ok-asked.ensures.config c.in_ok-asked.ensures.image
+    refusals (g.F.Files.held c.args.files.now) c.args.wanted c.args.runs c.in_ok-asked.asked.config c.in_ok-asked.asked.image c.in-Ok.sampled c.in_ok-asked.ensures.config.0 c.in_ok-asked.ensures.config.1 c.in_ok-asked.ensures.image
     c.in-Ok.ensures
     _ _ _ c.in_ok-print.ensures.printed (refusals_in _ c.args.wanted.allow _ _ _ c.in_ok-asked.ensures.allowed so))
     c.judge.ensures.noted

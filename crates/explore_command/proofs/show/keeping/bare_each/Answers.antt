@@ -1,6 +1,5 @@
-use Rattle.std.proofs.Common.{◌≡◌, ◌∙◌, ◌++◌, ◌∷◌, [], List, Option, ap, arith, length, map, refl, reverse, rules, sym}
+use Rattle.std.proofs.Common.{◌∙◌, ◌++◌, Option, ap, map, rules}
 use Rattle.std.specs.Option.{option_to_list}
-use Rattle.std.proofs.lemmas.List.{append-nil}
 use Rattle.explore_command.proofs.Shown.{one_bare}
 use Rattle.explore_command.specs.WordKeeping.{bare_of}
 use Rattle.explorer.specs.declared.words.found.WordFound.{WordFound}

@@ -31,7 +31,7 @@ returns-in_err-print-clause-unfinished g c =
     let program = subst (λ (a : List ℕ). HasProgram held show.explore c.deref.result.now asked.image a) (sym c.deref-2.ensures.value) c.in_ok-config.ensures.program in
     handed_up _ c.from_residual-in_err-print.result _ c.from_residual-in_err-print.ensures.1
     (output_left _ _ _ _ c.in_err-print.ensures.told
-    (has held show asked.config asked.image c.deref-2.result.now _ _ c.in-Ok.exploration c.in_ok-config.ensures.config c.deref.ensures.value program c.in_ok-config.ensures.names
+    (has held show asked.config asked.image c.deref-2.result.now _ _ c.in-Ok.exploration c.in_ok-config.ensures.config.0 c.in_ok-config.ensures.config.1 c.deref.ensures.value program c.in_ok-config.ensures.names
     c.in-Ok.ensures _ c.in_err-print.ensures.begun))
 
 pub returns-in_err-keep-clause-told : goal.returns-in_err-keep-clause-told
@@ -46,7 +46,7 @@ returns-in_err-keep-clause-unfinished g c =
     let held = g.F.Files.held c.args.files.now in
     let asked = c.in_ok-config.field-0 in
     let program = subst (λ (a : List ℕ). HasProgram held show.explore c.deref.result.now asked.image a) (sym c.deref-2.ensures.value) c.in_ok-config.ensures.program in
-    let told = has held show asked.config asked.image c.deref-2.result.now _ _ c.in-Ok.exploration c.in_ok-config.ensures.config c.deref.ensures.value program c.in_ok-config.ensures.names
+    let told = has held show asked.config asked.image c.deref-2.result.now _ _ c.in-Ok.exploration c.in_ok-config.ensures.config.0 c.in_ok-config.ensures.config.1 c.deref.ensures.value program c.in_ok-config.ensures.names
     c.in-Ok.ensures in
     handed_up _ c.from_residual-in_err-keep.result _ c.from_residual-in_err-keep.ensures.1
     (folder_left show.explore _ _ _ _ c.in_err-keep.ensures.told (told _ (all_of _ _ _ c.in_ok-print.ensures.printed)) (told _ c.in_ok-print.ensures.printed))
@@ -62,7 +62,7 @@ returns-clause-shown g c =
     let program = subst (λ (a : List ℕ). HasProgram held show.explore c.deref.result.now asked.image a) (sym c.deref-2.ensures.value) c.in_ok-config.ensures.program in
     ok_more _ _ c.judge-judgement.result
     (λ judgement so.
-    shown held show asked.config asked.image c.deref-2.result.now _ _ c.in-Ok.exploration c.in_ok-config.ensures.config c.deref.ensures.value program c.in_ok-config.ensures.names
+    shown held show asked.config asked.image c.deref-2.result.now _ _ c.in-Ok.exploration c.in_ok-config.ensures.config.0 c.in_ok-config.ensures.config.1 c.deref.ensures.value program c.in_ok-config.ensures.names
     c.in-Ok.ensures
     _ _ (g.F.Files.held c.keep.new.files) judgement _ c.in_ok-print.ensures.printed c.in_ok-keep.ensures.kept (spared_after _ _ _ _ c.in_ok-config.ensures.stays c.keep.ensures.spared) c.in_ok-config.ensures.allowed so.0 so.1)
     (ok_both _ _ c.judge-judgement.result c.judge-judgement.ensures.judged c.judge-judgement.ensures.whole)
@@ -75,7 +75,7 @@ returns-clause-unfinished g c =
     let program = subst (λ (a : List ℕ). HasProgram held show.explore c.deref.result.now asked.image a) (sym c.deref-2.ensures.value) c.in_ok-config.ensures.program in
     err_more _ _ c.judge-judgement.result
     (λ fault is. memory_left fault _ _ _ is
-    (has held show asked.config asked.image c.deref-2.result.now _ _ c.in-Ok.exploration c.in_ok-config.ensures.config c.deref.ensures.value program c.in_ok-config.ensures.names
+    (has held show asked.config asked.image c.deref-2.result.now _ _ c.in-Ok.exploration c.in_ok-config.ensures.config.0 c.in_ok-config.ensures.config.1 c.deref.ensures.value program c.in_ok-config.ensures.names
     c.in-Ok.ensures
     _ (all_of _ _ _ c.in_ok-print.ensures.printed)))
     c.judge-judgement.ensures.told
@@ -119,7 +119,7 @@ returns-clause-noted g c =
     let program = subst (λ (a : List ℕ). HasProgram held show.explore c.deref.result.now asked.image a) (sym c.deref-2.ensures.value) c.in_ok-config.ensures.program in
     ok_more _ _ c.judge-judgement.result
     (λ judgement so.
-    refused held show asked.config asked.image c.deref-2.result.now _ _ c.in-Ok.exploration c.in_ok-config.ensures.config c.deref.ensures.value program c.in_ok-config.ensures.names
+    refused held show asked.config asked.image c.deref-2.result.now _ _ c.in-Ok.exploration c.in_ok-config.ensures.config.0 c.in_ok-config.ensures.config.1 c.deref.ensures.value program c.in_ok-config.ensures.names
     c.in-Ok.ensures
     _ _ _ _ c.in_ok-print.ensures.printed c.in_ok-config.ensures.allowed so)
     c.judge-judgement.ensures.noted
@@ -131,7 +131,7 @@ returns-in_err-keep-clause-judged_first g c =
     let asked = c.in_ok-config.field-0 in
     let program = subst (λ (a : List ℕ). HasProgram held show.explore c.deref.result.now asked.image a) (sym c.deref-2.ensures.value) c.in_ok-config.ensures.program in
     on_err_of c.from_residual-in_err-keep.result (inr
-    (refused held show asked.config asked.image c.deref-2.result.now _ _ c.in-Ok.exploration c.in_ok-config.ensures.config c.deref.ensures.value program c.in_ok-config.ensures.names
+    (refused held show asked.config asked.image c.deref-2.result.now _ _ c.in-Ok.exploration c.in_ok-config.ensures.config.0 c.in_ok-config.ensures.config.1 c.deref.ensures.value program c.in_ok-config.ensures.names
     c.in-Ok.ensures
     _ _ _ _ c.in_ok-print.ensures.printed c.in_ok-config.ensures.allowed
     (begun_by _ _ _ c.judge-judgement.result c.judge-judgement.ensures.noted c.judge-judgement.ensures.silent)))

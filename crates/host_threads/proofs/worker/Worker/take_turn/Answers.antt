@@ -117,3 +117,21 @@ returns-in-Tried-clause-ends g c = λ off.
       c.go_on-in-Tried.ensures.counts ∙ stopped (counted ≡ count) c.in-Tried.came c.go_on-in-Tried.result c.go_on-in-Tried.ensures.goes (refused_counts c.in-Tried.event c.in-Tried.came took.2.0 took.0 count counted takes.leaves takes.counts) off,
       tells_then false None first drawn last untold (stopped (Tells false None drawn last) c.in-Tried.came c.go_on-in-Tried.result c.go_on-in-Tried.ensures.goes c.go_on-in-Tried.ensures.silent off),
     )
+
+pub returns-in-HeldBack-clause-ends : goal.returns-in-HeldBack-clause-ends
+returns-in-HeldBack-clause-ends g c = λ off.
+    let took = c.in-HeldBack.ensures.takes in
+    let takes = took.2.4 in
+    let count = share_of c.args.self.now.port in
+    let first = view (seat_of c.args.self.now.port) in
+    let drawn = view (seat_of c.take.new.self) in
+    let untold = untold_then first (view c.halted.new.seat) drawn
+    (lent_untold c.seat.result.now (seat_of c.args.self.now.port) c.halted.new.seat c.halted.result c.seat.ensures.now c.halted.ensures.seen)
+    (drawn_untold c.args.self.now.common.now.limit (HeldBack c.in-HeldBack.number c.in-HeldBack.event) (view c.halted.new.seat) drawn takes.draws) in
+    let same = held_counts took.2.0 took.0 count (share_of c.take.new.self) takes.leaves takes.counts in
+    let port = c.go_alone-came.new.self.port in
+    let back = untold_then first drawn (view (seat_of port)) untold (seat_untold (seat_of c.take.new.self) (seat_of port) c.go_alone-came.ensures.seat) in
+    let last = view (seat_of c.go_on.new.self.port) in (
+      c.go_on.ensures.counts ∙ (stopped (share_of port ≡ share_of c.take.new.self) c.go_alone-came.result c.go_on.result c.go_on.ensures.goes c.go_alone-came.ensures.err off ∙ same),
+      tells_then false None first (view (seat_of port)) last back (stopped (Tells false None (view (seat_of port)) last) c.go_alone-came.result c.go_on.result c.go_on.ensures.goes c.go_on.ensures.silent off),
+    )

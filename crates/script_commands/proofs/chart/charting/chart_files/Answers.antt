@@ -1,12 +1,10 @@
-use Rattle.std.proofs.Common.{◌≡◌, ◌∙◌, Err, ap, false, inr, refl, subst, sym}
-use Rattle.std.proofs.lemmas.Bool.{false≢true}
+use Rattle.std.proofs.Common.{refl, subst}
 use Rattle.script_commands.proofs.Drawn.{begun_at, drawn_at, drawn_begun, drawn_on, left_by, lost_told, stopped, told_as, undrawn_at}
-use Rattle.script_commands.proofs.ChartTold.{address_is_not_write, chart_misused, drawing_never_misused, of_address, of_chart_image, of_chart_script, writing_never_misused}
+use Rattle.script_commands.proofs.ChartTold.{address_is_not_write, drawing_never_misused, of_address, of_chart_image, of_chart_script, writing_never_misused}
 use Rattle.command_files.proofs.Left.{handed_up, image_as_before, image_is_not_write, left, script_is_not_write, spoiled}
-use Rattle.command_files.proofs.Limits.{machine_within, memory_within}
+use Rattle.command_files.proofs.Limits.{memory_within}
 use Rattle.command_files.specs.Files.{HoldsImage}
 use Rattle.command_files.specs.Contents.{Contents}
-use Rattle.machine_types.specs.Config.{is_within_limits}
 use Rattle.script_commands.proofs.chart.charting.chart_files.Goals as goal
 
 pub image_in-requires : goal.image_in-requires
@@ -49,7 +47,6 @@ returns-in-Err-clause-unfinished g c =
 pub returns-in-Err-clause-misused : goal.returns-in-Err-clause-misused
 returns-in-Err-clause-misused g c = λ two.
     absurd (drawing_never_misused _ c.in-Err.error _
-    (λ at. false≢true (sym (c.write_chart-drawn.ensures.limits.0 (c.in-Err.is ∙ ap Err at)) ∙ (ap is_within_limits c.config_of-config.ensures ∙ machine_within c.in_ok-script.script c.args.wanted.model c.in_ok-script.ensures.script.is_script)))
     c.fault_of-fault.ensures two)
 
 pub returns-in-Err-clause-told : goal.returns-in-Err-clause-told
@@ -57,7 +54,6 @@ returns-in-Err-clause-told g c =
     told_as _ c.args.wanted c.args.line c.in_ok-script.script c.in_ok-image.image c.in_ok-address.address _ _ _ c.in-Err.error _ c.in_ok-script.ensures.script
     (subst (λ (held : Contents). HoldsImage held c.args.wanted.raw c.args.wanted.image.now c.in_ok-script.script.kib c.in_ok-image.image) c.in_ok-script.ensures.stays c.in_ok-image.ensures.image)
     c.in_ok-address.ensures.named
-    (λ at. false≢true (sym (c.write_chart-drawn.ensures.limits.0 (c.in-Err.is ∙ ap Err at)) ∙ (ap is_within_limits c.config_of-config.ensures ∙ machine_within c.in_ok-script.script c.args.wanted.model c.in_ok-script.ensures.script.is_script)))
     (undrawn_at _ _ _ _ _ _ _ _ _ c.in-Err.error c.config_of-config.ensures c.as_slice-events.ensures c.in-Err.ensures.undrawn)
     c.fault_of-fault.ensures
 

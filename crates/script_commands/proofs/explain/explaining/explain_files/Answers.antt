@@ -1,12 +1,10 @@
-use Rattle.std.proofs.Common.{◌∙◌, ap, refl, subst, sym}
-use Rattle.std.proofs.lemmas.Bool.{false≢true}
+use Rattle.std.proofs.Common.{refl, subst}
 use Rattle.event_stream.specs.declared.errors.StreamError.TheVariants as stream
-use Rattle.machine_types.specs.Config.{is_within_limits}
 use Rattle.script_commands.specs.Named.{HoldsNamedImage}
 use Rattle.command_files.specs.Contents.{Contents}
 use Rattle.command_files.proofs.Left.{handed_up, image_as_before}
 use Rattle.script_commands.proofs.ExplainTold.{image_left, of_explained_image, of_explained_script, script_left}
-use Rattle.command_files.proofs.Limits.{machine_within, memory_within}
+use Rattle.command_files.proofs.Limits.{memory_within}
 use Rattle.script_commands.proofs.Streams.{cut_left, lost_left, lost_told, part_at, part_of, part_on, told_as, whole_at}
 use Rattle.script_commands.proofs.explain.explaining.explain_files.Goals as goal
 
@@ -66,7 +64,7 @@ pub returns-in-Err-clause-told : goal.returns-in-Err-clause-told
 returns-in-Err-clause-told g c = lost_told _ c.args.wanted _ _ _ _ c.writing.ensures.told
 
 pub returns-clause-unfinished : goal.returns-clause-unfinished
-returns-clause-unfinished g c = cut_left _ _ _ _ c.in-Err-told.error _ (λ at. false≢true (sym (c.in-Err-told.ensures.limits at) ∙ (ap is_within_limits c.config_of-config.ensures ∙ machine_within c.in_ok-script.script c.args.wanted.model c.in_ok-script.ensures.script.is_script))) c.explaining-fault.ensures (record {
+returns-clause-unfinished g c = cut_left _ _ _ _ c.in-Err-told.error _ c.explaining-fault.ensures (record {
   script = c.in_ok-script.script;
   image = c.in_ok-named.named.image;
   names = c.in_ok-named.named.names;
@@ -84,7 +82,6 @@ pub returns-clause-told : goal.returns-clause-told
 returns-clause-told g c =
     told_as c.in_ok-named.named.names _ c.args.wanted c.args.strictness c.args.with_state c.in_ok-script.script c.in_ok-named.named.image _ _ c.in-Err-told.error _ c.in_ok-script.ensures.script
     (subst (λ (held : Contents). HoldsNamedImage held c.args.wanted.raw c.args.wanted.image.now c.in_ok-script.script.kib c.in_ok-named.named.image c.in_ok-named.named.names) c.in_ok-script.ensures.stays c.in_ok-named.ensures.image)
-    (λ at. false≢true (sym (c.in-Err-told.ensures.limits at) ∙ (ap is_within_limits c.config_of-config.ensures ∙ machine_within c.in_ok-script.script c.args.wanted.model c.in_ok-script.ensures.script.is_script)))
     (part_at c.in_ok-named.named.names _ _ _ _ _ _ _ _ _ _ c.config_of-config.ensures c.as_slice-events.ensures
     (part_on c.in_ok-named.named.names c.args.strictness c.args.with_state c.in_ok-named.named.image c.config_of-config.result c.as_slice-events.result.now (g.O.Write.contents c.args.out.now) (g.O.Write.contents c.tell-told.new.out)
     (g.O.Write.contents c.flush.new.self) c.in-Err-told.error c.flush.ensures.bytes c.in-Err-told.ensures.unfinished))

@@ -1,9 +1,5 @@
-use Rattle.std.proofs.Common.{Err, ap}
 use Rattle.script_commands.proofs.Streams.{part_of_state, part_of_stream, passed_on, with_its_state}
 use Rattle.script_commands.proofs.explain.explaining.tell.Goals as goal
-
-pub returns-in_err-machine-clause-limits : goal.returns-in_err-machine-clause-limits
-returns-in_err-machine-clause-limits g c = passed_on _ c.from_residual.result _ c.from_residual.ensures.1 (λ at. c.in_err-machine.ensures.limits.0 (ap Err at))
 
 pub returns-in_err-machine-clause-unfinished : goal.returns-in_err-machine-clause-unfinished
 returns-in_err-machine-clause-unfinished g c =

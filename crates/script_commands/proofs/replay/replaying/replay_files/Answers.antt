@@ -1,20 +1,14 @@
-use Rattle.std.proofs.Common.{◌≡◌, ◌∙◌, ◌⊎◌, ◌↔◌, ◌+◌, ◌^◌, ◌-◌, ℕ, Err, Result, ap, false, inl, inr, map, refl, subst, sym}
+use Rattle.std.proofs.Common.{◌≡◌, ◌∙◌, ◌⊎◌, ◌+◌, ◌^◌, ◌-◌, ℕ, ap, inl, inr, map, refl, subst, sym}
 use Rattle.std.specs.Prelude.{min}
-use Rattle.std.proofs.lemmas.Bool.{false≢true}
 use Rattle.coherent_machine.specs.Machine.{IsFirstRefusal}
-use Rattle.coherent_machine.specs.declared.errors.NewError.TheVariants.{Config}
 use Rattle.coherent_machine.specs.declared.errors.ReplayError.{ReplayError}
 use Rattle.coherent_machine.specs.declared.errors.ReplayError.TheVariants as refusals
-use Rattle.coherent_machine.specs.declared.errors.ReplayError.TheVariants.{New}
 use Rattle.command_files.specs.Sizes.{config_of}
 use Rattle.command_files.specs.Faults.{IsReplayFault}
-use Rattle.script_commands.specs.declared.replay.composing.CompositionError.{CompositionError}
-use Rattle.script_commands.specs.declared.replay.composing.CompositionError.TheVariants as composition
 use Rattle.command_files.specs.declared.fault.Fault.{Fault}
-use Rattle.command_files.specs.declared.fault.Fault.TheVariants.{CannotWrite, Configuration, Event, OutOfMemory}
+use Rattle.command_files.specs.declared.fault.Fault.TheVariants.{CannotWrite, Event, OutOfMemory}
 use Rattle.command_settings.specs.declared.wanted.Replay.{Replay}
 use Rattle.elf_loader.specs.Image.{Initial}
-use Rattle.machine_types.specs.Config.{is_within_limits}
 use Rattle.machine_model.specs.Views.{opening}
 use Rattle.machine_parts.specs.declared.errors.ApplyError.{ApplyError}
 use Rattle.trace_text.specs.declared.script.Script.{Script}
@@ -23,45 +17,38 @@ use Rattle.command_files.specs.Contents.{Contents}
 use Rattle.command_files.proofs.Ended.{ends_begun}
 use Rattle.command_files.proofs.Left.{handed_up, image_as_before, image_is_not_write, left, script_is_not_write, spoiled}
 use Rattle.script_commands.proofs.ReplayTold.{of_image, of_script}
-use Rattle.command_files.proofs.Limits.{machine_within, memory_within}
+use Rattle.command_files.proofs.Limits.{memory_within}
 use Rattle.command_files.proofs.Written.{all_begun, kept_on}
 use Rattle.script_commands.proofs.replay.replaying.replay_files.Goals as goal
 
 -- what a refused replay is told as
-told_of : {T : Type 0} (held : Contents) (replay : Replay) (script : Script) (image : Initial) (r : Result T CompositionError) (refusal : ReplayError) (fault : Fault)
+told_of : (held : Contents) (replay : Replay) (script : Script) (image : Initial) (refusal : ReplayError) (fault : Fault)
     → HoldsScript held replay.script.now script → HoldsImage held replay.raw replay.image.now script.kib image
-    → (r ≡ Err (composition.Replay (New Config)) → is_within_limits (config_of script replay.model) ≡ false) → r ≡ Err (composition.Replay refusal)
     → IsFirstRefusal (opening image (config_of script replay.model)) script.events refusal
-    → (fault ≡ Configuration) ⊎ ((fault ≡ OutOfMemory) ⊎ ((index : ℕ) × (error : ApplyError) × (refusal ≡ refusals.Event index error) × (fault ≡ Event replay.script (min (index + 2) (2 ^ 64 - 1)) error)))
-    → ((fault ≡ Configuration) ↔ (refusal ≡ New Config)) → IsReplayFault held replay fault
-told_of held replay script image r refusal fault script_file image_file limits failed first told configured = elim told [
-  | inl beyond ↦ absurd (false≢true (sym (limits (failed ∙ ap (λ e. Err (composition.Replay e)) (configured.0 beyond))) ∙ machine_within script replay.model script_file.is_script))
-  | inr other ↦ elim other [
-    | inl memory ↦ subst (IsReplayFault held replay) (sym memory) tt
-    | inr event ↦ subst (IsReplayFault held replay) (sym event.3) (
-      refl,
-      record {
-        script = script;
-        image = image;
-        script_file = script_file;
-        image_file = image_file;
-        index = event.0;
-        place = refl;
-        refused = subst (IsFirstRefusal (opening image (config_of script replay.model)) script.events) event.2 first;
-      },
-    )
-  ]
+    → (fault ≡ OutOfMemory) ⊎ ((index : ℕ) × (error : ApplyError) × (refusal ≡ refusals.Event index error) × (fault ≡ Event replay.script (min (index + 2) (2 ^ 64 - 1)) error))
+    → IsReplayFault held replay fault
+told_of held replay script image refusal fault script_file image_file first told = elim told [
+  | inl memory ↦ subst (IsReplayFault held replay) (sym memory) tt
+  | inr event ↦ subst (IsReplayFault held replay) (sym event.3) (
+    refl,
+    record {
+      script = script;
+      image = image;
+      script_file = script_file;
+      image_file = image_file;
+      index = event.0;
+      place = refl;
+      refused = subst (IsFirstRefusal (opening image (config_of script replay.model)) script.events) event.2 first;
+    },
+  )
 ]
 
 no_write : (replay : Replay) (refusal : ReplayError) (fault : Fault)
-    → (fault ≡ Configuration) ⊎ ((fault ≡ OutOfMemory) ⊎ ((index : ℕ) × (error : ApplyError) × (refusal ≡ refusals.Event index error) × (fault ≡ Event replay.script (min (index + 2) (2 ^ 64 - 1)) error)))
+    → (fault ≡ OutOfMemory) ⊎ ((index : ℕ) × (error : ApplyError) × (refusal ≡ refusals.Event index error) × (fault ≡ Event replay.script (min (index + 2) (2 ^ 64 - 1)) error))
     → fault ≡ CannotWrite → ⊥
 no_write replay refusal fault told at = elim told [
-  | inl beyond ↦ let bad : Configuration ≡ CannotWrite = sym beyond ∙ at in cc
-  | inr other ↦ elim other [
-    | inl memory ↦ let bad : OutOfMemory ≡ CannotWrite = sym memory ∙ at in cc
-    | inr event ↦ let bad : Event replay.script (min (event.0 + 2) (2 ^ 64 - 1)) event.1 ≡ CannotWrite = sym event.3 ∙ at in cc
-  ]
+  | inl memory ↦ let bad : OutOfMemory ≡ CannotWrite = sym memory ∙ at in cc
+  | inr event ↦ let bad : Event replay.script (min (event.0 + 2) (2 ^ 64 - 1)) event.1 ≡ CannotWrite = sym event.3 ∙ at in cc
 ]
 
 either_told : (held : Contents) (replay : Replay) (fault : Fault) → (fault ≡ CannotWrite) ⊎ (fault ≡ OutOfMemory) → IsReplayFault held replay fault
@@ -135,10 +122,26 @@ returns-in-Err-Replay-clause-unfinished g c =
 
 pub returns-in-Err-Replay-clause-told : goal.returns-in-Err-Replay-clause-told
 returns-in-Err-Replay-clause-told g c =
-    told_of _ c.args.wanted c.in_ok-script.script c.in_ok-image.image c.replay_and_write.result c.in-Err-Replay.error _ c.in_ok-script.ensures.script
+    told_of _ c.args.wanted c.in_ok-script.script c.in_ok-image.image c.in-Err-Replay.error _ c.in_ok-script.ensures.script
     (subst (λ (held : Contents). HoldsImage held c.args.wanted.raw c.args.wanted.image.now c.in_ok-script.script.kib c.in_ok-image.image) c.in_ok-script.ensures.stays c.in_ok-image.ensures.image)
-    c.replay_and_write.ensures.limits.0 (c.in-Err-Replay.is ∙ ap Err c.in-Err-Replay.field-0-is) (rw c.in-Err-Replay.field-0-is at c.in-Err-Replay.ensures.unfinished).1
-    c.replay-fault.ensures.told c.replay-fault.ensures.configuration
+    (rw c.in-Err-Replay.field-0-is at c.in-Err-Replay.ensures.unfinished).1
+    c.replay-fault.ensures.told
+
+pub returns-in-Err-Writing-clause-unfinished : goal.returns-in-Err-Writing-clause-unfinished
+returns-in-Err-Writing-clause-unfinished g c =
+    let cut = rw c.in-Err-Writing.field-0-is at c.in-Err-Writing.ensures.unfinished in
+    spoiled _ _ _ _ c.writing.ensures.told
+    (record {
+      script = c.in_ok-script.script;
+      image = c.in_ok-image.image;
+      reached = cut.0;
+      script_file = c.in_ok-script.ensures.script;
+      image_file =
+          subst (λ (held : Contents). HoldsImage held c.args.wanted.raw c.args.wanted.image.now c.in_ok-script.script.kib c.in_ok-image.image)
+          c.in_ok-script.ensures.stays c.in_ok-image.ensures.image;
+      replayed = cut.1;
+      begun = cut.2;
+    })
 
 pub returns-in-Err-clause-unfinished : goal.returns-in-Err-clause-unfinished
 returns-in-Err-clause-unfinished g c =

@@ -8,7 +8,7 @@ pub returns : goal.returns
 returns c e =
     let passes : c.eq.result ≡ true = cc in
     let drained : c.has_drained.result ≡ true = cc in
-    let met : c.is_met.result ≡ Ok true = cc in
+    let met : c.is_met.result ≡ Ok true = c.in_ok-is_met.was ∙ ap Ok c.if-not-branch.false in
     let addresses = c.args.self.now.addresses.now in
     let outcome = c.is_met.ensures met in
     let words = sym (ap (λ t. map (performed_word t) addresses) c.trace.ensures) ∙ (sym c.in_ok-shown.ensures ∙ (sym c.as_slice.ensures.value ∙ (pointwise_decides Decides-eqb c.as_slice.result.now c.args.self.now.words.now).0 (sym c.eq.ensures ∙ passes))) in
