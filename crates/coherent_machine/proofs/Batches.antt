@@ -18,7 +18,7 @@ use Rattle.machine_model.specs.Events.Verdict.{IsLimited, Moves}
 use Rattle.machine_model.specs.Views.{State}
 use Rattle.machine_parts.specs.Applying.{Answers}
 use Rattle.machine_parts.specs.declared.errors.ApplyError.{ApplyError}
-use Rattle.machine_parts.specs.declared.errors.ApplyError.TheVariants.{BadEvent, Limit}
+use Rattle.machine_parts.specs.declared.errors.ApplyError.TheVariants.{BadEvent}
 use Rattle.machine_parts.proofs.Committed.{IsNext, verdict_is}
 use Rattle.coherent_machine.specs.Adopting.{IsCurrent, have_words, local_of}
 
@@ -87,10 +87,6 @@ next_row h row s r c =
 abbrev pub limits_or : Bool → State → Verdict
 limits_or b moved = cond b IsLimited (Moves outcome.Retired moved)
 
-limited_by : (b : Bool) (moved s new : State) (result : Result Outcome ApplyError) → Answers (limits_or b moved) s result new → result ≡ Err Limit → limits_or b moved ≡ IsLimited
-limited_by true moved s new result a e = refl
-limited_by false moved s new result a e = elim a [ inl x ↦ absurd (cc (x.0, e)) | inr x ↦ absurd (cc (x.0, e)) ]
-
 moved_by : (b : Bool) (moved s new : State) (o : Outcome) (result : Result Outcome ApplyError) → Answers (limits_or b moved) s result new → result ≡ Ok o → (limits_or b moved ≡ Moves o new) × (o ≡ outcome.Retired)
 moved_by true moved s new o result a e = absurd (cc (a.0, e))
 moved_by false moved s new o result a e =
@@ -125,9 +121,6 @@ verdict_fits h row s f = verdict_is h row s f.current.there f.is_row.few f.some 
 
 answers_by : (h : ℕ) (row : PrivateRow) (s new : State) (result : Result Outcome ApplyError) → Fits h row s → Answers (verdict s (local_of h row)) s result new → Answers (limits_or (is_limited s h (act.Local (length row.entries))) (went h row s)) s result new
 answers_by h row s new result f a = subst (λ (v : Verdict). Answers v s result new) (verdict_fits h row s f) a
-
-pub limited_when : (h : ℕ) (row : PrivateRow) (s new : State) (result : Result Outcome ApplyError) → Fits h row s → Answers (verdict s (local_of h row)) s result new → result ≡ Err Limit → verdict s (local_of h row) ≡ IsLimited
-limited_when h row s new result f a e = verdict_fits h row s f ∙ limited_by (is_limited s h (act.Local (length row.entries))) (went h row s) s new result (answers_by h row s new result f a) e
 
 pub moved_when : (h : ℕ) (row : PrivateRow) (s new : State) (o : Outcome) (result : Result Outcome ApplyError) → Fits h row s → Answers (verdict s (local_of h row)) s result new → result ≡ Ok o → (verdict s (local_of h row) ≡ Moves o new) × (o ≡ outcome.Retired)
 moved_when h row s new o result f a e =

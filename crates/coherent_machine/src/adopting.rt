@@ -2,7 +2,6 @@
 
 ghost use Rattle.std.specs.Prelude.{◌≡◌, ◌↔◌, IsTrue};
 ghost use Rattle.coherent_machine.specs.Adopting.{IsCurrent, have_words};
-ghost use Rattle.machine_parts.specs.Parts.{state_of};
 
 use elf_loader::Image;
 use hart::{Batch, Retired};
@@ -10,7 +9,7 @@ use machine_parts::Parts;
 
 /// Whether the hart stands where the batch begins, and the batch's words are the image's.
 pub(crate) fn is_current(parts: &Parts, hart: u8, batch: &Batch) -> bool
-    ensures { IsTrue result ↔ IsCurrent hart batch.now (state_of parts.now) }
+    ensures { IsTrue result ↔ IsCurrent hart batch.now parts.now.state }
 {
     if usize::from(hart) >= parts.nodes.len() {
         return false;

@@ -1,7 +1,6 @@
 //! The machine, and the calls on it.
 
 ghost use Rattle.std.specs.Prelude.{◌≡◌, ◌≢◌, ◌↔◌, ◌<◌, [], Err, IfErr, IfOk, OnOk, OnErr, length, map};
-ghost use Rattle.hart.specs.Local.{IsPrivateRow};
 ghost use Rattle.machine_model.specs.Events.{Verdict, happens, verdict};
 ghost use Rattle.machine_model.specs.LawfulLog.{IsLawfulLog};
 ghost use Rattle.machine_model.specs.Laws.{Grows, IsHeadline, KeepsImageAndConfig};
@@ -37,7 +36,6 @@ pub struct Machine {
 impl Model for Machine {
     ghost use Rattle.machine_model.specs.Views.{State};
     ghost use Rattle.coherent_machine.specs.Machine.{IsReached};
-    ghost use Rattle.machine_parts.specs.Parts.{state_of};
     ghost use Rattle.std.specs.Coded.{codes};
     ghost use Rattle.machine_parts.specs.Codes.{cache_coded};
 
@@ -45,9 +43,9 @@ impl Model for Machine {
 
     ghost coded = { Prim.hlevel (codes, cache_coded) };
 
-    ghost view = { λ m. state_of m.parts };
+    ghost view = { λ m. m.parts.state };
 
-    ghost invariant = { λ m. IsReached (state_of m.parts) };
+    ghost invariant = { λ m. IsReached m.parts.state };
 }
 
 impl Machine {
@@ -113,6 +111,8 @@ impl Machine {
     {
         headline();
         log_lawful_always();
+        sound_always();
+        nothing_is_rewritten();
         image_and_config_stay();
         if !is_current(&self.parts, hart, batch) {
             return Err(AdoptError::Stale);
@@ -120,34 +120,12 @@ impl Machine {
         if batch.entries().is_empty() {
             return Err(AdoptError::Empty);
         }
-        match self.commit(hart, batch) {
+        match self.parts.commit(hart, batch) {
             Ok(outcome) => Ok(outcome),
             Err(ApplyError::Limit) => Err(AdoptError::Limit),
             Err(ApplyError::NoMemory) => Err(AdoptError::NoMemory),
             Err(ApplyError::BadEvent) => unreachable!(),
         }
-    }
-
-    // Commits a current row as the event that it is.
-    fn commit(&mut self, hart: u8, batch: &Batch) -> Result<Outcome, ApplyError>
-        requires row { IsPrivateRow batch.now }
-        requires current { IsCurrent hart batch.now self.old }
-        requires some { batch.now.entries ≢ [] }
-        ensures answers { Answers (verdict self.old (local_of hart batch.now)) self.old result self.new }
-        ensures ok { OnOk result (self.new ≡ happens self.old (local_of hart batch.now)) }
-        ensures err { OnErr result (self.new ≡ self.old) }
-        ensures reached { IsReached self.new }
-        ensures headline { KeepsHeadline self.new }
-        ensures log { IsLawfulLog self.new.trace.log }
-        ensures grows { Grows self.old.trace self.new.trace }
-        ensures stays { KeepsImageAndConfig self.old self.new }
-    {
-        headline();
-        log_lawful_always();
-        sound_always();
-        nothing_is_rewritten();
-        image_and_config_stay();
-        self.parts.commit(hart, batch)
     }
 
     /// What the machine is at the moment.
@@ -172,8 +150,8 @@ impl Machine {
     {
         sound_always();
         let Machine { parts, outputs } = self;
-        let outputs = outputs.of(parts.nodes);
-        (parts.trace, outputs)
+        let Parts { nodes, trace, .. } = parts;
+        (trace, outputs.of(nodes))
     }
 }
 

@@ -21,7 +21,6 @@ pub struct Views<'a> {
 
 impl<'a> Model for Views<'a> {
     ghost use Rattle.machine_model.specs.Views as views;
-    ghost use Rattle.machine_parts.specs.Parts.{state_of};
     ghost use Rattle.std.specs.Coded.{codes};
     ghost use Rattle.machine_parts.specs.Codes.{cache_coded};
 
@@ -29,35 +28,39 @@ impl<'a> Model for Views<'a> {
 
     ghost coded = { Prim.hlevel (codes, cache_coded) };
 
-    ghost view = { λ v. state_of v.parts.now };
+    ghost view = { λ v. v.parts.now.state };
 }
 
 impl<'a> Views<'a> {
     pub fn config(&self) -> &'a Config
         ensures { result.now ≡ self.now.views.config }
     {
-        &self.parts.config
+        let parts = self.parts;
+        &parts.config
     }
 
     /// How many harts there are.
     pub fn harts(&self) -> usize
         ensures { result ≡ length self.now.views.nodes }
     {
-        self.parts.nodes.len()
+        let parts = self.parts;
+        parts.nodes.len()
     }
 
     /// How many events changed the machine.
     pub fn changes(&self) -> u32
         ensures { result ≡ self.now.views.changes }
     {
-        self.parts.changes
+        let parts = self.parts;
+        parts.changes
     }
 
     pub fn hart(&self, hart: usize) -> &'a Hart
         requires { hart < length self.now.views.nodes }
         ensures { result.now ≡ (node_at self.now hart).hart }
     {
-        &self.parts.nodes[hart].hart
+        let parts = self.parts;
+        &parts.nodes[hart].hart
     }
 
     /// The numbers that the hart put out, the first one first.
@@ -65,7 +68,8 @@ impl<'a> Views<'a> {
         requires { hart < length self.now.views.nodes }
         ensures { result.now ≡ (node_at self.now hart).output }
     {
-        &self.parts.nodes[hart].output
+        let parts = self.parts;
+        &parts.nodes[hart].output
     }
 
     /// The word that the hart has reserved.
@@ -73,7 +77,8 @@ impl<'a> Views<'a> {
         requires { hart < length self.now.views.nodes }
         ensures { result ≡ (node_at self.now hart).reserved }
     {
-        self.parts.nodes[hart].reservation.word()
+        let parts = self.parts;
+        parts.nodes[hart].reservation.word()
     }
 
     /// The hart's stores that wait.
@@ -81,7 +86,8 @@ impl<'a> Views<'a> {
         requires { hart < length self.now.views.nodes }
         ensures { result.now ≡ (node_at self.now hart).buffer }
     {
-        &self.parts.nodes[hart].buffer
+        let parts = self.parts;
+        &parts.nodes[hart].buffer
     }
 
     /// The hart's copies with their permissions and dirty marks, its outstanding Acquires and its
@@ -90,7 +96,8 @@ impl<'a> Views<'a> {
         requires { hart < length self.now.views.nodes }
         ensures { result.now ≡ (node_at self.now hart).cache }
     {
-        &self.parts.nodes[hart].cache
+        let parts = self.parts;
+        &parts.nodes[hart].cache
     }
 
     /// The messages that wait between the hart's cache and the manager.
@@ -98,20 +105,23 @@ impl<'a> Views<'a> {
         requires { hart < length self.now.views.nodes }
         ensures { result.now ≡ (node_at self.now hart).queues }
     {
-        &self.parts.nodes[hart].queues
+        let parts = self.parts;
+        &parts.nodes[hart].queues
     }
 
     /// Main memory by line.
     pub fn memory(&self) -> &'a Memory
         ensures { result.now ≡ self.now.views.memory }
     {
-        &self.parts.memory
+        let parts = self.parts;
+        &parts.memory
     }
 
     /// The manager's records and transactions by line.
     pub fn directory(&self) -> &'a Directory
         ensures { result.now ≡ self.now.views.notes }
     {
-        &self.parts.directory
+        let parts = self.parts;
+        &parts.directory
     }
 }

@@ -1,15 +1,14 @@
 -- No act touches the count of the events that changed the machine.
-use Rattle.std.proofs.Common.{ℕ, ◌≡◌, ◌∙◌, refl, ap, Bool, List, [], ◌∷◌, Option, Some, None}
+use Rattle.std.proofs.Common.{ℕ, ◌≡◌, refl, ap, List, [], ◌∷◌, Option, Some, None}
 use Rattle.client_cache.specs.Cache.{evicted, probed}
 use Rattle.client_cache.specs.declared.answers.Evict.{Evict}
 use Rattle.client_cache.specs.declared.answers.Evict.TheVariants.{NotHeld, AcquirePending, ReleaseFull, Evicted}
 use Rattle.client_cache.specs.declared.answers.Probed.{Probed}
 use Rattle.client_cache.specs.declared.answers.Probed.TheVariants.{Releasing, Answered}
-use Rattle.directory.specs.Directory.{acquired, probe_acked, released}
+use Rattle.directory.specs.Directory.{acquired, probe_acked}
 use Rattle.directory.specs.declared.answer.Acquired.{Acquired}
 use Rattle.directory.specs.declared.answer.Acquired.TheVariants.{Handled, Busy}
 use Rattle.directory.specs.declared.answer.Grant.{Grant as Granting}
-use Rattle.directory.specs.declared.answer.Sent.{Sent}
 use Rattle.directory.specs.declared.answer.Sent.TheVariants.{Probes, Granting as Grants}
 use Rattle.machine_model.specs.declared.act.Act.{Act}
 use Rattle.machine_model.specs.declared.act.Act.TheVariants as act

@@ -12,7 +12,6 @@ use Rattle.hart.specs.declared.state.Hart.{Hart}
 use Rattle.hart.specs.Local.{PrivateRow, can_go_alone, is_done_alone, private_row, private_row_from}
 use Rattle.hart.specs.Run.{can_fetch, is_running}
 use Rattle.machine_model.specs.declared.act.Act.TheVariants as act
-use Rattle.machine_model.specs.declared.act.Plan.{Plan}
 use Rattle.machine_model.specs.declared.act.Plan.TheVariants.{Stays, Changes}
 use Rattle.machine_types.specs.declared.event.Event.TheVariants.{Local}
 use Rattle.machine_types.specs.declared.outcome.Outcome.{Outcome}

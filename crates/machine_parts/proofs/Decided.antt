@@ -1,5 +1,5 @@
 -- What stands once an event is decided under the limits.
-use Rattle.std.proofs.Common.{◌≡◌, ◌≢◌, ◌∙◌, ◌+◌, ◌%◌, ◌≤◌, refl, sym, ap, subst, ℕ, Bool, true, false, cond, Ok, Err, inl, inr, IsOk}
+use Rattle.std.proofs.Common.{◌≡◌, ◌≢◌, ◌∙◌, ◌+◌, ◌%◌, ◌≤◌, refl, sym, ap, subst, ℕ, Bool, true, false, Ok, Err, inl, inr}
 use Rattle.std.proofs.lemmas.Bool.{ltb-false, or_parts}
 use Rattle.std.specs.Prelude.{◌==◌, if◌then◌else◌, nat_le, nat_lt}
 use Rattle.std.specs.declared.result.Result.{Result}

@@ -1,4 +1,5 @@
 pub mod Codes
+pub mod Standing
 pub mod Parts
 pub mod Needs
 pub mod Applying

@@ -1,9 +1,13 @@
--- The parts of a machine as the event meaning sees them.
-use Rattle.machine_model.specs.Views.{State}
-use Rattle.machine_parts.specs.declared.parts.Parts.{Parts}
+-- A machine's parts as contracts see them.
+use Rattle.machine_parts.specs.Standing.{Standing}
+use Rattle.machine_parts.specs.declared.parts.Parts.TheInside.{Inside}
 
-abbrev pub state_of : Parts → State
-state_of p = record {
-  views = record { config = p.config; nodes = p.nodes.items; memory = p.memory; notes = p.directory; changes = p.changes };
-  trace = p.trace.history;
+-- the parts' fields are the machine's state, but for the room that the trace's lists have
+abbrev pub standing_of : Inside → Standing
+standing_of p = record {
+  state = record {
+    views = record { config = p.config; nodes = p.nodes.items; memory = p.memory; notes = p.directory; changes = p.changes };
+    trace = p.trace.history;
+  };
+  room = p.trace.room;
 }

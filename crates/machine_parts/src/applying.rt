@@ -4,7 +4,6 @@ ghost use Rattle.std.specs.Prelude.{◌≡◌};
 ghost use Rattle.machine_model.specs.Events.{verdict};
 ghost use Rattle.machine_model.specs.Ready.{AreReady, IsSound};
 ghost use Rattle.machine_parts.specs.Applying.{Answers, answer_to, decided};
-ghost use Rattle.machine_parts.specs.Parts.{state_of};
 
 use crate::errors::ApplyError;
 use crate::limits::{is_limited, outcome_of, reserve};
@@ -18,8 +17,8 @@ use std::alloc::AllocError;
 impl Parts {
     /// What an event comes to under the limits; nothing changes.
     fn decide(&self, event: &Event) -> Result<Plan, ApplyError>
-        requires { IsSound (state_of self.now) }
-        ensures { result ≡ decided (state_of self.now) event.now }
+        requires { IsSound self.now.state }
+        ensures { result ≡ decided self.now.state event.now }
     {
         if !self.is_good(event) {
             return Err(ApplyError::BadEvent);
@@ -35,8 +34,8 @@ impl Parts {
 
     /// What `apply` would answer to the event, had it memory; nothing changes.
     pub fn foresee(&self, event: &Event) -> Result<Outcome, ApplyError>
-        requires { IsSound (state_of self.now) }
-        ensures { result ≡ answer_to (verdict (state_of self.now) event.now) }
+        requires { IsSound self.now.state }
+        ensures { result ≡ answer_to (verdict self.now.state event.now) }
     {
         match self.decide(event) {
             Ok(Plan::Stays(outcome)) => Ok(outcome),
@@ -48,9 +47,9 @@ impl Parts {
     /// Decides what an event comes to, tests the limits, makes room for all that grows, and only then
     /// changes anything.
     pub fn apply(&mut self, event: &Event) -> Result<Outcome, ApplyError>
-        requires sound { IsSound (state_of self.old) }
-        requires ready { AreReady (state_of self.old) }
-        ensures { Answers (verdict (state_of self.old) event.now) (state_of self.old) result (state_of self.new) }
+        requires sound { IsSound self.old.state }
+        requires ready { AreReady self.old.state }
+        ensures { Answers (verdict self.old.state event.now) self.old.state result self.new.state }
     {
         let act = match self.decide(event) {
             Ok(Plan::Stays(outcome)) => return Ok(outcome),

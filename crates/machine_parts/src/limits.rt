@@ -8,7 +8,6 @@ ghost use Rattle.machine_model.specs.Events.{entries_by as spec_entries_by, is_l
 ghost use Rattle.machine_model.specs.Ready.{IsReadyAct, IsSound};
 ghost use Rattle.machine_model.specs.Views.{node_at};
 ghost use Rattle.machine_parts.specs.Needs.{HasNeeded, needs_of};
-ghost use Rattle.machine_parts.specs.Parts.{state_of};
 ghost use Rattle.store_buffer.specs.Entry.{entry_of};
 ghost use Rattle.store_buffer.specs.Groups.{drainable, oldest};
 
@@ -20,10 +19,10 @@ use std::alloc::AllocError;
 
 /// Whether a limit is met.
 pub(crate) fn is_limited(parts: &Parts, hart: u8, act: &Act) -> bool
-    requires sound { IsSound (state_of parts.now) }
-    requires hart { hart < length parts.now.nodes.items }
-    ensures exact { result ≡ spec_is_limited (state_of parts.now) hart act.now }
-    ensures fits { result ≡ false → next_place (state_of parts.now) hart + spec_entries_by act.now ≤ MAX_ENTRIES }
+    requires sound { IsSound parts.now.state }
+    requires hart { hart < length parts.now.state.views.nodes }
+    ensures exact { result ≡ spec_is_limited parts.now.state hart act.now }
+    ensures fits { result ≡ false → next_place parts.now.state hart + spec_entries_by act.now ≤ MAX_ENTRIES }
 {
     let entries = parts.trace.entries(hart as usize).len();
     parts.changes >= MAX_CHANGES || entries + entries_by(act) > MAX_ENTRIES
@@ -43,8 +42,8 @@ fn entries_by(act: &Act) -> usize
 
 /// What comes of an act, before it is performed.
 pub(crate) fn outcome_of(parts: &Parts, hart: u8, act: &Act) -> Outcome
-    requires hart { hart < length parts.now.nodes.items }
-    ensures { result ≡ outcome_of_act (state_of parts.now) hart act.now }
+    requires hart { hart < length parts.now.state.views.nodes }
+    ensures { result ≡ outcome_of_act parts.now.state hart act.now }
 {
     match act {
         Act::Stop(code) => Outcome::Stopped(*code),
@@ -79,12 +78,12 @@ struct Growth {
 }
 
 fn growth_by(parts: &Parts, hart: u8, act: &Act) -> Growth
-    requires sound { IsSound (state_of parts.now) }
-    requires hart { hart < length parts.now.nodes.items }
-    requires ready { IsReadyAct hart act.now (state_of parts.now) }
-    ensures entries { result.entries ≡ (needs_of (state_of parts.now) hart act.now).entries }
-    ensures performed { result.performed ≡ (needs_of (state_of parts.now) hart act.now).performed }
-    ensures log { result.log ≡ (needs_of (state_of parts.now) hart act.now).log }
+    requires sound { IsSound parts.now.state }
+    requires hart { hart < length parts.now.state.views.nodes }
+    requires ready { IsReadyAct hart act.now parts.now.state }
+    ensures entries { result.entries ≡ (needs_of parts.now.state hart act.now).entries }
+    ensures performed { result.performed ≡ (needs_of parts.now.state hart act.now).performed }
+    ensures log { result.log ≡ (needs_of parts.now.state hart act.now).log }
 {
     let (entries, performed, log) = match act {
         Act::Stop(_) => (0, 0, 0),
@@ -103,20 +102,20 @@ fn growth_by(parts: &Parts, hart: u8, act: &Act) -> Growth
 
 // How many stores the word's entry in the oldest group has.
 fn waiting(parts: &Parts, hart: u8, word: u32) -> usize
-    requires hart { hart < length parts.now.nodes.items }
-    requires drainable { IsTrue (drainable word (node_at (state_of parts.now) hart).buffer) }
-    ensures { result ≡ length (entry_of word (oldest (node_at (state_of parts.now) hart).buffer)).ops }
+    requires hart { hart < length parts.now.state.views.nodes }
+    requires drainable { IsTrue (drainable word (node_at parts.now.state hart).buffer) }
+    ensures { result ≡ length (entry_of word (oldest (node_at parts.now.state hart).buffer)).ops }
 {
     parts.nodes[hart as usize].buffer.entry(word).ops.len()
 }
 
 /// Makes room in the trace for what the act adds.
 pub(crate) fn reserve(parts: &mut Parts, hart: u8, act: &Act) -> Result<(), AllocError>
-    requires sound { IsSound (state_of parts.old) }
-    requires hart { hart < length parts.old.nodes.items }
-    requires ready { IsReadyAct hart act.now (state_of parts.old) }
-    ensures same { state_of parts.new ≡ state_of parts.old }
-    ensures room { OnOk result (HasNeeded hart (needs_of (state_of parts.old) hart act.now) parts.new.trace.room) }
+    requires sound { IsSound parts.old.state }
+    requires hart { hart < length parts.old.state.views.nodes }
+    requires ready { IsReadyAct hart act.now parts.old.state }
+    ensures same { parts.new.state ≡ parts.old.state }
+    ensures room { OnOk result (HasNeeded hart (needs_of parts.old.state hart act.now) parts.new.room) }
     ensures stop { (code : ℕ) → act.now ≡ Act.Stop code → IsOk result }
 {
     let growth = growth_by(parts, hart, act);

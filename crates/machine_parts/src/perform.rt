@@ -18,7 +18,6 @@ ghost use Rattle.machine_model.specs.Changing as changing;
 ghost use Rattle.machine_model.specs.Events as events;
 ghost use Rattle.machine_model.specs.Ready.{IsReady, IsReadyAct, IsSound};
 ghost use Rattle.machine_parts.specs.Needs.{HasNeeded, needs_of};
-ghost use Rattle.machine_parts.specs.Parts.{state_of};
 
 use crate::parts::Parts;
 use deliver::deliver;
@@ -32,13 +31,13 @@ use step::{retire, stop};
 
 /// The act is performed.
 pub(crate) fn perform(parts: &mut Parts, hart: u8, act: &Act) -> Result<(), AllocError>
-    requires sound { IsSound (state_of parts.old) }
-    requires hart { hart < length parts.old.nodes.items }
-    requires ready { IsReady hart act.now (state_of parts.old) }
-    requires fits { changing.next_place (state_of parts.old) hart + events.entries_by act.now ≤ MAX_ENTRIES }
-    requires room { HasNeeded hart (needs_of (state_of parts.old) hart act.now) parts.old.trace.room }
-    ensures ok { OnOk result (state_of parts.new ≡ changing.acted hart act.now (state_of parts.old)) }
-    ensures err { OnErr result (state_of parts.new ≡ state_of parts.old) }
+    requires sound { IsSound parts.old.state }
+    requires hart { hart < length parts.old.state.views.nodes }
+    requires ready { IsReady hart act.now parts.old.state }
+    requires fits { changing.next_place parts.old.state hart + events.entries_by act.now ≤ MAX_ENTRIES }
+    requires room { HasNeeded hart (needs_of parts.old.state hart act.now) parts.old.room }
+    ensures ok { OnOk result (parts.new.state ≡ changing.acted hart act.now parts.old.state) }
+    ensures err { OnErr result (parts.new.state ≡ parts.old.state) }
     ensures stop { (code : ℕ) → act.now ≡ Act.Stop code → IsOk result }
 {
     match act {

@@ -13,7 +13,6 @@ ghost use Rattle.machine_model.specs.Changing.{next_place};
 ghost use Rattle.machine_model.specs.Events.{hart_of, is_good, is_piece, names_well, plan_of};
 ghost use Rattle.machine_model.specs.Ready.{IsSound};
 ghost use Rattle.machine_model.specs.Views.{node_at};
-ghost use Rattle.machine_parts.specs.Parts.{state_of};
 
 use crate::node::Node;
 use crate::parts::Parts;
@@ -52,7 +51,7 @@ fn is_piece(image: &Image, address: u32, bytes: u32) -> bool
 impl Parts {
     /// Whether what the event names beside its hart is there.
     fn names_well(&self, event: &Event) -> bool
-        ensures { result ≡ names_well (state_of self.now) event.now }
+        ensures { result ≡ names_well self.now.state event.now }
     {
         match *event {
             Event::Step { .. } | Event::Deliver { .. } => true,
@@ -67,35 +66,35 @@ impl Parts {
     /// Whether the machine has what the event names: the hart, and an aligned word or a line of memory,
     /// or 1 to 256 instructions.
     pub fn is_good(&self, event: &Event) -> bool
-        ensures { result ≡ is_good (state_of self.now) event.now }
+        ensures { result ≡ is_good self.now.state event.now }
     {
         usize::from(hart_of(event)) < self.nodes.len() && self.names_well(event)
     }
 
     /// The hart's node.
     fn node(&self, hart: u8) -> &Node
-        requires sound { IsSound (state_of self.now) }
-        requires hart { hart < length self.now.nodes.items }
-        ensures node { result.now ≡ node_at (state_of self.now) hart }
-        ensures line { result.now.cache.shape.size ≡ self.now.config.line }
+        requires sound { IsSound self.now.state }
+        requires hart { hart < length self.now.state.views.nodes }
+        ensures node { result.now ≡ node_at self.now.state hart }
+        ensures line { result.now.cache.shape.size ≡ self.now.state.views.config.line }
     {
         &self.nodes[hart as usize]
     }
 
     /// How many instructions of the hart have retired.
     fn place_at(&self, hart: u8) -> u32
-        requires sound { IsSound (state_of self.now) }
-        requires hart { hart < length self.now.nodes.items }
-        ensures { result ≡ next_place (state_of self.now) hart }
+        requires sound { IsSound self.now.state }
+        requires hart { hart < length self.now.state.views.nodes }
+        ensures { result ≡ next_place self.now.state hart }
     {
         self.trace.entries(hart as usize).len() as u32
     }
 
     /// What an event comes to; nothing changes.
     pub fn plan(&self, event: &Event) -> Plan
-        requires sound { IsSound (state_of self.now) }
-        requires good { IsTrue (is_good (state_of self.now) event.now) }
-        ensures { result ≡ plan_of (state_of self.now) event.now }
+        requires sound { IsSound self.now.state }
+        requires good { IsTrue (is_good self.now.state event.now) }
+        ensures { result ≡ plan_of self.now.state event.now }
     {
         let hart = hart_of(event);
         let node = self.node(hart);

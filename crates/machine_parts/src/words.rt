@@ -1,10 +1,12 @@
 //! Words of lines, and the bytes of an access in a word.
 ghost use Rattle.std.specs.Prelude.{◌≡◌, ◌<◌, ◌≤◌, ◌+◌, ◌*◌, ◌%◌, ◌/◌, ◌^◌};
-ghost use Rattle.machine_model.specs.Views.{line_of};
+ghost use Rattle.elf_loader.specs.Size.{base};
+ghost use Rattle.machine_model.specs.Views.{line_of, place_of};
 ghost use Rattle.machine_model.specs.Words.{word_of, word_in, read_from, store_of};
 ghost use Rattle.rv32_exec.specs.Width.{byte_count};
 ghost use Rattle.store_buffer.specs.ByteMask.{marks_of_access};
 
+use elf_loader::BASE;
 use rv32_exec::Width;
 use store_buffer::{ByteMask, Store};
 use tl_types::{LineData, LineSize};
@@ -21,6 +23,14 @@ pub(crate) fn line_of(size: LineSize, address: u32) -> u32
     ensures { result ≡ line_of size address }
 {
     address - address % size.bytes()
+}
+
+/// The place in memory of the line that begins at an address.
+pub(crate) fn place_of(size: LineSize, line: u32) -> u32
+    requires { base ≤ line }
+    ensures { result ≡ place_of size line }
+{
+    (line - BASE) / size.bytes()
 }
 
 /// The four bytes of an aligned word in its line.

@@ -8,7 +8,6 @@ ghost use Rattle.machine_model.specs.Events.{verdict};
 ghost use Rattle.machine_model.specs.Ready.{IsSound};
 ghost use Rattle.machine_model.specs.Views.{node_at};
 ghost use Rattle.machine_parts.specs.Applying.{Answers};
-ghost use Rattle.machine_parts.specs.Parts.{state_of};
 ghost use Rattle.trace_recorder.specs.History.{entries_of};
 
 use crate::errors::ApplyError;
@@ -23,11 +22,11 @@ impl Parts {
     /// Commits the private instructions that a hart has run by itself from where it stands: its list goes
     /// on with them, and it stands where they lead. None of them is run again.
     pub fn commit(&mut self, hart: u8, batch: &Batch) -> Result<Outcome, ApplyError>
-        requires sound { IsSound (state_of self.old) }
-        requires hart { hart < length self.old.nodes.items }
+        requires sound { IsSound self.old.state }
+        requires hart { hart < length self.old.state.views.nodes }
         requires some { batch.now.entries ≢ [] }
-        requires row { batch.now ≡ private_row_from self.old.trace.history.image (node_at (state_of self.old) hart).hart (length batch.now.entries) }
-        ensures { Answers (verdict (state_of self.old) (Event.Local hart (length batch.now.entries))) (state_of self.old) result (state_of self.new) }
+        requires row { batch.now ≡ private_row_from self.old.state.trace.image (node_at self.old.state hart).hart (length batch.now.entries) }
+        ensures { Answers (verdict self.old.state (Event.Local hart (length batch.now.entries))) self.old.state result self.new.state }
     {
         let act = Act::Local(batch.entries().len() as u32);
         if is_limited(self, hart, &act) {
@@ -42,12 +41,12 @@ impl Parts {
 
 // The hart's list goes on with the batch's entries, and the hart stands where they lead.
 fn take_over(parts: &mut Parts, hart: u8, batch: &Batch)
-    requires hart { hart < length parts.old.nodes.items }
-    requires entries { hart < length parts.old.trace.history.entries }
-    requires few { length (entries_of parts.old.trace.history hart) + length batch.now.entries ≤ MAX_ENTRIES }
-    requires room { length batch.now.entries ≤ slice_index parts.old.trace.room.entries hart }
-    requires row { batch.now ≡ private_row_from parts.old.trace.history.image (node_at (state_of parts.old) hart).hart (length batch.now.entries) }
-    ensures { state_of parts.new ≡ went_alone hart (length batch.now.entries) (state_of parts.old) }
+    requires hart { hart < length parts.old.state.views.nodes }
+    requires entries { hart < length parts.old.state.trace.entries }
+    requires few { length (entries_of parts.old.state.trace hart) + length batch.now.entries ≤ MAX_ENTRIES }
+    requires room { length batch.now.entries ≤ slice_index parts.old.room.entries hart }
+    requires row { batch.now ≡ private_row_from parts.old.state.trace.image (node_at parts.old.state hart).hart (length batch.now.entries) }
+    ensures { parts.new.state ≡ went_alone hart (length batch.now.entries) parts.old.state }
 {
     parts.nodes[hart as usize].hart = *batch.last();
     retire_all(&mut parts.trace, hart, batch.entries());

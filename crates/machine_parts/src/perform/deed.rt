@@ -7,7 +7,6 @@ ghost use Rattle.machine_model.specs.Ready.{IsReadyDeed, IsSound, IsWritable};
 ghost use Rattle.machine_model.specs.Views.{node_at, with_node};
 ghost use Rattle.machine_model.specs.Words.{bytes_of_word};
 ghost use Rattle.machine_parts.specs.Lists.{KeepsLists};
-ghost use Rattle.machine_parts.specs.Parts.{state_of};
 ghost use Rattle.store_buffer.specs.ByteMask.{marks_of_access};
 ghost use Rattle.store_buffer.specs.Groups.{after_seal, fits};
 
@@ -21,12 +20,12 @@ use trace_recorder::OpId;
 
 /// What an instruction does as it retires. An error leaves everything as it was.
 pub(crate) fn carry_out(parts: &mut Parts, hart: u8, deed: &Deed) -> Result<(), AllocError>
-    requires sound { IsSound (state_of parts.old) }
-    requires hart { hart < length parts.old.nodes.items }
-    requires room { 0 < parts.old.trace.room.performed }
-    requires ready { IsReadyDeed hart deed.now (state_of parts.old) }
-    ensures ok { OnOk result (state_of parts.new ≡ does parts.old.config.model hart deed.now (state_of parts.old)) }
-    ensures err { OnErr result (state_of parts.new ≡ state_of parts.old) }
+    requires sound { IsSound parts.old.state }
+    requires hart { hart < length parts.old.state.views.nodes }
+    requires room { 0 < parts.old.room.performed }
+    requires ready { IsReadyDeed hart deed.now parts.old.state }
+    ensures ok { OnOk result (parts.new.state ≡ does parts.old.state.views.config.model hart deed.now parts.old.state) }
+    ensures err { OnErr result (parts.new.state ≡ parts.old.state) }
     ensures kept { KeepsLists parts.old parts.new }
 {
     match deed {
@@ -61,9 +60,9 @@ pub(crate) fn carry_out(parts: &mut Parts, hart: u8, deed: &Deed) -> Result<(), 
 }
 
 fn put_out(parts: &mut Parts, hart: u8, number: u32) -> Result<(), AllocError>
-    requires hart { hart < length parts.old.nodes.items }
-    ensures ok { OnOk result (state_of parts.new ≡ does parts.old.config.model hart (deed.Output number) (state_of parts.old)) }
-    ensures err { OnErr result (state_of parts.new ≡ state_of parts.old) }
+    requires hart { hart < length parts.old.state.views.nodes }
+    ensures ok { OnOk result (parts.new.state ≡ does parts.old.state.views.config.model hart (deed.Output number) parts.old.state) }
+    ensures err { OnErr result (parts.new.state ≡ parts.old.state) }
     ensures kept { KeepsLists parts.old parts.new }
 {
     parts.nodes[hart as usize].output.push(number)?;
@@ -71,10 +70,10 @@ fn put_out(parts: &mut Parts, hart: u8, number: u32) -> Result<(), AllocError>
 }
 
 fn put(parts: &mut Parts, hart: u8, store: &Store) -> Result<(), AllocError>
-    requires hart { hart < length parts.old.nodes.items }
-    requires fits { IsTrue (fits store.now.word (node_at (state_of parts.old) hart).buffer) }
-    ensures ok { OnOk result (state_of parts.new ≡ does parts.old.config.model hart (deed.Store store.now) (state_of parts.old)) }
-    ensures err { OnErr result (state_of parts.new ≡ state_of parts.old) }
+    requires hart { hart < length parts.old.state.views.nodes }
+    requires fits { IsTrue (fits store.now.word (node_at parts.old.state hart).buffer) }
+    ensures ok { OnOk result (parts.new.state ≡ does parts.old.state.views.config.model hart (deed.Store store.now) parts.old.state) }
+    ensures err { OnErr result (parts.new.state ≡ parts.old.state) }
     ensures kept { KeepsLists parts.old parts.new }
 {
     let model = parts.config.model;
@@ -106,8 +105,8 @@ fn put_store(buffer: &mut StoreBuffer, model: MemoryModel, store: &Store) -> Res
 }
 
 fn seal(parts: &mut Parts, hart: u8)
-    requires hart { hart < length parts.old.nodes.items }
-    ensures state { state_of parts.new ≡ with_buffer hart (after_seal (node_at (state_of parts.old) hart).buffer) (state_of parts.old) }
+    requires hart { hart < length parts.old.state.views.nodes }
+    ensures state { parts.new.state ≡ with_buffer hart (after_seal (node_at parts.old.state hart).buffer) parts.old.state }
     ensures kept { KeepsLists parts.old parts.new }
 {
     parts.nodes[hart as usize].buffer.seal();
@@ -115,9 +114,9 @@ fn seal(parts: &mut Parts, hart: u8)
 
 // The operation of the instruction that retires is performed.
 fn perform_own(parts: &mut Parts, hart: u8)
-    requires hart { hart < length parts.old.trace.history.entries }
-    requires room { 0 < parts.old.trace.room.performed }
-    ensures state { state_of parts.new ≡ performs_own hart (state_of parts.old) }
+    requires hart { hart < length parts.old.state.trace.entries }
+    requires room { 0 < parts.old.room.performed }
+    ensures state { parts.new.state ≡ performs_own hart parts.old.state }
     ensures kept { KeepsLists parts.old parts.new }
 {
     let place = parts.trace.entries(hart as usize).len() as u32;
@@ -125,10 +124,10 @@ fn perform_own(parts: &mut Parts, hart: u8)
 }
 
 fn reserve_word(parts: &mut Parts, hart: u8, word: u32)
-    requires sound { IsSound (state_of parts.old) }
-    requires hart { hart < length parts.old.nodes.items }
-    requires room { 0 < parts.old.trace.room.performed }
-    ensures state { state_of parts.new ≡ with_reservation hart (Some word) (performs_own hart (state_of parts.old)) }
+    requires sound { IsSound parts.old.state }
+    requires hart { hart < length parts.old.state.views.nodes }
+    requires room { 0 < parts.old.room.performed }
+    ensures state { parts.new.state ≡ with_reservation hart (Some word) (performs_own hart parts.old.state) }
     ensures kept { KeepsLists parts.old parts.new }
 {
     perform_own(parts, hart);
@@ -136,8 +135,8 @@ fn reserve_word(parts: &mut Parts, hart: u8, word: u32)
 }
 
 fn end_reservation(parts: &mut Parts, hart: u8)
-    requires hart { hart < length parts.old.nodes.items }
-    ensures state { state_of parts.new ≡ with_reservation hart None (state_of parts.old) }
+    requires hart { hart < length parts.old.state.views.nodes }
+    ensures state { parts.new.state ≡ with_reservation hart None parts.old.state }
     ensures kept { KeepsLists parts.old parts.new }
 {
     parts.nodes[hart as usize].reservation.clear();
@@ -145,11 +144,11 @@ fn end_reservation(parts: &mut Parts, hart: u8)
 
 // The number goes to the hart's copy of the word.
 fn write(parts: &mut Parts, hart: u8, word: u32, value: u32)
-    requires sound { IsSound (state_of parts.old) }
-    requires hart { hart < length parts.old.nodes.items }
-    requires writable { IsWritable hart word (state_of parts.old) }
-    ensures state { state_of parts.new ≡ writes_word hart word (marks_of_access 0 4) (bytes_of_word value) (state_of parts.old) }
-    ensures trace { parts.new.trace ≡ parts.old.trace }
+    requires sound { IsSound parts.old.state }
+    requires hart { hart < length parts.old.state.views.nodes }
+    requires writable { IsWritable hart word parts.old.state }
+    ensures state { parts.new.state ≡ writes_word hart word (marks_of_access 0 4) (bytes_of_word value) parts.old.state }
+    ensures room { parts.new.room ≡ parts.old.room }
     ensures kept { KeepsLists parts.old parts.new }
 {
     let line = line_of(parts.trace.line_size(), word);
@@ -166,11 +165,11 @@ fn bytes_of(value: u32) -> [u8; 4]
 }
 
 fn update(parts: &mut Parts, hart: u8, word: u32, value: u32)
-    requires sound { IsSound (state_of parts.old) }
-    requires hart { hart < length parts.old.nodes.items }
-    requires room { 0 < parts.old.trace.room.performed }
-    requires writable { IsWritable hart word (state_of parts.old) }
-    ensures state { state_of parts.new ≡ writes_word hart word (marks_of_access 0 4) (bytes_of_word value) (performs_own hart (state_of parts.old)) }
+    requires sound { IsSound parts.old.state }
+    requires hart { hart < length parts.old.state.views.nodes }
+    requires room { 0 < parts.old.room.performed }
+    requires writable { IsWritable hart word parts.old.state }
+    ensures state { parts.new.state ≡ writes_word hart word (marks_of_access 0 4) (bytes_of_word value) (performs_own hart parts.old.state) }
     ensures kept { KeepsLists parts.old parts.new }
 {
     write(parts, hart, word, value);
@@ -178,11 +177,11 @@ fn update(parts: &mut Parts, hart: u8, word: u32, value: u32)
 }
 
 fn store_conditional(parts: &mut Parts, hart: u8, word: u32, value: u32)
-    requires sound { IsSound (state_of parts.old) }
-    requires hart { hart < length parts.old.nodes.items }
-    requires room { 0 < parts.old.trace.room.performed }
-    requires writable { IsWritable hart word (state_of parts.old) }
-    ensures state { state_of parts.new ≡ with_reservation hart None (writes_word hart word (marks_of_access 0 4) (bytes_of_word value) (performs_own hart (state_of parts.old))) }
+    requires sound { IsSound parts.old.state }
+    requires hart { hart < length parts.old.state.views.nodes }
+    requires room { 0 < parts.old.room.performed }
+    requires writable { IsWritable hart word parts.old.state }
+    ensures state { parts.new.state ≡ with_reservation hart None (writes_word hart word (marks_of_access 0 4) (bytes_of_word value) (performs_own hart parts.old.state)) }
     ensures kept { KeepsLists parts.old parts.new }
 {
     update(parts, hart, word, value);

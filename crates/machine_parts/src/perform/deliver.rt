@@ -8,7 +8,6 @@ ghost use Rattle.machine_model.specs.Views.{line_size, node_at};
 ghost use Rattle.machine_model.specs.declared.act.Act.{Act};
 ghost use Rattle.machine_parts.specs.Handled.{HasLine};
 ghost use Rattle.machine_parts.specs.Needs.{HasNeeded, needs_of};
-ghost use Rattle.machine_parts.specs.Parts.{state_of};
 
 use super::client::{on_grant, on_probe, on_release_ack};
 use super::manager::{on_acquire, on_grant_ack, on_probe_ack, on_release};
@@ -18,14 +17,14 @@ use tl_types::{Body, Msg};
 
 /// What the manager or the cache does with a message that it has taken.
 fn handle(parts: &mut Parts, hart: u8, message: &Msg)
-    requires hart { hart < length parts.old.nodes.items }
-    requires harts { parts.old.directory.harts ≡ length parts.old.nodes.items }
-    requires line { HasLine message.now.line (state_of parts.old) }
-    requires size { (node_at (state_of parts.old) hart).cache.shape.size ≡ line_size (state_of parts.old) }
-    requires body { IsReadyBody hart message.now.line message.now.body (state_of parts.old) }
-    requires queues { QueuesFit (handled hart message.now.line message.now.body (state_of parts.old)) }
-    requires log { length parts.old.nodes.items ≤ parts.old.trace.room.log }
-    ensures { state_of parts.new ≡ handled hart message.now.line message.now.body (state_of parts.old) }
+    requires hart { hart < length parts.old.state.views.nodes }
+    requires harts { parts.old.state.views.notes.harts ≡ length parts.old.state.views.nodes }
+    requires line { HasLine message.now.line parts.old.state }
+    requires size { (node_at parts.old.state hart).cache.shape.size ≡ line_size parts.old.state }
+    requires body { IsReadyBody hart message.now.line message.now.body parts.old.state }
+    requires queues { QueuesFit (handled hart message.now.line message.now.body parts.old.state) }
+    requires log { length parts.old.state.views.nodes ≤ parts.old.room.log }
+    ensures { parts.new.state ≡ handled hart message.now.line message.now.body parts.old.state }
 {
     let line = message.line;
     match message.body {
@@ -46,12 +45,12 @@ fn handle(parts: &mut Parts, hart: u8, message: &Msg)
 
 // The log has first that the message was taken, and then what is sent.
 fn take_and_handle(parts: &mut Parts, hart: u8, message: &Msg)
-    requires sound { IsSound (state_of parts.old) }
-    requires hart { hart < length parts.old.nodes.items }
-    requires ready { IsReadyMessage hart message.now (state_of parts.old) }
-    requires queues { QueuesFit (delivered hart message.now (state_of parts.old)) }
-    requires log { 1 + length parts.old.nodes.items ≤ parts.old.trace.room.log }
-    ensures { state_of parts.new ≡ delivered hart message.now (state_of parts.old) }
+    requires sound { IsSound parts.old.state }
+    requires hart { hart < length parts.old.state.views.nodes }
+    requires ready { IsReadyMessage hart message.now parts.old.state }
+    requires queues { QueuesFit (delivered hart message.now parts.old.state) }
+    requires log { 1 + length parts.old.state.views.nodes ≤ parts.old.room.log }
+    ensures { parts.new.state ≡ delivered hart message.now parts.old.state }
 {
     take(parts, hart, message);
     handle(parts, hart, message);
@@ -60,12 +59,12 @@ fn take_and_handle(parts: &mut Parts, hart: u8, message: &Msg)
 /// The message leaves the front of its queue and is handled: the log has it first, and then what is
 /// sent.
 pub(crate) fn deliver(parts: &mut Parts, hart: u8, message: &Msg)
-    requires sound { IsSound (state_of parts.old) }
-    requires hart { hart < length parts.old.nodes.items }
-    requires ready { IsReadyMessage hart message.now (state_of parts.old) }
-    requires queues { QueuesFit (delivered hart message.now (state_of parts.old)) }
-    requires room { HasNeeded hart (needs_of (state_of parts.old) hart (Act.Deliver message.now)) parts.old.trace.room }
-    ensures { state_of parts.new ≡ delivered hart message.now (state_of parts.old) }
+    requires sound { IsSound parts.old.state }
+    requires hart { hart < length parts.old.state.views.nodes }
+    requires ready { IsReadyMessage hart message.now parts.old.state }
+    requires queues { QueuesFit (delivered hart message.now parts.old.state) }
+    requires room { HasNeeded hart (needs_of parts.old.state hart (Act.Deliver message.now)) parts.old.room }
+    ensures { parts.new.state ≡ delivered hart message.now parts.old.state }
 {
     take_and_handle(parts, hart, message);
 }

@@ -9,7 +9,6 @@ ghost use Rattle.machine_model.specs.Laws.{QueuesFit};
 ghost use Rattle.machine_model.specs.Ready.{IsSound};
 ghost use Rattle.machine_model.specs.Views.{node_at, with_node};
 ghost use Rattle.machine_parts.specs.Needs.{HasNeeded, needs_of};
-ghost use Rattle.machine_parts.specs.Parts.{state_of};
 
 use super::messages::send;
 use crate::node::Node;
@@ -19,11 +18,11 @@ use tl_types::{Body, Change, LineData, LineSize, Msg};
 
 /// The cache gives a line up, and a Release goes out.
 pub(crate) fn give_up(parts: &mut Parts, hart: u8, line: u32)
-    requires sound { IsSound (state_of parts.old) }
-    requires hart { hart < length parts.old.nodes.items }
-    requires room { HasNeeded hart (needs_of (state_of parts.old) hart (act.Evict line)) parts.old.trace.room }
-    requires room_in_queue { QueuesFit (given_up hart line (state_of parts.old)) }
-    ensures { state_of parts.new ≡ given_up hart line (state_of parts.old) }
+    requires sound { IsSound parts.old.state }
+    requires hart { hart < length parts.old.state.views.nodes }
+    requires room { HasNeeded hart (needs_of parts.old.state hart (act.Evict line)) parts.old.room }
+    requires room_in_queue { QueuesFit (given_up hart line parts.old.state) }
+    ensures { parts.new.state ≡ given_up hart line parts.old.state }
 {
     match lose(parts, hart, line) {
         Evict::Evicted { change, bytes } => {
@@ -45,11 +44,11 @@ fn release_body(change: Change, bytes: Option<LineData>) -> Body
 
 // The copy leaves, and a reservation of one of the line's words with it.
 fn lose(parts: &mut Parts, hart: u8, line: u32) -> Evict
-    requires sound { IsSound (state_of parts.old) }
-    requires hart { hart < length parts.old.nodes.items }
-    ensures answer { result ≡ (evicted (node_at (state_of parts.old) hart).cache line).0 }
-    ensures state { state_of parts.new ≡ with_node hart (with_less (evicted (node_at (state_of parts.old) hart).cache line).1 line (node_at (state_of parts.old) hart)) (state_of parts.old) }
-    ensures trace { parts.new.trace ≡ parts.old.trace }
+    requires sound { IsSound parts.old.state }
+    requires hart { hart < length parts.old.state.views.nodes }
+    ensures answer { result ≡ (evicted (node_at parts.old.state hart).cache line).0 }
+    ensures state { parts.new.state ≡ with_node hart (with_less (evicted (node_at parts.old.state hart).cache line).1 line (node_at parts.old.state hart)) parts.old.state }
+    ensures room { parts.new.room ≡ parts.old.room }
 {
     let size = parts.trace.line_size();
     lose_copy(&mut parts.nodes[hart as usize], size, line)

@@ -8,7 +8,6 @@ ghost use Rattle.machine_model.specs.declared.act.Act.TheVariants as act;
 ghost use Rattle.machine_model.specs.Changing.{next_place, went_alone, with_entries};
 ghost use Rattle.machine_model.specs.Ready.{IsSound};
 ghost use Rattle.machine_parts.specs.Needs.{HasNeeded, needs_of};
-ghost use Rattle.machine_parts.specs.Parts.{state_of};
 ghost use Rattle.trace_recorder.specs.History.{entries_of};
 
 use crate::parts::Parts;
@@ -17,11 +16,11 @@ use trace_recorder::Trace;
 
 /// So many private instructions retire, or as many as there are.
 pub(crate) fn go_alone(parts: &mut Parts, hart: u8, count: u32)
-    requires sound { IsSound (state_of parts.old) }
-    requires hart { hart < length parts.old.nodes.items }
-    requires few { next_place (state_of parts.old) hart + count ≤ MAX_ENTRIES }
-    requires room { HasNeeded hart (needs_of (state_of parts.old) hart (act.Local count)) parts.old.trace.room }
-    ensures { state_of parts.new ≡ went_alone hart count (state_of parts.old) }
+    requires sound { IsSound parts.old.state }
+    requires hart { hart < length parts.old.state.views.nodes }
+    requires few { next_place parts.old.state hart + count ≤ MAX_ENTRIES }
+    requires room { HasNeeded hart (needs_of parts.old.state hart (act.Local count)) parts.old.room }
+    ensures { parts.new.state ≡ went_alone hart count parts.old.state }
 {
     let first = parts.nodes[hart as usize].hart;
     parts.nodes[hart as usize].hart = retire_row(&mut parts.trace, hart, &first, count);

@@ -8,24 +8,15 @@ ghost use Rattle.machine_model.specs.Deliveries.{grant_body, line_in_memory, on_
 ghost use Rattle.machine_model.specs.Laws.{QueuesFit};
 ghost use Rattle.machine_model.specs.Views.{line_size, place_of};
 ghost use Rattle.machine_parts.specs.Handled.{HasLine, HasSize, count_of, written_back};
-ghost use Rattle.machine_parts.specs.Parts.{state_of};
 ghost use Rattle.tl_types.specs.Line.{size_of};
 ghost use Rattle.tl_types.specs.Permission.{left_by};
 
 use super::messages::send;
 use crate::parts::Parts;
+use crate::words::place_of;
 use backing_memory::Memory;
 use directory::{Acquired, Grant, HartSet, Sent};
-use elf_loader::BASE;
 use tl_types::{Body, Cap, Change, Grow, LineData, Msg, Perm};
-
-/// The place in memory of the line that begins at this address.
-fn place_of(parts: &Parts, line: u32) -> u32
-    requires { base ≤ line }
-    ensures { result ≡ place_of (line_size (state_of parts.now)) line }
-{
-    (line - BASE) / parts.config.line.bytes()
-}
 
 /// Data that came with a message go to memory.
 fn write_back(memory: &mut Memory, place: u32, bytes: Option<LineData>)
@@ -41,26 +32,26 @@ fn write_back(memory: &mut Memory, place: u32, bytes: Option<LineData>)
 /// The body of a Grant; its data are memory's.
 fn grant_body(parts: &Parts, line: u32, grant: Grant) -> Body
     requires low { base ≤ line }
-    requires kept { place_of (line_size (state_of parts.now)) line < length parts.now.memory }
-    ensures { result ≡ grant_body grant (line_in_memory (state_of parts.now) line) }
+    requires kept { place_of (line_size parts.now.state) line < length parts.now.state.views.memory }
+    ensures { result ≡ grant_body grant (line_in_memory parts.now.state line) }
 {
     if !grant.with_data {
         return Body::Grant(grant.cap);
     }
     Body::GrantData {
         cap: grant.cap,
-        bytes: parts.memory.line(place_of(parts, line)),
+        bytes: parts.memory.line(place_of(parts.config.line, line)),
     }
 }
 
 /// Sends a Grant, of which the manager has taken note.
 fn send_grant(parts: &mut Parts, line: u32, grant: Grant)
     requires low { base ≤ line }
-    requires kept { place_of (line_size (state_of parts.old)) line < length parts.old.memory }
-    requires hart { grant.hart < length parts.old.nodes.items }
-    requires queues { QueuesFit (sent_grant line grant (state_of parts.old)) }
-    requires log { 0 < parts.old.trace.room.log }
-    ensures { state_of parts.new ≡ sent_grant line grant (state_of parts.old) }
+    requires kept { place_of (line_size parts.old.state) line < length parts.old.state.views.memory }
+    requires hart { grant.hart < length parts.old.state.views.nodes }
+    requires queues { QueuesFit (sent_grant line grant parts.old.state) }
+    requires log { 0 < parts.old.room.log }
+    ensures { parts.new.state ≡ sent_grant line grant parts.old.state }
 {
     let body = grant_body(parts, line, grant);
     send(parts, grant.hart, &Msg { line, body });
@@ -68,10 +59,10 @@ fn send_grant(parts: &mut Parts, line: u32, grant: Grant)
 
 /// Sends a Probe to each of these harts.
 fn send_probes(parts: &mut Parts, harts: HartSet, line: u32, cap: Cap)
-    requires harts { All (λ hart. hart < length parts.old.nodes.items) harts }
-    requires queues { QueuesFit (sent_probes harts line cap (state_of parts.old)) }
-    requires log { length harts ≤ parts.old.trace.room.log }
-    ensures { state_of parts.new ≡ sent_probes harts line cap (state_of parts.old) }
+    requires harts { All (λ hart. hart < length parts.old.state.views.nodes) harts }
+    requires queues { QueuesFit (sent_probes harts line cap parts.old.state) }
+    requires log { length harts ≤ parts.old.room.log }
+    ensures { parts.new.state ≡ sent_probes harts line cap parts.old.state }
 {
     let message = Msg {
         line,
@@ -85,11 +76,11 @@ fn send_probes(parts: &mut Parts, harts: HartSet, line: u32, cap: Cap)
 /// Sends what an Acquire has the manager send.
 fn send_any(parts: &mut Parts, line: u32, sent: Sent)
     requires low { base ≤ line }
-    requires kept { place_of (line_size (state_of parts.old)) line < length parts.old.memory }
-    requires harts { SendsToHarts (length parts.old.nodes.items) sent }
-    requires queues { QueuesFit (sent_any line sent (state_of parts.old)) }
-    requires log { count_of sent ≤ parts.old.trace.room.log }
-    ensures { state_of parts.new ≡ sent_any line sent (state_of parts.old) }
+    requires kept { place_of (line_size parts.old.state) line < length parts.old.state.views.memory }
+    requires harts { SendsToHarts (length parts.old.state.views.nodes) sent }
+    requires queues { QueuesFit (sent_any line sent parts.old.state) }
+    requires log { count_of sent ≤ parts.old.room.log }
+    ensures { parts.new.state ≡ sent_any line sent parts.old.state }
 {
     match sent {
         Sent::Probes(cap, harts) => send_probes(parts, harts, line, cap),
@@ -99,14 +90,14 @@ fn send_any(parts: &mut Parts, line: u32, sent: Sent)
 
 /// An Acquire: Probes to those who stand in its way, or the Grant.
 pub(crate) fn on_acquire(parts: &mut Parts, hart: u8, line: u32, grow: Grow)
-    requires hart { hart < parts.old.directory.harts }
-    requires harts { parts.old.directory.harts ≡ length parts.old.nodes.items }
-    requires line { HasLine line (state_of parts.old) }
-    requires queues { QueuesFit (on_acquire hart line grow (state_of parts.old)) }
-    requires log { length parts.old.nodes.items ≤ parts.old.trace.room.log }
-    ensures { state_of parts.new ≡ on_acquire hart line grow (state_of parts.old) }
+    requires hart { hart < parts.old.state.views.notes.harts }
+    requires harts { parts.old.state.views.notes.harts ≡ length parts.old.state.views.nodes }
+    requires line { HasLine line parts.old.state }
+    requires queues { QueuesFit (on_acquire hart line grow parts.old.state) }
+    requires log { length parts.old.state.views.nodes ≤ parts.old.room.log }
+    ensures { parts.new.state ≡ on_acquire hart line grow parts.old.state }
 {
-    let place = place_of(parts, line);
+    let place = place_of(parts.config.line, line);
     if let Acquired::Handled(sent) = parts.directory.on_acquire(place, hart, grow) {
         send_any(parts, line, sent);
     }
@@ -114,15 +105,15 @@ pub(crate) fn on_acquire(parts: &mut Parts, hart: u8, line: u32, grow: Grow)
 
 /// A Release: its data go to memory, and it is answered at once.
 pub(crate) fn on_release(parts: &mut Parts, hart: u8, line: u32, bytes: Option<LineData>)
-    requires hart { hart < length parts.old.nodes.items }
-    requires noted { hart < parts.old.directory.harts }
-    requires line { HasLine line (state_of parts.old) }
-    requires bytes { HasSize (line_size (state_of parts.old)) bytes }
-    requires queues { QueuesFit (on_release hart line bytes (state_of parts.old)) }
-    requires log { 0 < parts.old.trace.room.log }
-    ensures { state_of parts.new ≡ on_release hart line bytes (state_of parts.old) }
+    requires hart { hart < length parts.old.state.views.nodes }
+    requires noted { hart < parts.old.state.views.notes.harts }
+    requires line { HasLine line parts.old.state }
+    requires bytes { HasSize (line_size parts.old.state) bytes }
+    requires queues { QueuesFit (on_release hart line bytes parts.old.state) }
+    requires log { 0 < parts.old.room.log }
+    ensures { parts.new.state ≡ on_release hart line bytes parts.old.state }
 {
-    let place = place_of(parts, line);
+    let place = place_of(parts.config.line, line);
     write_back(&mut parts.memory, place, bytes);
     parts.directory.on_release(place, hart);
     send(
@@ -143,16 +134,16 @@ pub(crate) fn on_probe_ack(
     change: Change,
     bytes: Option<LineData>,
 )
-    requires hart { hart < parts.old.directory.harts }
-    requires harts { parts.old.directory.harts ≡ length parts.old.nodes.items }
-    requires line { HasLine line (state_of parts.old) }
+    requires hart { hart < parts.old.state.views.notes.harts }
+    requires harts { parts.old.state.views.notes.harts ≡ length parts.old.state.views.nodes }
+    requires line { HasLine line parts.old.state }
     requires shrinks { left_by change ≢ Perm.Trunk }
-    requires bytes { HasSize (line_size (state_of parts.old)) bytes }
-    requires queues { QueuesFit (on_probe_ack hart line change bytes (state_of parts.old)) }
-    requires log { 0 < parts.old.trace.room.log }
-    ensures { state_of parts.new ≡ on_probe_ack hart line change bytes (state_of parts.old) }
+    requires bytes { HasSize (line_size parts.old.state) bytes }
+    requires queues { QueuesFit (on_probe_ack hart line change bytes parts.old.state) }
+    requires log { 0 < parts.old.room.log }
+    ensures { parts.new.state ≡ on_probe_ack hart line change bytes parts.old.state }
 {
-    let place = place_of(parts, line);
+    let place = place_of(parts.config.line, line);
     write_back(&mut parts.memory, place, bytes);
     if let Some(grant) = parts.directory.on_probe_ack(place, hart, change) {
         send_grant(parts, line, grant);
@@ -161,9 +152,9 @@ pub(crate) fn on_probe_ack(
 
 /// A GrantAck ends the line's transaction.
 pub(crate) fn on_grant_ack(parts: &mut Parts, line: u32)
-    requires { HasLine line (state_of parts.old) }
-    ensures { state_of parts.new ≡ on_grant_ack line (state_of parts.old) }
+    requires { HasLine line parts.old.state }
+    ensures { parts.new.state ≡ on_grant_ack line parts.old.state }
 {
-    let place = place_of(parts, line);
+    let place = place_of(parts.config.line, line);
     parts.directory.on_grant_ack(place);
 }

@@ -8,7 +8,6 @@ ghost use Rattle.machine_model.specs.Laws.{QueuesFit};
 ghost use Rattle.machine_model.specs.Ready.{IsSound};
 ghost use Rattle.machine_model.specs.Views.{node_at, with_node};
 ghost use Rattle.machine_parts.specs.Needs.{HasNeeded, needs_of};
-ghost use Rattle.machine_parts.specs.Parts.{state_of};
 
 use super::messages::send;
 use crate::parts::Parts;
@@ -16,11 +15,11 @@ use tl_types::{Body, Grow, Msg};
 
 /// An Acquire takes a tracker and a slot, and goes out.
 pub(crate) fn miss(parts: &mut Parts, hart: u8, line: u32, grow: Grow)
-    requires sound { IsSound (state_of parts.old) }
-    requires hart { hart < length parts.old.nodes.items }
-    requires room { HasNeeded hart (needs_of (state_of parts.old) hart (act.Miss line grow)) parts.old.trace.room }
-    requires room_in_queue { QueuesFit (missed hart line grow (state_of parts.old)) }
-    ensures { state_of parts.new ≡ missed hart line grow (state_of parts.old) }
+    requires sound { IsSound parts.old.state }
+    requires hart { hart < length parts.old.state.views.nodes }
+    requires room { HasNeeded hart (needs_of parts.old.state hart (act.Miss line grow)) parts.old.room }
+    requires room_in_queue { QueuesFit (missed hart line grow parts.old.state) }
+    ensures { parts.new.state ≡ missed hart line grow parts.old.state }
 {
     ask(parts, hart, line, grow);
     let body = Body::AcquireBlock(grow);
@@ -29,9 +28,9 @@ pub(crate) fn miss(parts: &mut Parts, hart: u8, line: u32, grow: Grow)
 
 // The cache notes that an Acquire of the line is outstanding.
 fn ask(parts: &mut Parts, hart: u8, line: u32, grow: Grow)
-    requires hart { hart < length parts.old.nodes.items }
-    ensures state { state_of parts.new ≡ with_node hart (record (node_at (state_of parts.old) hart) { cache = (wanted (node_at (state_of parts.old) hart).cache line grow).1 }) (state_of parts.old) }
-    ensures trace { parts.new.trace ≡ parts.old.trace }
+    requires hart { hart < length parts.old.state.views.nodes }
+    ensures state { parts.new.state ≡ with_node hart (record (node_at parts.old.state hart) { cache = (wanted (node_at parts.old.state hart).cache line grow).1 }) parts.old.state }
+    ensures room { parts.new.room ≡ parts.old.room }
 {
     parts.nodes[hart as usize].cache.want(line, grow);
 }

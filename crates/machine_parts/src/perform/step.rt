@@ -6,7 +6,6 @@ ghost use Rattle.machine_model.specs.declared.act.Act.TheVariants as act;
 ghost use Rattle.machine_model.specs.Changing.{does, next_place, retired, stopped, with_halt};
 ghost use Rattle.machine_model.specs.Ready.{IsReadyDeed, IsSound};
 ghost use Rattle.machine_parts.specs.Needs.{HasNeeded, needs_of};
-ghost use Rattle.machine_parts.specs.Parts.{state_of};
 ghost use Rattle.trace_recorder.specs.History.{entries_of};
 
 use super::deed::carry_out;
@@ -25,13 +24,13 @@ pub(crate) fn retire(
     instr: &Instr,
     deed: &Deed,
 ) -> Result<(), AllocError>
-    requires sound { IsSound (state_of parts.old) }
-    requires hart { hart < length parts.old.nodes.items }
-    requires few { next_place (state_of parts.old) hart < MAX_ENTRIES }
-    requires room { HasNeeded hart (needs_of (state_of parts.old) hart (act.Retire entry.now instr.now deed.now)) parts.old.trace.room }
-    requires ready { IsReadyDeed hart deed.now (state_of parts.old) }
-    ensures ok { OnOk result (state_of parts.new ≡ retired hart entry.now instr.now (does parts.old.config.model hart deed.now (state_of parts.old))) }
-    ensures err { OnErr result (state_of parts.new ≡ state_of parts.old) }
+    requires sound { IsSound parts.old.state }
+    requires hart { hart < length parts.old.state.views.nodes }
+    requires few { next_place parts.old.state hart < MAX_ENTRIES }
+    requires room { HasNeeded hart (needs_of parts.old.state hart (act.Retire entry.now instr.now deed.now)) parts.old.room }
+    requires ready { IsReadyDeed hart deed.now parts.old.state }
+    ensures ok { OnOk result (parts.new.state ≡ retired hart entry.now instr.now (does parts.old.state.views.config.model hart deed.now parts.old.state)) }
+    ensures err { OnErr result (parts.new.state ≡ parts.old.state) }
 {
     carry_out(parts, hart, deed)?;
     move_on(parts, hart, entry, instr);
@@ -40,12 +39,12 @@ pub(crate) fn retire(
 
 // The hart moves on, and its list has one more entry.
 fn move_on(parts: &mut Parts, hart: u8, entry: &Retired, instr: &Instr)
-    requires hart { hart < length parts.old.nodes.items }
-    requires entries { hart < length parts.old.trace.history.entries }
-    requires statuses { hart < length parts.old.trace.history.statuses }
-    requires few { length (entries_of parts.old.trace.history hart) < MAX_ENTRIES }
-    requires room { 0 < slice_index parts.old.trace.room.entries hart }
-    ensures { state_of parts.new ≡ retired hart entry.now instr.now (state_of parts.old) }
+    requires hart { hart < length parts.old.state.views.nodes }
+    requires entries { hart < length parts.old.state.trace.entries }
+    requires statuses { hart < length parts.old.state.trace.statuses }
+    requires few { length (entries_of parts.old.state.trace hart) < MAX_ENTRIES }
+    requires room { 0 < slice_index parts.old.room.entries hart }
+    ensures { parts.new.state ≡ retired hart entry.now instr.now parts.old.state }
 {
     let moved = &mut parts.nodes[hart as usize].hart;
     moved.retire(entry, instr);
@@ -67,10 +66,10 @@ fn halt(trace: &mut Trace, hart: u8, status: Status)
 
 /// The hart halts with a code.
 pub(crate) fn stop(parts: &mut Parts, hart: u8, code: u8)
-    requires sound { IsSound (state_of parts.old) }
-    requires hart { hart < length parts.old.nodes.items }
-    requires room { HasNeeded hart (needs_of (state_of parts.old) hart (act.Stop code)) parts.old.trace.room }
-    ensures { state_of parts.new ≡ stopped hart code (state_of parts.old) }
+    requires sound { IsSound parts.old.state }
+    requires hart { hart < length parts.old.state.views.nodes }
+    requires room { HasNeeded hart (needs_of parts.old.state hart (act.Stop code)) parts.old.room }
+    ensures { parts.new.state ≡ stopped hart code parts.old.state }
 {
     let status = Status::Stopped(code);
     parts.nodes[hart as usize].hart.status = status;

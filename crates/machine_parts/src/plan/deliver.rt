@@ -8,27 +8,18 @@ ghost use Rattle.machine_model.specs.declared.act.Plan.{Plan as AnyPlan};
 ghost use Rattle.machine_model.specs.Ready.{IsSound};
 ghost use Rattle.machine_model.specs.Views.{line_size, node_at, place_of};
 ghost use Rattle.machine_parts.specs.Deciding.{unless_stalled};
-ghost use Rattle.machine_parts.specs.Parts.{state_of};
 ghost use Rattle.tilelink_channels.specs.Queues.{front_of, queue_of};
 ghost use Rattle.tl_types.specs.declared.permission.Cap.{Cap as AnyCap};
 ghost use Rattle.tl_types.specs.declared.permission.Grow.{Grow as AnyGrow};
 
 use crate::node::Node;
 use crate::parts::Parts;
+use crate::words::place_of;
 use client_cache::ClientCache;
 use directory::{Directory, Transaction};
-use elf_loader::BASE;
 use machine_model::{Act, Plan};
 use machine_types::Outcome;
-use tl_types::{Body, Channel, LineSize, Msg};
-
-/// The place in memory of the line that begins at an address.
-pub(crate) fn place_of(size: LineSize, line: u32) -> u32
-    requires { base ≤ line }
-    ensures { result ≡ place_of size line }
-{
-    (line - BASE) / size.bytes()
-}
+use tl_types::{Body, Channel, Msg};
 
 /// An Acquire waits while its line has a transaction.
 fn stalled_acquire(directory: &Directory, place: u32) -> Option<Outcome>
@@ -65,10 +56,10 @@ fn stalled_grant(node: &Node) -> Option<Outcome>
 
 /// Why a message that stands in front can't be handled yet.
 fn stalled(parts: &Parts, hart: u8, message: &Msg) -> Option<Outcome>
-    requires hart { hart < length parts.now.nodes.items }
+    requires hart { hart < length parts.now.state.views.nodes }
     requires from { base ≤ message.now.line }
-    requires line { place_of (line_size (state_of parts.now)) message.now.line < length parts.now.directory.lines }
-    ensures { (go : AnyPlan) → plan_body (state_of parts.now) hart (node_at (state_of parts.now) hart) message.now.line message.now.body go ≡ unless_stalled result go }
+    requires line { place_of (line_size parts.now.state) message.now.line < length parts.now.state.views.notes.lines }
+    ensures { (go : AnyPlan) → plan_body parts.now.state hart (node_at parts.now.state hart) message.now.line message.now.body go ≡ unless_stalled result go }
 {
     let node = &parts.nodes[hart as usize];
     match message.body {
@@ -87,20 +78,14 @@ fn stalled(parts: &Parts, hart: u8, message: &Msg) -> Option<Outcome>
     }
 }
 
-fn front(parts: &Parts, hart: u8, channel: Channel) -> Option<Msg>
-    requires { hart < length parts.now.nodes.items }
-    ensures { result ≡ front_of (queue_of (node_at (state_of parts.now) hart).queues channel) }
-{
-    parts.nodes[hart as usize].queues.front(channel)
-}
-
 /// What the message in front of the hart's queue of a channel comes to.
 pub(crate) fn plan_deliver(parts: &Parts, hart: u8, channel: Channel) -> Plan
-    requires sound { IsSound (state_of parts.now) }
-    requires hart { hart < length parts.now.nodes.items }
-    ensures { result ≡ plan_deliver (state_of parts.now) hart (node_at (state_of parts.now) hart) channel }
+    requires sound { IsSound parts.now.state }
+    requires hart { hart < length parts.now.state.views.nodes }
+    ensures { result ≡ plan_deliver parts.now.state hart (node_at parts.now.state hart) channel }
 {
-    let Some(message) = front(parts, hart, channel) else {
+    let node = parts.node(hart);
+    let Some(message) = node.queues.front(channel) else {
         return Plan::Stays(Outcome::Empty);
     };
     match stalled(parts, hart, &message) {

@@ -1,63 +1,31 @@
-use Rattle.std.proofs.Common.{rules, refl}
+use Rattle.std.proofs.Common.{◌≡◌, IfOk, OnOk, rules, subst, sym}
+use Rattle.std.specs.declared.result.Result.{Result}
+use Rattle.machine_types.specs.declared.outcome.Outcome.{Outcome}
+use Rattle.machine_types.specs.declared.outcome.Outcome.TheVariants as outcome
+use Rattle.machine_model.specs.Events.{happens, verdict}
+use Rattle.machine_model.specs.Events.Verdict.{Moves}
 use Rattle.machine_model.specs.LawfulLog.{IsLawfulLog}
-use Rattle.machine_parts.specs.Parts.{state_of}
-use Rattle.coherent_machine.proofs.Batches.{Fits, fits_by, limited_when, moved_when, never_bad}
-use Rattle.coherent_machine.proofs.Reached.{headline_of, law_of}
+use Rattle.machine_model.specs.Views.{State}
+use Rattle.machine_parts.specs.Applying.{Answers}
+use Rattle.machine_parts.specs.declared.errors.ApplyError.{ApplyError}
+use Rattle.coherent_machine.specs.Adopting.{local_of}
+use Rattle.coherent_machine.specs.declared.errors.AdoptError.{AdoptError}
+use Rattle.coherent_machine.proofs.Batches.{fits_by, moved_when, never_bad, next_row}
+use Rattle.coherent_machine.proofs.Reached.{grows_after, happened_on_ok, headline_of, law_of, reached_after, stays_after}
+use Rattle.coherent_machine.proofs.machine.Machine.adopt.Goals.{in-Ok, in-Err-Limit, in-Err-NoMemory}
 use Rattle.coherent_machine.proofs.machine.Machine.adopt.Goals as goal
 
 pub returns-then-not-is_current-clause-headline : goal.returns-then-not-is_current-clause-headline
-returns-then-not-is_current-clause-headline c = rw (← c.self.view_is) (headline_of c.headline.ensures (state_of c.self.inside.parts) c.self.invariant)
+returns-then-not-is_current-clause-headline c = rw (← c.self.view_is) (headline_of c.headline.ensures c.self.inside.parts.state c.self.invariant)
 
 pub returns-then-is_empty-clause-headline : goal.returns-then-is_empty-clause-headline
-returns-then-is_empty-clause-headline c = rw (← c.self.view_is) (headline_of c.headline.ensures (state_of c.self.inside.parts) c.self.invariant)
+returns-then-is_empty-clause-headline c = rw (← c.self.view_is) (headline_of c.headline.ensures c.self.inside.parts.state c.self.invariant)
 
 pub returns-then-not-is_current-clause-log : goal.returns-then-not-is_current-clause-log
-returns-then-not-is_current-clause-log c = rw (← c.self.view_is) (law_of (λ image config s. IsLawfulLog s.trace.log) c.log_lawful_always.ensures (state_of c.self.inside.parts) c.self.invariant)
+returns-then-not-is_current-clause-log c = rw (← c.self.view_is) (law_of (λ image config s. IsLawfulLog s.trace.log) c.log_lawful_always.ensures c.self.inside.parts.state c.self.invariant)
 
 pub returns-then-is_empty-clause-log : goal.returns-then-is_empty-clause-log
-returns-then-is_empty-clause-log c = rw (← c.self.view_is) (law_of (λ image config s. IsLawfulLog s.trace.log) c.log_lawful_always.ensures (state_of c.self.inside.parts) c.self.invariant)
-
-fits-Ok : (c : goal.In-Ok) → Fits c.args.hart c.args.batch.now c.args.self.now
-fits-Ok c = fits_by c.args.hart c.args.batch.now c.args.self.now (state_of c.self.inside.parts) c.entries.result.now c.is_empty.result c.entries.ensures.row c.entries.ensures.entries c.self.view_is (c.is_current.ensures.0 c.if-not-is_current.false) c.is_empty.ensures c.if-is_empty.false
-
-fits-Limit : (c : goal.In-Err-Limit) → Fits c.args.hart c.args.batch.now c.args.self.now
-fits-Limit c = fits_by c.args.hart c.args.batch.now c.args.self.now (state_of c.self.inside.parts) c.entries.result.now c.is_empty.result c.entries.ensures.row c.entries.ensures.entries c.self.view_is (c.is_current.ensures.0 c.if-not-is_current.false) c.is_empty.ensures c.if-is_empty.false
-
-fits-NoMemory : (c : goal.In-Err-NoMemory) → Fits c.args.hart c.args.batch.now c.args.self.now
-fits-NoMemory c = fits_by c.args.hart c.args.batch.now c.args.self.now (state_of c.self.inside.parts) c.entries.result.now c.is_empty.result c.entries.ensures.row c.entries.ensures.entries c.self.view_is (c.is_current.ensures.0 c.if-not-is_current.false) c.is_empty.ensures c.if-is_empty.false
-
-fits-BadEvent : (c : goal.In-Err-BadEvent) → Fits c.args.hart c.args.batch.now c.args.self.now
-fits-BadEvent c = fits_by c.args.hart c.args.batch.now c.args.self.now (state_of c.self.inside.parts) c.entries.result.now c.is_empty.result c.entries.ensures.row c.entries.ensures.entries c.self.view_is (c.is_current.ensures.0 c.if-not-is_current.false) c.is_empty.ensures c.if-is_empty.false
-
-pub returns-in-Ok-clause-retired : goal.returns-in-Ok-clause-retired
-returns-in-Ok-clause-retired c =
-    moved_when c.args.hart c.args.batch.now c.args.self.now c.commit.new.self c.in-Ok.outcome c.commit.result (fits-Ok c)
-    c.commit.ensures.answers
-    c.in-Ok.is
-
-pub returns-in-Err-Limit-clause-stale : goal.returns-in-Err-Limit-clause-stale
-returns-in-Err-Limit-clause-stale c = (λ e. absurd (cc (e)), λ n. absurd (n (fits-Limit c).current))
-
-pub returns-in-Err-Limit-clause-limit : goal.returns-in-Err-Limit-clause-limit
-returns-in-Err-Limit-clause-limit c = (
-  λ e. (
-    (fits-Limit c).current,
-    (fits-Limit c).some,
-    limited_when c.args.hart c.args.batch.now c.args.self.now c.commit.new.self c.commit.result (fits-Limit c)
-        c.commit.ensures.answers
-        (cc (c.in-Err-Limit.is, c.in-Err-Limit.field-0-is)),
-  ),
-  λ p. refl,
-)
-
-pub returns-in-Err-NoMemory-clause-stale : goal.returns-in-Err-NoMemory-clause-stale
-returns-in-Err-NoMemory-clause-stale c = (λ e. absurd (cc (e)), λ n. absurd (n (fits-NoMemory c).current))
-
-pub unreachable-requires : goal.unreachable-requires
-unreachable-requires c =
-    never_bad c.args.hart c.args.batch.now c.args.self.now c.commit.new.self c.commit.result (fits-BadEvent c)
-    c.commit.ensures.answers
-    (cc (c.in-Err-BadEvent.is, c.in-Err-BadEvent.field-0-is))
+returns-then-is_empty-clause-log c = rw (← c.self.view_is) (law_of (λ image config s. IsLawfulLog s.trace.log) c.log_lawful_always.ensures c.self.inside.parts.state c.self.invariant)
 
 pub returns-then-not-is_current-clause-stale : goal.returns-then-not-is_current-clause-stale
 returns-then-not-is_current-clause-stale c = search rules
@@ -101,86 +69,56 @@ returns-then-is_empty-clause-grows c = search rules
 pub returns-then-is_empty-clause-stays : goal.returns-then-is_empty-clause-stays
 returns-then-is_empty-clause-stays c = search rules
 
-pub returns-in-Ok-clause-empty : goal.returns-in-Ok-clause-empty
-returns-in-Ok-clause-empty c = search rules
+pub commit-requires-clause-row : goal.commit-requires-clause-row
+commit-requires-clause-row c = next_row c.args.hart c.args.batch.now c.self.inside.parts.state c.entries.ensures.row (c.is_current.ensures.0 c.if-not-is_current.false)
 
-pub returns-in-Ok-clause-limit : goal.returns-in-Ok-clause-limit
-returns-in-Ok-clause-limit c = search rules
+pub unreachable-requires : goal.unreachable-requires
+unreachable-requires c =
+    let e = local_of c.args.hart c.args.batch.now in
+    let fits = fits_by c.args.hart c.args.batch.now c.args.self.now c.self.inside.parts.state c.entries.result.now c.is_empty.result c.entries.ensures.row c.entries.ensures.entries c.self.view_is (c.is_current.ensures.0 c.if-not-is_current.false) c.is_empty.ensures c.if-is_empty.false in
+    never_bad c.args.hart c.args.batch.now c.args.self.now c.commit.new.self.state c.commit.result fits
+    (subst (λ (s : State). Answers (verdict s e) s c.commit.result c.commit.new.self.state) c.self.view_is c.commit.ensures)
+    (cc (c.in-Err-BadEvent.is, c.in-Err-BadEvent.field-0-is))
 
-pub returns-in-Ok-clause-ok : goal.returns-in-Ok-clause-ok
-returns-in-Ok-clause-ok c = search rules
+pub invariant_of-self : goal.invariant_of-self
+invariant_of-self c = reached_after c.image_and_config_stay.ensures c.self.inside.parts.state c.commit.new.self.state (local_of c.args.hart c.args.batch.now) c.commit.result c.commit.ensures c.self.invariant
 
-pub returns-in-Ok-clause-err : goal.returns-in-Ok-clause-err
-returns-in-Ok-clause-err c = search rules
+pub returns-clause-ok : goal.returns-clause-ok
+returns-clause-ok c =
+    let e = local_of c.args.hart c.args.batch.now in
+    let led = λ (r : Result Outcome AdoptError). OnOk r (c.commit.new.self.state ≡ happens c.args.self.now e) in
+    let done = happened_on_ok c.self.inside.parts.state c.commit.new.self.state e c.commit.result c.commit.ensures in
+    elim c.match-commit.branch [
+      | in-Ok w ↦ subst led (sym w.result-is) (subst (λ (s : State). c.commit.new.self.state ≡ happens s e) c.self.view_is (subst (λ (r : Result Outcome ApplyError). OnOk r (c.commit.new.self.state ≡ happens c.self.inside.parts.state e)) w.in-Ok.is done))
+      | in-Err-Limit w ↦ subst led (sym w.result-is) tt
+      | in-Err-NoMemory w ↦ subst led (sym w.result-is) tt
+    ]
 
-pub returns-in-Ok-clause-reached : goal.returns-in-Ok-clause-reached
-returns-in-Ok-clause-reached c = search rules
+pub returns-clause-retired : goal.returns-clause-retired
+returns-clause-retired c =
+    let e = local_of c.args.hart c.args.batch.now in
+    let now = c.args.self.now in
+    let new = c.commit.new.self.state in
+    let retired = λ (r : Result Outcome AdoptError). IfOk r (λ (o : Outcome). (verdict now e ≡ Moves o new) × (o ≡ outcome.Retired)) in
+    let fits = fits_by c.args.hart c.args.batch.now now c.self.inside.parts.state c.entries.result.now c.is_empty.result c.entries.ensures.row c.entries.ensures.entries c.self.view_is (c.is_current.ensures.0 c.if-not-is_current.false) c.is_empty.ensures c.if-is_empty.false in
+    let answers = subst (λ (s : State). Answers (verdict s e) s c.commit.result new) c.self.view_is c.commit.ensures in
+    elim c.match-commit.branch [
+      | in-Ok w ↦ subst retired (sym w.result-is) (moved_when c.args.hart c.args.batch.now now new w.in-Ok.outcome c.commit.result fits answers w.in-Ok.is)
+      | in-Err-Limit w ↦ subst retired (sym w.result-is) tt
+      | in-Err-NoMemory w ↦ subst retired (sym w.result-is) tt
+    ]
 
-pub returns-in-Ok-clause-headline : goal.returns-in-Ok-clause-headline
-returns-in-Ok-clause-headline c = search rules
+pub returns-clause-reached : goal.returns-clause-reached
+returns-clause-reached c = invariant_of-self c
 
-pub returns-in-Ok-clause-log : goal.returns-in-Ok-clause-log
-returns-in-Ok-clause-log c = search rules
+pub returns-clause-headline : goal.returns-clause-headline
+returns-clause-headline c = headline_of c.headline.ensures c.commit.new.self.state (invariant_of-self c)
 
-pub returns-in-Ok-clause-grows : goal.returns-in-Ok-clause-grows
-returns-in-Ok-clause-grows c = search rules
+pub returns-clause-log : goal.returns-clause-log
+returns-clause-log c = law_of (λ image config s. IsLawfulLog s.trace.log) c.log_lawful_always.ensures c.commit.new.self.state (invariant_of-self c)
 
-pub returns-in-Ok-clause-stays : goal.returns-in-Ok-clause-stays
-returns-in-Ok-clause-stays c = search rules
+pub returns-clause-grows : goal.returns-clause-grows
+returns-clause-grows c = rw (← c.self.view_is) (grows_after c.nothing_is_rewritten.ensures c.self.inside.parts.state c.commit.new.self.state (local_of c.args.hart c.args.batch.now) c.commit.result c.commit.ensures)
 
-pub returns-in-Err-Limit-clause-empty : goal.returns-in-Err-Limit-clause-empty
-returns-in-Err-Limit-clause-empty c = search rules
-
-pub returns-in-Err-Limit-clause-ok : goal.returns-in-Err-Limit-clause-ok
-returns-in-Err-Limit-clause-ok c = search rules
-
-pub returns-in-Err-Limit-clause-retired : goal.returns-in-Err-Limit-clause-retired
-returns-in-Err-Limit-clause-retired c = search rules
-
-pub returns-in-Err-Limit-clause-err : goal.returns-in-Err-Limit-clause-err
-returns-in-Err-Limit-clause-err c = search rules
-
-pub returns-in-Err-Limit-clause-reached : goal.returns-in-Err-Limit-clause-reached
-returns-in-Err-Limit-clause-reached c = search rules
-
-pub returns-in-Err-Limit-clause-headline : goal.returns-in-Err-Limit-clause-headline
-returns-in-Err-Limit-clause-headline c = search rules
-
-pub returns-in-Err-Limit-clause-log : goal.returns-in-Err-Limit-clause-log
-returns-in-Err-Limit-clause-log c = search rules
-
-pub returns-in-Err-Limit-clause-grows : goal.returns-in-Err-Limit-clause-grows
-returns-in-Err-Limit-clause-grows c = search rules
-
-pub returns-in-Err-Limit-clause-stays : goal.returns-in-Err-Limit-clause-stays
-returns-in-Err-Limit-clause-stays c = search rules
-
-pub returns-in-Err-NoMemory-clause-empty : goal.returns-in-Err-NoMemory-clause-empty
-returns-in-Err-NoMemory-clause-empty c = search rules
-
-pub returns-in-Err-NoMemory-clause-limit : goal.returns-in-Err-NoMemory-clause-limit
-returns-in-Err-NoMemory-clause-limit c = search rules
-
-pub returns-in-Err-NoMemory-clause-ok : goal.returns-in-Err-NoMemory-clause-ok
-returns-in-Err-NoMemory-clause-ok c = search rules
-
-pub returns-in-Err-NoMemory-clause-retired : goal.returns-in-Err-NoMemory-clause-retired
-returns-in-Err-NoMemory-clause-retired c = search rules
-
-pub returns-in-Err-NoMemory-clause-err : goal.returns-in-Err-NoMemory-clause-err
-returns-in-Err-NoMemory-clause-err c = search rules
-
-pub returns-in-Err-NoMemory-clause-reached : goal.returns-in-Err-NoMemory-clause-reached
-returns-in-Err-NoMemory-clause-reached c = search rules
-
-pub returns-in-Err-NoMemory-clause-headline : goal.returns-in-Err-NoMemory-clause-headline
-returns-in-Err-NoMemory-clause-headline c = search rules
-
-pub returns-in-Err-NoMemory-clause-log : goal.returns-in-Err-NoMemory-clause-log
-returns-in-Err-NoMemory-clause-log c = search rules
-
-pub returns-in-Err-NoMemory-clause-grows : goal.returns-in-Err-NoMemory-clause-grows
-returns-in-Err-NoMemory-clause-grows c = search rules
-
-pub returns-in-Err-NoMemory-clause-stays : goal.returns-in-Err-NoMemory-clause-stays
-returns-in-Err-NoMemory-clause-stays c = search rules
+pub returns-clause-stays : goal.returns-clause-stays
+returns-clause-stays c = rw (← c.self.view_is) (stays_after c.image_and_config_stay.ensures c.self.inside.parts.state c.commit.new.self.state (local_of c.args.hart c.args.batch.now) c.commit.result c.commit.ensures)

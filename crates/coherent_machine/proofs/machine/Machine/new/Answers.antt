@@ -3,7 +3,6 @@ use Rattle.machine_model.specs.LawfulLog.{IsLawfulLog}
 use Rattle.machine_model.specs.Views.{State}
 use Rattle.coherent_machine.specs.Machine.{Replayed}
 use Rattle.coherent_machine.proofs.Reached.{headline_from, headline_of, law_of, reached_opening}
-use Rattle.machine_parts.specs.Parts.{state_of}
 use Rattle.coherent_machine.proofs.machine.Machine.new.Goals as goal
 
 pub invariant_of-result : goal.invariant_of-result
@@ -11,12 +10,12 @@ invariant_of-result c = rw c.in_ok-parts.ensures (reached_opening c.args.image c
 
 pub returns-clause-headline : goal.returns-clause-headline
 returns-clause-headline c =
-    headline_from c.image_and_config_stay.ensures c.args.image c.args.config [] (state_of c.in_ok-parts.parts)
+    headline_from c.image_and_config_stay.ensures c.args.image c.args.config [] c.in_ok-parts.parts.state
     (ap (λ (s : State). Replayed.Reached s) (sym c.in_ok-parts.ensures))
-    (headline_of c.headline.ensures (state_of c.in_ok-parts.parts) (invariant_of-result c))
+    (headline_of c.headline.ensures c.in_ok-parts.parts.state (invariant_of-result c))
 
 pub returns-clause-log : goal.returns-clause-log
-returns-clause-log c = law_of (λ image config s. IsLawfulLog s.trace.log) c.log_lawful_always.ensures (state_of c.in_ok-parts.parts) (invariant_of-result c)
+returns-clause-log c = law_of (λ image config s. IsLawfulLog s.trace.log) c.log_lawful_always.ensures c.in_ok-parts.parts.state (invariant_of-result c)
 
 pub returns-clause-reached : goal.returns-clause-reached
 returns-clause-reached c = invariant_of-result c

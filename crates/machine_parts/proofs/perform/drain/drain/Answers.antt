@@ -1,6 +1,5 @@
 use Rattle.std.proofs.Common.{ℕ, ◌<◌, List, length, ap, subst, sym, ◌∙◌}
 use Rattle.machine_model.specs.Changing.{performs}
-use Rattle.machine_parts.specs.Parts.{state_of}
 use Rattle.store_buffer.specs.Entry.{entry_of}
 use Rattle.store_buffer.specs.Groups.{oldest}
 use Rattle.store_buffer.specs.declared.entry.Entry.{Entry}
@@ -13,17 +12,17 @@ use Rattle.machine_parts.proofs.perform.drain.drain.Goals as goal
 pub keep_list-requires : goal.keep_list-requires
 keep_list-requires c =
     let h = c.args.hart in
-    let s = state_of c.args.parts.now in
+    let s = c.args.parts.now.state in
     let count = λ (t : State). length t.views.nodes in
-    let same = ap count c.perform_all.ensures ∙ (ap length (performs_nodes h c.as_slice.result.now (state_of c.take_out-entry.new.parts)) ∙ (ap count c.take_out-entry.ensures.state ∙ count_same h (emptied c.args.word (node_at s h)) s)) in
+    let same = ap count c.perform_all.ensures ∙ (ap length (performs_nodes h c.as_slice.result.now c.take_out-entry.new.parts.state) ∙ (ap count c.take_out-entry.ensures.state ∙ count_same h (emptied c.args.word (node_at s h)) s)) in
     subst (λ (n : ℕ). h < n) (sym same) c.requires.hart
 
 pub returns : goal.returns
 returns c =
     let h = c.args.hart in
-    let s = state_of c.args.parts.now in
+    let s = c.args.parts.now.state in
     let ops = (entry_of c.args.word (oldest (node_at s h).buffer)).ops in
     c.keep_list.ensures
     ∙ (c.perform_all.ensures
-    ∙ (ap (λ (places : List ℕ). performs h places (state_of c.take_out-entry.new.parts)) (c.as_slice.ensures ∙ ap (λ (e : Entry). e.ops) c.take_out-entry.ensures.entry)
+    ∙ (ap (λ (places : List ℕ). performs h places c.take_out-entry.new.parts.state) (c.as_slice.ensures ∙ ap (λ (e : Entry). e.ops) c.take_out-entry.ensures.entry)
     ∙ (ap (λ (t : State). performs h ops t) c.take_out-entry.ensures.state ∙ drained_is h c.args.word s c.requires.hart)))
