@@ -136,18 +136,6 @@ fn joined(alloc: Global, pieces: &[&str]) -> Result<Vec<u8>, Fail> {
     Ok(text)
 }
 
-fn replays(
-    rt: &(impl Abort + Threads + Wait + Sync + AllocGlobal),
-    words: &[u32],
-    script: &str,
-    trace: &str,
-    ends: &str,
-) -> Result<(), Fail> {
-    let ran = replay_of(rt, words, script.as_bytes())?;
-    gave(rt, &ran, 0, trace, ends);
-    Ok(())
-}
-
 /// Standard output takes no more, which ends the program: no hart is told of.
 fn breaks_off<R: Abort + Threads + Wait + Sync + AllocGlobal, O: Write>(
     rt: &R,
@@ -212,77 +200,73 @@ fn loses_the_end<R: Abort + Threads + Wait + Sync + AllocGlobal>(
     );
 }
 
-/// It also refuses a program that always tells want of memory, as each contract allows.
-#[test]
-fn row_1(rt: HostRuntime) -> Result<(), Fail> {
-    replays(
-        &rt,
+/// A program, a script, its trace, and how the hart ends.
+const REPLAYS: [(&[u32], &str, &str, &str); 5] = [
+    (
         &texts::EXIT,
         texts::EXIT_SCRIPT,
         texts::EXIT_TRACE,
         "hart 0: exit 5\n",
-    )
-}
-
-#[test]
-fn a_step_of_a_halted_hart_changes_nothing(rt: HostRuntime) -> Result<(), Fail> {
-    let script = "rvtl-script 1 1 4 4 2\nstep 0\nstep 0\nstep 0\n";
-    replays(
-        &rt,
+    ),
+    (
         &texts::EXIT,
-        script,
+        "rvtl-script 1 1 4 4 2\nstep 0\nstep 0\nstep 0\n",
         texts::EXIT_TRACE,
         "hart 0: exit 5\n",
-    )
-}
-
-#[test]
-fn row_2(rt: HostRuntime) -> Result<(), Fail> {
-    let script = "rvtl-script 1 1 4 4 2\n";
-    replays(
-        &rt,
+    ),
+    (
         &texts::EXIT,
-        script,
+        "rvtl-script 1 1 4 4 2\n",
         texts::NO_EVENTS_TRACE,
         "hart 0: run\n",
-    )
-}
-
-#[test]
-fn row_18(rt: HostRuntime) -> Result<(), Fail> {
-    replays(
-        &rt,
+    ),
+    (
         &texts::LOAD,
         texts::LOAD_SCRIPT,
         texts::LOAD_TRACE,
         "hart 0: run\n",
-    )
-}
-
-#[test]
-fn row_27(rt: HostRuntime) -> Result<(), Fail> {
-    replays(
-        &rt,
+    ),
+    (
         &texts::STORE,
         texts::STORE_SCRIPT,
         texts::STORE_TRACE,
         "hart 0: run\n",
-    )
-}
+    ),
+];
 
+/// Row 1 again with a step of the hart that has halted, which changes nothing. They also refuse a program that always
+/// tells want of memory, as each contract allows.
 #[test]
-fn outputs_stand_behind_the_status(rt: HostRuntime) -> Result<(), Fail> {
-    let program = [0x0010_0893, 0xfff0_0513, 0x0000_0073, 0x0000_0073];
-    let script = b"rvtl-script 1 1 4 4 2\nstep 0\nstep 0\nstep 0\nstep 0\n";
-    let ran = replay_of(&rt, &program, script)?;
-    told(&rt, &ran, 0, "hart 0: run output 4294967295 4294967295\n");
+fn rows_1_2_18_and_27(rt: HostRuntime) -> Result<(), Fail> {
+    for (program, script, trace, ends) in &REPLAYS {
+        let ran = replay_of(&rt, program, script.as_bytes())?;
+        gave(&rt, &ran, 0, trace, ends);
+    }
     Ok(())
 }
 
+/// A program, a script, and how the harts end: outputs stand behind the status, and each hart has its line.
+const ENDS: [(&[u32], &str, &str); 3] = [
+    (
+        &[0x0010_0893, 0xfff0_0513, 0x0000_0073, 0x0000_0073],
+        "rvtl-script 1 1 4 4 2\nstep 0\nstep 0\nstep 0\nstep 0\n",
+        "hart 0: run output 4294967295 4294967295\n",
+    ),
+    (&[0], "rvtl-script 1 1 4 4 2\nstep 0\n", "hart 0: stop 2\n"),
+    (
+        &texts::EXIT,
+        "rvtl-script 1 2 4 4 2\nstep 1\nstep 1\nstep 0\n",
+        "hart 0: run\nhart 1: exit 5\n",
+    ),
+];
+
 #[test]
-fn stops_are_told(rt: HostRuntime) {
-    let ran = replay(&rt, &[0; 4], b"rvtl-script 1 1 4 4 2\nstep 0\n");
-    told(&rt, &ran, 0, "hart 0: stop 2\n");
+fn ends_are_told(rt: HostRuntime) -> Result<(), Fail> {
+    for (program, script, ends) in &ENDS {
+        let ran = replay_of(&rt, program, script.as_bytes())?;
+        told(&rt, &ran, 0, ends);
+    }
+    Ok(())
 }
 
 /// An image, a script, and the message that they give.
@@ -429,15 +413,6 @@ fn streams_that_lose_the_end(rt: HostRuntime) -> Result<(), Fail> {
     for words in &WRITERS {
         loses_the_end(&rt, words, &files);
     }
-    Ok(())
-}
-
-/// Each hart has its line.
-#[test]
-fn two_harts_end(rt: HostRuntime) -> Result<(), Fail> {
-    let script = b"rvtl-script 1 2 4 4 2\nstep 1\nstep 1\nstep 0\n";
-    let ran = replay_of(&rt, &texts::EXIT, script)?;
-    told(&rt, &ran, 0, "hart 0: run\nhart 1: exit 5\n");
     Ok(())
 }
 

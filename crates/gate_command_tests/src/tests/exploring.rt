@@ -141,23 +141,14 @@ fn each_outcome_has_its_line(rt: HostRuntime) -> Result<(), Fail> {
     Ok(())
 }
 
-/// The script leads to the first outcome.
-fn loads_zeros<R: Abort + Threads + Wait + Sync + AllocGlobal>(
-    rt: &R,
-    script: &[u8],
-) -> Result<(), Fail> {
-    let ran = replay_of(rt, &STORE_BUFFERING, script)?;
-    let ends = "hart 0: exit 0 output 0\nhart 1: exit 0 output 0\n";
-    told(rt, &ran, 0, ends);
-    Ok(())
-}
-
 /// The last script to be written is that of the first outcome, and leads there.
 #[test]
 fn a_script_leads_to_its_outcome(rt: HostRuntime) -> Result<(), Fail> {
     let (ran, written) = explore(&rt, &["--scripts", "folder"], b"")?;
     began(&rt, &ran, 0, OUTCOMES, "");
-    loads_zeros(&rt, &written)?;
+    let led = replay_of(&rt, &STORE_BUFFERING, &written)?;
+    let ends = "hart 0: exit 0 output 0\nhart 1: exit 0 output 0\n";
+    told(&rt, &led, 0, ends);
     // A hart's private instructions before its store, the store, its load that misses, the Acquire, the Grant, the
     // load, and then what puts its number out and exits: `li`, `ecall`, two `li` and `ecall`.
     same(
@@ -185,6 +176,8 @@ fn finds_no_room<R: Abort + Threads + Wait + Sync + AllocGlobal>(
     Ok(())
 }
 
+/// Of the program that puts the message's other bit out the last outcome, of which a file is written first, is one that
+/// the machine never comes to, so that it has a trace.
 #[test]
 fn a_full_folder_is_told(rt: HostRuntime) -> Result<(), Fail> {
     let words = [
@@ -197,13 +190,7 @@ fn a_full_folder_is_told(rt: HostRuntime) -> Result<(), Fail> {
         "folder",
         "image",
     ];
-    finds_no_room(&rt, &STORE_BUFFERING, &words, OUTCOMES)
-}
-
-/// The last outcome, of which a file is written first, is one that the machine never comes to, so that it has a trace:
-/// of the message its other bit is put out.
-#[test]
-fn a_folder_too_full_for_a_trace_is_told(rt: HostRuntime) -> Result<(), Fail> {
+    finds_no_room(&rt, &STORE_BUFFERING, &words, OUTCOMES)?;
     let mut program = MESSAGE_PASSING;
     program[14] = 0x0016_c513;
     let outcomes = "1  hart 0: exit 0   hart 1: exit 0 output 0 0   this machine
@@ -246,22 +233,18 @@ fn ends_at_its_limit<R: Abort + Threads + Wait + Sync + AllocGlobal>(
     Ok(())
 }
 
-/// A search that ends at its limit allows what it found, be it nothing: the last line says that it isn't complete.
-#[test]
-fn an_incomplete_search_is_allowed(rt: HostRuntime) -> Result<(), Fail> {
-    let words = ["--states", "1", "--allow", "allowed"];
-    ends_at_its_limit(&rt, &words, ALLOWED)
-}
-
 /// What an exploration prints allows all that it found.
 #[test]
 fn what_was_printed_is_allowed(rt: HostRuntime) -> Result<(), Fail> {
     explores(&rt, &["--allow", "allowed"], OUTCOMES, 0, OUTCOMES, "")
 }
 
+/// It allows what it found, be it nothing: the last line says that it isn't complete.
 #[test]
 fn a_limit_ends_the_search(rt: HostRuntime) -> Result<(), Fail> {
-    ends_at_its_limit(&rt, &["--states", "1"], "")
+    ends_at_its_limit(&rt, &["--states", "1"], "")?;
+    let words = ["--states", "1", "--allow", "allowed"];
+    ends_at_its_limit(&rt, &words, ALLOWED)
 }
 
 /// Words, and the message and the status that they give.

@@ -3,7 +3,7 @@
 use super::orders::{
     ADDED, BOTH_RUN, FORWARDED, MESSAGE_PASSING, RESERVED, STORE_BUFFERING, STORES,
 };
-use super::{File, Ran, gave, joined, line, texts};
+use super::{File, gave, joined, line, texts};
 use crate::same::same_of;
 use std::process::Abort;
 use std::sync::Wait;
@@ -12,47 +12,29 @@ use std::thread::Threads;
 
 const STORES_LOAD: &str = "R 0 0x80000018 0x10062703 0x00000002 -\n";
 
-/// `rvtl check --model MODEL trace` over a trace in pieces.
-fn check<R: Threads + Wait + Sync + AllocGlobal>(
+/// `rvtl check --model MODEL trace` over a trace in pieces ends so, and prints this and no more.
+fn judges<R: Abort + Threads + Wait + Sync + AllocGlobal>(
     rt: &R,
     model: &str,
     pieces: &[&str],
-) -> Result<Ran, Fail> {
+    status: u8,
+    verdict: &str,
+    message: &str,
+) -> Result<(), Fail> {
     let trace = joined(rt.alloc(), pieces)?;
     let files = [File::whole("trace", trace.as_slice())];
     let words = ["rvtl", "check", "--model", model, "trace"];
-    Ok(line(rt, &words, &files))
+    let ran = line(rt, &words, &files);
+    gave(rt, &ran, status, verdict, message);
+    Ok(())
 }
 
-fn is_legal(
-    rt: &(impl Abort + Threads + Wait + Sync + AllocGlobal),
+fn is_legal<R: Abort + Threads + Wait + Sync + AllocGlobal>(
+    rt: &R,
     model: &str,
     pieces: &[&str],
 ) -> Result<(), Fail> {
-    let ran = check(rt, model, pieces)?;
-    gave(rt, &ran, 0, "legal\n", "");
-    Ok(())
-}
-
-fn breaks(
-    rt: &(impl Abort + Threads + Wait + Sync + AllocGlobal),
-    model: &str,
-    pieces: &[&str],
-    fault: &str,
-) -> Result<(), Fail> {
-    let ran = check(rt, model, pieces)?;
-    gave(rt, &ran, 3, fault, "");
-    Ok(())
-}
-
-fn refuses(
-    rt: &(impl Abort + Threads + Wait + Sync + AllocGlobal),
-    pieces: &[&str],
-    message: &str,
-) -> Result<(), Fail> {
-    let ran = check(rt, "rvwmo", pieces)?;
-    gave(rt, &ran, 1, "", message);
-    Ok(())
+    judges(rt, model, pieces, 0, "legal\n", "")
 }
 
 #[test]
@@ -71,7 +53,7 @@ fn rows_4_and_49(rt: HostRuntime) -> Result<(), Fail> {
 #[test]
 fn row_5(rt: HostRuntime) -> Result<(), Fail> {
     is_legal(&rt, "rvwmo", &[MESSAGE_PASSING])?;
-    breaks(&rt, "ztso", &[MESSAGE_PASSING], "fault 6 0:3 0:5\n")
+    judges(&rt, "ztso", &[MESSAGE_PASSING], 3, "fault 6 0:3 0:5\n", "")
 }
 
 #[test]
@@ -80,17 +62,21 @@ fn rows_7_and_17(rt: HostRuntime) -> Result<(), Fail> {
     let exchanged = "P 0 6\nP 0 5\nP 0 2\nH 0 run\n";
     let older = "R 0 0x80000018 0x10062703 0x00000001 -\n";
     is_legal(&rt, "rvwmo", &[STORES, STORES_LOAD, performed])?;
-    breaks(
+    judges(
         &rt,
         "rvwmo",
         &[STORES, STORES_LOAD, exchanged],
+        3,
         "fault 1 0:2 0:5\n",
+        "",
     )?;
-    breaks(
+    judges(
         &rt,
         "rvwmo",
         &[STORES, older, performed],
+        3,
         "fault 14 0:6 0:6\n",
+        "",
     )
 }
 
@@ -104,11 +90,13 @@ fn rows_9_and_37(rt: HostRuntime) -> Result<(), Fail> {
     let failed = "R 0 0x80000010 0x18a5a62f - fail\n";
     let succeeded = "R 0 0x80000010 0x18a5a62f - ok\n";
     is_legal(&rt, "rvwmo", &[RESERVED, failed, ADDED, BOTH_RUN])?;
-    breaks(
+    judges(
         &rt,
         "rvwmo",
         &[RESERVED, succeeded, ADDED, "P 0 4\n", BOTH_RUN],
+        3,
         "fault 15 0:3 0:4\n",
+        "",
     )
 }
 
@@ -119,9 +107,12 @@ const NO_ORDERS: [&str; 3] = ["P 0 6\nP 0 6\n", "P 0 3\n", "P 0 7\n"];
 fn row_38(rt: HostRuntime) -> Result<(), Fail> {
     let message = "rvtl: trace: check fault 1 NotAnOrder\n";
     for performed in &NO_ORDERS {
-        refuses(
+        judges(
             &rt,
+            "rvwmo",
             &[STORES, STORES_LOAD, *performed, "H 0 run\n"],
+            1,
+            "",
             message,
         )?;
     }
@@ -142,7 +133,7 @@ const NO_RUNS: [&str; 6] = [
 fn rows_17_and_43(rt: HostRuntime) -> Result<(), Fail> {
     let message = "rvtl: trace: check fault 2 NotARun\n";
     for last in &NO_RUNS {
-        refuses(&rt, &[STORES, *last], message)?;
+        judges(&rt, "rvwmo", &[STORES, *last], 1, "", message)?;
     }
     is_legal(&rt, "rvwmo", &[STORES, STORES_LOAD, "H 0 stop 2\n"])
 }
@@ -151,14 +142,20 @@ fn rows_17_and_43(rt: HostRuntime) -> Result<(), Fail> {
 #[test]
 fn texts_are_judged_first(rt: HostRuntime) -> Result<(), Fail> {
     let ended = "P 0 6\nP 0 6\nH 0 run\n";
-    refuses(
+    judges(
         &rt,
+        "rvwmo",
         &[STORES, STORES_LOAD, ended, "H 0 run\n"],
+        1,
+        "",
         "rvtl: trace: bytes after the trace\n",
     )?;
-    refuses(
+    judges(
         &rt,
+        "rvwmo",
         &[STORES, "P 0 06\n"],
+        1,
+        "",
         "rvtl: trace: line 11: text fault 3 Fields\n",
     )
 }

@@ -1,6 +1,6 @@
 //! What `rvtl check --messages` prints, and how it ends.
 
-use super::{File, Ran, breaks_anywhere, gave, joined, line, texts};
+use super::{File, breaks_anywhere, gave, joined, line, texts};
 use crate::same::same;
 use std::process::Abort;
 use std::sync::Wait;
@@ -34,59 +34,57 @@ T 1 4 0x80000000
 M t A 0 AcquireBlock 0x80000000 NtoB
 ";
 
-/// `rvtl check --messages trace` over a trace in pieces.
-fn check<R: Threads + Wait + Sync + AllocGlobal>(rt: &R, pieces: &[&str]) -> Result<Ran, Fail> {
-    let trace = joined(rt.alloc(), pieces)?;
-    let files = [File::whole("trace", trace.as_slice())];
-    Ok(line(rt, &["rvtl", "check", "--messages", "trace"], &files))
-}
-
-fn is_lawful<R: Abort + Threads + Wait + Sync + AllocGlobal>(
+/// `rvtl check --messages trace` over a trace in pieces ends so, and prints this and no more.
+fn judges<R: Abort + Threads + Wait + Sync + AllocGlobal>(
     rt: &R,
     pieces: &[&str],
-) -> Result<(), Fail> {
-    let ran = check(rt, pieces)?;
-    gave(rt, &ran, 0, "lawful\n", "");
-    Ok(())
-}
-
-fn breaks<R: Abort + Threads + Wait + Sync + AllocGlobal>(
-    rt: &R,
-    pieces: &[&str],
+    status: u8,
     verdict: &str,
     message: &str,
 ) -> Result<(), Fail> {
-    let ran = check(rt, pieces)?;
-    gave(rt, &ran, 3, verdict, message);
+    let trace = joined(rt.alloc(), pieces)?;
+    let files = [File::whole("trace", trace.as_slice())];
+    let ran = line(rt, &["rvtl", "check", "--messages", "trace"], &files);
+    gave(rt, &ran, status, verdict, message);
     Ok(())
 }
 
+const LAWFUL: [&[&str]; 4] = [
+    &[HEAD],
+    &[HEAD, ASKED, GRANTED],
+    &[texts::LOAD_TRACE],
+    &[texts::EXIT_TRACE],
+];
+
 #[test]
 fn logs_that_are_lawful(rt: HostRuntime) -> Result<(), Fail> {
-    is_lawful(&rt, &[HEAD])?;
-    is_lawful(&rt, &[HEAD, ASKED, GRANTED])?;
-    is_lawful(&rt, &[texts::LOAD_TRACE])?;
-    is_lawful(&rt, &[texts::EXIT_TRACE])
+    for pieces in &LAWFUL {
+        judges(&rt, pieces, 0, "lawful\n", "")?;
+    }
+    Ok(())
 }
 
 /// The rule and the message's number, and on standard error its line of the file.
 #[test]
 fn logs_that_are_not(rt: HostRuntime) -> Result<(), Fail> {
-    breaks(
+    judges(
         &rt,
         &[HEAD, GRANTED],
+        3,
         "unlawful question 0\n",
         "rvtl: trace: line 3: GrantData 0x80000000 toB to hart 0: no question that it answers has arrived and is unanswered\n",
     )?;
-    breaks(
+    judges(
         &rt,
         &[HEAD, ASKED, TRUNK],
+        3,
         "unlawful permission 2\n",
         "rvtl: trace: line 5: GrantData 0x80000000 toT to hart 0: the hart's Acquire of this line asked for another permission\n",
     )?;
-    breaks(
+    judges(
         &rt,
         &[HEAD, ASKED, ASKED],
+        3,
         "unlawful acquire-once 2\n",
         "rvtl: trace: line 5: AcquireBlock 0x80000000 NtoB from hart 0: the hart's Acquire of this line is unanswered\n",
     )
