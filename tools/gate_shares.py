@@ -5,12 +5,14 @@ usage: tools/gate_shares.py [COMMAND..]     (from the top of the repository; COM
 
 It looks twice a second at the processes of the toolchain that run below the command, by Linux's /proc, and
 adds up the processor time that each had taken when it was last seen. So a process's last half second isn't
-counted, and what runs beside the toolchain's own program (the linker, the tests) stands under `other`.
+in the shares (the total is the system's own and has it), and what runs beside the toolchain's own program (the
+linker, the tests) stands under `other`.
 The command's output goes to standard output; the shares follow it, and the slowest edits: of a crate with
 several edits the first check is of the crate as it stands, for the edits to begin with, and so is the last.
 """
 import collections
 import os
+import resource
 import subprocess
 import sys
 import time
@@ -87,7 +89,10 @@ def main():
     for (_, (crate, kind, _)), seconds in seen.items():
         shares[crate][kind] += seconds
     total = sum(sum(kinds.values()) for kinds in shares.values())
-    print(f"\nprocessor minutes {total / 60:.1f}, wall minutes {(time.time() - started) / 60:.1f}")
+    used = resource.getrusage(resource.RUSAGE_CHILDREN)
+    whole = (used.ru_utime + used.ru_stime) / 60
+    minutes = (time.time() - started) / 60
+    print(f"\nprocessor minutes {whole:.1f}, of which below {total / 60:.1f}, wall minutes {minutes:.1f}")
     print(f"{'crate':24}{'proof':>8}{'tests':>8}{'edits':>8}{'other':>8}   processor seconds")
     for crate, kinds in sorted(shares.items(), key=lambda it: -sum(it[1].values())):
         print(f"{crate:24}" + "".join(f"{kinds[kind]:8.0f}" for kind in ("proof", "tests", "edits", "other")))
