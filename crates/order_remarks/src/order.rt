@@ -2,12 +2,13 @@
 
 use crate::overtaking::Overtaking;
 use assembly::spell_assembly;
-use memory_model::{Kind, Operation};
+use memory_model::Kind;
 use rv32_decode::{Instr, decode};
 use rvwmo_order::{Code, Rule};
 use std::fmt::{self, Display, Formatter};
 use std::io::{self, ErrorKind, Write};
 use text_fields::Page;
+use trace_operations::accesses::name_of;
 use trace_recorder::{OpId, Trace};
 
 /// What the order of a trace breaks by a code, with the two operations that show it as HART:PLACE and as an
@@ -67,13 +68,6 @@ impl Display for OvertakingRemark<'_> {
             f.write_str(", and so would rl on the other")?;
         }
         Ok(())
-    }
-}
-
-fn name_of(operation: &Operation) -> OpId {
-    OpId {
-        hart: operation.hart,
-        place: operation.place,
     }
 }
 

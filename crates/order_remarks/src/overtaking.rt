@@ -1,7 +1,6 @@
 //! Operations that are performed before one that precedes them in their hart's list.
 
 ghost use Rattle.std.specs.Prelude.{◌≡◌, ◌<◌, IfOk, None, Some, true};
-ghost use Rattle.memory_model.specs.Operations as operations;
 ghost use Rattle.memory_model.specs.Rules.{fences, is_in_set};
 ghost use Rattle.order_remarks.specs.Overtaking as spec;
 
@@ -9,6 +8,7 @@ use memory_model::{Kind, Operation};
 use rv32_decode::{FenceSet, FenceSets, Instr};
 use std::alloc::{AllocError, Global};
 use trace_operations::Index;
+use trace_operations::accesses::{overlap, precedes};
 use trace_recorder::Trace;
 
 /// Two operations of a hart without a common byte, of which the second is performed before the first, which precedes it.
@@ -42,20 +42,11 @@ fn set_with(kind: Kind) -> FenceSet
     }
 }
 
-/// Whether they have a byte in common.
-fn overlap(a: &Operation, b: &Operation) -> bool
-    ensures { result ≡ operations.overlap a.now b.now }
-{
-    let end_of_a = u64::from(a.address) + u64::from(a.size);
-    let end_of_b = u64::from(b.address) + u64::from(b.size);
-    u64::from(a.address) < end_of_b && u64::from(b.address) < end_of_a
-}
-
 /// Whether `b`, performed before `a`, overtakes it.
 fn overtakes(b: &Operation, a: &Operation) -> bool
     ensures { result ≡ spec.overtakes b.now a.now }
 {
-    a.hart == b.hart && a.place < b.place && !overlap(a, b)
+    precedes(a, b) && !overlap(a, b)
 }
 
 /// Whether `a` stands further behind than what was found.
