@@ -5,7 +5,7 @@ ghost use Rattle.text_fields.specs.Reading.{all_at};
 ghost use Rattle.trace_text.specs.Scripts.{is_head, text, IsScript};
 ghost use Rattle.trace_text.specs.ScriptReading as reads;
 ghost use Rattle.trace_text.specs.ScriptReading.{content_of};
-ghost use Rattle.trace_text.specs.Reading.{Gives, IsReadOrRefused, IsNoMemory};
+ghost use Rattle.trace_text.specs.Reading.{Gives, IsNoMemory};
 ghost use Rattle.trace_text.specs.Refusals.{IsScriptRefusal};
 ghost use Rattle.trace_text.specs.Stops.{IsEventStop, IsScriptStop};
 
@@ -270,16 +270,6 @@ fn script_of(alloc: Global, bytes: &[u8]) -> Result<Script, Stop>
     }
 }
 
-fn all(alloc: Global, bytes: &[u8]) -> Result<Script, TextError>
-    ensures value { IsReadOrRefused content_of result (reads.script_at bytes.now) }
-    ensures refused { ¬ IsNoMemory result → IfErr result (IsScriptRefusal bytes.now) }
-{
-    match script_of(alloc, bytes) {
-        Ok(script) => Ok(script),
-        Err(stop) => Err(script_fault(bytes, stop)),
-    }
-}
-
 /// The script whose text this is, all of it. A script may end after any whole line from the first on.
 pub fn read_script(alloc: Global, bytes: &[u8]) -> Result<Script, TextError>
     // What is read is a script, spelled so.
@@ -289,5 +279,8 @@ pub fn read_script(alloc: Global, bytes: &[u8]) -> Result<Script, TextError>
     // The fault names the first line that isn't a script's, and says why, unless memory runs out.
     ensures refused { ¬ IsNoMemory result → IfErr result (IsScriptRefusal bytes.now) }
 {
-    all(alloc, bytes)
+    match script_of(alloc, bytes) {
+        Ok(script) => Ok(script),
+        Err(stop) => Err(script_fault(bytes, stop)),
+    }
 }
