@@ -49,14 +49,7 @@ impl Model for Node {
 
 impl Node {
     /// A hart at reset, with an empty buffer and cache.
-    pub fn new(
-        alloc: Global,
-        image: &Image,
-        config: &Config,
-        size: LineSize,
-        id: u8,
-    ) -> Result<Node, AllocError>
-        requires line { size ≡ config.now.line }
+    pub fn new(alloc: Global, image: &Image, config: &Config, id: u8) -> Result<Node, AllocError>
         ensures { IfOk result (λ node. node ≡ opening_node image.now config.now id) }
     {
         Ok(Node {
@@ -64,7 +57,7 @@ impl Node {
             output: Vec::new(alloc),
             reservation: Reservation::none(),
             buffer: StoreBuffer::new(alloc),
-            cache: ClientCache::new(alloc, config.sets, config.ways, size)?,
+            cache: ClientCache::new(alloc, config.sets, config.ways, config.line)?,
             queues: Queues::new(alloc)?,
         })
     }

@@ -1,6 +1,6 @@
 //! What the delivery of a message changes.
 
-ghost use Rattle.std.specs.Prelude.{◌≡◌, ◌+◌, ◌<◌, ◌≤◌, length};
+ghost use Rattle.std.specs.Prelude.{◌≡◌, ◌<◌, ◌≤◌, length};
 ghost use Rattle.machine_model.specs.Deliveries.{delivered, handled};
 ghost use Rattle.machine_model.specs.Laws.{QueuesFit};
 ghost use Rattle.machine_model.specs.Ready.{IsReadyBody, IsReadyMessage, IsSound};
@@ -43,19 +43,6 @@ fn handle(parts: &mut Parts, hart: u8, message: &Msg)
     }
 }
 
-// The log has first that the message was taken, and then what is sent.
-fn take_and_handle(parts: &mut Parts, hart: u8, message: &Msg)
-    requires sound { IsSound parts.old.state }
-    requires hart { hart < length parts.old.state.views.nodes }
-    requires ready { IsReadyMessage hart message.now parts.old.state }
-    requires queues { QueuesFit (delivered hart message.now parts.old.state) }
-    requires log { 1 + length parts.old.state.views.nodes ≤ parts.old.room.log }
-    ensures { parts.new.state ≡ delivered hart message.now parts.old.state }
-{
-    take(parts, hart, message);
-    handle(parts, hart, message);
-}
-
 /// The message leaves the front of its queue and is handled: the log has it first, and then what is
 /// sent.
 pub(crate) fn deliver(parts: &mut Parts, hart: u8, message: &Msg)
@@ -66,5 +53,6 @@ pub(crate) fn deliver(parts: &mut Parts, hart: u8, message: &Msg)
     requires room { HasNeeded hart (needs_of parts.old.state hart (Act.Deliver message.now)) parts.old.room }
     ensures { parts.new.state ≡ delivered hart message.now parts.old.state }
 {
-    take_and_handle(parts, hart, message);
+    take(parts, hart, message);
+    handle(parts, hart, message);
 }

@@ -3,7 +3,7 @@ use Rattle.machine_model.specs.Deliveries.{handled}
 use Rattle.machine_model.specs.Laws.{QueuesFit}
 use Rattle.machine_model.specs.Views.{State}
 use Rattle.machine_parts.proofs.Taken.{body_taken, line_taken, size_taken}
-use Rattle.machine_parts.proofs.perform.deliver.take_and_handle.Goals as goal
+use Rattle.machine_parts.proofs.perform.deliver.deliver.Goals as goal
 
 pub handle-requires-clause-queues : goal.handle-requires-clause-queues
 handle-requires-clause-queues c = subst (λ (s : State). QueuesFit (handled c.args.hart c.args.message.now.line c.args.message.now.body s)) (sym c.take.ensures.state) c.requires.queues
