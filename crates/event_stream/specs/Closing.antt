@@ -4,11 +4,9 @@ use Rattle.std.specs.FinSet as set
 use Rattle.std.specs.List.{flat_map, range_with_len}
 use Rattle.client_cache.specs.Cache.{Cache, copy_at}
 use Rattle.client_cache.specs.Shape.{set_of}
-use Rattle.elf_loader.specs.Image.{Initial, word_at}
 use Rattle.elf_loader.specs.Size.{base}
 use Rattle.elf_symbols.specs.Named.{Named}
-use Rattle.hart.specs.Run.{can_fetch}
-use Rattle.hart.specs.declared.state.Hart.{Hart}
+use Rattle.hart.specs.Run.{instr_at, next_action}
 use Rattle.hart.specs.declared.status.Status.{Status}
 use Rattle.hart.specs.declared.status.Status.TheVariants.{Running, Stopped as IsStopped, Exited as HasExited}
 use Rattle.machine_types.specs.declared.event.Event.TheVariants.{Step}
@@ -20,9 +18,9 @@ use Rattle.machine_model.specs.Views.{State, line_of, line_size, node_at}
 use Rattle.machine_parts.specs.Applying.{answer_to}
 use Rattle.machine_parts.specs.declared.errors.ApplyError.{ApplyError}
 use Rattle.machine_parts.specs.declared.errors.ApplyError.TheVariants.{BadEvent, Limit, NoMemory}
-use Rattle.rv32_decode.specs.Rows.{decoded}
 use Rattle.rv32_decode.specs.declared.instruction.Instr.{Instr}
-use Rattle.rv32_exec.specs.Actions.{addressed, planned}
+use Rattle.rv32_exec.specs.Actions.{addressed}
+use Rattle.rv32_exec.specs.declared.actions.Action.{Action}
 use Rattle.store_buffer.specs.Groups.{Groups, groups_of}
 use Rattle.store_buffer.specs.declared.entry.Entry.{Entry}
 use Rattle.text_fields.specs.Fields.{word}
@@ -33,10 +31,6 @@ use Rattle.event_stream.specs.Outcomes.{outcome}
 
 -- ---- the next instruction
 
--- the instruction that lies at an address, if one does
-abbrev pub instr_at : Initial → ℕ → Option Instr
-instr_at image pc = if can_fetch image pc then decoded (word_at image pc) else None
-
 abbrev pub next_instr : State → ℕ → Option Instr
 next_instr s h = instr_at s.trace.image (node_at s h).hart.pc
 
@@ -44,13 +38,13 @@ next_instr s h = instr_at s.trace.image (node_at s h).hart.pc
 abbrev pub next_text : List Named → State → ℕ → List ℕ
 next_text names s h = disassembled names (node_at s h).hart.pc (next_instr s h)
 
--- the address that an instruction reads or writes, by its hart's registers
-abbrev pub accessed_by : Initial → Hart → Option Instr → Option ℕ
-accessed_by image h None = None
-accessed_by image h (Some i) = addressed (planned i h.pc h.regs (length image.bytes))
+-- the address that the hart's next instruction reads or writes
+abbrev pub accessed_by : Option Action → Option ℕ
+accessed_by None = None
+accessed_by (Some action) = addressed action
 
 abbrev pub next_address : State → ℕ → Option ℕ
-next_address s h = accessed_by s.trace.image (node_at s h).hart (next_instr s h)
+next_address s h = accessed_by (next_action s.trace.image (node_at s h).hart)
 
 -- ---- what a step waits for, each address behind a space
 

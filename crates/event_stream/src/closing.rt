@@ -8,10 +8,10 @@ ghost use Rattle.trace_text.specs.Traces.{status_ended};
 
 use crate::naming::spell_instruction;
 use crate::spellings::spell_outcome;
-use crate::waits::{instr_at, put_waited};
+use crate::waits::put_waited;
 use coherent_machine::{ApplyError, Machine};
 use elf_symbols::Symbols;
-use hart::Status;
+use hart::{Status, instr_at};
 use machine_model::sound_always;
 use machine_types::{Event, Outcome};
 use std::io::{self, Write};

@@ -23,4 +23,5 @@ pub use report::{Lengths, Report, hart_of};
 pub use spellings::outcome_name;
 pub use state::write_state;
 pub use strictness::Strictness;
+pub use waits::next_address;
 pub use writing::write_stream;

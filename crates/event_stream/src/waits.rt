@@ -4,52 +4,33 @@ ghost use Rattle.std.specs.List.{flat_map};
 ghost use Rattle.elf_loader.specs.Size.{base};
 ghost use Rattle.event_stream.specs.Closing as closing;
 ghost use Rattle.machine_model.specs.Ready.{shape_of};
-ghost use Rattle.machine_model.specs.Views.{line_of, line_size};
+ghost use Rattle.machine_model.specs.Views.{line_size};
 ghost use Rattle.client_cache.specs.Shape.{set_of};
 ghost use Rattle.text_fields.specs.Pages.{HasLineRoom, Spells};
 ghost use Rattle.tl_types.specs.Line.{length_of};
 
-use client_cache::{ClientCache, Held};
+use client_cache::ClientCache;
 use coherent_machine::Machine;
-use elf_loader::{BASE, Image};
-use hart::{Hart, can_fetch};
+use elf_loader::BASE;
 use machine_types::Outcome;
-use rv32_decode::{Instr, decode};
-use rv32_exec::plan;
 use std::io::{Result, Write};
 use store_buffer::{Entry, StoreBuffer};
 use text_fields::Page;
 use tl_types::LineSize;
 
-/// The instruction that lies at an address, if one does.
-pub(crate) fn instr_at(image: &Image, pc: u32) -> Option<Instr>
-    ensures { result ≡ closing.instr_at image.now pc }
-{
-    if can_fetch(image, pc) {
-        decode(image.word(pc))
-    } else {
-        None
-    }
-}
-
-fn accessed_by(image: &Image, hart: &Hart, instr: Option<Instr>) -> Option<u32>
-    ensures { result ≡ closing.accessed_by image.now hart.now instr }
-{
-    match instr {
-        Some(instr) => plan(&instr, hart.pc, &hart.regs, image.size()).address(),
-        None => None,
-    }
-}
-
 /// The address that the hart's next instruction reads or writes.
-fn next_address(machine: &Machine, hart: usize) -> Option<u32>
+pub fn next_address(machine: &Machine, hart: usize) -> Option<u32>
     requires { hart < length machine.now.views.nodes }
     ensures { result ≡ closing.next_address machine.now hart }
 {
-    let image = machine.trace().image();
-    let views = machine.views();
-    let state = views.hart(hart);
-    accessed_by(image, state, instr_at(image, state.pc))
+    match machine
+        .views()
+        .hart(hart)
+        .next_action(machine.trace().image())
+    {
+        Some(action) => action.address(),
+        None => None,
+    }
 }
 
 fn spell_address(page: &mut Page, address: u32)
@@ -115,16 +96,6 @@ pub(crate) fn line_address(size: LineSize, number: u32) -> u32
     }
 }
 
-/// The line that an address lies in.
-fn line_of(size: LineSize, address: u32) -> u32
-    ensures { result ≡ line_of size address }
-{
-    match size {
-        LineSize::Bytes16 => address - address % 16,
-        LineSize::Bytes64 => address - address % 64,
-    }
-}
-
 /// The set of a cache that a line belongs to.
 fn set_of(machine: &Machine, line: u32) -> u32
     requires { 0 < machine.now.views.config.sets }
@@ -187,7 +158,7 @@ fn put_ways_named<W: Write>(
 {
     match address {
         Some(address) => {
-            let wanted = line_of(size_of(machine), address);
+            let wanted = size_of(machine).line_of(address);
             put_ways(page, out, machine, cache, wanted)
         }
         None => Ok(()),
@@ -200,7 +171,7 @@ fn spell_line_named(page: &mut Page, machine: &Machine, address: Option<u32>)
     ensures { page.new ≡ page.old ++ closing.line_named machine.now address }
 {
     if let Some(address) = address {
-        spell_address(page, line_of(size_of(machine), address));
+        spell_address(page, size_of(machine).line_of(address));
     }
 }
 

@@ -1,6 +1,6 @@
 //! What is wrong with an event that no machine of a size has.
 
-use machine_types::Event;
+use machine_types::{Event, MAX_ROW};
 use std::fmt::{self, Display, Formatter};
 use trace_text::Script;
 
@@ -28,7 +28,7 @@ impl Display for EventRemark<'_> {
         match self.event {
             Event::Drain { word, .. } => address(word, 4, script.kib, f),
             Event::Evict { line, .. } => address(line, script.line.bytes(), script.kib, f),
-            Event::Local { count, .. } => write!(f, "count {count}: it is 1 to 256"),
+            Event::Local { count, .. } => write!(f, "count {count}: it is 1 to {MAX_ROW}"),
             _ => Ok(()),
         }
     }

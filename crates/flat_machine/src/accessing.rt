@@ -1,26 +1,18 @@
 //! Which reservations the access of an address ends.
-ghost use Rattle.std.specs.Prelude.{◌≡◌, ◌<◌, if◌then◌else◌, length};
+ghost use Rattle.std.specs.Prelude.{◌≡◌, ◌<◌, if◌then◌else◌};
 ghost use Rattle.flat_machine.specs.States.{flat_of};
 ghost use Rattle.flat_model.specs.Changing as spec;
-ghost use Rattle.flat_model.specs.Flat.{node_at};
 ghost use Rattle.reservations.specs.Reservation.{without_line};
 
 use crate::node::Node;
 use crate::state::State;
 use machine_types::Config;
 
-/// The address of the line that an address lies in.
-fn line_of_address(config: &Config, address: u32) -> u32
-    ensures { result ≡ spec.line_of_address config.now address }
-{
-    address - address % config.line.bytes()
-}
-
 /// The set of that line.
 fn set_at(config: &Config, address: u32) -> u32
     ensures { result ≡ spec.set_at config.now address }
 {
-    line_of_address(config, address) / config.line.bytes() % config.sets
+    config.line.line_of(address) / config.line.bytes() % config.sets
 }
 
 /// Whether sets hold one line, and the two addresses lie in different lines of one set.
@@ -29,7 +21,7 @@ fn are_rivals(config: &Config, one: u32, other: u32) -> bool
 {
     config.ways == 1
         && set_at(config, one) == set_at(config, other)
-        && line_of_address(config, one) != line_of_address(config, other)
+        && config.line.line_of(one) != config.line.line_of(other)
 }
 
 impl Node {
@@ -39,7 +31,7 @@ impl Node {
     {
         if !is_own {
             self.reservation
-                .lose_line(line_of_address(config, address), config.line);
+                .lose_line(config.line.line_of(address), config.line);
             return;
         }
         let Some(word) = self.reservation.word() else {

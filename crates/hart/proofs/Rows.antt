@@ -5,6 +5,7 @@ use Rattle.std.specs.Prelude.{nat_le, ◌↔◌}
 use Rattle.std.proofs.lemmas.Bool.{false≢true, and_parts, and_from, and_left, and_right, cond-false, cond-true, eq-eqb, le-leb, leb-true}
 use Rattle.elf_loader.specs.Image.{Initial, HasWord, word_at, end_of}
 use Rattle.elf_loader.specs.Size.{base}
+use Rattle.machine_types.specs.declared.limits.TheConstants.{MAX_ROW}
 use Rattle.rv32_decode.specs.Rows.{decoded}
 use Rattle.rv32_decode.specs.declared.instruction.Instr.{Instr}
 use Rattle.rv32_decode.specs.declared.instruction.Instr.TheVariants as instr
@@ -39,7 +40,7 @@ row_few image hart (suc n) = go (can_go_alone image hart) (row_few image (after 
     go true h = omega arith
     go false h = omega arith
 
-pub row_of-IsRow : (image : Initial) (hart : Hart) (n : ℕ) → n ≤ 256 → IsPrivateRow (private_row_from image hart n)
+pub row_of-IsRow : (image : Initial) (hart : Hart) (n : ℕ) → n ≤ MAX_ROW → IsPrivateRow (private_row_from image hart n)
 row_of-IsRow image hart n l = let f = row_few image hart n in record { few = omega arith; alone = row_alone image hart n; leads = refl }
 
 -- what the row of a hart is while there is room
@@ -194,5 +195,5 @@ row_done image hart last items most room row leads none =
     let e : items ≡ private_row image hart most = sym (row ∙ (ap (λ (r : List Retired). items ++ r) none ∙ append-nil items)) in
     ap (λ (h : Hart). row_with hart h items) leads ∙ ap (λ (es : List Retired). row_with hart (reached hart es) es) e
 
-pub the_row : (image : Initial) (hart last : Hart) (items : List Retired) (most : ℕ) → most ≤ 256 → record { first = hart; last = last; entries = items } ≡ private_row_from image hart most → IsPrivateRow (record { first = hart; last = last; entries = items })
+pub the_row : (image : Initial) (hart last : Hart) (items : List Retired) (most : ℕ) → most ≤ MAX_ROW → record { first = hart; last = last; entries = items } ≡ private_row_from image hart most → IsPrivateRow (record { first = hart; last = last; entries = items })
 the_row image hart last items most few e = subst IsPrivateRow (sym e) (row_of-IsRow image hart most few)

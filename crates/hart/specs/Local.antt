@@ -1,6 +1,7 @@
 -- Rows of private instructions: those that touch no memory, fence nothing and call nothing, so that a hart does them alone.
 use Rattle.std.specs.Prelude.{ℕ, ◌≡◌, ◌≤◌, zero, suc, Bool, true, false, ◌&&◌, ◌==◌, if◌then◌else◌, List, [], ◌∷◌, length, Option, Some, None, is_none, IsTrue}
 use Rattle.elf_loader.specs.Image.{Initial, word_at}
+use Rattle.machine_types.specs.declared.limits.TheConstants.{MAX_ROW}
 use Rattle.rv32_decode.specs.Rows.{decoded}
 use Rattle.rv32_decode.specs.declared.instruction.Instr.{Instr}
 use Rattle.rv32_exec.specs.Meaning.{Access, Private, Effect, access_of, stop_of}
@@ -57,9 +58,9 @@ pub record PrivateRow : Type 0 where
   pub last : Hart
   pub entries : List Retired
 
--- at most 256 entries, all of private instructions that don't stop, which lead from the first hart to the last; so the first hart is running where there are any
+-- at most MAX_ROW entries, all of private instructions that don't stop, which lead from the first hart to the last; so the first hart is running where there are any
 pub record IsPrivateRow (row : PrivateRow) : Type 0 where
-  pub few : length row.entries ≤ 256
+  pub few : length row.entries ≤ MAX_ROW
   pub alone : IsTrue (are_private_steps row.first row.entries)
   pub leads : row.last ≡ reached row.first row.entries
 

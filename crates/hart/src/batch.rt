@@ -3,6 +3,7 @@ ghost use Rattle.std.specs.Prelude.{◌≡◌, ◌≤◌, IfOk, Some, None, if�
 ghost use Rattle.elf_loader.specs.Size.{IsMemorySize};
 ghost use Rattle.hart.specs.Local.{IsPrivateRow, can_go_alone, is_done_alone, next_entry, next_step, private_row_from, with_effect};
 ghost use Rattle.hart.specs.Run.{after};
+ghost use Rattle.machine_types.specs.declared.limits.TheConstants.{MAX_ROW};
 ghost use Rattle.rv32_exec.specs.Meaning.{effect_of};
 
 use crate::retired::Retired;
@@ -62,7 +63,7 @@ impl Batch {
 /// more than `max`, which is from 1 to 256. There are none where the hart isn't running.
 pub fn run_local(alloc: Global, image: &Image, hart: &Hart, max: u32) -> Result<Batch, AllocError>
     requires some { 1 ≤ max }
-    requires few { max ≤ 256 }
+    requires few { max ≤ MAX_ROW }
     ensures { IfOk result (λ batch. batch ≡ private_row_from image.now hart.now max) }
 {
     let mut entries = Vec::new(alloc);

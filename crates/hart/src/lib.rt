@@ -3,13 +3,14 @@
 
 mod batch;
 mod fetching;
+mod fitting;
 mod laws;
 mod retired;
 mod state;
 mod status;
 
 pub use batch::{Batch, next_alone, run_local};
-pub use fetching::can_fetch;
+pub use fetching::{can_fetch, instr_at};
 pub use laws::runs_end_as_their_lists;
 pub use retired::Retired;
 pub use state::Hart;

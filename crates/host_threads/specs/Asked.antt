@@ -1,9 +1,9 @@
 -- What a turn that goes round one hart's events picks, by where it stands in the round and by the hart's node.
-use Rattle.std.specs.Prelude.{◌≡◌, ◌≢◌, ℕ, ◌+◌, ◌%◌, ◌<◌, ◌≤◌, false, List, [], ◌∷◌, length, All, IsTrue, Option, Some, None, slice_index_or, if◌then◌else◌}
+use Rattle.std.specs.Prelude.{◌≡◌, ◌≢◌, ℕ, ◌+◌, ◌%◌, ◌<◌, ◌≤◌, false, List, [], ◌∷◌, length, All, IsTrue, Option, Some, None, slice_index_or}
 use Rattle.std.specs.Option.{option_or}
 use Rattle.client_cache.specs.Cache.{Cache}
-use Rattle.elf_loader.specs.Image.{Initial, word_at}
-use Rattle.hart.specs.Run.{can_fetch, is_running}
+use Rattle.elf_loader.specs.Image.{Initial}
+use Rattle.hart.specs.Run.{is_running, next_action}
 use Rattle.hart.specs.declared.state.Hart.{Hart}
 use Rattle.host_threads.specs.declared.rounds.Place.{Place}
 use Rattle.host_threads.specs.declared.rounds.Place.TheVariants as stop
@@ -15,9 +15,6 @@ use Rattle.machine_types.specs.declared.event.Event.TheVariants.{Step, Drain, Ev
 use Rattle.machine_types.specs.declared.outcome.Outcome.{Outcome}
 use Rattle.machine_types.specs.declared.outcome.Outcome.TheVariants.{SetFull}
 use Rattle.machine_model.specs.Views.{Node, State, node_at}
-use Rattle.rv32_decode.specs.Rows.{decoded}
-use Rattle.rv32_decode.specs.declared.instruction.Instr.{Instr}
-use Rattle.rv32_exec.specs.Actions.{planned}
 use Rattle.rv32_exec.specs.declared.actions.Action.{Action}
 use Rattle.rv32_exec.specs.declared.actions.Action.TheVariants as action
 use Rattle.store_buffer.specs.Groups.{Groups, drainable, oldest}
@@ -67,12 +64,12 @@ wanted_by (action.Lr address) = Some address
 wanted_by (action.Amo address op operand) = Some address
 wanted_by _ = None
 
-abbrev pub wanted_by_instr : Initial → Hart → Option Instr → Option ℕ
-wanted_by_instr image hart None = None
-wanted_by_instr image hart (Some i) = wanted_by (planned i hart.pc hart.regs (length image.bytes))
+abbrev pub wanted_by_next : Option Action → Option ℕ
+wanted_by_next None = None
+wanted_by_next (Some action) = wanted_by action
 
 abbrev pub wanted_by_hart : Initial → Hart → Option ℕ
-wanted_by_hart image hart = if can_fetch image hart.pc then wanted_by_instr image hart (decoded (word_at image hart.pc)) else None
+wanted_by_hart image hart = wanted_by_next (next_action image hart)
 
 -- an address of the line that the event wants
 abbrev pub wanted_by_event : Initial → Hart → Option Event → Option ℕ

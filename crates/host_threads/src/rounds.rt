@@ -1,6 +1,6 @@
 //! The turn that goes round the events of one hart.
 
-ghost use Rattle.std.specs.Prelude.{◌≡◌, ◌<◌, ◌≤◌, IfNone, IfSome, IsTrue, length};
+ghost use Rattle.std.specs.Prelude.{◌≡◌, ◌<◌, ◌≤◌, IfNone, IfSome, length};
 ghost use Rattle.host_threads.specs.Asked as spec;
 ghost use Rattle.host_threads.specs.Asked.{Asks, AsksVictim, IsFirst, IsIdle, IsPickOf, behind, first_round, passing, told, told_at, wanted_by_event, wanted_by_hart};
 ghost use Rattle.host_threads.specs.Due.{IsDue};
@@ -14,8 +14,7 @@ use elf_loader::Image;
 use hart::Hart;
 use locked_fabric::Turn;
 use machine_types::{Config, Event, Outcome};
-use rv32_decode::decode;
-use rv32_exec::{Action, plan};
+use rv32_exec::Action;
 use std::marker::Model;
 use tl_types::Channel;
 
@@ -55,7 +54,7 @@ pub struct Rounds<'a> {
 }
 
 impl<'a> Model for Rounds<'a> {
-    ghost use Rattle.std.specs.Prelude.{◌<◌, IsTrue};
+    ghost use Rattle.std.specs.Prelude.{◌<◌};
     ghost use Rattle.host_threads.specs.Route.{Route};
 
     ghost Value = { Route };
@@ -207,11 +206,7 @@ fn remembered(place: Place, full: Option<u32>) -> Option<u32>
 fn accessed(image: &Image, hart: &Hart) -> Option<u32>
     ensures { result ≡ wanted_by_hart image.now hart.now }
 {
-    if !image.has_word(hart.pc) {
-        return None;
-    }
-    let instr = decode(image.word(hart.pc))?;
-    wanted_by(&plan(&instr, hart.pc, &hart.regs, image.size()))
+    wanted_by(&hart.next_action(image)?)
 }
 
 fn wanted_by(action: &Action) -> Option<u32>

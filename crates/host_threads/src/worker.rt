@@ -7,6 +7,7 @@ ghost use Rattle.host_threads.specs.Errors.{goes_on};
 ghost use Rattle.host_threads.specs.Pace.{IsPaced};
 ghost use Rattle.host_threads.specs.Telling.{CountsTo, Reports, Tells, has_ended, longest_with};
 ghost use Rattle.locked_fabric.specs.Port.{IsLast, Left, seat_of, seen_in, share_of};
+ghost use Rattle.machine_types.specs.declared.limits.TheConstants.{MAX_ROW};
 ghost use Rattle.progress_board.specs.Seat.{IsSeatOf, view};
 
 use crate::gate::Gate;
@@ -16,16 +17,13 @@ use coherent_machine::{AdoptError, ApplyError};
 use elf_loader::Image;
 use hart::{Hart, run_local};
 use locked_fabric::{Numbers, Port, Share, Taken, Turn};
-use machine_types::{Config, Event, MAX_HARTS, Outcome};
+use machine_types::{Config, Event, MAX_HARTS, MAX_ROW, Outcome};
 use progress_board::{Board, Seat};
 use std::alloc::Global;
 use std::sync::Wait;
 use std::sync::atomic::{AtomicBool, Ordering};
 use std::sync::ledger::Ledger;
 use std::thread;
-
-/// How many instructions a batch has at most.
-const MOST_ALONE: u32 = 256;
 
 /// How long a worker rests that found nothing to do, in looks at whether the run has stopped: some 50
 /// nanoseconds.
@@ -204,12 +202,12 @@ impl<'a, L: Ledger, T: Turn + Drop> Worker<'a, L, T> {
         ensures seat { seat_of self.new.port ≡ seat_of self.old.port }
         ensures came { OnOk result (Left (λ left. CountsTo (counted_by self.old) (counted_by self.new) left × (seen_by self.new ≡ seen_in left.machine.trace self.old.hart))) }
         ensures uncounted { OnErr result (counted_by self.new ≡ counted_by self.old) }
-        ensures row { let row = private_row_from self.old.common.now.image self.old.turn.stood 256 in
+        ensures row { let row = private_row_from self.old.common.now.image self.old.turn.stood MAX_ROW in
             OnOk result (Left (IsLast (local_of row.first.id row))) }
         ensures err { OnErr result (IsPaced self.new.common.now.limit (view (seat_of self.new.port)) (share_of self.new.port + 1)) }
     {
         let common = self.common;
-        match &run_local(common.alloc, &common.image, &self.turn.stood, MOST_ALONE) {
+        match &run_local(common.alloc, &common.image, &self.turn.stood, MAX_ROW) {
             Ok(batch) => self.port.commit(rt, batch, &mut self.turn),
             Err(_) => Err(AdoptError::NoMemory),
         }

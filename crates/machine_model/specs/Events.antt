@@ -1,6 +1,6 @@
 -- The event meaning: which events are good, what each comes to and changes, and what a list of events leads to.
 use Rattle.std.specs.Prelude.{ℕ, ◌+◌, ◌%◌, ◌==◌, Bool, true, not, ◌&&◌, ◌||◌, if◌then◌else◌, List, [], ◌∷◌, length, nat_le, nat_lt}
-use Rattle.machine_types.specs.declared.limits.TheConstants.{MAX_CHANGES, MAX_ENTRIES}
+use Rattle.machine_types.specs.declared.limits.TheConstants.{MAX_CHANGES, MAX_ENTRIES, MAX_ROW}
 use Rattle.client_cache.specs.Cache.{evicted}
 use Rattle.client_cache.specs.declared.answers.Evict.{Evict}
 use Rattle.client_cache.specs.declared.answers.Evict.TheVariants.{NotHeld, AcquirePending, ReleaseFull, Evicted}
@@ -43,7 +43,7 @@ names_well s (event.Step h) = true
 names_well s (event.Drain h word) = is_piece s.trace.image word 4
 names_well s (event.Evict h line) = is_piece s.trace.image line (length_of (line_size s))
 names_well s (event.Deliver channel h) = true
-names_well s (event.Local h count) = nat_le 1 count && nat_le count 256
+names_well s (event.Local h count) = nat_le 1 count && nat_le count MAX_ROW
 
 abbrev pub is_good : State → Event → Bool
 is_good s e = nat_lt (hart_of e) (length s.views.nodes) && names_well s e

@@ -1,5 +1,5 @@
 -- What a machine is at a moment: its views, and the trace of what happened.
-use Rattle.std.specs.Prelude.{ℕ, ◌-◌, ◌/◌, ◌%◌, List, [], length, Option, None, map, slice_set, slice_index_or}
+use Rattle.std.specs.Prelude.{ℕ, ◌-◌, ◌/◌, List, [], length, Option, None, map, slice_set, slice_index_or}
 use Rattle.std.specs.List.{range_with_len}
 use Rattle.backing_memory.specs.Memory.{lines_of}
 use Rattle.client_cache.specs.Cache as cache
@@ -15,6 +15,7 @@ use Rattle.machine_types.specs.declared.config.Config.{Config}
 use Rattle.store_buffer.specs.Groups.{Groups, no_groups}
 use Rattle.tilelink_channels.specs.Queues.{Waiting, none_waiting, pushed}
 use Rattle.tl_types.specs.Line.{length_of}
+pub use Rattle.tl_types.specs.Line.{line_of}
 use Rattle.tl_types.specs.declared.line.LineData.{LineData}
 use Rattle.tl_types.specs.declared.line.LineSize.{LineSize}
 use Rattle.tl_types.specs.declared.line.LineSize.TheVariants.{Bytes16, Bytes64}
@@ -52,10 +53,6 @@ shape_of_config config = record { sets = config.sets; ways = config.ways; size =
 
 abbrev pub line_size : State → LineSize
 line_size s = s.views.config.line
-
--- the address of the line that an address lies in
-abbrev pub line_of : LineSize → ℕ → ℕ
-line_of size address = address - address % length_of size
 
 -- the place in memory of the line that begins at an address
 abbrev pub place_of : LineSize → ℕ → ℕ

@@ -14,6 +14,7 @@ use Rattle.hart.specs.Run.{can_fetch, is_running}
 use Rattle.machine_model.specs.declared.act.Act.TheVariants as act
 use Rattle.machine_model.specs.declared.act.Plan.TheVariants.{Stays, Changes}
 use Rattle.machine_types.specs.declared.event.Event.TheVariants.{Local}
+use Rattle.machine_types.specs.declared.limits.TheConstants.{MAX_ROW}
 use Rattle.machine_types.specs.declared.outcome.Outcome.{Outcome}
 use Rattle.machine_types.specs.declared.outcome.Outcome.TheVariants as outcome
 use Rattle.machine_model.specs.Changing.{went_alone}
@@ -40,10 +41,10 @@ running : (image : Initial) (hart : Hart) (n : ℕ) → (private_row image hart 
 running image hart zero some = absurd (some refl)
 running image hart (suc n) some = running_by image hart (can_go_alone image hart) _ refl some
 
-good : (h : ℕ) (row : PrivateRow) (s : State) → h < length s.views.nodes → length row.entries ≤ 256 → (row.entries ≢ []) → is_good s (Local h (length row.entries)) ≡ true
+good : (h : ℕ) (row : PrivateRow) (s : State) → h < length s.views.nodes → length row.entries ≤ MAX_ROW → (row.entries ≢ []) → is_good s (Local h (length row.entries)) ≡ true
 good h row s there few some =
     and_from _ _ (lt-ltb h (length s.views.nodes) there)
-    (and_from _ _ (le-leb 1 (length row.entries) (some_length row.entries some)) (le-leb (length row.entries) 256 few))
+    (and_from _ _ (le-leb 1 (length row.entries) (some_length row.entries some)) (le-leb (length row.entries) MAX_ROW few))
 
 planned : (h : ℕ) (row : PrivateRow) (s : State) → (row.entries ≢ []) → IsNext h row s → plan_of s (Local h (length row.entries)) ≡ Changes (act.Local (length row.entries))
 planned h row s some next =
@@ -57,7 +58,7 @@ planned h row s some next =
 abbrev pub verdict_of_row : Bool → ℕ → ℕ → State → Verdict
 verdict_of_row limited h count s = cond limited IsLimited (Moves outcome.Retired (counted (went_alone h count s)))
 
-pub verdict_is : (h : ℕ) (row : PrivateRow) (s : State) → h < length s.views.nodes → length row.entries ≤ 256 → (row.entries ≢ []) → IsNext h row s
+pub verdict_is : (h : ℕ) (row : PrivateRow) (s : State) → h < length s.views.nodes → length row.entries ≤ MAX_ROW → (row.entries ≢ []) → IsNext h row s
     → verdict s (Local h (length row.entries)) ≡ verdict_of_row (is_limited s h (act.Local (length row.entries))) h (length row.entries) s
 verdict_is h row s there few some next =
     ap (λ (b : Bool). cond b (verdict_by s h (plan_of s (Local h (length row.entries)))) IsBad) (good h row s there few some)
@@ -68,7 +69,7 @@ verdict_is h row s there few some next =
 -- the row is not empty, and is what its hart does next
 pub record Fits (h : ℕ) (row : PrivateRow) (s : State) : Type 0 where
   pub there : h < length s.views.nodes
-  pub few : length row.entries ≤ 256
+  pub few : length row.entries ≤ MAX_ROW
   pub some : row.entries ≢ []
   pub next : IsNext h row s
 

@@ -23,7 +23,7 @@ use elf_loader::{BASE, Image};
 use evict::plan_evict;
 use local::plan_local;
 use machine_model::Plan;
-use machine_types::Event;
+use machine_types::{Event, MAX_ROW};
 use step::plan_step;
 
 /// The hart that an event names.
@@ -59,13 +59,13 @@ impl Parts {
             Event::Evict { line, .. } => {
                 is_piece(self.trace.image(), line, self.config.line.bytes())
             }
-            Event::Local { count, .. } => 1 <= count && count <= 256,
+            Event::Local { count, .. } => 1 <= count && count <= MAX_ROW,
         }
     }
 
     /// Whether the machine has what the event names: the hart, and an aligned word or a line of memory,
-    /// or 1 to 256 instructions.
-    pub fn is_good(&self, event: &Event) -> bool
+    /// or 1 to [`MAX_ROW`] instructions.
+    pub(crate) fn is_good(&self, event: &Event) -> bool
         ensures { result ≡ is_good self.now.state event.now }
     {
         usize::from(hart_of(event)) < self.nodes.len() && self.names_well(event)
@@ -91,7 +91,7 @@ impl Parts {
     }
 
     /// What an event comes to; nothing changes.
-    pub fn plan(&self, event: &Event) -> Plan
+    pub(crate) fn plan(&self, event: &Event) -> Plan
         requires sound { IsSound self.now.state }
         requires good { IsTrue (is_good self.now.state event.now) }
         ensures { result ≡ plan_of self.now.state event.now }

@@ -1,7 +1,7 @@
 //! Words of lines, and the bytes of an access in a word.
 ghost use Rattle.std.specs.Prelude.{◌≡◌, ◌<◌, ◌≤◌, ◌+◌, ◌*◌, ◌%◌, ◌/◌, ◌^◌};
 ghost use Rattle.elf_loader.specs.Size.{base};
-ghost use Rattle.machine_model.specs.Views.{line_of, place_of};
+ghost use Rattle.machine_model.specs.Views.{place_of};
 ghost use Rattle.machine_model.specs.Words.{word_of, word_in, read_from, store_of};
 ghost use Rattle.rv32_exec.specs.Width.{byte_count};
 ghost use Rattle.store_buffer.specs.ByteMask.{marks_of_access};
@@ -16,13 +16,6 @@ pub fn word_of(address: u32) -> u32
     ensures { result ≡ word_of address }
 {
     address - address % 4
-}
-
-/// The address of the line that an address lies in.
-pub(crate) fn line_of(size: LineSize, address: u32) -> u32
-    ensures { result ≡ line_of size address }
-{
-    address - address % size.bytes()
 }
 
 /// The place in memory of the line that begins at an address.

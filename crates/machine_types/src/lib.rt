@@ -10,8 +10,8 @@ mod outcome;
 pub use config::{Config, is_set_count, is_within_limits};
 pub use event::Event;
 pub use limits::{
-    BASE, BUFFER_ENTRIES, KIB_STEP, MAX_CHANGES, MAX_ENTRIES, MAX_HARTS, MAX_KIB, MAX_SETS,
-    MAX_WAYS, MIN_KIB, TRACKERS,
+    BASE, BUFFER_ENTRIES, KIB_STEP, MAX_CHANGES, MAX_ENTRIES, MAX_HARTS, MAX_KIB, MAX_ROW,
+    MAX_SETS, MAX_WAYS, MIN_KIB, TRACKERS,
 };
 pub use model::MemoryModel;
 pub use outcome::Outcome;

@@ -1,11 +1,8 @@
 //! Where a trace is no run.
 
-ghost use Rattle.elf_loader.specs.Size.{IsMemorySize};
-
 use elf_loader::Image;
-use hart::{Hart, Retired, Status};
-use rv32_decode::{Instr, LoadOp, decode};
-use rv32_exec::{Action, plan, stop};
+use hart::{Hart, Retired, can_fetch};
+use rv32_decode::decode;
 use std::fmt::{self, Display, Formatter};
 use trace_recorder::Trace;
 
@@ -27,7 +24,7 @@ impl Display for RunRemark<'_> {
                 };
                 hart = next;
             }
-            if !fits(trace.image(), &hart, trace.statuses()[id]) {
+            if !hart.status_fits(trace.image(), trace.statuses()[id]) {
                 return write!(f, "hart {id}: its H line is not how its R lines end");
             }
         }
@@ -80,7 +77,7 @@ fn stepped(image: &Image, hart: &Hart, entry: &Retired) -> Result<Hart, Cause> {
             told: entry.pc,
         });
     }
-    if !image.has_word(pc) {
+    if !can_fetch(image, pc) {
         return Err(Cause::Outside { pc });
     }
     let loaded = image.word(pc);
@@ -94,60 +91,13 @@ fn stepped(image: &Image, hart: &Hart, entry: &Retired) -> Result<Hart, Cause> {
     let Some(instr) = decode(entry.word) else {
         return Err(Cause::Stops { pc });
     };
-    if stops(image.size(), hart, &instr) {
+    if hart.stop_of(&instr, image.size()).is_some() {
         return Err(Cause::Stops { pc });
     }
-    if !has_answers(&instr, entry) {
+    if !entry.has_answers(&instr) {
         return Err(Cause::Answers);
     }
     let mut next = *hart;
     next.retire(entry, &instr);
     Ok(next)
-}
-
-fn stops(size: u32, hart: &Hart, instr: &Instr) -> bool
-    requires { IsMemorySize size }
-{
-    matches!(plan(instr, hart.pc, &hart.regs, size), Action::Stop(_))
-}
-
-fn has_answers(instr: &Instr, entry: &Retired) -> bool {
-    match instr {
-        Instr::Load { op, .. } => is_loaded(*op, entry.loaded) && entry.sc_ok.is_none(),
-        Instr::Lr { .. } | Instr::Amo { .. } => entry.loaded.is_some() && entry.sc_ok.is_none(),
-        Instr::Sc { .. } => entry.loaded.is_none() && entry.sc_ok.is_some(),
-        _ => entry.loaded.is_none() && entry.sc_ok.is_none(),
-    }
-}
-
-fn is_loaded(op: LoadOp, loaded: Option<u32>) -> bool {
-    match (op, loaded) {
-        (_, None) => false,
-        (LoadOp::Lb | LoadOp::Lbu, Some(number)) => number < 0x100,
-        (LoadOp::Lh | LoadOp::Lhu, Some(number)) => number < 0x1_0000,
-        (LoadOp::Lw, Some(_)) => true,
-    }
-}
-
-// Whether a hart that has come this far may have this status.
-fn fits(image: &Image, hart: &Hart, status: Status) -> bool {
-    match status {
-        Status::Running => hart.status.is_running(),
-        Status::Stopped(code) => hart.status.is_running() && next_stop(image, hart) == Some(code),
-        Status::Exited(_) => hart.status == status,
-    }
-}
-
-// The code with which the hart stops at its next instruction.
-fn next_stop(image: &Image, hart: &Hart) -> Option<u8> {
-    if !image.has_word(hart.pc) {
-        return Some(stop::FETCH_OUTSIDE);
-    }
-    let Some(instr) = decode(image.word(hart.pc)) else {
-        return Some(stop::ILLEGAL);
-    };
-    match plan(&instr, hart.pc, &hart.regs, image.size()) {
-        Action::Stop(code) => Some(code),
-        _ => None,
-    }
 }

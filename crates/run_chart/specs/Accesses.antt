@@ -1,20 +1,13 @@
 -- Which address an event is about.
 use Rattle.std.specs.Prelude.{ℕ, ◌-◌, ◌<◌, ◌%◌, ◌==◌, Bool, false, Option, Some, None, length, nat_lt, if◌then◌else◌}
-use Rattle.elf_loader.specs.Image.{Initial, word_at}
-use Rattle.event_stream.specs.Closing.{accessed_by}
-use Rattle.hart.specs.Run.{can_fetch}
-use Rattle.hart.specs.declared.state.Hart.{Hart}
-use Rattle.machine_model.specs.Views.{State, node_at}
+use Rattle.event_stream.specs.Closing.{next_address}
+use Rattle.machine_model.specs.Views.{State}
 use Rattle.machine_types.specs.declared.event.Event.{Event}
 use Rattle.machine_types.specs.declared.event.Event.TheVariants.{Step, Drain, Evict, Deliver, Local}
-use Rattle.rv32_decode.specs.Rows.{decoded}
 
--- what a hart's next instruction reads or writes
-abbrev pub next_accessed : Initial → Hart → Option ℕ
-next_accessed image h = if can_fetch image h.pc then accessed_by image h (decoded (word_at image h.pc)) else None
-
+-- what the next instruction of a hart that is there reads or writes
 abbrev pub accessed_at : State → ℕ → Option ℕ
-accessed_at s h = if nat_lt h (length s.views.nodes) then next_accessed s.trace.image (node_at s h).hart else None
+accessed_at s h = if nat_lt h (length s.views.nodes) then next_address s h else None
 
 abbrev pub address_at : State → Event → Option ℕ
 address_at s (Step h) = accessed_at s h

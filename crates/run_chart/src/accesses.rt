@@ -3,32 +3,15 @@ ghost use Rattle.std.specs.Prelude.{◌≡◌};
 ghost use Rattle.run_chart.specs.Accesses as accesses;
 
 use coherent_machine::Machine;
-use elf_loader::Image;
-use hart::{Hart, can_fetch};
+use event_stream::next_address;
 use machine_types::Event;
-use rv32_decode::decode;
-use rv32_exec::plan;
-
-/// The address that a hart's next instruction reads or writes.
-fn next_accessed(image: &Image, hart: &Hart) -> Option<u32>
-    ensures { result ≡ accesses.next_accessed image.now hart.now }
-{
-    if !can_fetch(image, hart.pc) {
-        return None;
-    }
-    match decode(image.word(hart.pc)) {
-        Some(instr) => plan(&instr, hart.pc, &hart.regs, image.size()).address(),
-        None => None,
-    }
-}
 
 /// The address that a step of a hart reads or writes, where there is such a hart.
 fn accessed_at(machine: &Machine, hart: usize) -> Option<u32>
     ensures { result ≡ accesses.accessed_at machine.now hart }
 {
-    let views = machine.views();
-    if hart < views.harts() {
-        next_accessed(machine.trace().image(), views.hart(hart))
+    if hart < machine.views().harts() {
+        next_address(machine, hart)
     } else {
         None
     }

@@ -7,33 +7,20 @@ use crate::errors::Fault;
 use crate::player::{MOST_HARTS, Player};
 use coherent_machine::Views;
 use elf_loader::Image;
-use hart::{Hart, run_local};
-use machine_types::{Event, Outcome};
-use rv32_decode::decode;
-use rv32_exec::{Action, plan};
+use hart::run_local;
+use machine_types::{Event, MAX_ROW, Outcome};
+use rv32_exec::Action;
 use std::alloc::{AllocError, Global};
 
 /// The most quiet steps that a hart takes before the others have their turn, so that a loop ends.
 const MOST_QUIET_STEPS: u32 = 1000;
-
-/// The most instructions of one event.
-const MOST_AT_ONCE: u32 = 256;
-
-/// What the hart's next instruction will do; none where no instruction lies there.
-pub(crate) fn next_plan(image: &Image, hart: &Hart) -> Option<Action> {
-    if !image.has_word(hart.pc) {
-        return None;
-    }
-    let instr = decode(image.word(hart.pc))?;
-    Some(plan(&instr, hart.pc, &hart.regs, image.size()))
-}
 
 /// Whether the hart's next step touches no memory and no entry that may leave its store buffer, if it
 /// doesn't stall.
 fn is_quiet(image: &Image, views: &Views<'_>, hart: usize) -> bool
     requires { hart < length views.now.views.nodes }
 {
-    match next_plan(image, views.hart(hart)) {
+    match views.hart(hart).next_action(image) {
         None | Some(Action::Stop(_) | Action::Private | Action::Call | Action::Fence) => true,
         Some(Action::Store { addr, .. }) => {
             let word = addr & !3;
@@ -61,7 +48,7 @@ fn next_quiet(
     if place >= views.harts() || !views.hart(place).status.is_running() {
         return Ok(None);
     }
-    let row = run_local(alloc, image, views.hart(place), most.min(MOST_AT_ONCE))?;
+    let row = run_local(alloc, image, views.hart(place), most.min(MAX_ROW))?;
     let count = row.entries().len() as u32;
     if count > 1 {
         return Ok(Some((Event::Local { hart, count }, count)));

@@ -7,7 +7,7 @@ ghost use Rattle.schedules.specs.Schedules.{EachMoves, Replays, led, start_of};
 
 use crate::errors::{Fault, RealiseError};
 use crate::player::Player;
-use crate::quiet::{has_stepped, next_plan};
+use crate::quiet::has_stepped;
 use crate::schedule::Schedule;
 use elf_loader::Image;
 use flat_model::FlatEvent;
@@ -82,11 +82,11 @@ impl Player {
         if place >= views.harts() {
             return Ok(false);
         }
-        let Some(Action::Sc { .. }) = next_plan(self.image(), views.hart(place)) else {
+        let Some(Action::Sc { .. }) = views.hart(place).next_action(self.image()) else {
             return Ok(false);
         };
         if let Some(word) = views.reserved(place) {
-            let line = word - word % views.config().line.bytes();
+            let line = views.config().line.line_of(word);
             self.give_up(hart, line)?;
         }
         Ok(has_stepped(self.apply(Event::Step { hart })?))

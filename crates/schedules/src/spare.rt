@@ -18,7 +18,7 @@ pub(crate) fn lowest_held(
     requires memory { IsMemorySize size }
 {
     let bytes = config.line.bytes();
-    let kept_line = kept.map(|word| word - word % bytes);
+    let kept_line = kept.map(|word| config.line.line_of(word));
     let set = address / bytes % config.sets;
     let mut line = BASE + set * bytes;
     while line < BASE + size {

@@ -5,7 +5,6 @@ ghost use Rattle.schedules.specs.Schedules.{start_of};
 
 use crate::errors::Fault;
 use crate::player::{MOST_HARTS, Player};
-use crate::quiet::next_plan;
 use crate::spare::lowest_held;
 use machine_types::Event;
 use rv32_exec::Action;
@@ -75,7 +74,7 @@ impl Player {
         }
         match event {
             Event::Drain { word, .. } => Some(word),
-            Event::Step { .. } => match next_plan(self.image(), views.hart(place))? {
+            Event::Step { .. } => match views.hart(place).next_action(self.image())? {
                 Action::Load { addr, .. } | Action::Lr { addr } | Action::Amo { addr, .. } => Some(
                     addr,
                 ),

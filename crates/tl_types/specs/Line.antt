@@ -1,5 +1,5 @@
 -- A line's size and bytes.
-use Rattle.std.specs.Prelude.{ℕ, List, Option, Some, None, ◌==◌, if◌then◌else◌}
+use Rattle.std.specs.Prelude.{ℕ, List, Option, Some, None, ◌==◌, ◌-◌, ◌%◌, if◌then◌else◌}
 use Rattle.tl_types.specs.declared.line.LineData.{LineData}
 use Rattle.tl_types.specs.declared.line.LineData.TheVariants as data_of
 use Rattle.tl_types.specs.declared.line.LineSize.{LineSize}
@@ -9,6 +9,10 @@ use Rattle.tl_types.specs.declared.line.LineSize.TheVariants as size
 abbrev pub length_of : LineSize → ℕ
 length_of size.Bytes16 = 16
 length_of size.Bytes64 = 64
+
+-- the line that an address lies in, as the address of its first byte
+abbrev pub line_of : LineSize → ℕ → ℕ
+line_of size address = address - address % length_of size
 
 -- the size of a line of so many bytes, where a line may have as many
 abbrev pub size_of_bytes : ℕ → Option LineSize

@@ -1,6 +1,6 @@
 //! Lines of memory: their size and their bytes.
 ghost use Rattle.std.specs.Prelude.{◌≡◌, IfSome, length};
-ghost use Rattle.tl_types.specs.Line.{bytes_of, size_of, size_of_bytes, length_of};
+ghost use Rattle.tl_types.specs.Line.{bytes_of, line_of, size_of, size_of_bytes, length_of};
 
 /// How many bytes a line has.
 #[derive(Clone, Copy, Debug, PartialEq, Eq)]
@@ -30,6 +30,13 @@ impl LineSize {
             LineSize::Bytes16 => 16,
             LineSize::Bytes64 => 64,
         }
+    }
+
+    /// The line that an address lies in, as the address of its first byte.
+    pub fn line_of(self, address: u32) -> u32
+        ensures { result ≡ line_of self address }
+    {
+        address - address % self.bytes()
     }
 }
 

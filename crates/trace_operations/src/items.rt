@@ -13,7 +13,7 @@ ghost use Rattle.memory_model.specs.Traces as traces;
 ghost use Rattle.trace_operations.specs.Placed.{GivesOwn};
 
 use crate::listed::Items;
-use crate::runs::{is_step, retire, status_fits};
+use crate::runs::{is_step, retire};
 use amo_unit::combine;
 use elf_loader::Image;
 use hart::{Hart, Retired, Status};
@@ -62,7 +62,7 @@ fn run_of(
         items.push(entry.word, operation_in(place as u32, &hart, entry, &instr))?;
         retire(&mut hart, entry, &instr);
     }
-    if !status_fits(image, &hart, status) {
+    if !hart.status_fits(image, status) {
         return Ok(None);
     }
     Ok(Some(items))

@@ -3,7 +3,7 @@ use Rattle.std.proofs.Common.{◌≡◌, ℕ, zero, suc, ◌+◌, ◌<◌, ◌�
 use Rattle.std.specs.Prelude.{nat_lt, nat_le, is_none}
 use Rattle.std.proofs.lemmas.Bool.{false≢true, and_parts, and_from, ltb-true, lt-ltb, leb-true}
 use Rattle.std.proofs.lemmas.List.{set-set, set-get_or, length-set, length-append}
-use Rattle.machine_types.specs.declared.limits.TheConstants.{MAX_CHANGES, MAX_ENTRIES}
+use Rattle.machine_types.specs.declared.limits.TheConstants.{MAX_CHANGES, MAX_ENTRIES, MAX_ROW}
 use Rattle.elf_loader.specs.Image.{Initial, word_at}
 use Rattle.hart.specs.declared.retired.Retired.{Retired}
 use Rattle.hart.specs.declared.state.Hart.{Hart}
@@ -172,7 +172,7 @@ went (suc n) s h l e c p =
 -- what a Local event that retires needed
 pub record Retires (s : State) (h count : ℕ) (o : Outcome) (new : State) : Type 0 where
   pub there : h < length s.views.nodes
-  pub few : count ≤ 256
+  pub few : count ≤ MAX_ROW
   pub whole : length (private_row s.trace.image (node_at s h).hart count) ≡ count
   pub place : next_place s h + count ≤ MAX_ENTRIES
   pub retires : o ≡ outcome.Retired
@@ -189,7 +189,7 @@ local_moves s h count o new v = go m.act m.move m.outcome_is m.new_is
         let same : n ≡ count = cc k.rests.0 in
         record {
           there = k.in_h;
-          few = leb-true count 256 (and_parts (nat_le 1 count) (nat_le count 256) k.named).1;
+          few = leb-true count MAX_ROW (and_parts (nat_le 1 count) (nat_le count 256) k.named).1;
           whole = subst (λ m. length (private_row s.trace.image (node_at s h).hart m) ≡ m) same k.rests.2;
           place = subst (λ m. next_place s h + m ≤ MAX_ENTRIES) same (unlimited s h (act.Local n) k.free).few_entries;
           retires = sym is;

@@ -1,17 +1,16 @@
 //! What an instruction that retires does beside its hart's pc, registers and status.
 
-ghost use Rattle.std.specs.Prelude.{◌≡◌, ◌<◌, ◌≤◌, ◌++◌, ◌∷◌, [], IsTrue, None, OnErr, OnOk, Some, length};
+ghost use Rattle.std.specs.Prelude.{◌≡◌, ◌<◌, IsTrue, None, OnErr, OnOk, Some, length};
 ghost use Rattle.machine_model.specs.declared.act.Deed.TheVariants as deed;
 ghost use Rattle.machine_model.specs.Changing.{does, performs_own, put_behind, with_buffer, with_reservation, writes_word};
 ghost use Rattle.machine_model.specs.Ready.{IsReadyDeed, IsSound, IsWritable};
-ghost use Rattle.machine_model.specs.Views.{node_at, with_node};
+ghost use Rattle.machine_model.specs.Views.{node_at};
 ghost use Rattle.machine_model.specs.Words.{bytes_of_word};
 ghost use Rattle.machine_parts.specs.Lists.{KeepsLists};
 ghost use Rattle.store_buffer.specs.ByteMask.{marks_of_access};
 ghost use Rattle.store_buffer.specs.Groups.{after_seal, fits};
 
 use crate::parts::Parts;
-use crate::words::line_of;
 use machine_model::Deed;
 use machine_types::MemoryModel;
 use std::alloc::AllocError;
@@ -151,17 +150,10 @@ fn write(parts: &mut Parts, hart: u8, word: u32, value: u32)
     ensures room { parts.new.room ≡ parts.old.room }
     ensures kept { KeepsLists parts.old parts.new }
 {
-    let line = line_of(parts.trace.line_size(), word);
-    let bytes = bytes_of(value);
+    let line = parts.trace.line_size().line_of(word);
     parts.nodes[hart as usize]
         .cache
-        .write_word(line, word, [true; 4], bytes);
-}
-
-fn bytes_of(value: u32) -> [u8; 4]
-    ensures { result ≡ bytes_of_word value }
-{
-    value.to_le_bytes()
+        .write_word(line, word, [true; 4], value.to_le_bytes());
 }
 
 fn update(parts: &mut Parts, hart: u8, word: u32, value: u32)

@@ -10,7 +10,7 @@ ghost use Rattle.rv32_exec.specs.Width.{byte_count};
 
 use super::miss::{reading, writing};
 use crate::node::Node;
-use crate::words::{line_of, marks_of, read_from, store_of, word_in, word_of};
+use crate::words::{marks_of, read_from, store_of, word_in, word_of};
 use amo_unit::combine;
 use hart::Retired;
 use machine_model::{Act, Deed, Plan};
@@ -67,7 +67,7 @@ pub(crate) fn plan_load(
     if marks.covers(marks_of(address, width)) {
         return load_of(node, fetched, waiting, address, width);
     }
-    let line = match reading(&node.cache, line_of(config.line, address)) {
+    let line = match reading(&node.cache, config.line.line_of(address)) {
         Ok(line) => line,
         Err(miss) => return miss,
     };
@@ -127,7 +127,7 @@ pub(crate) fn plan_lr(config: &Config, node: &Node, fetched: &Fetched, address: 
     if waits_for_stores(&node.buffer, &fetched.instr, address) {
         return Plan::Stays(Outcome::MustDrain);
     }
-    match writing(&node.cache, line_of(config.line, address)) {
+    match writing(&node.cache, config.line.line_of(address)) {
         Ok(line) => {
             let old = read_from(word_in(&line, address), address, Width::Word);
             retires(node, fetched, Some(old), None, Deed::Lr(address))
@@ -185,7 +185,7 @@ pub(crate) fn plan_amo(
     if write_waits(config.model, &node.buffer, &fetched.instr, address) {
         return Plan::Stays(Outcome::MustDrain);
     }
-    match writing(&node.cache, line_of(config.line, address)) {
+    match writing(&node.cache, config.line.line_of(address)) {
         Ok(line) => {
             let old = read_from(word_in(&line, address), address, Width::Word);
             update(node, fetched, address, op, operand, old)

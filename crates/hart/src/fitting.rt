@@ -1,0 +1,120 @@
+//! Which entries a hart can retire, and which status it may have.
+ghost use Rattle.std.specs.Prelude.{◌≡◌, ◌^◌, List, ℕ};
+ghost use Rattle.elf_loader.specs.Size.{IsMemorySize};
+ghost use Rattle.hart.specs.Run as run;
+ghost use Rattle.rv32_exec.specs.Arithmetic.{bytes_loaded};
+ghost use Rattle.rv32_exec.specs.Meaning.{access_of, stop_of};
+
+use crate::fetching::can_fetch;
+use crate::retired::Retired;
+use crate::state::Hart;
+use crate::status::Status;
+use elf_loader::Image;
+use rv32_decode::{Instr, LoadOp, decode};
+use rv32_exec::{Action, plan, stop};
+
+impl Hart {
+    /// The code that an instruction stops with at this hart, where memory has `size` bytes; none where it retires.
+    pub fn stop_of(&self, instr: &Instr, size: u32) -> Option<u8>
+        requires memory { IsMemorySize size }
+        ensures { result ≡ stop_of instr.now self.now.pc self.now.regs size }
+    {
+        match plan(instr, self.pc, &self.regs, size) {
+            Action::Stop(code) => Some(code),
+            Action::Private
+            | Action::Load { .. }
+            | Action::Store { .. }
+            | Action::Lr { .. }
+            | Action::Sc { .. }
+            | Action::Amo { .. }
+            | Action::Fence
+            | Action::Call => None,
+        }
+    }
+
+    /// The code that the hart's next fetch or instruction stops with; none where it retires.
+    pub fn next_stop(&self, image: &Image) -> Option<u8>
+        ensures { result ≡ run.next_stop image.now self.now }
+    {
+        if !can_fetch(image, self.pc) {
+            return Some(stop::FETCH_OUTSIDE);
+        }
+        match decode(image.word(self.pc)) {
+            Some(instr) => self.stop_of(&instr, image.size()),
+            None => Some(stop::ILLEGAL),
+        }
+    }
+
+    /// Whether a hart that its entries lead here may have this status: it runs where it still does, is stopped with
+    /// the code that it would stop with next, and has exited where its last entry is that exit.
+    pub fn status_fits(&self, image: &Image, status: Status) -> bool
+        ensures { result ≡ run.status_fits image.now self.now status }
+    {
+        match status {
+            Status::Running => self.status.is_running(),
+            Status::Stopped(code) => {
+                self.status.is_running() && is_code(code, self.next_stop(image))
+            }
+            Status::Exited(code) => is_exit(code, self.status),
+        }
+    }
+}
+
+fn is_code(code: u8, stop: Option<u8>) -> bool
+    ensures { result ≡ run.is_code code stop }
+{
+    match stop {
+        Some(number) => number == code,
+        None => false,
+    }
+}
+
+fn is_exit(code: u8, status: Status) -> bool
+    ensures { result ≡ run.is_exit code status }
+{
+    match status {
+        Status::Exited(number) => number == code,
+        Status::Running | Status::Stopped(_) => false,
+    }
+}
+
+impl Retired {
+    /// Whether the entry has what an instruction of this kind reads: a loaded number is there exactly for a load, an
+    /// LR and an AMO, and fits the access; an SC's answer exactly for an SC.
+    pub fn has_answers(&self, instr: &Instr) -> bool
+        ensures { (regs : List ℕ) → result ≡ run.has_answers (access_of instr.now regs) self.now }
+    {
+        match *instr {
+            Instr::Load { op, .. } => fits(op, self.loaded) && self.sc_ok.is_none(),
+            Instr::Lr { .. } | Instr::Amo { .. } => {
+                fits(LoadOp::Lw, self.loaded) && self.sc_ok.is_none()
+            }
+            Instr::Sc { .. } => self.loaded.is_none() && self.sc_ok.is_some(),
+            Instr::Store { .. }
+            | Instr::Upper { .. }
+            | Instr::Jal { .. }
+            | Instr::Jalr { .. }
+            | Instr::Branch { .. }
+            | Instr::Immediate { .. }
+            | Instr::Shift { .. }
+            | Instr::Register { .. }
+            | Instr::Fence(_)
+            | Instr::FenceTso
+            | Instr::System(_) => self.loaded.is_none() && self.sc_ok.is_none(),
+        }
+    }
+}
+
+// Whether a number is there and fits in what the load reads.
+fn fits(op: LoadOp, loaded: Option<u32>) -> bool
+    ensures { result ≡ run.is_below (256 ^ bytes_loaded op) loaded }
+{
+    match loaded {
+        Some(number) => match op {
+            LoadOp::Lb | LoadOp::Lbu => number < 0x100,
+            LoadOp::Lh | LoadOp::Lhu => number < 0x1_0000,
+            LoadOp::Lw => true,
+        },
+        None => false,
+    }
+}
