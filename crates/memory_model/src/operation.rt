@@ -2,7 +2,7 @@
 
 /// What kind of instruction gave an operation. An AMO is a load and a store at once; an SC that failed
 /// gives none.
-#[derive(Clone, Copy, Debug, PartialEq, Eq)]
+#[derive(Clone, Copy, Debug, PartialEq, Eq, Hash)]
 pub enum Kind {
     Load,
     Store,

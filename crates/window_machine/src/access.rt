@@ -13,29 +13,10 @@ use amo_unit::combine;
 use elf_loader::Image;
 use hart::{Hart, Retired, can_fetch};
 use machine_types::MemoryModel;
+use memory_model::{Kind, annotations};
 use rv32_decode::{AmoOp, Annotations, Instr, decode};
 use rv32_exec::{Action, Width, plan, stop};
-
-/// What an access does.
-#[derive(Clone, Copy, PartialEq, Eq, Hash)]
-pub(crate) enum Kind {
-    Load,
-    Store,
-    Lr,
-    /// An SC that succeeds.
-    Sc,
-    Amo,
-}
-
-impl Kind {
-    pub(crate) fn reads(self) -> bool {
-        matches!(self, Kind::Load | Kind::Lr | Kind::Amo)
-    }
-
-    pub(crate) fn writes(self) -> bool {
-        matches!(self, Kind::Store | Kind::Sc | Kind::Amo)
-    }
-}
+use trace_operations::accesses::{reads, writes};
 
 /// An access that a hart stands before: its bytes as lanes of the aligned word that they lie in.
 #[derive(Clone, Copy)]
@@ -116,29 +97,26 @@ impl Access {
     }
 
     pub(crate) fn acquires(&self, model: MemoryModel) -> bool {
-        self.bits.acquire || model == MemoryModel::Ztso && self.kind.reads()
+        match model {
+            MemoryModel::Rvwmo => self.bits.acquire,
+            MemoryModel::Ztso => self.bits.acquire || reads(self.kind),
+        }
     }
 
     pub(crate) fn releases(&self, model: MemoryModel) -> bool {
-        self.bits.release || model == MemoryModel::Ztso && self.kind.writes()
+        match model {
+            MemoryModel::Rvwmo => self.bits.release,
+            MemoryModel::Ztso => self.bits.release || writes(self.kind),
+        }
     }
 
     /// Whether its annotations are RCsc.
     pub(crate) fn is_rcsc(&self, model: MemoryModel) -> bool {
-        self.bits.acquire
-            || self.bits.release
-            || model == MemoryModel::Ztso && matches!(self.kind, Kind::Amo)
-    }
-}
-
-/// The bits aq and rl, where the instruction has them.
-fn annotations(instr: &Instr) -> Annotations {
-    match *instr {
-        Instr::Lr { bits, .. } | Instr::Sc { bits, .. } | Instr::Amo { bits, .. } => bits,
-        _ => Annotations {
-            acquire: false,
-            release: false,
-        },
+        let is_marked = self.bits.acquire || self.bits.release;
+        match model {
+            MemoryModel::Rvwmo => is_marked,
+            MemoryModel::Ztso => is_marked || matches!(self.kind, Kind::Amo),
+        }
     }
 }
 
