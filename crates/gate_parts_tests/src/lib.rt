@@ -1,5 +1,5 @@
-//! Tests of the machine's parts, apart from them, so that no part is proved a second time for its
-//! tests.
+//! Tests of the machine's parts, of what instructions are and do, of harts and of a trace's lists, apart
+//! from them, so that none of them is proved a second time for its tests.
 #![tactic(auto)]
 
 #[cfg(test)]
@@ -8,6 +8,12 @@ mod buffer;
 mod cache;
 #[cfg(test)]
 mod channels;
+#[cfg(test)]
+mod combining;
+#[cfg(test)]
+mod decoding;
+#[cfg(test)]
+mod executing;
 #[cfg(test)]
 mod loading;
 #[cfg(test)]
@@ -19,6 +25,10 @@ mod names;
 #[cfg(test)]
 mod notes;
 #[cfg(test)]
+mod recording;
+#[cfg(test)]
 mod reserving;
+#[cfg(test)]
+mod running;
 #[cfg(test)]
 mod same;
