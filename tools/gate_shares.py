@@ -1,14 +1,15 @@
 #!/usr/bin/env python3
-"""Runs the gate, and tells how many processor seconds each crate's proof, tests and edits took.
+"""Runs the gate, and tells how many processor seconds each crate's proof, tests and edits took, and how much memory.
 
-usage: tools/gate_shares.py [COMMAND..]     (from the top of the repository; COMMAND is `rt ci` where none is given)
+usage: tools/gate_shares.py [COMMAND..]     (from the top of the repository; COMMAND is `.ci/run` where none is given)
 
 It looks twice a second at the processes of the toolchain that run below the command, by Linux's /proc, and
 adds up the processor time that each had taken when it was last seen. So a process's last half second isn't
 in the shares (the total is the system's own and has it), and what runs beside the toolchain's own program (the
 linker, the tests) stands under `other`.
-The command's output goes to standard output; the shares follow it, and the slowest edits: of a crate with
-several edits the first check is of the crate as it stands, for the edits to begin with, and so is the last.
+The command's output goes to standard output; the shares follow it, with the most memory that one process of
+each crate held, and the slowest edits: of a crate with several edits the first check is of the crate as it
+stands, for the edits to begin with, and so is the last.
 """
 import collections
 import os
@@ -59,6 +60,16 @@ def share_of(pid):
     return (crate, "tests" if "--test" in words else "proof", "")
 
 
+def memory_of(pid):
+    """Returns the most memory that a process has held so far, in MB."""
+    try:
+        with open(f"/proc/{pid}/status") as file:
+            found = [line for line in file if line.startswith("VmHWM:")]
+    except OSError:
+        return 0
+    return int(found[0].split()[1]) * 1024 // 1_000_000 if found else 0
+
+
 def slowest(seen):
     """Returns each edit's seconds and name, the slowest first: the gate tries a crate's edits by their names."""
     by_crate = collections.defaultdict(collections.Counter)
@@ -77,13 +88,14 @@ def slowest(seen):
 
 def main():
     started = time.time()
-    run = subprocess.Popen(sys.argv[1:] or ["rt", "ci"])
-    seen = {}
+    run = subprocess.Popen(sys.argv[1:] or [".ci/run"])
+    seen, held = {}, collections.Counter()
     while run.poll() is None:
         for pid, seconds in below(run.pid, children_of()).items():
             share = share_of(pid)
             if share and pid != run.pid:
                 seen[pid, share] = max(seconds, seen.get((pid, share), 0))
+                held[share[0]] = max(held[share[0]], memory_of(pid))
         time.sleep(0.5)
     shares = collections.defaultdict(lambda: collections.Counter())
     for (_, (crate, kind, _)), seconds in seen.items():
@@ -93,9 +105,10 @@ def main():
     whole = (used.ru_utime + used.ru_stime) / 60
     minutes = (time.time() - started) / 60
     print(f"\nprocessor minutes {whole:.1f}, of which below {total / 60:.1f}, wall minutes {minutes:.1f}")
-    print(f"{'crate':24}{'proof':>8}{'tests':>8}{'edits':>8}{'other':>8}   processor seconds")
+    print(f"{'crate':24}{'proof':>8}{'tests':>8}{'edits':>8}{'other':>8}   processor seconds{'MB':>8}")
     for crate, kinds in sorted(shares.items(), key=lambda it: -sum(it[1].values())):
-        print(f"{crate:24}" + "".join(f"{kinds[kind]:8.0f}" for kind in ("proof", "tests", "edits", "other")))
+        taken = "".join(f"{kinds[kind]:8.0f}" for kind in ("proof", "tests", "edits", "other"))
+        print(f"{crate:24}{taken}{held[crate]:28}")
     print("the slowest edits")
     for seconds, name in slowest(seen)[:SLOWEST]:
         print(f"{seconds:8.0f}   {name}")
