@@ -22,7 +22,7 @@ use Rattle.machine_model.specs.Changing.{acted, does, drained, outcome_of_act, p
 use Rattle.machine_model.specs.Deliveries.{grant_body, handled, line_in_memory, on_probe_ack, probe_ack_body, sent_any, sent_grant, sent_if_answered, sent_if_granted, sent_if_handled, sent_probes, taken, with_less, with_memory, with_notes}
 use Rattle.machine_model.specs.Events.{Verdict, counted, happens, hart_of, is_good, is_limited, plan_of, state_by, verdict_by}
 use Rattle.machine_model.specs.LawfulLog.{IsBeginningOf}
-use Rattle.machine_model.specs.Views.{Node, State, line_of, line_size, no_node, node_at, opening_node, place_of, sent, with_node, with_trace}
+use Rattle.machine_model.specs.Views.{Node, State, line_size, no_node, node_at, opening_node, place_of, sent, with_node, with_trace}
 use Rattle.machine_model.specs.declared.act.Act.{Act}
 use Rattle.machine_model.specs.declared.act.Act.TheVariants as act
 use Rattle.machine_model.specs.declared.act.Deed.{Deed}
@@ -38,6 +38,7 @@ use Rattle.store_buffer.specs.Entry.{entry_of}
 use Rattle.store_buffer.specs.Groups.{Groups, after_seal, after_take, oldest}
 use Rattle.store_buffer.specs.ByteMask.{marks_of_access}
 use Rattle.tilelink_channels.specs.Queues.{popped, pushed}
+use Rattle.tl_types.specs.Line.{line_of}
 use Rattle.tl_types.specs.Message.{channel_of}
 use Rattle.tl_types.specs.declared.line.LineData.{LineData}
 use Rattle.tl_types.specs.declared.message.Body.{Body}

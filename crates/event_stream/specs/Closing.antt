@@ -6,7 +6,7 @@ use Rattle.client_cache.specs.Cache.{Cache, copy_at}
 use Rattle.client_cache.specs.Shape.{set_of}
 use Rattle.elf_loader.specs.Size.{base}
 use Rattle.elf_symbols.specs.Named.{Named}
-use Rattle.hart.specs.Run.{instr_at, next_action}
+use Rattle.hart.specs.Next.{instr_at, next_action}
 use Rattle.hart.specs.declared.status.Status.{Status}
 use Rattle.hart.specs.declared.status.Status.TheVariants.{Running, Stopped as IsStopped, Exited as HasExited}
 use Rattle.machine_types.specs.declared.event.Event.TheVariants.{Step}
@@ -14,7 +14,7 @@ use Rattle.machine_types.specs.declared.outcome.Outcome.{Outcome}
 use Rattle.machine_types.specs.declared.outcome.Outcome.TheVariants.{Retired, Stopped, Exited, Drained, Delivered, Evicted, Missed, Halted, WaitRelease, WaitGrant, NoTracker, SetFull, BufferFull, MustDrain, NoEntry, NotOldest, Empty, Busy, Releasing, AckFull, NotHeld, AcquirePending, ReleaseFull, NotLocal}
 use Rattle.machine_model.specs.Events.{verdict}
 use Rattle.machine_model.specs.Ready.{shape_of}
-use Rattle.machine_model.specs.Views.{State, line_of, line_size, node_at}
+use Rattle.machine_model.specs.Views.{State, line_size, node_at}
 use Rattle.machine_parts.specs.Applying.{answer_to}
 use Rattle.machine_parts.specs.declared.errors.ApplyError.{ApplyError}
 use Rattle.machine_parts.specs.declared.errors.ApplyError.TheVariants.{BadEvent, Limit, NoMemory}
@@ -24,7 +24,7 @@ use Rattle.rv32_exec.specs.declared.actions.Action.{Action}
 use Rattle.store_buffer.specs.Groups.{Groups, groups_of}
 use Rattle.store_buffer.specs.declared.entry.Entry.{Entry}
 use Rattle.text_fields.specs.Fields.{word}
-use Rattle.tl_types.specs.Line.{length_of}
+use Rattle.tl_types.specs.Line.{length_of, line_of}
 use Rattle.trace_text.specs.Traces.{status}
 use Rattle.event_stream.specs.Lines.{disassembled, unended}
 use Rattle.event_stream.specs.Outcomes.{outcome}
@@ -38,11 +38,11 @@ next_instr s h = instr_at s.trace.image (node_at s h).hart.pc
 abbrev pub next_text : List Named → State → ℕ → List ℕ
 next_text names s h = disassembled names (node_at s h).hart.pc (next_instr s h)
 
--- the address that the hart's next instruction reads or writes
 abbrev pub accessed_by : Option Action → Option ℕ
 accessed_by None = None
 accessed_by (Some action) = addressed action
 
+-- the address that the hart's next instruction reads or writes
 abbrev pub next_address : State → ℕ → Option ℕ
 next_address s h = accessed_by (next_action s.trace.image (node_at s h).hart)
 

@@ -3,6 +3,7 @@ ghost use Rattle.std.specs.Prelude.{◌≡◌, ◌<◌, if◌then◌else◌};
 ghost use Rattle.flat_machine.specs.States.{flat_of};
 ghost use Rattle.flat_model.specs.Changing as spec;
 ghost use Rattle.reservations.specs.Reservation.{without_line};
+ghost use Rattle.tl_types.specs.Line.{line_of};
 
 use crate::node::Node;
 use crate::state::State;
@@ -27,7 +28,7 @@ fn are_rivals(config: &Config, one: u32, other: u32) -> bool
 impl Node {
     /// What an access of an address, the hart's own or another's, leaves of the reservation.
     fn keep_reservation(&mut self, config: &Config, is_own: bool, address: u32)
-        ensures { self.new ≡ record self.old { reserved = if is_own then spec.without_rival config.now address self.old.reserved else without_line (spec.line_of_address config.now address) config.now.line self.old.reserved } }
+        ensures { self.new ≡ record self.old { reserved = if is_own then spec.without_rival config.now address self.old.reserved else without_line (line_of config.now.line address) config.now.line self.old.reserved } }
     {
         if !is_own {
             self.reservation

@@ -14,7 +14,7 @@ use Rattle.flat_model.specs.Flat as of_flat
 use Rattle.flat_model.specs.Shown.{HoldsPerformed}
 use Rattle.machine_model.specs.Coherent.{IsCoherent}
 use Rattle.machine_model.specs.Events.{is_piece}
-use Rattle.machine_model.specs.Views.{State, line_of, line_size, node_at}
+use Rattle.machine_model.specs.Views.{State, line_size, node_at}
 use Rattle.machine_model.specs.Words.{bytes_of_word, word_in, word_of}
 use Rattle.machine_model.specs.declared.act.Deed.{Deed}
 use Rattle.machine_model.specs.declared.act.Deed.TheVariants as deed
@@ -28,7 +28,7 @@ use Rattle.machine_model.proofs.order.Returns.{AllHold}
 use Rattle.memory_model.specs.Operations.{byte_of_number as number_byte}
 use Rattle.memory_model.specs.Traces.{last_performed}
 use Rattle.store_buffer.specs.ByteMask.{each_place, is_marked, marks_of_access}
-use Rattle.tl_types.specs.Line.{bytes_of, length_of, size_of}
+use Rattle.tl_types.specs.Line.{bytes_of, length_of, line_of, size_of}
 use Rattle.tl_types.specs.declared.line.LineSize.{LineSize}
 use Rattle.tl_types.specs.declared.line.LineSize.TheVariants.{Bytes16, Bytes64}
 use Rattle.trace_recorder.specs.History.{History}

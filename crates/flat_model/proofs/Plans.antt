@@ -23,7 +23,7 @@ use Rattle.machine_types.specs.declared.outcome.Outcome.TheVariants as outcome
 use Rattle.machine_model.specs.Deciding.{miss_by, reading, reading_by, writing, writing_by}
 use Rattle.machine_model.specs.Events.{plan_drain}
 use Rattle.machine_model.specs.Steps.{Fetched, plan_access, plan_amo, plan_sc, plan_fence, plan_instr, plan_load, plan_lr, plan_step, plan_store, plan_unless, retires, update, waits_for_stores, write_waits}
-use Rattle.machine_model.specs.Views.{Node, line_of}
+use Rattle.machine_model.specs.Views.{Node}
 use Rattle.machine_model.specs.Words.{word_of, word_in, read_from, store_of}
 use Rattle.machine_model.proofs.order.Deeds.{Facts, facts}
 use Rattle.machine_types.specs.declared.model.MemoryModel.{MemoryModel}
@@ -37,6 +37,7 @@ use Rattle.rv32_decode.specs.declared.instruction.Instr.{Instr}
 use Rattle.rv32_exec.specs.Meaning.{Access, Private, Loads, Stores, DoesLr, DoesSc, DoesAmo, Fences, Calls, access_of}
 use Rattle.store_buffer.specs.ByteMask.{covers, laid_over, marks_of_access}
 use Rattle.store_buffer.specs.Groups.{drainable, fits, forwarded, has, is_empty}
+use Rattle.tl_types.specs.Line.{line_of}
 use Rattle.tl_types.specs.declared.line.LineData.{LineData}
 
 -- a node without its cache and queues, and with this reservation

@@ -11,8 +11,7 @@ use flat_model::FlatEvent;
 use gate_plain_machine::{FlatMachine, Variant};
 use hart::Retired;
 use machine_types::{Config, Event, MAX_HARTS, Outcome};
-use rv32_decode::decode;
-use rv32_exec::{Action, plan};
+use rv32_exec::Action;
 use same::difference_of;
 use std::alloc::Global;
 use std::fmt;
@@ -125,13 +124,7 @@ impl Lockstep {
         if hart >= views.harts() {
             return None;
         }
-        let image = self.machine.trace().image();
-        let hart = views.hart(hart);
-        if !image.has_word(hart.pc) {
-            return None;
-        }
-        let instr = decode(image.word(hart.pc))?;
-        Some(plan(&instr, hart.pc, &hart.regs, image.size()))
+        views.hart(hart).next_action(self.machine.trace().image())
     }
 
     /// The flat event of a step that retired, which writes what it does; an SC may fail though its flat

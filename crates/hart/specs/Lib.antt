@@ -1,3 +1,4 @@
 pub mod Run
 pub mod Ends
 pub mod Local
+pub mod Next

@@ -4,8 +4,6 @@ use Rattle.elf_loader.specs.Image.{Initial, end_of, word_at}
 use Rattle.elf_loader.specs.Size.{base}
 use Rattle.rv32_decode.specs.Rows.{decoded}
 use Rattle.rv32_decode.specs.declared.instruction.Instr.{Instr}
-use Rattle.rv32_exec.specs.Actions.{planned}
-use Rattle.rv32_exec.specs.declared.actions.Action.{Action}
 use Rattle.rv32_exec.specs.Meaning.{Access, Private, Loads, Stores, DoesLr, DoesSc, DoesAmo, Fences, Calls, Effect, effect_of, access_of, stop_of}
 use Rattle.rv32_exec.specs.Registers.{after_write, reset_registers}
 use Rattle.hart.specs.declared.retired.Retired.{Retired}
@@ -58,18 +56,6 @@ is_running _ = false
 -- the word at the pc is in memory, from where it is fetched; stores never change it
 abbrev pub can_fetch : Initial → ℕ → Bool
 can_fetch image pc = nat_le base pc && nat_le (pc + 4) (end_of image)
-
--- the instruction that is fetched from there, if the word is one
-abbrev pub instr_at : Initial → ℕ → Option Instr
-instr_at image pc = if can_fetch image pc then decoded (word_at image pc) else None
-
--- what it does at this hart
-abbrev pub action_at : Initial → Hart → Option Instr → Option Action
-action_at image hart None = None
-action_at image hart (Some i) = Some (planned i hart.pc hart.regs (length image.bytes))
-
-abbrev pub next_action : Initial → Hart → Option Action
-next_action image hart = action_at image hart (instr_at image hart.pc)
 
 -- the instruction doesn't stop at this hart, where memory has `size` bytes, and the entry has what it read
 abbrev pub can_do : ℕ → Hart → Retired → Option Instr → Bool

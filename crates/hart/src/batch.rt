@@ -14,7 +14,7 @@ use rv32_exec::{Action, finish, plan};
 use std::alloc::{AllocError, Global};
 use std::marker::Model;
 
-/// At most 256 retired instructions, none of which touches memory, fences or calls, with the hart that
+/// At most [`MAX_ROW`](machine_types::MAX_ROW) retired instructions, none of which touches memory, fences or calls, with the hart that
 /// they start from and the one that they lead to.
 #[derive(Debug, Drop)]
 pub struct Batch {
@@ -60,7 +60,7 @@ impl Batch {
 }
 
 /// What a hart does alone from here: the longest row of private instructions that don't stop, but no
-/// more than `max`, which is from 1 to 256. There are none where the hart isn't running.
+/// more than `max`, which is from 1 to `MAX_ROW`. There are none where the hart isn't running.
 pub fn run_local(alloc: Global, image: &Image, hart: &Hart, max: u32) -> Result<Batch, AllocError>
     requires some { 1 ≤ max }
     requires few { max ≤ MAX_ROW }

@@ -1,7 +1,8 @@
-//! What lies where an instruction is fetched.
+//! What is fetched at an address, and what a hart does next.
 ghost use Rattle.std.specs.Prelude.{◌≡◌, IsTrue};
 ghost use Rattle.elf_loader.specs.Image.{HasWord};
-ghost use Rattle.hart.specs.Run.{can_fetch, instr_at, next_action};
+ghost use Rattle.hart.specs.Next.{instr_at, next_action};
+ghost use Rattle.hart.specs.Run.{can_fetch};
 
 use crate::state::Hart;
 use elf_loader::Image;
@@ -16,8 +17,7 @@ pub fn can_fetch(image: &Image, pc: u32) -> bool
     image.has_word(pc)
 }
 
-/// The instruction that is fetched from this address; none where no word of memory lies there, or one that is
-/// no instruction.
+/// The instruction at an address; none where no word of memory lies there, or one that is no instruction.
 pub fn instr_at(image: &Image, pc: u32) -> Option<Instr>
     ensures { result ≡ instr_at image.now pc }
 {

@@ -1,4 +1,4 @@
-//! Which entries a hart can retire, and which status it may have.
+//! Whether an instruction stops its hart, what its entry has to tell, and which status a hart may have.
 ghost use Rattle.std.specs.Prelude.{◌≡◌, ◌^◌, List, ℕ};
 ghost use Rattle.elf_loader.specs.Size.{IsMemorySize};
 ghost use Rattle.hart.specs.Run as run;
@@ -14,7 +14,8 @@ use rv32_decode::{Instr, LoadOp, decode};
 use rv32_exec::{Action, plan, stop};
 
 impl Hart {
-    /// The code that an instruction stops with at this hart, where memory has `size` bytes; none where it retires.
+    /// The code that an instruction stops with at this hart, where memory has `size` bytes; none where it doesn't
+    /// stop.
     pub fn stop_of(&self, instr: &Instr, size: u32) -> Option<u8>
         requires memory { IsMemorySize size }
         ensures { result ≡ stop_of instr.now self.now.pc self.now.regs size }
@@ -32,7 +33,7 @@ impl Hart {
         }
     }
 
-    /// The code that the hart's next fetch or instruction stops with; none where it retires.
+    /// The code that a running hart's next fetch or instruction stops with; none where neither stops.
     pub fn next_stop(&self, image: &Image) -> Option<u8>
         ensures { result ≡ run.next_stop image.now self.now }
     {
@@ -45,8 +46,9 @@ impl Hart {
         }
     }
 
-    /// Whether a hart that its entries lead here may have this status: it runs where it still does, is stopped with
-    /// the code that it would stop with next, and has exited where its last entry is that exit.
+    /// Whether this status fits a hart whose entries lead here: `Running` while it runs, even where it would stop
+    /// next; `Stopped` while it runs, with the code that it would stop with next; `Exited` with the code that it
+    /// exited with.
     pub fn status_fits(&self, image: &Image, status: Status) -> bool
         ensures { result ≡ run.status_fits image.now self.now status }
     {
@@ -79,8 +81,8 @@ fn is_exit(code: u8, status: Status) -> bool
 }
 
 impl Retired {
-    /// Whether the entry has what an instruction of this kind reads: a loaded number is there exactly for a load, an
-    /// LR and an AMO, and fits the access; an SC's answer exactly for an SC.
+    /// Whether the entry has what this instruction reads, and no more: a loaded number, which fits the access,
+    /// exactly for a load, an LR and an AMO; whether it succeeded exactly for an SC.
     pub fn has_answers(&self, instr: &Instr) -> bool
         ensures { (regs : List ℕ) → result ≡ run.has_answers (access_of instr.now regs) self.now }
     {

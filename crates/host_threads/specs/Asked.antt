@@ -3,7 +3,8 @@ use Rattle.std.specs.Prelude.{◌≡◌, ◌≢◌, ℕ, ◌+◌, ◌%◌, ◌<�
 use Rattle.std.specs.Option.{option_or}
 use Rattle.client_cache.specs.Cache.{Cache}
 use Rattle.elf_loader.specs.Image.{Initial}
-use Rattle.hart.specs.Run.{is_running, next_action}
+use Rattle.hart.specs.Next.{next_action}
+use Rattle.hart.specs.Run.{is_running}
 use Rattle.hart.specs.declared.state.Hart.{Hart}
 use Rattle.host_threads.specs.declared.rounds.Place.{Place}
 use Rattle.host_threads.specs.declared.rounds.Place.TheVariants as stop

@@ -1,19 +1,16 @@
 //! What a worker sees of its hart while it holds the lock.
 
 ghost use Rattle.std.specs.Prelude.{◌≡◌, ◌<◌, ◌↔◌, IsTrue, Some, length, true};
-ghost use Rattle.elf_loader.specs.Size.{IsMemorySize};
-ghost use Rattle.hart.specs.Local.{can_go_alone, is_done_alone};
+ghost use Rattle.hart.specs.Local.{can_go_alone};
 ghost use Rattle.host_threads.specs.Telling as telling;
 ghost use Rattle.machine_types.specs.declared.event.Event.TheVariants as TheEvents;
 ghost use Rattle.machine_model.specs.Views.{node_at};
 
 use coherent_machine::{Machine, Views};
 use elf_loader::Image;
-use hart::{Hart, Status};
+use hart::{Hart, Status, next_alone};
 use locked_fabric::{Turn, Visit, seen_in};
 use machine_types::{Event, Outcome};
-use rv32_decode::{Instr, decode};
-use rv32_exec::{Action, plan};
 
 /// A hart's turn, with what is seen of the hart under the same lock.
 #[derive(Drop)]
@@ -95,24 +92,5 @@ fn is_step_of(event: Option<Event>, hart: u8) -> bool
 fn goes_alone(image: &Image, hart: &Hart) -> bool
     ensures { result ≡ can_go_alone image.now hart.now }
 {
-    if !hart.status.is_running() {
-        return false;
-    }
-    if !image.has_word(hart.pc) {
-        return false;
-    }
-    let Some(instr) = decode(image.word(hart.pc)) else {
-        return false;
-    };
-    is_alone(&instr, hart, image.size())
-}
-
-fn is_alone(instr: &Instr, hart: &Hart, size: u32) -> bool
-    requires { IsMemorySize size }
-    ensures { result ≡ is_done_alone hart.now (Some instr.now) }
-{
-    match plan(instr, hart.pc, &hart.regs, size) {
-        Action::Private => true,
-        _ => false,
-    }
+    next_alone(image, hart).is_some()
 }

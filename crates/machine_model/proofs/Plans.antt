@@ -29,7 +29,7 @@ use Rattle.machine_model.specs.Deliveries.{is_trunk, plan_body, plan_front, unle
 use Rattle.machine_model.specs.Events.{evict_by, hart_of, plan_of}
 use Rattle.machine_model.specs.LawfulLog.{is_grant}
 use Rattle.machine_model.specs.Steps.{Fetched, plan_access, plan_amo, plan_call, plan_fence, plan_instr, plan_load, plan_lr, plan_sc, plan_store, plan_unless, retires, update, waits_for_stores, write_waits}
-use Rattle.machine_model.specs.Views.{Node, State, line_of, line_size, node_at, place_of}
+use Rattle.machine_model.specs.Views.{Node, State, line_size, node_at, place_of}
 use Rattle.machine_model.specs.Words.{number_of_bytes, read_from, store_of, word_in, word_of}
 use Rattle.machine_model.specs.declared.act.Act.{Act}
 use Rattle.machine_model.specs.declared.act.Act.TheVariants as act
@@ -54,6 +54,7 @@ use Rattle.rv32_exec.specs.Meaning.{Access, Private, Loads, Stores, DoesLr, Does
 use Rattle.store_buffer.specs.ByteMask.{covers, laid_over, marks_of_access}
 use Rattle.store_buffer.specs.Groups.{Groups, drainable, fits, forwarded, has, is_empty}
 use Rattle.tilelink_channels.specs.Queues.{front_of, queue_of, room_of}
+use Rattle.tl_types.specs.Line.{line_of}
 use Rattle.tl_types.specs.declared.line.LineData.{LineData}
 use Rattle.tl_types.specs.declared.message.Body.{Body}
 use Rattle.tl_types.specs.declared.message.Body.TheVariants.{AcquireBlock, ProbeBlock, Grant, GrantData}

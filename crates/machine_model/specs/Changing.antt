@@ -15,7 +15,7 @@ use Rattle.machine_model.specs.declared.act.Deed.TheVariants as deed
 use Rattle.machine_types.specs.declared.outcome.Outcome.{Outcome}
 use Rattle.machine_types.specs.declared.outcome.Outcome.TheVariants as outcome
 use Rattle.machine_model.specs.Deliveries.{delivered, with_less}
-use Rattle.machine_model.specs.Views.{State, line_of, node_at, with_node, with_trace, sent}
+use Rattle.machine_model.specs.Views.{State, node_at, with_node, with_trace, sent}
 use Rattle.machine_model.specs.Words.{bytes_of_word}
 use Rattle.machine_types.specs.declared.model.MemoryModel.{MemoryModel}
 use Rattle.machine_types.specs.declared.model.MemoryModel.TheVariants.{Rvwmo, Ztso}
@@ -24,6 +24,7 @@ use Rattle.store_buffer.specs.ByteMask.{marks_of_access}
 use Rattle.store_buffer.specs.Entry.{entry_of}
 use Rattle.store_buffer.specs.Groups.{Groups, after_put, after_put_single, after_seal, after_take, oldest}
 use Rattle.store_buffer.specs.declared.entry.Store.{Store}
+use Rattle.tl_types.specs.Line.{line_of}
 use Rattle.tl_types.specs.declared.line.LineData.{LineData}
 use Rattle.tl_types.specs.declared.message.Body.{Body}
 use Rattle.tl_types.specs.declared.message.Body.TheVariants.{AcquireBlock, Release, ReleaseData}

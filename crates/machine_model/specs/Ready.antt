@@ -15,10 +15,10 @@ use Rattle.machine_model.specs.Changing.{acted}
 use Rattle.machine_model.specs.Coherent.{perm_at}
 use Rattle.machine_model.specs.Events.{hart_of, is_good, is_limited, is_piece, plan_of}
 use Rattle.machine_model.specs.Laws.{Always, QueuesFit}
-use Rattle.machine_model.specs.Views.{State, line_of, line_size, node_at, shape_of_config}
+use Rattle.machine_model.specs.Views.{State, line_size, node_at, shape_of_config}
 use Rattle.store_buffer.specs.Groups.{drainable, fits}
 use Rattle.tilelink_channels.specs.Queues.{front_of, queue_of}
-use Rattle.tl_types.specs.Line.{length_of, size_of}
+use Rattle.tl_types.specs.Line.{length_of, line_of, size_of}
 use Rattle.tl_types.specs.Message.{channel_of}
 use Rattle.tl_types.specs.Permission.{left_by}
 use Rattle.tl_types.specs.declared.message.Body.{Body}

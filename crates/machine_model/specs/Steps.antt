@@ -10,7 +10,7 @@ use Rattle.machine_model.specs.declared.act.Plan.{Plan}
 use Rattle.machine_model.specs.declared.act.Plan.TheVariants.{Stays, Changes}
 use Rattle.machine_types.specs.declared.outcome.Outcome.TheVariants as outcome
 use Rattle.machine_model.specs.Deciding.{reading, writing}
-use Rattle.machine_model.specs.Views.{Node, line_of}
+use Rattle.machine_model.specs.Views.{Node}
 use Rattle.machine_model.specs.Words.{word_of, word_in, read_from, store_of}
 use Rattle.machine_types.specs.declared.model.MemoryModel.{MemoryModel}
 use Rattle.machine_types.specs.declared.model.MemoryModel.TheVariants.{Rvwmo, Ztso}
@@ -25,6 +25,7 @@ use Rattle.rv32_decode.specs.declared.instruction.Instr.{Instr}
 use Rattle.rv32_exec.specs.Meaning.{Access, Private, Loads, Stores, DoesLr, DoesSc, DoesAmo, Fences, Calls, access_of}
 use Rattle.store_buffer.specs.ByteMask.{covers, laid_over, marks_of_access}
 use Rattle.store_buffer.specs.Groups.{Groups, fits, forwarded, has, has_sealed, is_empty}
+use Rattle.tl_types.specs.Line.{line_of}
 
 -- an instruction that a hart is about to retire: its word, and how many instructions stand before it in the hart's list
 pub record Fetched : Type 0 where

@@ -2,11 +2,12 @@
 use Rattle.std.proofs.Common.{◌≡◌, ℕ, ◌<◌, List, [], ◌∷◌, Bool, length, refl, sym, ap, ◌∙◌}
 use Rattle.client_cache.specs.Cache.{word_written}
 use Rattle.machine_model.specs.Changing.{drained, performs, with_buffer, writes_word}
-use Rattle.machine_model.specs.Views.{Node, State, line_of, node_at, with_node, with_trace}
+use Rattle.machine_model.specs.Views.{Node, State, node_at, with_node, with_trace}
 use Rattle.machine_parts.specs.Drains.{emptied}
 use Rattle.machine_parts.proofs.Nodes.{node_same, node_twice}
 use Rattle.store_buffer.specs.Entry.{entry_of}
 use Rattle.store_buffer.specs.Groups.{Groups, after_take, oldest}
+use Rattle.tl_types.specs.Line.{line_of}
 use Rattle.trace_recorder.specs.History.{with_performed}
 
 pub performs_node : (h g : ℕ) (places : List ℕ) (n : Node) (s : State) → performs h places (with_node g n s) ≡ with_node g n (performs h places s)

@@ -5,7 +5,7 @@ use Rattle.std.specs.declared.result.Result.{Result}
 use Rattle.client_cache.specs.Cache.{Cache}
 use Rattle.machine_model.specs.Deciding.{reading, writing}
 use Rattle.machine_model.specs.Steps.{Fetched, plan_amo, plan_load, retires, update, write_waits}
-use Rattle.machine_model.specs.Views.{Node, line_of}
+use Rattle.machine_model.specs.Views.{Node}
 use Rattle.machine_model.specs.Words.{read_from, word_in, word_of}
 use Rattle.machine_model.specs.declared.act.Deed.TheVariants as deed
 use Rattle.machine_model.specs.declared.act.Plan.{Plan}
@@ -16,6 +16,7 @@ use Rattle.machine_types.specs.declared.outcome.Outcome.TheVariants.{MustDrain}
 use Rattle.rv32_decode.specs.declared.instruction.AmoOp.{AmoOp}
 use Rattle.store_buffer.specs.ByteMask.{covers, laid_over, marks_of_access}
 use Rattle.store_buffer.specs.Groups.{Groups, forwarded}
+use Rattle.tl_types.specs.Line.{line_of}
 use Rattle.tl_types.specs.declared.line.LineData.{LineData}
 
 -- ---- loads

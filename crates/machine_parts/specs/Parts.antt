@@ -2,7 +2,7 @@
 use Rattle.machine_parts.specs.Standing.{Standing}
 use Rattle.machine_parts.specs.declared.parts.Parts.TheInside.{Inside}
 
--- the parts' fields are the machine's state, and the room is what the trace's lists have for more
+-- the parts' fields as the machine's state, beside them the room left in the trace's lists
 abbrev pub standing_of : Inside → Standing
 standing_of p = record {
   state = record {

@@ -28,7 +28,7 @@ pub const MAX_KIB: u32 = 1024;
 /// Main memory's size in KiB is a multiple of this.
 pub const KIB_STEP: u32 = 4;
 
-/// The most instructions of a row that a hart does alone, which retires in one event.
+/// The most instructions that a hart does alone in one `Local` event.
 pub const MAX_ROW: u32 = 256;
 
 /// The most instructions that a hart of a trace has retired.

@@ -1,14 +1,13 @@
 -- When a picture would be too large.
-use Rattle.std.proofs.Common.{ℕ, ◌≡◌, ◌∙◌, ◌⊎◌, ◌+◌, ◌-◌, ◌<◌, ◌≤◌, Err, IfErr, Ok, Result, refl, sym, ap, subst, List, [], ◌∷◌, ◌++◌, length, Option, inl, inr, arith, get_or, take, drop, true, false, not, Bool, ◌&&◌, if◌then◌else◌}
+use Rattle.std.proofs.Common.{ℕ, ◌≡◌, ◌∙◌, ◌+◌, ◌-◌, ◌<◌, ◌≤◌, Err, IfErr, Ok, Result, refl, sym, ap, subst, List, [], ◌∷◌, ◌++◌, length, Option, inl, inr, arith, get_or, take, drop, true, false, not, Bool, ◌&&◌, if◌then◌else◌}
 use Rattle.std.proofs.lemmas.List.{length-append}
-use Rattle.std.specs.Prelude.{IsErrAnd, map, max}
+use Rattle.std.specs.Prelude.{IsErrAnd}
 use Rattle.chart_rows.specs.declared.rows.Note.{Note}
 use Rattle.chart_rows.specs.declared.rows.Noted.{Noted}
 use Rattle.coherent_machine.specs.Machine.{Replayed, replayed_from}
 use Rattle.elf_loader.specs.Image.{Initial}
 use Rattle.machine_types.specs.declared.config.Config.{Config}
 use Rattle.machine_types.specs.declared.event.Event.{Event}
-use Rattle.machine_types.specs.declared.outcome.Outcome.{Outcome}
 use Rattle.machine_model.specs.Events.{Verdict, happens, verdict}
 use Rattle.machine_model.specs.Events.Verdict.{IsBad, Keeps, IsLimited, Moves}
 use Rattle.machine_model.specs.Views.{State, opening}
@@ -16,11 +15,12 @@ use Rattle.run_chart.specs.Copies.{has, is_about, lines_from, lines_of, with_lin
 use Rattle.run_chart.specs.Lines.{noted}
 use Rattle.run_chart.specs.Rows.{Told, line_behind, row_between, rows_at, rows_by, rows_of, shown}
 use Rattle.run_chart.specs.Errors.{untold}
-use Rattle.run_chart.specs.Stories.{AreTooMany, IsOverfull, IsUntold, only_of, width_of}
+use Rattle.run_chart.specs.Stories.{AreTooMany, IsOverfull, IsUntold, only_of}
 use Rattle.run_chart.specs.declared.errors.RowError.{RowError}
 use Rattle.run_chart.specs.declared.errors.RowError.TheVariants as row
 use Rattle.trace_recorder.specs.declared.logged.Logged.{Logged}
 use Rattle.run_chart.proofs.Telling.{rest_is}
+use Rattle.tl_types.specs.declared.line.LineSize.{LineSize}
 
 pub line_behind_all : (line : ℕ) (xs ys : List Told) → line_behind line (xs ++ ys) ≡ line_behind (line_behind line xs) ys
 line_behind_all line [] ys = refl
@@ -30,7 +30,7 @@ shown_below : (b : Bool) (line : ℕ) (t : Told) → line ≤ t.end → line ≤
 shown_below true line t h = h
 shown_below false line t h = omega (arith)
 
-module _ (w : ℕ) (only : Option ℕ) (columns : List ℕ) where
+module _ (w : LineSize) (only : Option ℕ) (columns : List ℕ) where
   rows_below : (v : Verdict) (line index : ℕ) (s : State) (e : Event) → line ≤ line_behind line (rows_by v w only columns line index s e)
   rows_below IsBad line index s e = omega (arith)
   rows_below (Keeps o) line index s e = omega (arith)
@@ -112,19 +112,19 @@ untold_is image config events address row.TooManyRows large = large refl
 untold_is image config events address row.NoMemory large = tt
 
 -- the rows of a run that are too many, for its own lines of memory
-pub overfull : (image : Initial) (config : Config) (events : List Event) (address : Option ℕ) (reached : State) (w : ℕ) (only : Option ℕ) (columns : List ℕ) → replayed_from 0 (opening image config) events ≡ Replayed.Reached reached
-    → w ≡ width_of reached → only ≡ only_of w address → columns ≡ lines_of only reached.trace.log
+pub overfull : (image : Initial) (config : Config) (events : List Event) (address : Option ℕ) (reached : State) (w : LineSize) (only : Option ℕ) (columns : List ℕ) → replayed_from 0 (opening image config) events ≡ Replayed.Reached reached
+    → w ≡ reached.trace.line → only ≡ only_of w address → columns ≡ lines_of only reached.trace.log
     → AreTooMany 0 0 (rows_of w only columns 0 0 (opening image config) events) → IsOverfull image config events address
 overfull image config events address reached w only columns leads ew eo ec full =
-    let whole : Option ℕ = only_of (width_of reached) address in
+    let whole : Option ℕ = only_of reached.trace.line address in
     let bars : List ℕ = lines_of whole reached.trace.log in
-    let same : only ≡ whole = eo ∙ ap (λ (v : ℕ). only_of v address) ew in
+    let same : only ≡ whole = eo ∙ ap (λ (v : LineSize). only_of v address) ew in
     let lines : columns ≡ bars = ec ∙ ap (λ (o : Option ℕ). lines_of o reached.trace.log) same in
     record {
       reached = reached;
       leads = leads;
       large = inl (
-          subst (λ (v : ℕ). AreTooMany 0 0 (rows_of v whole bars 0 0 (opening image config) events)) ew (
+          subst (λ (v : LineSize). AreTooMany 0 0 (rows_of v whole bars 0 0 (opening image config) events)) ew (
           subst (λ (o : Option ℕ). AreTooMany 0 0 (rows_of w o bars 0 0 (opening image config) events)) same (
           subst (λ (cs : List ℕ). AreTooMany 0 0 (rows_of w only cs 0 0 (opening image config) events)) lines full
           )
@@ -153,10 +153,10 @@ lines_full only lines [] log d some h full = absurd (omega (arith, some))
 lines_full only lines (entry ∷ rest) log d some h full = omega (arith, full, lines_below only (with_line only lines entry) rest, ap (λ (xs : List ℕ). length xs) h)
 
 -- the bars of a run that are too many
-pub overfull_bars : (image : Initial) (config : Config) (events : List Event) (address : Option ℕ) (reached : State) (w : ℕ) (only : Option ℕ) → replayed_from 0 (opening image config) events ≡ Replayed.Reached reached
-    → w ≡ width_of reached → only ≡ only_of w address → 400 < length (lines_of only reached.trace.log) → IsOverfull image config events address
+pub overfull_bars : (image : Initial) (config : Config) (events : List Event) (address : Option ℕ) (reached : State) (w : LineSize) (only : Option ℕ) → replayed_from 0 (opening image config) events ≡ Replayed.Reached reached
+    → w ≡ reached.trace.line → only ≡ only_of w address → 400 < length (lines_of only reached.trace.log) → IsOverfull image config events address
 overfull_bars image config events address reached w only leads ew eo full = record {
   reached = reached;
   leads = leads;
-  large = inr (subst (λ (o : Option ℕ). 400 < length (lines_of o reached.trace.log)) (eo ∙ ap (λ (k : ℕ). only_of k address) ew) full);
+  large = inr (subst (λ (o : Option ℕ). 400 < length (lines_of o reached.trace.log)) (eo ∙ ap (λ (v : LineSize). only_of v address) ew) full);
 }

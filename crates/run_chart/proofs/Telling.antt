@@ -1,5 +1,5 @@
 -- Which row an event has.
-use Rattle.std.proofs.Common.{ℕ, ◌≡◌, ◌∙◌, ◌+◌, ◌-◌, ◌≤◌, refl, sym, ap, List, [], ◌∷◌, ◌++◌, append_assoc, length, Ok, Option, inl, inr, arith, get_or, take, drop, subst, true, false, Bool, Err}
+use Rattle.std.proofs.Common.{ℕ, ◌≡◌, ◌∙◌, ◌+◌, ◌-◌, ◌≤◌, refl, sym, ap, List, [], ◌∷◌, ◌++◌, append_assoc, length, Ok, Option, inl, inr, arith, get_or, take, drop, true, false, Bool, Err}
 use Rattle.std.proofs.lemmas.List.{append-nil, length-drop, map-append, take_all}
 use Rattle.std.specs.Prelude.{OnOk, map}
 use Rattle.std.specs.declared.result.Result.{Result}
@@ -17,8 +17,9 @@ use Rattle.run_chart.specs.declared.before.Before.{Before}
 use Rattle.run_chart.specs.declared.gathering.Gathered.{Gathered}
 use Rattle.run_chart.specs.Rows.{Told, before, is_shown, line_behind, report_since, row, row_between, rows_at, rows_by, rows_of, shown, told}
 use Rattle.run_chart.specs.Stories.{IsRowTold}
+use Rattle.tl_types.specs.declared.line.LineSize.{LineSize}
 
-stays : (v : Verdict) (w : ℕ) (only : Option ℕ) (columns : List ℕ) (line index : ℕ) (s new : State) (e : Event) (o : Outcome) → Answers v s (Ok o) new
+stays : (v : Verdict) (w : LineSize) (only : Option ℕ) (columns : List ℕ) (line index : ℕ) (s new : State) (e : Event) (o : Outcome) → Answers v s (Ok o) new
     → ((p : Outcome) (moved : State) → v ≡ Moves p moved → moved.views.changes ≡ s.views.changes + 1) → new.views.changes ≡ s.views.changes
     → rows_by v w only columns line index s e ≡ []
 stays IsBad w only columns line index s new e o a counted same = refl
@@ -30,7 +31,7 @@ stays (Moves p moved) w only columns line index s new e o a counted same = elim 
 ]
 
 -- an event behind which as many events have changed the machine has no row
-pub none_told : ChangesAreCounted → (w : ℕ) (only : Option ℕ) (columns : List ℕ) (line index : ℕ) (s new : State) (e : Event) (o : Outcome) → Answers (verdict s e) s (Ok o) new → new.views.changes ≡ s.views.changes
+pub none_told : ChangesAreCounted → (w : LineSize) (only : Option ℕ) (columns : List ℕ) (line index : ℕ) (s new : State) (e : Event) (o : Outcome) → Answers (verdict s e) s (Ok o) new → new.views.changes ≡ s.views.changes
     → rows_at w only columns line index s e ≡ []
 none_told counted w only columns line index s new e o a same = stays (verdict s e) w only columns line index s new e o a (counted s e) same
 
@@ -52,7 +53,7 @@ row_told only columns line index s new e o b r t eb er et =
     ∙ ap (λ (x : Before). row only columns x new line (report_behind x.lengths new index e o)) eb
 
 -- an event that changed the machine has this row, where it is shown
-pub one_told : (w : ℕ) (only : Option ℕ) (columns : List ℕ) (line index : ℕ) (s new : State) (e : Event) (o : Outcome) (b : Before) (r : Report) (t : Told) → Answers (verdict s e) s (Ok o) new → (new.views.changes ≡ s.views.changes → ⊥)
+pub one_told : (w : LineSize) (only : Option ℕ) (columns : List ℕ) (line index : ℕ) (s new : State) (e : Event) (o : Outcome) (b : Before) (r : Report) (t : Told) → Answers (verdict s e) s (Ok o) new → (new.views.changes ≡ s.views.changes → ⊥)
     → b ≡ before s e → r ≡ report_behind b.lengths new index e o → t ≡ row only columns b new line r
     → rows_at w only columns line index s e ≡ shown (is_shown w only b.address r.log) t
 one_told w only columns line index s new e o b r t a h eb er et =
@@ -71,7 +72,7 @@ rest_place {A = A} xs index count some p =
     omega (arith, some, p, same, length-drop 1 xs)
 
 -- the events that are left complete the rows
-pub rows_next : (w : ℕ) (only : Option ℕ) (columns : List ℕ) (line index next : ℕ) (s new : State) (events : List Event) (d : Event) (old now total : List Told) → 1 ≤ length events
+pub rows_next : (w : LineSize) (only : Option ℕ) (columns : List ℕ) (line index next : ℕ) (s new : State) (events : List Event) (d : Event) (old now total : List Told) → 1 ≤ length events
     → now ≡ old ++ rows_at w only columns line index s (get_or events 0 d) → next ≡ line_behind line (rows_at w only columns line index s (get_or events 0 d)) → new ≡ happens s (get_or events 0 d)
     → old ++ rows_of w only columns line index s events ≡ total
     → now ++ rows_of w only columns next (index + 1) new (take (length events - 1) (drop 1 events)) ≡ total
@@ -86,7 +87,7 @@ rows_next w only columns line index next s new events d old now total some en el
     ∙ sym (ap (λ (x : List Event). old ++ rows_of w only columns line index s x) (rest_is events d some))
     ∙ h
 
-module _ (w : ℕ) (only : Option ℕ) (columns : List ℕ) (index : ℕ) (s : State) (e : Event) (new : State) where
+module _ (w : LineSize) (only : Option ℕ) (columns : List ℕ) (index : ℕ) (s : State) (e : Event) (new : State) where
   -- an event that has no row
   pub no_row : (g : Gathered) → new ≡ happens s e → rows_at w only columns g.line index s e ≡ [] → IsRowTold w only columns index s e new g g
   no_row g leads none = record {

@@ -19,6 +19,7 @@ use Rattle.run_chart.specs.Accesses.{address_at, lies_in}
 use Rattle.run_chart.specs.Copies.{copied, is_about}
 use Rattle.run_chart.specs.Lines.{end_of, noted, posted}
 use Rattle.run_chart.specs.Notes.{notes}
+use Rattle.tl_types.specs.declared.line.LineSize.{LineSize}
 use Rattle.trace_recorder.specs.declared.logged.Logged.{Logged}
 
 -- a row of a chart, with its lists
@@ -72,9 +73,9 @@ row only columns b s line r = record {
 }
 
 -- an event is shown where all are, or where it is about the line of memory that is asked for: by a message, or by the address that it reads, writes or names
-abbrev pub is_shown : ℕ → Option ℕ → Option ℕ → List Logged → Bool
-is_shown width None address log = true
-is_shown width (Some line) address log = list_any (is_about (Some line)) log || lies_in width line address
+abbrev pub is_shown : LineSize → Option ℕ → Option ℕ → List Logged → Bool
+is_shown size None address log = true
+is_shown size (Some line) address log = list_any (is_about (Some line)) log || lies_in size line address
 
 abbrev pub shown : Bool → Told → List Told
 shown true t = t ∷ []
@@ -88,15 +89,15 @@ abbrev pub row_between : Option ℕ → List ℕ → ℕ → ℕ → State → E
 row_between only columns line index s e o new = row only columns (before s e) new line (report_since index s e o new)
 
 -- an event has a row where it changes the machine and is shown
-abbrev pub rows_by : Verdict → ℕ → Option ℕ → List ℕ → ℕ → ℕ → State → Event → List Told
-rows_by IsBad width only columns line index s e = []
-rows_by (Keeps o) width only columns line index s e = []
-rows_by IsLimited width only columns line index s e = []
-rows_by (Moves o new) width only columns line index s e =
-    shown (is_shown width only (address_at s e) (report_since index s e o new).log) (row_between only columns line index s e o new)
+abbrev pub rows_by : Verdict → LineSize → Option ℕ → List ℕ → ℕ → ℕ → State → Event → List Told
+rows_by IsBad size only columns line index s e = []
+rows_by (Keeps o) size only columns line index s e = []
+rows_by IsLimited size only columns line index s e = []
+rows_by (Moves o new) size only columns line index s e =
+    shown (is_shown size only (address_at s e) (report_since index s e o new).log) (row_between only columns line index s e o new)
 
-abbrev pub rows_at : ℕ → Option ℕ → List ℕ → ℕ → ℕ → State → Event → List Told
-rows_at width only columns line index s e = rows_by (verdict s e) width only columns line index s e
+abbrev pub rows_at : LineSize → Option ℕ → List ℕ → ℕ → ℕ → State → Event → List Told
+rows_at size only columns line index s e = rows_by (verdict s e) size only columns line index s e
 
 -- where the next row begins
 abbrev pub line_behind : ℕ → List Told → ℕ
@@ -104,8 +105,8 @@ line_behind line [] = line
 line_behind line (t ∷ ts) = line_behind t.end ts
 
 -- the rows of events, the first of which has this index, from this line of text on
-abbrev pub rows_of : ℕ → Option ℕ → List ℕ → ℕ → ℕ → State → List Event → List Told
-rows_of width only columns line index s [] = []
-rows_of width only columns line index s (e ∷ events) =
-    rows_at width only columns line index s e
-    ++ rows_of width only columns (line_behind line (rows_at width only columns line index s e)) (index + 1) (happens s e) events
+abbrev pub rows_of : LineSize → Option ℕ → List ℕ → ℕ → ℕ → State → List Event → List Told
+rows_of size only columns line index s [] = []
+rows_of size only columns line index s (e ∷ events) =
+    rows_at size only columns line index s e
+    ++ rows_of size only columns (line_behind line (rows_at size only columns line index s e)) (index + 1) (happens s e) events

@@ -7,18 +7,18 @@ use Rattle.machine_model.specs.Views.{State, opening}
 use Rattle.machine_types.specs.declared.config.Config.{Config}
 use Rattle.machine_types.specs.declared.event.Event.{Event}
 use Rattle.chart_rows.specs.declared.rows.Story.{Story}
-use Rattle.tl_types.specs.Line.{length_of}
+use Rattle.tl_types.specs.Line.{line_of}
+use Rattle.tl_types.specs.declared.line.LineSize.{LineSize}
 use Rattle.run_chart.specs.declared.errors.ChartError.{ChartError}
 use Rattle.run_chart.specs.declared.errors.ChartError.TheVariants.{Replay, TooManyRows, NoMemory, Writing}
 use Rattle.run_chart.specs.declared.gathering.Gathered.{Gathered}
-use Rattle.run_chart.specs.Accesses.{line_around}
 use Rattle.run_chart.specs.Copies.{lines_of}
 use Rattle.run_chart.specs.Rows.{Told, line_behind, rows_at, rows_of, told}
 
 -- an event of this index is told: by its row, if it has one
-pub record IsRowTold (width : ℕ) (only : Option ℕ) (columns : List ℕ) (index : ℕ) (s : State) (e : Event) (new : State) (before after : Gathered) : Type 0 where
-  pub rows_are : map told after.rows.items ≡ map told before.rows.items ++ rows_at width only columns before.line index s e
-  pub line_is : after.line ≡ line_behind before.line (rows_at width only columns before.line index s e)
+pub record IsRowTold (size : LineSize) (only : Option ℕ) (columns : List ℕ) (index : ℕ) (s : State) (e : Event) (new : State) (before after : Gathered) : Type 0 where
+  pub rows_are : map told after.rows.items ≡ map told before.rows.items ++ rows_at size only columns before.line index s e
+  pub line_is : after.line ≡ line_behind before.line (rows_at size only columns before.line index s e)
   pub leads : new ≡ happens s e
 
 -- more rows, behind so many that end on this line of text, are more than 400 with them, or their text is of more than 65,535 lines
@@ -26,22 +26,18 @@ abbrev pub AreTooMany : ℕ → ℕ → List Told → Type 0
 AreTooMany count line more = (400 < count + length more) ⊎ (65535 < line_behind line more)
 
 -- the line of memory around an address
-abbrev pub only_of : ℕ → Option ℕ → Option ℕ
-only_of width None = None
-only_of width (Some address) = Some (line_around width address)
-
--- how many bytes a line of memory has
-abbrev pub width_of : State → ℕ
-width_of s = length_of s.trace.line
+abbrev pub only_of : LineSize → Option ℕ → Option ℕ
+only_of size None = None
+only_of size (Some address) = Some (line_of size address)
 
 -- the rows of a run that ended in a state
 abbrev pub rows_to : Initial → Config → List Event → Option ℕ → State → List Told
 rows_to image config events address reached =
-    rows_of (width_of reached) (only_of (width_of reached) address) (lines_of (only_of (width_of reached) address) reached.trace.log) 0 0 (opening image config) events
+    rows_of reached.trace.line (only_of reached.trace.line address) (lines_of (only_of reached.trace.line address) reached.trace.log) 0 0 (opening image config) events
 
 -- its bars: the lines of memory that messages are about
 abbrev pub bars_in : Option ℕ → State → List ℕ
-bars_in address reached = lines_of (only_of (width_of reached) address) reached.trace.log
+bars_in address reached = lines_of (only_of reached.trace.line address) reached.trace.log
 
 -- a picture has at most 400 rows, in at most 65,535 lines of text, and at most 400 bars
 abbrev pub IsTooLarge : Initial → Config → List Event → Option ℕ → State → Type 0

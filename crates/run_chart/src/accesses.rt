@@ -5,6 +5,7 @@ ghost use Rattle.run_chart.specs.Accesses as accesses;
 use coherent_machine::Machine;
 use event_stream::next_address;
 use machine_types::Event;
+use tl_types::LineSize;
 
 /// The address that a step of a hart reads or writes, where there is such a hart.
 fn accessed_at(machine: &Machine, hart: usize) -> Option<u32>
@@ -29,21 +30,12 @@ pub(crate) fn address_at(machine: &Machine, event: Event) -> Option<u32>
     }
 }
 
-/// The line of memory around an address.
-pub(crate) fn line_around(width: u32, address: u32) -> u32
-    requires { accesses.IsLineWidth width }
-    ensures { result ≡ accesses.line_around width address }
-{
-    address - address % width
-}
-
 /// Whether an address lies in this line of memory.
-pub(crate) fn lies_in(width: u32, line: u32, address: Option<u32>) -> bool
-    requires { accesses.IsLineWidth width }
-    ensures { result ≡ accesses.lies_in width line address }
+pub(crate) fn lies_in(size: LineSize, line: u32, address: Option<u32>) -> bool
+    ensures { result ≡ accesses.lies_in size line address }
 {
     match address {
-        Some(address) => line_around(width, address) == line,
+        Some(address) => size.line_of(address) == line,
         None => false,
     }
 }

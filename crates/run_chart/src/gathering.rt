@@ -2,12 +2,10 @@
 ghost use Rattle.std.specs.Prelude.{◌≡◌, ◌<◌, ◌≤◌, ◌++◌, ◌∷◌, [], Err, IfErr, IfOk, OnOk, length, map};
 ghost use Rattle.machine_model.specs.Events.{happens};
 ghost use Rattle.machine_model.specs.Views.{opening};
-ghost use Rattle.run_chart.specs.Accesses.{line_around};
 ghost use Rattle.run_chart.specs.Rows as rows;
 ghost use Rattle.run_chart.specs.Stories.{AreTooMany, IsStory, IsRowTold, IsUntold, only_of};
 ghost use Rattle.run_chart.specs.declared.errors.RowError.TheVariants as error;
 
-use crate::accesses::line_around;
 use crate::before::stood_before;
 use crate::copies::lines_of;
 use crate::errors::{ChartError, RowError};
@@ -19,6 +17,7 @@ use event_stream::Report;
 use machine_model::changes_are_counted;
 use machine_types::{Config, Event};
 use std::alloc::{AllocError, Global};
+use tl_types::LineSize;
 
 /// The rows so far, and the line of text on which the next one begins.
 #[derive(Drop)]
@@ -62,13 +61,12 @@ fn tell(
     index: usize,
     event: Event,
 ) -> Result<(), RowError>
-    requires width { 0 < scope.now.width }
     requires few { length gathered.old.rows.items ≤ 400 }
     requires low { gathered.old.line ≤ 65535 }
-    ensures told { OnOk result (IsRowTold scope.now.width scope.now.only scope.now.columns.now index machine.old event machine.new gathered.old gathered.new) }
+    ensures told { OnOk result (IsRowTold scope.now.size scope.now.only scope.now.columns.now index machine.old event machine.new gathered.old gathered.new) }
     ensures count { OnOk result (length gathered.new.rows.items ≤ 400) }
     ensures low { OnOk result (gathered.new.line ≤ 65535) }
-    ensures full { IfErr result (λ why. why ≡ error.TooManyRows → AreTooMany (length gathered.old.rows.items) gathered.old.line (rows.rows_at scope.now.width scope.now.only scope.now.columns.now gathered.old.line index machine.old event)) }
+    ensures full { IfErr result (λ why. why ≡ error.TooManyRows → AreTooMany (length gathered.old.rows.items) gathered.old.line (rows.rows_at scope.now.size scope.now.only scope.now.columns.now gathered.old.line index machine.old event)) }
 {
     changes_are_counted();
     let before = stood_before(machine, event);
@@ -95,10 +93,9 @@ fn rows_of(
     config: Config,
     events: &[Event],
 ) -> Result<Vec<Row>, RowError>
-    requires { 0 < scope.now.width }
-    ensures rows { IfOk result (λ list. map rows.told list.items ≡ rows.rows_of scope.now.width scope.now.only scope.now.columns.now 0 0 (opening image config) events.now) }
+    ensures rows { IfOk result (λ list. map rows.told list.items ≡ rows.rows_of scope.now.size scope.now.only scope.now.columns.now 0 0 (opening image config) events.now) }
     ensures fits { IfOk result (λ list. AreTooMany 0 0 (map rows.told list.items) → ⊥) }
-    ensures full { IfErr result (λ why. why ≡ error.TooManyRows → AreTooMany 0 0 (rows.rows_of scope.now.width scope.now.only scope.now.columns.now 0 0 (opening image config) events.now)) }
+    ensures full { IfErr result (λ why. why ≡ error.TooManyRows → AreTooMany 0 0 (rows.rows_of scope.now.size scope.now.only scope.now.columns.now 0 0 (opening image config) events.now)) }
 {
     let mut machine = match Machine::new(alloc, image, config) {
         Ok(machine) => machine,
@@ -120,12 +117,11 @@ fn rows_of(
 }
 
 /// The line of memory that is asked for, by an address in it.
-fn only_of(width: u32, address: Option<u32>) -> Option<u32>
-    requires { 0 < width }
-    ensures { result ≡ only_of width address }
+fn only_of(size: LineSize, address: Option<u32>) -> Option<u32>
+    ensures { result ≡ only_of size address }
 {
     match address {
-        Some(address) => Some(line_around(width, address)),
+        Some(address) => Some(size.line_of(address)),
         None => None,
     }
 }
@@ -143,13 +139,13 @@ pub fn gather(
     ensures untold { IfErr result (IsUntold image config events.now address) }
 {
     let machine = replay(alloc, image, config, events)?;
-    let width = machine.trace().line_size().bytes();
-    let only = only_of(width, address);
+    let size = machine.trace().line_size();
+    let only = only_of(size, address);
     let columns = lines_of(alloc, only, machine.trace().log())?;
     let harts = machine.trace().harts() as u8;
     let image = machine.trace().image().try_copy(alloc)?;
     let scope = Scope {
-        width,
+        size,
         only,
         columns: columns.as_slice(),
     };

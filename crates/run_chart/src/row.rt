@@ -16,6 +16,7 @@ use chart_rows::Row;
 use coherent_machine::Machine;
 use event_stream::{Report, hart_of};
 use std::alloc::Global;
+use tl_types::LineSize;
 use trace_recorder::Logged;
 
 /// A picture has no more rows, and no more bars of a cache.
@@ -28,8 +29,8 @@ pub const MOST_LINES: u16 = 65_535;
 /// they aren't all.
 #[derive(Clone, Copy)]
 pub(crate) struct Scope<'a> {
-    /// How many bytes a line of memory has.
-    pub width: u32,
+    /// How large a line of memory is.
+    pub size: LineSize,
     pub only: Option<u32>,
     pub columns: &'a [u32],
 }
@@ -43,11 +44,10 @@ fn any_about(line: u32, log: &[Logged]) -> bool
 
 /// Whether an event with these messages, about this address, is drawn.
 pub(crate) fn is_shown(scope: &Scope<'_>, address: Option<u32>, log: &[Logged]) -> bool
-    requires { 0 < scope.now.width }
-    ensures { result ≡ rows.is_shown scope.now.width scope.now.only address log.now }
+    ensures { result ≡ rows.is_shown scope.now.size scope.now.only address log.now }
 {
     match scope.only {
-        Some(line) => any_about(line, log) || lies_in(scope.width, line, address),
+        Some(line) => any_about(line, log) || lies_in(scope.size, line, address),
         None => true,
     }
 }

@@ -96,6 +96,7 @@ impl Access {
         entry
     }
 
+    /// Whether an operation of it has an acquire annotation under the model.
     pub(crate) fn acquires(&self, model: MemoryModel) -> bool {
         match model {
             MemoryModel::Rvwmo => self.bits.acquire,
@@ -103,6 +104,7 @@ impl Access {
         }
     }
 
+    /// Whether an operation of it has a release annotation under the model.
     pub(crate) fn releases(&self, model: MemoryModel) -> bool {
         match model {
             MemoryModel::Rvwmo => self.bits.release,
@@ -110,7 +112,7 @@ impl Access {
         }
     }
 
-    /// Whether its annotations are RCsc.
+    /// Whether the annotations of an operation of it are RCsc under the model.
     pub(crate) fn is_rcsc(&self, model: MemoryModel) -> bool {
         let is_marked = self.bits.acquire || self.bits.release;
         match model {

@@ -11,7 +11,7 @@ use Rattle.machine_model.specs.declared.act.Deed.{Deed}
 use Rattle.machine_model.specs.declared.act.Deed.TheVariants as deed
 use Rattle.machine_model.specs.Deliveries.{is_trunk}
 use Rattle.machine_model.specs.Steps.{Fetched}
-use Rattle.machine_model.specs.Views.{Node, line_of}
+use Rattle.machine_model.specs.Views.{Node}
 use Rattle.machine_model.specs.Words.{word_of}
 use Rattle.machine_model.proofs.atomicity.Kept.{is_pairing, some_is, none_not}
 use Rattle.machine_model.proofs.atomicity.Nodes.{reserved_by}
@@ -30,6 +30,7 @@ use Rattle.reservations.specs.Reservation.{is_valid}
 use Rattle.rv32_decode.specs.declared.instruction.Annotations.{Annotations}
 use Rattle.rv32_exec.specs.Meaning.{Access, Private, Loads, Stores, DoesLr, DoesSc, DoesAmo, Fences, Calls}
 use Rattle.store_buffer.specs.Groups.{Groups, has}
+use Rattle.tl_types.specs.Line.{line_of}
 use Rattle.trace_recorder.specs.declared.operation.OpId.{OpId}
 use Rattle.tl_types.specs.declared.line.LineData.{LineData}
 

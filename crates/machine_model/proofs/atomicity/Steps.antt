@@ -20,7 +20,7 @@ use Rattle.machine_model.specs.Changing.{acted, does, drained, next_place, retir
 use Rattle.machine_model.specs.Coherent.{perm_at}
 use Rattle.machine_model.specs.Deliveries.{is_trunk}
 use Rattle.machine_model.specs.Steps.{Fetched}
-use Rattle.machine_model.specs.Views.{Node, State, line_of, line_size, node_at, with_node}
+use Rattle.machine_model.specs.Views.{Node, State, line_size, node_at, with_node}
 use Rattle.machine_model.specs.Words.{word_of}
 use Rattle.machine_model.proofs.atomicity.Acts.{Before, IsOutside, SparesWord, foreign_atomic, none_atomic, none_of_word, once_atomic, outside_atomic}
 use Rattle.machine_model.proofs.atomicity.Deeds.{Ends, IsNewest, Plain, Takes, Writable, deed_is, deed_writes, out_is, store_word, trunk_writable}
@@ -54,6 +54,7 @@ use Rattle.rv32_decode.specs.Rows.{decoded}
 use Rattle.rv32_decode.specs.declared.instruction.Instr.{Instr}
 use Rattle.rv32_exec.specs.Meaning.{Access, Private, Loads, Stores, DoesLr, DoesSc, DoesAmo, Fences, Calls, access_of}
 use Rattle.store_buffer.specs.Groups.{Groups}
+use Rattle.tl_types.specs.Line.{line_of}
 use Rattle.tl_types.specs.declared.permission.Perm.{Perm}
 use Rattle.tl_types.specs.declared.permission.Perm.TheVariants as perm
 use Rattle.trace_recorder.specs.History.{History, entries_of}

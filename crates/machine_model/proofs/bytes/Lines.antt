@@ -10,13 +10,13 @@ use Rattle.backing_memory.specs.Places.{bytes-line_data, size-line_data}
 use Rattle.client_cache.specs.Word.{with_marked, with_word}
 use Rattle.elf_loader.specs.Image.{Initial, byte_at}
 use Rattle.machine_model.specs.Events.{is_piece}
-use Rattle.machine_model.specs.Views.{line_of, place_of}
+use Rattle.machine_model.specs.Views.{place_of}
 use Rattle.machine_model.specs.Words.{word_of}
 use Rattle.machine_model.proofs.coherence.LineKept.{not_eq, split}
 use Rattle.machine_model.proofs.coherence.LinePlaces.{IsPiece, piece, place_inside}
 use Rattle.machine_model.proofs.coherence.WorldSteps.{wrote_word}
 use Rattle.store_buffer.specs.ByteMask.{is_marked}
-use Rattle.tl_types.specs.Line.{bytes_of, length_of, size_of}
+use Rattle.tl_types.specs.Line.{bytes_of, length_of, line_of, size_of}
 use Rattle.tl_types.specs.declared.line.LineData.{LineData}
 use Rattle.tl_types.specs.declared.line.LineData.TheVariants as data_of
 use Rattle.tl_types.specs.declared.line.LineSize.{LineSize}

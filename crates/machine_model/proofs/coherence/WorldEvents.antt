@@ -12,7 +12,7 @@ use Rattle.elf_loader.specs.Size.{base}
 use Rattle.machine_model.specs.Changing.{acted}
 use Rattle.machine_model.specs.Deliveries.{is_trunk, taken}
 use Rattle.machine_model.specs.Events.{after_events, happens, hart_of, is_piece, names_well, counted}
-use Rattle.machine_model.specs.Views.{Node, State, line_of, line_size, node_at, place_of}
+use Rattle.machine_model.specs.Views.{Node, State, line_size, node_at, place_of}
 use Rattle.machine_model.specs.declared.act.Act.{Act}
 use Rattle.machine_model.specs.declared.act.Act.TheVariants as act
 use Rattle.machine_model.specs.declared.act.Deed.{Deed}
@@ -37,7 +37,7 @@ use Rattle.rv32_decode.specs.declared.instruction.SystemOp.TheVariants.{Ecall, E
 use Rattle.rv32_exec.specs.Arithmetic.{bytes_loaded}
 use Rattle.rv32_exec.specs.Meaning.{Access, DoesLr, DoesSc, DoesAmo, access_of, access_stop, stop_of}
 use Rattle.tilelink_channels.specs.Queues.{front_of, popped, queue_of}
-use Rattle.tl_types.specs.Line.{length_of}
+use Rattle.tl_types.specs.Line.{length_of, line_of}
 use Rattle.tl_types.specs.Message.{channel_of_body}
 use Rattle.tl_types.specs.declared.line.LineData.{LineData}
 use Rattle.tl_types.specs.declared.line.LineSize.{LineSize}

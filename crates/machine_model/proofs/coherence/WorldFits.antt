@@ -10,11 +10,12 @@ use Rattle.client_cache.specs.AtLine.{AtLine, KeepsOthers}
 use Rattle.client_cache.specs.Cache.{Cache, copy_at}
 use Rattle.client_cache.specs.Held.{perm_of}
 use Rattle.machine_model.specs.Deliveries.{is_trunk, kept_reservation, taken}
-use Rattle.machine_model.specs.Views.{Node, State, line_of, line_size, node_at, no_node, opening_node, sent, with_node, with_trace}
+use Rattle.machine_model.specs.Views.{Node, State, line_size, node_at, no_node, opening_node, sent, with_node, with_trace}
 use Rattle.machine_model.proofs.coherence.WorldKept.{Kit, KitChanged, IsWell}
 use Rattle.machine_types.specs.declared.config.Config.{Config}
 use Rattle.reservations.specs.Reservation.{lies_in, without_line}
 use Rattle.tilelink_channels.specs.Queues.{popped, pushed}
+use Rattle.tl_types.specs.Line.{line_of}
 use Rattle.tl_types.specs.Message.{channel_of}
 use Rattle.tl_types.specs.declared.line.LineData.{LineData}
 use Rattle.tl_types.specs.declared.line.LineSize.{LineSize}

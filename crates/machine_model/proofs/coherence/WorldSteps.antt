@@ -19,7 +19,7 @@ use Rattle.hart.specs.declared.status.Status.{Status}
 use Rattle.hart.specs.declared.status.Status.TheVariants.{Running, Stopped, Exited}
 use Rattle.machine_model.specs.Changing.{does, drained, performs, performs_own, next_place, put_behind, retired, stopped, went_alone, with_buffer, with_entries, with_halt, with_reservation, writes_word}
 use Rattle.machine_model.specs.Deliveries.{is_trunk}
-use Rattle.machine_model.specs.Views.{Node, State, Views, line_of, line_size, node_at, with_node, with_trace}
+use Rattle.machine_model.specs.Views.{Node, State, Views, line_size, node_at, with_node, with_trace}
 use Rattle.machine_model.specs.Words.{bytes_of_word}
 use Rattle.machine_model.specs.declared.act.Act.{Act}
 use Rattle.machine_model.specs.declared.act.Act.TheVariants as act
@@ -36,6 +36,7 @@ use Rattle.store_buffer.specs.ByteMask.{marks_of_access}
 use Rattle.store_buffer.specs.Entry.{entry_of}
 use Rattle.store_buffer.specs.Groups.{Groups, after_seal, after_take, oldest}
 use Rattle.store_buffer.specs.declared.entry.Entry.{Entry}
+use Rattle.tl_types.specs.Line.{line_of}
 use Rattle.tl_types.specs.declared.line.LineData.{LineData}
 use Rattle.tl_types.specs.declared.line.LineSize.{LineSize}
 use Rattle.trace_recorder.specs.History.{History, with_entry, with_performed}

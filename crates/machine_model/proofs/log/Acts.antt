@@ -15,10 +15,11 @@ use Rattle.hart.specs.declared.status.Status.TheVariants.{Running, Stopped, Exit
 use Rattle.machine_model.specs.Changing.{acted, does, given_up, release_body, with_entries, with_halt, writes_word}
 use Rattle.machine_model.specs.Deliveries.{delivered, grant_body, handled, line_in_memory, on_acquire, on_grant, on_probe_ack, on_release, probe_ack_body, sent_grant, sent_if_granted, sent_if_handled, with_less, with_memory, with_notes}
 use Rattle.machine_model.specs.LawfulLog.{is_grant, is_grant_ack, is_probe_ack, is_release, is_release_ack}
-use Rattle.machine_model.specs.Views.{Node, State, line_of, line_size, no_node, node_at, place_of, sent, with_node, with_trace}
+use Rattle.machine_model.specs.Views.{Node, State, line_size, no_node, node_at, place_of, sent, with_node, with_trace}
 use Rattle.machine_model.specs.declared.act.Act.{Act}
 use Rattle.machine_model.specs.declared.act.Act.TheVariants as act
 use Rattle.machine_model.proofs.log.Queues.{Quiet, quiet_node, quiet_trace}
+use Rattle.tl_types.specs.Line.{line_of}
 use Rattle.tl_types.specs.declared.line.LineData.{LineData}
 use Rattle.tl_types.specs.declared.message.Body.{Body}
 use Rattle.tl_types.specs.declared.message.Body.TheVariants.{AcquireBlock, ProbeBlock, ProbeAck, ProbeAckData, Release, ReleaseData, Grant, GrantData, ReleaseAck, GrantAck}

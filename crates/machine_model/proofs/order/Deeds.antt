@@ -10,7 +10,7 @@ use Rattle.hart.specs.declared.retired.Retired.{Retired}
 use Rattle.machine_model.specs.declared.act.Deed.{Deed}
 use Rattle.machine_model.specs.declared.act.Deed.TheVariants as deed
 use Rattle.machine_model.specs.Steps.{Fetched, waits_for_stores, write_waits}
-use Rattle.machine_model.specs.Views.{Node, line_of}
+use Rattle.machine_model.specs.Views.{Node}
 use Rattle.machine_model.specs.Words.{word_of, word_in, read_from, store_of}
 use Rattle.machine_types.specs.declared.model.MemoryModel.{MemoryModel}
 use Rattle.memory_model.specs.declared.operation.Kind.{Kind}
@@ -31,6 +31,7 @@ use Rattle.rv32_exec.specs.Meaning.{Access, Private, Loads, Stores, DoesLr, Does
 use Rattle.rv32_exec.specs.Uses.{uses_of}
 use Rattle.store_buffer.specs.ByteMask.{covers, laid_over, marks_of_access}
 use Rattle.store_buffer.specs.Groups.{forwarded, is_empty}
+use Rattle.tl_types.specs.Line.{line_of}
 use Rattle.tl_types.specs.declared.line.LineData.{LineData}
 
 -- ---- what a deed has found

@@ -5,12 +5,12 @@ use Rattle.client_cache.specs.Cache.{copy_at}
 use Rattle.client_cache.specs.Held.{bytes_in}
 use Rattle.client_cache.specs.declared.held.Held.{Held}
 use Rattle.machine_model.specs.Coherent.{IsCoherent}
-use Rattle.machine_model.specs.Views.{State, line_of, line_size, node_at}
+use Rattle.machine_model.specs.Views.{State, line_size, node_at}
 use Rattle.machine_model.specs.Words.{word_of}
 use Rattle.machine_model.proofs.order.Bytes.{place_at}
 use Rattle.machine_model.proofs.order.Returns.{AllHold}
 use Rattle.memory_model.specs.Traces.{last_performed}
-use Rattle.tl_types.specs.Line.{bytes_of, length_of, size_of}
+use Rattle.tl_types.specs.Line.{bytes_of, length_of, line_of, size_of}
 use Rattle.tl_types.specs.declared.line.LineSize.{LineSize}
 use Rattle.tl_types.specs.declared.line.LineSize.TheVariants.{Bytes16, Bytes64}
 

@@ -12,7 +12,7 @@ use Rattle.hart.specs.Run.{number_of as answered_number, number_read}
 use Rattle.machine_model.specs.declared.act.Deed.{Deed}
 use Rattle.machine_model.specs.declared.act.Deed.TheVariants as deed
 use Rattle.machine_model.specs.Steps.{Fetched, waits_for_stores, write_waits}
-use Rattle.machine_model.specs.Views.{Node, line_of}
+use Rattle.machine_model.specs.Views.{Node}
 use Rattle.machine_model.specs.Words.{word_of, word_in, read_from}
 use Rattle.machine_model.proofs.order.Bytes.{byte_of, read_byte, place_at, mark_at, last_is, from_buffer, from_both, buffer_small, both_small, covered_at}
 use Rattle.machine_model.proofs.order.Deeds.{FitsDeed, Facts, ReadsBoth, ReadsTrunk}
@@ -36,6 +36,7 @@ use Rattle.store_buffer.specs.ByteMask.{each_place, is_marked, laid_over}
 use Rattle.store_buffer.specs.Groups.{buffered_byte, groups_of, has, has_sealed, is_empty}
 use Rattle.store_buffer.specs.Stores.{last_byte}
 use Rattle.store_buffer.proofs.StoreLaws.{forward_is_last}
+use Rattle.tl_types.specs.Line.{line_of}
 
 -- each copy's words are those of what was performed
 abbrev pub HoldsLast : (ℕ → ℕ) → Node → Type 0

@@ -16,7 +16,7 @@ use Rattle.machine_model.specs.Changing.{acted}
 use Rattle.machine_model.specs.Events.{after_events, counted, entries_by, happens, hart_of, is_piece}
 use Rattle.machine_model.specs.Laws.{KeepsImageAndConfig}
 use Rattle.machine_model.specs.Ready.{IsReadyAct, IsReadyBody, shape_of}
-use Rattle.machine_model.specs.Views.{Node, State, line_of, line_size, no_node, node_at, opening, opening_node, place_of}
+use Rattle.machine_model.specs.Views.{Node, State, line_size, no_node, node_at, opening, opening_node, place_of}
 use Rattle.machine_model.specs.declared.act.Act.{Act}
 use Rattle.machine_model.specs.declared.act.Act.TheVariants as act
 use Rattle.machine_model.specs.declared.act.Deed.{Deed}
@@ -40,7 +40,7 @@ use Rattle.machine_model.proofs.coherence.WorldOpening.{opening_is_fit, opening_
 use Rattle.machine_model.proofs.coherence.WorldSteps.{last_after, last_by, wrote_word}
 use Rattle.store_buffer.specs.Entry.{entry_of}
 use Rattle.store_buffer.specs.Groups.{oldest}
-use Rattle.tl_types.specs.Line.{length_of, size_of}
+use Rattle.tl_types.specs.Line.{length_of, line_of, size_of}
 use Rattle.tl_types.specs.declared.line.LineData.{LineData}
 use Rattle.tl_types.specs.declared.line.LineData.TheVariants as data_of
 use Rattle.tl_types.specs.declared.line.LineSize.{LineSize}

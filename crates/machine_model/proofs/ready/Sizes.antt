@@ -8,10 +8,10 @@ use Rattle.directory.specs.Directory.{Notes, acquired, grant_acked, probe_acked,
 use Rattle.machine_model.specs.Changing.{acted, does, given_up, missed}
 use Rattle.machine_model.specs.Deliveries.{delivered, handled, on_acquire, on_grant, on_probe, on_probe_ack, on_release, taken, with_less, with_memory, with_notes}
 use Rattle.hart.specs.Run.{after_instr}
-use Rattle.machine_model.specs.Views.{Node, State, Views, line_of, line_size, no_node, node_at, place_of, sent, with_node}
+use Rattle.machine_model.specs.Views.{Node, State, Views, line_size, no_node, node_at, place_of, sent, with_node}
 use Rattle.machine_model.specs.declared.act.Act.{Act}
 use Rattle.machine_model.specs.declared.act.Act.TheVariants as act
-use Rattle.tl_types.specs.Line.{size_of}
+use Rattle.tl_types.specs.Line.{line_of, size_of}
 use Rattle.tl_types.specs.declared.line.LineData.{LineData}
 use Rattle.tl_types.specs.declared.line.LineData.TheVariants as data_of
 use Rattle.tl_types.specs.declared.line.LineSize.{LineSize}

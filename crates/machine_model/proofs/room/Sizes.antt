@@ -21,13 +21,14 @@ use Rattle.hart.specs.declared.status.Status.TheVariants.{Stopped}
 use Rattle.machine_model.specs.Changing.{acted, does, given_up, missed, release_body}
 use Rattle.machine_model.specs.Deliveries.{delivered, grant_body, handled, line_in_memory, on_grant, on_probe, on_probe_ack, on_release, on_release_ack, probe_ack_body, sent_grant, taken, with_less, with_memory, with_notes}
 use Rattle.machine_model.specs.LawfulLog.{is_grant}
-use Rattle.machine_model.specs.Views.{Node, State, line_of, line_size, node_at, opening_node, place_of, sent, with_node}
+use Rattle.machine_model.specs.Views.{Node, State, line_size, node_at, opening_node, place_of, sent, with_node}
 use Rattle.machine_model.specs.declared.act.Act.{Act}
 use Rattle.machine_model.specs.declared.act.Act.TheVariants as act
 use Rattle.machine_types.specs.declared.config.Config.{Config}
 use Rattle.machine_model.proofs.Nodes.{node_same}
 use Rattle.machine_model.proofs.coherence.WorldFits.{framed_taken}
 use Rattle.tilelink_channels.specs.Queues.{Waiting, behind, popped, pushed, queue_of, with_queue}
+use Rattle.tl_types.specs.Line.{line_of}
 use Rattle.tl_types.specs.Message.{channel_of, channel_of_body}
 use Rattle.tl_types.specs.declared.line.LineData.{LineData}
 use Rattle.tl_types.specs.declared.message.Body.{Body}

@@ -189,7 +189,7 @@ local_moves s h count o new v = go m.act m.move m.outcome_is m.new_is
         let same : n ≡ count = cc k.rests.0 in
         record {
           there = k.in_h;
-          few = leb-true count MAX_ROW (and_parts (nat_le 1 count) (nat_le count 256) k.named).1;
+          few = leb-true count MAX_ROW (and_parts (nat_le 1 count) (nat_le count MAX_ROW) k.named).1;
           whole = subst (λ m. length (private_row s.trace.image (node_at s h).hart m) ≡ m) same k.rests.2;
           place = subst (λ m. next_place s h + m ≤ MAX_ENTRIES) same (unlimited s h (act.Local n) k.free).few_entries;
           retires = sym is;

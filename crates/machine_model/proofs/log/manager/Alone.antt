@@ -12,7 +12,7 @@ use Rattle.client_cache.specs.declared.held.Held.TheVariants.{Trunk}
 use Rattle.hart.specs.declared.state.Hart.{Hart}
 use Rattle.machine_model.specs.Changing.{acted, does, performs, writes_word}
 use Rattle.machine_model.specs.Deliveries.{is_trunk}
-use Rattle.machine_model.specs.Views.{Node, State, Views, line_of, no_node, node_at, with_node, with_trace}
+use Rattle.machine_model.specs.Views.{Node, State, Views, no_node, node_at, with_node, with_trace}
 use Rattle.machine_model.specs.declared.act.Act.{Act}
 use Rattle.machine_model.specs.declared.act.Act.TheVariants as act
 use Rattle.machine_model.specs.declared.act.Deed.{Deed}
@@ -22,6 +22,7 @@ use Rattle.machine_model.proofs.log.Acts.{IsAlone}
 use Rattle.machine_types.specs.declared.model.MemoryModel.{MemoryModel}
 use Rattle.store_buffer.specs.Entry.{entry_of}
 use Rattle.store_buffer.specs.Groups.{oldest}
+use Rattle.tl_types.specs.Line.{line_of}
 use Rattle.trace_recorder.specs.History.{History, with_performed}
 use Rattle.machine_model.proofs.Parts.{KeptByDeeds, does_by, drained_by}
 

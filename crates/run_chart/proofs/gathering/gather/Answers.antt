@@ -11,13 +11,13 @@ returns-in_err-rows-clause-untold c =
     let image_is : c.in_ok-image.image ≡ c.args.image = search rules in
     given_up _ c.from_residual-in_err-rows.result _ c.from_residual-in_err-rows.ensures.1
     (untold_is c.args.image c.args.config c.args.events.now c.args.address c.in_err-rows.field-0.0
-    (λ why. overfull _ _ _ _ c.in_ok-machine.machine c.bytes-width.result c.only_of-only.result c.as_slice.result.now (search rules) (search rules) (search rules) (search rules) (subst (λ (i : Initial). AreTooMany 0 0 (rows_of c.bytes-width.result c.only_of-only.result c.as_slice.result.now 0 0 (opening i c.args.config) c.args.events.now)) image_is (c.in_err-rows.ensures.full why))))
+    (λ why. overfull _ _ _ _ c.in_ok-machine.machine c.line_size-size.result c.only_of-only.result c.as_slice.result.now (search rules) (search rules) (search rules) (search rules) (subst (λ (i : Initial). AreTooMany 0 0 (rows_of c.line_size-size.result c.only_of-only.result c.as_slice.result.now 0 0 (opening i c.args.config) c.args.events.now)) image_is (c.in_err-rows.ensures.full why))))
 
 pub returns-in_err-columns-clause-untold : goal.returns-in_err-columns-clause-untold
 returns-in_err-columns-clause-untold c =
     given_up _ c.from_residual-in_err-columns.result _ c.from_residual-in_err-columns.ensures.1
     (untold_is c.args.image c.args.config c.args.events.now c.args.address c.in_err-columns.field-0.0
-    (λ why. overfull_bars _ _ _ _ c.in_ok-machine.machine c.bytes-width.result c.only_of-only.result (search rules) (search rules) (search rules) (search rules)))
+    (λ why. overfull_bars _ _ _ _ c.in_ok-machine.machine c.line_size-size.result c.only_of-only.result (search rules) (search rules) (search rules) (search rules)))
 
 pub returns-clause-told : goal.returns-clause-told
 returns-clause-told c = record {
