@@ -7,7 +7,7 @@ ghost use Rattle.check_command.specs.Messages.{IsLogCutOff, IsLogFault, IsLogJud
 ghost use Rattle.command_files.specs.Faults.{LeavesAtFault};
 
 use crate::reading::whole_trace;
-use command_files::{Fault, Files, text_in};
+use command_files::{Escaped, Fault, Files, text_in};
 use lawful_log::{LogVerdict, check_log};
 use log_text::{Objection, end_text, line_of_message, put_verdict};
 use std::alloc::Global;
@@ -70,7 +70,7 @@ fn object<E: Write>(
     let line = line_of_message(bytes, index).unwrap_or(0);
     match Objection::to(trace.log(), rule, index, trace.harts() as u8) {
         Some(objection) => {
-            let name = file.escape_debug();
+            let name = Escaped(file);
             writeln!(err, "rvtl: {name}: line {line}: {objection}")
         }
         None => Ok(()),

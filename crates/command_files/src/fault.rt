@@ -6,6 +6,7 @@ ghost use Rattle.command_files.specs.Status.{IsOutOfMemory, IsStreamFault, statu
 ghost use Rattle.event_stream.specs.Lines.{script_line_of};
 ghost use Rattle.command_files.specs.declared.fault.Fault.TheVariants.{OutOfMemory};
 
+use crate::escaped::Escaped;
 use coherent_machine::{ApplyError, ReplayError};
 use elf_loader::LoadError;
 use event_stream::{StreamError, outcome_name};
@@ -34,59 +35,59 @@ pub enum Unshown {
 /// would end a line or steer a terminal is escaped in a file's name.
 #[derive(Debug, Drop, Error)]
 pub enum Fault<'a> {
-    #[error("rvtl: {}: cannot read", .file.escape_debug())]
+    #[error("rvtl: {}: cannot read", Escaped(*.file))]
     CannotRead {
         file: &'a str,
     },
-    #[error("rvtl: {}: cannot write", .file.escape_debug())]
+    #[error("rvtl: {}: cannot write", Escaped(*.file))]
     CannotMake {
         file: &'a str,
     },
     #[error("rvtl: cannot write")]
     CannotWrite,
-    #[error("rvtl: {}: image fault {} {error}", .file.escape_debug(), .error.number())]
+    #[error("rvtl: {}: image fault {} {error}", Escaped(*.file), .error.number())]
     Image {
         file: &'a str,
         error: LoadError,
     },
-    #[error("rvtl: {}: line {}: text fault {} {}", .file.escape_debug(), .error.line, .error.code.number(), .error.code)]
+    #[error("rvtl: {}: line {}: text fault {} {}", Escaped(*.file), .error.line, .error.code.number(), .error.code)]
     Text {
         file: &'a str,
         error: TextError,
     },
-    #[error("rvtl: {}: line {line}: event fault {} {error}", .file.escape_debug(), .error.number())]
+    #[error("rvtl: {}: line {line}: event fault {} {error}", Escaped(*.file), .error.number())]
     Event {
         file: &'a str,
         line: usize,
         error: ApplyError,
     },
-    #[error("rvtl: {}: line {line}: nothing happens: {}", .file.escape_debug(), outcome_name(*.outcome))]
+    #[error("rvtl: {}: line {line}: nothing happens: {}", Escaped(*.file), outcome_name(*.outcome))]
     NothingHappens {
         file: &'a str,
         line: usize,
         outcome: Outcome,
     },
-    #[error("rvtl: {}: bytes after the trace", .file.escape_debug())]
+    #[error("rvtl: {}: bytes after the trace", Escaped(*.file))]
     BytesAfterTrace {
         file: &'a str,
     },
-    #[error("rvtl: {}: check fault {} {error}", .file.escape_debug(), .error.number())]
+    #[error("rvtl: {}: check fault {} {error}", Escaped(*.file), .error.number())]
     Check {
         file: &'a str,
         error: CheckError,
     },
     /// A picture would have more than 400 rows or bars, or more than 65,535 lines of text.
-    #[error("rvtl: {}: too many rows to draw (400 at most): choose fewer by --line, or by a shorter script", .file.escape_debug())]
+    #[error("rvtl: {}: too many rows to draw (400 at most): choose fewer by --line, or by a shorter script", Escaped(*.file))]
     TooManyRows {
         file: &'a str,
     },
     /// What was given as an address is no number below 2^32, in decimal or behind 0x in hexadecimal.
-    #[error("rvtl: --line {}: no address", .word.escape_debug())]
+    #[error("rvtl: --line {}: no address", Escaped(*.word))]
     BadAddress {
         word: &'a str,
     },
     /// What was given as a word of memory to show can't be shown.
-    #[error("rvtl: --show {}: {cause}", .word.escape_debug())]
+    #[error("rvtl: --show {}: {cause}", Escaped(*.word))]
     CannotShow {
         word: &'a str,
         cause: Unshown,

@@ -3,6 +3,7 @@
 #![tactic(auto)]
 
 mod ends;
+mod escaped;
 mod fault;
 mod files;
 mod input;
@@ -12,6 +13,7 @@ mod remarked;
 mod system;
 
 pub use ends::print_ends;
+pub use escaped::Escaped;
 pub use fault::{Fault, Unshown};
 pub use files::Files;
 pub use input::{Source, WithInput};
