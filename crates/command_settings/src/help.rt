@@ -30,7 +30,7 @@ and the number of harts in a1. An ECALL with 1 in a7 puts a0 out, with 0 it ends
 code is a0 modulo 256. Compressed and floating-point instructions are not supported.
 
 The trace goes to standard output. Of each hart how it ended (run, stop CODE or exit CODE) and what
-it put out go to standard error. Where something is wrong, standard error tells it in one line.
+it put out go to standard error. Where something is wrong with a file, standard error tells it in one line.
 A hart stops at an instruction that it can't carry out:
   0 jump target misaligned    3 EBREAK                 6 store, LR, SC or AMO misaligned
   1 fetch outside memory      4 load misaligned        7 store, LR, SC or AMO outside memory
@@ -124,6 +124,7 @@ it, or the memory model alone allows it; its words are those behind all operatio
   searched: N outcomes, M states, no window over W (not proved complete)
 or incomplete: and the limit that was met. With --sample, random runs are made and counted instead, and
 the last line is sampled: RUNS runs, not complete; --architecture or --show don't go with it.
+--seed says nothing without --sample, --window nothing without --architecture, --states nothing with --sample.
 
 Example: rvtl explore --harts 2 examples/dekker.elf";
 
@@ -156,9 +157,9 @@ the first has to be performed before the second:
   13 the second is a store, behind an access whose address depends on the first
 14 is the load value axiom (both are the load), 15 the atomicity axiom (an LR and its SC).
 
-With --messages the trace may end behind its M lines, and need not come from rvtl. It prints lawful, or
-with status 3 unlawful, a rule and the number of the message, from 0, that breaks it. A message is
-M s CHANNEL HART .. where it is sent, M t CHANNEL HART .. where it is taken, with behind it
+With --messages the trace may end behind its M lines, and need not come from rvtl; --model says nothing then.
+It prints lawful, or with status 3 unlawful, a rule and the number of the message, from 0, that breaks it.
+A message is M s CHANNEL HART .. where it is sent, M t CHANNEL HART .. where it is taken, with behind it
   on A  AcquireBlock LINE NtoB, NtoT or BtoT
   on B  ProbeBlock LINE toT, toB or toN
   on C  ProbeAck LINE, Release LINE and TtoB, TtoN, BtoN, TtoT, BtoB or NtoN; or

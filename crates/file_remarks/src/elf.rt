@@ -26,7 +26,7 @@ const HEADER_SIZE: u32 = 32;
 const MOST_HEADERS: u32 = 16;
 
 /// What is wrong with the bytes of an ELF file, which was refused so.
-#[derive(Clone, Copy, Debug)]
+#[derive(Clone, Copy)]
 pub(crate) struct ElfRemark<'a> {
     pub(crate) bytes: &'a [u8],
     pub(crate) error: LoadError,

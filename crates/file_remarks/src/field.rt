@@ -6,7 +6,7 @@ use std::fmt::{self, Display, Formatter};
 use tl_types::LineSize;
 
 /// A number of a machine's size.
-#[derive(Clone, Copy, Debug)]
+#[derive(Clone, Copy)]
 pub(crate) enum Field {
     Harts,
     Kib,
@@ -55,7 +55,7 @@ impl Field {
 }
 
 /// Which numbers a field takes, in words.
-#[derive(Clone, Copy, Debug)]
+#[derive(Clone, Copy)]
 pub(crate) struct Limits(Field);
 
 impl Display for Limits {

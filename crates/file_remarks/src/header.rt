@@ -6,7 +6,7 @@ use crate::quoted::Quoted;
 use std::fmt::{self, Display, Formatter};
 
 /// What is wrong with the first line of a script that isn't one.
-#[derive(Clone, Copy, Debug)]
+#[derive(Clone, Copy)]
 pub(crate) struct HeaderRemark<'a>(pub(crate) &'a [u8]);
 
 impl Display for HeaderRemark<'_> {
@@ -86,9 +86,9 @@ fn fields<W: fmt::Write>(
     }
 }
 
-// A number without leading zeros, up to 9999.
+// A number without a sign or leading zeros, up to 9999.
 fn number_of(word: &[u8]) -> Option<u32> {
-    if word.len() > 4 || (word.len() > 1 && word.starts_with(b"0")) {
+    if word.len() > 4 || word.starts_with(b"+") || (word.len() > 1 && word.starts_with(b"0")) {
         return None;
     }
     std::str::from_utf8(word).ok()?.parse().ok()

@@ -3,7 +3,7 @@
 use std::fmt::{self, Display, Formatter};
 
 /// What a file looks like by its beginning.
-#[derive(Clone, Copy, Debug, PartialEq, Eq)]
+#[derive(Clone, Copy, PartialEq, Eq)]
 pub(crate) enum Kind {
     Elf,
     Script,

@@ -6,7 +6,7 @@ use std::fmt::{self, Display, Formatter};
 const MOST: usize = 40;
 
 /// Bytes of a file in quotes: no more than 40, what isn't printable ASCII escaped.
-#[derive(Clone, Copy, Debug)]
+#[derive(Clone, Copy)]
 pub(crate) struct Quoted<'a>(pub(crate) &'a [u8]);
 
 impl Display for Quoted<'_> {

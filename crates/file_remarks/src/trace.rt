@@ -23,7 +23,7 @@ impl Display for TraceRemark<'_> {
         }
         if self.error.code == TextCode::End {
             return f.write_str(
-                "the trace is cut short within this line or before it: each hart's H line ends it",
+                "the text ends within this line or before it: a line feed ends each line, and each hart's H line a trace",
             );
         }
         if let Some(blemish) = blemish_of(line) {
@@ -35,7 +35,7 @@ impl Display for TraceRemark<'_> {
             TextCode::Fields => write!(f, "{} is wanted, not {}", form_of(line), Quoted(line)),
             TextCode::Order => write!(
                 f,
-                "{} may not stand here: I, R by hart, P, M and H lines follow each other",
+                "{} may not stand here: I, R by hart (at most 1000000 of each), P, M and H lines follow each other",
                 Quoted(line)
             ),
             _ => write!(

@@ -14,7 +14,7 @@ use std::test::Fail;
 use trace_text::{read_script, read_trace};
 
 /// Scripts that are refused, and what is remarked of each.
-const SCRIPTS: [(&str, &str); 23] = [
+const SCRIPTS: [(&str, &str); 24] = [
     ("", "this is an empty file, and a script is wanted"),
     (
         "rvtl-trace 1\nT 1 4 0x80000000\n",
@@ -25,6 +25,7 @@ const SCRIPTS: [(&str, &str); 23] = [
         "a script begins with `rvtl-script 1 HARTS KIB SETS WAYS`, not with `step 0`",
     ),
     ("rvtl-script 1 9 4 4 2\n", "HARTS is 1 to 8, not `9`"),
+    ("rvtl-script 1 1 4 +4 2\n", "SETS is a power of two to 64, not `+4`"),
     (
         "rvtl-script 1 1 6 4 2\n",
         "KIB is a multiple of 4 from 4 to 1024, not `6`",
@@ -124,7 +125,7 @@ const TRACES: [(&str, &str); 12] = [
     ),
     (
         "rvtl-trace 1\nT 1 4 0x80000000\nH 0 run",
-        "the trace is cut short within this line or before it: each hart's H line ends it",
+        "the text ends within this line or before it: a line feed ends each line, and each hart's H line a trace",
     ),
     (
         "rvtl-trace 1\nT 1 4 0x80000000\nQ 0123456789\n",
@@ -136,7 +137,7 @@ const TRACES: [(&str, &str); 12] = [
     ),
     (
         "rvtl-trace 1\nT 1 4 0x80000000\nT 1 4 0x80000000\n",
-        "`T 1 4 0x80000000` may not stand here: I, R by hart, P, M and H lines follow each other",
+        "`T 1 4 0x80000000` may not stand here: I, R by hart (at most 1000000 of each), P, M and H lines follow each other",
     ),
     (
         "rvtl-trace 3\nT 1 4 0x80000000\n",
