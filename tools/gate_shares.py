@@ -8,8 +8,9 @@ adds up the processor time that each had taken when it was last seen. So a proce
 in the shares (the total is the system's own and has it), and what runs beside the toolchain's own program (the
 linker, the tests) stands under `other`.
 The command's output goes to standard output; the shares follow it, with the most memory that one process of
-each crate held, and the slowest edits: of a crate with several edits the first check is of the crate as it
-stands, for the edits to begin with, and so is the last.
+each crate held, and the slowest edits. Of a crate with several edits the first check proves the whole crate,
+for the others to begin with: by some kits as it stands, by others with the first edit, which is left out then.
+The last check is of the crate as it stands.
 """
 import collections
 import os
@@ -81,6 +82,8 @@ def slowest(seen):
         checks = [*checks.values()]
         folder = f"crates/{crate}/must-fail"
         names = sorted(it for it in os.listdir(folder) if it.endswith(".edit"))
+        if len(checks) == len(names) + 1:
+            names = names[1:]
         if len(checks) == len(names) + 2:
             found += [(seconds, f"{crate}/{name}") for seconds, name in zip(checks[1:-1], names)]
     return sorted(found, reverse=True)
