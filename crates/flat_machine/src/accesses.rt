@@ -20,7 +20,7 @@ use rv32_decode::{AmoOp, Instr};
 use rv32_exec::{Call, Width};
 
 /// An instruction that a hart is about to retire.
-#[derive(Clone, Copy, Debug)]
+#[derive(Clone, Copy)]
 pub(crate) struct Fetched {
     pub(crate) word: u32,
     pub(crate) instr: Instr,

@@ -65,7 +65,7 @@ const ROW_18_OUTCOMES: [Outcome; 6] = [
 ];
 
 /// What a worker does next.
-#[derive(Clone, Copy, Debug)]
+#[derive(Clone, Copy)]
 enum Call {
     Apply(Event),
     /// What a turn picks is applied.

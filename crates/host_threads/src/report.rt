@@ -50,7 +50,7 @@ impl RunError {
 }
 
 /// Why a thread stopped before the run was over.
-#[derive(Clone, Copy, Debug, PartialEq, Eq)]
+#[derive(Clone, Copy, PartialEq, Eq)]
 pub(crate) enum Fault {
     NoMemory,
     BadEvent,

@@ -18,7 +18,7 @@ use rv32_exec::Action;
 use std::marker::Model;
 use tl_types::Channel;
 
-#[derive(Clone, Copy, Debug, PartialEq, Eq)]
+#[derive(Clone, Copy, PartialEq, Eq)]
 enum Place {
     Step,
     Drain,

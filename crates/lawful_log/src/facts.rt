@@ -9,7 +9,7 @@ use crate::tallies::Tallies;
 use tl_types::{Body, Cap, Grow};
 
 /// What a log says that the next message to be sent is judged by.
-#[derive(Clone, Copy, Debug)]
+#[derive(Clone, Copy)]
 pub(crate) struct Facts<'a> {
     /// The messages of its line in the queues of its hart.
     pub(crate) hart: &'a Tallies,

@@ -6,7 +6,7 @@ use tl_types::Body;
 use trace_recorder::{Direction, Logged};
 
 /// How many messages of a kind went into their queues, and how many came out.
-#[derive(Clone, Copy, Debug, PartialEq, Eq)]
+#[derive(Clone, Copy, PartialEq, Eq)]
 pub(crate) struct Tally {
     pub(crate) sent: usize,
     pub(crate) taken: usize,
@@ -27,7 +27,7 @@ impl Tally {
 }
 
 /// Those of all kinds. A message with data is of the same kind as one without.
-#[derive(Clone, Copy, Debug, PartialEq, Eq)]
+#[derive(Clone, Copy, PartialEq, Eq)]
 pub(crate) struct Tallies {
     pub(crate) acquires: Tally,
     pub(crate) probes: Tally,

@@ -33,7 +33,7 @@ impl Display for RunRemark<'_> {
 }
 
 /// Why a hart can't retire an entry.
-#[derive(Clone, Copy, Debug)]
+#[derive(Clone, Copy)]
 enum Cause {
     Ended,
     Elsewhere { reached: u32, told: u32 },

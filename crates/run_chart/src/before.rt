@@ -9,7 +9,7 @@ use machine_types::Event;
 
 /// How long the lists are, the word that the event's hart has reserved, and the address that the event is
 /// about.
-#[derive(Clone, Copy, Debug)]
+#[derive(Clone, Copy)]
 pub(crate) struct Before {
     pub lengths: Lengths,
     pub reserved: Option<u32>,

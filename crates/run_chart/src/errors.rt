@@ -40,7 +40,7 @@ impl From<ReplayError> for ChartError {
 }
 
 /// Why a row is not told.
-#[derive(Debug, Drop)]
+#[derive(Drop)]
 pub(crate) enum RowError {
     TooManyRows,
     NoMemory,

@@ -45,7 +45,7 @@ impl From<AllocError> for RealiseError {
 }
 
 /// Why a machine takes no event.
-#[derive(Clone, Copy, Debug, PartialEq, Eq)]
+#[derive(Clone, Copy, PartialEq, Eq)]
 pub(crate) enum Fault {
     NoMemory,
     /// A limit of the machine is met.

@@ -48,7 +48,7 @@ pub struct TextError {
 }
 
 /// What ended a reader, and how many bytes were left from the line that it then read.
-#[derive(Clone, Copy, Debug)]
+#[derive(Clone, Copy)]
 pub(crate) enum Stop {
     Memory { left: usize },
     Bytes { left: usize },

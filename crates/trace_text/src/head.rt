@@ -6,7 +6,7 @@ use tl_types::LineSize;
 use trace_recorder::Trace;
 
 /// What the first two lines of a trace say.
-#[derive(Clone, Copy, Debug)]
+#[derive(Clone, Copy)]
 pub(crate) struct TraceHead {
     /// How many harts: 1 to `MAX_HARTS`.
     pub harts: usize,

@@ -9,7 +9,7 @@ use tl_types::{Body, Cap, Change, Grow, LineData, LineSize, Msg};
 use trace_recorder::Direction;
 
 /// The name of a message.
-#[derive(Clone, Copy, Debug)]
+#[derive(Clone, Copy)]
 pub(crate) enum Name {
     AcquireBlock,
     ProbeBlock,

@@ -58,7 +58,7 @@ pub struct Script {
 }
 
 /// The numbers of a script's first line.
-#[derive(Clone, Copy, Debug)]
+#[derive(Clone, Copy)]
 pub(crate) struct Head {
     pub harts: u32,
     pub kib: u32,
