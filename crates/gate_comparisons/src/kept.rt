@@ -1,13 +1,14 @@
 //! The machines, the checker and the command line on kept files: scripts played as kept, traces judged as
-//! kept, the examples played by their scripts and explored, and files that are spoiled.
+//! kept, the examples played by their scripts and explored, files that are spoiled, and transcripts.
 
 mod ends;
 mod examples;
-mod memory;
+mod folder;
 mod rows;
 mod said;
 mod spoiled;
 mod spoiling;
+mod transcripts;
 mod verdicts;
 
 use anyhow::Result;
@@ -30,5 +31,5 @@ pub fn take_all<R: Files + Threads + Wait + Sync + AllocGlobal, W: Write>(
         out,
         "every spoiled file was taken, judged or refused in one line"
     )?;
-    Ok(())
+    transcripts::play_all(rt, out)
 }

@@ -2,7 +2,7 @@
 //! over each. A run may still succeed, or judge what a trace still says; any other prints nothing and tells
 //! why in one line.
 
-use super::memory::{File, MemoryFiles};
+use super::folder::Folder;
 use super::said::Said;
 use super::spoiling::{cut, reset};
 use anyhow::{Result, bail, ensure};
@@ -26,6 +26,13 @@ const TRACES: [&str; 3] = [
     "random-11-00156.trace",
     "random-11-00173.trace",
 ];
+
+/// A file's name and its bytes.
+#[derive(Clone, Copy)]
+struct File<'a> {
+    name: &'a str,
+    bytes: &'a [u8],
+}
 
 /// How often bytes of a file are set.
 const RESETS: usize = 40;
@@ -91,7 +98,7 @@ fn spoil_trace<R: Files + Threads + Wait + Sync + AllocGlobal>(
 }
 
 /// Spoils a file in each way beside one that stays as it is.
-fn spoil<R: Threads + Wait + Sync + AllocGlobal>(
+fn spoil<R: Files + Threads + Wait + Sync + AllocGlobal>(
     rt: &R,
     words: &[&str],
     file: File<'_>,
@@ -111,7 +118,7 @@ fn spoil<R: Threads + Wait + Sync + AllocGlobal>(
 }
 
 /// Runs the program over the bytes of a spoiled file, beside one that stays as it is.
-fn run_over<R: Threads + Wait + Sync + AllocGlobal>(
+fn run_over<R: Files + Threads + Wait + Sync + AllocGlobal>(
     rt: &R,
     words: &[&str],
     name: &str,
@@ -119,8 +126,9 @@ fn run_over<R: Threads + Wait + Sync + AllocGlobal>(
     other: File<'_>,
     said: &mut Said,
 ) -> Result<()> {
-    let spoiled = [File { name, bytes }, other];
-    let mut files = MemoryFiles { files: &spoiled };
+    let mut files = Folder::new(rt);
+    files.put(other.name, other.bytes)?;
+    files.put(name, bytes)?;
     said.ask(rt, words, &mut files);
     ends_well(said)
 }

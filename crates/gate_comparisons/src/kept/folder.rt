@@ -1,0 +1,152 @@
+//! Files that are kept in memory, and behind them the system's.
+
+use anyhow::{Context, Result};
+use command_files::Files;
+use std::alloc::AllocError;
+use std::fs;
+use std::io::{self, ErrorKind, Read};
+use std::rt::Files as System;
+
+/// A file in memory. The reading of one that is broken fails behind its bytes.
+#[derive(Drop)]
+struct Held {
+    name: String,
+    bytes: Vec<u8>,
+    is_broken: bool,
+}
+
+/// Files in memory, the newest of which counts where several have a name, and else the system's. What is written
+/// stays in memory.
+#[derive(Drop)]
+pub struct Folder<'r, R> {
+    rt: &'r R,
+    held: Vec<Held>,
+    /// How many of them the last command found.
+    found: usize,
+    /// How often it wrote one.
+    pub writes: usize,
+    is_full: bool,
+    /// Its last remark on a file.
+    pub remark: Option<String>,
+}
+
+impl<'r, R: System + AllocGlobal> Folder<'r, R> {
+    /// No file is in memory.
+    pub fn new(rt: &'r R) -> Folder<'r, R> {
+        Folder {
+            rt,
+            held: Vec::new(rt.alloc()),
+            found: 0,
+            writes: 0,
+            is_full: false,
+            remark: None,
+        }
+    }
+
+    /// A file of these bytes.
+    pub fn put(&mut self, name: &str, bytes: &[u8]) -> Result<()> {
+        self.hold(name, bytes, false)?;
+        Ok(())
+    }
+
+    /// A file that has no bytes yet.
+    pub fn begin(&mut self, name: &str, is_broken: bool) -> Result<()> {
+        self.hold(name, b"", is_broken)?;
+        Ok(())
+    }
+
+    fn hold(&mut self, name: &str, bytes: &[u8], is_broken: bool) -> Result<(), AllocError> {
+        let alloc = self.rt.alloc();
+        self.held.push(Held {
+            name: String::from_str(alloc, name)?,
+            bytes: bytes.to_vec(alloc)?,
+            is_broken,
+        })?;
+        Ok(())
+    }
+
+    /// The bytes of the file that began last.
+    pub fn newest(&mut self) -> Result<&mut Vec<u8>> {
+        let file = self.held.last_mut().context("no file begins")?;
+        Ok(&mut file.bytes)
+    }
+
+    /// The bytes of a file in memory.
+    pub fn bytes(&self, name: &str) -> Result<&[u8]> {
+        let file = self.find(name).context("no such file in memory")?;
+        Ok(&file.bytes)
+    }
+
+    fn find(&self, name: &str) -> Option<&Held> {
+        let mut found = None;
+        for file in &self.held {
+            if file.name.as_str() == name {
+                found = Some(file);
+            }
+        }
+        found
+    }
+
+    /// A command comes. Where the files are full it can write none.
+    pub fn begin_command(&mut self, is_full: bool) {
+        self.found = self.held.len();
+        self.writes = 0;
+        self.is_full = is_full;
+        self.remark = None;
+    }
+
+    /// The last command comes again: what it wrote is no more.
+    pub fn repeat_command(&mut self) {
+        self.held.truncate(self.found);
+        self.writes = 0;
+    }
+}
+
+impl<R: System + AllocGlobal> Files for Folder<'_, R> {
+    type Reader = Reader;
+
+    fn open(&mut self, name: &str) -> io::Result<Reader> {
+        let (bytes, is_broken) = match self.find(name) {
+            Some(file) => (file.bytes.clone()?, file.is_broken),
+            None => (fs::read(self.rt, name)?, false),
+        };
+        Ok(Reader {
+            bytes,
+            place: 0,
+            is_broken,
+        })
+    }
+
+    fn write(&mut self, name: &str, bytes: &[u8]) -> io::Result<()> {
+        if self.is_full {
+            return Err(io::Error::from(ErrorKind::StorageFull));
+        }
+        self.writes = self.writes.saturating_add(1);
+        self.hold(name, bytes, false)?;
+        Ok(())
+    }
+
+    fn remark(&mut self, remark: String) {
+        self.remark = Some(remark);
+    }
+}
+
+/// A file that is read, from a place on.
+#[derive(Drop)]
+pub struct Reader {
+    bytes: Vec<u8>,
+    place: usize,
+    is_broken: bool,
+}
+
+impl Read for Reader {
+    fn read(&mut self, buf: &mut [u8]) -> io::Result<usize> {
+        let mut rest = self.bytes.get(self.place..).unwrap_or(&[]);
+        if rest.is_empty() && self.is_broken {
+            return Err(io::Error::from(ErrorKind::Other));
+        }
+        let count = rest.read(buf)?;
+        self.place = self.place.saturating_add(count);
+        Ok(count)
+    }
+}
